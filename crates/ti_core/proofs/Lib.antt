@@ -1,0 +1,17 @@
+pub mod LoggedLaws
+pub mod WholeLaws
+pub mod AskedLaws
+pub mod PollLaws
+pub mod ThreadLaws
+pub mod CallLaws
+pub mod AdmitLaws
+pub mod StepLaws
+pub mod EnvLaws
+pub mod ToldLaws
+pub mod MemoryLaws
+pub mod ReachLaws
+pub mod TicketLaws
+pub mod NewLaws
+pub mod KeptLaws
+pub mod RunLaws
+pub mod TurnLaws

@@ -1,0 +1,184 @@
+-- All threads and environments of a core, and how each event changes them.
+use Rattle.std.specs.Prelude.{◌<◌, is_none, ◌≡◌, ◌+◌, ◌-◌, Bool, false, ◌&&◌, not, nat_lt, if◌then◌else◌, List, [], length, Option, Some, None, slice_index, slice_index_or, slice_set, bit_and, bit_or, ℤ}
+use Rattle.ti_types.specs.declared.limits.Limits.{Limits}
+use Rattle.ti_types.specs.declared.numbers.EnvNo.{EnvNo}
+use Rattle.ti_types.specs.declared.numbers.ThreadNo.{ThreadNo}
+use Rattle.ti_types.specs.declared.caps.Caps.{Caps}
+use Rattle.ti_types.specs.declared.call.Call.{Call}
+use Rattle.ti_types.specs.declared.entry.Entry.{Entry}
+use Rattle.ti_types.specs.declared.event.Event.{Event}
+use Rattle.ti_types.specs.declared.event.Event.TheVariants.{Start, Own, Poll, ToNative, ToBlocked, Back, End, Ask, Stop, Read, Go, AddCaps, Relinquish, GetCaps, SetEnvWord, GetEnvWord}
+use Rattle.ti_types.specs.declared.event.Ticket.{Ticket}
+use Rattle.ti_types.specs.declared.event.Outcome.{Outcome}
+use Rattle.ti_types.specs.declared.event.Outcome.TheVariants as outcome
+use Rattle.ti_types.specs.declared.answer.Answer.{Answer}
+use Rattle.ti_types.specs.declared.answer.Answer.TheVariants as answer
+use Rattle.ti_types.specs.declared.error.TiError.{TiError}
+use Rattle.ti_types.specs.declared.error.TiError.TheVariants.{InvalidEnvironment, InvalidThread, OutOfMemory, NotAvailable}
+use Rattle.ti_replay.specs.Refusals.{or_else, unless}
+use Rattle.ti_replay.specs.Admission.{Happening, takes_buffer, can_be_had}
+use Rattle.ti_replay.specs.Events.{own_entry, given, done_unless}
+use Rattle.ti_slot.specs.Thread.{ticket_of}
+use Rattle.ti_slot.specs.Tickets.{has, same}
+use Rattle.ti_env.specs.Env.{EnvValue, call_refusal, stop_refusal, read_refusal, with_caps}
+use Rattle.ti_core.specs.Thread.{ThreadState, refusal_at, own_next, poll_next, poll_said, reply_now, ask_next, stop_next, stop_told, go_next, go_told, read_next, read_told, taken, new_state}
+
+pub record CoreState : Type 0 where
+  pub limits : Limits
+  pub envs : List EnvValue
+  pub threads : List ThreadState
+
+abbrev pub core_of : Limits → List EnvValue → List ThreadState → CoreState
+core_of limits envs threads = record { limits = limits; envs = envs; threads = threads }
+
+-- what an event leaves, and what it comes to at once. None: the call was posted
+pub record Stepped : Type 0 where
+  pub envs : List EnvValue
+  pub threads : List ThreadState
+  pub told : Option Outcome
+
+-- a thread that no core has, with these limits
+abbrev pub no_thread : Limits → ThreadState
+no_thread limits = new_state limits (record { 0 = 0 })
+
+abbrev pub no_env : EnvValue
+no_env = record { caps = record { bits = 0 }; spent = []; calls = 0; word = 0 }
+
+abbrev pub thread_at : Limits → List ThreadState → ThreadNo → ThreadState
+thread_at limits threads t = slice_index_or threads t.0 (no_thread limits)
+
+abbrev pub env_at : List EnvValue → EnvNo → EnvValue
+env_at envs e = slice_index_or envs e.0 no_env
+
+abbrev pub error_told : TiError → Option Outcome
+error_told error = Some (outcome.Gave (answer.Refused error))
+
+abbrev pub spent_at : List EnvValue → EnvNo → ThreadNo → List EnvValue
+spent_at envs e t = let env = env_at envs e in slice_set envs e.0 (record env { spent = slice_set env.spent t.0 (slice_index env.spent t.0 + 1) })
+
+-- an own event but for a poll
+abbrev pub own_all : Limits → List EnvValue → List ThreadState → ThreadNo → Entry → Stepped
+own_all limits envs threads t x =
+    if nat_lt t.0 (length threads)
+    then record { envs = envs; threads = slice_set threads t.0 (own_next (thread_at limits threads t).thread.limits (thread_at limits threads t) x); told = done_unless (refusal_at (thread_at limits threads t).thread.limits (thread_at limits threads t) x) }
+    else record { envs = envs; threads = threads; told = Some (outcome.Refused InvalidThread) }
+
+abbrev pub poll_all : Limits → List EnvValue → List ThreadState → ThreadNo → Stepped
+poll_all limits envs threads t =
+    if nat_lt t.0 (length threads)
+    then record { envs = envs; threads = slice_set threads t.0 (poll_next (thread_at limits threads t).thread.limits (thread_at limits threads t)); told = Some (poll_said (thread_at limits threads t).thread.limits (thread_at limits threads t)) }
+    else record { envs = envs; threads = threads; told = Some (outcome.Refused InvalidThread) }
+
+-- why a call does not reach its thread
+abbrev pub why_not : List EnvValue → List ThreadState → EnvNo → ThreadNo → Option TiError → Bool → Option TiError
+why_not envs threads e t refusal wanting =
+    or_else (unless (nat_lt e.0 (length envs)) InvalidEnvironment)
+    (or_else refusal
+    (or_else (unless (nat_lt t.0 (length threads)) InvalidThread) (unless (not wanting) OutOfMemory)))
+
+abbrev pub refused_or_else : List EnvValue → List ThreadState → Option TiError → Stepped → Stepped
+refused_or_else envs threads (Some error) other = record { envs = envs; threads = threads; told = error_told error }
+refused_or_else envs threads None other = other
+
+abbrev pub ask_all : Limits → List EnvValue → List ThreadState → Bool → EnvNo → ThreadNo → Call → Stepped
+ask_all limits envs threads wanting e t call =
+    let s = thread_at limits threads t in
+    refused_or_else envs threads (why_not envs threads e t (call_refusal (env_at envs e) t call) (wanting && takes_buffer call))
+    (record {
+      envs = spent_at envs e t;
+      threads = slice_set threads t.0 (ask_next s.thread.limits s e call);
+      told = given (reply_now s.thread.limits s e call);
+    })
+
+abbrev pub stop_all : Limits → List EnvValue → List ThreadState → EnvNo → ThreadNo → Stepped
+stop_all limits envs threads e t =
+    let s = thread_at limits threads t in
+    refused_or_else envs threads (why_not envs threads e t (stop_refusal (env_at envs e) t) false)
+    (record { envs = spent_at envs e t; threads = slice_set threads t.0 (stop_next s.thread.limits s e s.thread.number); told = stop_told s.thread.limits s e s.thread.number })
+
+abbrev pub read_all : Limits → List EnvValue → List ThreadState → Bool → EnvNo → ThreadNo → ℤ → Stepped
+read_all limits envs threads wanting e t max_count =
+    let s = thread_at limits threads t in
+    refused_or_else envs threads (why_not envs threads e t (read_refusal (env_at envs e) t max_count) wanting)
+    (record {
+      envs = spent_at envs e t;
+      threads = slice_set threads t.0 (read_next s.thread.limits s e s.thread.number max_count);
+      told = read_told s.thread.limits s e s.thread.number max_count;
+    })
+
+abbrev pub go_all : Limits → List EnvValue → List ThreadState → EnvNo → ThreadNo → Stepped
+go_all limits envs threads e t =
+    let s = thread_at limits threads t in
+    refused_or_else envs threads (why_not envs threads e t None false)
+    (record { envs = envs; threads = slice_set threads t.0 (go_next s.thread.limits s e s.thread.number); told = go_told s.thread.limits s e s.thread.number })
+
+abbrev pub with_env : List EnvValue → List ThreadState → EnvNo → EnvValue → Option Outcome → Stepped
+with_env envs threads e env told =
+    if nat_lt e.0 (length envs)
+    then record { envs = slice_set envs e.0 env; threads = threads; told = told }
+    else record { envs = envs; threads = threads; told = error_told InvalidEnvironment }
+
+abbrev pub add_all : List EnvValue → List ThreadState → EnvNo → Caps → Stepped
+add_all envs threads e caps =
+    let env = env_at envs e in
+    if can_be_had caps then with_env envs threads e (with_caps env (record { bits = bit_or env.caps.bits caps.bits })) (Some (outcome.Gave answer.Done))
+    else with_env envs threads e env (error_told NotAvailable)
+
+abbrev pub relinquish_all : List EnvValue → List ThreadState → EnvNo → Caps → Stepped
+relinquish_all envs threads e caps =
+    let env = env_at envs e in
+    with_env envs threads e (with_caps env (record { bits = env.caps.bits - bit_and env.caps.bits caps.bits })) (Some (outcome.Gave answer.Done))
+
+abbrev pub tell_all : List EnvValue → List ThreadState → EnvNo → Answer → Stepped
+tell_all envs threads e a =
+    record { envs = envs; threads = threads; told = if nat_lt e.0 (length envs) then Some (outcome.Gave a) else error_told InvalidEnvironment }
+
+abbrev pub own_if : Limits → List EnvValue → List ThreadState → ThreadNo → Option Entry → Stepped
+own_if limits envs threads t (Some x) = own_all limits envs threads t x
+own_if limits envs threads t None = record { envs = envs; threads = threads; told = Some outcome.Done }
+
+abbrev pub step_all : Limits → List EnvValue → List ThreadState → Bool → Event → Stepped
+step_all limits envs threads wanting (Poll t) = poll_all limits envs threads t
+step_all limits envs threads wanting (Ask e t call) = ask_all limits envs threads wanting e t call
+step_all limits envs threads wanting (Stop e t) = stop_all limits envs threads e t
+step_all limits envs threads wanting (Read e t max_count) = read_all limits envs threads wanting e t max_count
+step_all limits envs threads wanting (Go e t) = go_all limits envs threads e t
+step_all limits envs threads wanting (AddCaps e caps) = add_all envs threads e caps
+step_all limits envs threads wanting (Relinquish e caps) = relinquish_all envs threads e caps
+step_all limits envs threads wanting (GetCaps e) = tell_all envs threads e (answer.Caps (env_at envs e).caps)
+step_all limits envs threads wanting (SetEnvWord e word) = let env = env_at envs e in with_env envs threads e (record env { word = word }) (Some (outcome.Gave answer.Done))
+step_all limits envs threads wanting (GetEnvWord e) = tell_all envs threads e (answer.Word (env_at envs e).word)
+step_all limits envs threads wanting (Start t) = own_if limits envs threads t (own_entry (Start t))
+step_all limits envs threads wanting (Own t step) = own_if limits envs threads t (own_entry (Own t step))
+step_all limits envs threads wanting (ToNative t) = own_if limits envs threads t (own_entry (ToNative t))
+step_all limits envs threads wanting (ToBlocked t kind) = own_if limits envs threads t (own_entry (ToBlocked t kind))
+step_all limits envs threads wanting (Back t) = own_if limits envs threads t (own_entry (Back t))
+step_all limits envs threads wanting (End t) = own_if limits envs threads t (own_entry (End t))
+
+abbrev pub stepped : CoreState → Happening → Stepped
+stepped s h = step_all s.limits s.envs s.threads h.wanting h.event
+
+-- the core after an event
+abbrev pub core_next : CoreState → Happening → CoreState
+core_next s h = let n = stepped s h in record s { envs = n.envs; threads = n.threads }
+
+abbrev pub core_told : CoreState → Happening → Option Outcome
+core_told s h = (stepped s h).told
+
+-- whether a ticket was given out and its answer not taken
+abbrev pub is_uncollected : CoreState → Ticket → Bool
+is_uncollected s ticket = has ticket (thread_at s.limits s.threads ticket.thread).thread.uncollected
+
+-- the core after an answer is taken, or is not there
+abbrev pub core_taken : CoreState → Ticket → Bool → CoreState
+core_taken s ticket found = record s { threads = slice_set s.threads ticket.thread.0 (taken (thread_at s.limits s.threads ticket.thread) ticket found) }
+
+-- the ticket of an event's call: the environment's next at the thread
+abbrev pub IsTicketOf : Limits → List EnvValue → List ThreadState → Event → Ticket → Type 0
+IsTicketOf limits envs threads (Ask e t call) k = (t.0 < length threads) × ((e.0 < length envs) × (k ≡ ticket_of (thread_at limits threads t).thread e))
+IsTicketOf limits envs threads _ k = ⊥
+
+-- whether an event posts this ticket
+abbrev pub posts : CoreState → Happening → Event → Ticket → Bool
+posts s h (Ask e t call) k = is_none (core_told s h) && same (ticket_of (thread_at s.limits s.threads t).thread e) k
+posts s h _ k = false

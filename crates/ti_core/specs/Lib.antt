@@ -1,0 +1,6 @@
+pub mod Thread
+pub mod Threads
+pub mod Inside
+pub mod Core
+pub mod Stands
+pub mod Runs

@@ -1,0 +1,205 @@
+ghost use Rattle.std.specs.Prelude.{◌≡◌, ◌<◌, ◌&&◌, ◌||◌, not, nat_lt, length, map, IfOk, IfErr, if◌then◌else◌, is_some, None, replicate, [], ◌∷◌, ◌++◌, List, true, false};
+ghost use Rattle.std.specs.Option.{option_map};
+ghost use Rattle.ti_types.specs.Answer.{said};
+ghost use Rattle.ti_replay.specs.Admission.{Happening};
+ghost use Rattle.ti_replay.specs.Events.{history_of};
+ghost use Rattle.ti_replay.specs.Outcomes.{told_now, told_later, out_of, outs, happening, happenings, was_for_memory};
+ghost use Rattle.ti_replay.specs.Standing.{is_standing};
+ghost use Rattle.ti_replay.specs.Tickets.{reply_to};
+ghost use Rattle.ti_slot.specs.Tickets.{has, same};
+ghost use Rattle.ti_env.specs.Env.{new_env};
+ghost use Rattle.ti_core.specs.Threads.{IfPosted, is_ticket_of};
+ghost use Rattle.ti_core.specs.Thread.{taken};
+ghost use Rattle.ti_core.specs.Core.{CoreState, core_of, core_next, core_told, core_taken, is_uncollected, thread_at, IsTicketOf};
+ghost use Rattle.ti_core.specs.Runs.{IsTicketBy};
+ghost use Rattle.ti_core.specs.Stands.{Stands, IsReached, AreNew};
+
+use crate::running::answer_all;
+use crate::stepping;
+use crate::thread::OneThread;
+use std::alloc::Global;
+use std::marker::Model;
+use ti_env::EnvState;
+use ti_types::{Answer, EnvNo, Event, Limits, Outcome, ThreadNo, TiError, Ticket};
+
+/// All threads and environments of a coordinator.
+#[derive(Drop)]
+pub struct Core {
+    limits: Limits,
+    envs: Vec<EnvState>,
+    threads: Vec<OneThread>,
+}
+
+impl Model for Core {
+    ghost use Rattle.ti_core.specs.Core.{CoreState, core_of};
+
+    ghost Value = { CoreState };
+
+    ghost view = { λ a. core_of a.limits a.envs.items a.threads.items };
+
+    ghost use Rattle.ti_core.specs.Stands.{IsReached};
+
+    ghost invariant = { λ a. IsReached (core_of a.limits a.envs.items a.threads.items) };
+}
+
+fn new_threads(alloc: Global, limits: Limits) -> Result<Vec<OneThread>, TiError>
+    ensures made { IfOk result (λ v. AreNew limits limits.threads v.items) }
+    ensures memory { IfErr result (λ e. e ≡ TiError.OutOfMemory) }
+{
+    let mut threads = Vec::with_capacity(alloc, limits.threads as usize)?;
+    for number in 0..limits.threads {
+        let thread = OneThread::new(alloc, limits, ThreadNo(number))?;
+        let Ok(()) = threads.push(thread) else {
+            return Err(TiError::OutOfMemory);
+        };
+    }
+    Ok(threads)
+}
+
+fn new_envs(alloc: Global, limits: Limits) -> Result<Vec<EnvState>, TiError>
+    ensures made { IfOk result (λ v. v.items ≡ replicate limits.envs (new_env limits)) }
+    ensures memory { IfErr result (λ e. e ≡ TiError.OutOfMemory) }
+{
+    let mut envs = Vec::with_capacity(alloc, limits.envs as usize)?;
+    for _ in 0..limits.envs {
+        let env = EnvState::new(alloc, limits)?;
+        let Ok(()) = envs.push(env) else {
+            return Err(TiError::OutOfMemory);
+        };
+    }
+    Ok(envs)
+}
+
+fn take_at(limits: &Limits, threads: &mut [OneThread], ticket: Ticket) -> Option<Answer>
+    ensures answer { option_map said result ≡ (if has ticket (thread_at limits.now threads.old ticket.thread).thread.uncollected
+        then reply_to (thread_at limits.now threads.old ticket.thread).thread.limits (thread_at limits.now threads.old ticket.thread).thread.history ticket else None) }
+    ensures next { threads.new ≡ (core_taken (core_of limits.now [] threads.old) ticket (is_some result)).threads }
+    ensures there { is_some result ≡ true → ticket.thread.0 < length threads.old }
+{
+    let index = ticket.thread.0 as usize;
+    if index >= threads.len() {
+        return None;
+    }
+    let thread = &mut threads[index];
+    thread.take(ticket)
+}
+
+fn stands(limits: &Limits, threads: &[OneThread], env: EnvNo, thread: ThreadNo) -> bool
+    ensures { result ≡ (is_standing (thread_at limits.now threads.now thread).thread.limits (thread_at limits.now threads.now thread).thread.history env) }
+{
+    let index = thread.0 as usize;
+    if index >= threads.len() {
+        return false;
+    }
+    let thread = &threads[index];
+    thread.standing(env)
+}
+
+impl Core {
+    /// A core in which nothing has happened, with all the room that it will need.
+    ///
+    /// 110 where memory is wanting; then nothing is made.
+    #[tactic(auto, using(crate::proofs::NewLaws::new_stands))]
+    pub fn new(alloc: Global, limits: Limits) -> Result<Self, TiError>
+        ensures limits { IfOk result (λ c. c.limits ≡ limits) }
+        ensures stands { IfOk result (λ c. Stands [] c) }
+        ensures memory { IfErr result (λ e. e ≡ TiError.OutOfMemory) }
+    {
+        let envs = new_envs(alloc, limits)?;
+        let threads = new_threads(alloc, limits)?;
+        Ok(Core {
+            limits,
+            envs,
+            threads,
+        })
+    }
+
+    /// Lets one event happen, as the rules of the core say.
+    fn follow(&mut self, alloc: Global, event: Event) -> Outcome
+        ensures next { self.new ≡ core_next self.old (happening event (told_now result)) }
+        ensures told { told_now result ≡ core_told self.old (happening event (told_now result)) }
+        ensures ticket { IfPosted result (λ k. IsTicketOf self.old.limits self.old.envs self.old.threads event k) }
+        ensures reached { IsReached self.old }
+    {
+        stepping::step(
+            alloc,
+            &self.limits,
+            &mut self.envs,
+            &mut self.threads,
+            event,
+        )
+    }
+
+    fn take_out(&mut self, ticket: Ticket) -> Option<Answer>
+        ensures answer { option_map said result ≡ (if is_uncollected self.old ticket
+            then reply_to (thread_at self.old.limits self.old.threads ticket.thread).thread.limits (thread_at self.old.limits self.old.threads ticket.thread).thread.history ticket else None) }
+        ensures next { self.new ≡ core_taken self.old ticket (is_some result) }
+        ensures there { is_some result ≡ true → ticket.thread.0 < length self.old.threads }
+        ensures reached { IsReached self.old }
+    {
+        take_at(&self.limits, &mut self.threads, ticket)
+    }
+
+    /// Lets one event happen: the profile's rules, and JVM TI 11's for the calls.
+    ///
+    /// From a core that stands for some events it makes one that stands for these and this one. What comes of it is
+    /// what the definitions say of the event at the end of all of them: `Posted` exactly where the call waits, with
+    /// the number that the call has among its environment's calls at the thread. A refused event leaves all as it was,
+    /// save what an admitted call costs. Memory is taken for a `Trace` and a `Read` alone; 110 where it is wanting.
+    pub fn step(&mut self, alloc: Global, event: Event) -> Outcome
+        ensures limits { self.new.limits ≡ self.old.limits }
+        ensures stands { (events : List Happening) → Stands events self.old → Stands (events ++ happening event (told_now result) ∷ []) self.new }
+        ensures outcome { (events : List Happening) → Stands events self.old →
+            told_now result ≡ out_of self.old.limits (events ++ happening event (told_now result) ∷ []) events (happening event (told_now result)) }
+        ensures ticket { (events : List Happening) → Stands events self.old → IfPosted result (λ k. IsTicketBy self.old.limits events event k) }
+        ensures fresh { IfPosted result (λ k. is_uncollected self.old k ≡ false) }
+        ensures kept { (k : Ticket) → is_uncollected self.new k ≡ (is_uncollected self.old k || is_ticket_of result k) }
+    {
+        self.follow(alloc, event)
+    }
+
+    /// The answer to a call that was posted, once, when it is there; else none. Nothing else changes.
+    pub fn take(&mut self, ticket: Ticket) -> Option<Answer>
+        ensures limits { self.new.limits ≡ self.old.limits }
+        ensures stands { (events : List Happening) → Stands events self.old → Stands events self.new }
+        ensures answer { (events : List Happening) → Stands events self.old →
+            option_map said result ≡ (if is_uncollected self.old ticket then reply_to self.old.limits (history_of self.old.limits ticket.thread events) ticket else None) }
+        ensures kept { (k : Ticket) → is_uncollected self.new k ≡ (is_uncollected self.old k && not (same ticket k && is_some result)) }
+    {
+        self.take_out(ticket)
+    }
+
+    /// Whether this environment's stop stands at the thread and the thread does not run.
+    pub fn standing(&self, env: EnvNo, thread: ThreadNo) -> bool
+        ensures { (events : List Happening) → Stands events self.now → result ≡ (nat_lt thread.0 self.now.limits.threads && is_standing self.now.limits (history_of self.now.limits thread events) env) }
+    {
+        stands(&self.limits, &self.threads, env, thread)
+    }
+
+    /// Lets a whole list of events happen in a new core. There is one outcome for each event: what the definitions
+    /// say of it among all of them, so a posted call has its answer, and none where it was left unanswered.
+    ///
+    /// 110 where memory is wanting for the core or for the list of outcomes; then nothing is given.
+    pub fn run(
+        alloc: Global,
+        limits: Limits,
+        events: &[Event],
+    ) -> Result<Vec<Option<Outcome>>, TiError>
+        ensures outcomes { IfOk result (λ os. map told_later os.items ≡ outs limits (happenings events.now os.items)) }
+        ensures count { IfOk result (λ os. length os.items ≡ length events.now) }
+        ensures memory { IfErr result (λ e. e ≡ TiError.OutOfMemory) }
+    {
+        let mut core = Core::new(alloc, limits)?;
+        let Ok(mut outcomes) = Vec::with_capacity(alloc, events.len()) else {
+            return Err(TiError::OutOfMemory);
+        };
+        for event in events {
+            let outcome = core.step(alloc, *event);
+            let Ok(()) = outcomes.push(Some(outcome)) else {
+                return Err(TiError::OutOfMemory);
+            };
+        }
+        answer_all(&mut core, &mut outcomes);
+        Ok(outcomes)
+    }
+}

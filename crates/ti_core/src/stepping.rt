@@ -1,0 +1,290 @@
+ghost use Rattle.std.specs.Prelude.{◌≡◌, ◌<◌, length, IfOk, IfErr, true, [], Some, is_some};
+ghost use Rattle.ti_replay.specs.Admission.{takes_buffer};
+ghost use Rattle.ti_replay.specs.Answers.{or_zero as or_zero_of};
+ghost use Rattle.ti_replay.specs.Legal.{is_well_formed, is_not_negative};
+ghost use Rattle.ti_replay.specs.Outcomes.{told_now, was_for_memory};
+ghost use Rattle.ti_slot.specs.Waiting.{IsBufferOf, HasRoomFor};
+ghost use Rattle.ti_core.specs.Thread.{is_made, made_told};
+ghost use Rattle.ti_core.specs.Stands.{IsReached};
+ghost use Rattle.ti_slot.specs.Thread.{ticket_of};
+ghost use Rattle.ti_core.specs.Threads.{IfPosted};
+ghost use Rattle.ti_core.specs.Core.{IsTicketOf, CoreState, core_of, thread_at, own_all, poll_all, ask_all, stop_all, read_all, go_all, add_all, relinquish_all, tell_all, step_all, with_env, env_at};
+
+use crate::thread::OneThread;
+use std::alloc::Global;
+use ti_env::EnvState;
+use ti_types::{
+    Answer, Call, Caps, Entry, EnvNo, Event, Limits, Outcome, Safe, ThreadNo, TiError, TraceBuf,
+};
+
+fn refused(error: TiError) -> Outcome
+    ensures { result ≡ Outcome.Gave (Answer.Refused error) }
+{
+    Outcome::Gave(Answer::Refused(error))
+}
+
+/// The outcome of an event of a thread's own.
+fn outcome_of(own: Result<(), TiError>) -> Outcome
+    ensures { told_now result ≡ made_told own }
+{
+    match own {
+        Ok(()) => Outcome::Done,
+        Err(error) => Outcome::Refused(error),
+    }
+}
+
+/// An own event but for a poll.
+fn make(limits: &Limits, threads: &mut [OneThread], t: ThreadNo, entry: Entry) -> Outcome
+    requires own { is_made entry ≡ true }
+    ensures threads { threads.new ≡ (own_all limits.now [] threads.old t entry).threads }
+    ensures told { told_now result ≡ (own_all limits.now [] threads.old t entry).told }
+{
+    let index = t.0 as usize;
+    if index >= threads.len() {
+        return Outcome::Refused(TiError::InvalidThread);
+    }
+    let thread = &mut threads[index];
+    outcome_of(thread.make(entry))
+}
+
+fn poll(limits: &Limits, threads: &mut [OneThread], t: ThreadNo) -> Outcome
+    ensures threads { threads.new ≡ (poll_all limits.now [] threads.old t).threads }
+    ensures told { told_now result ≡ (poll_all limits.now [] threads.old t).told }
+{
+    let index = t.0 as usize;
+    if index >= threads.len() {
+        return Outcome::Refused(TiError::InvalidThread);
+    }
+    let thread = &mut threads[index];
+    thread.poll()
+}
+
+/// The buffer for a call's answer.
+fn buffer(alloc: Global, limits: &Limits, call: Call) -> Result<TraceBuf, TiError>
+    requires well_formed { is_well_formed call ≡ true }
+    ensures made { IfOk result (λ b. IsBufferOf limits.now call b) }
+    ensures memory { IfErr result (λ e. e ≡ TiError.OutOfMemory) }
+    ensures taken { IfErr result (λ e. takes_buffer call ≡ true) }
+{
+    match call {
+        Call::Trace { max_count, .. } => TraceBuf::make(alloc, max_count, limits.depth),
+        _ => Ok(TraceBuf::none()),
+    }
+}
+
+/// A call of an environment at a thread.
+fn ask(
+    alloc: Global,
+    limits: &Limits,
+    envs: &mut [EnvState],
+    threads: &mut [OneThread],
+    e: EnvNo,
+    t: ThreadNo,
+    call: Call,
+) -> Outcome
+    requires reached { IsReached (core_of limits.now envs.old threads.old) }
+    ensures envs { envs.new ≡ (ask_all limits.now envs.old threads.old (was_for_memory (told_now result)) e t call).envs }
+    ensures threads { threads.new ≡ (ask_all limits.now envs.old threads.old (was_for_memory (told_now result)) e t call).threads }
+    ensures told { told_now result ≡ (ask_all limits.now envs.old threads.old (was_for_memory (told_now result)) e t call).told }
+    ensures ticket { IfPosted result (λ k. IsTicketOf limits.now envs.old threads.old (Event.Ask e t call) k) }
+{
+    let at = e.0 as usize;
+    if at >= envs.len() {
+        return refused(TiError::InvalidEnvironment);
+    }
+    let env = &mut envs[at];
+    if let Err(error) = env.admit(t, call) {
+        return refused(error);
+    }
+    let index = t.0 as usize;
+    match buffer(alloc, limits, call) {
+        Ok(buf) => {
+            env.spend(t);
+            let thread = &mut threads[index];
+            thread.ask(e, call, buf)
+        }
+        Err(error) => refused(error),
+    }
+}
+
+/// A stop of an environment at a thread.
+fn stop(
+    limits: &Limits,
+    envs: &mut [EnvState],
+    threads: &mut [OneThread],
+    e: EnvNo,
+    t: ThreadNo,
+) -> Outcome
+    requires reached { IsReached (core_of limits.now envs.old threads.old) }
+    ensures envs { envs.new ≡ (stop_all limits.now envs.old threads.old e t).envs }
+    ensures threads { threads.new ≡ (stop_all limits.now envs.old threads.old e t).threads }
+    ensures told { told_now result ≡ (stop_all limits.now envs.old threads.old e t).told }
+{
+    let at = e.0 as usize;
+    if at >= envs.len() {
+        return refused(TiError::InvalidEnvironment);
+    }
+    let env = &mut envs[at];
+    if let Err(error) = env.admit_stop(t) {
+        return refused(error);
+    }
+    let index = t.0 as usize;
+    env.spend(t);
+    let thread = &mut threads[index];
+    thread.stop(e)
+}
+
+/// A read of a stopped thread by an environment.
+fn read(
+    alloc: Global,
+    limits: &Limits,
+    envs: &mut [EnvState],
+    threads: &mut [OneThread],
+    e: EnvNo,
+    t: ThreadNo,
+    max_count: i32,
+) -> Outcome
+    requires reached { IsReached (core_of limits.now envs.old threads.old) }
+    ensures envs { envs.new ≡ (read_all limits.now envs.old threads.old (was_for_memory (told_now result)) e t max_count).envs }
+    ensures threads { threads.new ≡ (read_all limits.now envs.old threads.old (was_for_memory (told_now result)) e t max_count).threads }
+    ensures told { told_now result ≡ (read_all limits.now envs.old threads.old (was_for_memory (told_now result)) e t max_count).told }
+    ensures gave { is_some (told_now result) ≡ true }
+{
+    let at = e.0 as usize;
+    if at >= envs.len() {
+        return refused(TiError::InvalidEnvironment);
+    }
+    let env = &mut envs[at];
+    if let Err(error) = env.admit_read(t, max_count) {
+        return refused(error);
+    }
+    let index = t.0 as usize;
+    match TraceBuf::make(alloc, max_count, limits.depth) {
+        Ok(buf) => {
+            env.spend(t);
+            let thread = &mut threads[index];
+            thread.read(e, max_count, buf)
+        }
+        Err(error) => refused(error),
+    }
+}
+
+/// An environment lets a thread go.
+fn go(
+    limits: &Limits,
+    envs: &[EnvState],
+    threads: &mut [OneThread],
+    e: EnvNo,
+    t: ThreadNo,
+) -> Outcome
+    requires reached { IsReached (core_of limits.now envs.now threads.old) }
+    ensures threads { threads.new ≡ (go_all limits.now envs.now threads.old e t).threads }
+    ensures told { told_now result ≡ (go_all limits.now envs.now threads.old e t).told }
+{
+    if e.0 as usize >= envs.len() {
+        return refused(TiError::InvalidEnvironment);
+    }
+    let index = t.0 as usize;
+    if index >= threads.len() {
+        return refused(TiError::InvalidThread);
+    }
+    let thread = &mut threads[index];
+    thread.go(e)
+}
+
+fn add(envs: &mut [EnvState], e: EnvNo, caps: Caps) -> Outcome
+    ensures envs { envs.new ≡ (add_all envs.old [] e caps).envs }
+    ensures told { told_now result ≡ (add_all envs.old [] e caps).told }
+{
+    let at = e.0 as usize;
+    if at >= envs.len() {
+        return refused(TiError::InvalidEnvironment);
+    }
+    let env = &mut envs[at];
+    match env.add(caps) {
+        Ok(()) => Outcome::Gave(Answer::Done),
+        Err(error) => refused(error),
+    }
+}
+
+fn relinquish(envs: &mut [EnvState], e: EnvNo, caps: Caps) -> Outcome
+    ensures envs { envs.new ≡ (relinquish_all envs.old [] e caps).envs }
+    ensures told { told_now result ≡ (relinquish_all envs.old [] e caps).told }
+{
+    let at = e.0 as usize;
+    if at >= envs.len() {
+        return refused(TiError::InvalidEnvironment);
+    }
+    let env = &mut envs[at];
+    env.relinquish(caps);
+    Outcome::Gave(Answer::Done)
+}
+
+fn set_word(envs: &mut [EnvState], e: EnvNo, word: u64) -> Outcome
+    ensures envs { envs.new ≡ (with_env envs.old [] e (record (env_at envs.old e) { word = word }) (Some (Outcome.Gave Answer.Done))).envs }
+    ensures told { told_now result ≡ (with_env envs.old [] e (record (env_at envs.old e) { word = word }) (Some (Outcome.Gave Answer.Done))).told }
+{
+    let at = e.0 as usize;
+    if at >= envs.len() {
+        return refused(TiError::InvalidEnvironment);
+    }
+    let env = &mut envs[at];
+    env.set_word(word);
+    Outcome::Gave(Answer::Done)
+}
+
+fn word(envs: &[EnvState], e: EnvNo) -> Outcome
+    ensures { told_now result ≡ (tell_all envs.now [] e (Answer.Word (env_at envs.now e).word)).told }
+{
+    let at = e.0 as usize;
+    if at >= envs.len() {
+        return refused(TiError::InvalidEnvironment);
+    }
+    let env = &envs[at];
+    Outcome::Gave(Answer::Word(env.word()))
+}
+
+fn caps(envs: &[EnvState], e: EnvNo) -> Outcome
+    ensures { told_now result ≡ (tell_all envs.now [] e (Answer.Caps (env_at envs.now e).caps)).told }
+{
+    let at = e.0 as usize;
+    if at >= envs.len() {
+        return refused(TiError::InvalidEnvironment);
+    }
+    let env = &envs[at];
+    Outcome::Gave(Answer::Caps(env.caps()))
+}
+
+/// One event.
+pub fn step(
+    alloc: Global,
+    limits: &Limits,
+    envs: &mut [EnvState],
+    threads: &mut [OneThread],
+    event: Event,
+) -> Outcome
+    requires reached { IsReached (core_of limits.now envs.old threads.old) }
+    ensures envs { envs.new ≡ (step_all limits.now envs.old threads.old (was_for_memory (told_now result)) event).envs }
+    ensures threads { threads.new ≡ (step_all limits.now envs.old threads.old (was_for_memory (told_now result)) event).threads }
+    ensures told { told_now result ≡ (step_all limits.now envs.old threads.old (was_for_memory (told_now result)) event).told }
+    ensures ticket { IfPosted result (λ k. IsTicketOf limits.now envs.old threads.old event k) }
+{
+    match event {
+        Event::Start(t) => make(limits, threads, t, Entry::Start),
+        Event::Own(t, step) => make(limits, threads, t, Entry::Own(step)),
+        Event::Poll(t) => poll(limits, threads, t),
+        Event::ToNative(t) => make(limits, threads, t, Entry::Hand(Safe::Native)),
+        Event::ToBlocked(t, kind) => make(limits, threads, t, Entry::Hand(Safe::Blocked(kind))),
+        Event::Back(t) => make(limits, threads, t, Entry::Back),
+        Event::End(t) => make(limits, threads, t, Entry::End),
+        Event::Ask(e, t, call) => ask(alloc, limits, envs, threads, e, t, call),
+        Event::Stop(e, t) => stop(limits, envs, threads, e, t),
+        Event::Read(e, t, max_count) => read(alloc, limits, envs, threads, e, t, max_count),
+        Event::Go(e, t) => go(limits, envs, threads, e, t),
+        Event::AddCaps(e, c) => add(envs, e, c),
+        Event::Relinquish(e, c) => relinquish(envs, e, c),
+        Event::GetCaps(e) => caps(envs, e),
+        Event::SetEnvWord(e, w) => set_word(envs, e, w),
+        Event::GetEnvWord(e) => word(envs, e),
+    }
+}

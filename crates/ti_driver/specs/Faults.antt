@@ -1,0 +1,50 @@
+-- The text of a fault and the status that it ends with.
+use Rattle.std.specs.Prelude.{ℕ, List, ◌++◌, codes, decimal}
+use Rattle.ti_script.specs.declared.fault.LimitName.{LimitName}
+use Rattle.ti_script.specs.declared.fault.LimitName.TheVariants as limit
+use Rattle.ti_script.specs.declared.fault.ScriptFault.{ScriptFault}
+use Rattle.ti_script.specs.declared.fault.ScriptFault.TheVariants as script
+use Rattle.ti_driver.specs.declared.fault.Fault.{Fault}
+use Rattle.ti_driver.specs.declared.fault.Fault.TheVariants.{Script, Memory, Read, Write, Cell, Usage}
+
+abbrev pub limit_text : LimitName → List ℕ
+limit_text limit.Input = codes "input"
+limit_text limit.Depth = codes "depth"
+limit_text limit.Own = codes "own"
+limit_text limit.Calls = codes "calls"
+limit_text limit.Threads = codes "threads"
+limit_text limit.Agents = codes "agents"
+limit_text limit.Methods = codes "methods"
+limit_text limit.Events = codes "events"
+limit_text limit.Walks = codes "walks"
+limit_text limit.CallsList = codes "calls_list"
+limit_text limit.Entries = codes "entries"
+limit_text limit.Format = codes "format"
+
+abbrev pub script_text : ScriptFault → List ℕ
+script_text script.Json = codes "json"
+script_text (script.Shape item) = codes "shape at item " ++ decimal item
+script_text (script.Name item) = codes "name at item " ++ decimal item
+script_text (script.Limit which) = codes "limit " ++ limit_text which
+script_text script.Memory = codes "memory"
+
+abbrev pub fault_text : Fault → List ℕ
+fault_text (Script f) = script_text f
+fault_text Memory = codes "memory"
+fault_text Read = codes "read"
+fault_text Write = codes "write"
+fault_text Cell = codes "cell"
+fault_text Usage = codes "usage: tiwalk [walk|live|check]"
+
+-- the line on standard error
+abbrev pub fault_line : Fault → List ℕ
+fault_line fault = codes "tiwalk: " ++ (fault_text fault ++ codes "\n")
+
+abbrev pub status_of : Fault → ℕ
+status_of (Script script.Memory) = 3
+status_of (Script f) = 2
+status_of Memory = 3
+status_of Read = 4
+status_of Write = 4
+status_of Cell = 4
+status_of Usage = 2

@@ -1,0 +1,5 @@
+pub mod Commands
+pub mod Faults
+pub mod Streams
+pub mod Runs
+pub mod Lines

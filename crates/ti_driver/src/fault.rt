@@ -1,0 +1,63 @@
+ghost use Rattle.std.specs.Prelude.{◌≡◌};
+ghost use Rattle.ti_driver.specs.Faults.{status_of};
+
+use std::alloc::AllocError;
+use thiserror::Error;
+use ti_script::ScriptFault;
+
+/// Why a run came to nothing. `status` gives the status of each and `put_fault` its text. Source: this profile.
+#[derive(Clone, Copy, Debug, PartialEq, Eq, Error)]
+pub enum Fault {
+    /// The input is too long, or no script. Its own `Memory` counts as `Memory`.
+    #[error("{0}")]
+    Script(ScriptFault),
+    /// Memory was wanting.
+    #[error("no memory")]
+    Memory,
+    /// The reader answered an error, of whatever kind, or gave no end within 16,777,216 calls.
+    #[error("the input was not read")]
+    Read,
+    /// The writer answered an error, of whatever kind, or took no byte.
+    #[error("the output was not written")]
+    Write,
+    /// A thread's cell was still in use, or a report does not fit its script.
+    #[error("a cell was in use")]
+    Cell,
+    /// The arguments ask for nothing that is there.
+    #[error("the arguments are not known")]
+    Usage,
+}
+
+impl From<ScriptFault> for Fault {
+    ghost use Rattle.std.specs.Prelude.{◌≡◌};
+    ghost use Rattle.ti_driver.specs.declared.fault.Fault.TheVariants.{Script};
+
+    ghost from_gives = { λ f e. e ≡ Script f };
+
+    fn from(fault: ScriptFault) -> Fault {
+        Fault::Script(fault)
+    }
+}
+
+impl From<AllocError> for Fault {
+    ghost use Rattle.std.specs.Prelude.{◌≡◌};
+    ghost use Rattle.ti_driver.specs.declared.fault.Fault.TheVariants.{Memory};
+
+    ghost from_gives = { λ _ e. e ≡ Memory };
+
+    fn from(_refused: AllocError) -> Fault {
+        Fault::Memory
+    }
+}
+
+/// The status that the program ends with at a fault: 2 for a script's fault and for `Usage`, 3 where memory was wanting,
+/// 4 for `Read`, `Write` and `Cell`. Source: this profile.
+pub fn status(fault: &Fault) -> u8
+    ensures { result ≡ status_of fault.now }
+{
+    match fault {
+        Fault::Script(ScriptFault::Memory) | Fault::Memory => 3,
+        Fault::Script(_) | Fault::Usage => 2,
+        Fault::Read | Fault::Write | Fault::Cell => 4,
+    }
+}

@@ -1,0 +1,23 @@
+//! The program `tiwalk` as a library: what it reads, runs and writes, over any reader and any writer.
+//!
+//! Below it stand `ti_script`, which reads documents and makes texts, and `ti_core`, which runs events. Upward it
+//! promises that `walk` writes exactly the text of what the definitions of `ti_replay` say of the walk that was read, and
+//! `check` their verdict on the history that was read, that a failing writer is left with a prefix of that text, and
+//! that every other fault comes before the first byte.
+#![tactic(auto)]
+
+mod checking;
+mod command;
+mod fault;
+mod input;
+mod lines;
+mod output;
+mod report;
+mod walking;
+
+pub use checking::check;
+pub use command::{Command, asked_command, command_of};
+pub use fault::{Fault, status};
+pub use input::read_input;
+pub use report::put_fault;
+pub use walking::walk;

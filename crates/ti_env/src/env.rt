@@ -1,0 +1,160 @@
+ghost use Rattle.std.specs.Prelude.{◌≡◌, ◌<◌, ◌↔◌, true, None, Some, length, IfOk, IfErr, OnOk, OnErr, IsOk};
+ghost use Rattle.ti_types.specs.Caps.{caps_with, caps_without, can_be_had};
+ghost use Rattle.ti_types.specs.declared.error.TiError.TheVariants.{NotAvailable, OutOfMemory};
+ghost use Rattle.ti_env.specs.Env.{EnvValue, new_env, with_caps, with_word, with_spent, spent_at, left_at, refusal_at, call_refusal, stop_refusal, read_refusal};
+
+use std::alloc::Global;
+use std::marker::Model;
+use ti_types::{Call, Caps, Limits, ThreadNo, TiError, needs};
+
+/// What an environment keeps for itself: its capabilities, its own word, and how many calls it has spent at each
+/// thread. No other environment changes any of it.
+#[derive(Drop, Debug)]
+pub struct EnvState {
+    caps: Caps,
+    /// By the thread's number.
+    spent: Vec<u32>,
+    /// How many calls may be spent at each thread.
+    calls: u32,
+    word: u64,
+}
+
+impl Model for EnvState {
+    ghost use Rattle.ti_env.specs.Env.{EnvValue};
+
+    ghost Value = { EnvValue };
+
+    ghost view = { λ a. record { caps = a.caps; spent = a.spent.items; calls = a.calls; word = a.word } };
+}
+
+impl EnvState {
+    /// An environment that has done nothing: no capabilities, no call spent at any of the `threads` of the limits,
+    /// and the word 0 (JVM TI 11, GetCapabilities and GetEnvironmentLocalStorage). The one error is 110
+    /// OUT_OF_MEMORY, where there is no memory for a number per thread; every other call takes no memory.
+    pub fn new(alloc: Global, limits: Limits) -> Result<Self, TiError>
+        ensures new { IfOk result (λ s. s ≡ new_env limits) }
+        ensures memory { IfErr result (λ e. e ≡ OutOfMemory) }
+    {
+        Ok(EnvState {
+            caps: Caps::none(),
+            spent: vec![in alloc; 0; limits.threads as usize]?,
+            calls: limits.calls,
+            word: 0,
+        })
+    }
+
+    /// The capabilities that are held (JVM TI 11, GetCapabilities).
+    pub fn caps(&self) -> Caps
+        ensures { result ≡ self.now.caps }
+    {
+        self.caps
+    }
+
+    /// Adds capabilities to those that are held, all of them or none (JVM TI 11, AddCapabilities). The error is 98
+    /// NOT_AVAILABLE, where one of them cannot be had; then nothing changes. A capability that is held already is no
+    /// error.
+    pub fn add(&mut self, caps: Caps) -> Result<(), TiError>
+        ensures available { IsOk result ↔ (can_be_had caps ≡ true) }
+        ensures added { OnOk result (self.new ≡ with_caps self.old (caps_with self.old.caps caps)) }
+        ensures refused { IfErr result (λ e. e ≡ NotAvailable) }
+        ensures unchanged { OnErr result (self.new ≡ self.old) }
+    {
+        if !caps.can_be_had() {
+            return Err(TiError::NotAvailable);
+        }
+        self.caps = self.caps.add(caps);
+        Ok(())
+    }
+
+    /// Gives capabilities up (JVM TI 11, RelinquishCapabilities). One that is not held is no error.
+    pub fn relinquish(&mut self, caps: Caps)
+        ensures { self.new ≡ with_caps self.old (caps_without self.old.caps caps) }
+    {
+        self.caps = self.caps.relinquish(caps);
+    }
+
+    /// The environment's own word, 0 until it is set (JVM TI 11, GetEnvironmentLocalStorage). The words that it
+    /// keeps at threads are not here.
+    pub fn word(&self) -> u64
+        ensures { result ≡ self.now.word }
+    {
+        self.word
+    }
+
+    /// Sets the environment's own word (JVM TI 11, SetEnvironmentLocalStorage).
+    pub fn set_word(&mut self, word: u64)
+        ensures { self.new ≡ with_word self.old word }
+    {
+        self.word = word;
+    }
+
+    /// That there is such a thread, else 10, that a call is well formed, else 103, and that a call is left, else 209.
+    fn check(&self, thread: ThreadNo, well_formed: bool) -> Result<(), TiError>
+        ensures passed { OnOk result (refusal_at self.now thread well_formed ≡ None) }
+        ensures refused { IfErr result (λ e. refusal_at self.now thread well_formed ≡ Some e) }
+    {
+        let index = thread.0 as usize;
+        if index >= self.spent.len() {
+            return Err(TiError::InvalidThread);
+        }
+        if !well_formed {
+            return Err(TiError::IllegalArgument);
+        }
+        if self.spent[index] >= self.calls {
+            return Err(TiError::CallsSpent);
+        }
+        Ok(())
+    }
+
+    /// Whether a call reaches its thread. The errors, in this order: 99 MUST_POSSESS_CAPABILITY, where the call needs
+    /// a capability that is not held; 10 INVALID_THREAD, where there is no such thread; 103 ILLEGAL_ARGUMENT, where
+    /// `max_count` or `depth` is negative; 209 CALLS_SPENT, where no call is left at the thread. The first three are
+    /// JVM TI 11's, the last and the order this profile's. Nothing changes, and nothing is spent.
+    pub fn admit(&self, thread: ThreadNo, call: Call) -> Result<(), TiError>
+        ensures admitted { OnOk result (call_refusal self.now thread call ≡ None) }
+        ensures refused { IfErr result (λ e. call_refusal self.now thread call ≡ Some e) }
+    {
+        if !self.caps.has(needs(call)) {
+            return Err(TiError::MustPossessCapability);
+        }
+        self.check(thread, call.is_well_formed())
+    }
+
+    /// Whether a stop reaches its thread. The errors, in this order: 10 INVALID_THREAD, where there is no such
+    /// thread; 209 CALLS_SPENT, where no call is left there (this profile). Nothing changes, and nothing is spent.
+    pub fn admit_stop(&self, thread: ThreadNo) -> Result<(), TiError>
+        ensures admitted { OnOk result (stop_refusal self.now thread ≡ None) }
+        ensures refused { IfErr result (λ e. stop_refusal self.now thread ≡ Some e) }
+    {
+        self.check(thread, true)
+    }
+
+    /// Whether a read under a stop reaches its thread. The errors, in this order: 10 INVALID_THREAD, where there is
+    /// no such thread; 103 ILLEGAL_ARGUMENT, where `max_count` is negative; 209 CALLS_SPENT, where no call is left
+    /// there (this profile, after JVM TI 11's GetAllStackTraces). Nothing changes, and nothing is spent.
+    pub fn admit_read(&self, thread: ThreadNo, max_count: i32) -> Result<(), TiError>
+        ensures admitted { OnOk result (read_refusal self.now thread max_count ≡ None) }
+        ensures refused { IfErr result (λ e. read_refusal self.now thread max_count ≡ Some e) }
+    {
+        self.check(thread, max_count >= 0)
+    }
+
+    /// How many calls are left at a thread, which there must be (this profile).
+    pub fn left(&self, thread: ThreadNo) -> u32
+        requires { thread.0 < length self.now.spent }
+        ensures { result ≡ left_at self.now thread }
+    {
+        self.calls.saturating_sub(self.spent[thread.0 as usize])
+    }
+
+    /// Spends one of the calls that are left at a thread; nothing is spent at the others (this profile). There must be such a
+    /// thread, and a call must be left there, as after `admit`, `admit_stop` or `admit_read`.
+    pub fn spend(&mut self, thread: ThreadNo)
+        requires there { thread.0 < length self.old.spent }
+        requires left { spent_at self.old thread < self.old.calls }
+        ensures { self.new ≡ with_spent self.old thread }
+    {
+        let _calls = self.calls;
+        self.spent[thread.0 as usize] += 1;
+    }
+}

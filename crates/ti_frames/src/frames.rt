@@ -1,0 +1,190 @@
+ghost use Rattle.std.specs.Prelude.{◌≡◌, ◌≤◌, ◌+◌, ◌-◌, ◌<◌, ◌++◌, [], ◌∷◌, length, IfOk, IfErr, MatchResult, Some, None, slice_get, take, drop, min};
+ghost use Rattle.ti_types.specs.Frames.{without_newest};
+ghost use Rattle.ti_frames.specs.Frames.{with_frames, frames_after, step_refusal};
+
+use std::alloc::Global;
+use std::marker::Model;
+use ti_types::{Frame, Place, Step, TiError, TraceBuf};
+
+/// The frames of one thread, newest first, with room for as many as the depth limit.
+#[derive(Drop, Debug)]
+pub struct Frames {
+    /// The oldest first.
+    items: Vec<Frame>,
+    depth: u32,
+}
+
+impl Model for Frames {
+    ghost use Rattle.std.specs.Prelude.{◌≤◌, length, reverse, vec_capacity};
+    ghost use Rattle.ti_frames.specs.Frames.{Stack};
+
+    ghost Value = { Stack };
+
+    ghost view = { λ s. record { frames = reverse s.items.items; depth = s.depth } };
+
+    ghost invariant = { λ s. (length s.items.items ≤ s.depth) × (s.depth ≤ vec_capacity s.items) };
+}
+
+impl Frames {
+    /// No frames, with room for `depth` of them.
+    ///
+    /// Fails with `OutOfMemory` (110) where there is no memory for the room, and in no other case (this profile).
+    pub fn new(alloc: Global, depth: u32) -> Result<Self, TiError>
+        ensures frames { IfOk result (λ f. f.frames ≡ []) }
+        ensures depth { IfOk result (λ f. f.depth ≡ depth) }
+        ensures memory { IfErr result (λ e. e ≡ TiError.OutOfMemory) }
+    {
+        let items = Vec::with_capacity(alloc, depth as usize)?;
+        Ok(Frames { items, depth })
+    }
+
+    /// How many frames there are, at most the depth limit.
+    pub fn len(&self) -> usize
+        ensures len { result ≡ length self.now.frames }
+        ensures fits { result ≤ self.now.depth }
+    {
+        self.items.len()
+    }
+
+    /// How many frames there may be.
+    pub fn depth(&self) -> u32
+        ensures { result ≡ self.now.depth }
+    {
+        self.depth
+    }
+
+    /// The frame at a depth, 0 for the newest; `None` from the frame count on (JVM TI 11, GetFrameLocation).
+    pub fn top(&self, depth: usize) -> Option<Frame>
+        ensures { result ≡ slice_get self.now.frames depth }
+    {
+        if depth < self.items.len() {
+            Some(self.items[self.items.len() - 1 - depth])
+        } else {
+            None
+        }
+    }
+
+    /// Why a step may not be made, or `None` where it may (this profile).
+    ///
+    /// To enter a method is refused with `Overflow` (201) at the depth limit. To move the newest frame on is refused
+    /// with `NoFrame` (202) where there is none, and with `NotJavaFrame` (203) where it is native. To leave is refused
+    /// with `NoFrame` (202) where there is no frame.
+    pub fn refusal(&self, step: Step) -> Option<TiError>
+        ensures { result ≡ step_refusal self.now.depth self.now.frames step }
+    {
+        match step {
+            Step::Enter(_) | Step::EnterNative(_) => {
+                if self.items.len() < self.depth as usize {
+                    None
+                } else {
+                    Some(TiError::Overflow)
+                }
+            }
+            Step::At(_) => match self.top(0) {
+                Some(frame) => match frame.place {
+                    Place::Native => Some(TiError::NotJavaFrame),
+                    Place::Java(_) => None,
+                },
+                None => Some(TiError::NoFrame),
+            },
+            Step::Leave => match self.top(0) {
+                Some(_) => None,
+                None => Some(TiError::NoFrame),
+            },
+        }
+    }
+
+    /// Makes a step, or says why it may not be made, as `refusal` does. A refused step changes nothing.
+    pub fn apply(&mut self, step: Step) -> Result<(), TiError>
+        ensures when { MatchResult result
+            (λ _. step_refusal self.old.depth self.old.frames step ≡ None)
+            (λ e. step_refusal self.old.depth self.old.frames step ≡ Some e) }
+        ensures frames { MatchResult result
+            (λ _. self.new ≡ with_frames self.old (frames_after self.old.frames step))
+            (λ _. self.new ≡ self.old) }
+    {
+        if let Some(error) = self.refusal(step) {
+            return Err(error);
+        }
+        self.make(step);
+        Ok(())
+    }
+
+    /// Makes a step that is not refused.
+    fn make(&mut self, step: Step)
+        requires { step_refusal self.old.depth self.old.frames step ≡ None }
+        ensures { self.new ≡ with_frames self.old (frames_after self.old.frames step) }
+    {
+        match step {
+            Step::Enter(method) => self.push(Frame {
+                method,
+                place: Place::Java(0),
+            }),
+            Step::EnterNative(method) => self.push(Frame {
+                method,
+                place: Place::Native,
+            }),
+            Step::At(position) => {
+                let Some(frame) = self.top(0) else {
+                    unreachable!()
+                };
+                self.pop();
+                self.push(Frame {
+                    method: frame.method,
+                    place: Place::Java(position),
+                });
+            }
+            Step::Leave => self.pop(),
+        }
+    }
+
+    /// Puts a newest frame.
+    fn push(&mut self, frame: Frame)
+        requires { length self.old.frames < self.old.depth }
+        ensures { self.new ≡ with_frames self.old (frame ∷ self.old.frames) }
+    {
+        match self.items.push(frame) {
+            Ok(()) => (),
+            Err(_) => unreachable!(),
+        }
+    }
+
+    /// Takes the newest frame away.
+    fn pop(&mut self)
+        ensures room { 0 < length self.old.frames → length self.new.frames < self.new.depth }
+        ensures frames { self.new ≡ with_frames self.old (without_newest self.old.frames) }
+    {
+        let _ = self.items.pop();
+    }
+
+    /// Copies the frames from depth `start` on, newest first and at most `count` of them, behind those of a buffer
+    /// that has room for them (JVM TI 11, GetStackTrace). The buffer keeps its room.
+    #[tactic(auto, using(crate::proofs::TraceLaws::take_more))]
+    pub fn copy_into(&self, start: usize, count: u32, buf: &mut TraceBuf)
+        requires start { start ≤ length self.now.frames }
+        requires room { length buf.old.frames + min count (length self.now.frames - start) ≤ buf.old.room }
+        ensures frames { buf.new.frames ≡ buf.old.frames ++ take count (drop start self.now.frames) }
+        ensures room { buf.new.room ≡ buf.old.room }
+    {
+        let left = self.items.len() - start;
+        let most = left.min(count as usize);
+        for i in 0..most {
+            buf.push(self.get(start + i));
+        }
+    }
+
+    /// The frame at a depth that is there.
+    fn get(&self, depth: usize) -> Frame
+        requires { depth < length self.now.frames }
+        ensures { slice_get self.now.frames depth ≡ Some result }
+    {
+        self.items[self.items.len() - 1 - depth]
+    }
+
+    /// Takes all frames away. The depth stays.
+    pub fn clear(&mut self)
+        ensures { self.new ≡ with_frames self.old [] }
+    {
+        self.items.clear();
+    }
+}

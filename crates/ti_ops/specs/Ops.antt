@@ -1,0 +1,25 @@
+-- The calls that wait at one thread, and what has become of all calls.
+use Rattle.std.specs.Prelude.{ℕ, List, [], ◌∷◌, ◌++◌}
+use Rattle.ti_ops.specs.declared.pending.Pending.{Pending}
+use Rattle.ti_ops.specs.declared.fate.Fate.{Fate}
+use Rattle.ti_ops.specs.declared.fate.Fate.TheVariants.{Waiting}
+use Rattle.ti_ops.specs.Fates.{with_call}
+
+-- the calls that wait, the earliest posted first; the fates of each environment's calls, by number; how many calls
+-- may wait; and how many calls an environment may ask
+pub record Ops : Type 0 where
+  pub waiting : List Pending
+  pub fates : List (List Fate)
+  pub room : ℕ
+  pub calls : ℕ
+
+abbrev pub with_waiting : Ops → List Pending → Ops
+with_waiting o waiting = record { waiting = waiting; fates = o.fates; room = o.room; calls = o.calls }
+
+abbrev pub with_fates : Ops → List (List Fate) → Ops
+with_fates o fates = record { waiting = o.waiting; fates = fates; room = o.room; calls = o.calls }
+
+-- with one more call that waits
+abbrev pub with_posted : Ops → Pending → Ops
+with_posted o p =
+    record { waiting = o.waiting ++ p ∷ []; fates = with_call p.ticket.env Waiting o.fates; room = o.room; calls = o.calls }

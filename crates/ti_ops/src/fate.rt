@@ -1,0 +1,12 @@
+use ti_types::Answer;
+
+/// What has become of a call that an environment asked of a thread.
+#[derive(Drop, Debug)]
+pub enum Fate {
+    /// The call is not answered yet.
+    Waiting,
+    /// The call was answered later, and the answer is there to be collected.
+    Told(Answer),
+    /// Nothing is left: the call was answered at once, or its answer was collected.
+    Gone,
+}

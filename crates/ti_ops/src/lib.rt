@@ -1,0 +1,17 @@
+//! The calls that wait at one thread, and the answers that are not collected yet.
+//!
+//! Below stands `ti_types` alone. Upward this crate promises of `PendingOps`:
+//!
+//! - The calls that wait are taken in the order in which they were posted, each with its buffer.
+//! - An answer that was delivered to a ticket is collected once, and by that ticket's environment and number alone.
+//! - Each call takes a constant time whatever waits and whatever is not collected: the calls that wait stand in a
+//!   ring, and the fate of a call stands at its number, in a list for its environment. (No contract says this.)
+//! - Only `PendingOps::new` takes memory, and its only error is want of it. Nothing is filled in advance.
+#![tactic(auto)]
+
+mod fate;
+mod fates;
+mod pending;
+
+pub use fate::Fate;
+pub use pending::{Pending, PendingOps};

@@ -1,0 +1,147 @@
+ghost use Rattle.std.specs.Prelude.{◌≡◌, ◌<◌, ◌*◌, [], ◌∷◌, length, replicate, IfOk, IfErr, MatchOption, is_some, if◌then◌else◌};
+ghost use Rattle.ti_ops.specs.Fates.{fates_by, fate_of, told_by, with_call, with_fate};
+ghost use Rattle.ti_ops.specs.Ops.{with_waiting, with_fates, with_posted};
+ghost use Rattle.ti_ops.specs.declared.fate.Fate.TheVariants as fate;
+
+use crate::fate::Fate;
+use crate::fates::FateList;
+use std::alloc::Global;
+use std::collections::VecDeque;
+use std::marker::Model;
+use ti_types::{Answer, Call, EnvNo, TiError, Ticket, TraceBuf};
+
+/// A call that waits, with the buffer for its answer.
+#[derive(Drop, Debug)]
+pub struct Pending {
+    pub ticket: Ticket,
+    pub call: Call,
+    pub buf: TraceBuf,
+}
+
+/// The calls that wait at one thread, and the answers that are not collected yet.
+///
+/// All tickets are of that one thread: only their environments and numbers are looked at. Each call that an
+/// environment asks of the thread is told here by `post` or by `pass`, in the order of the numbers.
+#[derive(Drop, Debug)]
+pub struct PendingOps {
+    /// The earliest posted first.
+    waiting: VecDeque<Pending>,
+    /// One for each environment.
+    fates: Vec<FateList>,
+    room: usize,
+    calls: u32,
+}
+
+impl Model for PendingOps {
+    ghost use Rattle.std.specs.Prelude.{◌≤◌, length, map};
+    ghost use Rattle.std.specs.VecDeque.{deque_capacity};
+    ghost use Rattle.ti_ops.specs.Ops.{Ops};
+    ghost use Rattle.ti_ops.specs.Rooms.{HaveRoom, fates_in};
+
+    ghost Value = { Ops };
+
+    ghost view = { λ s. record { waiting = s.waiting.items; fates = fates_in s.fates.items; room = s.room; calls = s.calls } };
+
+    ghost invariant = { λ s. (length s.waiting.items ≤ s.room) × (s.room ≤ deque_capacity s.waiting) × HaveRoom s.calls s.fates.items };
+}
+
+impl PendingOps {
+    /// No calls, with room for as many as `envs` environments may ask, each of them `calls`.
+    ///
+    /// Fails with `OutOfMemory` (110) where there is no memory for the room, and in no other case (this profile).
+    pub fn new(alloc: Global, envs: u32, calls: u32) -> Result<Self, TiError>
+        ensures waiting { IfOk result (λ o. o.waiting ≡ []) }
+        ensures fates { IfOk result (λ o. o.fates ≡ replicate envs []) }
+        ensures room { IfOk result (λ o. o.room ≡ envs * calls) }
+        ensures calls { IfOk result (λ o. o.calls ≡ calls) }
+        ensures memory { IfErr result (λ e. e ≡ TiError.OutOfMemory) }
+    {
+        let room = envs as usize * calls as usize;
+        let waiting = VecDeque::with_capacity(alloc, room)?;
+        let fates = empty_lists(alloc, envs, calls)?;
+        Ok(PendingOps {
+            waiting,
+            fates,
+            room,
+            calls,
+        })
+    }
+
+    /// How many calls wait.
+    pub fn waiting(&self) -> usize
+        ensures { result ≡ length self.now.waiting }
+    {
+        self.waiting.len()
+    }
+
+    /// Puts a call behind those that wait. It is its environment's next one, and there is room for it.
+    pub fn post(&mut self, ticket: Ticket, call: Call, buf: TraceBuf)
+        requires env { ticket.env.0 < length self.old.fates }
+        requires next { ticket.no ≡ length (fates_by ticket.env self.old.fates) }
+        requires calls { ticket.no < self.old.calls }
+        requires room { length self.old.waiting < self.old.room }
+        ensures { self.new ≡ with_posted self.old (record { ticket = ticket; call = call; buf = buf }) }
+    {
+        let fates = &mut self.fates[ticket.env.0 as usize];
+        fates.push(Fate::Waiting);
+        self.waiting
+            .push_back_reserved(Pending { ticket, call, buf });
+    }
+
+    /// Notes that an environment's next call was answered at once. There is room for it.
+    pub fn pass(&mut self, env: EnvNo)
+        requires env { env.0 < length self.old.fates }
+        requires calls { length (fates_by env self.old.fates) < self.old.calls }
+        ensures { self.new ≡ with_fates self.old (with_call env fate.Gone self.old.fates) }
+    {
+        let fates = &mut self.fates[env.0 as usize];
+        fates.push(Fate::Gone);
+    }
+
+    /// Takes the call that has waited longest, with its buffer, or `None` where none waits.
+    pub fn take_first(&mut self) -> Option<Pending>
+        ensures first { MatchOption result ((self.old.waiting ≡ []) × (self.new.waiting ≡ [])) (λ p. self.old.waiting ≡ p ∷ self.new.waiting) }
+        ensures rest { self.new ≡ with_waiting self.old self.new.waiting }
+    {
+        self.waiting.pop_front()
+    }
+
+    /// Keeps the answer to a call that was posted and has no answer yet, until it is collected.
+    pub fn deliver(&mut self, ticket: Ticket, answer: Answer)
+        requires { fate_of ticket self.old.fates ≡ fate.Waiting }
+        ensures { self.new ≡ with_fates self.old (with_fate ticket (fate.Told answer) self.old.fates) }
+    {
+        let fates = &mut self.fates[ticket.env.0 as usize];
+        fates.tell(ticket.no, answer);
+    }
+
+    /// Takes the answer to a ticket out, or gives `None` where it is not there: the call is not answered yet, was
+    /// answered at once, was never asked, or its answer was collected before. Then nothing changes.
+    pub fn collect(&mut self, ticket: Ticket) -> Option<Answer>
+        ensures answer { result ≡ told_by (fate_of ticket self.old.fates) }
+        ensures fates { self.new ≡ with_fates self.old (if is_some result then with_fate ticket fate.Gone self.old.fates else self.old.fates) }
+    {
+        let at = ticket.env.0 as usize;
+        if at >= self.fates.len() {
+            return None;
+        }
+        let fates = &mut self.fates[at];
+        fates.take(ticket.no)
+    }
+}
+
+/// A list of no calls for each environment.
+fn empty_lists(alloc: Global, envs: u32, calls: u32) -> Result<Vec<FateList>, TiError>
+    ensures lists { IfOk result (λ v. v.items ≡ replicate envs (record { fates = []; room = calls })) }
+    ensures memory { IfErr result (λ e. e ≡ TiError.OutOfMemory) }
+{
+    let mut lists = Vec::with_capacity(alloc, envs as usize)?;
+    for _env in 0..envs {
+        let list = FateList::new(alloc, calls)?;
+        match lists.push(list) {
+            Ok(()) => (),
+            Err(_) => unreachable!(),
+        }
+    }
+    Ok(lists)
+}

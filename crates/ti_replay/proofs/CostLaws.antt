@@ -1,0 +1,122 @@
+-- The table of costs is what the history's entries cost.
+use Rattle.std.proofs.Common.{ltb-true, ◌↔◌, ◌≡◌, ◌≢◌, ℕ, ◌+◌, ◌<◌, true, false, ◌&&◌, inl, inr, List, [], ◌∷◌, ◌++◌, length, refl, ap, sym, ◌∙◌, arith, replicate, append-nil, append_assoc, nat_lt, length-set, get_or-set_other, get_or-set_same, None}
+use Rattle.std.specs.List.{fold}
+use Rattle.std.proofs.lemmas.List.{get_or-replicate, length-replicate}
+use Rattle.std.proofs.lemmas.List.Sums.{sum_by-cons}
+use Rattle.std.proofs.lemmas.Bool.{cases_eq, cases_Bool}
+use Rattle.std.proofs.lemmas.Bool.Decides.{nat_tests}
+use Rattle.ti_types.specs.declared.limits.Limits.{Limits}
+use Rattle.ti_types.specs.declared.numbers.EnvNo.{EnvNo}
+use Rattle.ti_types.specs.declared.state.Safe.TheVariants.{Native, Blocked, AtPoll}
+use Rattle.ti_types.specs.declared.entry.Entry.{Entry}
+use Rattle.ti_types.specs.declared.entry.Entry.TheVariants.{Start, Own, Hand, Back, End, Asked, Stop, Read, Go}
+use Rattle.ti_replay.specs.Legal.{situation, fits, may_follow, first_illegal, goes_on, is_legal, env_of, ask_count, call_cost, calls_spent, asked_by}
+use Rattle.ti_replay.specs.declared.costs.Costs.{Costs}
+use Rattle.ti_replay.specs.Costs.{no_costs, costs_at, charged, IsDue}
+use Rattle.ti_replay.specs.PlacedState.{PlacedState, placed_state, situation_in, may_enter}
+
+-- an entry costs nothing to an environment that is not its own
+ask_count_other : (env : EnvNo) (x : Entry) → env.0 ≢ (env_of x).0 → ask_count env x ≡ 0
+ask_count_other env Start n = refl
+ask_count_other env (Own step) n = refl
+ask_count_other env (Hand safe) n = refl
+ask_count_other env Back n = refl
+ask_count_other env End n = refl
+ask_count_other env (Asked other number call) n = grind (arith, nat_tests)
+ask_count_other env (Stop other) n = refl
+ask_count_other env (Read other max_count) n = refl
+ask_count_other env (Go other) n = refl
+
+call_cost_other : (env : EnvNo) (x : Entry) → env.0 ≢ (env_of x).0 → call_cost env x ≡ 0
+call_cost_other env Start n = refl
+call_cost_other env (Own step) n = refl
+call_cost_other env (Hand safe) n = refl
+call_cost_other env Back n = refl
+call_cost_other env End n = refl
+call_cost_other env (Asked other number call) n = grind (arith, nat_tests)
+call_cost_other env (Stop other) n = grind (arith, nat_tests)
+call_cost_other env (Read other max_count) n = grind (arith, nat_tests)
+call_cost_other env (Go other) n = refl
+
+abbrev pub more : Costs → ℕ → ℕ → Costs
+more c asked calls = record { asked = c.asked + asked; calls = c.calls + calls }
+
+same_env : (a b : EnvNo) → a.0 ≡ b.0 → a ≡ b
+same_env a b h = ap (λ (n : ℕ). record { 0 = n }) h
+
+costs_at-charged : (t : List Costs) (x : Entry) (env : EnvNo) → env.0 < length t → costs_at (charged t x) env ≡ more (costs_at t env) (ask_count env x) (call_cost env x)
+costs_at-charged t x env h =
+    elim (cases_eq env.0 (env_of x).0) [
+      | inl same ↦
+          let e : env ≡ env_of x = same_env env (env_of x) same in
+          rw e (get_or-set_same t (env_of x).0 _ no_costs (let k : (env_of x).0 < length t = omega arith in k))
+      | inr other ↦ rw (ask_count_other env x other, call_cost_other env x other) (get_or-set_other t (env_of x).0 env.0 _ no_costs other ∙ grind arith)
+    ]
+
+length-charged : (t : List Costs) (x : Entry) → length (charged t x) ≡ length t
+length-charged t x = length-set t (env_of x).0 _
+
+costs_at-fold : (t : List Costs) (history : List Entry) (env : EnvNo) → env.0 < length t → costs_at (fold charged t history) env ≡ more (costs_at t env) (asked_by env history) (calls_spent env history)
+costs_at-fold t [] env h = grind arith
+costs_at-fold t (x ∷ history) env h =
+    grind (arith, costs_at-fold (charged t x) history env, costs_at-charged t x env, length-charged t x, sum_by-cons (ask_count env) x history, sum_by-cons (call_cost env) x history)
+
+-- for an environment that exists, the state tells what the history tells
+pub situation_is : (limits : Limits) (history : List Entry) (env : EnvNo) → env.0 < limits.envs → situation_in (placed_state limits history) env ≡ situation limits history env
+situation_is limits history env h =
+    let n : length (replicate limits.envs no_costs) ≡ limits.envs = length-replicate limits.envs no_costs in
+    let z : costs_at (replicate limits.envs no_costs) env ≡ no_costs = get_or-replicate limits.envs env.0 no_costs no_costs h in
+    grind (arith, costs_at-fold (replicate limits.envs no_costs) history env)
+
+envs_positive : (limits : Limits) → 0 < limits.envs
+envs_positive limits = omega (arith, limits.in_range)
+
+-- the test by the state is the test by the history
+pub may_follow_is : (limits : Limits) (history : List Entry) (x : Entry) → may_follow limits history x ≡ may_enter limits (placed_state limits history) x
+may_follow_is limits history x =
+    elim (cases_Bool (nat_lt (env_of x).0 limits.envs)) [
+      | inl there ↦ ap (λ s. fits limits s x) (sym (situation_is limits history (env_of x) (ltb-true _ _ there)))
+      | inr not_there ↦ without_env limits history x not_there
+    ]
+  where
+    without_env : (limits : Limits) (history : List Entry) (x : Entry) → nat_lt (env_of x).0 limits.envs ≡ false → may_follow limits history x ≡ may_enter limits (placed_state limits history) x
+    without_env limits history Start h = refl
+    without_env limits history (Own step) h = refl
+    without_env limits history (Hand Native) h = refl
+    without_env limits history (Hand (Blocked kind)) h = refl
+    without_env limits history (Hand AtPoll) h = refl
+    without_env limits history Back h = refl
+    without_env limits history End h = refl
+    without_env limits history (Asked env number call) h = rw h refl
+    without_env limits history (Stop env) h = rw h refl
+    without_env limits history (Read env max_count) h = rw h refl
+    without_env limits history (Go env) h = rw h refl
+
+-- a history is legal where no entry is illegal
+pub goes_on_is : (limits : Limits) (front history : List Entry) → (goes_on limits front history ≡ true) ↔ (first_illegal limits front history ≡ None)
+goes_on_is limits front [] = (λ h. refl, λ h. refl)
+goes_on_is limits front (x ∷ history) =
+    elim (cases_Bool (may_follow limits front x)) [
+      | inl may ↦ rw may (goes_on_is limits (front ++ x ∷ []) history)
+      | inr may_not ↦ rw may_not (λ h. cc, λ h. cc)
+    ]
+
+pub goes_on-append : (limits : Limits) (front history more : List Entry) → goes_on limits front (history ++ more) ≡ (goes_on limits front history && goes_on limits (front ++ history) more)
+goes_on-append limits front [] more = rw append-nil refl
+goes_on-append limits front (x ∷ history) more = grind (arith, goes_on-append limits (front ++ x ∷ []) history more, append_assoc front (x ∷ []) history)
+
+-- one more entry
+pub is_legal-snoc : (limits : Limits) (history : List Entry) (x : Entry) → is_legal limits (history ++ x ∷ []) ≡ (is_legal limits history && may_follow limits history x)
+is_legal-snoc limits history x = grind (arith, goes_on-append limits [] history (x ∷ []))
+
+-- an entry that may come can be charged
+pub due : (limits : Limits) (s : PlacedState) (x : Entry) → may_enter limits s x ≡ true → IsDue s.costs x
+due limits s Start h = tt
+due limits s (Own step) h = tt
+due limits s (Hand safe) h = tt
+due limits s Back h = tt
+due limits s End h = tt
+due limits s (Asked env number call) h = (grind (arith, nat_tests), grind (arith, nat_tests, limits.in_range))
+due limits s (Stop env) h = grind (arith, nat_tests, limits.in_range)
+due limits s (Read env max_count) h = grind (arith, nat_tests, limits.in_range)
+due limits s (Go env) h = tt

@@ -1,0 +1,36 @@
+mod Rows
+pub mod SettlingLaws
+pub mod HistoryLaws
+pub mod CostLaws
+pub mod Charging
+pub mod StepLaws
+pub mod ReplyLaws
+pub mod HistoryStateLaws
+pub mod AgreementLaws
+pub mod TraceLaws
+pub mod LateStepLaws
+pub mod WorkedEvents
+mod WorkedFrames
+mod WorkedPolls
+mod WorkedSuspensions
+mod WorkedStates
+mod WorkedWords
+mod WorkedStops
+mod WorkedBudgets
+mod WorkedThreads
+pub mod DoneLaws
+pub mod EventLaws
+pub mod AskingLaws
+pub mod BoundLaws
+pub mod PlaceLaws
+pub mod StorageLaws
+pub mod StandingLaws
+pub mod TicketLaws
+pub mod TicketReplies
+pub mod LateTicketLaws
+pub mod PlaceTickets
+pub mod StepsStay
+pub mod StorageReplies
+pub mod LifeLaws
+pub mod WordAnswers
+pub mod StopLaws

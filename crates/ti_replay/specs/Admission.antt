@@ -1,0 +1,130 @@
+-- Which calls of an agent reach the thread.
+use Rattle.std.specs.Prelude.{ℕ, ◌+◌, Bool, true, false, ◌&&◌, not, if◌then◌else◌, ◌==◌, nat_lt, List, Option, None, is_none}
+use Rattle.std.specs.List.{fold}
+use Rattle.ti_types.specs.declared.limits.Limits.{Limits}
+use Rattle.ti_types.specs.declared.numbers.EnvNo.{EnvNo}
+use Rattle.ti_types.specs.declared.numbers.ThreadNo.{ThreadNo}
+use Rattle.ti_types.specs.declared.caps.Caps.{Caps}
+use Rattle.ti_types.specs.declared.call.Call.{Call}
+use Rattle.ti_types.specs.declared.call.Call.TheVariants as call
+use Rattle.ti_types.specs.declared.error.TiError.{TiError}
+use Rattle.ti_types.specs.declared.error.TiError.TheVariants.{InvalidEnvironment, MustPossessCapability, InvalidThread, IllegalArgument, CallsSpent, OutOfMemory}
+use Rattle.ti_types.specs.declared.event.Event.{Event}
+use Rattle.ti_types.specs.declared.event.Event.TheVariants.{Start, Own, Poll, ToNative, ToBlocked, Back, End, Ask, Stop, Read, Go, AddCaps, Relinquish, GetCaps, SetEnvWord, GetEnvWord}
+use Rattle.ti_types.specs.Call.{needed_by}
+use Rattle.ti_types.specs.Caps.{no_caps, caps_with, caps_without}
+pub use Rattle.ti_types.specs.Caps.{holds_all, can_be_had}
+use Rattle.ti_replay.specs.Legal.{is_well_formed, is_not_negative}
+use Rattle.ti_replay.specs.Refusals.{or_else, unless}
+
+-- an event, and whether memory was wanting for the buffer of its answer
+pub record Happening : Type 0 where
+  pub event : Event
+  pub wanting : Bool
+
+-- what an environment holds, and what it has spent at one thread
+pub record Dealings : Type 0 where
+  pub caps : Caps
+  pub spent : ℕ
+
+-- the environment of an agent's event. A thread's own event has none, and counts as environment 0's
+abbrev pub agent_of : Event → EnvNo
+agent_of (Ask e t call) = e
+agent_of (Stop e t) = e
+agent_of (Read e t max_count) = e
+agent_of (Go e t) = e
+agent_of (AddCaps e caps) = e
+agent_of (Relinquish e caps) = e
+agent_of (GetCaps e) = e
+agent_of (SetEnvWord e word) = e
+agent_of (GetEnvWord e) = e
+agent_of _ = record { 0 = 0 }
+
+-- whether the event is an agent's call at a thread
+abbrev pub is_aimed_at : ThreadNo → Event → Bool
+is_aimed_at thread (Ask e t call) = t.0 == thread.0
+is_aimed_at thread (Stop e t) = t.0 == thread.0
+is_aimed_at thread (Read e t max_count) = t.0 == thread.0
+is_aimed_at thread (Go e t) = t.0 == thread.0
+is_aimed_at thread _ = false
+
+-- whether the event is the thread's own
+abbrev pub is_own_of : ThreadNo → Event → Bool
+is_own_of thread (Start t) = t.0 == thread.0
+is_own_of thread (Own t step) = t.0 == thread.0
+is_own_of thread (Poll t) = t.0 == thread.0
+is_own_of thread (ToNative t) = t.0 == thread.0
+is_own_of thread (ToBlocked t kind) = t.0 == thread.0
+is_own_of thread (Back t) = t.0 == thread.0
+is_own_of thread (End t) = t.0 == thread.0
+is_own_of thread _ = false
+
+-- whether the event asks for or changes capabilities
+abbrev pub is_about_caps : Event → Bool
+is_about_caps (AddCaps e caps) = true
+is_about_caps (Relinquish e caps) = true
+is_about_caps (GetCaps e) = true
+is_about_caps _ = false
+
+abbrev pub is_by : EnvNo → Event → Bool
+is_by env event = (agent_of event).0 == env.0
+
+-- whether the call costs one of the environment's calls at the thread
+abbrev pub is_paid : Event → Bool
+is_paid (Ask e t call) = true
+is_paid (Stop e t) = true
+is_paid (Read e t max_count) = true
+is_paid _ = false
+
+abbrev pub takes_buffer : Call → Bool
+takes_buffer (call.Trace start max_count) = true
+takes_buffer _ = false
+
+-- why a call does not reach its thread
+abbrev pub refusal_of : Limits → Dealings → Bool → Event → Option TiError
+refusal_of limits d wanting (Ask e t call) =
+    or_else (unless (nat_lt e.0 limits.envs) InvalidEnvironment)
+    (or_else (unless (holds_all d.caps (needed_by call)) MustPossessCapability)
+    (or_else (unless (nat_lt t.0 limits.threads) InvalidThread)
+    (or_else (unless (is_well_formed call) IllegalArgument)
+    (or_else (unless (nat_lt d.spent limits.calls) CallsSpent)
+    (unless (not (wanting && takes_buffer call)) OutOfMemory)))))
+refusal_of limits d wanting (Stop e t) =
+    or_else (unless (nat_lt e.0 limits.envs) InvalidEnvironment)
+    (or_else (unless (nat_lt t.0 limits.threads) InvalidThread)
+    (unless (nat_lt d.spent limits.calls) CallsSpent))
+refusal_of limits d wanting (Read e t max_count) =
+    or_else (unless (nat_lt e.0 limits.envs) InvalidEnvironment)
+    (or_else (unless (nat_lt t.0 limits.threads) InvalidThread)
+    (or_else (unless (is_not_negative max_count) IllegalArgument)
+    (or_else (unless (nat_lt d.spent limits.calls) CallsSpent)
+    (unless (not wanting) OutOfMemory))))
+refusal_of limits d wanting (Go e t) =
+    or_else (unless (nat_lt e.0 limits.envs) InvalidEnvironment) (unless (nat_lt t.0 limits.threads) InvalidThread)
+refusal_of limits d wanting _ = None
+
+abbrev pub refusal : Limits → Dealings → Happening → Option TiError
+refusal limits d h = refusal_of limits d h.wanting h.event
+
+-- the capabilities of an environment after an event
+abbrev pub caps_after : EnvNo → Caps → Event → Caps
+caps_after env held (AddCaps e caps) =
+    if e.0 == env.0 && can_be_had caps then caps_with held caps else held
+caps_after env held (Relinquish e caps) =
+    if e.0 == env.0 then caps_without held caps else held
+caps_after env held _ = held
+
+-- an admitted call that is paid for
+abbrev pub spends : Limits → EnvNo → ThreadNo → Dealings → Happening → Bool
+spends limits env thread d h =
+    is_aimed_at thread h.event && is_by env h.event && is_paid h.event && is_none (refusal limits d h)
+
+abbrev pub dealt : Limits → EnvNo → ThreadNo → Dealings → Happening → Dealings
+dealt limits env thread d h =
+    record {
+      caps = caps_after env d.caps h.event;
+      spent = if spends limits env thread d h then d.spent + 1 else d.spent;
+    }
+
+abbrev pub dealings : Limits → EnvNo → ThreadNo → List Happening → Dealings
+dealings limits env thread events = fold (dealt limits env thread) (record { caps = no_caps; spent = 0 }) events

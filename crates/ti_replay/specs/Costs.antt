@@ -1,0 +1,27 @@
+-- The costs of a history's entries, in a table with a row for each environment.
+use Rattle.std.specs.Prelude.{◌≡◌, ◌<◌, ◌+◌, List, slice_set, slice_index_or}
+use Rattle.ti_types.specs.declared.numbers.EnvNo.{EnvNo}
+use Rattle.ti_types.specs.declared.entry.Entry.{Entry}
+use Rattle.ti_types.specs.declared.entry.Entry.TheVariants.{Asked, Stop, Read}
+use Rattle.ti_replay.specs.declared.costs.Costs.{Costs}
+use Rattle.ti_replay.specs.Legal.{call_cost, ask_count, env_of}
+
+abbrev pub no_costs : Costs
+no_costs = record { asked = 0; calls = 0 }
+
+abbrev pub costs_at : List Costs → EnvNo → Costs
+costs_at costs env = slice_index_or costs env.0 no_costs
+
+-- the costs after an entry
+abbrev pub charged : List Costs → Entry → List Costs
+charged costs x =
+    let env = env_of x in
+    let old = costs_at costs env in
+    slice_set costs env.0 (record { asked = old.asked + ask_count env x; calls = old.calls + call_cost env x })
+
+-- the entry is numbered as the table says, and its environment has a call left
+abbrev pub IsDue : List Costs → Entry → Type 0
+IsDue costs (Asked env number call) = (number ≡ (costs_at costs env).asked) × ((costs_at costs env).calls < 1024)
+IsDue costs (Stop env) = (costs_at costs env).calls < 1024
+IsDue costs (Read env max_count) = (costs_at costs env).calls < 1024
+IsDue costs _ = Unit {0}

@@ -1,0 +1,145 @@
+-- Which histories a thread can have.
+use Rattle.std.specs.Prelude.{ℕ, ◌+◌, Bool, true, false, ◌&&◌, ◌||◌, not, if◌then◌else◌, ◌==◌, nat_lt, nat_le, List, [], ◌∷◌, ◌++◌, length, Option, Some, None, is_some, is_none}
+use Rattle.std.specs.List.{sum_by}
+use Rattle.ti_types.specs.declared.limits.Limits.{Limits}
+use Rattle.ti_types.specs.declared.numbers.EnvNo.{EnvNo}
+use Rattle.ti_types.specs.declared.place.Frame.{Frame}
+use Rattle.ti_types.specs.declared.state.Mode.{Mode}
+use Rattle.ti_types.specs.declared.state.Mode.TheVariants as mode
+use Rattle.ti_types.specs.declared.state.Safe.TheVariants.{Native, Blocked, AtPoll}
+use Rattle.ti_types.specs.declared.step.Step.{Step}
+use Rattle.ti_types.specs.declared.step.Step.TheVariants.{Enter, EnterNative, At, Leave}
+use Rattle.ti_types.specs.declared.entry.Entry.{Entry}
+use Rattle.ti_types.specs.declared.entry.Entry.TheVariants.{Start, Own, Hand, Back, End, Asked, Stop, Read, Go}
+use Rattle.ti_types.specs.declared.view.ThreadView.{ThreadView}
+pub use Rattle.ti_types.specs.Numbers.{is_not_negative}
+pub use Rattle.ti_types.specs.Call.{is_well_formed}
+pub use Rattle.ti_types.specs.Steps.{is_native, newest_is_native}
+use Rattle.ti_replay.specs.Answers.{is_running}
+use Rattle.ti_replay.specs.Settling.{unanswered}
+use Rattle.ti_replay.specs.View.{view, is_barred}
+
+abbrev pub is_new : Mode → Bool
+is_new mode.New = true
+is_new _ = false
+
+abbrev pub is_safe : Mode → Bool
+is_safe (mode.AtSafe safe) = true
+is_safe _ = false
+
+-- what an entry costs its thread
+abbrev pub own_cost : Entry → ℕ
+own_cost (Own step) = 1
+own_cost (Hand Native) = 2
+own_cost (Hand (Blocked kind)) = 2
+own_cost _ = 0
+
+-- what an entry costs an environment
+abbrev pub call_cost : EnvNo → Entry → ℕ
+call_cost env (Asked other number call) = if other.0 == env.0 then 1 else 0
+call_cost env (Stop other) = if other.0 == env.0 then 1 else 0
+call_cost env (Read other max_count) = if other.0 == env.0 then 1 else 0
+call_cost env _ = 0
+
+-- what an entry costs the environments together
+abbrev pub call_cost_of : Entry → ℕ
+call_cost_of (Asked env number call) = 1
+call_cost_of (Stop env) = 1
+call_cost_of (Read env max_count) = 1
+call_cost_of _ = 0
+
+-- 1 for a call that the environment asked
+abbrev pub ask_count : EnvNo → Entry → ℕ
+ask_count env (Asked other number call) = if other.0 == env.0 then 1 else 0
+ask_count env _ = 0
+
+abbrev pub own_spent : List Entry → ℕ
+own_spent history = sum_by own_cost history
+
+abbrev pub calls_spent : EnvNo → List Entry → ℕ
+calls_spent env history = sum_by (call_cost env) history
+
+abbrev pub asked_by : EnvNo → List Entry → ℕ
+asked_by env history = sum_by (ask_count env) history
+
+-- a waiting call is unanswered, or a stop stands
+abbrev pub is_armed : Limits → List Entry → Bool
+is_armed limits history = nat_lt 0 (length (unanswered history)) || is_some (view limits history).stopper
+
+-- whether frames allow a step
+abbrev pub step_fits : Limits → List Frame → Step → Bool
+step_fits limits frames (Enter method) = nat_lt (length frames) limits.depth
+step_fits limits frames (EnterNative method) = nat_lt (length frames) limits.depth
+step_fits limits (frame ∷ frames) (At position) = not (is_native frame.place)
+step_fits limits [] (At position) = false
+step_fits limits (frame ∷ frames) Leave = true
+step_fits limits [] Leave = false
+
+abbrev pub is_stopper : Option EnvNo → EnvNo → Bool
+is_stopper (Some other) env = other.0 == env.0
+is_stopper None env = false
+
+-- what is known of a history before an entry: the view, whether the thread is called for, what the thread has
+-- spent, and what the entry's environment has spent and asked
+pub record Situation : Type 0 where
+  pub view : ThreadView
+  pub armed : Bool
+  pub own : ℕ
+  pub calls : ℕ
+  pub asked : ℕ
+
+-- whether an environment exists and has a call left
+abbrev pub has_call : Limits → Situation → EnvNo → Bool
+has_call limits s env = nat_lt env.0 limits.envs && nat_lt s.calls limits.calls
+
+-- whether an entry may come
+abbrev pub fits : Limits → Situation → Entry → Bool
+fits limits s Start = is_new s.view.mode && is_none s.view.stopper
+fits limits s (Own step) = is_running s.view.mode && step_fits limits s.view.frames step && nat_lt s.own limits.own
+fits limits s (Hand Native) = is_running s.view.mode && newest_is_native s.view.frames && nat_le (s.own + 2) limits.own
+fits limits s (Hand (Blocked kind)) = is_running s.view.mode && nat_le (s.own + 2) limits.own
+fits limits s (Hand AtPoll) = is_running s.view.mode && s.armed
+fits limits s Back = is_safe s.view.mode && not (is_barred s.view)
+fits limits s End = is_running s.view.mode
+fits limits s (Asked env number call) = has_call limits s env && is_well_formed call && (number == s.asked)
+fits limits s (Stop env) = has_call limits s env && is_none s.view.stopper
+fits limits s (Read env max_count) =
+    has_call limits s env && is_not_negative max_count && is_stopper s.view.stopper env && not (is_running s.view.mode)
+fits limits s (Go env) = nat_lt env.0 limits.envs && is_stopper s.view.stopper env
+
+-- the environment of an entry. The thread's own entries have none, and count as environment 0's
+abbrev pub env_of : Entry → EnvNo
+env_of (Asked env number call) = env
+env_of (Stop env) = env
+env_of (Read env max_count) = env
+env_of (Go env) = env
+env_of _ = record { 0 = 0 }
+
+-- what a history leaves, as the next entry of an environment finds it
+abbrev pub situation : Limits → List Entry → EnvNo → Situation
+situation limits history env =
+    record {
+      view = view limits history;
+      armed = is_armed limits history;
+      own = own_spent history;
+      calls = calls_spent env history;
+      asked = asked_by env history;
+    }
+
+-- whether an entry may come behind a history
+abbrev pub may_follow : Limits → List Entry → Entry → Bool
+may_follow limits history x = fits limits (situation limits history (env_of x)) x
+
+-- the first entry that may not come where it stands, behind a front of the history
+abbrev pub first_illegal : Limits → List Entry → List Entry → Option ℕ
+first_illegal limits front [] = None
+first_illegal limits front (x ∷ rest) =
+    if may_follow limits front x then first_illegal limits (front ++ x ∷ []) rest else Some (length front)
+
+-- each entry of the rest may come where it stands
+abbrev pub goes_on : Limits → List Entry → List Entry → Bool
+goes_on limits front [] = true
+goes_on limits front (x ∷ rest) = may_follow limits front x && goes_on limits (front ++ x ∷ []) rest
+
+abbrev pub is_legal : Limits → List Entry → Bool
+is_legal limits history = goes_on limits [] history

@@ -1,0 +1,98 @@
+-- What each event of a whole list comes to.
+use Rattle.std.specs.Prelude.{Bool, true, false, ◌==◌, nat_lt, if◌then◌else◌, ℕ, List, [], ◌∷◌, ◌++◌, Option, Some, None}
+use Rattle.std.specs.List.{fold}
+use Rattle.ti_types.specs.declared.limits.Limits.{Limits}
+use Rattle.ti_types.specs.declared.numbers.EnvNo.{EnvNo}
+use Rattle.ti_types.specs.declared.numbers.ThreadNo.{ThreadNo}
+use Rattle.ti_types.specs.declared.event.Event.{Event}
+use Rattle.ti_types.specs.declared.event.Event.TheVariants.{Start, Own, Poll, ToNative, ToBlocked, Back, End, Ask, Stop, Read, Go, SetEnvWord, GetEnvWord}
+use Rattle.ti_types.specs.declared.event.Outcome.{Outcome}
+use Rattle.ti_types.specs.declared.event.Outcome.TheVariants as outcome
+use Rattle.ti_types.specs.declared.answer.Answer.{Answer}
+use Rattle.ti_types.specs.declared.answer.Answer.TheVariants as answer
+use Rattle.ti_types.specs.declared.error.TiError.TheVariants.{InvalidEnvironment, OutOfMemory}
+use Rattle.ti_types.specs.Answer.{said}
+use Rattle.ti_replay.specs.Admission.{Happening}
+use Rattle.ti_replay.specs.Events.{outcome_of}
+
+-- the thread of an event. One about an environment alone has none, and counts as thread 0's
+abbrev pub thread_of : Event → ThreadNo
+thread_of (Start t) = t
+thread_of (Own t step) = t
+thread_of (Poll t) = t
+thread_of (ToNative t) = t
+thread_of (ToBlocked t kind) = t
+thread_of (Back t) = t
+thread_of (End t) = t
+thread_of (Ask e t call) = t
+thread_of (Stop e t) = t
+thread_of (Read e t max_count) = t
+thread_of (Go e t) = t
+thread_of _ = record { 0 = 0 }
+
+abbrev pub word_set : EnvNo → ℕ → Event → ℕ
+word_set env word (SetEnvWord e w) = if e.0 == env.0 then w else word
+word_set env word _ = word
+
+-- the environment's own word after an event
+abbrev pub env_word_after : EnvNo → ℕ → Happening → ℕ
+env_word_after env word h = word_set env word h.event
+
+-- the word that the environment set last, and 0 where it set none
+abbrev pub env_word : EnvNo → List Happening → ℕ
+env_word env events = fold (env_word_after env) 0 events
+
+abbrev pub word_outcome : Limits → EnvNo → Answer → Option Outcome
+word_outcome limits e a = Some (outcome.Gave (if nat_lt e.0 limits.envs then a else answer.Refused InvalidEnvironment))
+
+abbrev pub out_by : Limits → List Happening → List Happening → Happening → Event → Option Outcome
+out_by limits all front h (SetEnvWord e w) = word_outcome limits e answer.Done
+out_by limits all front h (GetEnvWord e) = word_outcome limits e (answer.Word (env_word e front))
+out_by limits all front h event = outcome_of limits (thread_of event) all front h
+
+-- what an event comes to among all events, behind a front of them. None: it is not answered
+abbrev pub out_of : Limits → List Happening → List Happening → Happening → Option Outcome
+out_of limits all front h = out_by limits all front h h.event
+
+-- what each of these comes to among all events, behind a front of them
+abbrev pub outs_from : Limits → List Happening → List Happening → List Happening → List (Option Outcome)
+outs_from limits all front [] = []
+outs_from limits all front (h ∷ hs) = out_of limits all front h ∷ outs_from limits all (front ++ h ∷ []) hs
+
+-- what each event comes to
+abbrev pub outs : Limits → List Happening → List (Option Outcome)
+outs limits events = outs_from limits events [] events
+
+-- whether an outcome says that memory was wanting
+abbrev pub is_for_memory : Outcome → Bool
+is_for_memory (outcome.Gave (answer.Refused OutOfMemory)) = true
+is_for_memory _ = false
+
+abbrev pub was_for_memory : Option Outcome → Bool
+was_for_memory (Some o) = is_for_memory o
+was_for_memory None = false
+
+-- an event with this outcome: where memory was wanting is read off the outcome
+abbrev pub happening : Event → Option Outcome → Happening
+happening event o = record { event = event; wanting = was_for_memory o }
+
+-- the events, with the places where memory was wanting read off the outcomes
+abbrev pub happenings : List Event → List (Option Outcome) → List Happening
+happenings (x ∷ xs) (o ∷ os) = happening x o ∷ happenings xs os
+happenings [] os = []
+happenings (x ∷ xs) [] = []
+
+-- an outcome without the rooms of buffers. None for a call that was posted
+abbrev pub told_now : Outcome → Option Outcome
+told_now (outcome.Posted ticket) = None
+told_now (outcome.Gave a) = Some (outcome.Gave (said a))
+told_now outcome.Done = Some outcome.Done
+told_now outcome.Clear = Some outcome.Clear
+told_now outcome.Went = Some outcome.Went
+told_now outcome.Held = Some outcome.Held
+told_now (outcome.Refused error) = Some (outcome.Refused error)
+
+-- an outcome without the rooms of buffers. None where there is none
+abbrev pub told_later : Option Outcome → Option Outcome
+told_later (Some o) = told_now o
+told_later None = None

@@ -1,0 +1,137 @@
+//! What a thread answers.
+ghost use Rattle.std.specs.Prelude.{◌≡◌, IfOk, IfSome, take, drop, length, ◌≤◌, ◌<◌, ◌^◌};
+ghost use Rattle.std.specs.Option.{option_map};
+ghost use Rattle.ti_types.specs.Answer.{said};
+ghost use Rattle.ti_replay.specs.Answers.{answer_of, answer_alive as alive_answer_of, or_zero as or_zero_of, first_of_trace};
+ghost use Rattle.ti_replay.specs.Replies.{answer_to};
+
+use crate::rules::is_alive;
+use std::alloc::{AllocError, Global};
+use ti_types::{Answer, Call, Entry, EnvNo, FrameList, ThreadView, TiError, TraceBuf, state_bits};
+
+#[tactic(auto, using(crate::proofs::TraceLaws::take_more))]
+/// At most so many frames from the one at a depth on, and none where the number is negative.
+fn trace(
+    alloc: Global,
+    frames: &FrameList,
+    start: usize,
+    max_count: i32,
+) -> Result<TraceBuf, AllocError>
+    requires { start ≤ length frames.now }
+    ensures { IfOk result (λ b. b.frames ≡ take (or_zero_of max_count) (drop start frames.now)) }
+{
+    let left = frames.len() - start;
+    let most = if max_count >= 0 { max_count } else { 0 };
+    let count = if left < most as usize {
+        left as u32
+    } else {
+        most as u32
+    };
+    let Ok(mut buf) = TraceBuf::make(alloc, most, count) else {
+        return Err(AllocError);
+    };
+    for i in 0..count as usize {
+        buf.push(frames.get(start + i));
+    }
+    Ok(buf)
+}
+
+/// The depth at which a trace of `count` frames starts. A `start` of 0 or more counts from the newest frame, and a
+/// negative one from the oldest, -1 for the oldest. None where there is no such frame, which is refused with 103;
+/// start 0 is there on an empty stack too (JVM TI 11, GetStackTrace).
+pub fn trace_start(start: i32, count: usize) -> Option<usize>
+    ensures start { result ≡ first_of_trace start count }
+    ensures within { IfSome result (λ s. s ≤ count) }
+{
+    let at = if start >= 0 {
+        start as i128
+    } else {
+        count as i128 + start as i128
+    };
+    if start == 0 {
+        Some(0)
+    } else if 0 <= at && at < count as i128 {
+        Some(at as usize)
+    } else {
+        None
+    }
+}
+
+fn answer_alive(
+    alloc: Global,
+    view: &ThreadView,
+    env: EnvNo,
+    call: Call,
+) -> Result<Answer, AllocError>
+    requires { length view.now.frames < 2 ^ 32 }
+    ensures { IfOk result (λ a. said a ≡ alive_answer_of view.now env call) }
+{
+    Ok(match call {
+        Call::State => Answer::State(state_bits(view.mode, view.suspended)),
+        Call::FrameCount => Answer::Count(view.frames.len() as u32),
+        Call::Trace { start, max_count } => match trace_start(start, view.frames.len()) {
+            Some(first) => { Answer::Trace(trace(alloc, &view.frames, first, max_count)?) }
+            None => Answer::Refused(TiError::IllegalArgument),
+        },
+        Call::Location { depth } => match view.frames.at_depth(or_zero(depth) as usize) {
+            Some(frame) => Answer::Location(frame),
+            None => Answer::Refused(TiError::NoMoreFrames),
+        },
+        Call::Suspend => {
+            if view.suspended {
+                Answer::Refused(TiError::ThreadSuspended)
+            } else {
+                Answer::Done
+            }
+        }
+        Call::Resume => {
+            if view.suspended {
+                Answer::Done
+            } else {
+                Answer::Refused(TiError::ThreadNotSuspended)
+            }
+        }
+        Call::GetWord => Answer::Word(view.words.get(env.0 as usize)),
+        Call::SetWord(_) => Answer::Done,
+    })
+}
+
+/// A number, and 0 for a negative one, which no call that is well formed has (this profile).
+pub fn or_zero(n: i32) -> u32
+    ensures { result ≡ or_zero_of n }
+{
+    if n >= 0 { n as u32 } else { 0 }
+}
+
+/// What a thread of this view answers.
+fn answer(alloc: Global, view: &ThreadView, env: EnvNo, call: Call) -> Result<Answer, AllocError>
+    requires { length view.now.frames < 2 ^ 32 }
+    ensures { IfOk result (λ a. said a ≡ answer_of view.now env call) }
+{
+    if is_alive(view.mode) || matches!(call, Call::State) {
+        answer_alive(alloc, view, env, call)
+    } else {
+        Ok(Answer::Refused(TiError::ThreadNotAlive))
+    }
+}
+
+/// What is answered where an entry takes place at a thread of this view: a call's answer (JVM TI 11, the function
+/// named at each `Call`), with 15, 103, 31, 14 or 13 where the thread refuses it; the state and the newest frames at
+/// a read; and None at every other entry. The error is want of memory for the frames of a trace or a read.
+pub fn answer_entry(
+    alloc: Global,
+    view: &ThreadView,
+    entry: Entry,
+) -> Result<Option<Answer>, AllocError>
+    requires { length view.now.frames < 2 ^ 32 }
+    ensures { IfOk result (λ a. option_map said a ≡ answer_to view.now entry) }
+{
+    Ok(match entry {
+        Entry::Asked(env, _, call) => Some(answer(alloc, view, env, call)?),
+        Entry::Read(_, max_count) => Some(Answer::Stack {
+            state: state_bits(view.mode, view.suspended),
+            frames: trace(alloc, &view.frames, 0, max_count)?,
+        }),
+        _ => None,
+    })
+}

@@ -1,0 +1,85 @@
+//! What entries cost, and a table of it with a row for each environment.
+ghost use Rattle.std.specs.Prelude.{◌≡◌, ◌<◌, ◌^◌};
+ghost use Rattle.ti_replay.specs.Legal.{env_of as env_of_entry, own_cost as own_cost_of};
+ghost use Rattle.ti_replay.specs.Costs.{charged, costs_at, IsDue};
+
+use ti_types::{Entry, EnvNo, Safe};
+
+/// What an environment has asked of a thread, and spent there (this profile: each call, stop and read costs 1).
+#[derive(Clone, Copy, Debug, PartialEq, Eq)]
+pub struct Costs {
+    /// How many calls it has asked.
+    pub asked: u64,
+    /// How many calls, stops and reads of it there are.
+    pub calls: u32,
+}
+
+/// The environment of an entry, and environment 0 for the thread's own entries, which cost no environment anything.
+pub fn env_of(entry: Entry) -> EnvNo
+    ensures { result ≡ env_of_entry entry }
+{
+    match entry {
+        Entry::Asked(env, _, _) | Entry::Stop(env) | Entry::Read(env, _) | Entry::Go(env) => env,
+        _ => EnvNo(0),
+    }
+}
+
+/// What an entry costs its thread, of its own entries: 1 for a step, 2 for a hand-over to native or blocked,
+/// which pays for the return, and 0 for others (this profile).
+pub fn own_cost(entry: Entry) -> u32
+    ensures cost { result ≡ own_cost_of entry }
+    ensures small { result < 3 }
+{
+    match entry {
+        Entry::Own(_) => 1,
+        Entry::Hand(Safe::Native) | Entry::Hand(Safe::Blocked(_)) => 2,
+        _ => 0,
+    }
+}
+
+/// Charges an entry to its environment: 1 for a call, a stop or a read (this profile). A call must have the number that
+/// the table says, and its environment a call left of at most 1,024; nothing changes where the table has no such
+/// environment.
+#[tactic(auto, using(crate::proofs::Charging::charging))]
+pub fn charge(costs: &mut [Costs], entry: Entry)
+    requires { IsDue costs.old entry }
+    ensures { costs.new ≡ charged costs.old entry }
+{
+    match entry {
+        Entry::Asked(env, number, _) => {
+            let index = env.0 as usize;
+            if index < costs.len() {
+                costs[index] = Costs {
+                    asked: number as u64 + 1,
+                    calls: costs[index].calls + 1,
+                };
+            }
+        }
+        Entry::Stop(env) | Entry::Read(env, _) => {
+            let index = env.0 as usize;
+            if index < costs.len() {
+                let old = costs[index];
+                costs[index] = Costs {
+                    asked: old.asked,
+                    calls: old.calls + 1,
+                };
+            }
+        }
+        Entry::Start | Entry::Own(_) | Entry::Hand(_) | Entry::Back | Entry::End | Entry::Go(_) =>
+            (),
+    }
+}
+
+/// How many calls an environment has asked, which is the number of its next call. It is 0 for one that the table does
+/// not have (this profile).
+pub fn asked(costs: &[Costs], env: EnvNo) -> u32
+    requires { (costs_at costs.now env).asked < 2 ^ 32 }
+    ensures { result ≡ (costs_at costs.now env).asked }
+{
+    let index = env.0 as usize;
+    if index < costs.len() {
+        costs[index].asked as u32
+    } else {
+        0
+    }
+}

@@ -1,0 +1,99 @@
+//! Laws of histories, and of lists of events: each function's contract is a law, whose statement is the definition of
+//! that name in `specs/`, and its body does nothing.
+ghost use Rattle.ti_replay.specs.Laws.{WordIsLast, HistoryIsBounded, HistoryIsLegal, SettledStays, ReplyStays, CallsChangeWhereDone};
+ghost use Rattle.ti_replay.specs.Agreement.{TellsTheKept};
+ghost use Rattle.ti_replay.specs.LateSteps.{StepsMayBeLate};
+ghost use Rattle.ti_replay.specs.LateTickets.{StepsComeLate, StepsStayLegal, TicketIsPlace};
+ghost use Rattle.ti_replay.specs.Standing.{StandsStill, OneStateUnderAStop};
+ghost use Rattle.ti_replay.specs.Storage.{WordsReplyAlike, WordIsGiven, EnvWordsFollowTheirCalls};
+
+/// What has taken place in a history stays, and so does each reply that is given.
+#[tactic(auto, using(crate::proofs::ReplyLaws::settled_stays))]
+pub fn replies_stay()
+    ensures settled { SettledStays }
+    ensures replies { ReplyStays }
+{}
+
+/// What an environment is told of a thread depends only on the events that are kept for the two.
+pub fn runs_agree()
+    ensures { TellsTheKept }
+{}
+
+/// A thread's own step directly before a call, a stop or a go may come directly behind it instead.
+pub fn steps_may_be_late()
+    ensures { StepsMayBeLate }
+{}
+
+/// The history that any list of events leaves of a thread is legal.
+#[tactic(auto, using(crate::proofs::EventLaws::history_is_legal))]
+pub fn histories_are_legal()
+    ensures { HistoryIsLegal }
+{}
+
+/// A legal history is no longer than its budgets allow.
+#[tactic(auto, using(crate::proofs::BoundLaws::length_bounded))]
+pub fn histories_are_bounded()
+    ensures { HistoryIsBounded }
+{}
+
+/// In a legal history the word in the view is the last one that the environment set while the thread was alive.
+#[tactic(auto, using(crate::proofs::StorageLaws::view_word))]
+pub fn words_are_last_set()
+    ensures { WordIsLast }
+{}
+
+/// A thread that an environment has stopped makes no entry of its own until that environment lets it go.
+#[tactic(auto, using(crate::proofs::StandingLaws::stands_still))]
+pub fn stopped_threads_stand_still()
+    ensures { StandsStill }
+{}
+
+/// A call, a stop or a go at a running thread may come before all steps that the thread has logged.
+#[tactic(auto, using(crate::proofs::LateTicketLaws::steps_late))]
+pub fn steps_come_late()
+    ensures { StepsComeLate }
+{}
+
+/// What a thread has logged may still come, where a call, a stop or a go came before it.
+#[tactic(auto, using(crate::proofs::StepsStay::steps_stay))]
+pub fn logged_steps_stay_legal()
+    ensures { StepsStayLegal }
+{}
+
+/// In a legal history the reply at the place of a call is the reply to its ticket.
+#[tactic(auto, using(crate::proofs::PlaceTickets::reply_by_ticket))]
+pub fn tickets_are_places()
+    ensures { TicketIsPlace }
+{}
+
+/// A call changes what is known of a thread only where the thread's answer is that it is done.
+#[tactic(auto, using(crate::proofs::DoneLaws::change_where_done))]
+pub fn calls_change_where_done()
+    ensures { CallsChangeWhereDone }
+{}
+
+/// Two legal histories with the same starts and ends and the same calls of an environment about its word reply
+/// equally to these calls, whatever else is in them.
+#[tactic(auto, using(crate::proofs::StorageReplies::words_reply_alike))]
+pub fn words_reply_alike()
+    ensures { WordsReplyAlike }
+{}
+
+/// An admitted call for an environment's word at a thread is answered by the word that was stored, and by 15 where
+/// the thread has not started or has ended.
+#[tactic(auto, using(crate::proofs::WordAnswers::word_is_given))]
+pub fn words_are_given()
+    ensures { WordIsGiven }
+{}
+
+/// What an environment is told of its own word depends only on its own calls about it.
+#[tactic(auto, using(crate::proofs::WordAnswers::env_words_follow))]
+pub fn env_words_follow_their_calls()
+    ensures { EnvWordsFollowTheirCalls }
+{}
+
+/// From where an environment has stopped a thread until it lets the thread go, whatever else happens: no event of the
+/// thread's own is accepted, its mode and frames stay, and all reads of the environment tell of the one mode and frames.
+pub fn one_state_under_a_stop()
+    ensures { OneStateUnderAStop }
+{}

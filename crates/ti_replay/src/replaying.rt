@@ -1,0 +1,54 @@
+ghost use Rattle.std.specs.Prelude.{◌≡◌, true, IfOk, IfErr, OnOk};
+ghost use Rattle.ti_replay.specs.View.{view};
+ghost use Rattle.ti_replay.specs.Legal.{is_legal};
+ghost use Rattle.std.specs.Option.{option_map};
+ghost use Rattle.ti_types.specs.Answer.{said};
+ghost use Rattle.ti_replay.specs.Replies.{reply};
+ghost use Rattle.ti_replay.specs.Fault.{IsFaultOf};
+
+use crate::fault::ReplayFault;
+use crate::progress::Progress;
+use std::alloc::Global;
+use ti_types::{Answer, Entry, Limits, ThreadView};
+
+/// What a history leaves of a thread: its mode, its frames, whether it is suspended, whose stop stands, and one word
+/// per environment. The errors are `Illegal`, where the history is not legal, with the place of the first entry that
+/// may not stand where it stands, and `Memory`, where there is no memory for the view (this profile, `specs/View` and
+/// `specs/Legal`).
+pub fn replay(alloc: Global, limits: Limits, entries: &[Entry]) -> Result<ThreadView, ReplayFault>
+    ensures legal { IfOk result (λ v. is_legal limits entries.now ≡ true) }
+    ensures view { IfOk result (λ v. v ≡ view limits entries.now) }
+    ensures fault { IfErr result (IsFaultOf limits entries.now) }
+{
+    let mut progress = Progress::new(alloc, &limits)?;
+    for (at, entry) in entries.iter().enumerate() {
+        if !progress.may_enter(&limits, *entry) {
+            return Err(ReplayFault::Illegal { at });
+        }
+        progress.enter(&limits, *entry)?;
+    }
+    Ok(progress.into_view())
+}
+
+/// What a history replies to the entry at a place, from 0 on. None where there is no such entry, where it is no call or
+/// read, and where it is a call that still waits. The errors are those of `replay` (this profile, `specs/Replies`).
+pub fn reply_at(
+    alloc: Global,
+    limits: Limits,
+    entries: &[Entry],
+    place: usize,
+) -> Result<Option<Answer>, ReplayFault>
+    ensures legal { OnOk result (is_legal limits entries.now ≡ true) }
+    ensures reply { IfOk result (λ a. option_map said a ≡ reply limits entries.now place) }
+    ensures fault { IfErr result (IsFaultOf limits entries.now) }
+{
+    let mut progress = Progress::new(alloc, &limits)?;
+    let mut given = None;
+    for (at, entry) in entries.iter().enumerate() {
+        if !progress.may_enter(&limits, *entry) {
+            return Err(ReplayFault::Illegal { at });
+        }
+        given = progress.enter_asking(alloc, &limits, *entry, place, given)?;
+    }
+    Ok(given)
+}

@@ -1,0 +1,4 @@
+pub mod NameLaws
+pub mod EventLaws
+pub mod TreeLaws
+pub mod RoomLaws

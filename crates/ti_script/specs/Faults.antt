@@ -1,0 +1,35 @@
+-- Tests in their order, the fault of each, and the first one.
+use Rattle.std.specs.Prelude.{◌≡◌, ◌⊎◌, List, [], ◌∷◌, Bool, Option, None, Some, Result, Ok, Err, if◌then◌else◌}
+use Rattle.std.specs.Result.{result_err}
+use Rattle.ti_script.specs.declared.fault.ScriptFault.{ScriptFault}
+use Rattle.ti_script.specs.declared.fault.ScriptFault.TheVariants.{Shape, Name, Memory}
+
+-- the faults of the head
+abbrev pub head_shape : ScriptFault
+head_shape = Shape 0
+
+abbrev pub head_name : ScriptFault
+head_name = Name 0
+
+-- the fault, unless the test holds
+abbrev pub unless : Bool → ScriptFault → Option ScriptFault
+unless test fault = if test then None else Some fault
+
+abbrev pub first_of : List (Option ScriptFault) → Option ScriptFault
+first_of [] = None
+first_of (None ∷ faults) = first_of faults
+first_of (Some fault ∷ faults) = Some fault
+
+-- It ended with this error: the first fault, unless memory was wanted.
+abbrev pub Faults : ScriptFault → Option ScriptFault → Type 0
+Faults e fault = (e ≡ Memory) ⊎ (fault ≡ Some e)
+
+-- It was read without a fault, as this value, or it ended with the first fault.
+abbrev pub Reads : {X Y : Type 0} → (X → Y) → Result X ScriptFault → Option ScriptFault → Y → Type 0
+Reads view (Ok x) fault y = (fault ≡ None) × (view x ≡ y)
+Reads view (Err e) fault y = Faults e fault
+
+-- It gave what is given, or the first fault, unless memory was wanted.
+abbrev pub Gives : {X Y : Type 0} → (X → Y) → Result X ScriptFault → Result Y ScriptFault → Type 0
+Gives view (Ok x) given = given ≡ Ok (view x)
+Gives view (Err e) given = Faults e (result_err given)

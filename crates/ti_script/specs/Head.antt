@@ -1,0 +1,95 @@
+-- The head of a walk: its tests in their order, and what it says.
+use Rattle.std.specs.Prelude.{ℕ, List, [], ◌∷◌, ◌++◌, length, map, codes, Bool, true, not, ◌&&◌, ◌||◌, ◌==◌, Option, is_some, unwrap_or, option_and_then, nat_le}
+use Rattle.std.specs.List.{list_all, list_any}
+use Rattle.std.specs.Char.{is_ascii_alphanumeric}
+use Rattle.serde_json.specs.Data.{Data}
+use Rattle.serde_json.specs.Find.{get, as_str}
+use Rattle.ti_script.specs.declared.fault.LimitName.{LimitName}
+use Rattle.ti_script.specs.declared.fault.LimitName.TheVariants.{Depth, Own, Calls, Threads, Agents, Methods, Events}
+use Rattle.ti_script.specs.declared.fault.ScriptFault.{ScriptFault}
+use Rattle.ti_script.specs.declared.fault.ScriptFault.TheVariants.{Limit}
+use Rattle.ti_script.specs.Names.{is_among}
+use Rattle.ti_script.specs.Tree.{array_in, elements, at, has_exactly, whole_in}
+use Rattle.ti_script.specs.Faults.{unless, first_of, head_shape, head_name}
+
+-- ---- limits
+
+abbrev pub is_within : ℕ → ℕ → ℕ → Bool
+is_within low high n = nat_le low n && nat_le n high
+
+abbrev pub whole_at : List ℕ → Data → Option ℕ
+whole_at key d = option_and_then whole_in (get key d)
+
+abbrev pub number_at : List ℕ → Data → ℕ
+number_at key d = unwrap_or (whole_at key d) 0
+
+abbrev pub limits_fault : Data → Option ScriptFault
+limits_fault d = first_of
+    (unless (has_exactly (codes "depth" ∷ codes "own" ∷ codes "calls" ∷ []) d) head_shape
+    ∷ unless (is_some (whole_at (codes "depth") d)) head_shape
+    ∷ unless (is_some (whole_at (codes "own") d)) head_shape
+    ∷ unless (is_some (whole_at (codes "calls") d)) head_shape
+    ∷ unless (is_within 1 4096 (number_at (codes "depth") d)) (Limit Depth)
+    ∷ unless (is_within 1 65536 (number_at (codes "own") d)) (Limit Own)
+    ∷ unless (is_within 1 1024 (number_at (codes "calls") d)) (Limit Calls)
+    ∷ [])
+
+-- depth, own and calls
+abbrev pub bounds_of : Data → ℕ × ℕ × ℕ
+bounds_of d = (number_at (codes "depth") d, number_at (codes "own") d, number_at (codes "calls") d)
+
+-- ---- names
+
+abbrev pub is_text : Data → Bool
+is_text d = is_some (as_str d)
+
+abbrev pub text_in : Data → List ℕ
+text_in d = unwrap_or (as_str d) []
+
+abbrev pub texts : Data → List (List ℕ)
+texts d = map text_in (elements d)
+
+abbrev pub is_name_byte : ℕ → Bool
+is_name_byte b = is_ascii_alphanumeric b || list_any (λ x. x == b) (codes "_.$/<>")
+
+abbrev pub is_name : List ℕ → Bool
+is_name text = is_within 1 64 (length text) && list_all is_name_byte text
+
+-- each is a name, and differs from the earlier ones
+abbrev pub are_names : List (List ℕ) → List (List ℕ) → Bool
+are_names earlier [] = true
+are_names earlier (text ∷ more) = is_name text && (not (is_among earlier text) && are_names (earlier ++ text ∷ []) more)
+
+abbrev pub names_fault : LimitName → ℕ → ℕ → List (List ℕ) → Data → Option ScriptFault
+names_fault which low high earlier d = first_of
+    (unless (is_some (array_in d) && list_all is_text (elements d)) head_shape
+    ∷ unless (is_within low high (length (elements d))) (Limit which)
+    ∷ unless (are_names earlier (texts d)) head_name
+    ∷ [])
+
+-- ---- the whole head
+
+abbrev pub walk_members : List (List ℕ)
+walk_members = codes "limits" ∷ codes "threads" ∷ codes "agents" ∷ codes "methods" ∷ codes "events" ∷ []
+
+-- the tests of the three arrays of names
+abbrev pub cast_fault : Data → Option ScriptFault
+cast_fault d = first_of
+    (names_fault Threads 1 64 [] (at (codes "threads") d)
+    ∷ names_fault Agents 1 8 (texts (at (codes "threads") d)) (at (codes "agents") d)
+    ∷ names_fault Methods 0 65536 [] (at (codes "methods") d)
+    ∷ [])
+
+abbrev pub items_fault : LimitName → ℕ → Data → Option ScriptFault
+items_fault which high d = first_of
+    (unless (is_some (array_in d)) head_shape
+    ∷ unless (is_within 0 high (length (elements d))) (Limit which)
+    ∷ [])
+
+abbrev pub head_fault : Data → Option ScriptFault
+head_fault d = first_of
+    (unless (has_exactly walk_members d) head_shape
+    ∷ limits_fault (at (codes "limits") d)
+    ∷ cast_fault d
+    ∷ items_fault Events 65536 (at (codes "events") d)
+    ∷ [])

@@ -1,0 +1,58 @@
+-- What a document says as a history, and which fault it has.
+use Rattle.std.specs.Prelude.{◌≡◌, ℕ, List, [], ◌∷◌, codes, Bool, false, ◌||◌, ◌==◌, Option, is_some, unwrap_or, option_and_then, Result, Ok}
+use Rattle.std.specs.Option.{option_map_or}
+use Rattle.std.specs.Result.{result_err}
+use Rattle.serde_json.specs.Data.{Data}
+use Rattle.serde_json.specs.Find.{as_number, as_i64}
+use Rattle.ti_types.specs.declared.entry.Entry.{Entry}
+use Rattle.ti_script.specs.declared.fault.LimitName.TheVariants.{Agents, Entries, Format}
+use Rattle.ti_script.specs.declared.fault.ScriptFault.{ScriptFault}
+use Rattle.ti_script.specs.declared.fault.ScriptFault.TheVariants.{Limit}
+use Rattle.ti_script.specs.declared.history.History.{History}
+use Rattle.ti_script.specs.Tree.{at, elements, has_exactly, whole_in}
+use Rattle.ti_script.specs.Faults.{unless, first_of, head_shape}
+use Rattle.ti_script.specs.Head.{is_within, limits_fault, bounds_of, items_fault}
+use Rattle.ti_script.specs.Entries.{entries_in}
+
+abbrev pub history_members : List (List ℕ)
+history_members = codes "format" ∷ codes "limits" ∷ codes "agents" ∷ codes "entries" ∷ []
+
+-- a whole number, also one below 0
+abbrev pub is_whole : Data → Bool
+is_whole d = is_some (whole_in d) || is_some (option_and_then as_i64 (as_number d))
+
+-- 1 is the one format that there is
+abbrev pub format_fault : Data → Option ScriptFault
+format_fault d = first_of
+    (unless (is_whole d) head_shape
+    ∷ unless (option_map_or (λ n. n == 1) (whole_in d) false) (Limit Format)
+    ∷ [])
+
+abbrev pub agents_fault : Data → Option ScriptFault
+agents_fault d = first_of
+    (unless (is_some (whole_in d)) head_shape
+    ∷ unless (is_within 1 8 (unwrap_or (whole_in d) 0)) (Limit Agents)
+    ∷ [])
+
+abbrev pub history_head_fault : Data → Option ScriptFault
+history_head_fault d = first_of
+    (unless (has_exactly history_members d) head_shape
+    ∷ format_fault (at (codes "format") d)
+    ∷ limits_fault (at (codes "limits") d)
+    ∷ agents_fault (at (codes "agents") d)
+    ∷ items_fault Entries 262144 (at (codes "entries") d)
+    ∷ [])
+
+abbrev pub entries_of : Data → Result (List Entry) ScriptFault
+entries_of d = entries_in 1 (elements (at (codes "entries") d))
+
+-- the first fault, in the order in which they are looked for
+abbrev pub history_fault : Data → Option ScriptFault
+history_fault d = first_of (history_head_fault d ∷ result_err (entries_of d) ∷ [])
+
+-- the history is what the document says
+pub record IsHistory (d : Data) (h : History) : Type 0 where
+  pub bounds : (h.limits.depth, h.limits.own, h.limits.calls) ≡ bounds_of (at (codes "limits") d)
+  pub threads : h.limits.threads ≡ 1
+  pub agents : h.limits.envs ≡ unwrap_or (whole_in (at (codes "agents") d)) 0
+  pub entries : entries_of d ≡ Ok h.entries

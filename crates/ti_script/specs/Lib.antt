@@ -1,0 +1,9 @@
+pub mod Names
+pub mod Tree
+pub mod Faults
+pub mod Head
+pub mod Events
+pub mod Walks
+pub mod Texts
+pub mod Entries
+pub mod Histories

@@ -1,0 +1,149 @@
+ghost use Rattle.std.specs.Prelude.{◌≡◌, map};
+ghost use Rattle.serde_json.specs.View.{view};
+ghost use Rattle.ti_types.specs.Caps.{no_caps};
+ghost use Rattle.ti_script.specs.Head.{text_in};
+ghost use Rattle.ti_script.specs.Events.{thread, method, kind, number, signed, word, caps, given, u32_in, i32_in, kind_named, cap_named, caps_named, caps_in};
+
+use crate::fault::ScriptFault;
+use crate::head::are_texts;
+use crate::names::Cast;
+use crate::tree::array_in;
+use serde_json::Value;
+use ti_types::{Caps, Kind, MethodNo, ThreadNo};
+
+pub(crate) fn u32_in(value: &Value) -> Option<u32>
+    ensures { result ≡ u32_in (view value.now) }
+{
+    let number = value.as_u64()?;
+    if number < 4294967296 {
+        Some(number as u32)
+    } else {
+        None
+    }
+}
+
+pub(crate) fn i32_in(value: &Value) -> Option<i32>
+    ensures { result ≡ i32_in (view value.now) }
+{
+    let number = value.as_i64()?;
+    if -2147483648 <= number && number <= 2147483647 {
+        Some(number as i32)
+    } else {
+        None
+    }
+}
+
+pub(crate) fn kind_named(text: &str) -> Option<Kind>
+    ensures { result ≡ kind_named text.now }
+{
+    match text {
+        "monitor" => Some(Kind::MonitorEnter),
+        "wait" => Some(Kind::ObjectWait),
+        "timed_wait" => Some(Kind::TimedWait),
+        "sleep" => Some(Kind::Sleep),
+        "park" => Some(Kind::Park),
+        "timed_park" => Some(Kind::TimedPark),
+        _ => None,
+    }
+}
+
+fn cap_named(text: &str) -> Option<Caps>
+    ensures { result ≡ cap_named text.now }
+{
+    match text {
+        "can_suspend" => Some(Caps::CAN_SUSPEND),
+        "can_pop_frame" => Some(Caps::CAN_POP_FRAME),
+        "can_tag_objects" => Some(Caps::CAN_TAG_OBJECTS),
+        _ => None,
+    }
+}
+
+pub(crate) fn thread_in(cast: &Cast, item: u32, value: &Value) -> Result<ThreadNo, ScriptFault>
+    ensures { result ≡ given cast.now item thread (view value.now) }
+{
+    if let Some(text) = value.as_str() {
+        return match cast.threads.number(text) {
+            Some(number) => Ok(ThreadNo(number)),
+            None => Err(ScriptFault::Name { item }),
+        };
+    }
+    match u32_in(value) {
+        Some(number) => Ok(ThreadNo(number)),
+        None => Err(ScriptFault::Shape { item }),
+    }
+}
+
+pub(crate) fn method_in(cast: &Cast, item: u32, value: &Value) -> Result<MethodNo, ScriptFault>
+    ensures { result ≡ given cast.now item method (view value.now) }
+{
+    let Some(text) = value.as_str() else {
+        return Err(ScriptFault::Shape { item });
+    };
+    match cast.methods.number(text) {
+        Some(number) => Ok(MethodNo(number)),
+        None => Err(ScriptFault::Name { item }),
+    }
+}
+
+pub(crate) fn kind_in(cast: &Cast, item: u32, value: &Value) -> Result<Kind, ScriptFault>
+    ensures { result ≡ given cast.now item kind (view value.now) }
+{
+    let _ = cast;
+    let Some(text) = value.as_str() else {
+        return Err(ScriptFault::Shape { item });
+    };
+    kind_named(text).ok_or(ScriptFault::Shape { item })
+}
+
+pub(crate) fn number_in(cast: &Cast, item: u32, value: &Value) -> Result<u32, ScriptFault>
+    ensures { result ≡ given cast.now item number (view value.now) }
+{
+    let _ = cast;
+    u32_in(value).ok_or(ScriptFault::Shape { item })
+}
+
+pub(crate) fn signed_in(cast: &Cast, item: u32, value: &Value) -> Result<i32, ScriptFault>
+    ensures { result ≡ given cast.now item signed (view value.now) }
+{
+    let _ = cast;
+    i32_in(value).ok_or(ScriptFault::Shape { item })
+}
+
+pub(crate) fn word_in(cast: &Cast, item: u32, value: &Value) -> Result<u64, ScriptFault>
+    ensures { result ≡ given cast.now item word (view value.now) }
+{
+    let _ = cast;
+    value.as_u64().ok_or(ScriptFault::Shape { item })
+}
+
+/// The capabilities of these names.
+#[tactic(auto, using(crate::proofs::TreeLaws::list_all_views))]
+fn caps_in(cast: &Cast, item: u32, values: &[Value]) -> Result<Caps, ScriptFault>
+    ensures { result ≡ caps_in cast.now item (map view values.now) }
+{
+    let _ = cast;
+    if !are_texts(values) {
+        return Err(ScriptFault::Shape { item });
+    }
+    caps_named(values).ok_or(ScriptFault::Name { item })
+}
+
+fn caps_named(values: &[Value]) -> Option<Caps>
+    ensures { result ≡ caps_named no_caps (map text_in (map view values.now)) }
+{
+    let mut caps = Caps::none();
+    for value in values {
+        let cap = cap_named(value.as_str().unwrap_or(""))?;
+        caps = caps.add(cap);
+    }
+    Some(caps)
+}
+
+pub(crate) fn caps_of(cast: &Cast, item: u32, value: &Value) -> Result<Caps, ScriptFault>
+    ensures { result ≡ given cast.now item caps (view value.now) }
+{
+    let Some(values) = array_in(value) else {
+        return Err(ScriptFault::Shape { item });
+    };
+    caps_in(cast, item, values)
+}

@@ -1,0 +1,184 @@
+ghost use Rattle.std.specs.Prelude.{◌≡◌, [], ◌∷◌, map};
+ghost use Rattle.std.specs.Option.{option_map};
+ghost use Rattle.std.specs.Map.{lookup};
+ghost use Rattle.std.specs.Str.{bytes_eq};
+ghost use Rattle.serde_json.specs.View.{view};
+ghost use Rattle.ti_types.specs.declared.event.Event.TheVariants.{Ask};
+ghost use Rattle.ti_types.specs.declared.call.Call.TheVariants.{Trace, Location, SetWord};
+ghost use Rattle.ti_script.specs.Events.{thread, signed, word, row, thread_table, ask_table, service_table, agent_table, row_event, word_event, event_in};
+
+use crate::element::{caps_of, kind_in, method_in, number_in, signed_in, thread_in, word_in};
+use crate::fault::ScriptFault;
+use crate::names::Cast;
+use crate::tree::array_in;
+use serde_json::Value;
+use ti_types::{Call, EnvNo, Event, Step, ThreadNo};
+
+fn thread_event(
+    cast: &Cast,
+    item: u32,
+    thread: ThreadNo,
+    text: &str,
+    rest: &[Value],
+) -> Result<Event, ScriptFault>
+    ensures { result ≡ word_event cast.now item (thread_table thread) text.now (map view rest.now) }
+{
+    match (text, rest) {
+        ("start", []) => Ok(Event::Start(thread)),
+        ("enter", [method]) => Ok(Event::Own(thread, Step::Enter(method_in(cast, item, method)?))),
+        ("enter_native", [method]) => {
+            Ok(Event::Own(thread, Step::EnterNative(method_in(cast, item, method)?)))
+        }
+        ("at", [place]) => Ok(Event::Own(thread, Step::At(number_in(cast, item, place)?))),
+        ("leave", []) => Ok(Event::Own(thread, Step::Leave)),
+        ("poll", []) => Ok(Event::Poll(thread)),
+        ("native", []) => Ok(Event::ToNative(thread)),
+        ("block", [kind]) => Ok(Event::ToBlocked(thread, kind_in(cast, item, kind)?)),
+        ("back", []) => Ok(Event::Back(thread)),
+        ("end", []) => Ok(Event::End(thread)),
+        _ => Err(ScriptFault::Shape { item }),
+    }
+}
+
+/// A call with nothing but its thread.
+fn plain_ask(
+    cast: &Cast,
+    item: u32,
+    agent: EnvNo,
+    call: Call,
+    rest: &[Value],
+) -> Result<Event, ScriptFault>
+    ensures { result ≡ row_event cast.now item (map view rest.now) (row (thread ∷ []) (λ t. Ask agent t call)) }
+{
+    match rest {
+        [thread] => Ok(Event::Ask(agent, thread_in(cast, item, thread)?, call)),
+        _ => Err(ScriptFault::Shape { item }),
+    }
+}
+
+fn trace_ask(cast: &Cast, item: u32, agent: EnvNo, rest: &[Value]) -> Result<Event, ScriptFault>
+    ensures { result ≡ row_event cast.now item (map view rest.now) (row (thread ∷ signed ∷ signed ∷ []) (λ t s n. Ask agent t (Trace s n))) }
+{
+    match rest {
+        [thread, start, max_count] => {
+            let thread = thread_in(cast, item, thread)?;
+            let start = signed_in(cast, item, start)?;
+            let max_count = signed_in(cast, item, max_count)?;
+            Ok(Event::Ask(agent, thread, Call::Trace { start, max_count }))
+        }
+        _ => Err(ScriptFault::Shape { item }),
+    }
+}
+
+fn location_ask(cast: &Cast, item: u32, agent: EnvNo, rest: &[Value]) -> Result<Event, ScriptFault>
+    ensures { result ≡ row_event cast.now item (map view rest.now) (row (thread ∷ signed ∷ []) (λ t d. Ask agent t (Location d))) }
+{
+    match rest {
+        [thread, depth] => {
+            let thread = thread_in(cast, item, thread)?;
+            let depth = signed_in(cast, item, depth)?;
+            Ok(Event::Ask(agent, thread, Call::Location { depth }))
+        }
+        _ => Err(ScriptFault::Shape { item }),
+    }
+}
+
+fn set_ask(cast: &Cast, item: u32, agent: EnvNo, rest: &[Value]) -> Result<Event, ScriptFault>
+    ensures { result ≡ row_event cast.now item (map view rest.now) (row (thread ∷ word ∷ []) (λ t w. Ask agent t (SetWord w))) }
+{
+    match rest {
+        [thread, word] => {
+            let thread = thread_in(cast, item, thread)?;
+            let word = word_in(cast, item, word)?;
+            Ok(Event::Ask(agent, thread, Call::SetWord(word)))
+        }
+        _ => Err(ScriptFault::Shape { item }),
+    }
+}
+
+/// The event of a word that asks a thread. None where it is no such word.
+fn ask_event(
+    cast: &Cast,
+    item: u32,
+    agent: EnvNo,
+    text: &str,
+    rest: &[Value],
+) -> Option<Result<Event, ScriptFault>>
+    ensures { result ≡ option_map (row_event cast.now item (map view rest.now)) (lookup (bytes_eq text.now) (ask_table agent)) }
+{
+    match text {
+        "state" => Some(plain_ask(cast, item, agent, Call::State, rest)),
+        "count" => Some(plain_ask(cast, item, agent, Call::FrameCount, rest)),
+        "trace" => Some(trace_ask(cast, item, agent, rest)),
+        "location" => Some(location_ask(cast, item, agent, rest)),
+        "suspend" => Some(plain_ask(cast, item, agent, Call::Suspend, rest)),
+        "resume" => Some(plain_ask(cast, item, agent, Call::Resume, rest)),
+        "get" => Some(plain_ask(cast, item, agent, Call::GetWord, rest)),
+        "set" => Some(set_ask(cast, item, agent, rest)),
+        _ => None,
+    }
+}
+
+/// The event of a word for stops, capabilities and the environment's own word.
+fn service_event(
+    cast: &Cast,
+    item: u32,
+    agent: EnvNo,
+    text: &str,
+    rest: &[Value],
+) -> Result<Event, ScriptFault>
+    ensures { result ≡ word_event cast.now item (service_table agent) text.now (map view rest.now) }
+{
+    match (text, rest) {
+        ("stop", [thread]) => Ok(Event::Stop(agent, thread_in(cast, item, thread)?)),
+        ("read", [thread, max_count]) => {
+            let thread = thread_in(cast, item, thread)?;
+            let max_count = signed_in(cast, item, max_count)?;
+            Ok(Event::Read(agent, thread, max_count))
+        }
+        ("go", [thread]) => Ok(Event::Go(agent, thread_in(cast, item, thread)?)),
+        ("add", [caps]) => Ok(Event::AddCaps(agent, caps_of(cast, item, caps)?)),
+        ("relinquish", [caps]) => Ok(Event::Relinquish(agent, caps_of(cast, item, caps)?)),
+        ("caps", []) => Ok(Event::GetCaps(agent)),
+        ("setenv", [word]) => Ok(Event::SetEnvWord(agent, word_in(cast, item, word)?)),
+        ("getenv", []) => Ok(Event::GetEnvWord(agent)),
+        _ => Err(ScriptFault::Shape { item }),
+    }
+}
+
+fn agent_event(
+    cast: &Cast,
+    item: u32,
+    agent: EnvNo,
+    text: &str,
+    rest: &[Value],
+) -> Result<Event, ScriptFault>
+    ensures { result ≡ word_event cast.now item (agent_table agent) text.now (map view rest.now) }
+{
+    match ask_event(cast, item, agent, text, rest) {
+        Some(event) => event,
+        None => service_event(cast, item, agent, text, rest),
+    }
+}
+
+/// The event of an item.
+pub(crate) fn event_in(cast: &Cast, item: u32, value: &Value) -> Result<Event, ScriptFault>
+    ensures { result ≡ event_in cast.now item (view value.now) }
+{
+    let Some([subject, word, rest @ ..]) = array_in(value) else {
+        return Err(ScriptFault::Shape { item });
+    };
+    let Some(subject) = subject.as_str() else {
+        return Err(ScriptFault::Shape { item });
+    };
+    let Some(word) = word.as_str() else {
+        return Err(ScriptFault::Shape { item });
+    };
+    if let Some(thread) = cast.threads.number(subject) {
+        return thread_event(cast, item, ThreadNo(thread), word, rest);
+    }
+    if let Some(agent) = cast.agents.number(subject) {
+        return agent_event(cast, item, EnvNo(agent), word, rest);
+    }
+    Err(ScriptFault::Name { item })
+}

@@ -1,0 +1,55 @@
+ghost use Rattle.std.specs.Prelude.{◌≡◌, ◌++◌, ◌∷◌, [], OnOk, OnErr};
+
+use std::alloc::{AllocError, Global};
+use std::marker::Model;
+use ti_types::{Entry, Limits};
+
+/// Entries in their order, which contracts see as a list.
+#[derive(Drop)]
+pub struct EntryList {
+    items: Vec<Entry>,
+}
+
+impl Model for EntryList {
+    ghost use Rattle.std.specs.Prelude.{List};
+    ghost use Rattle.ti_types.specs.declared.entry.Entry.{Entry};
+
+    ghost Value = { List Entry };
+
+    ghost view = { λ e. e.items.items };
+}
+
+impl EntryList {
+    /// No entries. It takes no memory until an entry is added.
+    pub fn new(alloc: Global) -> Self
+        ensures { result ≡ [] }
+    {
+        EntryList {
+            items: Vec::new(alloc),
+        }
+    }
+
+    /// Adds an entry at the end. Where memory is wanting, the entries stay as they were.
+    pub fn push(&mut self, entry: Entry) -> Result<(), AllocError>
+        ensures ok { OnOk result (self.new ≡ self.old ++ entry ∷ []) }
+        ensures err { OnErr result (self.new ≡ self.old) }
+    {
+        self.items.push(entry)?;
+        Ok(())
+    }
+
+    /// The entries in their order.
+    pub fn as_slice(&self) -> &[Entry]
+        ensures { result.now ≡ self.now }
+    {
+        self.items.as_slice()
+    }
+}
+
+/// A history: the limits that it was made under, with one thread, and the entries of that thread in their order. It
+/// need not be legal. Source: this profile.
+#[derive(Drop)]
+pub struct History {
+    pub limits: Limits,
+    pub entries: EntryList,
+}

@@ -1,0 +1,155 @@
+ghost use Rattle.std.specs.Prelude.{◌≡◌, ◌≤◌, ◌++◌, ◌∷◌, [], length, map, None, IfOk, IfErr, MatchResult};
+ghost use Rattle.serde_json.specs.View.{view};
+ghost use Rattle.serde_json.specs.Data.{Data, null};
+ghost use Rattle.ti_script.specs.Faults.{Reads, Gives, Faults, head_shape};
+ghost use Rattle.ti_types.specs.Limits.{InRange};
+ghost use Rattle.ti_script.specs.Tree.{at, elements};
+ghost use Rattle.ti_script.specs.Head.{limits_fault, bounds_of, names_fault, texts, cast_fault, items_fault};
+ghost use Rattle.ti_script.specs.Walks.{cast_of, events_in, walk_fault, IsWalk, IsDocument, IsRefusal};
+
+use crate::event::event_in;
+use crate::fault::{LimitName, ScriptFault};
+use crate::head::{Bounds, bounds_in, names_in};
+use crate::names::{Cast, Names};
+use crate::tree::{array_in, has_exactly};
+use crate::walk::{EventList, Walk};
+use serde_json::Value;
+use std::alloc::Global;
+use ti_types::Limits;
+
+/// The member of that name.
+pub(crate) fn member<'a>(value: &'a Value, key: &str) -> Result<&'a Value, ScriptFault>
+    ensures { MatchResult result (λ found. view found.now ≡ at key.now (view value.now)) (λ e. (e ≡ head_shape) × (at key.now (view value.now) ≡ null)) }
+{
+    match value.get(key) {
+        Some(found) => Ok(found),
+        None => Err(ScriptFault::Shape { item: 0 }),
+    }
+}
+
+pub(crate) fn bounds_at(value: &Value, key: &str) -> Result<Bounds, ScriptFault>
+    ensures read { Reads (λ b. (b.depth, b.own, b.calls)) result (limits_fault (at key.now (view value.now))) (bounds_of (at key.now (view value.now))) }
+    ensures range { IfOk result (λ b. InRange 1 1 b.depth b.own b.calls) }
+{
+    let limits = member(value, key)?;
+    bounds_in(limits)
+}
+
+fn names_at(
+    alloc: Global,
+    value: &Value,
+    key: &str,
+    which: LimitName,
+    low: usize,
+    high: usize,
+    earlier: &Names,
+) -> Result<Names, ScriptFault>
+    requires { high ≤ 65536 }
+    ensures read { Reads (λ names. names) result (names_fault which low high earlier.now (at key.now (view value.now))) (texts (at key.now (view value.now))) }
+    ensures count { IfOk result (λ names. (low ≤ length names) × (length names ≤ high)) }
+{
+    let names = member(value, key)?;
+    names_in(alloc, names, which, low, high, earlier)
+}
+
+fn cast_in(alloc: Global, value: &Value) -> Result<Cast, ScriptFault>
+    ensures read { Reads (λ cast. cast) result (cast_fault (view value.now)) (cast_of (view value.now)) }
+    ensures threads { IfOk result (λ cast. (1 ≤ length cast.threads) × (length cast.threads ≤ 64)) }
+    ensures agents { IfOk result (λ cast. (1 ≤ length cast.agents) × (length cast.agents ≤ 8)) }
+{
+    let none = Names::new(alloc);
+    let threads = names_at(alloc, value, "threads", LimitName::Threads, 1, 64, &none)?;
+    let agents = names_at(alloc, value, "agents", LimitName::Agents, 1, 8, &threads)?;
+    let methods = names_at(alloc, value, "methods", LimitName::Methods, 0, 65536, &none)?;
+    Ok(Cast {
+        threads,
+        agents,
+        methods,
+    })
+}
+
+/// The items of an array, at most so many.
+pub(crate) fn items_at<'a>(
+    value: &'a Value,
+    key: &str,
+    which: LimitName,
+    high: usize,
+) -> Result<&'a [Value], ScriptFault>
+    ensures read { Reads (λ items. map view items.now) result (items_fault which high (at key.now (view value.now))) (elements (at key.now (view value.now))) }
+    ensures count { IfOk result (λ items. length items.now ≤ high) }
+{
+    let items = member(value, key)?;
+    let Some(items) = array_in(items) else {
+        return Err(ScriptFault::Shape { item: 0 });
+    };
+    if high < items.len() {
+        return Err(ScriptFault::Limit { which });
+    }
+    Ok(items)
+}
+
+fn events_in(alloc: Global, cast: &Cast, items: &[Value]) -> Result<EventList, ScriptFault>
+    requires { length items.now ≤ 65536 }
+    ensures { Gives (λ events. events) result (events_in cast.now 1 (map view items.now)) }
+{
+    let mut events = EventList::new(alloc);
+    let mut item = 1;
+    for value in items {
+        let event = event_in(cast, item, value)?;
+        events.push(event)?;
+        item += 1;
+    }
+    Ok(events)
+}
+
+fn walk_in(alloc: Global, value: &Value) -> Result<Walk, ScriptFault>
+    ensures ok { IfOk result (λ w. (walk_fault (view value.now) ≡ None) × IsWalk (view value.now) w) }
+    ensures err { IfErr result (λ e. Faults e (walk_fault (view value.now))) }
+{
+    if !has_exactly(value, &["limits", "threads", "agents", "methods", "events"]) {
+        return Err(ScriptFault::Shape { item: 0 });
+    }
+    let bounds = bounds_at(value, "limits")?;
+    let cast = cast_in(alloc, value)?;
+    let items = items_at(value, "events", LimitName::Events, 65536)?;
+    let events = events_in(alloc, &cast, items)?;
+    let Cast {
+        threads,
+        agents,
+        methods,
+    } = cast;
+    let limits = Limits::new(
+        threads.len() as u32,
+        agents.len() as u32,
+        bounds.depth,
+        bounds.own,
+        bounds.calls,
+    )
+    .unwrap();
+    Ok(Walk {
+        limits,
+        threads,
+        agents,
+        methods,
+        events,
+    })
+}
+
+/// The walk that the bytes of a document say, or its first fault.
+///
+/// The bytes are read as one JSON tree; the tree is given up before the walk is handed out. `Json` where they are no
+/// JSON text, `Memory` where memory is wanting, and otherwise the first fault of the tree in the order of
+/// `specs/Head.antt`, then of `specs/Events.antt` from the first item on. Source: this profile.
+pub fn read_walk(alloc: Global, bytes: &[u8]) -> Result<Walk, ScriptFault>
+    ensures ok { IfOk result (λ w. (d : Data) × IsDocument bytes.now d × (walk_fault d ≡ None) × IsWalk d w) }
+    ensures err { IfErr result (λ e. IsRefusal e bytes.now) }
+{
+    match Value::from_slice(alloc, bytes) {
+        Ok(document) => walk_in(alloc, &document),
+        Err(e) => if e.is_memory() {
+            Err(ScriptFault::Memory)
+        } else {
+            Err(ScriptFault::Json)
+        },
+    }
+}

@@ -1,0 +1,117 @@
+ghost use Rattle.std.specs.Prelude.{◌≡◌, ◌≤◌, length, map, unwrap_or, None, IfOk, IfErr};
+ghost use Rattle.serde_json.specs.View.{view};
+ghost use Rattle.serde_json.specs.Data.{Data};
+ghost use Rattle.ti_script.specs.Faults.{Reads, Gives, Faults};
+ghost use Rattle.ti_script.specs.Tree.{at, whole_in};
+ghost use Rattle.ti_script.specs.Walks.{IsDocument, IsRefusalBy};
+ghost use Rattle.ti_script.specs.Entries.{entries_in};
+ghost use Rattle.ti_script.specs.Histories.{format_fault, agents_fault, history_fault, IsHistory};
+
+use crate::entry::entry_in;
+use crate::fault::{LimitName, ScriptFault};
+use crate::history::{EntryList, History};
+use crate::reading::{bounds_at, items_at, member};
+use crate::tree::has_exactly;
+use serde_json::Value;
+use std::alloc::Global;
+use ti_types::Limits;
+
+/// The format has to be 1.
+fn format_in(value: &Value) -> Result<u64, ScriptFault>
+    ensures { Reads (λ format. format) result (format_fault (view value.now)) 1 }
+{
+    match value.as_u64() {
+        Some(1) => Ok(1),
+        Some(_) => Err(ScriptFault::Limit {
+            which: LimitName::Format,
+        }),
+        None => if value.as_i64().is_some() {
+            Err(ScriptFault::Limit {
+                which: LimitName::Format,
+            })
+        } else {
+            Err(ScriptFault::Shape { item: 0 })
+        },
+    }
+}
+
+fn agents_in(value: &Value) -> Result<u64, ScriptFault>
+    ensures read { Reads (λ agents. agents) result (agents_fault (view value.now)) (unwrap_or (whole_in (view value.now)) 0) }
+    ensures range { IfOk result (λ agents. (1 ≤ agents) × (agents ≤ 8)) }
+{
+    let Some(agents) = value.as_u64() else {
+        return Err(ScriptFault::Shape { item: 0 });
+    };
+    if agents < 1 || 8 < agents {
+        return Err(ScriptFault::Limit {
+            which: LimitName::Agents,
+        });
+    }
+    Ok(agents)
+}
+
+fn format_at(value: &Value, key: &str) -> Result<u64, ScriptFault>
+    ensures { Reads (λ format. format) result (format_fault (at key.now (view value.now))) 1 }
+{
+    let format = member(value, key)?;
+    format_in(format)
+}
+
+fn agents_at(value: &Value, key: &str) -> Result<u64, ScriptFault>
+    ensures read { Reads (λ agents. agents) result (agents_fault (at key.now (view value.now))) (unwrap_or (whole_in (at key.now (view value.now))) 0) }
+    ensures range { IfOk result (λ agents. (1 ≤ agents) × (agents ≤ 8)) }
+{
+    let agents = member(value, key)?;
+    agents_in(agents)
+}
+
+fn entries_in(alloc: Global, items: &[Value]) -> Result<EntryList, ScriptFault>
+    requires { length items.now ≤ 262144 }
+    ensures { Gives (λ entries. entries) result (entries_in 1 (map view items.now)) }
+{
+    let mut entries = EntryList::new(alloc);
+    let mut item = 1;
+    for value in items {
+        let Some(entry) = entry_in(value) else {
+            return Err(ScriptFault::Shape { item });
+        };
+        entries.push(entry)?;
+        item += 1;
+    }
+    Ok(entries)
+}
+
+fn history_in(alloc: Global, value: &Value) -> Result<History, ScriptFault>
+    ensures ok { IfOk result (λ h. (history_fault (view value.now) ≡ None) × IsHistory (view value.now) h) }
+    ensures err { IfErr result (λ e. Faults e (history_fault (view value.now))) }
+{
+    if !has_exactly(value, &["format", "limits", "agents", "entries"]) {
+        return Err(ScriptFault::Shape { item: 0 });
+    }
+    let _format = format_at(value, "format")?;
+    let bounds = bounds_at(value, "limits")?;
+    let agents = agents_at(value, "agents")?;
+    let items = items_at(value, "entries", LimitName::Entries, 262_144)?;
+    let entries = entries_in(alloc, items)?;
+    let limits = Limits::new(1, agents as u32, bounds.depth, bounds.own, bounds.calls).unwrap();
+    Ok(History { limits, entries })
+}
+
+/// The history that the bytes of a document say, or its first fault.
+///
+/// The bytes are read as one JSON tree; the tree is given up before the history is handed out. `Json` where they are no
+/// JSON text, `Memory` where memory is wanting, and otherwise the first fault of the tree in the order of
+/// `specs/Histories.antt`. Whether the history is legal is not asked. Source: this profile.
+pub fn read_history(alloc: Global, bytes: &[u8]) -> Result<History, ScriptFault>
+    ensures ok { IfOk result (λ h. (d : Data) × IsDocument bytes.now d × (history_fault d ≡ None) × IsHistory d h) }
+    ensures err { IfErr result (λ e. IsRefusalBy history_fault e bytes.now) }
+{
+    match Value::from_slice(alloc, bytes) {
+        Ok(document) => history_in(alloc, &document),
+        Err(e) => if e.is_memory() {
+            Err(ScriptFault::Memory)
+        } else {
+            Err(ScriptFault::Json)
+        },
+    }
+}

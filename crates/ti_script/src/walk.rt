@@ -1,0 +1,59 @@
+ghost use Rattle.std.specs.Prelude.{◌≡◌, ◌++◌, ◌∷◌, [], OnOk, OnErr};
+
+use crate::names::Names;
+use std::alloc::{AllocError, Global};
+use std::marker::Model;
+use ti_types::{Event, Limits};
+
+/// Events in their order, which contracts see as a list.
+#[derive(Drop)]
+pub struct EventList {
+    items: Vec<Event>,
+}
+
+impl Model for EventList {
+    ghost use Rattle.std.specs.Prelude.{List};
+    ghost use Rattle.ti_types.specs.declared.event.Event.{Event};
+
+    ghost Value = { List Event };
+
+    ghost view = { λ e. e.items.items };
+}
+
+impl EventList {
+    /// No events. It takes no memory until an event is added.
+    pub fn new(alloc: Global) -> Self
+        ensures { result ≡ [] }
+    {
+        EventList {
+            items: Vec::new(alloc),
+        }
+    }
+
+    /// Adds an event at the end. Where memory is wanting, the events stay as they were.
+    pub fn push(&mut self, event: Event) -> Result<(), AllocError>
+        ensures ok { OnOk result (self.new ≡ self.old ++ event ∷ []) }
+        ensures err { OnErr result (self.new ≡ self.old) }
+    {
+        self.items.push(event)?;
+        Ok(())
+    }
+
+    /// The events in their order.
+    pub fn as_slice(&self) -> &[Event]
+        ensures { result.now ≡ self.now }
+    {
+        self.items.as_slice()
+    }
+}
+
+/// A walk: the limits of its coordinator, the names of its threads, agents and methods, and its events in their order.
+/// The limits have as many threads and environments as there are names of threads and agents. Source: this profile.
+#[derive(Drop)]
+pub struct Walk {
+    pub limits: Limits,
+    pub threads: Names,
+    pub agents: Names,
+    pub methods: Names,
+    pub events: EventList,
+}

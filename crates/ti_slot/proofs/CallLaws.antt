@@ -1,0 +1,209 @@
+-- Each call of a slot: the entry may come, there is room for it, and the slot stands for the longer history.
+use Rattle.std.proofs.Common.{◌≡◌, ℕ, ◌+◌, ◌<◌, ◌≤◌, true, false, List, [], ◌∷◌, ◌++◌, length, refl, ap, sym, ◌∙◌, arith, Some, None, is_some, length-append, subst, vec_capacity}
+use Rattle.std.specs.Global.{Vec}
+use Rattle.std.specs.List.{fold}
+use Rattle.std.proofs.lemmas.Bool.Decides.{nat_tests}
+use Rattle.ti_types.specs.declared.numbers.EnvNo.{EnvNo}
+use Rattle.ti_types.specs.declared.state.Mode.{Mode}
+use Rattle.ti_types.specs.declared.state.Mode.TheVariants as mode
+use Rattle.ti_types.specs.declared.state.Safe.{Safe}
+use Rattle.ti_types.specs.declared.state.Safe.TheVariants.{Native, Blocked, AtPoll}
+use Rattle.ti_types.specs.declared.step.Step.{Step}
+use Rattle.ti_types.specs.declared.view.ThreadView.{ThreadView}
+use Rattle.ti_ops.specs.Ops.{Ops}
+use Rattle.ti_types.specs.declared.entry.Entry.{Entry}
+use Rattle.ti_types.specs.declared.entry.Entry.TheVariants.{Start, Hand, Back, End, Stop, Go}
+use Rattle.ti_replay.specs.declared.costs.Costs.{Costs}
+use Rattle.ti_replay.specs.Answers.{is_running}
+use Rattle.ti_replay.specs.Legal.{is_legal, may_follow, is_new, is_safe, is_stopper, calls_spent, own_spent, own_cost, goes_on, is_armed}
+use Rattle.ti_replay.specs.View.{view, after}
+use Rattle.ti_replay.specs.Costs.{charged, IsDue}
+use Rattle.ti_types.specs.declared.limits.Limits.{Limits}
+use Rattle.ti_replay.specs.HistoryState.{HistoryState, history_state, next_state, allows}
+use Rattle.ti_replay.specs.PlacedState.{placed_state}
+use Rattle.ti_replay.proofs.CostLaws.{is_legal-snoc, due, may_follow_is}
+use Rattle.ti_frames.specs.Frames.{Stack}
+use Rattle.ti_replay.proofs.HistoryStateLaws.{history_state-snoc, may_follow-allows}
+use Rattle.ti_replay.proofs.Charging.{charged_free}
+use Rattle.ti_slot.specs.declared.condition.Condition.{Condition}
+use Rattle.ti_slot.specs.declared.slot.Slot.TheInside.{Inside}
+use Rattle.ti_slot.specs.Condition.{view_of, frames_or}
+use Rattle.ti_slot.specs.Inside.{IsSlot}
+use Rattle.ti_slot.specs.Refusal.{hand_refusal}
+use Rattle.ti_slot.specs.Waiting.{entries_of}
+use Rattle.ti_replay.specs.LateTickets.{steps_of}
+use Rattle.ti_replay.specs.Refusals.{own_refusal}
+use Rattle.ti_slot.specs.Slot.{Stands, state_of, FramesAreHome}
+use Rattle.ti_slot.proofs.SlotLaws as laws
+use Rattle.ti_replay.proofs.BoundLaws.{own_bounded}
+
+-- an entry that may come
+abbrev pub May : Inside → Entry → Type 0
+May a x = may_follow a.limits a.history.items x ≡ true
+
+pub view_is : (a : Inside) → IsSlot a → view a.limits a.history.items ≡ view_of a.condition (frames_or a.frames (view a.limits a.history.items).frames)
+view_is a s = ap (λ (t : HistoryState). t.view) s.state
+
+pub room_for : (a : Inside) (x : Entry) → IsSlot a → May a x → length a.history.items < vec_capacity a.history
+room_for a x s may = laws.room_for a.limits a.history.items (vec_capacity a.history) a.condition a.frames a.log a.own a.costs.items a.ops x s may
+
+pub legal_after : (a : Inside) (x : Entry) (h : List Entry) → IsSlot a → May a x → h ≡ a.history.items ++ x ∷ [] → is_legal a.limits h ≡ true
+legal_after a x h s may e = ap (is_legal a.limits) e ∙ is_legal-snoc a.limits a.history.items x ∙ grind (arith, s.legal, may)
+
+pub due_here : (a : Inside) (x : Entry) → IsSlot a → May a x → IsDue a.costs.items x
+due_here a x s may =
+    let e : (placed_state a.limits a.history.items).costs ≡ a.costs.items = ap (λ (t : HistoryState). t.costs) s.state in
+    subst (λ t. IsDue t x) e (due a.limits (placed_state a.limits a.history.items) x (sym (may_follow_is a.limits a.history.items x) ∙ may))
+
+pub own_is : (a : Inside) → IsSlot a → (own_spent a.history.items ≡ a.own) × (a.own ≤ a.limits.own)
+own_is a s =
+    let e : own_spent a.history.items ≡ a.own = ap (λ (t : HistoryState). t.own) s.state in
+    (e, omega (arith, e, own_bounded a.limits a.history.items s.legal))
+
+pub may_stop : (a : Inside) (env : EnvNo) → IsSlot a → env.0 < a.limits.envs → calls_spent env a.history.items < a.limits.calls → is_some a.condition.stopper ≡ false → May a (Stop env)
+may_stop a env s he hc hs = grind (arith, nat_tests, view_is a s)
+
+pub may_go : (a : Inside) (env : EnvNo) → IsSlot a → env.0 < a.limits.envs → is_stopper a.condition.stopper env ≡ true → May a (Go env)
+may_go a env s he hs = grind (arith, nat_tests, view_is a s)
+
+pub may_start : (a : Inside) → IsSlot a → is_new a.condition.mode ≡ true → is_some a.condition.stopper ≡ false → May a Start
+may_start a s hm hs = grind (arith, view_is a s)
+
+pub may_back : (a : Inside) → IsSlot a → is_safe a.condition.mode ≡ true → a.condition.suspended ≡ false → is_some a.condition.stopper ≡ false → May a Back
+may_back a s hm hu hs = grind (arith, view_is a s)
+
+-- the fields after a stop
+pub stopped : (a : Inside) (env : EnvNo) (h : Vec Entry) (costs : List Costs) → IsSlot a → May a (Stop env) → h.items ≡ a.history.items ++ Stop env ∷ [] → vec_capacity a.history ≤ vec_capacity h → costs ≡ charged a.costs.items (Stop env)
+    → Stands a.limits h.items (vec_capacity h) (record { mode = a.condition.mode; suspended = a.condition.suspended; stopper = Some env; words = a.condition.words }) a.frames a.log a.own costs a.ops
+stopped a env h costs s may e le ec =
+    laws.goes a.limits a.history.items (vec_capacity a.history) a.condition a.frames a.log a.own a.costs.items a.ops (Stop env) h.items (vec_capacity h) _ a.frames a.log a.own costs a.ops
+    (frames_or a.frames (view a.limits a.history.items).frames) s may e le
+    (grind (arith, ec)) (laws.home a.frames (view a.limits a.history.items).frames) s.frames_home s.log_home refl refl (omega arith) s.ready s.calls
+
+pub let_go : (a : Inside) (env : EnvNo) (h : Vec Entry) → IsSlot a → May a (Go env) → h.items ≡ a.history.items ++ Go env ∷ [] → vec_capacity a.history ≤ vec_capacity h
+    → Stands a.limits h.items (vec_capacity h) (record { mode = a.condition.mode; suspended = a.condition.suspended; stopper = None; words = a.condition.words }) a.frames a.log a.own a.costs.items a.ops
+let_go a env h s may e le =
+    laws.goes a.limits a.history.items (vec_capacity a.history) a.condition a.frames a.log a.own a.costs.items a.ops (Go env) h.items (vec_capacity h) _ a.frames a.log a.own a.costs.items a.ops
+    (frames_or a.frames (view a.limits a.history.items).frames) s may e le
+    (grind (arith, charged_free a.costs.items (Go env))) (laws.home a.frames (view a.limits a.history.items).frames) s.frames_home s.log_home refl refl (omega arith) s.ready s.calls
+
+-- the thread runs, and its frames are away
+pub started : (a : Inside) (h : Vec Entry) → IsSlot a → May a Start → h.items ≡ a.history.items ++ Start ∷ [] → vec_capacity a.history ≤ vec_capacity h
+    → Stands a.limits h.items (vec_capacity h) (record { mode = mode.Running; suspended = a.condition.suspended; stopper = a.condition.stopper; words = a.condition.words }) None None a.own a.costs.items a.ops
+started a h s may e le =
+    laws.goes a.limits a.history.items (vec_capacity a.history) a.condition a.frames a.log a.own a.costs.items a.ops Start h.items (vec_capacity h) _ None None a.own a.costs.items a.ops
+    (frames_or a.frames (view a.limits a.history.items).frames) s may e le
+    (grind (arith, charged_free a.costs.items Start)) refl refl refl refl refl (omega arith) s.ready s.calls
+
+pub returned : (a : Inside) (h : Vec Entry) → IsSlot a → May a Back → is_safe a.condition.mode ≡ true → h.items ≡ a.history.items ++ Back ∷ [] → vec_capacity a.history ≤ vec_capacity h
+    → Stands a.limits h.items (vec_capacity h) (record { mode = mode.Running; suspended = a.condition.suspended; stopper = a.condition.stopper; words = a.condition.words }) None a.log a.own a.costs.items a.ops
+returned a h s may safe e le =
+    laws.goes a.limits a.history.items (vec_capacity a.history) a.condition a.frames a.log a.own a.costs.items a.ops Back h.items (vec_capacity h) _ None a.log a.own a.costs.items a.ops
+    (frames_or a.frames (view a.limits a.history.items).frames) s may e le
+    (grind (arith, charged_free a.costs.items Back)) refl refl (laws.log_away a.limits a.condition.mode mode.Running a.log s.log_home safe refl) refl refl (omega arith) s.ready s.calls
+
+-- the frames that go out are those of the view
+pub frames_out : (a : Inside) (x : Entry) (h : List Entry) (f : Stack) → IsSlot a → a.frames ≡ Some f → h ≡ a.history.items ++ x ∷ []
+    → (next_state (state_of a.condition (frames_or a.frames (view a.limits a.history.items).frames) a.ops.waiting a.own a.costs.items) x).view.frames ≡ frames_or a.frames (view a.limits a.history.items).frames
+    → f.frames ≡ (view a.limits h).frames
+frames_out a x h f s is e keeps =
+    let state = history_state-snoc a.limits a.history.items x ∙ ap (λ t. next_state t x) s.state in
+    let same : (view a.limits (a.history.items ++ x ∷ [])).frames ≡ frames_or a.frames (view a.limits a.history.items).frames = ap (λ (t : HistoryState). t.view.frames) state ∙ keeps in
+    rw (e, same, is) refl
+
+pub depth_is : (a : Inside) (f : Stack) → IsSlot a → a.frames ≡ Some f → f.depth ≡ a.limits.depth
+depth_is a f s is = (subst (FramesAreHome a.limits a.condition.mode) is s.frames_home).1
+
+-- the condition as it was, with another mode
+abbrev pub at_mode : Condition → Mode → Condition
+at_mode c m = record { mode = m; suspended = c.suspended; stopper = c.stopper; words = c.words }
+
+-- the logged steps enter the history of a running thread
+abbrev pub Ran : Inside → List Step → Type 0
+Ran a steps = Stands a.limits (a.history.items ++ steps_of steps) (vec_capacity a.history) a.condition None a.log (a.own + length steps) a.costs.items a.ops
+
+pub runs_here : (a : Inside) → IsSlot a → is_running (view a.limits a.history.items).mode ≡ true → is_running a.condition.mode ≡ true
+runs_here a s r = sym (ap (λ (v : ThreadView). is_running v.mode) (view_is a s)) ∙ r
+
+pub ran : (a : Inside) (steps : List Step) → IsSlot a → is_running (view a.limits a.history.items).mode ≡ true → goes_on a.limits a.history.items (steps_of steps) ≡ true → Ran a steps
+ran a steps s r g =
+    let here = subst (λ f. Stands a.limits a.history.items (vec_capacity a.history) a.condition f a.log a.own a.costs.items a.ops) (laws.away a.limits a.condition.mode a.frames s.frames_home (runs_here a s r)) s in
+    laws.steps_stand a.limits a.history.items (vec_capacity a.history) a.condition a.log a.own a.costs.items a.ops steps here g
+
+pub ran_own : (a : Inside) (steps : List Step) → Ran a steps → (own_spent (a.history.items ++ steps_of steps) ≡ a.own + length steps) × (a.own + length steps ≤ a.limits.own)
+ran_own a steps s =
+    let e : own_spent (a.history.items ++ steps_of steps) ≡ a.own + length steps = ap (λ (t : HistoryState). t.own) s.state in
+    (e, omega (arith, e, own_bounded a.limits (a.history.items ++ steps_of steps) s.legal))
+
+pub ran_view : (a : Inside) (steps : List Step) → Ran a steps → view a.limits (a.history.items ++ steps_of steps) ≡ view_of a.condition (view a.limits (a.history.items ++ steps_of steps)).frames
+ran_view a steps s = ap (λ (t : HistoryState). t.view) s.state
+
+pub length-steps : (steps : List Step) → length (steps_of steps) ≡ length steps
+length-steps [] = refl
+length-steps (x ∷ steps) = grind (arith, length-steps steps)
+
+pub ran_room : (a : Inside) (steps : List Step) (x : Entry) → Ran a steps → may_follow a.limits (a.history.items ++ steps_of steps) x ≡ true → length a.history.items + length steps < vec_capacity a.history
+ran_room a steps x s may =
+    let r = laws.room_for a.limits (a.history.items ++ steps_of steps) (vec_capacity a.history) a.condition None a.log (a.own + length steps) a.costs.items a.ops x s may in
+    omega (arith, r, length-append a.history.items (steps_of steps), length-steps steps)
+
+pub ran_legal : (a : Inside) (steps : List Step) (x : Entry) (h : List Entry) → Ran a steps → may_follow a.limits (a.history.items ++ steps_of steps) x ≡ true → h ≡ (a.history.items ++ steps_of steps) ++ x ∷ [] → is_legal a.limits h ≡ true
+ran_legal a steps x h s may e = ap (is_legal a.limits) e ∙ is_legal-snoc a.limits (a.history.items ++ steps_of steps) x ∙ grind (arith, s.legal, may)
+
+pub may_end : (a : Inside) (steps : List Step) → Ran a steps → is_running a.condition.mode ≡ true → may_follow a.limits (a.history.items ++ steps_of steps) End ≡ true
+may_end a steps s r = grind (arith, ran_view a steps s)
+
+-- whether a poll may hand over does not change by own steps
+pub poll_same : (a : Inside) (steps : List Step) → IsSlot a → Ran a steps → may_follow a.limits (a.history.items ++ steps_of steps) (Hand AtPoll) ≡ may_follow a.limits a.history.items (Hand AtPoll)
+poll_same a steps s t =
+    may_follow-allows a.limits (a.history.items ++ steps_of steps) (Hand AtPoll)
+    ∙ ap (λ z. allows a.limits z (Hand AtPoll)) t.state
+    ∙ sym (may_follow-allows a.limits a.history.items (Hand AtPoll) ∙ ap (λ z. allows a.limits z (Hand AtPoll)) s.state)
+
+pub may_hand : (a : Inside) (steps : List Step) (safe : Safe) → IsSlot a → Ran a steps → is_running a.condition.mode ≡ true → hand_refusal a.limits (a.history.items ++ steps_of steps) safe ≡ None
+    → (safe ≡ AtPoll → is_armed a.limits a.history.items ≡ true) → may_follow a.limits (a.history.items ++ steps_of steps) (Hand safe) ≡ true
+may_hand a steps Native s t r ok armed = grind (arith, nat_tests, ran_view a steps t)
+may_hand a steps (Blocked kind) s t r ok armed = grind (arith, nat_tests, ran_view a steps t)
+may_hand a steps AtPoll s t r ok armed =
+    let arm : is_armed a.limits a.history.items ≡ true = armed refl in
+    poll_same a steps s t ∙ grind (arith, arm, view_is a s)
+
+-- the call of refusal_of_hand
+pub refusal_is : (a : Inside) (steps : List Step) (safe : Safe) (n : ℕ) → Ran a steps → n ≡ length steps → own_refusal a.limits (view a.limits (a.history.items ++ steps_of steps)) (a.own + n) (Hand safe) ≡ hand_refusal a.limits (a.history.items ++ steps_of steps) safe
+refusal_is a steps safe n t e = ap (λ m. own_refusal a.limits (view a.limits (a.history.items ++ steps_of steps)) m (Hand safe)) (ap (λ m. a.own + m) e ∙ sym (ran_own a steps t).0)
+
+pub ran_runs : (a : Inside) (steps : List Step) → Ran a steps → is_running a.condition.mode ≡ true → is_running (view a.limits (a.history.items ++ steps_of steps)).mode ≡ true
+ran_runs a steps t r = ap (λ (v : ThreadView). is_running v.mode) (ran_view a steps t) ∙ r
+
+pub handed : (a : Inside) (steps : List Step) (safe : Safe) (fr : Stack) (h : Vec Entry) (c : Condition) (own : ℕ) (ops : Ops) → Ran a steps
+    → may_follow a.limits (a.history.items ++ steps_of steps) (Hand safe) ≡ true → h.items ≡ (a.history.items ++ steps_of steps) ++ Hand safe ∷ [] → vec_capacity a.history ≤ vec_capacity h
+    → fr.frames ≡ (view a.limits (a.history.items ++ steps_of steps)).frames → fr.depth ≡ a.limits.depth
+    → view_of c fr.frames ≡ fold after (view_of (at_mode a.condition (mode.AtSafe safe)) fr.frames) (entries_of a.ops.waiting)
+    → ops.waiting ≡ [] → ops.room ≡ a.ops.room → ops.calls ≡ a.ops.calls
+    → own ≡ a.own + length steps + own_cost (Hand safe)
+    → Stands a.limits h.items (vec_capacity h) c (Some fr) a.log own a.costs.items ops
+handed a steps safe fr h c own ops t may e le frames depth served none room few oe =
+    laws.serve_stands a.limits (a.history.items ++ steps_of steps) (vec_capacity a.history) (vec_capacity h) a.condition c a.log (a.own + length steps) own a.costs.items a.ops ops (Hand safe) (mode.AtSafe safe) fr h.items t may e le
+    refl (ap (view_of (at_mode a.condition (mode.AtSafe safe))) (sym frames)) refl refl depth served none room few oe (charged_free a.costs.items (Hand safe) refl)
+
+pub ended : (a : Inside) (steps : List Step) (fr : Stack) (h : Vec Entry) (c : Condition) (own : ℕ) (ops : Ops) → Ran a steps
+    → may_follow a.limits (a.history.items ++ steps_of steps) End ≡ true → h.items ≡ (a.history.items ++ steps_of steps) ++ End ∷ [] → vec_capacity a.history ≤ vec_capacity h
+    → fr.frames ≡ [] → fr.depth ≡ a.limits.depth
+    → view_of c fr.frames ≡ fold after (view_of (at_mode a.condition mode.Ended) fr.frames) (entries_of a.ops.waiting)
+    → ops.waiting ≡ [] → ops.room ≡ a.ops.room → ops.calls ≡ a.ops.calls
+    → own ≡ a.own + length steps
+    → Stands a.limits h.items (vec_capacity h) c (Some fr) a.log own a.costs.items ops
+ended a steps fr h c own ops t may e le frames depth served none room few oe =
+    laws.serve_stands a.limits (a.history.items ++ steps_of steps) (vec_capacity a.history) (vec_capacity h) a.condition c a.log (a.own + length steps) own a.costs.items a.ops ops End mode.Ended fr h.items t may e le
+    refl (ap (view_of (at_mode a.condition mode.Ended)) (sym frames)) refl refl depth served none room few (omega (arith, oe)) (charged_free a.costs.items End refl)
+
+-- a thread that has started, or returned, runs
+pub runs_started : (limits : Limits) (history later : List Entry) → later ≡ history ++ Start ∷ [] → is_running (view limits later).mode ≡ true
+runs_started limits history later e =
+    let runs : is_running (next_state (history_state limits history) Start).view.mode ≡ true = grind arith in
+    ap (λ l. is_running (view limits l).mode) e ∙ ap (λ (z : HistoryState). is_running z.view.mode) (history_state-snoc limits history Start) ∙ runs
+
+pub runs_returned : (limits : Limits) (history later : List Entry) → later ≡ history ++ Back ∷ [] → is_running (view limits later).mode ≡ true
+runs_returned limits history later e =
+    let runs : is_running (next_state (history_state limits history) Back).view.mode ≡ true = grind arith in
+    ap (λ l. is_running (view limits l).mode) e ∙ ap (λ (z : HistoryState). is_running z.view.mode) (history_state-snoc limits history Back) ∙ runs

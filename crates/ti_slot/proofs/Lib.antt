@@ -1,0 +1,9 @@
+pub mod StepLaws
+pub mod SlotLaws
+pub mod CallLaws
+pub mod AskLaws
+pub mod FateLaws
+pub mod TicketLaws
+pub mod TellLaws
+pub mod OpenLaws
+pub mod WholeLaws

@@ -1,0 +1,206 @@
+-- Waiting calls take place, answers are collected, and which tickets are open then.
+use Rattle.std.proofs.Common.{◌≡◌, ℕ, ◌<◌, ◌==◌, nat_lt, true, false, ◌&&◌, List, [], ◌∷◌, ◌++◌, refl, ap, sym, ◌∙◌, arith, Option, Some, None, inl, inr, if◌then◌else◌, length, length-set, append-nil, subst}
+use Rattle.std.specs.Option.{option_or}
+use Rattle.std.proofs.lemmas.Bool.{cases_Bool}
+use Rattle.std.proofs.lemmas.Bool.Decides.{nat_tests}
+use Rattle.std.proofs.lemmas.List.{get_or_past}
+use Rattle.ti_types.specs.declared.limits.Limits.{Limits}
+use Rattle.ti_types.specs.declared.numbers.EnvNo.{EnvNo}
+use Rattle.ti_types.specs.declared.numbers.ThreadNo.{ThreadNo}
+use Rattle.ti_types.specs.declared.event.Ticket.{Ticket}
+use Rattle.ti_types.specs.declared.call.Call.{Call}
+use Rattle.ti_types.specs.declared.answer.Answer.{Answer}
+use Rattle.ti_types.specs.declared.entry.Entry.{Entry}
+use Rattle.ti_types.specs.declared.entry.Entry.TheVariants.{Start, Own, Hand, Back, End, Asked, Stop, Read, Go}
+use Rattle.ti_types.specs.declared.view.ThreadView.{ThreadView}
+use Rattle.ti_ops.specs.declared.fate.Fate.{Fate}
+use Rattle.ti_ops.specs.declared.fate.Fate.TheVariants.{Waiting, Told, Gone}
+use Rattle.ti_ops.specs.declared.pending.Pending.{Pending}
+use Rattle.ti_ops.specs.Fates.{fates_by, fate_of, with_call, with_fate, told_by, is_open}
+use Rattle.ti_replay.specs.Settling.{is_hand_over}
+use Rattle.ti_replay.specs.View.{view, after, called}
+use Rattle.ti_replay.specs.Legal.{asked_by}
+use Rattle.ti_replay.specs.HistoryState.{history_state}
+use Rattle.ti_replay.specs.Tickets.{is_call_of, reply_in, reply_to}
+use Rattle.ti_replay.proofs.TicketReplies.{reply_to-snoc, settling}
+use Rattle.ti_slot.specs.Waiting.{answers_of, entries_of, delivered}
+use Rattle.ti_slot.specs.Tickets.{has, without_ticket, asked_in, open_in, is_at, AreAwaited, AreApart, AreOnce, Tells}
+use Rattle.ti_slot.proofs.FateLaws.{saying_for, fate_or, fate-passed, fate-with_call, fate-with_fate, length-with_fate, same_fate, said_waits, fate-delivered, length-delivered, envs-delivered}
+use Rattle.ti_slot.proofs.TicketLaws.{asked_in-snoc, asked_stay, open-append, open_same, open_less, has-open}
+use Rattle.ti_slot.proofs.TellLaws.{asked-snoc, still, hand_free, no_asking, no_ticket, awaited_on, asked_before, is_next, not_next}
+
+hand_no_call : (t : Ticket) (x : Entry) → is_hand_over x ≡ true → is_call_of t x ≡ false
+hand_no_call t Start h = cc
+hand_no_call t (Own step) h = cc
+hand_no_call t (Hand safe) h = refl
+hand_no_call t Back h = cc
+hand_no_call t End h = refl
+hand_no_call t (Asked env number call) h = cc
+hand_no_call t (Stop env) h = cc
+hand_no_call t (Read env n) h = cc
+hand_no_call t (Go env) h = cc
+
+replies_are : (w : ThreadView) (waiting : List Pending) (t : Ticket) → reply_in w (entries_of waiting) t ≡ saying_for t (answers_of w waiting)
+replies_are w [] t = refl
+replies_are w (p ∷ waiting) t = grind (arith, nat_tests, replies_are (called w p.ticket.env p.call) waiting t)
+
+-- a saying, and how it changes the fate
+data Spoken (t : Ticket) (r : Option Answer) : Type 0 where
+  Says : (a : Answer) → r ≡ Some a → Spoken t r
+  Silent : r ≡ None → Spoken t r
+
+spoken : (t : Ticket) (r : Option Answer) → Spoken t r
+spoken t (Some a) = Says a refl
+spoken t None = Silent refl
+
+-- the waiting calls take place
+pub tells_hand : (limits : Limits) (number : ThreadNo) (h : List Entry) (waiting : List Pending) (fates : List (List Fate)) (x : Entry) → is_hand_over x ≡ true → (history_state limits h).waiting ≡ entries_of waiting
+    → Tells limits number h waiting fates → Tells limits number (h ++ x ∷ []) [] (delivered (answers_of (after (view limits h) x) waiting) fates)
+tells_hand limits number h waiting fates x hx ew s =
+    let v = view limits h in
+    let ans = answers_of (after v x) waiting in
+    let new = delivered ans fates in
+    let b : (t : Ticket) → reply_in v (settling (history_state limits h) x) t ≡ saying_for t ans =
+    λ t. let e : reply_in v (settling (history_state limits h) x) t ≡ reply_in (after v x) (entries_of waiting) t = grind (arith, hx, ew, hand_no_call t x hx) in e ∙ replies_are (after v x) waiting t in
+    let r : (t : Ticket) → reply_to limits (h ++ x ∷ []) t ≡ option_or (reply_to limits h t) (saying_for t ans) = λ t. reply_to-snoc limits h x t ∙ ap (option_or (reply_to limits h t)) (b t) in
+    let f : (t : Ticket) → fate_of t new ≡ fate_or (saying_for t ans) (fate_of t fates) = λ t. fate-delivered t (after v x) waiting fates s.awaited s.apart in
+    let a : (env : EnvNo) → asked_by env (h ++ x ∷ []) ≡ asked_by env h = λ env. omega (arith, asked-snoc env h x, no_asking env x (hand_free x hx)) in
+    let same : asked_in number (h ++ x ∷ []) ≡ asked_in number h = asked_stay number h x (no_ticket number x (hand_free x hx)) in
+    record {
+      fresh = λ t le.
+          let old : reply_to limits h t ≡ None = s.fresh t (omega (arith, a t.env, le)) in
+          elim (spoken t (saying_for t ans)) [
+            | Says y e ↦ absurd (let w = said_waits t (after v x) waiting fates y s.awaited e in let k = asked_before limits number h waiting fates t s (ap is_open w) in omega (arith, k, le, a t.env))
+            | Silent e ↦ r t ∙ ap (option_or (reply_to limits h t)) e ∙ ap (λ z. option_or z None) old
+          ];
+      envs = envs-delivered (after v x) waiting fates ∙ s.envs;
+      lists = λ env. length-delivered env (after v x) waiting fates s.awaited s.apart ∙ s.lists env ∙ sym (a env);
+      quiet = λ t w.
+          elim (spoken t (saying_for t ans)) [
+            | Says y e ↦ absurd (let z : fate_of t new ≡ Told y = f t ∙ ap (λ q. fate_or q (fate_of t fates)) e in cc)
+            | Silent e ↦
+                let z : fate_of t new ≡ fate_of t fates = f t ∙ ap (λ q. fate_or q (fate_of t fates)) e in
+                r t ∙ ap (option_or (reply_to limits h t)) e ∙ ap (λ q. option_or q None) (s.quiet t (sym z ∙ w))
+          ];
+      told = λ t y w.
+          elim (spoken t (saying_for t ans)) [
+            | Says u e ↦
+                let z : fate_of t new ≡ Told u = f t ∙ ap (λ q. fate_or q (fate_of t fates)) e in
+                let old : reply_to limits h t ≡ None = s.quiet t (said_waits t (after v x) waiting fates u s.awaited e) in
+                r t ∙ ap (option_or (reply_to limits h t)) e ∙ ap (λ q. option_or q (Some u)) old ∙ (sym (ap told_by z) ∙ w)
+            | Silent e ↦
+                let z : fate_of t new ≡ fate_of t fates = f t ∙ ap (λ q. fate_or q (fate_of t fates)) e in
+                still limits h x t y (s.told t y (ap told_by (sym z) ∙ w))
+          ];
+      awaited = tt;
+      apart = tt;
+      listed = λ t. ap (has t) same ∙ s.listed t ∙ ap (λ m. t.thread.0 == number.0 && nat_lt t.no m) (sym (a t.env));
+      once = subst AreOnce (sym same) s.once;
+    }
+
+-- an answer is collected
+pub tells_less : (limits : Limits) (number : ThreadNo) (h : List Entry) (waiting : List Pending) (fates : List (List Fate)) (t : Ticket) (a : Answer) → fate_of t fates ≡ Told a
+    → Tells limits number h waiting fates → Tells limits number h waiting (with_fate t Gone fates)
+tells_less limits number h waiting fates t a e s =
+    let o : is_open (fate_of t fates) ≡ true = ap is_open e in
+    let new = with_fate t Gone fates in
+    let f : (u : Ticket) → fate_of u new ≡ (if is_at t u then Gone else fate_of u fates) = λ u. fate-with_fate u t Gone fates o in
+    let old : (u : Ticket) (y : Fate) → fate_of u new ≡ y → is_open y ≡ true → fate_of u fates ≡ y =
+    λ u y w k. elim (cases_Bool (is_at t u)) [
+      | inl it ↦ absurd (let z : fate_of u new ≡ Gone = f u ∙ grind (arith, it) in let q = sym (ap is_open (sym w ∙ z)) ∙ k in cc)
+      | inr other ↦ let z : fate_of u new ≡ fate_of u fates = f u ∙ grind (arith, other) in sym z ∙ w
+    ] in
+    let stays : (u : Ticket) → fate_of u fates ≡ Waiting → fate_of u new ≡ Waiting =
+    λ u w. elim (cases_Bool (is_at t u)) [
+      | inl it ↦ absurd (let z = same_fate u t fates it in cc)
+      | inr other ↦ f u ∙ grind (arith, other, w)
+    ] in
+    record {
+      fresh = s.fresh;
+      envs = length-set fates t.env.0 _ ∙ s.envs;
+      lists = λ env. length-with_fate env t Gone fates o ∙ s.lists env;
+      quiet = λ u w. s.quiet u (old u Waiting w refl);
+      told = λ u y w. s.told u y (ap told_by (old u (Told y) (is_told (fate_of u new) y w) refl));
+      awaited = awaited_on fates new waiting stays s.awaited;
+      apart = s.apart;
+      listed = s.listed;
+      once = s.once;
+    }
+  where
+    is_told : (x : Fate) (y : Answer) → told_by x ≡ Some y → x ≡ Told y
+    is_told Waiting y w = cc
+    is_told (Told z) y w = cc
+    is_told Gone y w = cc
+
+-- the fate of a ticket tells what is collected, and what a caller who has the history knows of it
+pub collected_is : (limits : Limits) (number : ThreadNo) (h : List Entry) (waiting : List Pending) (fates : List (List Fate)) (t : Ticket) → t.thread.0 ≡ number.0 → Tells limits number h waiting fates
+    → told_by (fate_of t fates) ≡ (if has t (open_in fates (asked_in number h)) then reply_to limits h t else None)
+collected_is limits number h waiting fates t e s = by_fate (fate_of t fates) refl
+  where
+    listed : is_open (fate_of t fates) ≡ true → has t (asked_in number h) ≡ true
+    listed o = let k = asked_before limits number h waiting fates t s o in grind (arith, nat_tests, s.listed t, e, k)
+
+    by_fate : (x : Fate) → fate_of t fates ≡ x → told_by (fate_of t fates) ≡ (if has t (open_in fates (asked_in number h)) then reply_to limits h t else None)
+    by_fate Waiting w = let q = s.quiet t w in grind (arith, w, q)
+    by_fate (Told a) w =
+        let q = s.told t a (ap told_by w) in
+        let l = listed (ap is_open w) in
+        grind (arith, w, q, l, has-open t fates (asked_in number h))
+    by_fate Gone w = grind (arith, w, has-open t fates (asked_in number h))
+
+-- a ticket of another thread is none of this one
+pub not_mine : (limits : Limits) (number : ThreadNo) (h : List Entry) (waiting : List Pending) (fates : List (List Fate)) (t : Ticket) → (t.thread.0 ≡ number.0 → ⊥) → Tells limits number h waiting fates
+    → has t (open_in fates (asked_in number h)) ≡ false
+not_mine limits number h waiting fates t e s = grind (arith, nat_tests, has-open t fates (asked_in number h), s.listed t, e)
+
+-- which tickets are open after a call that is answered at once
+pub open_now : (limits : Limits) (number : ThreadNo) (h : List Entry) (waiting : List Pending) (fates : List (List Fate)) (env : EnvNo) (n : ℕ) (call : Call) → env.0 < limits.envs → n ≡ asked_by env h → Tells limits number h waiting fates
+    → open_in (with_call env Gone fates) (asked_in number (h ++ Asked env n call ∷ [])) ≡ open_in fates (asked_in number h)
+open_now limits number h waiting fates env n call he hn s =
+    let u : Ticket = record { env = env; thread = number; no = n } in
+    let new = with_call env Gone fates in
+    let inside : env.0 < length fates = omega (arith, he, s.envs) in
+    let none : fate_of u new ≡ Gone = fate-passed u env fates inside ∙ get_or_past (fates_by env fates) n Gone (omega (arith, hn, s.lists env)) in
+    let same_ones : open_in new (asked_in number h) ≡ open_in fates (asked_in number h) = open_same new fates (asked_in number h) (λ t k. ap is_open (fate-passed t env fates inside)) in
+    let last : open_in new (u ∷ []) ≡ [] = grind (arith, none) in
+    ap (open_in new) (asked_in-snoc number h (Asked env n call)) ∙ open-append new (asked_in number h) (u ∷ [])
+    ∙ ap (λ ts. open_in new (asked_in number h) ++ ts) last ∙ append-nil (open_in new (asked_in number h)) ∙ same_ones
+
+-- after a call that waits
+pub open_later : (limits : Limits) (number : ThreadNo) (h : List Entry) (waiting : List Pending) (fates : List (List Fate)) (env : EnvNo) (n : ℕ) (call : Call) → env.0 < limits.envs → n ≡ asked_by env h → Tells limits number h waiting fates
+    → open_in (with_call env Waiting fates) (asked_in number (h ++ Asked env n call ∷ [])) ≡ open_in fates (asked_in number h) ++ (record { env = env; thread = number; no = n }) ∷ []
+open_later limits number h waiting fates env n call he hn s =
+    let u : Ticket = record { env = env; thread = number; no = n } in
+    let new = with_call env Waiting fates in
+    let inside : env.0 < length fates = omega (arith, he, s.envs) in
+    let len : length (fates_by env fates) ≡ n = s.lists env ∙ sym hn in
+    let f : (t : Ticket) → fate_of t new ≡ (if is_next env n t then Waiting else fate_of t fates) = λ t. fate-with_call t env Waiting fates inside ∙ ap (λ m. if is_next env m t then Waiting else fate_of t fates) len in
+    let here : is_next env n u ≡ true = grind (arith, nat_tests) in
+    let waits : fate_of u new ≡ Waiting = f u ∙ grind (arith, here) in
+    let same_ones : open_in new (asked_in number h) ≡ open_in fates (asked_in number h) =
+    open_same new fates (asked_in number h) (λ t k.
+    let below : t.no < asked_by t.env h = (let l = s.listed t in grind (arith, nat_tests, l, k)) in
+    let other : is_next env n t ≡ false = not_next t env h n hn below in
+    let same_fates : fate_of t new ≡ fate_of t fates = f t ∙ grind (arith, other) in
+    ap is_open same_fates) in
+    let last : open_in new (u ∷ []) ≡ u ∷ [] = grind (arith, waits) in
+    ap (open_in new) (asked_in-snoc number h (Asked env n call)) ∙ open-append new (asked_in number h) (u ∷ [])
+    ∙ ap (λ ts. open_in new (asked_in number h) ++ ts) last ∙ ap (λ ts. ts ++ u ∷ []) same_ones
+
+-- after the waiting calls took place
+pub open_hand : (fates : List (List Fate)) (w : ThreadView) (waiting : List Pending) (ts : List Ticket) → AreAwaited fates waiting → AreApart waiting → open_in (delivered (answers_of w waiting) fates) ts ≡ open_in fates ts
+open_hand fates w waiting ts k a =
+    let ans = answers_of w waiting in
+    let f : (t : Ticket) → fate_of t (delivered ans fates) ≡ fate_or (saying_for t ans) (fate_of t fates) = λ t. fate-delivered t w waiting fates k a in
+    open_same (delivered ans fates) fates ts (λ t h. elim (spoken t (saying_for t ans)) [
+      | Says y e ↦
+          let told : fate_of t (delivered ans fates) ≡ Told y = f t ∙ ap (λ q. fate_or q (fate_of t fates)) e in
+          ap is_open told ∙ sym (ap is_open (said_waits t w waiting fates y k e))
+      | Silent e ↦ ap is_open (f t ∙ ap (λ q. fate_or q (fate_of t fates)) e)
+    ])
+
+-- after an answer was collected
+pub open_taken : (limits : Limits) (number : ThreadNo) (h : List Entry) (waiting : List Pending) (fates : List (List Fate)) (t : Ticket) (a : Answer) → t.thread.0 ≡ number.0 → fate_of t fates ≡ Told a → Tells limits number h waiting fates
+    → open_in (with_fate t Gone fates) (asked_in number h) ≡ without_ticket t (open_in fates (asked_in number h))
+open_taken limits number h waiting fates t a e w s =
+    open_less t fates (asked_in number h) (ap is_open w) s.once (λ u k. let l = s.listed u in grind (arith, nat_tests, l, k, e))

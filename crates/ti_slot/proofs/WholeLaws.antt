@@ -1,0 +1,199 @@
+-- What a slot tells of its tickets, call by call.
+use Rattle.std.proofs.Common.{◌≡◌, ℕ, ◌<◌, true, false, ◌&&◌, if◌then◌else◌, List, [], ◌∷◌, ◌++◌, length, map, get_or, replicate, suc, zero, refl, ap, sym, ◌∙◌, arith, Option, Some, None, append-nil, append_assoc, subst, is_some, vec_capacity}
+use Rattle.std.specs.Option.{option_map}
+use Rattle.std.proofs.lemmas.List.{length-map, length-replicate}
+use Rattle.ti_types.specs.declared.limits.Limits.{Limits}
+use Rattle.ti_types.specs.declared.numbers.EnvNo.{EnvNo}
+use Rattle.ti_types.specs.declared.numbers.ThreadNo.{ThreadNo}
+use Rattle.ti_types.specs.declared.event.Ticket.{Ticket}
+use Rattle.ti_types.specs.declared.call.Call.{Call}
+use Rattle.ti_types.specs.declared.answer.Answer.{Answer}
+use Rattle.ti_types.specs.declared.step.Step.{Step}
+use Rattle.ti_types.specs.declared.state.Safe.{Safe}
+use Rattle.ti_types.specs.declared.state.Mode.TheVariants as mode
+use Rattle.ti_types.specs.declared.entry.Entry.{Entry}
+use Rattle.ti_types.specs.declared.entry.Entry.TheVariants.{Own, Hand, End, Asked}
+use Rattle.ti_types.specs.declared.view.ThreadView.{ThreadView}
+use Rattle.ti_types.specs.Frames as buffer
+use Rattle.ti_types.specs.Answer.{said}
+use Rattle.ti_frames.specs.Frames.{Stack}
+use Rattle.ti_ops.specs.declared.fate.Fate.{Fate}
+use Rattle.ti_ops.specs.declared.fate.Fate.TheVariants.{Waiting, Told, Gone}
+use Rattle.ti_ops.specs.declared.pending.Pending.{Pending}
+use Rattle.ti_ops.specs.Fates.{fates_by, fate_of, with_call, with_fate, told_by}
+use Rattle.ti_ops.specs.Ops.{Ops, with_posted, with_fates}
+use Rattle.ti_replay.specs.Answers.{is_running}
+use Rattle.ti_replay.specs.Settling.{waits, is_hand_over}
+use Rattle.ti_replay.specs.View.{view, after}
+use Rattle.ti_replay.specs.Legal.{asked_by}
+use Rattle.ti_replay.specs.HistoryState.{HistoryState, history_state}
+use Rattle.ti_replay.specs.LateTickets.{steps_of}
+use Rattle.ti_replay.specs.Tickets.{reply_to}
+use Rattle.ti_slot.specs.declared.slot.Slot.TheInside.{Inside}
+use Rattle.ti_slot.specs.Condition.{view_of}
+use Rattle.ti_slot.specs.Waiting.{answers_of, entries_of, said_in, said_fate, delivered}
+use Rattle.ti_slot.specs.Tickets.{Tells, has, without_ticket, asked_in, open_in, AreAwaited}
+use Rattle.ti_slot.specs.Thread.{Thread, with_more}
+use Rattle.ti_slot.specs.Inside.{IsSlot, IsWhole, thread_in}
+use Rattle.ti_slot.specs.Slot.{Stands}
+use Rattle.ti_slot.proofs.CallLaws.{Ran, ran_view, at_mode}
+use Rattle.ti_slot.proofs.AskLaws.{put_off_is}
+use Rattle.ti_slot.proofs.FateLaws.{by-said, fate-said, length-said, said-with_fate, said-with_call, waits-said}
+use Rattle.ti_slot.proofs.TicketLaws.{asked_stay, asked-steps}
+use Rattle.ti_slot.proofs.TellLaws.{is_plain, is_call, no_ticket, hand_free, tells_plain, tells_now, tells_later}
+use Rattle.ti_slot.proofs.OpenLaws.{tells_hand, tells_less, collected_is, not_mine, open_now, open_later, open_hand, open_taken}
+
+none_by : (n i : ℕ) → get_or {A = List Fate} (replicate n []) i [] ≡ []
+none_by zero i = refl
+none_by (suc n) zero = refl
+none_by (suc n) (suc i) = none_by n i
+
+pub tells_nothing : (limits : Limits) (number : ThreadNo) → Tells limits number [] [] (said_in (replicate limits.envs []))
+tells_nothing limits number =
+    let fates : List (List Fate) = replicate limits.envs [] in
+    let none : (env : EnvNo) → fates_by env (said_in fates) ≡ [] = λ env. by-said env fates ∙ ap (λ xs. map said_fate xs) (none_by limits.envs env.0) in
+    let gone : (t : Ticket) → fate_of t (said_in fates) ≡ Gone = λ t. ap (λ xs. get_or xs t.no Gone) (none t.env) in
+    record {
+      fresh = λ t le. refl;
+      envs = length-map fates (λ (xs : List Fate). map said_fate xs) ∙ length-replicate limits.envs [];
+      lists = λ env. ap length (none env);
+      quiet = λ t w. let g = gone t in cc;
+      told = λ t a w. let g : told_by (fate_of t (said_in fates)) ≡ None = ap told_by (gone t) in cc;
+      awaited = tt;
+      apart = tt;
+      listed = λ t. grind arith;
+      once = tt;
+    }
+
+-- the lists of fates are those of the history's calls
+pub lists_here : (a : Inside) → IsWhole a → length a.ops.fates ≡ a.limits.envs
+lists_here a s = sym (length-map a.ops.fates (λ (xs : List Fate). map said_fate xs)) ∙ s.1.envs
+
+pub list_here : (a : Inside) (env : EnvNo) → IsWhole a → length (fates_by env a.ops.fates) ≡ asked_by env a.history.items
+list_here a env s = sym (length-said env a.ops.fates) ∙ s.1.lists env
+
+-- the thread with other entries and fates
+abbrev pub thread_with : Inside → List Entry → List (List Fate) → Thread
+thread_with a h fates = record { limits = a.limits; number = a.number; history = h; uncollected = open_in (said_in fates) (asked_in a.number h) }
+
+pub plain_after : (a : Inside) (x : Entry) (h : List Entry) → IsWhole a → is_plain x ≡ true → h ≡ a.history.items ++ x ∷ [] → Tells a.limits a.number h a.ops.waiting (said_in a.ops.fates)
+plain_after a x h s p e = rw e (tells_plain a.limits a.number a.history.items a.ops.waiting (said_in a.ops.fates) x p s.1)
+
+pub plain_thread : (a : Inside) (x : Entry) (h : List Entry) → is_call x ≡ false → h ≡ a.history.items ++ x ∷ [] → thread_with a h a.ops.fates ≡ with_more (thread_in a) (x ∷ [])
+plain_thread a x h p e =
+    let same : asked_in a.number h ≡ asked_in a.number a.history.items = ap (asked_in a.number) e ∙ asked_stay a.number a.history.items x (no_ticket a.number x p) in
+    ap (λ l. record { limits = a.limits; number = a.number; history = l; uncollected = open_in (said_in a.ops.fates) (asked_in a.number h) }) e
+    ∙ ap (λ ts. record { limits = a.limits; number = a.number; history = a.history.items ++ x ∷ []; uncollected = open_in (said_in a.ops.fates) ts }) same
+
+pub now_after : (a : Inside) (env : EnvNo) (n : ℕ) (call : Call) (h : List Entry) (ops : Ops) → IsWhole a → env.0 < a.limits.envs → n ≡ asked_by env a.history.items → (waits call && is_running a.condition.mode) ≡ false → h ≡ a.history.items ++ Asked env n call ∷ []
+    → ops ≡ with_fates a.ops (with_call env Gone a.ops.fates) → Tells a.limits a.number h ops.waiting (said_in ops.fates)
+now_after a env n call h ops s he hn off e eo =
+    rw (e, eo, said-with_call env Gone a.ops.fates) (tells_now a.limits a.number a.history.items a.ops.waiting (said_in a.ops.fates) env n call he hn (put_off_is a call s.0 ∙ off) s.1)
+
+pub now_open : (a : Inside) (env : EnvNo) (n : ℕ) (call : Call) (h : List Entry) (ops : Ops) → IsWhole a → env.0 < a.limits.envs → n ≡ asked_by env a.history.items → h ≡ a.history.items ++ Asked env n call ∷ []
+    → ops ≡ with_fates a.ops (with_call env Gone a.ops.fates) → open_in (said_in ops.fates) (asked_in a.number h) ≡ (thread_in a).uncollected
+now_open a env n call h ops s he hn e eo =
+    rw (e, eo, said-with_call env Gone a.ops.fates) (open_now a.limits a.number a.history.items a.ops.waiting (said_in a.ops.fates) env n call he hn s.1)
+
+pub later_after : (a : Inside) (env : EnvNo) (n : ℕ) (call : Call) (buf : buffer.Trace) (h : List Entry) (ops : Ops) → IsWhole a → env.0 < a.limits.envs → n ≡ asked_by env a.history.items → (waits call && is_running a.condition.mode) ≡ true → h ≡ a.history.items ++ Asked env n call ∷ []
+    → ops ≡ with_posted a.ops (record { ticket = record { env = env; thread = a.number; no = n }; call = call; buf = buf })
+    → Tells a.limits a.number h ops.waiting (said_in ops.fates)
+later_after a env n call buf h ops s he hn off e eo =
+    let p : Pending = record { ticket = record { env = env; thread = a.number; no = n }; call = call; buf = buf } in
+    rw (e, eo, said-with_call env Waiting a.ops.fates) (tells_later a.limits a.number a.history.items a.ops.waiting (said_in a.ops.fates) env n call p he hn (put_off_is a call s.0 ∙ off) refl s.1)
+
+pub later_open : (a : Inside) (env : EnvNo) (n : ℕ) (call : Call) (buf : buffer.Trace) (h : List Entry) (ops : Ops) → IsWhole a → env.0 < a.limits.envs → n ≡ asked_by env a.history.items → h ≡ a.history.items ++ Asked env n call ∷ []
+    → ops ≡ with_posted a.ops (record { ticket = record { env = env; thread = a.number; no = n }; call = call; buf = buf })
+    → open_in (said_in ops.fates) (asked_in a.number h) ≡ (thread_in a).uncollected ++ (record { env = env; thread = a.number; no = n }) ∷ []
+later_open a env n call buf h ops s he hn e eo =
+    rw (e, eo, said-with_call env Waiting a.ops.fates) (open_later a.limits a.number a.history.items a.ops.waiting (said_in a.ops.fates) env n call he hn s.1)
+
+tells_steps : (limits : Limits) (number : ThreadNo) (h : List Entry) (waiting : List Pending) (fates : List (List Fate)) (steps : List Step) → Tells limits number h waiting fates → Tells limits number (h ++ steps_of steps) waiting fates
+tells_steps limits number h waiting fates [] s = rw append-nil s
+tells_steps limits number h waiting fates (x ∷ steps) s =
+    subst (λ z. Tells limits number z waiting fates) (append_assoc h (Own x ∷ []) (steps_of steps)) (tells_steps limits number (h ++ Own x ∷ []) waiting fates steps (tells_plain limits number h waiting fates (Own x) refl s))
+
+pub served_after : (a : Inside) (steps : List Step) (x : Entry) (v : ThreadView) (h : List Entry) (ops : Ops) → IsWhole a → Ran a steps → is_hand_over x ≡ true → after (view a.limits (a.history.items ++ steps_of steps)) x ≡ v
+    → h ≡ (a.history.items ++ steps_of steps) ++ x ∷ [] → ops.waiting ≡ [] → said_in ops.fates ≡ delivered (answers_of v a.ops.waiting) (said_in a.ops.fates)
+    → Tells a.limits a.number h ops.waiting (said_in ops.fates)
+served_after a steps x v h ops s t hx ev e none given =
+    let h1 = a.history.items ++ steps_of steps in
+    let w : (history_state a.limits h1).waiting ≡ entries_of a.ops.waiting = ap (λ (z : HistoryState). z.waiting) t.state in
+    let all = tells_hand a.limits a.number h1 a.ops.waiting (said_in a.ops.fates) x hx w (tells_steps a.limits a.number a.history.items a.ops.waiting (said_in a.ops.fates) steps s.1) in
+    rw (e, none, given) (subst (λ z. Tells a.limits a.number (h1 ++ x ∷ []) [] (delivered (answers_of z a.ops.waiting) (said_in a.ops.fates))) ev all)
+
+pub served_thread : (a : Inside) (steps : List Step) (x : Entry) (v : ThreadView) (h : List Entry) (ops : Ops) → IsWhole a → is_hand_over x ≡ true
+    → h ≡ (a.history.items ++ steps_of steps) ++ x ∷ [] → said_in ops.fates ≡ delivered (answers_of v a.ops.waiting) (said_in a.ops.fates)
+    → thread_with a h ops.fates ≡ with_more (thread_in a) (steps_of steps ++ x ∷ [])
+served_thread a steps x v h ops s hx e given =
+    let h1 = a.history.items ++ steps_of steps in
+    let same : asked_in a.number h ≡ asked_in a.number a.history.items = ap (asked_in a.number) e ∙ asked_stay a.number h1 x (no_ticket a.number x (hand_free x hx)) ∙ asked-steps a.number a.history.items steps in
+    let open_ones : open_in (said_in ops.fates) (asked_in a.number h) ≡ (thread_in a).uncollected =
+    ap (λ f. open_in f (asked_in a.number h)) given ∙ ap (open_in (delivered (answers_of v a.ops.waiting) (said_in a.ops.fates))) same
+    ∙ open_hand (said_in a.ops.fates) v a.ops.waiting (asked_in a.number a.history.items) s.1.awaited s.1.apart in
+    ap (λ l. record { limits = a.limits; number = a.number; history = l; uncollected = open_in (said_in ops.fates) (asked_in a.number h) }) (e ∙ append_assoc a.history.items (steps_of steps) (x ∷ []))
+    ∙ ap (λ ts. record { limits = a.limits; number = a.number; history = a.history.items ++ (steps_of steps ++ x ∷ []); uncollected = ts }) open_ones
+
+pub hand_view : (a : Inside) (steps : List Step) (safe : Safe) (fr : Stack) → Ran a steps → fr.frames ≡ (view a.limits (a.history.items ++ steps_of steps)).frames
+    → after (view a.limits (a.history.items ++ steps_of steps)) (Hand safe) ≡ view_of (at_mode a.condition (mode.AtSafe safe)) fr.frames
+hand_view a steps safe fr t e = ap (λ v. after v (Hand safe)) (ran_view a steps t) ∙ ap (view_of (at_mode a.condition (mode.AtSafe safe))) (sym e)
+
+pub end_view : (a : Inside) (steps : List Step) (fr : Stack) → Ran a steps → fr.frames ≡ []
+    → after (view a.limits (a.history.items ++ steps_of steps)) End ≡ view_of (at_mode a.condition mode.Ended) fr.frames
+end_view a steps fr t e = ap (λ v. after v End) (ran_view a steps t) ∙ ap (view_of (at_mode a.condition mode.Ended)) (sym e)
+
+-- the calls that wait have no answer yet
+pub awaited_here : (fates : List (List Fate)) (waiting : List Pending) → AreAwaited (said_in fates) waiting → AreAwaited fates waiting
+awaited_here fates [] k = tt
+awaited_here fates (p ∷ waiting) k = (waits-said (fate_of p.ticket fates) (sym (fate-said p.ticket fates) ∙ k.0), awaited_here fates waiting k.1)
+
+told_said : (x : Fate) → option_map said (told_by x) ≡ told_by (said_fate x)
+told_said Waiting = refl
+told_said (Told a) = refl
+told_said Gone = refl
+
+pub collected : (a : Inside) (t : Ticket) (r : Option Answer) → IsWhole a → t.thread.0 ≡ a.number.0 → r ≡ told_by (fate_of t a.ops.fates)
+    → option_map said r ≡ (if has t (thread_in a).uncollected then reply_to a.limits a.history.items t else None)
+collected a t r s e er =
+    ap (option_map said) er ∙ told_said (fate_of t a.ops.fates) ∙ ap told_by (sym (fate-said t a.ops.fates))
+    ∙ collected_is a.limits a.number a.history.items a.ops.waiting (said_in a.ops.fates) t e s.1
+
+pub collected_none : (a : Inside) (t : Ticket) → IsWhole a → (t.thread.0 ≡ a.number.0 → ⊥) → has t (thread_in a).uncollected ≡ false
+collected_none a t s e = not_mine a.limits a.number a.history.items a.ops.waiting (said_in a.ops.fates) t e s.1
+
+told_fate : (x : Fate) (b : Answer) → told_by x ≡ Some b → x ≡ Told b
+told_fate Waiting b e = cc
+told_fate (Told c) b e = cc
+told_fate Gone b e = cc
+
+said_told : (a : Inside) (t : Ticket) (b : Answer) → Some b ≡ told_by (fate_of t a.ops.fates) → fate_of t (said_in a.ops.fates) ≡ Told (said b)
+said_told a t b e = fate-said t a.ops.fates ∙ ap said_fate (told_fate (fate_of t a.ops.fates) b (sym e))
+
+pub less_after : (a : Inside) (t : Ticket) (ops : Ops) (r : Option Answer) → IsWhole a → r ≡ told_by (fate_of t a.ops.fates) → ops ≡ with_fates a.ops (if is_some r then with_fate t Gone a.ops.fates else a.ops.fates)
+    → Tells a.limits a.number a.history.items ops.waiting (said_in ops.fates)
+less_after a t ops None s er e = rw e s.1
+less_after a t ops (Some b) s er e =
+    rw (e, said-with_fate t Gone a.ops.fates) (tells_less a.limits a.number a.history.items a.ops.waiting (said_in a.ops.fates) t (said b) (said_told a t b er) s.1)
+
+pub less_stands : (a : Inside) (ops : Ops) (fates : List (List Fate)) → IsSlot a → ops ≡ with_fates a.ops fates
+    → Stands a.limits a.history.items (vec_capacity a.history) a.condition a.frames a.log a.own a.costs.items ops
+less_stands a ops fates s e =
+    rw e (record {
+      legal = s.legal;
+      state = s.state;
+      frames_home = s.frames_home;
+      log_home = s.log_home;
+      room = s.room;
+      ops_room = s.ops_room;
+      ops_calls = s.ops_calls;
+      paid = s.paid;
+      ready = s.ready;
+      calls = s.calls;
+    })
+
+-- the tickets without the one that was collected
+pub less_open : (a : Inside) (t : Ticket) (ops : Ops) (r : Option Answer) → IsWhole a → t.thread.0 ≡ a.number.0 → r ≡ told_by (fate_of t a.ops.fates) → ops ≡ with_fates a.ops (if is_some r then with_fate t Gone a.ops.fates else a.ops.fates)
+    → open_in (said_in ops.fates) (asked_in a.number a.history.items) ≡ (if is_some r then without_ticket t (thread_in a).uncollected else (thread_in a).uncollected)
+less_open a t ops None s et er e = rw e refl
+less_open a t ops (Some b) s et er e =
+    rw (e, said-with_fate t Gone a.ops.fates) (open_taken a.limits a.number a.history.items a.ops.waiting (said_in a.ops.fates) t (said b) et (said_told a t b er) s.1)

@@ -1,0 +1,17 @@
+-- A slot's fields, as a whole.
+use Rattle.std.specs.Prelude.{vec_capacity}
+use Rattle.ti_slot.specs.declared.slot.Slot.TheInside.{Inside}
+use Rattle.ti_slot.specs.Waiting.{said_in}
+use Rattle.ti_slot.specs.Tickets.{Tells, asked_in, open_in}
+use Rattle.ti_slot.specs.Thread.{Thread}
+use Rattle.ti_slot.specs.Slot.{Stands}
+
+abbrev pub IsSlot : Inside → Type 0
+IsSlot a = Stands a.limits a.history.items (vec_capacity a.history) a.condition a.frames a.log a.own a.costs.items a.ops
+
+-- and what is told of its tickets
+abbrev pub IsWhole : Inside → Type 0
+IsWhole a = IsSlot a × Tells a.limits a.number a.history.items a.ops.waiting (said_in a.ops.fates)
+
+abbrev pub thread_in : Inside → Thread
+thread_in a = record { limits = a.limits; number = a.number; history = a.history.items; uncollected = open_in (said_in a.ops.fates) (asked_in a.number a.history.items) }

@@ -1,0 +1,77 @@
+-- Which tickets a slot still has.
+use Rattle.std.specs.Prelude.{◌≡◌, ◌≤◌, Bool, false, ◌==◌, ◌&&◌, nat_lt, if◌then◌else◌, length, List, [], ◌∷◌, Some, None}
+use Rattle.std.specs.List.{list_any, flat_map}
+use Rattle.ti_types.specs.declared.limits.Limits.{Limits}
+use Rattle.ti_types.specs.declared.numbers.EnvNo.{EnvNo}
+use Rattle.ti_types.specs.declared.numbers.ThreadNo.{ThreadNo}
+use Rattle.ti_types.specs.declared.event.Ticket.{Ticket}
+use Rattle.ti_types.specs.declared.answer.Answer.{Answer}
+use Rattle.ti_types.specs.declared.entry.Entry.{Entry}
+use Rattle.ti_types.specs.declared.entry.Entry.TheVariants.{Asked}
+use Rattle.ti_ops.specs.Fates.{fates_by, fate_of, told_by, is_open}
+use Rattle.ti_ops.specs.declared.pending.Pending.{Pending}
+use Rattle.ti_ops.specs.declared.fate.Fate.{Fate}
+use Rattle.ti_ops.specs.declared.fate.Fate.TheVariants.{Waiting}
+use Rattle.ti_replay.specs.Legal.{asked_by}
+use Rattle.ti_replay.specs.Tickets.{reply_to}
+
+-- whether two tickets are one
+abbrev pub same : Ticket → Ticket → Bool
+same a b = a.no == b.no && a.env.0 == b.env.0 && a.thread.0 == b.thread.0
+
+-- whether a ticket is among these
+abbrev pub has : Ticket → List Ticket → Bool
+has t tickets = list_any (λ u. same u t) tickets
+
+-- without the first of the ticket
+abbrev pub without_ticket : Ticket → List Ticket → List Ticket
+without_ticket t [] = []
+without_ticket t (u ∷ tickets) = if same u t then tickets else u ∷ without_ticket t tickets
+
+-- no ticket is there twice
+abbrev pub AreOnce : List Ticket → Type 0
+AreOnce [] = Unit {0}
+AreOnce (u ∷ tickets) = (has u tickets ≡ false) × AreOnce tickets
+
+-- the ticket of a call
+abbrev pub ticket_in : ThreadNo → Entry → List Ticket
+ticket_in number (Asked env n call) = (record { env = env; thread = number; no = n }) ∷ []
+ticket_in number _ = []
+
+-- the tickets of all calls of a history, the earliest first
+abbrev pub asked_in : ThreadNo → List Entry → List Ticket
+asked_in number history = flat_map (ticket_in number) history
+
+-- those of the tickets whose call waits, or was answered later and not collected
+abbrev pub open_in : List (List Fate) → List Ticket → List Ticket
+open_in fates [] = []
+open_in fates (t ∷ tickets) = if is_open (fate_of t fates) then t ∷ open_in fates tickets else open_in fates tickets
+
+-- whether two tickets of one thread are one
+abbrev pub is_at : Ticket → Ticket → Bool
+is_at t u = t.no == u.no && t.env.0 == u.env.0
+
+-- the calls that wait have no answer yet
+abbrev pub AreAwaited : List (List Fate) → List Pending → Type 0
+AreAwaited fates [] = Unit {0}
+AreAwaited fates (p ∷ waiting) = (fate_of p.ticket fates ≡ Waiting) × AreAwaited fates waiting
+
+abbrev pub is_awaited : Ticket → List Pending → Bool
+is_awaited t waiting = list_any (λ p. is_at p.ticket t) waiting
+
+-- no call waits twice
+abbrev pub AreApart : List Pending → Type 0
+AreApart [] = Unit {0}
+AreApart (p ∷ waiting) = (is_awaited p.ticket waiting ≡ false) × AreApart waiting
+
+-- the fates of a history's calls: an answer that is kept is the reply, and a call that waits has none yet
+pub record Tells (limits : Limits) (number : ThreadNo) (history : List Entry) (waiting : List Pending) (fates : List (List Fate)) : Type 0 where
+  pub fresh : (t : Ticket) → asked_by t.env history ≤ t.no → reply_to limits history t ≡ None
+  pub envs : length fates ≡ limits.envs
+  pub lists : (env : EnvNo) → length (fates_by env fates) ≡ asked_by env history
+  pub quiet : (t : Ticket) → fate_of t fates ≡ Waiting → reply_to limits history t ≡ None
+  pub told : (t : Ticket) (a : Answer) → told_by (fate_of t fates) ≡ Some a → reply_to limits history t ≡ Some a
+  pub awaited : AreAwaited fates waiting
+  pub apart : AreApart waiting
+  pub listed : (t : Ticket) → has t (asked_in number history) ≡ (t.thread.0 == number.0 && nat_lt t.no (asked_by t.env history))
+  pub once : AreOnce (asked_in number history)

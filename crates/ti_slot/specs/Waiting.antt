@@ -1,0 +1,65 @@
+-- Calls that wait, and the answers that they get.
+use Rattle.std.specs.Prelude.{ℕ, ◌≡◌, ◌≤◌, List, [], ◌∷◌, map, min}
+use Rattle.ti_types.specs.declared.answer.Answer.{Answer}
+use Rattle.ti_types.specs.declared.limits.Limits.{Limits}
+use Rattle.ti_types.specs.declared.event.Ticket.{Ticket}
+use Rattle.ti_types.specs.declared.call.Call.{Call}
+use Rattle.ti_types.specs.declared.call.Call.TheVariants.{Trace}
+use Rattle.ti_types.specs.declared.entry.Entry.{Entry}
+use Rattle.ti_types.specs.declared.entry.Entry.TheVariants.{Asked}
+use Rattle.ti_types.specs.declared.view.ThreadView.{ThreadView}
+use Rattle.ti_types.specs.Frames as buffer
+use Rattle.ti_types.specs.Answer.{said}
+use Rattle.ti_ops.specs.declared.pending.Pending.{Pending}
+use Rattle.ti_ops.specs.declared.fate.Fate.{Fate}
+use Rattle.ti_ops.specs.declared.fate.Fate.TheVariants as fate
+use Rattle.ti_ops.specs.Fates.{with_fate}
+use Rattle.ti_replay.specs.Answers.{answer_of, or_zero}
+use Rattle.ti_replay.specs.View.{called}
+
+-- the entry of a call that waits
+abbrev pub entry_of : Pending → Entry
+entry_of p = Asked p.ticket.env p.ticket.no p.call
+
+abbrev pub entries_of : List Pending → List Entry
+entries_of waiting = map entry_of waiting
+
+-- an empty buffer has room for the frames that are asked for, at most as many as the depth
+abbrev pub HasRoomFor : Limits → ℕ → buffer.Trace → Type 0
+HasRoomFor limits most b = (b.frames ≡ []) × (min most limits.depth ≤ b.room)
+
+abbrev pub IsBufferOf : Limits → Call → buffer.Trace → Type 0
+IsBufferOf limits (Trace start max_count) b = HasRoomFor limits (or_zero max_count) b
+IsBufferOf limits _ b = Unit {0}
+
+abbrev pub AreReady : Limits → List Pending → Type 0
+AreReady limits [] = Unit {0}
+AreReady limits (p ∷ waiting) = IsBufferOf limits p.call p.buf × AreReady limits waiting
+
+-- an answer to a ticket, as it is said
+pub record Saying : Type 0 where
+  pub ticket : Ticket
+  pub answer : Answer
+
+-- the answers of calls that take place one after another
+abbrev pub answers_of : ThreadView → List Pending → List Saying
+answers_of v [] = []
+answers_of v (p ∷ waiting) =
+    record { ticket = p.ticket; answer = answer_of v p.ticket.env p.call } ∷ answers_of (called v p.ticket.env p.call) waiting
+
+abbrev pub calls_of : List Pending → List Call
+calls_of waiting = map (λ p. p.call) waiting
+
+-- a fate with its answer as it is said
+abbrev pub said_fate : Fate → Fate
+said_fate fate.Waiting = fate.Waiting
+said_fate (fate.Told a) = fate.Told (said a)
+said_fate fate.Gone = fate.Gone
+
+abbrev pub said_in : List (List Fate) → List (List Fate)
+said_in fates = map (map said_fate) fates
+
+-- the fates after answers to tickets
+abbrev pub delivered : List Saying → List (List Fate) → List (List Fate)
+delivered [] fates = fates
+delivered (s ∷ sayings) fates = delivered sayings (with_fate s.ticket (fate.Told s.answer) fates)

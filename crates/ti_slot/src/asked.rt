@@ -1,0 +1,10 @@
+use ti_types::{Answer, Ticket};
+
+/// What a call comes to at once.
+#[derive(Drop, Debug)]
+pub enum Asked {
+    /// The thread's answer.
+    Answered(Answer),
+    /// The ticket by which the answer is collected, once the thread has handed over or ended.
+    Waiting(Ticket),
+}

@@ -1,0 +1,13 @@
+//! Tests of what no clause says: that calls succeed where memory is ample, and what failing streams leave behind.
+//!
+//! It stands above all other crates, and nothing stands on it.
+#![tactic(auto)]
+
+#[cfg(test)]
+mod cores;
+#[cfg(test)]
+mod scripts;
+#[cfg(test)]
+mod streams;
+#[cfg(test)]
+mod walks;

@@ -1,0 +1,11 @@
+pub mod Limits
+pub mod Caps
+pub mod Call
+pub mod TiError
+pub mod State
+pub mod Frames
+pub mod Trace
+pub mod Answer
+pub mod Numbers
+pub mod Steps
+pub mod Refusing

@@ -1,0 +1,104 @@
+ghost use Rattle.std.specs.Prelude.{◌≡◌};
+ghost use Rattle.ti_types.specs.TiError.{number_of};
+
+use std::alloc::AllocError;
+
+/// Why a call or an event is refused. A refusal changes nothing at the thread. The first eleven are JVM TI 11's, with
+/// its numbers; those from 201 on are this profile's.
+#[derive(Clone, Copy, Debug, PartialEq, Eq)]
+pub enum TiError {
+    /// 10 INVALID_THREAD: there is no thread of this number.
+    InvalidThread,
+    /// 13 THREAD_NOT_SUSPENDED: a resumption of a thread that is not suspended.
+    ThreadNotSuspended,
+    /// 14 THREAD_SUSPENDED: a suspension of a thread that is suspended.
+    ThreadSuspended,
+    /// 15 THREAD_NOT_ALIVE: the thread has not started, or has ended.
+    ThreadNotAlive,
+    /// 31 NO_MORE_FRAMES: there is no frame at the depth.
+    NoMoreFrames,
+    /// 32 OPAQUE_FRAME: a frame that cannot be popped.
+    OpaqueFrame,
+    /// 98 NOT_AVAILABLE: a capability that cannot be had.
+    NotAvailable,
+    /// 99 MUST_POSSESS_CAPABILITY: the call needs a capability that is not held.
+    MustPossessCapability,
+    /// 103 ILLEGAL_ARGUMENT: a negative `max_count` or `depth`, or a `start` where there is no frame.
+    IllegalArgument,
+    /// 110 OUT_OF_MEMORY: there is no memory for what is to be made.
+    OutOfMemory,
+    /// 116 INVALID_ENVIRONMENT: there is no environment of this number.
+    InvalidEnvironment,
+    /// 201: the stack has as many frames as the depth limit allows.
+    Overflow,
+    /// 202: a step that needs a frame, where there is none.
+    NoFrame,
+    /// 203: a new position for a native frame.
+    NotJavaFrame,
+    /// 204: the thread does not run.
+    NotRunning,
+    /// 205: a return of a thread that is not safe.
+    NotSafe,
+    /// 206: the thread is suspended or stopped, and may not start or return.
+    Barred,
+    /// 207: a hand-over to native code, where the newest frame is not native.
+    NoNativeFrame,
+    /// 208: the thread has spent its own entries.
+    OwnSpent,
+    /// 209: the environment has spent its calls at the thread.
+    CallsSpent,
+    /// 210: a start of a thread that has started.
+    NotNew,
+    /// 211: a stop of a thread at which a stop stands, one of the same environment too.
+    AlreadyStopped,
+    /// 212: a read or a go of an environment whose stop does not stand.
+    NotStopped,
+    /// 213: a read of a thread that still runs.
+    StillRunning,
+}
+
+impl TiError {
+    /// The number by which the error is known: JVM TI 11's, or from 201 on this profile's.
+    pub fn number(self) -> u32
+        ensures { result ≡ number_of self }
+    {
+        match self {
+            TiError::InvalidThread => 10,
+            TiError::ThreadNotSuspended => 13,
+            TiError::ThreadSuspended => 14,
+            TiError::ThreadNotAlive => 15,
+            TiError::NoMoreFrames => 31,
+            TiError::OpaqueFrame => 32,
+            TiError::NotAvailable => 98,
+            TiError::MustPossessCapability => 99,
+            TiError::IllegalArgument => 103,
+            TiError::OutOfMemory => 110,
+            TiError::InvalidEnvironment => 116,
+            TiError::Overflow => 201,
+            TiError::NoFrame => 202,
+            TiError::NotJavaFrame => 203,
+            TiError::NotRunning => 204,
+            TiError::NotSafe => 205,
+            TiError::Barred => 206,
+            TiError::NoNativeFrame => 207,
+            TiError::OwnSpent => 208,
+            TiError::CallsSpent => 209,
+            TiError::NotNew => 210,
+            TiError::AlreadyStopped => 211,
+            TiError::NotStopped => 212,
+            TiError::StillRunning => 213,
+        }
+    }
+}
+
+impl From<AllocError> for TiError {
+    ghost use Rattle.std.specs.Prelude.{◌≡◌};
+    ghost use Rattle.ti_types.specs.declared.error.TiError.TheVariants.{OutOfMemory};
+
+    ghost from_gives = { λ _ e. e ≡ OutOfMemory };
+
+    /// Want of memory is OUT_OF_MEMORY, 110 (JVM TI 11).
+    fn from(_: AllocError) -> Self {
+        TiError::OutOfMemory
+    }
+}

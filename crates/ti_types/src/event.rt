@@ -1,0 +1,73 @@
+use crate::answer::Answer;
+use crate::call::Call;
+use crate::caps::Caps;
+use crate::error::TiError;
+use crate::numbers::{EnvNo, ThreadNo};
+use crate::state::Kind;
+use crate::step::Step;
+
+/// One event of the coordinator. The first seven are a thread's own, and the others an environment's (JVM TI 11, the
+/// function named at each).
+#[derive(Clone, Copy, Debug, PartialEq, Eq)]
+pub enum Event {
+    /// The thread starts: 210 where it has started, 206 where a stop stands.
+    Start(ThreadNo),
+    /// The thread makes a step: 204, then 201, 202 or 203 by its frames, then 208.
+    Own(ThreadNo, Step),
+    /// The thread looks whether it is called for, and hands over where it is: 204 (JEP 312).
+    Poll(ThreadNo),
+    /// The thread goes into native code: 204, 207, 208.
+    ToNative(ThreadNo),
+    /// The thread blocks: 204, 208.
+    ToBlocked(ThreadNo, Kind),
+    /// The thread returns and runs: 205, 206.
+    Back(ThreadNo),
+    /// The thread ends: 204.
+    End(ThreadNo),
+    /// A call at a thread: 116, 99, 10, 103, 209, 110, then the thread's answer.
+    Ask(EnvNo, ThreadNo, Call),
+    /// Stops a thread: 116, 10, 209, 211.
+    Stop(EnvNo, ThreadNo),
+    /// Reads at most so many of the newest frames under a stop: 116, 10, 103, 209, 110, 212, 213.
+    Read(EnvNo, ThreadNo, i32),
+    /// Lets a thread go: 116, 10, 212.
+    Go(EnvNo, ThreadNo),
+    /// AddCapabilities: 116, 98. All are added or none.
+    AddCaps(EnvNo, Caps),
+    /// RelinquishCapabilities: 116.
+    Relinquish(EnvNo, Caps),
+    /// GetCapabilities: 116.
+    GetCaps(EnvNo),
+    /// SetEnvironmentLocalStorage: 116.
+    SetEnvWord(EnvNo, u64),
+    /// GetEnvironmentLocalStorage: 116.
+    GetEnvWord(EnvNo),
+}
+
+/// A call that waits: the call of that number that an environment asked of a thread.
+#[derive(Clone, Copy, Debug, PartialEq, Eq)]
+pub struct Ticket {
+    pub env: EnvNo,
+    pub thread: ThreadNo,
+    /// How many calls of the environment were asked at the thread before.
+    pub no: u32,
+}
+
+/// What an event comes to: the first five of a thread's own events, the last two of an environment's.
+#[derive(Drop, Debug)]
+pub enum Outcome {
+    /// The event has left its entry.
+    Done,
+    /// A poll at which nobody calls for the thread: nothing happens.
+    Clear,
+    /// A poll at which the waiting calls took place, and from which the thread returned.
+    Went,
+    /// A poll at which the waiting calls took place, and at which the thread is held.
+    Held,
+    /// The thread's own event is refused, and nothing has changed.
+    Refused(TiError),
+    /// The call is answered.
+    Gave(Answer),
+    /// The call waits for the thread's next hand-over or end.
+    Posted(Ticket),
+}

@@ -1,0 +1,11 @@
+/// A thread, by its number from 0 on.
+#[derive(Clone, Copy, Debug, PartialEq, Eq)]
+pub struct ThreadNo(pub u32);
+
+/// An agent's environment, by its number from 0 on.
+#[derive(Clone, Copy, Debug, PartialEq, Eq)]
+pub struct EnvNo(pub u32);
+
+/// A method, by its number. Any number will do.
+#[derive(Clone, Copy, Debug, PartialEq, Eq)]
+pub struct MethodNo(pub u32);
