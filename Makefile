@@ -1,5 +1,7 @@
 # `make run` builds the program and runs it on a first example. `make test` is the whole gate.
-.PHONY: run test
+# `make examples`, `make bench` and `make refused` run the program that `make run` has built: on the examples, on large
+# documents, and with each allocation refused in turn.
+.PHONY: run test examples bench refused
 
 run:
 	cd crates/tiwalk && rt run < ../../examples/first.json
@@ -7,3 +9,12 @@ run:
 test:
 	sh ci/must_not_compile.sh
 	rt ci
+
+examples:
+	python3 ci/examples.py
+
+bench:
+	python3 bench/bench.py
+
+refused:
+	python3 ci/refused_memory.py
