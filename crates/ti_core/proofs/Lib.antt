@@ -14,4 +14,7 @@ pub mod TicketLaws
 pub mod NewLaws
 pub mod KeptLaws
 pub mod RunLaws
+pub mod ListLaws
+pub mod RefusedLaws
+pub mod OfRunLaws
 pub mod TurnLaws

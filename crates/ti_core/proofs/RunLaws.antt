@@ -76,7 +76,7 @@ read_stays : (r : Option TiError) (a b : Option Answer) (x : Outcome) → (given
 read_stays None a b x h e = h e
 read_stays (Some error) a b x h e = e
 
-ask_out : (limits : Limits) (all front : List Happening) (w : Bool) (e : EnvNo) (t : ThreadNo) (c : Call) → out_of limits all front (record { event = Ask e t c; wanting = w })
+pub ask_out : (limits : Limits) (all front : List Happening) (w : Bool) (e : EnvNo) (t : ThreadNo) (c : Call) → out_of limits all front (record { event = Ask e t c; wanting = w })
     ≡ refused_or (refusal limits (dealings limits e t front) (record { event = Ask e t c; wanting = w })) (given (reply limits (history_of limits t all) (length (history_of limits t front))))
 ask_out limits all front w e t c = rw (self t.0) refl
 

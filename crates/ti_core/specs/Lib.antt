@@ -4,3 +4,6 @@ pub mod Inside
 pub mod Core
 pub mod Stands
 pub mod Runs
+pub mod Refused
+pub mod OfRuns
+pub mod Lists

@@ -12,6 +12,7 @@ ghost use Rattle.ti_core.specs.Threads.{IfPosted, is_ticket_of};
 ghost use Rattle.ti_core.specs.Thread.{taken};
 ghost use Rattle.ti_core.specs.Core.{CoreState, core_of, core_next, core_told, core_taken, is_uncollected, thread_at, IsTicketOf};
 ghost use Rattle.ti_core.specs.Runs.{IsTicketBy};
+ghost use Rattle.ti_core.specs.Refused.{is_refusal, IsUnchanged};
 ghost use Rattle.ti_core.specs.Stands.{Stands, IsReached, AreNew};
 
 use crate::running::answer_all;
@@ -144,8 +145,10 @@ impl Core {
     ///
     /// From a core that stands for some events it makes one that stands for these and this one. What comes of it is
     /// what the definitions say of the event at the end of all of them: `Posted` exactly where the call waits, with
-    /// the number that the call has among its environment's calls at the thread. A refused event leaves all as it was,
-    /// save what an admitted call costs. Memory is taken for a `Trace` and a `Read` alone; 110 where it is wanting.
+    /// the number that the call has among its environment's calls at the thread. A refused event (clause `refused`)
+    /// leaves every thread, what waits at it, all words and all capabilities as they were, and every history too, save
+    /// the entry of an admitted call that the thread's own answer refuses; such a call, and an admitted stop or read,
+    /// still cost 1. Memory is taken for a `Trace` and a `Read` alone; 110 where it is wanting.
     pub fn step(&mut self, alloc: Global, event: Event) -> Outcome
         ensures limits { self.new.limits ≡ self.old.limits }
         ensures stands { (events : List Happening) → Stands events self.old → Stands (events ++ happening event (told_now result) ∷ []) self.new }
@@ -154,6 +157,7 @@ impl Core {
         ensures ticket { (events : List Happening) → Stands events self.old → IfPosted result (λ k. IsTicketBy self.old.limits events event k) }
         ensures fresh { IfPosted result (λ k. is_uncollected self.old k ≡ false) }
         ensures kept { (k : Ticket) → is_uncollected self.new k ≡ (is_uncollected self.old k || is_ticket_of result k) }
+        ensures refused { (events : List Happening) → Stands events self.old → is_refusal (told_now result) ≡ true → IsUnchanged self.old.limits events (happening event (told_now result)) }
     {
         self.follow(alloc, event)
     }

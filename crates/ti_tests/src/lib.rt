@@ -6,6 +6,8 @@
 #[cfg(test)]
 mod cores;
 #[cfg(test)]
+mod lists;
+#[cfg(test)]
 mod scripts;
 #[cfg(test)]
 mod streams;

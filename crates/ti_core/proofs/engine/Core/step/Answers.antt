@@ -4,6 +4,8 @@ use Rattle.ti_core.specs.Core.{CoreState, is_uncollected}
 use Rattle.ti_core.specs.Stands.{Stands}
 use Rattle.ti_core.proofs.ToldLaws.{steps}
 use Rattle.ti_core.proofs.KeptLaws.{kept_goes, posted_is, ticket_fresh, ticket_as}
+use Rattle.ti_core.specs.Refused.{is_refusal}
+use Rattle.ti_core.proofs.RefusedLaws.{refusals_keep}
 use Rattle.ti_core.proofs.engine.Core.step.Goals as goal
 
 pub returns-clause-stands : goal.returns-clause-stands
@@ -30,3 +32,9 @@ returns-clause-kept c = λ k.
     let r = c.follow.ensures.reached in
     ap (λ (z : CoreState). is_uncollected z k) c.follow.ensures.next ∙ kept_goes r.0 s w c.args.event k r.1
     ∙ ap (λ b. is_uncollected s k || b) (posted_is s h c.args.event c.follow.result k c.follow.ensures.told c.follow.ensures.ticket)
+
+pub returns-clause-refused : goal.returns-clause-refused
+returns-clause-refused c = λ events k r.
+    let h = happening c.args.event (told_now c.follow.result) in
+    let told = c.follow.ensures.told ∙ (steps events c.args.self.now h k).told in
+    refusals_keep c.args.self.now.limits events h (ap is_refusal (sym told) ∙ r)

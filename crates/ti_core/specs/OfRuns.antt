@@ -1,0 +1,71 @@
+-- Laws of what a run gives: they speak of the outcomes themselves.
+use Rattle.std.specs.Prelude.{ℤ, ◌≡◌, true, false, List, [], ◌∷◌, ◌++◌, length, map, take, Option, Some, is_none}
+use Rattle.ti_types.specs.declared.limits.Limits.{Limits}
+use Rattle.ti_types.specs.declared.numbers.EnvNo.{EnvNo}
+use Rattle.ti_types.specs.declared.numbers.ThreadNo.{ThreadNo}
+use Rattle.ti_types.specs.declared.call.Call.TheVariants.{GetWord}
+use Rattle.ti_types.specs.declared.event.Event.{Event}
+use Rattle.ti_types.specs.declared.event.Event.TheVariants.{Ask, Read}
+use Rattle.ti_types.specs.declared.event.Outcome.{Outcome}
+use Rattle.ti_types.specs.declared.event.Outcome.TheVariants as outcome
+use Rattle.ti_types.specs.declared.answer.Answer.TheVariants as answer
+use Rattle.ti_types.specs.Frames.{bare_trace}
+use Rattle.ti_types.specs.State.{bits_of}
+use Rattle.ti_replay.specs.Answers.{or_zero}
+use Rattle.ti_replay.specs.View.{view}
+use Rattle.ti_replay.specs.Admission.{Happening, dealings, refusal, is_own_of}
+use Rattle.ti_replay.specs.Agreement.{kept, kept_as, if_kept}
+use Rattle.ti_replay.specs.Events.{history_of, refused_or}
+use Rattle.ti_replay.specs.Outcomes.{outs, told_later, happening, happenings}
+use Rattle.ti_replay.specs.Standing.{is_standing, lets_go, was_refused}
+use Rattle.ti_replay.specs.Storage.{word_answer}
+
+-- what a run under these limits gives for these events
+abbrev pub IsRunOf : Limits → List Event → List (Option Outcome) → Type 0
+IsRunOf limits events os = map told_later os ≡ outs limits (happenings events os)
+
+-- the outcomes of those events that are kept for an environment and a thread
+abbrev pub picked_from : Limits → EnvNo → ThreadNo → List Happening → List Happening → List (Option Outcome) → List (Option Outcome)
+picked_from limits env thread front [] os = []
+picked_from limits env thread front (h ∷ hs) [] = []
+picked_from limits env thread front (h ∷ hs) (o ∷ os) =
+    if_kept (kept_as limits env thread front h) (told_later o) (picked_from limits env thread (front ++ h ∷ []) hs os)
+
+abbrev pub picked : Limits → EnvNo → ThreadNo → List Event → List (Option Outcome) → List (Option Outcome)
+picked limits env thread events os = picked_from limits env thread [] (happenings events os) os
+
+-- two runs under the same limits in which the same is kept for an environment and a thread: their outcomes at the
+-- events that are kept are equal
+abbrev pub RunsAgree : Type 0
+RunsAgree =
+    (limits : Limits) (env : EnvNo) (thread : ThreadNo) (one other : List Event) (os ps : List (Option Outcome)) →
+    IsRunOf limits one os → IsRunOf limits other ps →
+    kept limits env thread (happenings one os) ≡ kept limits env thread (happenings other ps) →
+    picked limits env thread one os ≡ picked limits env thread other ps
+
+-- a call for a word comes to its refusal before the thread, else to 15 where the thread has not started or has ended,
+-- else to the word that the environment set last
+abbrev pub WordsAreTold : Type 0
+WordsAreTold =
+    (limits : Limits) (env : EnvNo) (thread : ThreadNo) (before after : List Event) (os ps : List (Option Outcome)) (o : Option Outcome) →
+    length before ≡ length os → IsRunOf limits (before ++ Ask env thread GetWord ∷ after) (os ++ o ∷ ps) →
+    told_later o ≡ refused_or (refusal limits (dealings limits env thread (happenings before os)) (happening (Ask env thread GetWord) o))
+    (Some (outcome.Gave (word_answer (history_of limits thread (happenings before os)) env)))
+
+-- an event at a thread that was stopped at an earlier front of the events, and not let go since: one of its own is
+-- refused, and a read that is admitted tells of the mode and the frames at that front. The suspended flag may change
+pub record TellsOneState (limits : Limits) (env : EnvNo) (thread : ThreadNo) (front now : List Happening) (event : Event) (o : Option Outcome) : Type 0 where
+  pub own : is_own_of thread event ≡ true → was_refused (told_later o) ≡ true
+  pub reads : (max_count : ℤ) → event ≡ Read env thread max_count → is_none (refusal limits (dealings limits env thread now) (happening event o)) ≡ true
+      → told_later o
+      ≡ Some (outcome.Gave (answer.Stack (bits_of (view limits (history_of limits thread front)).mode (view limits (history_of limits thread now)).suspended)
+      (bare_trace (take (or_zero max_count) (view limits (history_of limits thread front)).frames))))
+
+-- from where an environment stands at a thread, and until it lets the thread go, all is of one state
+abbrev pub RunsTellOneState : Type 0
+RunsTellOneState =
+    (limits : Limits) (env : EnvNo) (thread : ThreadNo) (before more after : List Event) (event : Event)
+    (os ps qs : List (Option Outcome)) (o : Option Outcome) →
+    length before ≡ length os → length more ≡ length ps → IsRunOf limits ((before ++ more) ++ event ∷ after) ((os ++ ps) ++ o ∷ qs) →
+    is_standing limits (history_of limits thread (happenings before os)) env ≡ true → lets_go env thread (happenings more ps) ≡ false →
+    TellsOneState limits env thread (happenings before os) (happenings before os ++ happenings more ps) event o

@@ -1,0 +1,41 @@
+-- What a refused event leaves as it was.
+use Rattle.std.specs.Prelude.{◌≡◌, ◌<◌, Bool, true, false, if◌then◌else◌, List, [], ◌∷◌, ◌++◌, Option, Some}
+use Rattle.ti_types.specs.declared.limits.Limits.{Limits}
+use Rattle.ti_types.specs.declared.numbers.EnvNo.{EnvNo}
+use Rattle.ti_types.specs.declared.numbers.ThreadNo.{ThreadNo}
+use Rattle.ti_types.specs.declared.entry.Entry.{Entry}
+use Rattle.ti_types.specs.declared.entry.Entry.TheVariants as entry
+use Rattle.ti_types.specs.declared.event.Event.{Event}
+use Rattle.ti_types.specs.declared.event.Event.TheVariants as event
+use Rattle.ti_types.specs.declared.event.Outcome.{Outcome}
+use Rattle.ti_types.specs.declared.event.Outcome.TheVariants as outcome
+use Rattle.ti_types.specs.declared.answer.Answer.TheVariants as answer
+use Rattle.ti_replay.specs.Legal.{asked_by}
+use Rattle.ti_replay.specs.Settling.{unanswered}
+use Rattle.ti_replay.specs.View.{view}
+use Rattle.ti_replay.specs.Admission.{Happening, dealings}
+use Rattle.ti_replay.specs.Events.{history_of, reaches}
+use Rattle.ti_replay.specs.Outcomes.{env_word}
+
+-- whether an event was refused: a thread's own, or a call
+abbrev pub is_refusal : Option Outcome → Bool
+is_refusal (Some (outcome.Refused error)) = true
+is_refusal (Some (outcome.Gave (answer.Refused error))) = true
+is_refusal _ = false
+
+abbrev pub asked_entry : List Entry → Event → List Entry
+asked_entry history (event.Ask e t call) = entry.Asked e (asked_by e history) call ∷ []
+asked_entry history _ = []
+
+-- the entry of an admitted call at the thread
+abbrev pub asked_there : Limits → ThreadNo → List Happening → Happening → List Entry
+asked_there limits t events h = if reaches limits t events h then asked_entry (history_of limits t events) h.event else []
+
+-- no thread's mode, frames, suspended flag, stop or words change, nor which calls wait at it, nor its history but for
+-- the entry of an admitted call; and no environment's capabilities or word
+pub record IsUnchanged (limits : Limits) (events : List Happening) (h : Happening) : Type 0 where
+  pub views : (t : ThreadNo) → view limits (history_of limits t (events ++ h ∷ [])) ≡ view limits (history_of limits t events)
+  pub waiting : (t : ThreadNo) → unanswered (history_of limits t (events ++ h ∷ [])) ≡ unanswered (history_of limits t events)
+  pub histories : (t : ThreadNo) → history_of limits t (events ++ h ∷ []) ≡ history_of limits t events ++ asked_there limits t events h
+  pub caps : (e : EnvNo) → (t : ThreadNo) → e.0 < limits.envs → (dealings limits e t (events ++ h ∷ [])).caps ≡ (dealings limits e t events).caps
+  pub words : (e : EnvNo) → e.0 < limits.envs → env_word e (events ++ h ∷ []) ≡ env_word e events

@@ -1,0 +1,24 @@
+//! Laws of what `Core::run` gives: each function's contract is a law, whose statement is the definition of that name in
+//! `specs/`, and its body does nothing. What they take of a run is what its clause `outcomes` says.
+ghost use Rattle.ti_core.specs.OfRuns.{RunsAgree, WordsAreTold, RunsTellOneState};
+
+/// Two runs under the same limits that agree on an environment and a thread give equal outcomes at the events of the
+/// thread's own, at the environment's calls there and about its capabilities, and at the admitted calls of others there.
+///
+/// What agrees is the list of these events, with the marks of calls of the environment that were really refused for want
+/// of memory. Other threads, other environments' refused calls and calls elsewhere are in neither list.
+pub fn runs_agree()
+    ensures { RunsAgree }
+{}
+
+/// A `GetWord` in a run comes to its refusal before the thread, else to 15 where the thread has not started or has
+/// ended, else to the word that the environment set last there.
+pub fn words_are_told()
+    ensures { WordsAreTold }
+{}
+
+/// From where an environment stands at a thread until it lets the thread go, each event of the thread's own is refused,
+/// and each of the environment's admitted reads tells of the one mode and the frames; the suspended flag may change.
+pub fn runs_tell_one_state()
+    ensures { RunsTellOneState }
+{}

@@ -1,0 +1,141 @@
+ghost use Rattle.std.specs.Prelude.{◌≡◌, IfOk, IfErr};
+ghost use Rattle.ti_types.specs.declared.call.Call.TheVariants as call;
+ghost use Rattle.ti_types.specs.declared.event.Event.TheVariants as event;
+ghost use Rattle.ti_core.specs.Lists.{event_at, HappenedAtEach};
+
+use crate::engine::Core;
+use std::alloc::Global;
+use ti_types::{Call, EnvNo, Event, Outcome, ThreadNo, TiError};
+
+/// What is asked at each thread of a list.
+#[derive(Clone, Copy)]
+enum AtEach {
+    Suspend,
+    Resume,
+    Stop,
+    Read(i32),
+    Go,
+}
+
+impl AtEach {
+    fn event(self, env: EnvNo, thread: ThreadNo) -> Event
+        ensures { result ≡ event_at env self thread }
+    {
+        match self {
+            AtEach::Suspend => Event::Ask(env, thread, Call::Suspend),
+            AtEach::Resume => Event::Ask(env, thread, Call::Resume),
+            AtEach::Stop => Event::Stop(env, thread),
+            AtEach::Read(max_count) => Event::Read(env, thread, max_count),
+            AtEach::Go => Event::Go(env, thread),
+        }
+    }
+}
+
+impl Core {
+    /// One event for each thread, with the room for all outcomes made before the first.
+    fn each(
+        &mut self,
+        alloc: Global,
+        env: EnvNo,
+        asked: AtEach,
+        threads: &[ThreadNo],
+    ) -> Result<Vec<Outcome>, TiError>
+        ensures each { IfOk result (λ os. HappenedAtEach (event_at env asked) threads.now self.old self.new os.items) }
+        ensures memory { IfErr result (λ e. e ≡ TiError.OutOfMemory) }
+        ensures unchanged { IfErr result (λ e. self.new ≡ self.old) }
+    {
+        let mut outcomes = Vec::with_capacity(alloc, threads.len())?;
+        for thread in threads {
+            let outcome = self.step(alloc, asked.event(env, *thread));
+            match outcomes.push(outcome) {
+                Ok(()) => {}
+                Err(_) => unreachable!(),
+            }
+        }
+        Ok(outcomes)
+    }
+
+    /// SuspendThreadList (JVM TI 11): a `Suspend` at each thread of the list, in its order, each with its own outcome.
+    ///
+    /// What comes of each is what `step` gives on that one event behind those before it; an element that is refused
+    /// stops none behind it, and a repeated thread is asked again. 110 where memory for the list of outcomes is wanting;
+    /// then no event has happened and the core is as it was.
+    pub fn suspend_list(
+        &mut self,
+        alloc: Global,
+        env: EnvNo,
+        threads: &[ThreadNo],
+    ) -> Result<Vec<Outcome>, TiError>
+        ensures each { IfOk result (λ os. HappenedAtEach (λ t. event.Ask env t call.Suspend) threads.now self.old self.new os.items) }
+        ensures memory { IfErr result (λ e. e ≡ TiError.OutOfMemory) }
+        ensures unchanged { IfErr result (λ e. self.new ≡ self.old) }
+    {
+        self.each(alloc, env, AtEach::Suspend, threads)
+    }
+
+    /// ResumeThreadList (JVM TI 11): a `Resume` at each thread of the list, in its order, each with its own outcome.
+    ///
+    /// As for `suspend_list`.
+    pub fn resume_list(
+        &mut self,
+        alloc: Global,
+        env: EnvNo,
+        threads: &[ThreadNo],
+    ) -> Result<Vec<Outcome>, TiError>
+        ensures each { IfOk result (λ os. HappenedAtEach (λ t. event.Ask env t call.Resume) threads.now self.old self.new os.items) }
+        ensures memory { IfErr result (λ e. e ≡ TiError.OutOfMemory) }
+        ensures unchanged { IfErr result (λ e. self.new ≡ self.old) }
+    {
+        self.each(alloc, env, AtEach::Resume, threads)
+    }
+
+    /// A stop of this environment at each thread of the list, in its order, each with its own outcome (this profile).
+    ///
+    /// As for `suspend_list`. It doesn't wait: a thread that runs on is not `standing` yet.
+    pub fn stop_all(
+        &mut self,
+        alloc: Global,
+        env: EnvNo,
+        threads: &[ThreadNo],
+    ) -> Result<Vec<Outcome>, TiError>
+        ensures each { IfOk result (λ os. HappenedAtEach (λ t. event.Stop env t) threads.now self.old self.new os.items) }
+        ensures memory { IfErr result (λ e. e ≡ TiError.OutOfMemory) }
+        ensures unchanged { IfErr result (λ e. self.new ≡ self.old) }
+    {
+        self.each(alloc, env, AtEach::Stop, threads)
+    }
+
+    /// A read of at most so many of the newest frames under this environment's stop at each thread of the list, in its
+    /// order, each with its own outcome (this profile).
+    ///
+    /// As for `suspend_list`. Each read takes memory for its frames by itself: one that has none is 110 in its place.
+    pub fn read_all(
+        &mut self,
+        alloc: Global,
+        env: EnvNo,
+        threads: &[ThreadNo],
+        max_count: i32,
+    ) -> Result<Vec<Outcome>, TiError>
+        ensures each { IfOk result (λ os. HappenedAtEach (λ t. event.Read env t max_count) threads.now self.old self.new os.items) }
+        ensures memory { IfErr result (λ e. e ≡ TiError.OutOfMemory) }
+        ensures unchanged { IfErr result (λ e. self.new ≡ self.old) }
+    {
+        self.each(alloc, env, AtEach::Read(max_count), threads)
+    }
+
+    /// Lets each thread of the list go, in its order, each with its own outcome (this profile).
+    ///
+    /// As for `suspend_list`.
+    pub fn go_all(
+        &mut self,
+        alloc: Global,
+        env: EnvNo,
+        threads: &[ThreadNo],
+    ) -> Result<Vec<Outcome>, TiError>
+        ensures each { IfOk result (λ os. HappenedAtEach (λ t. event.Go env t) threads.now self.old self.new os.items) }
+        ensures memory { IfErr result (λ e. e ≡ TiError.OutOfMemory) }
+        ensures unchanged { IfErr result (λ e. self.new ≡ self.old) }
+    {
+        self.each(alloc, env, AtEach::Go, threads)
+    }
+}
