@@ -2,7 +2,13 @@ use std::alloc::Global;
 use std::io;
 use std::io::{Read, Write};
 use std::test::*;
-use ti_driver::{Fault, check};
+use ti_driver::{Fault, check, walk};
+
+/// A document of three events, and its text of 22 bytes.
+const WALK: &[u8] =
+    b"{\"limits\":{\"depth\":4,\"own\":32,\"calls\":8},\"threads\":[\"t0\",\"t1\"],\"agents\":[\"e\",\"f\"],\"methods\":[\"a\",\"b\",\"c\",\"n\"],\"events\":[[\"t0\",\"start\"],[\"e\",\"count\",\"t0\"],[\"t0\",\"poll\"]]}";
+
+const LINES: &[u8] = b"0 ok\n1 count 0\n2 went\n";
 
 const ILLEGAL: &[u8] =
     b"{\"format\":1,\"limits\":{\"depth\":4,\"own\":32,\"calls\":8},\"agents\":2,\"entries\":[[\"start\"],[\"asked\",0,0,\"suspend\"],[\"hand\",\"poll\"],[\"back\"]]}";
@@ -31,12 +37,8 @@ impl<'a> Read for Bytewise<'a> {
     }
 }
 
-fn make_bytewise(cut: Option<usize>) -> Bytewise<'static> {
-    Bytewise {
-        text: ILLEGAL,
-        at: 0,
-        cut,
-    }
+fn make_bytewise(text: &'static [u8], cut: Option<usize>) -> Bytewise<'static> {
+    Bytewise { text, at: 0, cut }
 }
 
 /// Takes at most so many bytes, one a call, and then fails, or takes none.
@@ -76,8 +78,16 @@ fn make_short(alloc: Global, most: usize, fails: bool) -> Short {
 #[test]
 fn a_slow_reader_changes_nothing(rt: HostRuntime) -> Result<(), Fail> {
     let mut out = Vec::new(rt.alloc());
-    assert!(rt; !check(rt.alloc(), &mut make_bytewise(None), &mut out)?);
+    assert!(rt; !check(rt.alloc(), &mut make_bytewise(ILLEGAL, None), &mut out)?);
     assert_eq!(rt; out.as_slice(), b"illegal 3\n".as_slice());
+    Ok(())
+}
+
+#[test]
+fn a_slow_reader_changes_no_walk(rt: HostRuntime) -> Result<(), Fail> {
+    let mut out = Vec::new(rt.alloc());
+    walk(rt.alloc(), &mut make_bytewise(WALK, None), &mut out)?;
+    assert_eq!(rt; out.as_slice(), LINES);
     Ok(())
 }
 
@@ -85,7 +95,12 @@ fn a_slow_reader_changes_nothing(rt: HostRuntime) -> Result<(), Fail> {
 fn a_failing_reader_is_a_fault_at_once(rt: HostRuntime) -> Result<(), Fail> {
     let mut out = Vec::new(rt.alloc());
     assert_eq!(rt;
-        check(rt.alloc(), &mut make_bytewise(Some(10)), &mut out),
+        check(rt.alloc(), &mut make_bytewise(ILLEGAL, Some(10)), &mut out),
+        Err(Fault::Read)
+    );
+    assert!(rt; out.is_empty());
+    assert_eq!(rt;
+        walk(rt.alloc(), &mut make_bytewise(WALK, Some(10)), &mut out),
         Err(Fault::Read)
     );
     assert!(rt; out.is_empty());
@@ -99,7 +114,7 @@ fn a_failing_writer_holds_a_prefix(rt: HostRuntime) -> Result<(), Fail> {
         for fails in [false, true] {
             let mut out = make_short(rt.alloc(), most, fails);
             assert_eq!(rt;
-                check(rt.alloc(), &mut make_bytewise(None), &mut out),
+                check(rt.alloc(), &mut make_bytewise(ILLEGAL, None), &mut out),
                 Err(Fault::Write)
             );
             assert_eq!(rt;
@@ -110,7 +125,29 @@ fn a_failing_writer_holds_a_prefix(rt: HostRuntime) -> Result<(), Fail> {
         }
     }
     let mut out = make_short(rt.alloc(), 10, true);
-    assert!(rt; !check(rt.alloc(), &mut make_bytewise(None), &mut out)?);
+    assert!(rt; !check(rt.alloc(), &mut make_bytewise(ILLEGAL, None), &mut out)?);
     assert_eq!(rt; out.got.as_slice(), text.as_slice());
+    Ok(())
+}
+
+#[test]
+fn a_failing_writer_holds_a_prefix_of_a_walk(rt: HostRuntime) -> Result<(), Fail> {
+    for most in 0..22 {
+        for fails in [false, true] {
+            let mut out = make_short(rt.alloc(), most, fails);
+            assert_eq!(rt;
+                walk(rt.alloc(), &mut make_bytewise(WALK, None), &mut out),
+                Err(Fault::Write)
+            );
+            assert_eq!(rt;
+                out.got.as_slice(),
+                LINES.get(..most).ok_or("too long")?,
+                "at {most}"
+            );
+        }
+    }
+    let mut out = make_short(rt.alloc(), 22, true);
+    walk(rt.alloc(), &mut make_bytewise(WALK, None), &mut out)?;
+    assert_eq!(rt; out.got.as_slice(), LINES);
     Ok(())
 }
