@@ -1,14 +1,18 @@
 #!/usr/bin/env python3
 """Runs `tiwalk` on each example with the first allocation refused, then with the second alone, and so on.
 
-Each run has to end with status 3, `tiwalk: memory` and nothing written, or to write what the example writes, where in
-a walk at most one line of a trace or a read is `error 110` instead. The last line is 'N passed, M failed'.
+Each run has to end with status 3, `tiwalk: memory` and nothing written, or with the example's status and text, where in
+a walk the line of at most one `trace` or `read` is `error 110` instead. The last line is 'N passed, M failed'.
 
-    ci/refused_memory.py [PROGRAM]        crates/tiwalk/out/tiwalk by default: `make run` builds it
+    ci/refused_memory.py [PROGRAM [DOCUMENT..]]        crates/tiwalk/out/tiwalk by default: `make run` builds it
+
+Documents in place of the examples are files NAME with the text beside them, in NAME with the last suffix `.out`. One
+with a member `entries` is given to `tiwalk check`.
 
 It needs a C compiler, for a small library that stands between the program and the C library's allocator.
 """
 
+import json
 import os
 import pathlib
 import subprocess
@@ -46,36 +50,51 @@ def run(program, arguments, document, shim, refused, folder):
     return done, int(count.read_text())
 
 
-def is_right(done, expected):
+def takes_memory(document, index):
+    """Whether the event of that index is one whose answer takes memory."""
+    return document["events"][index][1] in ("trace", "read")
+
+
+def is_right(document, done, ample):
+    """Whether a run with one allocation refused ended as it may, given the run with none refused."""
     if done.returncode == 3:
         return done.stdout == b"" and done.stderr == b"tiwalk: memory\n"
-    lines, wanted = done.stdout.split(b"\n"), expected.split(b"\n")
-    changed = [(a, b) for a, b in zip(lines, wanted) if a != b]
-    return len(lines) == len(wanted) and len(changed) <= 1 and all(
-        a.endswith(b" error 110") and b.split(b" ")[1] in (b"trace", b"stack", b"error") for a, b in changed
+    lines, wanted = done.stdout.split(b"\n"), ample.stdout.split(b"\n")
+    if (done.returncode, done.stderr, len(lines)) != (ample.returncode, ample.stderr, len(wanted)):
+        return False
+    changed = [n for n in range(len(lines)) if lines[n] != wanted[n]]
+    return len(changed) <= 1 and all(
+        lines[n] == b"%d error 110" % n and takes_memory(document, n) for n in changed
     )
+
+
+def refuse_each(program, path, shim, folder):
+    """The number of allocations of a run, and those of them that were refused with another end than they may have."""
+    data = path.read_bytes()
+    document = json.loads(data)
+    arguments = ["check"] if "entries" in document else []
+    ample, allocations = run(program, arguments, data, shim, 0, folder)
+    wrong = []
+    for refused in range(1, allocations + 1):
+        done, _ = run(program, arguments, data, shim, refused, folder)
+        if ample.stdout != path.with_suffix(".out").read_bytes() or not is_right(document, done, ample):
+            wrong.append(refused)
+            print(f"{path.name}: allocation {refused} of {allocations}: status {done.returncode}, {done.stdout!r}")
+    return allocations, wrong
 
 
 def main():
     program = os.path.abspath(sys.argv[1] if len(sys.argv) > 1 else "crates/tiwalk/out/tiwalk")
+    documents = [pathlib.Path(name) for name in sys.argv[2:]] or sorted(pathlib.Path("examples").glob("*.json"))
     passed = failed = 0
     with tempfile.TemporaryDirectory() as name:
         folder = pathlib.Path(name)
         source, shim = folder / "shim.c", folder / "shim.so"
         source.write_text(SHIM)
         subprocess.run(["cc", "-shared", "-fPIC", "-O1", "-o", shim, source, "-ldl"], check=True)
-        for example in sorted(pathlib.Path("examples").glob("*.json")):
-            expected = example.with_suffix(".out").read_bytes()
-            arguments = ["check"] if "history" in example.stem else []
-            done, allocations = run(program, arguments, example.read_bytes(), shim, 0, folder)
-            ample = done.stdout == expected
-            for refused in range(1, allocations + 1):
-                done, _ = run(program, arguments, example.read_bytes(), shim, refused, folder)
-                if ample and is_right(done, expected):
-                    passed += 1
-                else:
-                    failed += 1
-                    print(f"{example.name}: allocation {refused} of {allocations}: status {done.returncode}, {done.stdout!r}")
+        for path in documents:
+            allocations, wrong = refuse_each(program, path, shim, folder)
+            passed, failed = passed + allocations - len(wrong), failed + len(wrong)
     print(f"{passed} passed, {failed} failed")
     return 1 if failed or not passed else 0
 
