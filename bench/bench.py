@@ -53,17 +53,17 @@ def mixed(part):
 
 
 def deep(part):
-    """One thread near depth 4,096, and traces of 64 of its frames."""
-    depth = 4096 // part
-    events = [["t", "start"]] + [["t", "enter", "m"] for _ in range(depth)]
+    """One thread that goes near depth 4,096, and 8,192 traces of its 256 oldest frames, eight at each poll."""
+    events = [["t", "start"]] + [["t", "enter", "m"] for _ in range(4090 // part)]
     for turn in range(1024 // part):
-        events += [[agent, "trace", "t", (turn * 61) % depth, 64] for agent in AGENTS[:4]] + [["t", "poll"]]
+        events += [[agent, "trace", "t", -256, 256] for agent in AGENTS]
+        events += [["t", "at", turn]] * 51 + [["t", "poll"]]
     return walk({"depth": 4096, "own": 65536, "calls": 1024}, ["t"], AGENTS, ["m"], events)
 
 
 def waiting(part):
-    """8 agents with as many waiting calls as they may have at each of 4 running threads, answered by one poll each."""
-    threads = [f"t{n}" for n in range(4)]
+    """8 agents with the 1,024 waiting calls that each may have at each of 7 running threads, answered by one poll each."""
+    threads = [f"t{n}" for n in range(7)]
     events = [[thread, "start"] for thread in threads]
     for thread in threads:
         events += [[agent, "count", thread] for _ in range(1024 // part) for agent in AGENTS]
@@ -76,34 +76,42 @@ def history(entries):
     return {"format": 1, "limits": limits, "agents": 8, "entries": entries}
 
 
-def legal(part):
-    """A legal history in which each budget is used up: waiting calls with a poll each, stops, and steps."""
-    calls = 1024 // part
-    entries = [["start"]]
-    for number in range(calls // 2):
-        for env in range(8):
-            entries += [["asked", env, number, "count"], ["hand", "poll"], ["back"]]
-    for _ in range(calls // 2):
-        for env in range(8):
-            entries += [["stop", env], ["hand", "poll"], ["go", env], ["back"]]
-    entries += [["enter", 0], ["leave"]] * (65536 // part // 2)
-    return history(entries + [["end"]])
+def steps(part):
+    """All own steps that a thread has, and its end."""
+    return [["enter", 0], ["leave"]] * (65536 // part // 2) + [["end"]]
+
+
+def longest(part):
+    """The longest legal history, of 98,306 entries: each environment spends its calls on stops, which leave four each."""
+    stops = [
+        entry
+        for _ in range(1024 // part)
+        for env in range(8)
+        for entry in (["stop", env], ["hand", "poll"], ["go", env], ["back"])
+    ]
+    return history([["start"]] + stops + steps(part))
 
 
 def illegal(part):
     """The same, with an end too many."""
-    document = legal(part)
-    document["entries"].append(["end"])
-    return document
+    return history(longest(part)["entries"] + [["end"]])
 
 
-def longest(part):
-    """As many entries as a document may have, all legal but for what the budgets refuse."""
-    return history(legal(1)["entries"][:-1] + [["leave"]] * 262144)["entries"][: 262144 // part]
+def asked(part):
+    """A legal history in which each environment spends its calls on questions, all asked at once and answered by one
+    hand-over for each 64 of them."""
+    entries = [["start"]]
+    for number in range(1024 // part):
+        entries += [["asked", env, number, "count"] for env in range(8)]
+        if number % 8 == 7:
+            entries += [["hand", "poll"], ["back"]]
+    return history(entries + steps(part))
 
 
-def long_history(part):
-    return history(longest(part))
+def greatest(part):
+    """As many entries as a document may have. At half the size and at the whole they are more than a legal history has:
+    illegal where the own steps are used up."""
+    return history((longest(1)["entries"][:-1] + [["leave"]] * 262144)[: 262144 // part])
 
 
 def run(program, arguments, path):
@@ -125,9 +133,10 @@ DOCUMENTS = (
     ("mixed walk", mixed, []),
     ("deep traces", deep, []),
     ("waiting calls", waiting, []),
-    ("legal history", legal, ["check"]),
-    ("illegal history", illegal, ["check"]),
-    ("long history", long_history, ["check"]),
+    ("longest history", longest, ["check"]),
+    ("one end more", illegal, ["check"]),
+    ("asked history", asked, ["check"]),
+    ("262,144 entries", greatest, ["check"]),
 )
 
 
