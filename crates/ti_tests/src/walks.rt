@@ -67,8 +67,8 @@ fn each_environment_has_its_words(rt: HostRuntime) -> Result<(), Fail> {
 fn traces_are_of_the_frames_at_the_hand_over(rt: HostRuntime) -> Result<(), Fail> {
     expect_walk(
         &rt,
-        "{\"limits\":{\"depth\":8,\"own\":32,\"calls\":16},\"threads\":[\"t0\"],\"agents\":[\"e\"],\"methods\":[\"main\",\"run\",\"copy\"],\"events\":[[\"t0\",\"start\"],[\"t0\",\"enter\",\"main\"],[\"t0\",\"at\",12],[\"t0\",\"enter\",\"run\"],[\"e\",\"trace\",\"t0\",0,9],[\"t0\",\"at\",7],[\"t0\",\"poll\"],[\"t0\",\"enter_native\",\"copy\"],[\"e\",\"trace\",\"t0\",1,1],[\"e\",\"trace\",\"t0\",-1,5],[\"e\",\"location\",\"t0\",0],[\"t0\",\"native\"],[\"e\",\"trace\",\"t0\",0,2],[\"e\",\"trace\",\"t0\",3,1],[\"e\",\"trace\",\"t0\",0,0],[\"e\",\"location\",\"t0\",3],[\"e\",\"state\",\"t0\"]]}",
-        "0 ok\n1 ok\n2 ok\n3 ok\n4 trace run@7 main@12\n5 ok\n6 went\n7 ok\n8 trace run@7\n9 trace main@12\n10 location copy@-1\n11 ok\n12 trace copy@-1 run@7\n13 error 103\n14 trace\n15 error 31\n16 state 0x400005\n",
+        "{\"limits\":{\"depth\":8,\"own\":32,\"calls\":16},\"threads\":[\"t0\"],\"agents\":[\"e\"],\"methods\":[\"main\",\"run\",\"copy\"],\"events\":[[\"t0\",\"start\"],[\"t0\",\"enter\",\"main\"],[\"t0\",\"at\",12],[\"t0\",\"enter\",\"run\"],[\"e\",\"trace\",\"t0\",0,9],[\"e\",\"count\",\"t0\"],[\"t0\",\"at\",7],[\"t0\",\"poll\"],[\"t0\",\"enter_native\",\"copy\"],[\"e\",\"trace\",\"t0\",1,1],[\"e\",\"trace\",\"t0\",-1,5],[\"e\",\"location\",\"t0\",0],[\"t0\",\"native\"],[\"e\",\"trace\",\"t0\",0,2],[\"e\",\"trace\",\"t0\",3,1],[\"e\",\"trace\",\"t0\",0,0],[\"e\",\"location\",\"t0\",3],[\"e\",\"state\",\"t0\"]]}",
+        "0 ok\n1 ok\n2 ok\n3 ok\n4 trace run@7 main@12\n5 count 2\n6 ok\n7 went\n8 ok\n9 trace run@7\n10 trace main@12\n11 location copy@-1\n12 ok\n13 trace copy@-1 run@7\n14 error 103\n15 trace\n16 error 31\n17 state 0x400005\n",
     )
 }
 
