@@ -1,25 +1,10 @@
 -- The text of a fault and the status that it ends with.
 use Rattle.std.specs.Prelude.{ℕ, List, ◌++◌, codes, decimal}
-use Rattle.ti_script.specs.declared.fault.LimitName.{LimitName}
-use Rattle.ti_script.specs.declared.fault.LimitName.TheVariants as limit
+use Rattle.ti_script.specs.LimitNames.{limit_text}
 use Rattle.ti_script.specs.declared.fault.ScriptFault.{ScriptFault}
 use Rattle.ti_script.specs.declared.fault.ScriptFault.TheVariants as script
 use Rattle.ti_driver.specs.declared.fault.Fault.{Fault}
 use Rattle.ti_driver.specs.declared.fault.Fault.TheVariants.{Script, Memory, Read, Write, Cell, Usage}
-
-abbrev pub limit_text : LimitName → List ℕ
-limit_text limit.Input = codes "input"
-limit_text limit.Depth = codes "depth"
-limit_text limit.Own = codes "own"
-limit_text limit.Calls = codes "calls"
-limit_text limit.Threads = codes "threads"
-limit_text limit.Agents = codes "agents"
-limit_text limit.Methods = codes "methods"
-limit_text limit.Events = codes "events"
-limit_text limit.Walks = codes "walks"
-limit_text limit.CallsList = codes "calls_list"
-limit_text limit.Entries = codes "entries"
-limit_text limit.Format = codes "format"
 
 abbrev pub script_text : ScriptFault → List ℕ
 script_text script.Json = codes "json"

@@ -1,33 +1,14 @@
 ghost use Rattle.std.specs.Prelude.{◌≡◌, ◌++◌, OnOk, IfErr, decimal};
 ghost use Rattle.std.specs.Io.KnownBytes.{Appends};
 ghost use Rattle.ti_driver.specs.declared.fault.Fault.TheVariants.{Write as NotWritten};
-ghost use Rattle.ti_driver.specs.Faults.{limit_text, script_text, fault_text, fault_line};
+ghost use Rattle.ti_driver.specs.Faults.{script_text, fault_text, fault_line};
 ghost use Rattle.ti_driver.specs.Streams.{TakesFront};
 
 use crate::fault::Fault;
 use crate::output::write_whole;
 use itoa::Buffer;
 use std::io::Write;
-use ti_script::{LimitName, ScriptFault};
-
-fn limit_text(which: LimitName) -> &'static str
-    ensures { result.now ≡ limit_text which }
-{
-    match which {
-        LimitName::Input => "input",
-        LimitName::Depth => "depth",
-        LimitName::Own => "own",
-        LimitName::Calls => "calls",
-        LimitName::Threads => "threads",
-        LimitName::Agents => "agents",
-        LimitName::Methods => "methods",
-        LimitName::Events => "events",
-        LimitName::Walks => "walks",
-        LimitName::CallsList => "calls_list",
-        LimitName::Entries => "entries",
-        LimitName::Format => "format",
-    }
-}
+use ti_script::ScriptFault;
 
 #[tactic(auto, using(crate::proofs::StreamLaws::fronts))]
 fn put_two<W: Write>(writer: &mut W, first: &[u8], second: &[u8]) -> Result<(), Fault>
@@ -57,9 +38,7 @@ fn put_script_text<W: Write>(writer: &mut W, fault: &ScriptFault) -> Result<(), 
         ScriptFault::Json => write_whole(writer, b"json"),
         ScriptFault::Shape { item } => put_numbered(writer, "shape at item ", u64::from(*item)),
         ScriptFault::Name { item } => put_numbered(writer, "name at item ", u64::from(*item)),
-        ScriptFault::Limit { which } => {
-            put_two(writer, b"limit ", limit_text(*which).as_bytes())
-        }
+        ScriptFault::Limit { which } => { put_two(writer, b"limit ", which.text().as_bytes()) }
         ScriptFault::Memory => write_whole(writer, b"memory"),
     }
 }

@@ -7,3 +7,4 @@ pub mod Walks
 pub mod Texts
 pub mod Entries
 pub mod Histories
+pub mod LimitNames

@@ -1,3 +1,6 @@
+ghost use Rattle.std.specs.Prelude.{◌≡◌};
+ghost use Rattle.ti_script.specs.LimitNames.{limit_text};
+
 use std::alloc::{AllocError, AllocFailed};
 use std::fmt;
 use thiserror::Error;
@@ -20,9 +23,12 @@ pub enum LimitName {
     Format,
 }
 
-impl fmt::Display for LimitName {
-    fn fmt<W: fmt::Write>(&self, f: &mut fmt::Formatter<W>) -> fmt::Result {
-        let name = match self {
+impl LimitName {
+    /// The limit's name in a document.
+    pub fn text(self) -> &'static str
+        ensures { result.now ≡ limit_text self }
+    {
+        match self {
             LimitName::Input => "input",
             LimitName::Depth => "depth",
             LimitName::Own => "own",
@@ -35,8 +41,18 @@ impl fmt::Display for LimitName {
             LimitName::CallsList => "calls_list",
             LimitName::Entries => "entries",
             LimitName::Format => "format",
-        };
-        write!(f, "{name}")
+        }
+    }
+}
+
+impl fmt::Display for LimitName {
+    ghost use Rattle.std.specs.Prelude.{Some};
+    ghost use Rattle.ti_script.specs.LimitNames.{limit_text};
+
+    ghost output = { λ which. Some (limit_text which) };
+
+    fn fmt<W: fmt::Write>(&self, f: &mut fmt::Formatter<W>) -> fmt::Result {
+        f.write_str(self.text())
     }
 }
 
