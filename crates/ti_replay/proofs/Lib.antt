@@ -34,3 +34,4 @@ pub mod StorageReplies
 pub mod LifeLaws
 pub mod WordAnswers
 pub mod StopLaws
+pub mod MakerLaws

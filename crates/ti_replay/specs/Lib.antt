@@ -19,3 +19,4 @@ pub mod Tickets
 pub mod LateTickets
 pub mod Outcomes
 pub mod Storage
+pub mod Makers

@@ -4,6 +4,7 @@ ghost use Rattle.ti_replay.specs.Laws.{WordIsLast, HistoryIsBounded, HistoryIsLe
 ghost use Rattle.ti_replay.specs.Agreement.{TellsTheKept};
 ghost use Rattle.ti_replay.specs.LateSteps.{StepsMayBeLate};
 ghost use Rattle.ti_replay.specs.LateTickets.{StepsComeLate, StepsStayLegal, TicketIsPlace};
+ghost use Rattle.ti_replay.specs.Makers.{ModeIsOwn, OwnCostsAreOwn, CallCostsAreItsOwn, NumbersAreItsOwn};
 ghost use Rattle.ti_replay.specs.Standing.{StandsStill, OneStateUnderAStop};
 ghost use Rattle.ti_replay.specs.Storage.{WordsReplyAlike, WordIsGiven, EnvWordsFollowTheirCalls};
 
@@ -96,4 +97,16 @@ pub fn env_words_follow_their_calls()
 /// thread's own is accepted, its mode and frames stay, and all reads of the environment tell of the one mode and frames.
 pub fn one_state_under_a_stop()
     ensures { OneStateUnderAStop }
+{}
+
+/// What mode a thread is in, and what it has spent, its own entries say alone.
+pub fn own_entries_say_the_mode()
+    ensures mode { ModeIsOwn }
+    ensures costs { OwnCostsAreOwn }
+{}
+
+/// What an environment has spent at a thread, and the number of its next call there, its own entries say alone.
+pub fn environments_count_apart()
+    ensures costs { CallCostsAreItsOwn }
+    ensures numbers { NumbersAreItsOwn }
 {}
