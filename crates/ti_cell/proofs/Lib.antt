@@ -1,0 +1,4 @@
+pub mod Entries
+pub mod Bits
+pub mod Steps
+pub mod Goes

@@ -1,0 +1,4 @@
+pub mod View
+pub mod Word
+pub mod Rule
+pub mod Seats

@@ -1,0 +1,78 @@
+-- The rule of a cell, and what each step tells.
+use Rattle.std.specs.Prelude.{ℕ, ◌≡◌, ◌≢◌, ◌≤◌, Bool, true, false, List, [], ◌∷◌, length, Option, Some}
+use mathlib.Core.Option.{some, none}
+use mathlib.Core.Option as maybe
+use lib.ListN.{get_elem?}
+use Rattle.atomic_table.specs.Table.{State, Me, Step}
+use Rattle.ti_types.specs.declared.entry.Entry.{Entry}
+use Rattle.ti_replay.specs.Legal.{is_legal}
+use Rattle.ti_slot.specs.Thread.{Thread}
+use Rattle.ti_cell.specs.declared.view.Subject.{Subject}
+use Rattle.ti_cell.specs.declared.view.View.{View}
+use Rattle.ti_replay.specs.Makers.{made_by, StartsWith}
+use Rattle.ti_cell.specs.View.{IsAbout, holding, stored, glanced}
+use Rattle.ti_cell.specs.Word.{word_of, look_of, IsLook}
+
+abbrev pub Each : {A : Type 0} → (A → Type 0) → List A → Type 0
+Each P [] = Unit {0}
+Each P (x ∷ xs) = P x × Each P xs
+
+-- what the seat j knows of the history, where `count` seats were made
+pub record Knows (subject : Subject) (history : List Entry) (count j : ℕ) (v : View) : Type 0 where
+  pub numbered : v.number ≡ j
+  pub made : j ≡ 0 → v.made ≡ count
+  pub about : v.subject ≡ subject
+  pub begins : StartsWith history v.seen
+  pub all_mine : v.mine ≡ made_by j history
+  pub looks : Each (IsLook subject.limits history) v.looked
+
+-- at most the holder holds, while the lock bit is set, and it has seen the history
+abbrev pub Holds : List Entry → Bool → ℕ → ℕ → View → Type 0
+Holds history locked holder j v = v.holds ≡ true → (locked ≡ true) × (j ≡ holder) × (v.seen ≡ history)
+
+-- the slot with this history is at its place where the lock bit is clear; where it is set the place is the holder's
+abbrev pub Placed : Subject → List Entry → Bool → List (maybe.Option (Option Thread)) → Type 0
+Placed subject history false homes = (t : Thread) × (homes ≡ some (Some t) ∷ []) × (t.history ≡ history) × IsAbout subject t
+Placed subject history true homes = homes ≡ none ∷ []
+
+-- where the lock bit is set there is a seat that holds
+abbrev pub Held : Bool → ℕ → List View → Type 0
+Held false holder views = Unit {0}
+Held true holder views = (v : View) × (get_elem? views holder ≡ some v) × (v.holds ≡ true)
+
+-- There is one legal history, whose length and bits the word has. Seats are numbered as they were made, and a number
+-- from there on has no entry
+pub record Kept (subject : Subject) (s : State (Option Thread) View) : Type 0 where
+  pub history : List Entry
+  pub locked : Bool
+  pub holder : ℕ
+  pub legal : is_legal subject.limits history ≡ true
+  pub word : s.words ≡ word_of subject.limits locked history ∷ []
+  pub placed : Placed subject history locked s.homes
+  pub held : Held locked holder s.views
+  pub knows : (j : ℕ) (v : View) → get_elem? s.views j ≡ some v → Knows subject history (length s.views) j v
+  pub holds : (j : ℕ) (v : View) → get_elem? s.views j ≡ some v → Holds history locked holder j v
+  pub unmade : (n : ℕ) → length s.views ≤ n → made_by n history ≡ []
+
+abbrev Mine : Type 0
+Mine = Me (Option Thread) View
+
+-- the slot that is taken: its history is legal, begins with what was seen, and has of the seat's number just the entries
+-- that were made from it
+pub record IsTaken (v : View) (t : Thread) : Type 0 where
+  pub legal : is_legal v.subject.limits t.history ≡ true
+  pub begins : StartsWith t.history v.seen
+  pub all_mine : v.mine ≡ made_by v.number t.history
+  pub about : IsAbout v.subject t
+
+-- the lock bit was set by this step, and the slot is out; or nothing changed
+abbrev pub locks : Step (Option Thread) → Mine → ℕ → Mine → Type 0
+locks st m found m' = (found ≡ st.first → (t : Thread) × (m' ≡ (holding m.0 t.history, (0, Some t) ∷ m.1)) × IsTaken m.0 t) × (found ≢ st.first → m' ≡ m)
+
+-- the slot is back, and its history was seen
+abbrev pub frees : Step (Option Thread) → Mine → ℕ → Mine → Type 0
+frees st m found m' = (t : Thread) → m.1 ≡ (0, Some t) ∷ [] → (m' ≡ (stored m.0 t.history, [])) × ((stored m.0 t.history).mine ≡ made_by m.0.number t.history)
+
+-- the word was read; as many entries as were seen, or more, were counted
+abbrev pub glances : Step (Option Thread) → Mine → ℕ → Mine → Type 0
+glances st m found m' = (m' ≡ (glanced m.0 (look_of found), m.1)) × (length m.0.seen ≤ (look_of found).count)

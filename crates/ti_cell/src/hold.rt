@@ -1,0 +1,54 @@
+ghost use Rattle.std.specs.Prelude.{◌≡◌, true};
+ghost use Rattle.ti_replay.specs.Legal.{is_legal};
+ghost use Rattle.ti_replay.specs.Makers.{made_by, Adds, StartsWith};
+ghost use Rattle.ti_cell.specs.View.{stored, IsAbout};
+
+use crate::cell::ThreadCell;
+use crate::seat::{CellSeat, Pass};
+use std::marker::{Model, PhantomData};
+use ti_slot::Slot;
+
+/// The slot, taken out of its cell. It has to be stored: to let go of it is a compile error.
+///
+/// Contracts see it as the cell, its seat's view, and the slot.
+pub struct Hold<'a, K> {
+    pub(crate) cell: &'a ThreadCell,
+    pub(crate) seat: Pass,
+    pub(crate) slot: Slot,
+    pub(crate) role: PhantomData<K>,
+}
+
+impl<'a, K> Model for Hold<'a, K> {
+    ghost use Rattle.std.specs.Prelude.{◌≡◌, [], ◌∷◌, true, None};
+    ghost use Rattle.ti_cell.specs.Seats.{Holding};
+
+    ghost Value = { Holding };
+
+    ghost view = { λ h. record { cell = h.cell.now; view = h.seat.me.0; slot = h.slot } };
+
+    ghost invariant = { λ h. (h.seat.table_id ≡ h.cell.now) × (h.seat.me.1 ≡ (0, None) ∷ []) × (h.seat.me.0.holds ≡ true) };
+}
+
+impl<'a, K> Hold<'a, K> {
+    /// Puts the slot back, clears the lock bit, and gives the seat back, which has now seen the slot's history.
+    ///
+    /// The slot is the one that was held, and all that was added to its history since is of this seat's number.
+    pub fn store(self) -> CellSeat<K>
+        requires adds { Adds self.view.number self.view.seen self.slot.history }
+        requires about { IsAbout self.view.subject self.slot }
+        ensures cell { result.cell ≡ self.entry.cell }
+        ensures view { result.view ≡ stored self.entry.view self.entry.slot.history }
+        ensures legal { is_legal result.view.subject.limits result.view.seen ≡ true }
+        ensures begins { StartsWith result.view.seen self.entry.view.seen }
+        ensures mine { result.view.mine ≡ made_by result.view.number result.view.seen }
+    {
+        let Hold {
+            cell,
+            mut seat,
+            slot,
+            role,
+        } = self;
+        cell.give(&mut seat, slot);
+        CellSeat { seat, role }
+    }
+}

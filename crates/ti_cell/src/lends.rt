@@ -1,0 +1,22 @@
+//! `slot` has a file of its own: its clause names the row of `Hold`, which the file that declares `Hold` cannot import.
+ghost use Rattle.std.specs.Prelude.{◌≡◌, []};
+ghost use Rattle.std.specs.Borrow.{sem, follows};
+ghost use mir.Syntax.{named};
+ghost use Rattle.ti_slot.specs.contracts.slot.Slot as slot_contracts;
+ghost use Rattle.ti_cell.specs.contracts.hold.Hold.{the_row};
+ghost use Rattle.ti_cell.specs.Seats.{with_slot};
+
+use crate::hold::Hold;
+use ti_slot::Slot;
+
+impl<'a, K> Hold<'a, K> {
+    /// The slot that is held: what is done to it is done to the cell's.
+    // The borrow checker reads this `follows` only if the row gives the cell's lifetime as `named 1`, its number in this
+    // signature.
+    pub fn slot(&mut self) -> &mut Slot
+        ensures* writes_back { sem 𝓛 (follows (the_row (record { mir = named 1; lft = [] }) K.row) slot_contracts.the_row self.entry.ghost_name result.ghost_name (with_slot self.old)) }
+        ensures value { result.now ≡ self.old.slot }
+    {
+        &mut self.slot
+    }
+}

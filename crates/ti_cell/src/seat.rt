@@ -1,0 +1,52 @@
+ghost use Rattle.std.specs.Prelude.{◌≡◌, true};
+ghost use Rattle.ti_replay.specs.Legal.{is_legal};
+ghost use Rattle.ti_replay.specs.Makers.{made_by};
+
+use crate::view::View;
+use atomic_table::Seat;
+use std::marker::{Model, PhantomData};
+use ti_slot::Slot;
+
+/// A seat of the table below.
+pub(crate) type Pass = Seat<Option<Slot>, View>;
+
+/// The role of the thread itself.
+pub struct Own;
+
+/// The role of an environment.
+pub struct Env;
+
+pub type OwnSeat = CellSeat<Own>;
+
+pub type EnvSeat = CellSeat<Env>;
+
+/// A seat of a cell, in the role `K`: what one user of the cell knows. It has no bytes, and is moved to where its user
+/// runs. Contracts see it as its cell and a `View`.
+#[derive(Drop)]
+pub struct CellSeat<K> {
+    pub(crate) seat: Pass,
+    pub(crate) role: PhantomData<K>,
+}
+
+impl<K> Model for CellSeat<K> {
+    ghost use Rattle.std.specs.Prelude.{◌≡◌, [], true, false};
+    ghost use Rattle.ti_replay.specs.Legal.{is_legal};
+    ghost use Rattle.ti_replay.specs.Makers.{made_by};
+    ghost use Rattle.ti_cell.specs.Seats.{Sitting};
+
+    ghost Value = { Sitting };
+
+    ghost view = { λ s. record { cell = s.seat.table_id; view = s.seat.me.0 } };
+
+    ghost invariant = { λ s. (s.seat.me.1 ≡ []) × (s.seat.me.0.holds ≡ false) × (is_legal s.seat.me.0.subject.limits s.seat.me.0.seen ≡ true) × (s.seat.me.0.mine ≡ made_by s.seat.me.0.number s.seat.me.0.seen) };
+}
+
+impl<K> CellSeat<K> {
+    /// What is always true of a seat: what was seen is legal, and has of the seat's entries just those that it made.
+    pub fn facts(&self)
+        ensures legal { is_legal self.now.view.subject.limits self.now.view.seen ≡ true }
+        ensures mine { self.now.view.mine ≡ made_by self.now.view.number self.now.view.seen }
+    {
+        let _ = &self.seat;
+    }
+}

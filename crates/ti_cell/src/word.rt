@@ -1,0 +1,50 @@
+ghost use Rattle.std.specs.Prelude.{◌≡◌, ◌+◌, ◌^◌, ◌<◌, ◌≤◌, ◌%◌, ◌==◌, false};
+ghost use Rattle.ti_cell.specs.Word.{word_at, look_of};
+
+use crate::look::Look;
+
+/// A cell's word: the lock bit, then the armed bit, the barred bit, and the number of entries.
+#[derive(Clone, Copy)]
+pub struct Word {
+    pub bits: u64,
+}
+
+impl Word {
+    /// The word of a cell that nobody holds.
+    pub fn free(count: usize, armed: bool, barred: bool) -> Word
+        requires count { count ≤ 2 ^ 32 }
+        ensures bits { result.bits ≡ word_at count barred armed false }
+    {
+        Word {
+            bits: 8 * count as u64 + 4 * u64::from(barred) + 2 * u64::from(armed),
+        }
+    }
+
+    /// Whether nobody holds the cell.
+    pub fn is_free(self) -> bool
+        ensures free { result ≡ (self.bits % 2 == 0) }
+    {
+        self.bits % 2 == 0
+    }
+
+    /// The same word with the lock bit, which is clear.
+    pub fn locked(self) -> Word
+        requires free { self.bits % 2 ≡ 0 }
+        ensures bits { result.bits ≡ self.bits + 1 }
+    {
+        Word {
+            bits: self.bits + 1,
+        }
+    }
+
+    /// What the word shows.
+    pub fn look(self) -> Look
+        ensures look { result ≡ look_of self.bits }
+    {
+        Look {
+            armed: self.bits / 2 % 2 == 1,
+            barred: self.bits / 4 % 2 == 1,
+            count: self.bits / 8,
+        }
+    }
+}
