@@ -2,7 +2,9 @@
 """Runs `tiwalk` on each example with the first allocation refused, then with the second alone, and so on.
 
 Each run has to end with status 3, `tiwalk: memory` and nothing written, or with the example's status and text, where in
-a walk the line of at most one `trace` or `read` is `error 110` instead. The last line is 'N passed, M failed'.
+a walk the line of at most one `trace` or `read` is `error 110` instead. The last line is 'N passed, M failed'. (A trace
+that is refused does not wait, so in each example something else waits too at the poll that would answer it: no other
+line depends on it.)
 
     ci/refused_memory.py [PROGRAM [DOCUMENT..]]        crates/tiwalk/out/tiwalk by default: `make run` builds it
 
