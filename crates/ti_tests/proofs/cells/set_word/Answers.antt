@@ -1,5 +1,4 @@
-use Rattle.std.proofs.Common.{◌≡◌, ℕ, ◌+◌, List, [], ◌∷◌, ◌++◌, arith, sym, ap, ◌∙◌}
-use Rattle.ti_types.specs.declared.entry.Entry.{Entry}
+use Rattle.std.proofs.Common.{◌≡◌, ◌+◌, [], ◌∷◌, ◌++◌, arith, ap, ◌∙◌}
 use Rattle.ti_types.specs.declared.call.Call.TheVariants.{SetWord}
 use Rattle.ti_replay.specs.Legal.{calls_spent}
 use Rattle.ti_slot.specs.Thread.{Thread, next_asked}

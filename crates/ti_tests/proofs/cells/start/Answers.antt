@@ -1,4 +1,4 @@
-use Rattle.std.proofs.Common.{List, [], append-nil, sym, ap, ◌∙◌}
+use Rattle.std.proofs.Common.{[], append-nil, sym, ap, ◌∙◌}
 use Rattle.ti_slot.specs.Thread.{Thread}
 use Rattle.ti_cell.specs.declared.view.View.{View}
 use Rattle.ti_tests.proofs.cells.start.Goals as goal
