@@ -1,6 +1,6 @@
 # `make run` builds the program and runs it on a first example. `make test` is the whole gate.
 # `make examples`, `make bench` and `make refused` run the program that `make run` has built: on the examples, on large
-# documents, and with each allocation refused in turn.
+# documents, and with each allocation refused in turn (there the tests of a core too).
 .PHONY: run test examples bench refused
 
 run:
@@ -18,3 +18,4 @@ bench:
 
 refused:
 	python3 ci/refused_memory.py
+	python3 ci/refused_tests.py

@@ -10,6 +10,8 @@ mod cores;
 #[cfg(test)]
 mod lists;
 #[cfg(test)]
+mod memory;
+#[cfg(test)]
 mod scripts;
 #[cfg(test)]
 mod streams;
