@@ -1,0 +1,233 @@
+//! `tiholds HOW`: environments hold a thread's cell, each 1,024 times in each of 256 rounds, and set their word by each
+//! hold. HOW is `one`, `two` or `four`, for so many threads at one cell, or `apart`, for four threads at a cell each.
+//! It writes nothing. The status is 0, or 1 where memory is wanting, and 2 for other arguments. `bench/cells.py` times it.
+//!
+//! It stands on `ti_cell`, and nothing stands on it.
+#![tactic(auto)]
+
+ghost use Rattle.std.specs.Prelude.{ℕ, ◌≡◌, ◌+◌, ◌-◌, ◌<◌, ◌≤◌, IfSome};
+ghost use Rattle.ti_cell.specs.View.{subject_of};
+ghost use Rattle.ti_cell.specs.Seats.{env_seats};
+ghost use Rattle.tiholds.specs.Ready.{IsReady};
+
+use std::alloc::Global;
+use std::env;
+use std::process::ExitCode;
+use std::rt::Env;
+use std::sync::Wait;
+use std::thread::{Threads, join};
+use ti_cell::{EnvSeat, ThreadCell};
+use ti_types::{Call, EnvNo, Limits, ThreadNo, TraceBuf};
+
+/// How often an environment holds a cell in a round: as often as it may call.
+const HOLDS: u32 = 1024;
+
+const ROUNDS: u32 = 256;
+
+/// Who holds which cell.
+#[derive(Clone, Copy)]
+enum Crowd {
+    One,
+    Two,
+    Four,
+    Apart,
+}
+
+/// Sets an environment's word by one hold.
+fn set_word<R: Wait>(rt: &R, cell: &ThreadCell, seat: EnvSeat, env: EnvNo, word: u64) -> EnvSeat
+    requires ready { IsReady cell.now env 1 seat }
+    ensures ready { (left : ℕ) → IsReady cell.now env (left + 1) seat → IsReady cell.now env left result }
+{
+    let mut hold = cell.hold(rt, seat);
+    let _asked = hold.slot().ask(env, Call::SetWord(word), TraceBuf::none());
+    hold.store()
+}
+
+/// Holds the cell as often as the environment may call.
+fn hold_often<R: Wait>(rt: &R, cell: &ThreadCell, seat: EnvSeat, env: EnvNo)
+    requires ready { IsReady cell.now env 1024 seat }
+{
+    let mut seat = seat;
+    for i in 0..HOLDS {
+        seat = set_word(rt, cell, seat, env, u64::from(i));
+    }
+}
+
+/// Two environments hold the cell at once.
+fn by_two<R: Threads + Wait + Sync>(
+    rt: &R,
+    cell: &ThreadCell,
+    first: EnvNo,
+    one: EnvSeat,
+    second: EnvNo,
+    two: EnvSeat,
+)
+    requires one { IsReady cell.now first 1024 one }
+    requires two { IsReady cell.now second 1024 two }
+{
+    join(
+        rt,
+        move || -> ()
+            requires { IsReady cell.now first 1024 one }
+        { hold_often(rt, cell, one, first) },
+        move || -> ()
+            requires { IsReady cell.now second 1024 two }
+        { hold_often(rt, cell, two, second) },
+    );
+}
+
+/// The seats of the first two environments of four, and of the other two.
+fn pairs(
+    cell: &ThreadCell,
+    limits: Limits,
+    seats: Vec<EnvSeat>,
+) -> Option<((EnvSeat, EnvSeat), (EnvSeat, EnvSeat))>
+    requires seats { seats.items ≡ env_seats cell.now (subject_of limits (record { 0 = 0 })) 4 }
+    requires envs { limits.envs ≡ 4 }
+    requires calls { limits.calls ≡ 1024 }
+    ensures front { IfSome result (λ s. IsReady cell.now (record { 0 = 0 }) 1024 s.0.0 × IsReady cell.now (record { 0 = 1 }) 1024 s.0.1) }
+    ensures back { IfSome result (λ s. IsReady cell.now (record { 0 = 2 }) 1024 s.1.0 × IsReady cell.now (record { 0 = 3 }) 1024 s.1.1) }
+{
+    let _cell = cell;
+    let _limits = limits;
+    let mut seats = seats;
+    let four = seats.pop()?;
+    let three = seats.pop()?;
+    let two = seats.pop()?;
+    let one = seats.pop()?;
+    Some(((one, two), (three, four)))
+}
+
+/// One thread at a new cell. `None` where memory is wanting, here and below.
+fn one<R: Wait>(rt: &R, alloc: Global, limits: Limits) -> Option<()>
+    requires envs { limits.envs ≡ 4 }
+    requires calls { limits.calls ≡ 1024 }
+{
+    let Ok((cell, _own, seats)) = ThreadCell::make(alloc, limits, ThreadNo(0)) else {
+        return None;
+    };
+    let ((one, _two), _others) = pairs(&cell, limits, seats)?;
+    hold_often(rt, &cell, one, EnvNo(0));
+    Some(())
+}
+
+/// Two threads at a new cell.
+fn two<R: Threads + Wait + Sync>(rt: &R, alloc: Global, limits: Limits) -> Option<()>
+    requires envs { limits.envs ≡ 4 }
+    requires calls { limits.calls ≡ 1024 }
+{
+    let Ok((cell, _own, seats)) = ThreadCell::make(alloc, limits, ThreadNo(0)) else {
+        return None;
+    };
+    let ((one, two), _others) = pairs(&cell, limits, seats)?;
+    by_two(rt, &cell, EnvNo(0), one, EnvNo(1), two);
+    Some(())
+}
+
+/// Four environments hold the cell at once.
+fn by_four<R: Threads + Wait + Sync>(
+    rt: &R,
+    cell: &ThreadCell,
+    front: (EnvSeat, EnvSeat),
+    back: (EnvSeat, EnvSeat),
+)
+    requires front { IsReady cell.now (record { 0 = 0 }) 1024 front.0 × IsReady cell.now (record { 0 = 1 }) 1024 front.1 }
+    requires back { IsReady cell.now (record { 0 = 2 }) 1024 back.0 × IsReady cell.now (record { 0 = 3 }) 1024 back.1 }
+{
+    join(
+        rt,
+        move || -> ()
+            requires { IsReady cell.now (record { 0 = 0 }) 1024 front.0 × IsReady cell.now (record { 0 = 1 }) 1024 front.1 }
+        { by_two(rt, cell, EnvNo(0), front.0, EnvNo(1), front.1) },
+        move || -> ()
+            requires { IsReady cell.now (record { 0 = 2 }) 1024 back.0 × IsReady cell.now (record { 0 = 3 }) 1024 back.1 }
+        { by_two(rt, cell, EnvNo(2), back.0, EnvNo(3), back.1) },
+    );
+}
+
+/// Four threads at a new cell.
+fn four<R: Threads + Wait + Sync>(rt: &R, alloc: Global, limits: Limits) -> Option<()>
+    requires envs { limits.envs ≡ 4 }
+    requires calls { limits.calls ≡ 1024 }
+{
+    let Ok((cell, _own, seats)) = ThreadCell::make(alloc, limits, ThreadNo(0)) else {
+        return None;
+    };
+    let (front, back) = pairs(&cell, limits, seats)?;
+    by_four(rt, &cell, front, back);
+    Some(())
+}
+
+/// Two threads at a new cell each.
+fn two_apart<R: Threads + Wait + Sync>(rt: &R, alloc: Global, limits: Limits) -> Option<()>
+    requires envs { limits.envs ≡ 4 }
+    requires calls { limits.calls ≡ 1024 }
+{
+    let (a, b) = join(
+        rt,
+        || -> Option<()>
+            requires { (limits.envs ≡ 4) × (limits.calls ≡ 1024) }
+        { one(rt, alloc, limits) },
+        || -> Option<()>
+            requires { (limits.envs ≡ 4) × (limits.calls ≡ 1024) }
+        { one(rt, alloc, limits) },
+    );
+    a?;
+    b
+}
+
+/// Four threads at a new cell each.
+fn four_apart<R: Threads + Wait + Sync>(rt: &R, alloc: Global, limits: Limits) -> Option<()>
+    requires envs { limits.envs ≡ 4 }
+    requires calls { limits.calls ≡ 1024 }
+{
+    let (a, b) = join(
+        rt,
+        || -> Option<()>
+            requires { (limits.envs ≡ 4) × (limits.calls ≡ 1024) }
+        { two_apart(rt, alloc, limits) },
+        || -> Option<()>
+            requires { (limits.envs ≡ 4) × (limits.calls ≡ 1024) }
+        { two_apart(rt, alloc, limits) },
+    );
+    a?;
+    b
+}
+
+/// All rounds.
+fn rounds<R: Threads + Wait + Sync>(rt: &R, alloc: Global, crowd: Crowd) -> Option<()> {
+    let limits = Limits::new(1, 4, 1, 1, HOLDS)?;
+    for _ in 0..ROUNDS {
+        match crowd {
+            Crowd::One => one(rt, alloc, limits)?,
+            Crowd::Two => two(rt, alloc, limits)?,
+            Crowd::Four => four(rt, alloc, limits)?,
+            Crowd::Apart => four_apart(rt, alloc, limits)?,
+        }
+    }
+    Some(())
+}
+
+/// What the one argument asks for.
+fn asked_crowd<R: Env + AllocGlobal>(rt: &R) -> Option<Crowd> {
+    let mut words = env::args(rt).ok()?;
+    let _program = words.next();
+    let word = words.next()?;
+    match word.as_str() {
+        "one" => Some(Crowd::One),
+        "two" => Some(Crowd::Two),
+        "four" => Some(Crowd::Four),
+        "apart" => Some(Crowd::Apart),
+        _ => None,
+    }
+}
+
+fn main(rt: HostRuntime) -> ExitCode {
+    let Some(crowd) = asked_crowd(&rt) else {
+        return ExitCode::from(2);
+    };
+    match rounds(&rt, rt.alloc(), crowd) {
+        Some(()) => ExitCode::from(0),
+        None => ExitCode::from(1),
+    }
+}
