@@ -2,8 +2,8 @@
 """Times holds of cells by `tiholds`: one cell by 1, 2 and 4 threads, and four cells by four threads.
 
 For each it prints the holds of all threads in one second of wall time (the best of five runs; each hold sets one word).
-A cell takes 1,024 calls of an environment, so a run makes 256 cells, or four times as many, one after another, and
-starts its threads at each: their starts are part of the time, and most of it where cells are not shared.
+A cell takes 1,024 calls of an environment, so each thread goes through 256 cells, one after another. Threads that share
+a cell are started at each cell, and their starts are part of the time; those that share none are started once.
 
     bench/cells.py [PROGRAM]        crates/tiholds/out/tiholds by default: `rt run` in crates/tiholds builds it
 """

@@ -111,6 +111,17 @@ fn one<R: Wait>(rt: &R, alloc: Global, limits: Limits) -> Option<()>
     Some(())
 }
 
+/// All rounds of one thread, each at a new cell.
+fn alone<R: Wait>(rt: &R, alloc: Global, limits: Limits) -> Option<()>
+    requires envs { limits.envs ≡ 4 }
+    requires calls { limits.calls ≡ 1024 }
+{
+    for _ in 0..ROUNDS {
+        one(rt, alloc, limits)?;
+    }
+    Some(())
+}
+
 /// Two threads at a new cell.
 fn two<R: Threads + Wait + Sync>(rt: &R, alloc: Global, limits: Limits) -> Option<()>
     requires envs { limits.envs ≡ 4 }
@@ -158,7 +169,7 @@ fn four<R: Threads + Wait + Sync>(rt: &R, alloc: Global, limits: Limits) -> Opti
     Some(())
 }
 
-/// Two threads at a new cell each.
+/// All rounds of two threads that share no cell.
 fn two_apart<R: Threads + Wait + Sync>(rt: &R, alloc: Global, limits: Limits) -> Option<()>
     requires envs { limits.envs ≡ 4 }
     requires calls { limits.calls ≡ 1024 }
@@ -167,16 +178,16 @@ fn two_apart<R: Threads + Wait + Sync>(rt: &R, alloc: Global, limits: Limits) ->
         rt,
         || -> Option<()>
             requires { (limits.envs ≡ 4) × (limits.calls ≡ 1024) }
-        { one(rt, alloc, limits) },
+        { alone(rt, alloc, limits) },
         || -> Option<()>
             requires { (limits.envs ≡ 4) × (limits.calls ≡ 1024) }
-        { one(rt, alloc, limits) },
+        { alone(rt, alloc, limits) },
     );
     a?;
     b
 }
 
-/// Four threads at a new cell each.
+/// All rounds of four threads that share no cell.
 fn four_apart<R: Threads + Wait + Sync>(rt: &R, alloc: Global, limits: Limits) -> Option<()>
     requires envs { limits.envs ≡ 4 }
     requires calls { limits.calls ≡ 1024 }
@@ -197,15 +208,22 @@ fn four_apart<R: Threads + Wait + Sync>(rt: &R, alloc: Global, limits: Limits) -
 /// All rounds.
 fn rounds<R: Threads + Wait + Sync>(rt: &R, alloc: Global, crowd: Crowd) -> Option<()> {
     let limits = Limits::new(1, 4, 1, 1, HOLDS)?;
-    for _ in 0..ROUNDS {
-        match crowd {
-            Crowd::One => one(rt, alloc, limits)?,
-            Crowd::Two => two(rt, alloc, limits)?,
-            Crowd::Four => four(rt, alloc, limits)?,
-            Crowd::Apart => four_apart(rt, alloc, limits)?,
+    match crowd {
+        Crowd::One => alone(rt, alloc, limits),
+        Crowd::Two => {
+            for _ in 0..ROUNDS {
+                two(rt, alloc, limits)?;
+            }
+            Some(())
         }
+        Crowd::Four => {
+            for _ in 0..ROUNDS {
+                four(rt, alloc, limits)?;
+            }
+            Some(())
+        }
+        Crowd::Apart => four_apart(rt, alloc, limits),
     }
-    Some(())
 }
 
 /// What the one argument asks for.
