@@ -6,6 +6,7 @@ use ti_types::{
 };
 
 const E: EnvNo = EnvNo(0);
+
 const T: ThreadNo = ThreadNo(0);
 
 /// A core in which thread 0 is in native code with one native frame, and environment 0 may suspend.

@@ -8,8 +8,11 @@ use ti_types::{
 };
 
 const E: EnvNo = EnvNo(0);
+
 const F: EnvNo = EnvNo(1);
+
 const T: ThreadNo = ThreadNo(0);
+
 const U: ThreadNo = ThreadNo(1);
 
 fn limits() -> Result<Limits, Fail> {
