@@ -1,6 +1,6 @@
 # `make run` builds the program and runs it on a first example. `make test` is the whole gate.
 # `make examples`, `make bench` and `make refused` run the program that `make run` has built: on the examples, on large
-# documents, and with each allocation refused in turn (there the tests of a core too).
+# documents (and a program that holds cells), and with each allocation refused in turn (and the tests of a core so).
 .PHONY: run test examples bench refused
 
 run:
@@ -15,6 +15,8 @@ examples:
 
 bench:
 	python3 bench/bench.py
+	cd crates/tiholds && rt run
+	python3 bench/cells.py
 
 refused:
 	python3 ci/refused_memory.py

@@ -68,15 +68,15 @@ fn is_as_before(core: &mut Core, alloc: Global) -> bool {
         )
 }
 
-/// How many calls environment 0 may still ask of thread 0, by asking all of them.
+/// How many calls environment 0 may still ask of thread 0, by asking until one is refused: at most 8.
 fn calls_left(core: &mut Core, alloc: Global) -> u32 {
-    let mut left = 0;
-    for _ in 0..8 {
-        if let Outcome::Gave(Answer::Word(_)) = core.step(alloc, Event::Ask(E, T, Call::GetWord)) {
-            left += 1;
-        }
+    for left in 0..8 {
+        let Outcome::Gave(Answer::Word(_)) = core.step(alloc, Event::Ask(E, T, Call::GetWord))
+        else {
+            return left;
+        };
     }
-    left
+    8
 }
 
 #[test]
@@ -133,15 +133,17 @@ fn a_refused_read_leaves_the_others(rt: HostRuntime) -> Result<(), Fail> {
     match core.read_all(alloc, E, &[T, U], 4) {
         Ok(outcomes) => {
             assert_eq!(rt; outcomes.len(), 2);
-            let mut refused = 0;
+            let mut refused = false;
             for outcome in &outcomes {
                 match outcome {
                     Outcome::Gave(Answer::Stack { .. }) => {}
-                    Outcome::Gave(Answer::Refused(TiError::OutOfMemory)) => refused += 1,
+                    Outcome::Gave(Answer::Refused(TiError::OutOfMemory)) => {
+                        assert!(rt; !refused);
+                        refused = true;
+                    }
                     _ => return Err("a stopped thread is read, or memory is wanting".into()),
                 }
             }
-            assert!(rt; refused <= 1);
         }
         Err(error) => assert_eq!(rt; error, TiError::OutOfMemory),
     }
