@@ -1,5 +1,6 @@
 ghost use Rattle.std.specs.Prelude.{◌≡◌, ◌≤◌, ◌+◌, ◌++◌, [], length, List, Some, None, IfSome, MatchOption, false, true, min};
 ghost use Rattle.std.specs.List.{fold, list_all};
+ghost use Rattle.ti_types.specs.declared.numbers.EnvNo.{EnvNo};
 ghost use Rattle.ti_types.specs.declared.place.Frame.{Frame};
 ghost use Rattle.ti_types.specs.Answer.{said};
 ghost use Rattle.ti_replay.specs.Answers.{answer_of, stack_of, first_of_trace, trace_from, or_zero as or_zero_of};
@@ -32,22 +33,20 @@ fn trace(frames: &Frames, start: i32, most: u32, buf: TraceBuf) -> Answer
     }
 }
 
-/// What a thread with these frames answers to a call that reads them.
+/// What a thread with these frames answers to a call that waits for them, whoever asks.
 fn answer_by_frames(
     condition: &Condition,
     frames: &Frames,
     limits: &Limits,
-    env: EnvNo,
     call: Call,
     buf: TraceBuf,
 ) -> Answer
     requires waits { waits_is call ≡ true }
     requires depth { frames.now.depth ≡ limits.now.depth }
     requires buf { IsBufferOf limits.now call buf }
-    ensures { said result ≡ answer_of (view_of condition.now frames.now.frames) env call }
+    ensures { (env : EnvNo) → said result ≡ answer_of (view_of condition.now frames.now.frames) env call }
 {
     let _limits = *limits;
-    let _env = env;
     if !is_alive(condition.mode) {
         return Answer::Refused(TiError::ThreadNotAlive);
     }
@@ -109,7 +108,7 @@ pub fn answer(
 {
     if waits(call) {
         let Some(frames) = frames else { unreachable!() };
-        answer_by_frames(condition, frames, limits, env, call, buf)
+        answer_by_frames(condition, frames, limits, call, buf)
     } else {
         answer_at_once(condition, env, call)
     }
@@ -145,7 +144,7 @@ pub fn serve(condition: &mut Condition, frames: &Frames, limits: &Limits, ops: &
 {
     while let Some(p) = ops.take_first() {
         let Pending { ticket, call, buf } = p;
-        let answer = answer_by_frames(condition, frames, limits, ticket.env, call, buf);
+        let answer = answer_by_frames(condition, frames, limits, call, buf);
         take_call(condition, ticket.env, call);
         ops.deliver(ticket, answer);
     }

@@ -26,7 +26,7 @@ loop-p-preserved c =
     let df : d.fates ≡ with_fate p.ticket (Told a) o.fates = ap (λ (z : Ops). z.fates) c.deliver.ensures ∙ ap (with_fate p.ticket (Told a)) fr in
     let cv : view_of c.take_call.new.condition fs ≡ called w p.ticket.env p.call = c.take_call.ensures fs in
     let apart = subst AreApart ew k.apart in
-    let s = one_served w p r.waiting o.fates a (subst (AreAwaited o.fates) ew k.awaited) apart c.answer_by_frames-answer.ensures in
+    let s = one_served w p r.waiting o.fates a (subst (AreAwaited o.fates) ew k.awaited) apart (c.answer_by_frames-answer.ensures p.ticket.env) in
     record {
       ready = rw dw (subst (AreReady c.args.limits.now) ew k.ready).1;
       calls = grind (arith, ew, dw, k.calls);
