@@ -5,40 +5,16 @@ ghost use Rattle.std.specs.Str.{bytes_eq};
 ghost use Rattle.serde_json.specs.View.{view};
 ghost use Rattle.ti_types.specs.declared.event.Event.TheVariants.{Ask};
 ghost use Rattle.ti_types.specs.declared.call.Call.TheVariants.{Trace, Location, SetWord};
-ghost use Rattle.ti_script.specs.Events.{thread, signed, word, row, thread_table, ask_table, service_table, agent_table, row_event, word_event, event_in};
+ghost use Rattle.ti_script.specs.Events.{thread, signed, word, row, ask_table, agent_table, row_event, word_event, event_in};
 
-use crate::element::{caps_of, kind_in, method_in, number_in, signed_in, thread_in, word_in};
+use crate::element::{signed_in, thread_in, word_in};
 use crate::fault::ScriptFault;
 use crate::names::Cast;
+use crate::own_event::thread_event;
+use crate::service_event::service_event;
 use crate::tree::array_in;
 use serde_json::Value;
-use ti_types::{Call, EnvNo, Event, Step, ThreadNo};
-
-fn thread_event(
-    cast: &Cast,
-    item: u32,
-    thread: ThreadNo,
-    text: &str,
-    rest: &[Value],
-) -> Result<Event, ScriptFault>
-    ensures { result ≡ word_event cast.now item (thread_table thread) text.now (map view rest.now) }
-{
-    match (text, rest) {
-        ("start", []) => Ok(Event::Start(thread)),
-        ("enter", [method]) => Ok(Event::Own(thread, Step::Enter(method_in(cast, item, method)?))),
-        ("enter_native", [method]) => {
-            Ok(Event::Own(thread, Step::EnterNative(method_in(cast, item, method)?)))
-        }
-        ("at", [place]) => Ok(Event::Own(thread, Step::At(number_in(cast, item, place)?))),
-        ("leave", []) => Ok(Event::Own(thread, Step::Leave)),
-        ("poll", []) => Ok(Event::Poll(thread)),
-        ("native", []) => Ok(Event::ToNative(thread)),
-        ("block", [kind]) => Ok(Event::ToBlocked(thread, kind_in(cast, item, kind)?)),
-        ("back", []) => Ok(Event::Back(thread)),
-        ("end", []) => Ok(Event::End(thread)),
-        _ => Err(ScriptFault::Shape { item }),
-    }
-}
+use ti_types::{Call, EnvNo, Event, ThreadNo};
 
 /// A call with nothing but its thread.
 fn plain_ask(
@@ -116,33 +92,6 @@ fn ask_event(
         "get" => Some(plain_ask(cast, item, agent, Call::GetWord, rest)),
         "set" => Some(set_ask(cast, item, agent, rest)),
         _ => None,
-    }
-}
-
-/// The event of a word for stops, capabilities and the environment's own word.
-fn service_event(
-    cast: &Cast,
-    item: u32,
-    agent: EnvNo,
-    text: &str,
-    rest: &[Value],
-) -> Result<Event, ScriptFault>
-    ensures { result ≡ word_event cast.now item (service_table agent) text.now (map view rest.now) }
-{
-    match (text, rest) {
-        ("stop", [thread]) => Ok(Event::Stop(agent, thread_in(cast, item, thread)?)),
-        ("read", [thread, max_count]) => {
-            let thread = thread_in(cast, item, thread)?;
-            let max_count = signed_in(cast, item, max_count)?;
-            Ok(Event::Read(agent, thread, max_count))
-        }
-        ("go", [thread]) => Ok(Event::Go(agent, thread_in(cast, item, thread)?)),
-        ("add", [caps]) => Ok(Event::AddCaps(agent, caps_of(cast, item, caps)?)),
-        ("relinquish", [caps]) => Ok(Event::Relinquish(agent, caps_of(cast, item, caps)?)),
-        ("caps", []) => Ok(Event::GetCaps(agent)),
-        ("setenv", [word]) => Ok(Event::SetEnvWord(agent, word_in(cast, item, word)?)),
-        ("getenv", []) => Ok(Event::GetEnvWord(agent)),
-        _ => Err(ScriptFault::Shape { item }),
     }
 }
 
