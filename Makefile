@@ -8,6 +8,7 @@ run:
 
 test:
 	sh ci/must_not_compile.sh
+	python3 ci/examples.py --tested
 	rt ci
 
 examples:
