@@ -57,9 +57,13 @@ impl Core {
 
     /// SuspendThreadList (JVM TI 11): a `Suspend` at each thread of the list, in its order, each with its own outcome.
     ///
-    /// What comes of each is what `step` gives on that one event behind those before it; an element that is refused
-    /// stops none behind it, and a repeated thread is asked again. 110 where memory for the list of outcomes is wanting;
-    /// then no event has happened and the core is as it was.
+    /// What comes of each is what `step` gives on that one event behind those before it: 116 where there is no such
+    /// environment, 99 where it does not hold can_suspend, 10 where there is no such thread, 209 where no call is left
+    /// there; then done, 15 at a thread that is not alive, 14 at one that is suspended, or its ticket where the thread
+    /// runs. An element that is refused stops none behind it, and a repeated thread is asked again.
+    ///
+    /// 110 for the whole call where memory for the list of outcomes is wanting: then no event has happened, and the
+    /// core is as it was.
     pub fn suspend_list(
         &mut self,
         alloc: Global,
@@ -75,7 +79,7 @@ impl Core {
 
     /// ResumeThreadList (JVM TI 11): a `Resume` at each thread of the list, in its order, each with its own outcome.
     ///
-    /// As for `suspend_list`.
+    /// As for `suspend_list`, with 13 at a thread that is not suspended in place of 14; a resumption does not wait.
     pub fn resume_list(
         &mut self,
         alloc: Global,
@@ -91,7 +95,8 @@ impl Core {
 
     /// A stop of this environment at each thread of the list, in its order, each with its own outcome (this profile).
     ///
-    /// As for `suspend_list`. It doesn't wait: a thread that runs on is not `standing` yet.
+    /// As for `suspend_list`, with 116, 10, 209, and 211 where a stop stands. It doesn't wait: a thread that runs is
+    /// not `standing` before its next hand-over.
     pub fn stop_all(
         &mut self,
         alloc: Global,
@@ -108,7 +113,8 @@ impl Core {
     /// A read of at most so many of the newest frames under this environment's stop at each thread of the list, in its
     /// order, each with its own outcome (this profile).
     ///
-    /// As for `suspend_list`. Each read takes memory for its frames by itself: one that has none is 110 in its place.
+    /// As for `suspend_list`, with 116, 10, 103 where `max_count` is negative, 209, 110 where memory for the frames of
+    /// that read is wanting, 212 where the environment's stop does not stand, and 213 where the thread still runs.
     pub fn read_all(
         &mut self,
         alloc: Global,
@@ -125,7 +131,7 @@ impl Core {
 
     /// Lets each thread of the list go, in its order, each with its own outcome (this profile).
     ///
-    /// As for `suspend_list`.
+    /// As for `suspend_list`, with 116, 10, and 212 where the environment's stop does not stand.
     pub fn go_all(
         &mut self,
         alloc: Global,
