@@ -1,5 +1,5 @@
 -- What the word shows.
-use Rattle.std.proofs.Common.{◌≡◌, ℕ, ◌+◌, ◌*◌, ◌/◌, ◌%◌, ◌<◌, List, length, Bool, true, false, refl, sym, ap, subst, arith}
+use Rattle.std.proofs.Common.{◌≡◌, ◌≢◌, ℕ, ◌+◌, ◌*◌, ◌/◌, ◌%◌, ◌<◌, List, length, Bool, true, false, refl, sym, ap, subst, arith}
 use Rattle.std.specs.Prelude.{nat_eq}
 use Rattle.std.proofs.Math.Seq.{take-length}
 use Rattle.ti_types.specs.declared.entry.Entry.{Entry}
@@ -46,6 +46,10 @@ counts limits locked history = ap (λ (l : Look). l.count) (looks_at (length his
 pub even_is_free : (limits : Limits) (locked : Bool) (history : List Entry) → word_of limits locked history % 2 ≡ 0 → locked ≡ false
 even_is_free limits false history e = refl
 even_is_free limits true history e = let odd = lock_bit (length history) (bit (bars limits history)) (bit (is_armed limits history)) 1 (omega arith) in absurd (omega arith)
+
+pub odd_is_locked : (limits : Limits) (locked : Bool) (history : List Entry) → word_of limits locked history % 2 ≢ 0 → locked ≡ true
+odd_is_locked limits true history e = refl
+odd_is_locked limits false history e = absurd (e (lock_bit (length history) (bit (bars limits history)) (bit (is_armed limits history)) 0 (omega arith)))
 
 pub locked_is_more : (limits : Limits) (history : List Entry) → word_of limits false history + 1 ≡ word_of limits true history
 locked_is_more limits history = more (length history) (bit (bars limits history)) (bit (is_armed limits history))

@@ -1,4 +1,5 @@
 pub mod Entries
 pub mod Bits
 pub mod Steps
+pub mod Ends
 pub mod Goes

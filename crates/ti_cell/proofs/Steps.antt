@@ -334,23 +334,3 @@ opens subject t empty about = record {
     none_holds : (j : ℕ) (u : View) → get_elem? (newcomer subject 0 1 ∷ []) j ≡ some u → Holds [] false 0 j u
     none_holds zero u e = λ h. absurd (true≢false (sym h ∙ ap (λ (x : View). x.holds) (sym (some-injective _ _ e))))
     none_holds (suc j) u e = absurd (some-ne-none u (sym e))
-
--- At the end, no step
-
-pub closes : (subject : Subject) (id : ℕ) (v : View) (words : List ℕ) (slots : List Spot) (word : ℕ) (slot : Spot) → Final (Seen (Kept subject) id v) words slots → get_elem? words 0 ≡ some word → get_elem? slots 0 ≡ some slot
-    → word % 2 ≡ 0 → (t : Thread) × (slot ≡ Some t) × (is_legal t.limits t.history ≡ true) × StartsWith t.history v.seen × (v.mine ≡ made_by v.number t.history) × IsAbout v.subject t
-closes subject id v words slots word slot f one two even =
-    let s : St = f.0 in
-    let r : Kept subject s = f.1.0 in
-    let k = r.knows id v f.1.1 in
-    let is : word ≡ word_of subject.limits r.locked r.history = some-injective _ _ (sym one ∙ ap (λ (ws : List ℕ). get_elem? ws 0) (sym f.2 ∙ r.word)) in
-    let free : r.locked ≡ false = even_is_free subject.limits r.locked r.history (ap (λ (x : ℕ). x % 2) (sym is) ∙ even) in
-    let p = subst (λ (b : Bool). Placed subject r.history b s.homes) free r.placed in
-    let there = f.4 0 (Some p.0) (ap (λ (hs : List (maybe.Option Spot)). get_elem? hs 0) p.1) in (
-      p.0,
-      some-injective _ _ (sym two ∙ there),
-      (λ i. is_legal (p.3.0 i) (p.2 i)) ∙ r.legal,
-      subst (λ (l : List Entry). StartsWith l v.seen) (sym p.2) k.begins,
-      k.all_mine ∙ λ i. made_by (sym k.numbered i) (sym p.2 i),
-      subst (λ (x : Subject). IsAbout x p.0) (sym k.about) p.3,
-    )

@@ -1,5 +1,5 @@
 -- The rule of a cell, and what each step tells.
-use Rattle.std.specs.Prelude.{ℕ, ◌≡◌, ◌≢◌, ◌≤◌, Bool, true, false, List, [], ◌∷◌, length, Option, Some}
+use Rattle.std.specs.Prelude.{ℕ, ◌≡◌, ◌≢◌, ◌≤◌, Bool, true, false, List, [], ◌∷◌, length, Option, Some, None}
 use mathlib.Core.Option.{some, none}
 use mathlib.Core.Option as maybe
 use lib.ListN.{get_elem?}
@@ -76,3 +76,16 @@ frees st m found m' = (t : Thread) → m.1 ≡ (0, Some t) ∷ [] → (m' ≡ (s
 -- the word was read; as many entries as were seen, or more, were counted
 abbrev pub glances : Step (Option Thread) → Mine → ℕ → Mine → Type 0
 glances st m found m' = (m' ≡ (glanced m.0 (look_of found), m.1)) × (length m.0.seen ≤ (look_of found).count)
+
+-- the slot with the history, or none where the lock bit is set
+abbrev pub Left : Subject → List Entry → Bool → Option Thread → Type 0
+Left subject history false slot = (t : Thread) × (slot ≡ Some t) × (t.history ≡ history) × IsAbout subject t
+Left subject history true slot = slot ≡ None
+
+-- How a cell ends for a seat with this view, when no step comes any more: the rule holds of what the table is then, the
+-- seat sits there, and the slot is given just where the lock bit is clear
+pub record Ends (v : View) (slot : Option Thread) : Type 0 where
+  pub state : State (Option Thread) View
+  pub kept : Kept v.subject state
+  pub sits : get_elem? state.views v.number ≡ some v
+  pub left : Left v.subject kept.history kept.locked slot

@@ -3,7 +3,7 @@ ghost use Rattle.ti_types.specs.declared.error.TiError.TheVariants as TiError;
 ghost use Rattle.ti_replay.specs.Legal.{is_legal};
 ghost use Rattle.ti_replay.specs.Makers.{made_by, Adds, StartsWith};
 ghost use Rattle.ti_cell.specs.View.{subject_of, newcomer, splitter, split_off, holding, stored, glanced, IsAbout};
-ghost use Rattle.ti_cell.specs.Rule.{IsTaken};
+ghost use Rattle.ti_cell.specs.Rule.{IsTaken, Ends};
 ghost use Rattle.ti_cell.specs.Seats.{env_seats};
 
 use crate::hold::Hold;
@@ -178,11 +178,14 @@ impl ThreadCell {
         .look()
     }
 
-    /// The slot at the end: its history is legal and begins with all that the thread has seen. The seat is this cell's.
+    /// The slot at the end, with the one history that the rule keeps: it is legal, begins with all that the thread has
+    /// seen, and has of the thread's own entries just those that were made from this seat. The seat is this cell's.
     ///
-    /// It is `None` where the lock bit is set. Since a hold is stored, and borrows the cell, that does not happen.
+    /// It is `None` where the lock bit is set, and only there. Since a hold is stored, and borrows the cell, that does
+    /// not happen.
     pub fn close(self, seat: OwnSeat) -> Option<Slot>
         requires cell { seat.cell ≡ self }
+        ensures ends { Ends seat.view result }
         ensures legal { IfSome result (λ s. is_legal s.limits s.history ≡ true) }
         ensures seen { IfSome result (λ s. StartsWith s.history seat.view.seen) }
         ensures mine { IfSome result (λ s. seat.view.mine ≡ made_by seat.view.number s.history) }

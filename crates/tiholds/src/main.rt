@@ -5,7 +5,10 @@
 //! It stands on `ti_cell`, and nothing stands on it.
 #![tactic(auto)]
 
-ghost use Rattle.std.specs.Prelude.{ℕ, ◌≡◌, ◌+◌, ◌-◌, ◌<◌, ◌≤◌, IfSome};
+ghost use Rattle.std.specs.Prelude.{ℕ, ◌≡◌, ◌+◌, ◌-◌, ◌<◌, ◌≤◌, IfSome, [], ◌∷◌, ◌++◌};
+ghost use Rattle.ti_types.specs.declared.call.Call.TheVariants.{SetWord};
+ghost use Rattle.ti_types.specs.declared.entry.Entry.TheVariants.{Asked};
+ghost use Rattle.ti_replay.specs.Legal.{asked_by};
 ghost use Rattle.ti_cell.specs.View.{subject_of};
 ghost use Rattle.ti_cell.specs.Seats.{env_seats};
 ghost use Rattle.tiholds.specs.Ready.{IsReady};
@@ -36,10 +39,12 @@ enum Crowd {
 /// Sets an environment's word by one hold.
 fn set_word<R: Wait>(rt: &R, cell: &ThreadCell, seat: EnvSeat, env: EnvNo, word: u64) -> EnvSeat
     requires ready { IsReady cell.now env 1 seat }
+    ensures told { result.view.mine ≡ seat.view.mine ++ Asked env (asked_by env seat.view.mine) (SetWord word) ∷ [] }
     ensures ready { (left : ℕ) → IsReady cell.now env (left + 1) seat → IsReady cell.now env left result }
 {
     let mut hold = cell.hold(rt, seat);
-    let _asked = hold.slot().ask(env, Call::SetWord(word), TraceBuf::none());
+    let slot = hold.slot();
+    let _asked = slot.ask(env, Call::SetWord(word), TraceBuf::none());
     hold.store()
 }
 

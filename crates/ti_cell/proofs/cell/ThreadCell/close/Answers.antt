@@ -1,27 +1,25 @@
-use Rattle.std.proofs.Common.{rules, ◌≡◌, Option, sym, ap, subst}
-use Rattle.std.specs.Prelude.{IfSome}
-use Rattle.ti_slot.specs.Thread.{Thread}
-use Rattle.ti_replay.specs.Makers.{made_by, StartsWith}
+use Rattle.std.proofs.Common.{rules, ◌≡◌, None, ap, subst}
 use Rattle.ti_cell.specs.declared.view.View.{View}
-use Rattle.ti_cell.specs.View.{IsAbout}
+use Rattle.ti_cell.specs.Rule.{Ends}
 use Rattle.ti_cell.specs.Seats.{Sitting}
-use Rattle.ti_cell.proofs.Steps.{closes}
+use Rattle.ti_cell.proofs.Ends.{ends_free, ends_locked, end_seen, end_mine, end_about}
 use Rattle.ti_cell.proofs.cell.ThreadCell.close.Goals as goal
 
-pub returns-then-is_free-clause-seen : goal.returns-then-is_free-clause-seen
-returns-then-is_free-clause-seen c =
-    let t = closes _ _ _ _ _ _ _ c.close_with-closed.ensures.values.2 c.word.ensures c.take-slot.ensures.value (search rules) in
+pub returns-then-is_free-clause-ends : goal.returns-then-is_free-clause-ends
+returns-then-is_free-clause-ends c =
     let same : c.seat.inside.seat.me.0 ≡ c.args.seat.view = ap (λ (x : Sitting). x.view) c.seat.view_is in
-    subst (λ (o : Option Thread). IfSome o (λ s. StartsWith s.history c.args.seat.view.seen)) (sym t.1) (subst (λ (v : View). StartsWith t.0.history v.seen) same t.3)
+    subst (λ (v : View). Ends v c.take-slot.result) same (ends_free _ _ _ _ _ (_, _, c.close_with-closed.ensures.values.2, c.word.ensures, c.take-slot.ensures.value) (search rules))
+
+pub returns-then-is_free-clause-seen : goal.returns-then-is_free-clause-seen
+returns-then-is_free-clause-seen c = end_seen _ _ (returns-then-is_free-clause-ends c)
 
 pub returns-then-is_free-clause-mine : goal.returns-then-is_free-clause-mine
-returns-then-is_free-clause-mine c =
-    let t = closes _ _ _ _ _ _ _ c.close_with-closed.ensures.values.2 c.word.ensures c.take-slot.ensures.value (search rules) in
-    let same : c.seat.inside.seat.me.0 ≡ c.args.seat.view = ap (λ (x : Sitting). x.view) c.seat.view_is in
-    subst (λ (o : Option Thread). IfSome o (λ s. c.args.seat.view.mine ≡ made_by c.args.seat.view.number s.history)) (sym t.1) (subst (λ (v : View). v.mine ≡ made_by v.number t.0.history) same t.4)
+returns-then-is_free-clause-mine c = end_mine _ _ (returns-then-is_free-clause-ends c)
 
 pub returns-then-is_free-clause-about : goal.returns-then-is_free-clause-about
-returns-then-is_free-clause-about c =
-    let t = closes _ _ _ _ _ _ _ c.close_with-closed.ensures.values.2 c.word.ensures c.take-slot.ensures.value (search rules) in
+returns-then-is_free-clause-about c = end_about _ _ (returns-then-is_free-clause-ends c)
+
+pub returns-else-is_free-clause-ends : goal.returns-else-is_free-clause-ends
+returns-else-is_free-clause-ends c =
     let same : c.seat.inside.seat.me.0 ≡ c.args.seat.view = ap (λ (x : Sitting). x.view) c.seat.view_is in
-    subst (λ (o : Option Thread). IfSome o (λ s. IsAbout c.args.seat.view.subject s)) (sym t.1) (subst (λ (v : View). IsAbout v.subject t.0) same t.5)
+    subst (λ (v : View). Ends v None) same (ends_locked _ _ _ _ _ (_, _, c.close_with-closed.ensures.values.2, c.word.ensures, c.take-slot.ensures.value) (search rules))
