@@ -171,6 +171,7 @@ locks_keep subject slots id me old new even up s r _ at _ =
             begins = subst (λ (l : List Entry). StartsWith l me.0.seen) (sym same) k.begins;
             all_mine = k.all_mine ∙ λ i. made_by (sym k.numbered i) (sym same i);
             about = subst (λ (x : Subject). IsAbout x t) (sym k.about) p.3;
+            looks = subst (λ (x : Limits × List Entry). Each (IsLook x.0 x.1) me.0.looked) (λ i. ((sym k.about i).limits, sym same i)) k.looks;
           },
         )),
         λ miss. absurd (miss hit),

@@ -57,13 +57,14 @@ pub record Kept (subject : Subject) (s : State (Option Thread) View) : Type 0 wh
 abbrev Mine : Type 0
 Mine = Me (Option Thread) View
 
--- the slot that is taken: its history is legal, begins with what was seen, and has of the seat's number just the entries
--- that were made from it
+-- the slot that is taken: its history is legal, begins with what was seen, has of the seat's number just the entries that
+-- were made from it, and had the bits that were looked at when it had that length
 pub record IsTaken (v : View) (t : Thread) : Type 0 where
   pub legal : is_legal v.subject.limits t.history ≡ true
   pub begins : StartsWith t.history v.seen
   pub all_mine : v.mine ≡ made_by v.number t.history
   pub about : IsAbout v.subject t
+  pub looks : Each (IsLook v.subject.limits t.history) v.looked
 
 -- the lock bit was set by this step, and the slot is out; or nothing changed
 abbrev pub locks : Step (Option Thread) → Mine → ℕ → Mine → Type 0

@@ -106,7 +106,8 @@ impl ThreadCell {
     /// Sets the lock bit and moves the slot out, once nobody holds the cell. Between its tries it pauses.
     ///
     /// The slot has one legal history, which begins with all that the seat has seen and has of its number just the
-    /// entries that were made from it. The seat is this cell's; it comes back when the hold is stored.
+    /// entries that were made from it. What the seat looked at was that history, when it had the length of the look.
+    /// The seat is this cell's; it comes back when the hold is stored.
     pub fn hold<'a, K, R: Wait>(&'a self, rt: &R, seat: CellSeat<K>) -> Hold<'a, K>
         requires cell { seat.cell ≡ self.now }
         ensures cell { result.cell ≡ self.now }
@@ -166,7 +167,7 @@ impl ThreadCell {
     }
 
     /// What the word shows, by one load: the bits of the history as it stands, and its length, which is not below the
-    /// length of what the seat has seen. The seat is this cell's.
+    /// length of what the seat has seen. The seat is this cell's; its next hold tells the history that was looked at.
     pub fn look<K>(&self, seat: &mut CellSeat<K>) -> Look
         requires cell { seat.old.cell ≡ self.now }
         ensures seat { (seat.new.cell ≡ seat.old.cell) × (seat.new.view ≡ glanced seat.old.view result) }

@@ -20,5 +20,4 @@ mod view;
 
 pub use costs::Costs;
 pub use fault::ReplayFault;
-pub use progress::Progress;
 pub use replaying::{replay, reply_at};
