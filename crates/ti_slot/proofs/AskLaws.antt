@@ -39,14 +39,14 @@ use Rattle.ti_slot.specs.declared.slot.Slot.TheInside.{Inside}
 use Rattle.ti_slot.specs.Condition.{view_of, frames_or}
 use Rattle.ti_slot.specs.Waiting.{entry_of, entries_of, calls_of, AreReady, IsBufferOf}
 use Rattle.ti_slot.specs.Inside.{IsSlot, thread_in}
-use Rattle.ti_slot.specs.Thread.{IsAsked, read_answer}
+use Rattle.ti_slot.specs.Thread.{Thread, IsAsked, read_answer}
 use Rattle.ti_types.specs.declared.event.Event.TheVariants as event
 use Rattle.ti_replay.specs.Events.{hold_refusal}
 use Rattle.ti_slot.specs.declared.asked.Asked.TheVariants.{Answered, Waiting}
 use Rattle.ti_types.specs.declared.event.Ticket.{Ticket}
 use Rattle.ti_slot.specs.Slot.{Stands, FramesAreHome, LogIsHome}
 use Rattle.ti_slot.proofs.SlotLaws as laws
-use Rattle.ti_slot.proofs.CallLaws.{May, view_is}
+use Rattle.ti_slot.proofs.CallLaws.{May, Comes, comes, may_call, view_is}
 use Rattle.ti_replay.proofs.BoundLaws.{calls_bounded}
 
 asked_one : (env : EnvNo) (x : Entry) → ask_count env x ≤ call_cost env x
@@ -70,8 +70,10 @@ asked_here a env s he =
     let e : (placed_state a.limits a.history.items).costs ≡ a.costs.items = ap (λ (t : HistoryState). t.costs) s.state in
     ap (λ t. (costs_at t env).asked) (sym e) ∙ ap (λ (t : Situation). t.asked) (situation_is a.limits a.history.items env he)
 
-pub asked_few : (a : Inside) (env : EnvNo) → IsSlot a → env.0 < a.limits.envs → calls_spent env a.history.items < a.limits.calls → (costs_at a.costs.items env).asked < 1024
-asked_few a env s he hc = omega (arith, asked_here a env s he, asked_le env a.history.items, a.limits.in_range)
+pub asked_few : (a : Inside) (t : Thread) (env : EnvNo) → IsSlot a → thread_in a ≡ t → env.0 < t.limits.envs → calls_spent env t.history < t.limits.calls → (costs_at a.costs.items env).asked < 1024
+asked_few a t env s e he hc =
+    let h = may_call a t env e he hc in
+    omega (arith, h.1, asked_here a env s h.0, asked_le env a.history.items, a.limits.in_range)
 
 -- there is a number left for the next call
 pub asked_less : (a : Inside) (env : EnvNo) → IsSlot a → calls_spent env a.history.items < a.limits.calls → asked_by env a.history.items < a.ops.calls
@@ -131,8 +133,17 @@ pub not_replied : (a : Inside) (env : EnvNo) (n : ℕ) (call : Call) (h : List E
 not_replied a env n call h s off e =
     ap (λ l. reply a.limits l (length a.history.items)) e ∙ reply_later a.limits a.history.items env n call (put_off_is a call s ∙ off)
 
-pub may_read : (a : Inside) (env : EnvNo) (n : ℤ) → IsSlot a → env.0 < a.limits.envs → calls_spent env a.history.items < a.limits.calls → is_not_negative n ≡ true → is_stopper a.condition.stopper env ≡ true → is_running a.condition.mode ≡ false → May a (Read env n)
-may_read a env n s he hc hn hs hr = grind (arith, nat_tests, view_is a s)
+-- a read that is let through
+pub record Reads (a : Inside) (env : EnvNo) (n : ℤ) : Type 0 where
+  pub free : hold_refusal (view a.limits a.history.items) (event.Read env a.number n) ≡ None
+  pub comes : Comes a (Read env n)
+
+pub reads_here : (a : Inside) (t : Thread) (env : EnvNo) (n : ℤ) (f : Stack) → IsSlot a → thread_in a ≡ t → env.0 < t.limits.envs → calls_spent env t.history < t.limits.calls → is_not_negative n ≡ true
+    → is_stopper a.condition.stopper env ≡ true → a.frames ≡ Some f → Reads a env n
+reads_here a t env n f s e he hc hn hs is =
+    let h = may_call a t env e he hc in
+    let hr : is_running a.condition.mode ≡ false = (subst (FramesAreHome a.limits a.condition.mode) is s.frames_home).0 in
+    record { free = grind (arith, view_is a s, hs, hr); comes = comes a (Read env n) s (grind (arith, nat_tests, view_is a s, h.0, h.1)) }
 
 pub was_read : (a : Inside) (env : EnvNo) (n : ℤ) (h : Vec Entry) (costs : List Costs) → IsSlot a → May a (Read env n) → h.items ≡ a.history.items ++ Read env n ∷ [] → vec_capacity a.history ≤ vec_capacity h → costs ≡ charged a.costs.items (Read env n)
     → Stands a.limits h.items (vec_capacity h) a.condition a.frames a.log a.own costs a.ops
@@ -167,6 +178,8 @@ pub told_now : (a : Inside) (env : EnvNo) (n : ℕ) (call : Call) (h : List Entr
 told_now a env n call h tickets told s hn off e et tell = (grind (arith, e, hn, et), replied a env n call h told s off e tell)
 
 -- what an accepted read answers
-pub read_told : (a : Inside) (env : EnvNo) (n : ℤ) (h : List Entry) (told : Answer) → IsSlot a → is_stopper a.condition.stopper env ≡ true → is_running a.condition.mode ≡ false → reply a.limits h (length a.history.items) ≡ Some (said told)
-    → read_answer (hold_refusal (view a.limits a.history.items) (event.Read env a.number n)) (reply a.limits h (length a.history.items)) ≡ Some (said told)
-read_told a env n h told s hs hr r = grind (arith, view_is a s, hs, hr, r)
+pub read_told : (a : Inside) (t : Thread) (env : EnvNo) (n : ℤ) (h : List Entry) (f : Stack) (told : Answer) → IsSlot a → thread_in a ≡ t → Reads a env n → a.frames ≡ Some f → h ≡ a.history.items ++ Read env n ∷ []
+    → said told ≡ stack_of (view_of a.condition f.frames) n → read_answer (hold_refusal (view t.limits t.history) (event.Read env t.number n)) (reply a.limits h (length t.history)) ≡ Some (said told)
+read_told a t env n h f told s et r is e tell =
+    subst (λ (z : Thread). read_answer (hold_refusal (view z.limits z.history) (event.Read env z.number n)) (reply a.limits h (length z.history)) ≡ Some (said told)) et
+    (rw r.free (read_replied a env n h f told s is e tell))

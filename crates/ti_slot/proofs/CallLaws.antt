@@ -1,7 +1,6 @@
 -- Each call of a slot: the entry may come, there is room for it, and the slot stands for the longer history.
-use Rattle.std.proofs.Common.{◌≡◌, ℕ, ◌+◌, ◌<◌, ◌≤◌, true, false, List, [], ◌∷◌, ◌++◌, length, refl, ap, sym, ◌∙◌, arith, Some, None, is_some, length-append, subst, vec_capacity}
+use Rattle.std.proofs.Common.{◌≡◌, ℕ, ◌+◌, ◌<◌, ◌≤◌, true, false, List, [], ◌∷◌, ◌++◌, length, refl, ap, sym, ◌∙◌, arith, Option, Some, None, is_some, length-append, subst, vec_capacity}
 use Rattle.std.specs.Global.{Vec}
-use Rattle.std.specs.List.{fold}
 use Rattle.std.proofs.lemmas.Bool.Decides.{nat_tests}
 use Rattle.ti_types.specs.declared.numbers.EnvNo.{EnvNo}
 use Rattle.ti_types.specs.declared.state.Mode.{Mode}
@@ -9,28 +8,28 @@ use Rattle.ti_types.specs.declared.state.Mode.TheVariants as mode
 use Rattle.ti_types.specs.declared.state.Safe.{Safe}
 use Rattle.ti_types.specs.declared.state.Safe.TheVariants.{Native, Blocked, AtPoll}
 use Rattle.ti_types.specs.declared.step.Step.{Step}
+use Rattle.ti_types.specs.declared.error.TiError.{TiError}
 use Rattle.ti_types.specs.declared.view.ThreadView.{ThreadView}
-use Rattle.ti_ops.specs.Ops.{Ops}
 use Rattle.ti_types.specs.declared.entry.Entry.{Entry}
 use Rattle.ti_types.specs.declared.entry.Entry.TheVariants.{Start, Hand, Back, End, Stop, Go}
 use Rattle.ti_replay.specs.declared.costs.Costs.{Costs}
 use Rattle.ti_replay.specs.Answers.{is_running}
-use Rattle.ti_replay.specs.Legal.{is_legal, may_follow, is_new, is_safe, is_stopper, calls_spent, own_spent, own_cost, goes_on, is_armed}
-use Rattle.ti_replay.specs.View.{view, after}
+use Rattle.ti_replay.specs.Legal.{may_follow, is_new, is_safe, is_stopper, calls_spent, own_spent, goes_on, is_armed}
+use Rattle.ti_replay.specs.View.{view}
 use Rattle.ti_replay.specs.Costs.{charged, IsDue}
 use Rattle.ti_types.specs.declared.limits.Limits.{Limits}
 use Rattle.ti_replay.specs.HistoryState.{HistoryState, history_state, next_state, allows}
 use Rattle.ti_replay.specs.PlacedState.{placed_state}
-use Rattle.ti_replay.proofs.CostLaws.{is_legal-snoc, due, may_follow_is}
+use Rattle.ti_replay.proofs.CostLaws.{due, may_follow_is}
 use Rattle.ti_frames.specs.Frames.{Stack}
 use Rattle.ti_replay.proofs.HistoryStateLaws.{history_state-snoc, may_follow-allows}
 use Rattle.ti_replay.proofs.Charging.{charged_free}
 use Rattle.ti_slot.specs.declared.condition.Condition.{Condition}
 use Rattle.ti_slot.specs.declared.slot.Slot.TheInside.{Inside}
 use Rattle.ti_slot.specs.Condition.{view_of, frames_or}
-use Rattle.ti_slot.specs.Inside.{IsSlot}
+use Rattle.ti_slot.specs.Inside.{IsSlot, thread_in}
+use Rattle.ti_slot.specs.Thread.{Thread}
 use Rattle.ti_slot.specs.Refusal.{hand_refusal}
-use Rattle.ti_slot.specs.Waiting.{entries_of}
 use Rattle.ti_replay.specs.LateTickets.{steps_of}
 use Rattle.ti_replay.specs.Refusals.{own_refusal}
 use Rattle.ti_slot.specs.Slot.{Stands, state_of, FramesAreHome}
@@ -44,33 +43,45 @@ May a x = may_follow a.limits a.history.items x ≡ true
 pub view_is : (a : Inside) → IsSlot a → view a.limits a.history.items ≡ view_of a.condition (frames_or a.frames (view a.limits a.history.items).frames)
 view_is a s = ap (λ (t : HistoryState). t.view) s.state
 
-pub room_for : (a : Inside) (x : Entry) → IsSlot a → May a x → length a.history.items < vec_capacity a.history
-room_for a x s may = laws.room_for a.limits a.history.items (vec_capacity a.history) a.condition a.frames a.log a.own a.costs.items a.ops x s may
+-- what such an entry finds: there is room for it, and its costs are not at their bound
+pub record Comes (a : Inside) (x : Entry) : Type 0 where
+  pub may : May a x
+  pub room : length a.history.items < vec_capacity a.history
+  pub due : IsDue a.costs.items x
 
-pub legal_after : (a : Inside) (x : Entry) (h : List Entry) → IsSlot a → May a x → h ≡ a.history.items ++ x ∷ [] → is_legal a.limits h ≡ true
-legal_after a x h s may e = ap (is_legal a.limits) e ∙ is_legal-snoc a.limits a.history.items x ∙ grind (arith, s.legal, may)
-
-pub due_here : (a : Inside) (x : Entry) → IsSlot a → May a x → IsDue a.costs.items x
-due_here a x s may =
+pub comes : (a : Inside) (x : Entry) → IsSlot a → May a x → Comes a x
+comes a x s may =
     let e : (placed_state a.limits a.history.items).costs ≡ a.costs.items = ap (λ (t : HistoryState). t.costs) s.state in
-    subst (λ t. IsDue t x) e (due a.limits (placed_state a.limits a.history.items) x (sym (may_follow_is a.limits a.history.items x) ∙ may))
+    record {
+      may = may;
+      room = laws.room_for a.limits a.history.items (vec_capacity a.history) a.condition a.frames a.log a.own a.costs.items a.ops x s may;
+      due = subst (λ t. IsDue t x) e (due a.limits (placed_state a.limits a.history.items) x (sym (may_follow_is a.limits a.history.items x) ∙ may));
+    }
+
+-- an environment that may call the thread, by the fields
+pub may_call : (a : Inside) (t : Thread) (env : EnvNo) → thread_in a ≡ t → env.0 < t.limits.envs → calls_spent env t.history < t.limits.calls → (env.0 < a.limits.envs) × (calls_spent env a.history.items < a.limits.calls)
+may_call a t env e = subst (λ (z : Thread). env.0 < z.limits.envs → calls_spent env z.history < z.limits.calls → (env.0 < a.limits.envs) × (calls_spent env a.history.items < a.limits.calls)) e (λ he hc. (he, hc))
 
 pub own_is : (a : Inside) → IsSlot a → (own_spent a.history.items ≡ a.own) × (a.own ≤ a.limits.own)
 own_is a s =
     let e : own_spent a.history.items ≡ a.own = ap (λ (t : HistoryState). t.own) s.state in
     (e, omega (arith, e, own_bounded a.limits a.history.items s.legal))
 
-pub may_stop : (a : Inside) (env : EnvNo) → IsSlot a → env.0 < a.limits.envs → calls_spent env a.history.items < a.limits.calls → is_some a.condition.stopper ≡ false → May a (Stop env)
-may_stop a env s he hc hs = grind (arith, nat_tests, view_is a s)
+pub stop_comes : (a : Inside) (t : Thread) (env : EnvNo) → IsSlot a → thread_in a ≡ t → env.0 < t.limits.envs → calls_spent env t.history < t.limits.calls → is_some a.condition.stopper ≡ false → Comes a (Stop env)
+stop_comes a t env s e he hc hs =
+    let h = may_call a t env e he hc in
+    comes a (Stop env) s (grind (arith, nat_tests, view_is a s, h.0, h.1))
 
-pub may_go : (a : Inside) (env : EnvNo) → IsSlot a → env.0 < a.limits.envs → is_stopper a.condition.stopper env ≡ true → May a (Go env)
-may_go a env s he hs = grind (arith, nat_tests, view_is a s)
+pub go_comes : (a : Inside) (t : Thread) (env : EnvNo) → IsSlot a → thread_in a ≡ t → env.0 < t.limits.envs → is_stopper a.condition.stopper env ≡ true → Comes a (Go env)
+go_comes a t env s e he hs =
+    let h : env.0 < a.limits.envs = subst (λ (z : Thread). env.0 < z.limits.envs) (sym e) he in
+    comes a (Go env) s (grind (arith, nat_tests, view_is a s, h))
 
-pub may_start : (a : Inside) → IsSlot a → is_new a.condition.mode ≡ true → is_some a.condition.stopper ≡ false → May a Start
-may_start a s hm hs = grind (arith, view_is a s)
+pub start_comes : (a : Inside) → IsSlot a → is_new a.condition.mode ≡ true → is_some a.condition.stopper ≡ false → Comes a Start
+start_comes a s hm hs = comes a Start s (grind (arith, view_is a s))
 
-pub may_back : (a : Inside) → IsSlot a → is_safe a.condition.mode ≡ true → a.condition.suspended ≡ false → is_some a.condition.stopper ≡ false → May a Back
-may_back a s hm hu hs = grind (arith, view_is a s)
+pub back_comes : (a : Inside) → IsSlot a → is_safe a.condition.mode ≡ true → a.condition.suspended ≡ false → is_some a.condition.stopper ≡ false → Comes a Back
+back_comes a s hm hu hs = comes a Back s (grind (arith, view_is a s))
 
 -- the fields after a stop
 pub stopped : (a : Inside) (env : EnvNo) (h : Vec Entry) (costs : List Costs) → IsSlot a → May a (Stop env) → h.items ≡ a.history.items ++ Stop env ∷ [] → vec_capacity a.history ≤ vec_capacity h → costs ≡ charged a.costs.items (Stop env)
@@ -103,16 +114,13 @@ returned a h s may safe e le =
     (grind (arith, charged_free a.costs.items Back)) refl refl (laws.log_away a.limits a.condition.mode mode.Running a.log s.log_home safe refl) refl refl (omega arith) s.ready s.calls
 
 -- the frames that go out are those of the view
-pub frames_out : (a : Inside) (x : Entry) (h : List Entry) (f : Stack) → IsSlot a → a.frames ≡ Some f → h ≡ a.history.items ++ x ∷ []
+pub frames_go : (a : Inside) (t : Thread) (x : Entry) (h : List Entry) (f : Stack) → IsSlot a → thread_in a ≡ t → a.frames ≡ Some f → h ≡ a.history.items ++ x ∷ []
     → (next_state (state_of a.condition (frames_or a.frames (view a.limits a.history.items).frames) a.ops.waiting a.own a.costs.items) x).view.frames ≡ frames_or a.frames (view a.limits a.history.items).frames
-    → f.frames ≡ (view a.limits h).frames
-frames_out a x h f s is e keeps =
+    → (f.frames ≡ (view a.limits h).frames) × (f.depth ≡ t.limits.depth)
+frames_go a t x h f s et is e keeps =
     let state = history_state-snoc a.limits a.history.items x ∙ ap (λ t. next_state t x) s.state in
     let same : (view a.limits (a.history.items ++ x ∷ [])).frames ≡ frames_or a.frames (view a.limits a.history.items).frames = ap (λ (t : HistoryState). t.view.frames) state ∙ keeps in
-    rw (e, same, is) refl
-
-pub depth_is : (a : Inside) (f : Stack) → IsSlot a → a.frames ≡ Some f → f.depth ≡ a.limits.depth
-depth_is a f s is = (subst (FramesAreHome a.limits a.condition.mode) is s.frames_home).1
+    (rw (e, same, is) refl, (subst (FramesAreHome a.limits a.condition.mode) is s.frames_home).1 ∙ ap (λ (z : Thread). z.limits.depth) et)
 
 -- the condition as it was, with another mode
 abbrev pub at_mode : Condition → Mode → Condition
@@ -135,6 +143,17 @@ ran_own a steps s =
     let e : own_spent (a.history.items ++ steps_of steps) ≡ a.own + length steps = ap (λ (t : HistoryState). t.own) s.state in
     (e, omega (arith, e, own_bounded a.limits (a.history.items ++ steps_of steps) s.legal))
 
+-- a running thread goes on by its logged steps
+pub record Runs (a : Inside) (steps : List Step) : Type 0 where
+  pub runs : is_running a.condition.mode ≡ true
+  pub ran : Ran a steps
+  pub few : a.own + length steps ≤ a.limits.own
+
+pub runs_on : (a : Inside) (t : Thread) (steps : List Step) → IsSlot a → thread_in a ≡ t → is_running (view t.limits t.history).mode ≡ true → goes_on t.limits t.history (steps_of steps) ≡ true → Runs a steps
+runs_on a t steps s e =
+    subst (λ (z : Thread). is_running (view z.limits z.history).mode ≡ true → goes_on z.limits z.history (steps_of steps) ≡ true → Runs a steps) e
+    (λ r g. let on = ran a steps s r g in record { runs = runs_here a s r; ran = on; few = (ran_own a steps on).1 })
+
 pub ran_view : (a : Inside) (steps : List Step) → Ran a steps → view a.limits (a.history.items ++ steps_of steps) ≡ view_of a.condition (view a.limits (a.history.items ++ steps_of steps)).frames
 ran_view a steps s = ap (λ (t : HistoryState). t.view) s.state
 
@@ -147,8 +166,12 @@ ran_room a steps x s may =
     let r = laws.room_for a.limits (a.history.items ++ steps_of steps) (vec_capacity a.history) a.condition None a.log (a.own + length steps) a.costs.items a.ops x s may in
     omega (arith, r, length-append a.history.items (steps_of steps), length-steps steps)
 
-pub ran_legal : (a : Inside) (steps : List Step) (x : Entry) (h : List Entry) → Ran a steps → may_follow a.limits (a.history.items ++ steps_of steps) x ≡ true → h ≡ (a.history.items ++ steps_of steps) ++ x ∷ [] → is_legal a.limits h ≡ true
-ran_legal a steps x h s may e = ap (is_legal a.limits) e ∙ is_legal-snoc a.limits (a.history.items ++ steps_of steps) x ∙ grind (arith, s.legal, may)
+-- the steps enter the history, and there is room for one entry more
+pub room_behind : (a : Inside) (steps given : List Step) (x : Entry) (h : Vec Entry) → Ran a steps → may_follow a.limits (a.history.items ++ steps_of steps) x ≡ true → given ≡ steps → h.items ≡ a.history.items ++ steps_of given → vec_capacity a.history ≤ vec_capacity h → length h.items < vec_capacity h
+room_behind a steps given x h s may same e le = omega (arith, ran_room a steps x s may, ap length e, length-append a.history.items (steps_of given), length-steps given, ap length same, le)
+
+pub entry_behind : (steps given : List Step) (x : Entry) (h h1 h2 : List Entry) → given ≡ steps → h1 ≡ h ++ steps_of given → h2 ≡ h1 ++ x ∷ [] → h2 ≡ (h ++ steps_of steps) ++ x ∷ []
+entry_behind steps given x h h1 h2 same e1 e2 = e2 ∙ ap (λ l. l ++ x ∷ []) (e1 ∙ ap (λ s. h ++ steps_of s) same)
 
 pub may_end : (a : Inside) (steps : List Step) → Ran a steps → is_running a.condition.mode ≡ true → may_follow a.limits (a.history.items ++ steps_of steps) End ≡ true
 may_end a steps s r = grind (arith, ran_view a steps s)
@@ -168,34 +191,30 @@ may_hand a steps AtPoll s t r ok armed =
     let arm : is_armed a.limits a.history.items ≡ true = armed refl in
     poll_same a steps s t ∙ grind (arith, arm, view_is a s)
 
--- the call of refusal_of_hand
-pub refusal_is : (a : Inside) (steps : List Step) (safe : Safe) (n : ℕ) → Ran a steps → n ≡ length steps → own_refusal a.limits (view a.limits (a.history.items ++ steps_of steps)) (a.own + n) (Hand safe) ≡ hand_refusal a.limits (a.history.items ++ steps_of steps) safe
-refusal_is a steps safe n t e = ap (λ m. own_refusal a.limits (view a.limits (a.history.items ++ steps_of steps)) m (Hand safe)) (ap (λ m. a.own + m) e ∙ sym (ran_own a steps t).0)
-
 pub ran_runs : (a : Inside) (steps : List Step) → Ran a steps → is_running a.condition.mode ≡ true → is_running (view a.limits (a.history.items ++ steps_of steps)).mode ≡ true
 ran_runs a steps t r = ap (λ (v : ThreadView). is_running v.mode) (ran_view a steps t) ∙ r
 
-pub handed : (a : Inside) (steps : List Step) (safe : Safe) (fr : Stack) (h : Vec Entry) (c : Condition) (own : ℕ) (ops : Ops) → Ran a steps
-    → may_follow a.limits (a.history.items ++ steps_of steps) (Hand safe) ≡ true → h.items ≡ (a.history.items ++ steps_of steps) ++ Hand safe ∷ [] → vec_capacity a.history ≤ vec_capacity h
-    → fr.frames ≡ (view a.limits (a.history.items ++ steps_of steps)).frames → fr.depth ≡ a.limits.depth
-    → view_of c fr.frames ≡ fold after (view_of (at_mode a.condition (mode.AtSafe safe)) fr.frames) (entries_of a.ops.waiting)
-    → ops.waiting ≡ [] → ops.room ≡ a.ops.room → ops.calls ≡ a.ops.calls
-    → own ≡ a.own + length steps + own_cost (Hand safe)
-    → Stands a.limits h.items (vec_capacity h) c (Some fr) a.log own a.costs.items ops
-handed a steps safe fr h c own ops t may e le frames depth served none room few oe =
-    laws.serve_stands a.limits (a.history.items ++ steps_of steps) (vec_capacity a.history) (vec_capacity h) a.condition c a.log (a.own + length steps) own a.costs.items a.ops ops (Hand safe) (mode.AtSafe safe) fr h.items t may e le
-    refl (ap (view_of (at_mode a.condition (mode.AtSafe safe))) (sym frames)) refl refl depth served none room few oe (charged_free a.costs.items (Hand safe) refl)
+-- what refusal_of_hand says of each view with these frames is what the definitions have
+pub refusal_is : (a : Inside) (t : Thread) (steps : List Step) (safe : Safe) (fr : Stack) (n : ℕ) (r : Option TiError) → thread_in a ≡ t → Runs a steps → fr.frames ≡ (view t.limits (t.history ++ steps_of steps)).frames → n ≡ length steps
+    → ((v : ThreadView) → is_running v.mode ≡ true → v.frames ≡ fr.frames → r ≡ own_refusal a.limits v (a.own + n) (Hand safe)) → hand_refusal t.limits (t.history ++ steps_of steps) safe ≡ r
+refusal_is a t steps safe fr n r et k ef en said =
+    let v = view a.limits (a.history.items ++ steps_of steps) in
+    let frames = subst (λ (z : Thread). fr.frames ≡ (view z.limits (z.history ++ steps_of steps)).frames) (sym et) ef in
+    let own : own_spent (a.history.items ++ steps_of steps) ≡ a.own + n = (ran_own a steps k.ran).0 ∙ ap (λ m. a.own + m) (sym en) in
+    subst (λ (z : Thread). hand_refusal z.limits (z.history ++ steps_of steps) safe ≡ r) et
+    (ap (λ m. own_refusal a.limits v m (Hand safe)) own ∙ sym (said v (ran_runs a steps k.ran k.runs) (sym frames)))
 
-pub ended : (a : Inside) (steps : List Step) (fr : Stack) (h : Vec Entry) (c : Condition) (own : ℕ) (ops : Ops) → Ran a steps
-    → may_follow a.limits (a.history.items ++ steps_of steps) End ≡ true → h.items ≡ (a.history.items ++ steps_of steps) ++ End ∷ [] → vec_capacity a.history ≤ vec_capacity h
-    → fr.frames ≡ [] → fr.depth ≡ a.limits.depth
-    → view_of c fr.frames ≡ fold after (view_of (at_mode a.condition mode.Ended) fr.frames) (entries_of a.ops.waiting)
-    → ops.waiting ≡ [] → ops.room ≡ a.ops.room → ops.calls ≡ a.ops.calls
-    → own ≡ a.own + length steps
-    → Stands a.limits h.items (vec_capacity h) c (Some fr) a.log own a.costs.items ops
-ended a steps fr h c own ops t may e le frames depth served none room few oe =
-    laws.serve_stands a.limits (a.history.items ++ steps_of steps) (vec_capacity a.history) (vec_capacity h) a.condition c a.log (a.own + length steps) own a.costs.items a.ops ops End mode.Ended fr h.items t may e le
-    refl (ap (view_of (at_mode a.condition mode.Ended)) (sym frames)) refl refl depth served none room few (omega (arith, oe)) (charged_free a.costs.items End refl)
+-- a hand-over that is not refused, with these frames
+pub record Hands (a : Inside) (steps : List Step) (safe : Safe) (fr : Stack) : Type 0 where
+  pub ran : Ran a steps
+  pub may : may_follow a.limits (a.history.items ++ steps_of steps) (Hand safe) ≡ true
+  pub frames : fr.frames ≡ (view a.limits (a.history.items ++ steps_of steps)).frames
+
+pub hands_here : (a : Inside) (t : Thread) (steps : List Step) (safe : Safe) (fr : Stack) → IsSlot a → thread_in a ≡ t → Runs a steps → fr.frames ≡ (view t.limits (t.history ++ steps_of steps)).frames → hand_refusal t.limits (t.history ++ steps_of steps) safe ≡ None
+    → (safe ≡ AtPoll → is_armed t.limits t.history ≡ true) → Hands a steps safe fr
+hands_here a t steps safe fr s et k ef free armed =
+    subst (λ (z : Thread). fr.frames ≡ (view z.limits (z.history ++ steps_of steps)).frames → hand_refusal z.limits (z.history ++ steps_of steps) safe ≡ None → (safe ≡ AtPoll → is_armed z.limits z.history ≡ true) → Hands a steps safe fr) et
+    (λ f ok arm. record { ran = k.ran; may = may_hand a steps safe s k.ran k.runs ok arm; frames = f }) ef free armed
 
 -- a thread that has started, or returned, runs
 pub runs_started : (limits : Limits) (history later : List Entry) → later ≡ history ++ Start ∷ [] → is_running (view limits later).mode ≡ true

@@ -1,5 +1,5 @@
 -- What a slot tells of its tickets, call by call.
-use Rattle.std.proofs.Common.{◌≡◌, ℕ, ◌<◌, true, false, ◌&&◌, if◌then◌else◌, List, [], ◌∷◌, ◌++◌, length, map, get_or, replicate, suc, zero, refl, ap, sym, ◌∙◌, arith, Option, Some, None, append-nil, append_assoc, subst, is_some, vec_capacity}
+use Rattle.std.proofs.Common.{◌≡◌, ℕ, ◌+◌, ◌<◌, ◌≤◌, true, false, ◌&&◌, if◌then◌else◌, List, [], ◌∷◌, ◌++◌, length, map, get_or, replicate, suc, zero, refl, ap, sym, ◌∙◌, arith, Option, Some, None, append-nil, append_assoc, subst, is_some, vec_capacity}
 use Rattle.std.specs.Option.{option_map}
 use Rattle.std.proofs.lemmas.List.{length-map, length-replicate}
 use Rattle.ti_types.specs.declared.limits.Limits.{Limits}
@@ -12,32 +12,43 @@ use Rattle.ti_types.specs.declared.step.Step.{Step}
 use Rattle.ti_types.specs.declared.state.Safe.{Safe}
 use Rattle.ti_types.specs.declared.state.Mode.TheVariants as mode
 use Rattle.ti_types.specs.declared.entry.Entry.{Entry}
+use Rattle.ti_types.specs.declared.event.Event.{Event}
+use Rattle.ti_types.specs.declared.place.Frame.{Frame}
+use Rattle.std.specs.Global.{Vec}
+use Rattle.ti_replay.specs.declared.costs.Costs.{Costs}
+use Rattle.ti_replay.specs.Costs.{costs_at, charged}
+use Rattle.ti_replay.specs.Events.{hold_refusal, if_none}
+use Rattle.ti_slot.specs.declared.asked.Asked.TheVariants as asked
+use Rattle.ti_slot.specs.declared.condition.Condition.{Condition}
 use Rattle.ti_types.specs.declared.entry.Entry.TheVariants.{Own, Hand, End, Asked}
 use Rattle.ti_types.specs.declared.view.ThreadView.{ThreadView}
 use Rattle.ti_types.specs.Frames as buffer
 use Rattle.ti_types.specs.Answer.{said}
-use Rattle.ti_frames.specs.Frames.{Stack}
+use Rattle.ti_frames.specs.Frames.{Stack, with_frames}
 use Rattle.ti_ops.specs.declared.fate.Fate.{Fate}
 use Rattle.ti_ops.specs.declared.fate.Fate.TheVariants.{Waiting, Told, Gone}
 use Rattle.ti_ops.specs.declared.pending.Pending.{Pending}
 use Rattle.ti_ops.specs.Fates.{fates_by, fate_of, with_call, with_fate, told_by}
 use Rattle.ti_ops.specs.Ops.{Ops, with_posted, with_fates}
-use Rattle.ti_replay.specs.Answers.{is_running}
+use Rattle.ti_replay.specs.Answers.{is_running, answer_of}
 use Rattle.ti_replay.specs.Settling.{waits, is_hand_over}
-use Rattle.ti_replay.specs.View.{view, after}
-use Rattle.ti_replay.specs.Legal.{asked_by}
+use Rattle.ti_replay.specs.View.{view, after, called}
+use Rattle.ti_replay.specs.Legal.{asked_by, calls_spent, is_well_formed, may_follow, own_cost}
+use Rattle.ti_replay.proofs.Charging.{charged_free}
+use Rattle.std.specs.List.{fold}
 use Rattle.ti_replay.specs.HistoryState.{HistoryState, history_state}
 use Rattle.ti_replay.specs.LateTickets.{steps_of}
 use Rattle.ti_replay.specs.Tickets.{reply_to}
 use Rattle.ti_slot.specs.declared.slot.Slot.TheInside.{Inside}
-use Rattle.ti_slot.specs.Condition.{view_of}
-use Rattle.ti_slot.specs.Waiting.{answers_of, entries_of, said_in, said_fate, delivered}
+use Rattle.ti_slot.specs.Condition.{view_of, frames_or}
+use Rattle.ti_slot.specs.Waiting.{answers_of, entries_of, said_in, said_fate, delivered, IsBufferOf}
 use Rattle.ti_slot.specs.Tickets.{Tells, has, without_ticket, asked_in, open_in, AreAwaited}
-use Rattle.ti_slot.specs.Thread.{Thread, with_more}
+use Rattle.ti_slot.specs.Thread.{Thread, with_more, IsAsked}
 use Rattle.ti_slot.specs.Inside.{IsSlot, IsWhole, thread_in}
 use Rattle.ti_slot.specs.Slot.{Stands}
-use Rattle.ti_slot.proofs.CallLaws.{Ran, ran_view, at_mode}
-use Rattle.ti_slot.proofs.AskLaws.{put_off_is}
+use Rattle.ti_slot.proofs.SlotLaws as laws
+use Rattle.ti_slot.proofs.CallLaws.{Comes, comes, may_call, Ran, ran_view, at_mode, Hands}
+use Rattle.ti_slot.proofs.AskLaws.{put_off_is, asked_here, asked_less, may_ask, post_room, asked_waits, answered, told_waits, told_now}
 use Rattle.ti_slot.proofs.FateLaws.{by-said, fate-said, length-said, said-with_fate, said-with_call, waits-said}
 use Rattle.ti_slot.proofs.TicketLaws.{asked_stay, asked-steps}
 use Rattle.ti_slot.proofs.TellLaws.{is_plain, is_call, no_ticket, hand_free, tells_plain, tells_now, tells_later}
@@ -79,34 +90,86 @@ thread_with a h fates = record { limits = a.limits; number = a.number; history =
 pub plain_after : (a : Inside) (x : Entry) (h : List Entry) → IsWhole a → is_plain x ≡ true → h ≡ a.history.items ++ x ∷ [] → Tells a.limits a.number h a.ops.waiting (said_in a.ops.fates)
 plain_after a x h s p e = rw e (tells_plain a.limits a.number a.history.items a.ops.waiting (said_in a.ops.fates) x p s.1)
 
-pub plain_thread : (a : Inside) (x : Entry) (h : List Entry) → is_call x ≡ false → h ≡ a.history.items ++ x ∷ [] → thread_with a h a.ops.fates ≡ with_more (thread_in a) (x ∷ [])
-plain_thread a x h p e =
+-- the thread after one more entry that is no call
+pub plain_thread : (a : Inside) (t : Thread) (x : Entry) (h : List Entry) → thread_in a ≡ t → is_call x ≡ false → h ≡ a.history.items ++ x ∷ [] → thread_with a h a.ops.fates ≡ with_more t (x ∷ [])
+plain_thread a t x h et p e =
     let same : asked_in a.number h ≡ asked_in a.number a.history.items = ap (asked_in a.number) e ∙ asked_stay a.number a.history.items x (no_ticket a.number x p) in
     ap (λ l. record { limits = a.limits; number = a.number; history = l; uncollected = open_in (said_in a.ops.fates) (asked_in a.number h) }) e
     ∙ ap (λ ts. record { limits = a.limits; number = a.number; history = a.history.items ++ x ∷ []; uncollected = open_in (said_in a.ops.fates) ts }) same
+    ∙ ap (λ (z : Thread). with_more z (x ∷ [])) et
 
-pub now_after : (a : Inside) (env : EnvNo) (n : ℕ) (call : Call) (h : List Entry) (ops : Ops) → IsWhole a → env.0 < a.limits.envs → n ≡ asked_by env a.history.items → (waits call && is_running a.condition.mode) ≡ false → h ≡ a.history.items ++ Asked env n call ∷ []
-    → ops ≡ with_fates a.ops (with_call env Gone a.ops.fates) → Tells a.limits a.number h ops.waiting (said_in ops.fates)
-now_after a env n call h ops s he hn off e eo =
-    rw (e, eo, said-with_call env Gone a.ops.fates) (tells_now a.limits a.number a.history.items a.ops.waiting (said_in a.ops.fates) env n call he hn (put_off_is a call s.0 ∙ off) s.1)
+-- and where an event that is let through brings it
+pub held_thread : (a : Inside) (t : Thread) (event : ThreadNo → Event) (x : Entry) (h : List Entry) → thread_in a ≡ t → is_call x ≡ false → h ≡ a.history.items ++ x ∷ [] → hold_refusal (view a.limits a.history.items) (event a.number) ≡ None
+    → thread_with a h a.ops.fates ≡ with_more t (if_none (hold_refusal (view t.limits t.history) (event t.number)) (x ∷ []))
+held_thread a t event x h et p e free =
+    plain_thread a (thread_in a) x h refl p e ∙ ap (λ r. with_more (thread_in a) (if_none r (x ∷ []))) (sym free)
+    ∙ ap (λ (z : Thread). with_more z (if_none (hold_refusal (view z.limits z.history) (event z.number)) (x ∷ []))) et
 
-pub now_open : (a : Inside) (env : EnvNo) (n : ℕ) (call : Call) (h : List Entry) (ops : Ops) → IsWhole a → env.0 < a.limits.envs → n ≡ asked_by env a.history.items → h ≡ a.history.items ++ Asked env n call ∷ []
-    → ops ≡ with_fates a.ops (with_call env Gone a.ops.fates) → open_in (said_in ops.fates) (asked_in a.number h) ≡ (thread_in a).uncollected
-now_open a env n call h ops s he hn e eo =
-    rw (e, eo, said-with_call env Gone a.ops.fates) (open_now a.limits a.number a.history.items a.ops.waiting (said_in a.ops.fates) env n call he hn s.1)
+-- a call that may be asked, and the room for it
+pub record Asks (a : Inside) (env : EnvNo) (n : ℕ) (call : Call) : Type 0 where
+  pub there : env.0 < a.limits.envs
+  pub number : n ≡ asked_by env a.history.items
+  pub listed : env.0 < length a.ops.fates
+  pub next : n ≡ length (fates_by env a.ops.fates)
+  pub left : n < a.ops.calls
+  pub room : length a.ops.waiting < a.ops.room
+  pub comes : Comes a (Asked env n call)
 
-pub later_after : (a : Inside) (env : EnvNo) (n : ℕ) (call : Call) (buf : buffer.Trace) (h : List Entry) (ops : Ops) → IsWhole a → env.0 < a.limits.envs → n ≡ asked_by env a.history.items → (waits call && is_running a.condition.mode) ≡ true → h ≡ a.history.items ++ Asked env n call ∷ []
-    → ops ≡ with_posted a.ops (record { ticket = record { env = env; thread = a.number; no = n }; call = call; buf = buf })
-    → Tells a.limits a.number h ops.waiting (said_in ops.fates)
-later_after a env n call buf h ops s he hn off e eo =
-    let p : Pending = record { ticket = record { env = env; thread = a.number; no = n }; call = call; buf = buf } in
-    rw (e, eo, said-with_call env Waiting a.ops.fates) (tells_later a.limits a.number a.history.items a.ops.waiting (said_in a.ops.fates) env n call p he hn (put_off_is a call s.0 ∙ off) refl s.1)
+pub asks_here : (a : Inside) (t : Thread) (env : EnvNo) (n : ℕ) (call : Call) (costs : List Costs) → IsWhole a → thread_in a ≡ t → env.0 < t.limits.envs → calls_spent env t.history < t.limits.calls → is_well_formed call ≡ true
+    → costs ≡ a.costs.items → n ≡ (costs_at costs env).asked → Asks a env n call
+asks_here a t env n call costs s et he hc hw ec en =
+    let h = may_call a t env et he hc in
+    let number : n ≡ asked_by env a.history.items = en ∙ ap (λ z. (costs_at z env).asked) ec ∙ asked_here a env s.0 h.0 in
+    let may = may_ask a env n call s.0 h.0 h.1 hw number in
+    record {
+      there = h.0;
+      number = number;
+      listed = omega (arith, lists_here a s, h.0);
+      next = number ∙ sym (list_here a env s);
+      left = omega (arith, number, asked_less a env s.0 h.1);
+      room = post_room a (Asked env n call) s.0 may refl;
+      comes = comes a (Asked env n call) s.0 may;
+    }
 
-pub later_open : (a : Inside) (env : EnvNo) (n : ℕ) (call : Call) (buf : buffer.Trace) (h : List Entry) (ops : Ops) → IsWhole a → env.0 < a.limits.envs → n ≡ asked_by env a.history.items → h ≡ a.history.items ++ Asked env n call ∷ []
-    → ops ≡ with_posted a.ops (record { ticket = record { env = env; thread = a.number; no = n }; call = call; buf = buf })
-    → open_in (said_in ops.fates) (asked_in a.number h) ≡ (thread_in a).uncollected ++ (record { env = env; thread = a.number; no = n }) ∷ []
-later_open a env n call buf h ops s he hn e eo =
-    rw (e, eo, said-with_call env Waiting a.ops.fates) (open_later a.limits a.number a.history.items a.ops.waiting (said_in a.ops.fates) env n call he hn s.1)
+-- the slot after a call that is answered at once, and what it comes to
+pub now_whole : (a : Inside) (env : EnvNo) (n : ℕ) (call : Call) (h : Vec Entry) (costs : List Costs) (c : Condition) (ops : Ops) → IsWhole a → Asks a env n call → (waits call && is_running a.condition.mode) ≡ false
+    → h.items ≡ a.history.items ++ Asked env n call ∷ [] → vec_capacity a.history ≤ vec_capacity h → costs ≡ charged a.costs.items (Asked env n call)
+    → ((frames : List Frame) → view_of c frames ≡ called (view_of a.condition frames) env call) → ops ≡ with_fates a.ops (with_call env Gone a.ops.fates)
+    → Stands a.limits h.items (vec_capacity h) c a.frames a.log a.own costs ops × Tells a.limits a.number h.items ops.waiting (said_in ops.fates)
+now_whole a env n call h costs c ops s k off e le ec vc eo = (
+  answered a env n call h costs c ops s.0 k.comes.may off e le ec vc (with_call env Gone a.ops.fates) eo,
+  rw (e, eo, said-with_call env Gone a.ops.fates) (tells_now a.limits a.number a.history.items a.ops.waiting (said_in a.ops.fates) env n call k.there k.number (put_off_is a call s.0 ∙ off) s.1),
+)
+
+pub now_told : (a : Inside) (t : Thread) (env : EnvNo) (n : ℕ) (call : Call) (h : List Entry) (ops : Ops) (told : Answer) → IsWhole a → thread_in a ≡ t → Asks a env n call → (waits call && is_running a.condition.mode) ≡ false
+    → h ≡ a.history.items ++ Asked env n call ∷ [] → ops ≡ with_fates a.ops (with_call env Gone a.ops.fates) → ((others : List Frame) → said told ≡ answer_of (view_of a.condition (frames_or a.frames others)) env call)
+    → IsAsked t (thread_with a h ops.fates) env call (asked.Answered told)
+now_told a t env n call h ops told s et k off e eo tell =
+    let same : open_in (said_in ops.fates) (asked_in a.number h) ≡ (thread_in a).uncollected =
+    rw (e, eo, said-with_call env Gone a.ops.fates) (open_now a.limits a.number a.history.items a.ops.waiting (said_in a.ops.fates) env n call k.there k.number s.1) in
+    subst (λ (z : Thread). IsAsked z (thread_with a h ops.fates) env call (asked.Answered told)) et
+    (told_now a env n call h (open_in (said_in ops.fates) (asked_in a.number h)) told s.0 k.number off e same tell)
+
+-- the slot after a call that waits, and what it comes to
+pub later_whole : (a : Inside) (t : Thread) (env : EnvNo) (n : ℕ) (call : Call) (buf : buffer.Trace) (h : Vec Entry) (costs : List Costs) (ops : Ops) → IsWhole a → thread_in a ≡ t → Asks a env n call → (waits call && is_running a.condition.mode) ≡ true
+    → h.items ≡ a.history.items ++ Asked env n call ∷ [] → vec_capacity a.history ≤ vec_capacity h → costs ≡ charged a.costs.items (Asked env n call)
+    → ops ≡ with_posted a.ops (record { ticket = record { env = env; thread = a.number; no = n }; call = call; buf = buf }) → IsBufferOf t.limits call buf
+    → Stands a.limits h.items (vec_capacity h) a.condition a.frames a.log a.own costs ops × Tells a.limits a.number h.items ops.waiting (said_in ops.fates)
+later_whole a t env n call buf h costs ops s et k off e le ec eo b =
+    let p : Pending = record { ticket = record { env = env; thread = a.number; no = n }; call = call; buf = buf } in (
+      asked_waits a env n call a.number buf h costs ops s.0 k.comes.may off e le ec eo (subst (λ (z : Thread). IsBufferOf z.limits call buf) (sym et) b),
+      rw (e, eo, said-with_call env Waiting a.ops.fates) (tells_later a.limits a.number a.history.items a.ops.waiting (said_in a.ops.fates) env n call p k.there k.number (put_off_is a call s.0 ∙ off) refl s.1),
+    )
+
+pub later_told : (a : Inside) (t : Thread) (env : EnvNo) (n : ℕ) (call : Call) (buf : buffer.Trace) (h : List Entry) (ops : Ops) → IsWhole a → thread_in a ≡ t → Asks a env n call → (waits call && is_running a.condition.mode) ≡ true
+    → h ≡ a.history.items ++ Asked env n call ∷ [] → ops ≡ with_posted a.ops (record { ticket = record { env = env; thread = a.number; no = n }; call = call; buf = buf })
+    → IsAsked t (thread_with a h ops.fates) env call (asked.Waiting (record { env = env; thread = a.number; no = n }))
+later_told a t env n call buf h ops s et k off e eo =
+    let u : Ticket = record { env = env; thread = a.number; no = n } in
+    let more : open_in (said_in ops.fates) (asked_in a.number h) ≡ (thread_in a).uncollected ++ u ∷ [] =
+    rw (e, eo, said-with_call env Waiting a.ops.fates) (open_later a.limits a.number a.history.items a.ops.waiting (said_in a.ops.fates) env n call k.there k.number s.1) in
+    subst (λ (z : Thread). IsAsked z (thread_with a h ops.fates) env call (asked.Waiting u)) et
+    (told_waits a env n call h (open_in (said_in ops.fates) (asked_in a.number h)) s.0 k.number off e more)
 
 tells_steps : (limits : Limits) (number : ThreadNo) (h : List Entry) (waiting : List Pending) (fates : List (List Fate)) (steps : List Step) → Tells limits number h waiting fates → Tells limits number (h ++ steps_of steps) waiting fates
 tells_steps limits number h waiting fates [] s = rw append-nil s
@@ -122,10 +185,10 @@ served_after a steps x v h ops s t hx ev e none given =
     let all = tells_hand a.limits a.number h1 a.ops.waiting (said_in a.ops.fates) x hx w (tells_steps a.limits a.number a.history.items a.ops.waiting (said_in a.ops.fates) steps s.1) in
     rw (e, none, given) (subst (λ z. Tells a.limits a.number (h1 ++ x ∷ []) [] (delivered (answers_of z a.ops.waiting) (said_in a.ops.fates))) ev all)
 
-pub served_thread : (a : Inside) (steps : List Step) (x : Entry) (v : ThreadView) (h : List Entry) (ops : Ops) → IsWhole a → is_hand_over x ≡ true
+pub served_thread : (a : Inside) (t : Thread) (steps : List Step) (x : Entry) (v : ThreadView) (h : List Entry) (ops : Ops) → IsWhole a → thread_in a ≡ t → is_hand_over x ≡ true
     → h ≡ (a.history.items ++ steps_of steps) ++ x ∷ [] → said_in ops.fates ≡ delivered (answers_of v a.ops.waiting) (said_in a.ops.fates)
-    → thread_with a h ops.fates ≡ with_more (thread_in a) (steps_of steps ++ x ∷ [])
-served_thread a steps x v h ops s hx e given =
+    → thread_with a h ops.fates ≡ with_more t (steps_of steps ++ x ∷ [])
+served_thread a t steps x v h ops s et hx e given =
     let h1 = a.history.items ++ steps_of steps in
     let same : asked_in a.number h ≡ asked_in a.number a.history.items = ap (asked_in a.number) e ∙ asked_stay a.number h1 x (no_ticket a.number x (hand_free x hx)) ∙ asked-steps a.number a.history.items steps in
     let open_ones : open_in (said_in ops.fates) (asked_in a.number h) ≡ (thread_in a).uncollected =
@@ -133,14 +196,34 @@ served_thread a steps x v h ops s hx e given =
     ∙ open_hand (said_in a.ops.fates) v a.ops.waiting (asked_in a.number a.history.items) s.1.awaited s.1.apart in
     ap (λ l. record { limits = a.limits; number = a.number; history = l; uncollected = open_in (said_in ops.fates) (asked_in a.number h) }) (e ∙ append_assoc a.history.items (steps_of steps) (x ∷ []))
     ∙ ap (λ ts. record { limits = a.limits; number = a.number; history = a.history.items ++ (steps_of steps ++ x ∷ []); uncollected = ts }) open_ones
+    ∙ ap (λ (z : Thread). with_more z (steps_of steps ++ x ∷ [])) et
 
-pub hand_view : (a : Inside) (steps : List Step) (safe : Safe) (fr : Stack) → Ran a steps → fr.frames ≡ (view a.limits (a.history.items ++ steps_of steps)).frames
-    → after (view a.limits (a.history.items ++ steps_of steps)) (Hand safe) ≡ view_of (at_mode a.condition (mode.AtSafe safe)) fr.frames
-hand_view a steps safe fr t e = ap (λ v. after v (Hand safe)) (ran_view a steps t) ∙ ap (view_of (at_mode a.condition (mode.AtSafe safe))) (sym e)
+-- the slot after a hand-over
+pub hand_whole : (a : Inside) (t : Thread) (steps : List Step) (safe : Safe) (fr : Stack) (h : Vec Entry) (c : Condition) (own : ℕ) (ops : Ops) → IsWhole a → thread_in a ≡ t → Hands a steps safe fr
+    → h.items ≡ (a.history.items ++ steps_of steps) ++ Hand safe ∷ [] → vec_capacity a.history ≤ vec_capacity h → fr.depth ≡ t.limits.depth → own ≡ a.own + length steps + own_cost (Hand safe)
+    → view_of c fr.frames ≡ fold after (view_of (at_mode a.condition (mode.AtSafe safe)) fr.frames) (entries_of a.ops.waiting)
+    → ops.waiting ≡ [] → said_in ops.fates ≡ delivered (answers_of (view_of (at_mode a.condition (mode.AtSafe safe)) fr.frames) a.ops.waiting) (said_in a.ops.fates) → ops.room ≡ a.ops.room → ops.calls ≡ a.ops.calls
+    → Stands a.limits h.items (vec_capacity h) c (Some fr) a.log own a.costs.items ops × Tells a.limits a.number h.items ops.waiting (said_in ops.fates)
+hand_whole a t steps safe fr h c own ops s et k e le depth oe served none given room few =
+    let here = ap (view_of (at_mode a.condition (mode.AtSafe safe))) (sym k.frames) in (
+      laws.serve_stands a.limits (a.history.items ++ steps_of steps) (vec_capacity a.history) (vec_capacity h) a.condition c a.log (a.own + length steps) own a.costs.items a.ops ops (Hand safe) (mode.AtSafe safe) fr h.items k.ran k.may e le
+          refl here refl refl (depth ∙ sym (ap (λ (z : Thread). z.limits.depth) et)) served none room few oe (charged_free a.costs.items (Hand safe) refl),
+      served_after a steps (Hand safe) _ h.items ops s k.ran refl (ap (λ v. after v (Hand safe)) (ran_view a steps k.ran) ∙ here) e none given,
+    )
 
-pub end_view : (a : Inside) (steps : List Step) (fr : Stack) → Ran a steps → fr.frames ≡ []
-    → after (view a.limits (a.history.items ++ steps_of steps)) End ≡ view_of (at_mode a.condition mode.Ended) fr.frames
-end_view a steps fr t e = ap (λ v. after v End) (ran_view a steps t) ∙ ap (view_of (at_mode a.condition mode.Ended)) (sym e)
+-- and after the end, with no frames
+pub end_whole : (a : Inside) (t : Thread) (steps : List Step) (fr cleared : Stack) (h : Vec Entry) (c : Condition) (own : ℕ) (ops : Ops) → IsWhole a → thread_in a ≡ t → Ran a steps
+    → may_follow a.limits (a.history.items ++ steps_of steps) End ≡ true → h.items ≡ (a.history.items ++ steps_of steps) ++ End ∷ [] → vec_capacity a.history ≤ vec_capacity h
+    → cleared ≡ with_frames fr [] → fr.depth ≡ t.limits.depth → own ≡ a.own + length steps
+    → view_of c cleared.frames ≡ fold after (view_of (at_mode a.condition mode.Ended) cleared.frames) (entries_of a.ops.waiting)
+    → ops.waiting ≡ [] → said_in ops.fates ≡ delivered (answers_of (view_of (at_mode a.condition mode.Ended) cleared.frames) a.ops.waiting) (said_in a.ops.fates) → ops.room ≡ a.ops.room → ops.calls ≡ a.ops.calls
+    → Stands a.limits h.items (vec_capacity h) c (Some cleared) a.log own a.costs.items ops × Tells a.limits a.number h.items ops.waiting (said_in ops.fates)
+end_whole a t steps fr cleared h c own ops s et ran may e le ec depth oe served none given room few =
+    let here = ap (view_of (at_mode a.condition mode.Ended)) (sym (ap (λ (f : Stack). f.frames) ec)) in (
+      laws.serve_stands a.limits (a.history.items ++ steps_of steps) (vec_capacity a.history) (vec_capacity h) a.condition c a.log (a.own + length steps) own a.costs.items a.ops ops End mode.Ended cleared h.items ran may e le
+          refl here refl refl (ap (λ (f : Stack). f.depth) ec ∙ depth ∙ sym (ap (λ (z : Thread). z.limits.depth) et)) served none room few (omega (arith, oe)) (charged_free a.costs.items End refl),
+      served_after a steps End _ h.items ops s ran refl (ap (λ v. after v End) (ran_view a steps ran) ∙ here) e none given,
+    )
 
 -- the calls that wait have no answer yet
 pub awaited_here : (fates : List (List Fate)) (waiting : List Pending) → AreAwaited (said_in fates) waiting → AreAwaited fates waiting

@@ -46,7 +46,6 @@ fn answer_by_frames(
     requires buf { IsBufferOf limits.now call buf }
     ensures { (env : EnvNo) → said result ≡ answer_of (view_of condition.now frames.now.frames) env call }
 {
-    let _limits = *limits;
     if !is_alive(condition.mode) {
         return Answer::Refused(TiError::ThreadNotAlive);
     }
@@ -121,6 +120,7 @@ pub fn stack(condition: &Condition, frames: &Frames, max_count: i32, buf: TraceB
     ensures { said result ≡ stack_of (view_of condition.now frames.now.frames) max_count }
 {
     let mut buf = buf;
+    // For the prover alone: `len` says that there are at most `depth` frames, so the buffer has room for them.
     let _count = frames.len();
     frames.copy_into(0, or_zero(max_count), &mut buf);
     Answer::Stack {

@@ -1,179 +1,71 @@
-use Rattle.std.proofs.Common.{◌≡◌, refl, ◌+◌, ◌++◌, ◌∷◌, [], true, length, arith, ap, subst, sym, ◌∙◌, Some, None, length-append}
+use Rattle.std.proofs.Common.{◌≡◌, refl, ◌+◌, ◌++◌, ◌∷◌, [], length, arith, ap, ◌∙◌}
 use Rattle.ti_types.specs.declared.entry.Entry.TheVariants.{Hand}
-use Rattle.ti_types.specs.declared.state.Safe.TheVariants.{AtPoll}
-use Rattle.ti_replay.specs.Answers.{is_running}
-use Rattle.ti_replay.specs.Legal.{goes_on, may_follow, is_armed}
-use Rattle.ti_replay.specs.View.{view}
-use Rattle.ti_slot.specs.Thread.{Thread, with_more}
 use Rattle.ti_replay.specs.LateTickets.{steps_of}
 use Rattle.ti_slot.specs.Refusal.{hand_refusal}
-use Rattle.ti_slot.proofs.CallLaws.{Ran, ran, ran_own, ran_room, ran_legal, runs_here, may_hand, refusal_is, handed, length-steps, ran_runs}
-use Rattle.ti_slot.proofs.WholeLaws.{served_after, served_thread, hand_view, awaited_here}
+use Rattle.ti_slot.proofs.CallLaws.{Runs, runs_on, ran_room, room_behind, entry_behind, refusal_is, Hands, hands_here}
+use Rattle.ti_slot.proofs.WholeLaws.{hand_whole, served_thread, awaited_here}
+use Rattle.ti_slot.proofs.slot.Slot.hand_over.Goals.{After-len, After-refusal_of_hand, In_default, After-push}
 use Rattle.ti_slot.proofs.slot.Slot.hand_over.Goals as goal
 
+-- the thread goes on by its logged steps
+runs : (c : After-len) → Runs c.self.inside c.args.log.now.steps
+runs c = runs_on c.self.inside _ c.args.log.now.steps c.self.invariant.0 c.self.view_is c.requires.running c.requires.steps
+
+-- what refuses the hand-over is what the definitions have
+refused : (c : After-refusal_of_hand) → hand_refusal c.args.self.now.limits (c.args.self.now.history ++ steps_of c.args.log.now.steps) c.args.safe ≡ c.refusal_of_hand.result
+refused c = refusal_is c.self.inside _ c.args.log.now.steps c.args.safe c.args.frames c.len.result _ c.self.view_is (runs (goal.at.After-refusal_of_hand c).After-len) c.requires.frames c.len.ensures.len c.refusal_of_hand.ensures
+
+-- and what is not refused may come
+hands : (c : In_default) → Hands c.self.inside c.args.log.now.steps c.args.safe c.args.frames
+hands c =
+    let p = goal.at.In_default c in
+    hands_here c.self.inside _ c.args.log.now.steps c.args.safe c.args.frames c.self.invariant.0 c.self.view_is (runs p.After-len) c.requires.frames (refused p.After-refusal_of_hand ∙ c.in_default.is) c.requires.armed
+
+pushed : (c : After-push) → c.push.new.history.items ≡ (c.self.inside.history.items ++ steps_of c.args.log.now.steps) ++ Hand c.args.safe ∷ []
+pushed c = entry_behind c.args.log.now.steps _ (Hand c.args.safe) _ _ _ c.steps.ensures c.push_steps.ensures.items c.push.ensures.items
+
 pub overflow_cast-own : goal.overflow_cast-own
-overflow_cast-own c =
-    let i = c.self.inside in
-    let k = c.self.invariant.0 in
-    let e = sym c.self.view_is in
-    let steps = c.args.log.now.steps in
-    let r : is_running (view i.limits i.history.items).mode ≡ true = subst (λ (t : Thread). is_running (view t.limits t.history).mode ≡ true) e c.requires.running in
-    let g : goes_on i.limits i.history.items (steps_of steps) ≡ true = subst (λ (t : Thread). goes_on t.limits t.history (steps_of steps) ≡ true) e c.requires.steps in
-    let t : Ran i steps = ran i steps k r g in
-    omega (arith, (ran_own i steps t).1, c.len.ensures.len, i.limits.in_range)
+overflow_cast-own c = omega (arith, (runs c).few, c.len.ensures.len, c.self.inside.limits.in_range)
 
 pub overflow_add-own : goal.overflow_add-own
-overflow_add-own c =
-    let i = c.self.inside in
-    let k = c.self.invariant.0 in
-    let e = sym c.self.view_is in
-    let steps = c.args.log.now.steps in
-    let r : is_running (view i.limits i.history.items).mode ≡ true = subst (λ (t : Thread). is_running (view t.limits t.history).mode ≡ true) e c.requires.running in
-    let g : goes_on i.limits i.history.items (steps_of steps) ≡ true = subst (λ (t : Thread). goes_on t.limits t.history (steps_of steps) ≡ true) e c.requires.steps in
-    let t : Ran i steps = ran i steps k r g in
-    omega (arith, (ran_own i steps t).1, c.len.ensures.len, i.limits.in_range)
+overflow_add-own c = omega (arith, (runs c).few, c.len.ensures.len, c.self.inside.limits.in_range)
 
 pub refusal_of_hand-requires : goal.refusal_of_hand-requires
-refusal_of_hand-requires c =
-    let i = c.self.inside in
-    let k = c.self.invariant.0 in
-    let e = sym c.self.view_is in
-    let steps = c.args.log.now.steps in
-    let r : is_running (view i.limits i.history.items).mode ≡ true = subst (λ (t : Thread). is_running (view t.limits t.history).mode ≡ true) e c.requires.running in
-    let g : goes_on i.limits i.history.items (steps_of steps) ≡ true = subst (λ (t : Thread). goes_on t.limits t.history (steps_of steps) ≡ true) e c.requires.steps in
-    let t : Ran i steps = ran i steps k r g in
-    omega (arith, (ran_own i steps t).1, c.len.ensures.len)
+refusal_of_hand-requires c = omega (arith, (runs (goal.at.refusal_of_hand-requires c).After-len).few, c.len.ensures.len)
 
 pub returns-in-Some-clause-when : goal.returns-in-Some-clause-when
-returns-in-Some-clause-when c =
-    let i = c.self.inside in
-    let k = c.self.invariant.0 in
-    let e = sym c.self.view_is in
-    let steps = c.args.log.now.steps in
-    let r : is_running (view i.limits i.history.items).mode ≡ true = subst (λ (t : Thread). is_running (view t.limits t.history).mode ≡ true) e c.requires.running in
-    let g : goes_on i.limits i.history.items (steps_of steps) ≡ true = subst (λ (t : Thread). goes_on t.limits t.history (steps_of steps) ≡ true) e c.requires.steps in
-    let t : Ran i steps = ran i steps k r g in
-    let safe = c.args.safe in
-    let h1 = i.history.items ++ steps_of steps in
-    let fr : c.args.frames.frames ≡ (view i.limits h1).frames = subst (λ (t : Thread). c.args.frames.frames ≡ (view t.limits (t.history ++ steps_of steps)).frames) e c.requires.frames in
-    let w : hand_refusal i.limits h1 safe ≡ c.refusal_of_hand.result = sym (c.refusal_of_hand.ensures (view i.limits h1) (ran_runs i steps t (runs_here i k r)) (sym fr) ∙ refusal_is i steps safe c.len.result t c.len.ensures.len) in
-    subst (λ (t : Thread). hand_refusal t.limits (t.history ++ steps_of steps) safe ≡ Some c.in-Some.error) c.self.view_is (w ∙ c.in-Some.is)
+returns-in-Some-clause-when c = refused (goal.at.returns-in-Some-clause-when c).After-refusal_of_hand ∙ c.in-Some.is
 
 pub push_steps-requires : goal.push_steps-requires
 push_steps-requires c =
-    let i = c.self.inside in
-    let k = c.self.invariant.0 in
-    let e = sym c.self.view_is in
-    let steps = c.args.log.now.steps in
-    let r : is_running (view i.limits i.history.items).mode ≡ true = subst (λ (t : Thread). is_running (view t.limits t.history).mode ≡ true) e c.requires.running in
-    let g : goes_on i.limits i.history.items (steps_of steps) ≡ true = subst (λ (t : Thread). goes_on t.limits t.history (steps_of steps) ≡ true) e c.requires.steps in
-    let t : Ran i steps = ran i steps k r g in
-    let safe = c.args.safe in
-    let h1 = i.history.items ++ steps_of steps in
-    let fr : c.args.frames.frames ≡ (view i.limits h1).frames = subst (λ (t : Thread). c.args.frames.frames ≡ (view t.limits (t.history ++ steps_of steps)).frames) e c.requires.frames in
-    let w : hand_refusal i.limits h1 safe ≡ c.refusal_of_hand.result = sym (c.refusal_of_hand.ensures (view i.limits h1) (ran_runs i steps t (runs_here i k r)) (sym fr) ∙ refusal_is i steps safe c.len.result t c.len.ensures.len) in
-    let armed : safe ≡ AtPoll → is_armed i.limits i.history.items ≡ true = λ h. subst (λ (t : Thread). is_armed t.limits t.history ≡ true) e (c.requires.armed h) in
-    let may : may_follow i.limits h1 (Hand safe) ≡ true = may_hand i steps safe k t (runs_here i k r) (w ∙ c.in_default.is) armed in
-    omega (arith, ran_room i steps (Hand safe) t may, ap length c.steps.ensures)
+    let k = hands (goal.at.push_steps-requires c).In_default in
+    omega (arith, ran_room c.self.inside c.args.log.now.steps (Hand c.args.safe) k.ran k.may, ap length c.steps.ensures)
 
 pub push-requires : goal.push-requires
 push-requires c =
-    let i = c.self.inside in
-    let k = c.self.invariant.0 in
-    let e = sym c.self.view_is in
-    let steps = c.args.log.now.steps in
-    let r : is_running (view i.limits i.history.items).mode ≡ true = subst (λ (t : Thread). is_running (view t.limits t.history).mode ≡ true) e c.requires.running in
-    let g : goes_on i.limits i.history.items (steps_of steps) ≡ true = subst (λ (t : Thread). goes_on t.limits t.history (steps_of steps) ≡ true) e c.requires.steps in
-    let t : Ran i steps = ran i steps k r g in
-    let safe = c.args.safe in
-    let h1 = i.history.items ++ steps_of steps in
-    let fr : c.args.frames.frames ≡ (view i.limits h1).frames = subst (λ (t : Thread). c.args.frames.frames ≡ (view t.limits (t.history ++ steps_of steps)).frames) e c.requires.frames in
-    let w : hand_refusal i.limits h1 safe ≡ c.refusal_of_hand.result = sym (c.refusal_of_hand.ensures (view i.limits h1) (ran_runs i steps t (runs_here i k r)) (sym fr) ∙ refusal_is i steps safe c.len.result t c.len.ensures.len) in
-    let armed : safe ≡ AtPoll → is_armed i.limits i.history.items ≡ true = λ h. subst (λ (t : Thread). is_armed t.limits t.history ≡ true) e (c.requires.armed h) in
-    let may : may_follow i.limits h1 (Hand safe) ≡ true = may_hand i steps safe k t (runs_here i k r) (w ∙ c.in_default.is) armed in
-    let es : c.push_steps.new.history.items ≡ h1 = c.push_steps.ensures.items ∙ ap (λ s. i.history.items ++ steps_of s) c.steps.ensures in
-    omega (arith, ran_room i steps (Hand safe) t may, ap length es, length-append i.history.items (steps_of steps), length-steps steps, c.push_steps.ensures.capacity)
+    let k = hands (goal.at.push-requires c).In_default in
+    room_behind c.self.inside c.args.log.now.steps _ (Hand c.args.safe) c.push_steps.new.history k.ran k.may c.steps.ensures c.push_steps.ensures.items c.push_steps.ensures.capacity
 
 pub overflow_add-self : goal.overflow_add-self
-overflow_add-self c =
-    let i = c.self.inside in
-    let k = c.self.invariant.0 in
-    let e = sym c.self.view_is in
-    let steps = c.args.log.now.steps in
-    let r : is_running (view i.limits i.history.items).mode ≡ true = subst (λ (t : Thread). is_running (view t.limits t.history).mode ≡ true) e c.requires.running in
-    let g : goes_on i.limits i.history.items (steps_of steps) ≡ true = subst (λ (t : Thread). goes_on t.limits t.history (steps_of steps) ≡ true) e c.requires.steps in
-    let t : Ran i steps = ran i steps k r g in
-    omega (arith, (ran_own i steps t).1, c.len.ensures.len, i.limits.in_range, c.own_cost.ensures.small)
+overflow_add-self c = omega (arith, (runs (goal.at.overflow_add-self c).After-len).few, c.len.ensures.len, c.self.inside.limits.in_range, c.own_cost.ensures.small)
 
 pub invariant_of-self : goal.invariant_of-self
 invariant_of-self c =
     let i = c.self.inside in
-    let k = c.self.invariant.0 in
-    let e = sym c.self.view_is in
-    let steps = c.args.log.now.steps in
-    let r : is_running (view i.limits i.history.items).mode ≡ true = subst (λ (t : Thread). is_running (view t.limits t.history).mode ≡ true) e c.requires.running in
-    let g : goes_on i.limits i.history.items (steps_of steps) ≡ true = subst (λ (t : Thread). goes_on t.limits t.history (steps_of steps) ≡ true) e c.requires.steps in
-    let t : Ran i steps = ran i steps k r g in
-    let safe = c.args.safe in
-    let h1 = i.history.items ++ steps_of steps in
-    let fr : c.args.frames.frames ≡ (view i.limits h1).frames = subst (λ (t : Thread). c.args.frames.frames ≡ (view t.limits (t.history ++ steps_of steps)).frames) e c.requires.frames in
-    let w : hand_refusal i.limits h1 safe ≡ c.refusal_of_hand.result = sym (c.refusal_of_hand.ensures (view i.limits h1) (ran_runs i steps t (runs_here i k r)) (sym fr) ∙ refusal_is i steps safe c.len.result t c.len.ensures.len) in
-    let armed : safe ≡ AtPoll → is_armed i.limits i.history.items ≡ true = λ h. subst (λ (t : Thread). is_armed t.limits t.history ≡ true) e (c.requires.armed h) in
-    let may : may_follow i.limits h1 (Hand safe) ≡ true = may_hand i steps safe k t (runs_here i k r) (w ∙ c.in_default.is) armed in
-    let es : c.push_steps.new.history.items ≡ h1 = c.push_steps.ensures.items ∙ ap (λ s. i.history.items ++ steps_of s) c.steps.ensures in
-    (handed i steps safe c.args.frames c.push.new.history c.serve.new.condition (i.own + c.len.result + c.own_cost.result) c.serve.new.ops t may (c.push.ensures.items ∙ ap (λ h. h ++ Hand safe ∷ []) es) (omega (arith, c.push_steps.ensures.capacity, c.push.ensures.capacity)) fr (subst (λ (t : Thread). c.args.frames.depth ≡ t.limits.depth) e c.requires.depth) c.serve.ensures.view c.serve.ensures.waiting c.serve.ensures.room c.serve.ensures.few (omega (arith, c.len.ensures.len, c.own_cost.ensures.cost)), served_after i steps (Hand safe) _ c.push.new.history.items c.serve.new.ops c.self.invariant t refl (hand_view i steps safe c.args.frames t fr) (c.push.ensures.items ∙ ap (λ h. h ++ Hand safe ∷ []) es) c.serve.ensures.waiting c.serve.ensures.given)
+    let p = goal.at.invariant_of-self c in
+    hand_whole i _ c.args.log.now.steps c.args.safe c.args.frames c.push.new.history c.serve.new.condition (i.own + c.len.result + c.own_cost.result) c.serve.new.ops c.self.invariant c.self.view_is (hands p.In_default)
+    (pushed p.After-push) (omega (arith, c.push_steps.ensures.capacity, c.push.ensures.capacity)) c.requires.depth (omega (arith, c.len.ensures.len, c.own_cost.ensures.cost))
+    c.serve.ensures.view c.serve.ensures.waiting c.serve.ensures.given c.serve.ensures.room c.serve.ensures.few
 
 pub returns-clause-when : goal.returns-clause-when
-returns-clause-when c =
-    let i = c.self.inside in
-    let k = c.self.invariant.0 in
-    let e = sym c.self.view_is in
-    let steps = c.args.log.now.steps in
-    let r : is_running (view i.limits i.history.items).mode ≡ true = subst (λ (t : Thread). is_running (view t.limits t.history).mode ≡ true) e c.requires.running in
-    let g : goes_on i.limits i.history.items (steps_of steps) ≡ true = subst (λ (t : Thread). goes_on t.limits t.history (steps_of steps) ≡ true) e c.requires.steps in
-    let t : Ran i steps = ran i steps k r g in
-    let safe = c.args.safe in
-    let h1 = i.history.items ++ steps_of steps in
-    let fr : c.args.frames.frames ≡ (view i.limits h1).frames = subst (λ (t : Thread). c.args.frames.frames ≡ (view t.limits (t.history ++ steps_of steps)).frames) e c.requires.frames in
-    let w : hand_refusal i.limits h1 safe ≡ c.refusal_of_hand.result = sym (c.refusal_of_hand.ensures (view i.limits h1) (ran_runs i steps t (runs_here i k r)) (sym fr) ∙ refusal_is i steps safe c.len.result t c.len.ensures.len) in
-    subst (λ (t : Thread). hand_refusal t.limits (t.history ++ steps_of steps) safe ≡ None) c.self.view_is (w ∙ c.in_default.is)
+returns-clause-when c = refused (goal.at.returns-clause-when c).After-refusal_of_hand ∙ c.in_default.is
 
 pub returns-clause-legal : goal.returns-clause-legal
-returns-clause-legal c =
-    let i = c.self.inside in
-    let k = c.self.invariant.0 in
-    let e = sym c.self.view_is in
-    let steps = c.args.log.now.steps in
-    let r : is_running (view i.limits i.history.items).mode ≡ true = subst (λ (t : Thread). is_running (view t.limits t.history).mode ≡ true) e c.requires.running in
-    let g : goes_on i.limits i.history.items (steps_of steps) ≡ true = subst (λ (t : Thread). goes_on t.limits t.history (steps_of steps) ≡ true) e c.requires.steps in
-    let t : Ran i steps = ran i steps k r g in
-    let safe = c.args.safe in
-    let h1 = i.history.items ++ steps_of steps in
-    let fr : c.args.frames.frames ≡ (view i.limits h1).frames = subst (λ (t : Thread). c.args.frames.frames ≡ (view t.limits (t.history ++ steps_of steps)).frames) e c.requires.frames in
-    let w : hand_refusal i.limits h1 safe ≡ c.refusal_of_hand.result = sym (c.refusal_of_hand.ensures (view i.limits h1) (ran_runs i steps t (runs_here i k r)) (sym fr) ∙ refusal_is i steps safe c.len.result t c.len.ensures.len) in
-    let armed : safe ≡ AtPoll → is_armed i.limits i.history.items ≡ true = λ h. subst (λ (t : Thread). is_armed t.limits t.history ≡ true) e (c.requires.armed h) in
-    let may : may_follow i.limits h1 (Hand safe) ≡ true = may_hand i steps safe k t (runs_here i k r) (w ∙ c.in_default.is) armed in
-    let es : c.push_steps.new.history.items ≡ h1 = c.push_steps.ensures.items ∙ ap (λ s. i.history.items ++ steps_of s) c.steps.ensures in
-    ran_legal i steps (Hand safe) c.push.new.history.items t may (c.push.ensures.items ∙ ap (λ h. h ++ Hand safe ∷ []) es)
+returns-clause-legal c = (invariant_of-self c).0.legal
 
 pub returns-clause-thread : goal.returns-clause-thread
 returns-clause-thread c =
-    let i = c.self.inside in
-    let k = c.self.invariant.0 in
-    let e = sym c.self.view_is in
-    let steps = c.args.log.now.steps in
-    let r : is_running (view i.limits i.history.items).mode ≡ true = subst (λ (t : Thread). is_running (view t.limits t.history).mode ≡ true) e c.requires.running in
-    let g : goes_on i.limits i.history.items (steps_of steps) ≡ true = subst (λ (t : Thread). goes_on t.limits t.history (steps_of steps) ≡ true) e c.requires.steps in
-    let t : Ran i steps = ran i steps k r g in
-    let safe = c.args.safe in
-    let h1 = i.history.items ++ steps_of steps in
-    let fr : c.args.frames.frames ≡ (view i.limits h1).frames = subst (λ (t : Thread). c.args.frames.frames ≡ (view t.limits (t.history ++ steps_of steps)).frames) e c.requires.frames in
-    let w : hand_refusal i.limits h1 safe ≡ c.refusal_of_hand.result = sym (c.refusal_of_hand.ensures (view i.limits h1) (ran_runs i steps t (runs_here i k r)) (sym fr) ∙ refusal_is i steps safe c.len.result t c.len.ensures.len) in
-    let armed : safe ≡ AtPoll → is_armed i.limits i.history.items ≡ true = λ h. subst (λ (t : Thread). is_armed t.limits t.history ≡ true) e (c.requires.armed h) in
-    let may : may_follow i.limits h1 (Hand safe) ≡ true = may_hand i steps safe k t (runs_here i k r) (w ∙ c.in_default.is) armed in
-    let es : c.push_steps.new.history.items ≡ h1 = c.push_steps.ensures.items ∙ ap (λ s. i.history.items ++ steps_of s) c.steps.ensures in
-    served_thread i steps (Hand safe) _ c.push.new.history.items c.serve.new.ops c.self.invariant refl (c.push.ensures.items ∙ ap (λ h. h ++ Hand safe ∷ []) es) c.serve.ensures.given
-    ∙ ap (λ (t : Thread). with_more t (steps_of steps ++ Hand safe ∷ [])) c.self.view_is
+    served_thread c.self.inside _ c.args.log.now.steps (Hand c.args.safe) _ c.push.new.history.items c.serve.new.ops c.self.invariant c.self.view_is refl (pushed (goal.at.returns-clause-thread c).After-push) c.serve.ensures.given
 
 pub serve-requires-clause-awaited : goal.serve-requires-clause-awaited
 serve-requires-clause-awaited c = awaited_here c.self.inside.ops.fates c.self.inside.ops.waiting c.self.invariant.1.awaited

@@ -1,57 +1,28 @@
-use Rattle.std.proofs.Common.{refl, ◌≡◌, ◌<◌, ◌∷◌, [], ap, arith, subst, sym, ◌∙◌, None}
+use Rattle.std.proofs.Common.{refl, arith, sym, ◌∙◌}
 use Rattle.ti_types.specs.declared.entry.Entry.TheVariants.{Stop}
-use Rattle.ti_replay.specs.Legal.{calls_spent}
 use Rattle.ti_types.specs.declared.event.Event.TheVariants as event
-use Rattle.ti_replay.specs.View.{view}
-use Rattle.ti_replay.specs.Events.{hold_refusal, if_none}
-use Rattle.ti_slot.specs.Inside.{thread_in}
-use Rattle.ti_slot.specs.Thread.{Thread, with_more}
-use Rattle.ti_slot.proofs.CallLaws.{May, may_stop, stopped, room_for, due_here, legal_after, view_is}
-use Rattle.ti_slot.proofs.WholeLaws.{plain_after, plain_thread}
+use Rattle.ti_slot.proofs.CallLaws.{Comes, stop_comes, stopped, view_is}
+use Rattle.ti_slot.proofs.WholeLaws.{plain_after, held_thread}
+use Rattle.ti_slot.proofs.slot.Slot.stop.Goals.{Else-is_some}
 use Rattle.ti_slot.proofs.slot.Slot.stop.Goals as goal
 
+stops : (c : Else-is_some) → Comes c.self.inside (Stop c.args.env)
+stops c = stop_comes c.self.inside _ c.args.env c.self.invariant.0 c.self.view_is c.requires.env c.requires.calls (sym c.is_some.ensures ∙ c.if-is_some.false)
+
 pub charge-requires : goal.charge-requires
-charge-requires c =
-    let i = c.self.inside in
-    let k = c.self.invariant.0 in
-    let e = sym c.self.view_is in
-    let x = Stop c.args.env in
-    let may : May i x = may_stop i c.args.env k (subst (λ (t : Thread). c.args.env.0 < t.limits.envs) e c.requires.env) (subst (λ (t : Thread). calls_spent c.args.env t.history < t.limits.calls) e c.requires.calls) (sym c.is_some.ensures ∙ c.if-is_some.false) in
-    due_here i x k may
+charge-requires c = (stops (goal.at.charge-requires c).Else-is_some).due
 
 pub push-requires : goal.push-requires
-push-requires c =
-    let i = c.self.inside in
-    let k = c.self.invariant.0 in
-    let e = sym c.self.view_is in
-    let x = Stop c.args.env in
-    let may : May i x = may_stop i c.args.env k (subst (λ (t : Thread). c.args.env.0 < t.limits.envs) e c.requires.env) (subst (λ (t : Thread). calls_spent c.args.env t.history < t.limits.calls) e c.requires.calls) (sym c.is_some.ensures ∙ c.if-is_some.false) in
-    room_for i x k may
+push-requires c = (stops (goal.at.push-requires c).Else-is_some).room
 
 pub invariant_of-self : goal.invariant_of-self
-invariant_of-self c =
-    let i = c.self.inside in
-    let k = c.self.invariant.0 in
-    let e = sym c.self.view_is in
-    let x = Stop c.args.env in
-    let may : May i x = may_stop i c.args.env k (subst (λ (t : Thread). c.args.env.0 < t.limits.envs) e c.requires.env) (subst (λ (t : Thread). calls_spent c.args.env t.history < t.limits.calls) e c.requires.calls) (sym c.is_some.ensures ∙ c.if-is_some.false) in
-    (stopped i c.args.env c.push.new.history c.charge.new.costs.items k may c.push.ensures.items c.push.ensures.capacity c.charge.ensures, plain_after i x c.push.new.history.items c.self.invariant refl c.push.ensures.items)
+invariant_of-self c = (
+  stopped c.self.inside c.args.env c.push.new.history c.charge.new.costs.items c.self.invariant.0 (stops (goal.at.invariant_of-self c).Else-is_some).may c.push.ensures.items c.push.ensures.capacity c.charge.ensures,
+  plain_after c.self.inside (Stop c.args.env) c.push.new.history.items c.self.invariant refl c.push.ensures.items,
+)
 
 pub returns-clause-legal : goal.returns-clause-legal
-returns-clause-legal c =
-    let i = c.self.inside in
-    let k = c.self.invariant.0 in
-    let e = sym c.self.view_is in
-    let x = Stop c.args.env in
-    let may : May i x = may_stop i c.args.env k (subst (λ (t : Thread). c.args.env.0 < t.limits.envs) e c.requires.env) (subst (λ (t : Thread). calls_spent c.args.env t.history < t.limits.calls) e c.requires.calls) (sym c.is_some.ensures ∙ c.if-is_some.false) in
-    legal_after i x c.push.new.history.items k may c.push.ensures.items
+returns-clause-legal c = (invariant_of-self c).0.legal
 
 pub returns-clause-thread : goal.returns-clause-thread
-returns-clause-thread c =
-    let i = c.self.inside in
-    let env = c.args.env in
-    let x = Stop env in
-    let free : hold_refusal (view i.limits i.history.items) (event.Stop env i.number) ≡ None = grind (arith, view_is i c.self.invariant.0) in
-    plain_thread i x c.push.new.history.items refl c.push.ensures.items
-    ∙ ap (λ r. with_more (thread_in i) (if_none r (x ∷ []))) (sym free)
-    ∙ ap (λ (t : Thread). with_more t (if_none (hold_refusal (view t.limits t.history) (event.Stop env t.number)) (x ∷ []))) c.self.view_is
+returns-clause-thread c = held_thread c.self.inside _ (event.Stop c.args.env) (Stop c.args.env) c.push.new.history.items c.self.view_is refl c.push.ensures.items (grind (arith, view_is c.self.inside c.self.invariant.0))
