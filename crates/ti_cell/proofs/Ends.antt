@@ -1,8 +1,10 @@
 -- The end of a cell: what a closed table tells, by a state that keeps the rule. No step is taken here.
 use Rattle.std.proofs.Common.{◌≡◌, ◌≢◌, ℕ, ◌%◌, List, Bool, is_some, true, false, true≢false, Option, Some, None, refl, sym, ap, ◌∙◌, subst}
 use Rattle.std.specs.Prelude.{IfSome}
+use mathlib.Core.Logic.{dite}
 use mathlib.Core.Option.{some, some-injective}
 use mathlib.Core.Option as maybe
+use native.Mathlib.Decide.{ℕ_discrete}
 use lib.ListN.{get_elem?}
 use Rattle.atomic_table.specs.Table.{Final, Seen}
 use Rattle.ti_types.specs.declared.entry.Entry.{Entry}
@@ -31,7 +33,7 @@ own_end subject id v word slot c =
 last_word : (subject : Subject) (id : ℕ) (v : View) (word : ℕ) (slot : Spot) (c : Closed subject id v word slot) → word ≡ word_of subject.limits c.2.1.0.locked c.2.1.0.history
 last_word subject id v word slot c = some-injective _ _ (sym c.3 ∙ ap (λ (ws : List ℕ). get_elem? ws 0) (sym c.2.2 ∙ c.2.1.0.word))
 
-pub ends_free : (subject : Subject) (id : ℕ) (v : View) (word : ℕ) (slot : Spot) → Closed subject id v word slot → word % 2 ≡ 0 → Ends v slot
+ends_free : (subject : Subject) (id : ℕ) (v : View) (word : ℕ) (slot : Spot) → Closed subject id v word slot → word % 2 ≡ 0 → Ends v slot
 ends_free subject id v word slot closed even =
     let c = own_end subject id v word slot closed in
     let r : Kept v.subject c.2.0 = c.2.1.0 in
@@ -44,7 +46,7 @@ ends_free subject id v word slot closed even =
       left = subst (λ (b : Bool). Left v.subject r.history b slot) (sym free) (p.0, some-injective _ _ (sym c.4 ∙ there), p.2, p.3);
     }
 
-pub ends_locked : (subject : Subject) (id : ℕ) (v : View) (word : ℕ) (slot : Spot) → Closed subject id v word slot → word % 2 ≢ 0 → Ends v None
+ends_locked : (subject : Subject) (id : ℕ) (v : View) (word : ℕ) (slot : Spot) → Closed subject id v word slot → word % 2 ≢ 0 → Ends v None
 ends_locked subject id v word slot closed odd =
     let c = own_end subject id v word slot closed in
     let r : Kept v.subject c.2.0 = c.2.1.0 in
@@ -54,6 +56,12 @@ ends_locked subject id v word slot closed odd =
       sits = c.2.1.1;
       left = subst (λ (b : Bool). Left v.subject r.history b None) (sym locked) refl;
     }
+
+-- by what is given: the slot where the word is even, else none
+pub ends : (subject : Subject) (id : ℕ) (v : View) (word : ℕ) (slot given : Spot) → Closed subject id v word slot → (word % 2 ≡ 0 → given ≡ slot) → (word % 2 ≢ 0 → given ≡ None) → Ends v given
+ends subject id v word slot given closed clear locked = dite (ℕ_discrete (word % 2) 0)
+    (λ even. subst (Ends v) (sym (clear even)) (ends_free subject id v word slot closed even))
+    (λ odd. subst (Ends v) (sym (locked odd)) (ends_locked subject id v word slot closed odd))
 
 abbrev slot_or : Thread → Spot → Thread
 slot_or d (Some t) = t

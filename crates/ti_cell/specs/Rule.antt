@@ -83,8 +83,9 @@ abbrev pub Left : Subject → List Entry → Bool → Option Thread → Type 0
 Left subject history false slot = (t : Thread) × (slot ≡ Some t) × (t.history ≡ history) × IsAbout subject t
 Left subject history true slot = slot ≡ None
 
--- How a cell ends for a seat with this view, when no step comes any more: the rule holds of what the table is then, the
--- seat sits there, and the slot is given just where the lock bit is clear
+-- How a cell ends for a seat with this view: some state keeps the rule, the seat sits there, and the slot is given just
+-- where that state's lock bit is clear. It is the table's last state, but nothing here ties it to the steps that led to
+-- it, or to other seats: a state that the rule allows would do
 pub record Ends (v : View) (slot : Option Thread) : Type 0 where
   pub state : State (Option Thread) View
   pub kept : Kept v.subject state

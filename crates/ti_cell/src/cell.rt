@@ -182,8 +182,10 @@ impl ThreadCell {
     /// The slot at the end, with the one history that the rule keeps: it is legal, begins with all that the thread has
     /// seen, and has of the thread's own entries just those that were made from this seat. The seat is this cell's.
     ///
-    /// It is `None` where the lock bit is set, and only there. Since a hold is stored, and borrows the cell, that does
-    /// not happen.
+    /// It is `None` where the word that the cell ends with has the lock bit, and only there (`Word::unlocked`). Since a
+    /// hold is stored, and borrows the cell, that does not happen, but no clause says so. Nor does one say that entries
+    /// which other seats stored, and this one has not seen, are all there: of the cell's last state clauses know that
+    /// it keeps the rule and has this seat (`Ends`).
     pub fn close(self, seat: OwnSeat) -> Option<Slot>
         requires cell { seat.cell ≡ self }
         ensures ends { Ends seat.view result }
@@ -200,6 +202,6 @@ impl ThreadCell {
         };
         let slot = closed.take(0);
         closed.free();
-        if word.is_free() { slot } else { None }
+        word.unlocked(slot)
     }
 }

@@ -1,7 +1,8 @@
-ghost use Rattle.std.specs.Prelude.{◌≡◌, ◌+◌, ◌^◌, ◌<◌, ◌≤◌, ◌%◌, ◌==◌, false};
+ghost use Rattle.std.specs.Prelude.{◌≡◌, ◌≢◌, ◌+◌, ◌^◌, ◌<◌, ◌≤◌, ◌%◌, ◌==◌, false, None};
 ghost use Rattle.ti_cell.specs.Word.{word_at, look_of};
 
 use crate::look::Look;
+use ti_slot::Slot;
 
 /// A cell's word: the lock bit, then the armed bit, the barred bit, and the number of entries.
 #[derive(Clone, Copy)]
@@ -35,6 +36,14 @@ impl Word {
         Word {
             bits: self.bits + 1,
         }
+    }
+
+    /// What lies in the cell's place, where the lock bit is clear; else nothing, since the place is the holder's.
+    pub fn unlocked(self, slot: Option<Slot>) -> Option<Slot>
+        ensures clear { self.bits % 2 ≡ 0 → result ≡ slot }
+        ensures locked { self.bits % 2 ≢ 0 → result ≡ None }
+    {
+        if self.is_free() { slot } else { None }
     }
 
     /// What the word shows.
