@@ -61,5 +61,5 @@ each_push P (y ∷ ys) x h p = (h.0, each_push P ys x h.1 p)
 pub short : (limits : Limits) (history : List Entry) → is_legal limits history ≡ true → length history ≤ 2 ^ 32
 short limits history legal =
     let r = limits.in_range in
-    let calls : limits.envs * limits.calls ≤ 8 * 1024 = mul-le limits.envs limits.calls 8 1024 r.1.1 r.4.1 in
+    let calls : limits.envs * limits.calls ≤ 32 * 1024 = mul-le limits.envs limits.calls 32 1024 r.1.1 r.4.1 in
     omega (arith, length_bounded limits history legal, r.3.1, calls)

@@ -9,6 +9,7 @@ use Rattle.ti_replay.proofs.MakerLaws.{calls_spent_are_its_own, asked_is_its_own
 use Rattle.ti_types.specs.declared.entry.Entry.{Entry}
 use Rattle.ti_types.specs.declared.numbers.EnvNo.{EnvNo}
 use Rattle.ti_types.specs.declared.call.Call.{Call}
+use Rattle.ti_types.specs.declared.event.Ticket.{Ticket}
 use Rattle.ti_slot.specs.declared.asked.Asked as asked
 use Rattle.ti_slot.specs.declared.asked.Asked.TheVariants.{Answered, Waiting}
 use Rattle.ti_slot.specs.Thread.{Thread, IsAsked, next_asked}
@@ -21,16 +22,16 @@ pub starts_then : (a b c : List Entry) → StartsWith b a → StartsWith c b →
 starts_then a b c p q = (p.0 ++ q.0, q.1 ∙ (ap (λ (l : List Entry). l ++ q.0) p.1 ∙ append_assoc a p.0 q.0))
 
 -- v is the seat's view before, h while it holds the slot t, and w after it stored the history
-pub mine_grows : (v h w : View) (t : Thread) (history added : List Entry) → h ≡ holding v t.history → history ≡ t.history ++ added → w ≡ stored h history → w.mine ≡ v.mine ++ added
-mine_grows v h w t history added hold longer store =
+pub mine_grows : (v h w : View) (t : Thread) (history added : List Entry) (tickets : List Ticket) → h ≡ holding v t.history t.uncollected → history ≡ t.history ++ added → w ≡ stored h history tickets → w.mine ≡ v.mine ++ added
+mine_grows v h w t history added tickets hold longer store =
     ap (λ (x : View). x.mine) store ∙ ((λ i. (hold i).mine ++ drop (length (hold i).seen) (longer i)) ∙ ap (λ (l : List Entry). v.mine ++ l) (drop-append_seam t.history added))
 
-pub seen_grows : (v h w : View) (t : Thread) (history added : List Entry) → history ≡ t.history ++ added → w ≡ stored h history → IsTaken v t → StartsWith w.seen v.seen
-seen_grows v h w t history added longer store taken =
+pub seen_grows : (v h w : View) (t : Thread) (history added : List Entry) (tickets : List Ticket) → history ≡ t.history ++ added → w ≡ stored h history tickets → IsTaken v t → StartsWith w.seen v.seen
+seen_grows v h w t history added tickets longer store taken =
     subst (λ (l : List Entry). StartsWith l v.seen) (sym (ap (λ (x : View). x.seen) store)) (starts_then v.seen t.history history taken.begins (added, longer))
 
-pub seen_is : (h w : View) (history : List Entry) → w ≡ stored h history → w.seen ≡ history
-seen_is h w history store = ap (λ (x : View). x.seen) store
+pub seen_is : (h w : View) (history : List Entry) (tickets : List Ticket) → w ≡ stored h history tickets → w.seen ≡ history
+seen_is h w history tickets store = ap (λ (x : View). x.seen) store
 
 -- what a call adds to the slot's history, whether it is answered at once or waits
 pub asked_more : (old new : Thread) (env : EnvNo) (call : Call) (result : asked.Asked) → IsAsked old new env call result

@@ -1,15 +1,16 @@
-ghost use Rattle.std.specs.Prelude.{◌≡◌, ◌+◌, true, [], ◌∷◌, length, ◌≤◌, IfOk, IfErr, IfSome, None};
+ghost use Rattle.std.specs.Prelude.{◌≡◌, ◌+◌, true, false, [], ◌∷◌, length, ◌≤◌, IfOk, IfErr, IfSome, None};
 ghost use Rattle.ti_types.specs.declared.error.TiError.TheVariants as TiError;
 ghost use Rattle.ti_replay.specs.Legal.{is_legal};
 ghost use Rattle.ti_replay.specs.Makers.{made_by, Adds, StartsWith};
-ghost use Rattle.ti_cell.specs.View.{subject_of, newcomer, splitter, split_off, holding, stored, glanced, IsAbout};
-ghost use Rattle.ti_cell.specs.Rule.{IsTaken, Ends};
+ghost use Rattle.ti_cell.specs.View.{subject_of, newcomer, splitter, split_off, holding, stored, glanced, rejoined, users, IsAbout, IsAlone};
+ghost use Rattle.ti_cell.specs.Rule.{IsTaken, Ends, Each, IsSo, IsWhole, WasSeen, Keeps};
 ghost use Rattle.ti_cell.specs.Seats.{env_seats};
 
 use crate::hold::Hold;
 use crate::look::Look;
+use crate::parked::{Parked, unpark};
 use crate::seat::{CellSeat, EnvSeat, OwnSeat, Pass};
-use crate::view::{CellRule, Frees, Glances, Locks, Seats, Subject, View};
+use crate::view::{CellRule, Frees, Glances, Locks, Returns, Seats, Subject, View};
 use crate::word::Word;
 use atomic_table::Table;
 use crossbeam_utils::Backoff;
@@ -24,7 +25,7 @@ use ti_types::{Limits, ThreadNo, TiError};
 /// Contracts see it as the name of its table, which each of its seats has too: a seat is used with its own cell.
 #[derive(Drop)]
 pub struct ThreadCell {
-    table: Table<Option<Slot>, View, Subject, CellRule, Global>,
+    table: Table<Option<Parked>, View, Subject, CellRule, Global>,
 }
 
 impl Model for ThreadCell {
@@ -79,7 +80,7 @@ impl ThreadCell {
             thread: number,
         };
         let mut slots = Vec::with_capacity(alloc, 1)?;
-        match slots.push(Some(Slot::new(alloc, limits, number)?)) {
+        match slots.push(Some(Parked::new(alloc, limits, number)?)) {
             Ok(()) => (),
             Err(refused) => return Err(AllocError::from(refused).into()),
         }
@@ -92,7 +93,7 @@ impl ThreadCell {
     /// A seat of the next number, split off the owner's.
     fn split(&self, pass: &mut Pass) -> EnvSeat
         requires pass { pass.old.table_id ≡ self.now }
-        requires owner { pass.old.me.0.number ≡ 0 }
+        requires owner { (pass.old.me.0.number ≡ 0) × (pass.old.me.0.gone ≡ false) }
         ensures pass { (pass.new.table_id ≡ pass.old.table_id) × (pass.new.me ≡ (splitter pass.old.me.0, pass.old.me.1)) }
         ensures seat { (result.cell ≡ self.now) × (result.view ≡ split_off pass.old.me.0) }
     {
@@ -111,7 +112,7 @@ impl ThreadCell {
     pub fn hold<'a, K, R: Wait>(&'a self, rt: &R, seat: CellSeat<K>) -> Hold<'a, K>
         requires cell { seat.cell ≡ self.now }
         ensures cell { result.cell ≡ self.now }
-        ensures view { result.view ≡ holding seat.view result.slot.history }
+        ensures view { result.view ≡ holding seat.view result.slot.history result.slot.uncollected }
         ensures taken { IsTaken seat.view result.slot }
     {
         let CellSeat { mut seat, role } = seat;
@@ -125,9 +126,9 @@ impl ThreadCell {
     }
 
     /// Takes the lock bit and the slot.
-    fn take<R: Wait>(&self, rt: &R, seat: &mut Pass) -> Slot
-        requires { (seat.old.table_id ≡ self.now) × (seat.old.me.1 ≡ []) }
-        ensures seat { (seat.new.table_id ≡ seat.old.table_id) × (seat.new.me ≡ (holding seat.old.me.0 result.history, (0, None) ∷ [])) }
+    fn take<R: Wait>(&self, rt: &R, seat: &mut Pass) -> Parked
+        requires { (seat.old.table_id ≡ self.now) × (seat.old.me.1 ≡ []) × (seat.old.me.0.gone ≡ false) }
+        ensures seat { (seat.new.table_id ≡ seat.old.table_id) × (seat.new.me ≡ (holding seat.old.me.0 result.history result.uncollected, (0, None) ∷ [])) }
         ensures taken { IsTaken seat.old.me.0 result }
     {
         let backoff = Backoff::new();
@@ -153,12 +154,13 @@ impl ThreadCell {
     }
 
     /// Puts the slot back and clears the lock bit.
-    pub(crate) fn give(&self, seat: &mut Pass, slot: Slot)
-        requires seat { (seat.old.table_id ≡ self.now) × (seat.old.me.1 ≡ (0, None) ∷ []) × (seat.old.me.0.holds ≡ true) }
+    pub(crate) fn give(&self, seat: &mut Pass, slot: Parked)
+        requires seat { (seat.old.table_id ≡ self.now) × (seat.old.me.1 ≡ (0, None) ∷ []) × (seat.old.me.0.holds ≡ true) × (seat.old.me.0.gone ≡ false) }
         requires adds { Adds seat.old.me.0.number seat.old.me.0.seen slot.history }
+        requires keeps { Keeps seat.old.me.0.number seat.old.me.0.found slot.uncollected }
         requires about { IsAbout seat.old.me.0.subject slot }
-        ensures seat { (seat.new.table_id ≡ seat.old.table_id) × (seat.new.me ≡ (stored seat.old.me.0 slot.history, [])) }
-        ensures mine { (stored seat.old.me.0 slot.history).mine ≡ made_by seat.old.me.0.number slot.history }
+        ensures seat { (seat.new.table_id ≡ seat.old.table_id) × (seat.new.me ≡ (stored seat.old.me.0 slot.history slot.uncollected, [])) }
+        ensures mine { (stored seat.old.me.0 slot.history slot.uncollected).mine ≡ made_by seat.old.me.0.number slot.history }
         ensures legal { is_legal seat.old.me.0.subject.limits slot.history ≡ true }
     {
         let word = Word::free(slot.len(), slot.armed(), slot.barred());
@@ -179,19 +181,36 @@ impl ThreadCell {
         .look()
     }
 
-    /// The slot at the end, with the one history that the rule keeps: it is legal, begins with all that the thread has
-    /// seen, and has of the thread's own entries just those that were made from this seat. The seat is this cell's.
+    /// Takes an environment's seat back to the owner's, by one load. What its user knew is kept there, and `close` tells
+    /// it of the slot. Both seats are this cell's.
+    pub fn rejoin(&self, own: &mut OwnSeat, seat: EnvSeat)
+        requires cell { own.old.cell ≡ self.now }
+        requires other { seat.cell ≡ self.now }
+        requires owner { own.old.view.number ≡ 0 }
+        ensures cell { own.new.cell ≡ own.old.cell }
+        ensures view { own.new.view ≡ rejoined own.old.view seat.view }
+    {
+        let CellSeat { seat, role: _ } = seat;
+        self.table.shared.join_seat::<Returns>(&mut own.seat, seat);
+    }
+
+    /// The slot at the end, with the one history that the rule keeps. It is legal, and of each user whose seat came back,
+    /// and of the thread itself, it begins with all that this user had seen and has just the entries that it made. The
+    /// seat is this cell's.
     ///
-    /// It is `None` where the word that the cell ends with has the lock bit, and only there (`Word::unlocked`). Since a
-    /// hold is stored, and borrows the cell, that does not happen, but no clause says so. Nor does one say that entries
-    /// which other seats stored, and this one has not seen, are all there: of the cell's last state clauses know that
-    /// it keeps the rule and has this seat (`Ends`).
+    /// Where all seats came back (`IsAlone`), the slot is there, and has no other entry: its history is what one of its
+    /// users saw last. Else it is `None` where the word
+    /// that the cell ends with has the lock bit, and only there (`Word::unlocked`). Since a hold is stored, and borrows
+    /// the cell, that does not happen, but of seats that are away no clause says so.
     pub fn close(self, seat: OwnSeat) -> Option<Slot>
         requires cell { seat.cell ≡ self }
         ensures ends { Ends seat.view result }
         ensures legal { IfSome result (λ s. is_legal s.limits s.history ≡ true) }
         ensures seen { IfSome result (λ s. StartsWith s.history seat.view.seen) }
         ensures mine { IfSome result (λ s. seat.view.mine ≡ made_by seat.view.number s.history) }
+        ensures users { IfSome result (λ s. Each (IsSo s.limits s.history s.uncollected) (users seat.view)) }
+        ensures whole { IsAlone seat.view → IsWhole (users seat.view) result }
+        ensures last { IsAlone seat.view → IfSome result (λ s. WasSeen s.history (users seat.view)) }
         ensures about { IfSome result (λ s. IsAbout seat.view.subject s) }
     {
         let ThreadCell { table } = self;
@@ -202,6 +221,6 @@ impl ThreadCell {
         };
         let slot = closed.take(0);
         closed.free();
-        word.unlocked(slot)
+        word.unlocked(unpark(slot))
     }
 }

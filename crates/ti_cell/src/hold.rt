@@ -2,11 +2,12 @@ ghost use Rattle.std.specs.Prelude.{◌≡◌, true};
 ghost use Rattle.ti_replay.specs.Legal.{is_legal};
 ghost use Rattle.ti_replay.specs.Makers.{made_by, Adds, StartsWith};
 ghost use Rattle.ti_cell.specs.View.{stored, IsAbout};
+ghost use Rattle.ti_cell.specs.Rule.{Keeps};
 
 use crate::cell::ThreadCell;
+use crate::parked::Parked;
 use crate::seat::{CellSeat, Pass};
 use std::marker::{Model, PhantomData};
-use ti_slot::Slot;
 
 /// The slot, taken out of its cell. It has to be stored: to let go of it is a compile error.
 ///
@@ -14,19 +15,19 @@ use ti_slot::Slot;
 pub struct Hold<'a, K> {
     pub(crate) cell: &'a ThreadCell,
     pub(crate) seat: Pass,
-    pub(crate) slot: Slot,
+    pub(crate) slot: Parked,
     pub(crate) role: PhantomData<K>,
 }
 
 impl<'a, K> Model for Hold<'a, K> {
-    ghost use Rattle.std.specs.Prelude.{◌≡◌, [], ◌∷◌, true, None};
+    ghost use Rattle.std.specs.Prelude.{◌≡◌, [], ◌∷◌, true, false, None};
     ghost use Rattle.ti_cell.specs.Seats.{Holding};
 
     ghost Value = { Holding };
 
     ghost view = { λ h. record { cell = h.cell.now; view = h.seat.me.0; slot = h.slot } };
 
-    ghost invariant = { λ h. (h.seat.table_id ≡ h.cell.now) × (h.seat.me.1 ≡ (0, None) ∷ []) × (h.seat.me.0.holds ≡ true) };
+    ghost invariant = { λ h. (h.seat.table_id ≡ h.cell.now) × (h.seat.me.1 ≡ (0, None) ∷ []) × (h.seat.me.0.holds ≡ true) × (h.seat.me.0.gone ≡ false) };
 }
 
 impl<'a, K> Hold<'a, K> {
@@ -35,9 +36,10 @@ impl<'a, K> Hold<'a, K> {
     /// The slot is the one that was held, and all that was added to its history since is of this seat's number.
     pub fn store(self) -> CellSeat<K>
         requires adds { Adds self.view.number self.view.seen self.slot.history }
+        requires keeps { Keeps self.view.number self.view.found self.slot.uncollected }
         requires about { IsAbout self.view.subject self.slot }
         ensures cell { result.cell ≡ self.entry.cell }
-        ensures view { result.view ≡ stored self.entry.view self.entry.slot.history }
+        ensures view { result.view ≡ stored self.entry.view self.entry.slot.history self.entry.slot.uncollected }
         ensures legal { is_legal result.view.subject.limits result.view.seen ≡ true }
         ensures begins { StartsWith result.view.seen self.entry.view.seen }
         ensures mine { result.view.mine ≡ made_by result.view.number result.view.seen }

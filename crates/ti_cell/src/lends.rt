@@ -17,6 +17,6 @@ impl<'a, K> Hold<'a, K> {
         ensures* writes_back { sem 𝓛 (follows (the_row (record { mir = named 1; lft = [] }) K.row) slot_contracts.the_row self.entry.ghost_name result.ghost_name (with_slot self.old)) }
         ensures value { result.now ≡ self.old.slot }
     {
-        &mut self.slot
+        self.slot.slot_mut()
     }
 }

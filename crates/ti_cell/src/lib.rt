@@ -11,6 +11,8 @@
 //! - There is one legal history, whatever the threads do. It begins with all that a seat has seen, and has of its
 //!   entries exactly those that it added (`specs/Rule`).
 //! - A hold gives the slot with that history. What it then adds is its seat's own, and is seen by every later hold.
+//! - Where all seats came back to the owner's, the slot at the end has this history whole, whoever stored last: it begins
+//!   with all that each user had seen, and has each of that user's entries once, and no other (`close`).
 //! - A look is one load, and tells the bits of the history as it stands there, with its length.
 //! - A hold is stored: one that is let go of is a compile error. So is a seat that is used twice.
 //! - Only `ThreadCell::make` takes memory, and its only error is want of it.
@@ -22,6 +24,8 @@ mod cell;
 mod hold;
 mod lends;
 mod look;
+mod parked;
+mod parked_lends;
 mod seat;
 mod view;
 mod word;
@@ -30,4 +34,4 @@ pub use cell::ThreadCell;
 pub use hold::Hold;
 pub use look::Look;
 pub use seat::{CellSeat, Env, EnvSeat, Own, OwnSeat};
-pub use view::{CellRule, Subject, View};
+pub use view::{CellRule, Subject, User, View};

@@ -2,13 +2,13 @@ ghost use Rattle.std.specs.Prelude.{◌≡◌, true};
 ghost use Rattle.ti_replay.specs.Legal.{is_legal};
 ghost use Rattle.ti_replay.specs.Makers.{made_by};
 
+use crate::parked::Parked;
 use crate::view::View;
 use atomic_table::Seat;
 use std::marker::{Model, PhantomData};
-use ti_slot::Slot;
 
 /// A seat of the table below.
-pub(crate) type Pass = Seat<Option<Slot>, View>;
+pub(crate) type Pass = Seat<Option<Parked>, View>;
 
 /// The role of the thread itself.
 pub struct Own;
@@ -38,7 +38,7 @@ impl<K> Model for CellSeat<K> {
 
     ghost view = { λ s. record { cell = s.seat.table_id; view = s.seat.me.0 } };
 
-    ghost invariant = { λ s. (s.seat.me.1 ≡ []) × (s.seat.me.0.holds ≡ false) × (is_legal s.seat.me.0.subject.limits s.seat.me.0.seen ≡ true) × (s.seat.me.0.mine ≡ made_by s.seat.me.0.number s.seat.me.0.seen) };
+    ghost invariant = { λ s. (s.seat.me.1 ≡ []) × (s.seat.me.0.holds ≡ false) × (s.seat.me.0.gone ≡ false) × (is_legal s.seat.me.0.subject.limits s.seat.me.0.seen ≡ true) × (s.seat.me.0.mine ≡ made_by s.seat.me.0.number s.seat.me.0.seen) };
 }
 
 impl<K> CellSeat<K> {

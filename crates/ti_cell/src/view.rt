@@ -1,9 +1,9 @@
 //! What a seat knows, the rule over all seats, and what each step tells.
 use crate::look::Look;
-use atomic_table::{Play, Split, TableRule};
+use crate::parked::Parked;
+use atomic_table::{Join, Play, Split, TableRule};
 use std::collections::LinkedList;
-use ti_slot::Slot;
-use ti_types::{Entry, Limits, ThreadNo};
+use ti_types::{Entry, Limits, ThreadNo, Ticket};
 
 /// Which thread a cell is about, and its limits.
 #[derive(Clone, Copy, Debug)]
@@ -22,17 +22,35 @@ pub struct View {
     pub mine: LinkedList<Entry>,
     /// What was looked at, the earliest first.
     pub looked: LinkedList<Look>,
+    /// The tickets of this seat's calls that wait, or whose answers were not collected, the earliest posted first.
+    pub posted: LinkedList<Ticket>,
+    /// While the seat holds the cell: all such tickets, of whatever seat, as it found them.
+    pub found: LinkedList<Ticket>,
     /// Whether the seat holds the cell.
     pub holds: bool,
-    /// At the owner's seat, how many seats there are.
+    /// At the owner's seat, how many seats were made, itself among them.
     pub made: u32,
+    /// At the owner's seat, what each seat knew that came back, in the order in which they came.
+    pub back: LinkedList<User>,
+    /// Whether the seat came back to the owner's.
+    pub gone: bool,
     pub subject: Subject,
+}
+
+/// What a user of the slot knows of it. It is for contracts alone: no value of it is made.
+pub struct User {
+    /// The number of its seat.
+    pub number: u32,
+    pub seen: LinkedList<Entry>,
+    pub mine: LinkedList<Entry>,
+    pub looked: LinkedList<Look>,
+    pub posted: LinkedList<Ticket>,
 }
 
 /// The rule of a cell: `Kept` in `specs/Rule`.
 pub struct CellRule;
 
-impl TableRule<Option<Slot>, View, Subject> for CellRule {
+impl TableRule<Option<Parked>, View, Subject> for CellRule {
     ghost use Rattle.ti_cell.specs.Rule.{Kept};
     ghost use Rattle.ti_cell.specs.View.{newcomer};
 
@@ -44,7 +62,7 @@ impl TableRule<Option<Slot>, View, Subject> for CellRule {
 /// The lock bit is set, and the slot comes out.
 pub struct Locks;
 
-impl Play<Option<Slot>, View> for Locks {
+impl Play<Option<Parked>, View> for Locks {
     ghost use Rattle.ti_cell.specs.Rule.{locks};
 
     ghost then = { locks };
@@ -53,7 +71,7 @@ impl Play<Option<Slot>, View> for Locks {
 /// The slot is in, and the lock bit is cleared.
 pub struct Frees;
 
-impl Play<Option<Slot>, View> for Frees {
+impl Play<Option<Parked>, View> for Frees {
     ghost use Rattle.ti_cell.specs.Rule.{frees};
 
     ghost then = { frees };
@@ -62,7 +80,7 @@ impl Play<Option<Slot>, View> for Frees {
 /// The word is loaded.
 pub struct Glances;
 
-impl Play<Option<Slot>, View> for Glances {
+impl Play<Option<Parked>, View> for Glances {
     ghost use Rattle.ti_cell.specs.Rule.{glances};
 
     ghost then = { glances };
@@ -77,4 +95,15 @@ impl Split<View> for Seats {
     ghost left = { splitter };
 
     ghost right = { split_off };
+}
+
+/// A seat comes back to the owner.
+pub struct Returns;
+
+impl Join<View> for Returns {
+    ghost use Rattle.ti_cell.specs.View.{rejoined, nobody};
+
+    ghost both = { rejoined };
+
+    ghost spent = { nobody };
 }

@@ -88,6 +88,10 @@ tickets_has t e (Some a) k = sym (or_false (has k t.uncollected))
 other_thread : (t : Thread) (e : EnvNo) (u : ThreadNo) (k : Ticket) → t.number ≡ u → k.thread.0 ≢ u.0 → same (ticket_of t e) k ≡ false
 other_thread t e u k n h = grind (arith, nat_tests, n, h)
 
+and_false : (b : Bool) → (b && false) ≡ false
+and_false true = refl
+and_false false = refl
+
 ask_kept : (events : List Happening) (s : CoreState) (w : Bool) (e : EnvNo) (u : ThreadNo) (call : Call) (k : Ticket) → Stands events s → is_none (whys s w (Ask e u call)) ≡ true → u.0 < length s.threads
     → has k (thread_at s.limits (slice_set s.threads u.0 (ask_next (thread_at s.limits s.threads u).thread.limits (thread_at s.limits s.threads u) e call)) k.thread).thread.uncollected
     ≡ (has k (thread_at s.limits s.threads k.thread).thread.uncollected || (is_none (given (reply_now (thread_at s.limits s.threads u).thread.limits (thread_at s.limits s.threads u) e call)) && same (ticket_of (thread_at s.limits s.threads u).thread e) k))
@@ -96,7 +100,7 @@ ask_kept events s w e u call k st free there =
     let r = reply_now t.thread.limits t e call in
     let n : t.thread.number ≡ u = (st.threads u (omega (arith, there, st.thread_count))).number_is in
     moved_kept s.limits s.threads u (ask_next t.thread.limits t e call) k (is_none (given r) && same (ticket_of t.thread e) k) there
-    (λ h. tickets_has t.thread e r k) (λ h. let z = other_thread t.thread e u k n h in grind (arith, z))
+    (λ h. tickets_has t.thread e r k) (λ h. ap (λ b. is_none (given r) && b) (other_thread t.thread e u k n h) ∙ and_false (is_none (given r)))
 
 refused_kept : (s : CoreState) (why : Option TiError) (other : Stepped) (k : Ticket) (b : Bool) → (why ≡ None → has k (thread_at s.limits other.threads k.thread).thread.uncollected ≡ (has k (thread_at s.limits s.threads k.thread).thread.uncollected || (is_none other.told && b)))
     → has k (thread_at s.limits (refused_or_else s.envs s.threads why other).threads k.thread).thread.uncollected ≡ (has k (thread_at s.limits s.threads k.thread).thread.uncollected || (is_none (refused_or_else s.envs s.threads why other).told && b))

@@ -8,7 +8,7 @@ use Rattle.ti_types.specs.declared.limits.Limits.{Limits}
 use Rattle.ti_types.specs.declared.numbers.EnvNo.{EnvNo}
 use Rattle.ti_types.specs.declared.step.Step.{Step}
 use Rattle.ti_types.specs.declared.call.Call.{Call}
-use Rattle.ti_types.specs.declared.call.Call.TheVariants.{State, FrameCount, Trace, Location, Suspend, Resume, GetWord, SetWord}
+use Rattle.ti_types.specs.declared.call.Call.TheVariants.{State, FrameCount, Trace, Location, Suspend, Resume, GetWord, SetWord, Pop}
 use Rattle.ti_types.specs.declared.entry.Entry.{Entry}
 use Rattle.ti_types.specs.declared.entry.Entry.TheVariants.{Own}
 use Rattle.ti_types.specs.declared.event.Ticket.{Ticket}
@@ -122,6 +122,7 @@ answered_by v w env Suspend h m s o = cc
 answered_by v w env Resume h m s o = grind (arith, m, s, o)
 answered_by v w env GetWord h m s o = grind (arith, m, s, o)
 answered_by v w env (SetWord word) h m s o = grind (arith, m, s, o)
+answered_by v w env Pop h m s o = cc
 
 -- a call that does not wait is answered without the frames
 pub logged_answer : (limits : Limits) (h : List Entry) (steps : List Step) (env : EnvNo) (call : Call) → waits call ≡ false

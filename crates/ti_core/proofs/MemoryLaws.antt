@@ -6,14 +6,15 @@ use Rattle.ti_types.specs.declared.numbers.EnvNo.{EnvNo}
 use Rattle.ti_types.specs.declared.numbers.ThreadNo.{ThreadNo}
 use Rattle.ti_types.specs.declared.place.Frame.{Frame}
 use Rattle.ti_types.specs.declared.call.Call.{Call}
-use Rattle.ti_types.specs.declared.call.Call.TheVariants.{State, FrameCount, Trace, Location, Suspend, Resume, GetWord, SetWord}
+use Rattle.ti_types.specs.declared.call.Call.TheVariants.{State, FrameCount, Trace, Location, Suspend, Resume, GetWord, SetWord, Pop}
 use Rattle.ti_types.specs.declared.entry.Entry.{Entry}
 use Rattle.ti_types.specs.declared.entry.Entry.TheVariants.{Start, Own, Hand, Back, End, Asked, Stop, Read, Go}
 use Rattle.ti_types.specs.declared.event.Outcome.TheVariants.{Gave}
 use Rattle.ti_types.specs.declared.answer.Answer.{Answer}
 use Rattle.ti_types.specs.declared.view.ThreadView.{ThreadView}
-use Rattle.ti_replay.specs.Answers.{answer_of, trace_from, location_of, first_of_trace, is_running, is_alive, or_zero}
+use Rattle.ti_replay.specs.Answers.{answer_of, trace_from, location_of, first_of_trace, done_or, is_running, is_alive, or_zero}
 use Rattle.std.specs.Option.{option_or}
+use Rattle.ti_types.specs.Pops.{popping_refusal}
 use Rattle.ti_replay.specs.Legal.{is_stopper}
 use Rattle.ti_replay.specs.Settling.{Placed, settled}
 use Rattle.ti_replay.specs.View.{view, after, new_thread}
@@ -30,6 +31,12 @@ location_memory : (f : Option Frame) → is_for_memory (Gave (location_of f)) �
 location_memory None = refl
 location_memory (Some f) = refl
 
+pop_memory : (suspended : Bool) (newest caller : Option Frame) → is_for_memory (Gave (done_or (popping_refusal suspended newest caller))) ≡ false
+pop_memory false newest caller = refl
+pop_memory true None caller = refl
+pop_memory true (Some newest) None = refl
+pop_memory true (Some newest) (Some caller) = grind arith
+
 answer_memory : (v : ThreadView) (env : EnvNo) (call : Call) → is_for_memory (Gave (answer_of v env call)) ≡ false
 answer_memory v env State = refl
 answer_memory v env FrameCount = grind arith
@@ -39,6 +46,7 @@ answer_memory v env Suspend = grind arith
 answer_memory v env Resume = grind arith
 answer_memory v env GetWord = grind arith
 answer_memory v env (SetWord word) = grind arith
+answer_memory v env Pop = let t = pop_memory v.suspended (slice_get v.frames 0) (slice_get v.frames 1) in elim (cases_Bool (is_alive v.mode)) [ inl on ↦ rw on t | inr off ↦ rw off refl ]
 
 pub entry_memory : (v : ThreadView) (x : Entry) → was_for_memory (given (answer_to v x)) ≡ false
 entry_memory v Start = refl

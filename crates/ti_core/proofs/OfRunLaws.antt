@@ -1,5 +1,5 @@
 -- The laws of what a run gives, from the laws of the definitions.
-use Rattle.std.proofs.Common.{◌≡◌, Bool, List, [], ◌∷◌, ◌++◌, ◌+◌, length, length-append, map, refl, ap, ap₂, sym, ◌∙◌, arith, Option, Some, None, append_assoc, append-nil, is_none}
+use Rattle.std.proofs.Common.{◌≡◌, Bool, List, [], ◌∷◌, ◌++◌, ◌+◌, length, length-append, map, refl, ap, ap₂, sym, ◌∙◌, arith, Option, Some, None, append_assoc, append-nil, is_none, take, drop, subst}
 use Rattle.ti_types.specs.declared.limits.Limits.{Limits}
 use Rattle.ti_types.specs.declared.numbers.EnvNo.{EnvNo}
 use Rattle.ti_types.specs.declared.numbers.ThreadNo.{ThreadNo}
@@ -9,17 +9,22 @@ use Rattle.ti_types.specs.declared.event.Event.{Event}
 use Rattle.ti_types.specs.declared.event.Event.TheVariants.{Ask, Read}
 use Rattle.ti_types.specs.declared.event.Outcome.{Outcome}
 use Rattle.ti_types.specs.declared.event.Outcome.TheVariants as outcome
+use Rattle.ti_types.specs.declared.answer.Answer.TheVariants as answer
+use Rattle.ti_types.specs.Frames.{bare_trace}
+use Rattle.ti_types.specs.State.{bits_of}
+use Rattle.ti_replay.specs.Answers.{or_zero}
+use Rattle.ti_replay.specs.View.{view}
 use Rattle.ti_replay.specs.Replies.{reply}
 use Rattle.ti_replay.specs.Admission.{Happening, dealings, refusal}
 use Rattle.ti_replay.specs.Agreement.{kept_as, if_kept, told_from}
 use Rattle.ti_replay.specs.Events.{history_of, refused_or, given}
 use Rattle.ti_replay.specs.Outcomes.{out_of, outs_from, told_later, was_for_memory, happening, happenings}
-use Rattle.ti_replay.specs.Standing.{was_refused}
+use Rattle.ti_replay.specs.Standing.{was_refused, pop_count, pops_done}
 use Rattle.ti_replay.specs.Storage.{word_answer}
 use Rattle.ti_replay.proofs.AgreementLaws.{tells_the_kept}
 use Rattle.ti_replay.proofs.StopLaws.{one_state}
 use Rattle.ti_replay.proofs.WordAnswers.{word_is_given}
-use Rattle.ti_core.specs.OfRuns.{IsRunOf, picked_from, RunsAgree, WordsAreTold, RunsTellOneState}
+use Rattle.ti_core.specs.OfRuns.{IsRunOf, pops_told, picked_from, RunsAgree, WordsAreTold, RunsTellOneState}
 use Rattle.ti_core.proofs.RunLaws.{ask_out}
 
 abbrev first_or : List (Option Outcome) → Option Outcome
@@ -89,6 +94,29 @@ words_are_told limits env thread before after os ps o h run =
     run_place limits before after (Ask env thread GetWord) os ps o h run
     ∙ word_out limits (happenings before os) (happenings after ps) env thread (was_for_memory o)
 
+-- the pops that are done, by what the events come to
+pops_here : (limits : Limits) (thread : ThreadNo) (all front : List Happening) (more after : List Event) (ps qs : List (Option Outcome))
+    → length more ≡ length ps → map told_later (ps ++ qs) ≡ outs_from limits all front (happenings (more ++ after) (ps ++ qs))
+    → pops_done limits thread all front (happenings more ps) ≡ pops_told thread more ps
+pops_here limits thread all front [] after [] qs h e = refl
+pops_here limits thread all front [] after (p ∷ ps) qs h e = absurd (omega (arith, h))
+pops_here limits thread all front (x ∷ more) after [] qs h e = absurd (omega (arith, h))
+pops_here limits thread all front (x ∷ more) after (p ∷ ps) qs h e =
+    let one : told_later p ≡ out_of limits all front (happening x p) = ap first_or e in
+    let rest = pops_here limits thread all (front ++ happening x p ∷ []) more after ps qs (omega (arith, h)) (ap rest_of e) in
+    ap₂ (λ o n. pop_count thread x o + n) (sym one) rest
+
+-- and behind a front
+pops_at : (limits : Limits) (thread : ThreadNo) (all front : List Happening) (before more after : List Event) (os ps qs : List (Option Outcome))
+    → length before ≡ length os → length more ≡ length ps → map told_later (os ++ (ps ++ qs)) ≡ outs_from limits all front (happenings (before ++ (more ++ after)) (os ++ (ps ++ qs)))
+    → pops_done limits thread all (front ++ happenings before os) (happenings more ps) ≡ pops_told thread more ps
+pops_at limits thread all front [] more after [] ps qs h k e = ap (λ f. pops_done limits thread all f (happenings more ps)) (append-nil front) ∙ pops_here limits thread all front more after ps qs k e
+pops_at limits thread all front [] more after (o ∷ os) ps qs h k e = absurd (omega (arith, h))
+pops_at limits thread all front (x ∷ before) more after [] ps qs h k e = absurd (omega (arith, h))
+pops_at limits thread all front (x ∷ before) more after (o ∷ os) ps qs h k e =
+    ap (λ f. pops_done limits thread all f (happenings more ps)) (sym (append_assoc front (happening x o ∷ []) (happenings before os)))
+    ∙ pops_at limits thread all (front ++ happening x o ∷ []) before more after os ps qs (omega (arith, h)) k (ap rest_of e)
+
 pub runs_tell_one_state : RunsTellOneState
 runs_tell_one_state limits env thread before more after event os ps qs o h k run stands stays =
     let front = happenings before os in
@@ -99,10 +127,22 @@ runs_tell_one_state limits env thread before more after event os ps qs o h k run
     let held = one_state limits env thread front (happenings more ps) stands stays in
     let told : told_later o ≡ out_of limits (now ++ happening event o ∷ rest) now (happening event o) =
     run_place limits (before ++ more) after event (os ++ ps) qs o count run ∙ ap (λ f. out_of limits (f ++ happening event o ∷ rest) f (happening event o)) split in
+    let whole : happenings ((before ++ more) ++ event ∷ after) ((os ++ ps) ++ o ∷ qs) ≡ now ++ happening event o ∷ rest =
+    happenings-append (before ++ more) (event ∷ after) (os ++ ps) (o ∷ qs) count ∙ ap (λ f. f ++ happening event o ∷ rest) split in
+    let apart : IsRunOf limits (before ++ (more ++ event ∷ after)) (os ++ (ps ++ o ∷ qs)) =
+    subst (λ es. IsRunOf limits es (os ++ (ps ++ o ∷ qs))) (append_assoc before more (event ∷ after)) (subst (λ xs. IsRunOf limits ((before ++ more) ++ event ∷ after) xs) (append_assoc os ps (o ∷ qs)) run) in
+    let same : happenings (before ++ (more ++ event ∷ after)) (os ++ (ps ++ o ∷ qs)) ≡ now ++ happening event o ∷ rest =
+    ap₂ happenings (sym (append_assoc before more (event ∷ after))) (sym (append_assoc os ps (o ∷ qs))) ∙ whole in
+    let popped : pops_done limits thread (now ++ happening event o ∷ rest) front (happenings more ps) ≡ pops_told thread more ps =
+    ap (λ all. pops_done limits thread all front (happenings more ps)) (sym same)
+    ∙ pops_at limits thread (happenings (before ++ (more ++ event ∷ after)) (os ++ (ps ++ o ∷ qs))) [] before more (event ∷ after) os ps (o ∷ qs) h k apart in
     record {
       own = λ own. ap was_refused told ∙ held.refused (now ++ happening event o ∷ rest) (happening event o) own;
       reads = λ n is admitted.
           let g : happening event o ≡ record { event = Read env thread n; wanting = was_for_memory o } = ap (λ (x : Event). happening x o) is in
           told ∙ ap (λ z. out_of limits (now ++ z ∷ rest) now z) g
-          ∙ held.reads rest n (was_for_memory o) (ap (λ z. is_none (refusal limits (dealings limits env thread now) z)) (sym g) ∙ admitted);
+          ∙ held.reads rest n (was_for_memory o) (ap (λ z. is_none (refusal limits (dealings limits env thread now) z)) (sym g) ∙ admitted)
+          ∙ ap (λ c. Some (outcome.Gave (answer.Stack (bits_of (view limits (history_of limits thread front)).mode (view limits (history_of limits thread now)).suspended)
+          (bare_trace (take (or_zero n) (drop c (view limits (history_of limits thread front)).frames))))))
+          (ap (λ z. pops_done limits thread (now ++ z ∷ rest) front (happenings more ps)) (sym g) ∙ popped);
     }

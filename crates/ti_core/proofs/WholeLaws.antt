@@ -52,7 +52,7 @@ passed_frames : (limits : Limits) (h : List Entry) (steps : List Step) (x : Entr
     → (view limits ((h ++ x ∷ []) ++ steps_of steps)).frames ≡ (view limits (h ++ steps_of steps)).frames
 passed_frames limits h steps x p r =
     let late = steps_late limits h steps x p r in
-    ap (λ (s : HistoryState). s.view.frames) (sym late.state) ∙ (passed_here limits (h ++ steps_of steps) x p).frames
+    ap (λ (s : HistoryState). s.view.frames) (sym late.state) ∙ (passed_here limits (h ++ steps_of steps) x p).frames (logged_runs limits h steps ∙ r)
 
 has_log : (limits : Limits) (m n : Mode) (l : Option Steps) → n ≡ m → HasLog limits m l → HasLog limits n l
 has_log limits m n l e k = subst (λ z. HasLog limits z l) (sym e) k

@@ -1,5 +1,5 @@
 -- Laws of what a run gives: they speak of the outcomes themselves.
-use Rattle.std.specs.Prelude.{ℤ, ◌≡◌, true, false, List, [], ◌∷◌, ◌++◌, length, map, take, Option, Some, is_none}
+use Rattle.std.specs.Prelude.{ℕ, ◌+◌, ℤ, ◌≡◌, true, false, List, [], ◌∷◌, ◌++◌, length, map, take, drop, Option, Some, is_none}
 use Rattle.ti_types.specs.declared.limits.Limits.{Limits}
 use Rattle.ti_types.specs.declared.numbers.EnvNo.{EnvNo}
 use Rattle.ti_types.specs.declared.numbers.ThreadNo.{ThreadNo}
@@ -17,7 +17,7 @@ use Rattle.ti_replay.specs.Admission.{Happening, dealings, refusal, is_own_of}
 use Rattle.ti_replay.specs.Agreement.{kept, kept_as, if_kept}
 use Rattle.ti_replay.specs.Events.{history_of, refused_or}
 use Rattle.ti_replay.specs.Outcomes.{outs, told_later, happening, happenings}
-use Rattle.ti_replay.specs.Standing.{is_standing, lets_go, was_refused}
+use Rattle.ti_replay.specs.Standing.{is_standing, lets_go, was_refused, pop_count}
 use Rattle.ti_replay.specs.Storage.{word_answer}
 
 -- what a run under these limits gives for these events
@@ -52,14 +52,21 @@ WordsAreTold =
     told_later o ≡ refused_or (refusal limits (dealings limits env thread (happenings before os)) (happening (Ask env thread GetWord) o))
     (Some (outcome.Gave (word_answer (history_of limits thread (happenings before os)) env)))
 
+-- how many pops at the thread are done, by what these events came to
+abbrev pub pops_told : ThreadNo → List Event → List (Option Outcome) → ℕ
+pops_told thread [] os = 0
+pops_told thread (x ∷ xs) [] = 0
+pops_told thread (x ∷ xs) (o ∷ os) = pop_count thread x (told_later o) + pops_told thread xs os
+
 -- an event at a thread that was stopped at an earlier front of the events, and not let go since: one of its own is
--- refused, and a read that is admitted tells of the mode and the frames at that front. The suspended flag may change
-pub record TellsOneState (limits : Limits) (env : EnvNo) (thread : ThreadNo) (front now : List Happening) (event : Event) (o : Option Outcome) : Type 0 where
+-- refused, and a read that is admitted tells of the mode and the frames at that front, but for those that were popped
+-- since, the newest first. The suspended flag may change
+pub record TellsOneState (limits : Limits) (env : EnvNo) (thread : ThreadNo) (front now : List Happening) (popped : ℕ) (event : Event) (o : Option Outcome) : Type 0 where
   pub own : is_own_of thread event ≡ true → was_refused (told_later o) ≡ true
   pub reads : (max_count : ℤ) → event ≡ Read env thread max_count → is_none (refusal limits (dealings limits env thread now) (happening event o)) ≡ true
       → told_later o
       ≡ Some (outcome.Gave (answer.Stack (bits_of (view limits (history_of limits thread front)).mode (view limits (history_of limits thread now)).suspended)
-      (bare_trace (take (or_zero max_count) (view limits (history_of limits thread front)).frames))))
+      (bare_trace (take (or_zero max_count) (drop popped (view limits (history_of limits thread front)).frames)))))
 
 -- from where an environment stands at a thread, and until it lets the thread go, all is of one state
 abbrev pub RunsTellOneState : Type 0
@@ -68,4 +75,4 @@ RunsTellOneState =
     (os ps qs : List (Option Outcome)) (o : Option Outcome) →
     length before ≡ length os → length more ≡ length ps → IsRunOf limits ((before ++ more) ++ event ∷ after) ((os ++ ps) ++ o ∷ qs) →
     is_standing limits (history_of limits thread (happenings before os)) env ≡ true → lets_go env thread (happenings more ps) ≡ false →
-    TellsOneState limits env thread (happenings before os) (happenings before os ++ happenings more ps) event o
+    TellsOneState limits env thread (happenings before os) (happenings before os ++ happenings more ps) (pops_told thread more ps) event o

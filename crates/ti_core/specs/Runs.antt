@@ -66,6 +66,11 @@ abbrev pub IsFinished : List Happening → CoreState → Option Outcome → Opti
 IsFinished events s (Some (Posted k)) o = is_uncollected s k ≡ true → told_later o ≡ given (reply_to s.limits (history_of s.limits k.thread events) k)
 IsFinished events s old o = o ≡ old
 
+-- whether it is no ticket
+abbrev pub is_final : Option Outcome → Bool
+is_final (Some (Posted t)) = false
+is_final _ = true
+
 abbrev pub is_posted : Option Outcome → Ticket → Bool
 is_posted (Some (Posted t)) k = same t k
 is_posted _ k = false

@@ -11,7 +11,8 @@ ghost use Rattle.ti_env.specs.Env.{new_env};
 ghost use Rattle.ti_core.specs.Threads.{IfPosted, is_ticket_of};
 ghost use Rattle.ti_core.specs.Thread.{taken};
 ghost use Rattle.ti_core.specs.Core.{CoreState, core_of, core_next, core_told, core_taken, is_uncollected, thread_at, IsTicketOf};
-ghost use Rattle.ti_core.specs.Runs.{IsTicketBy};
+ghost use Rattle.std.specs.List.{list_all};
+ghost use Rattle.ti_core.specs.Runs.{IsTicketBy, is_final};
 ghost use Rattle.ti_core.specs.Refused.{is_refusal, IsUnchanged};
 ghost use Rattle.ti_core.specs.Stands.{Stands, IsReached, AreNew};
 
@@ -190,13 +191,15 @@ impl Core {
         events: &[Event],
     ) -> Result<Vec<Option<Outcome>>, TiError>
         ensures outcomes { IfOk result (λ os. map told_later os.items ≡ outs limits (happenings events.now os.items)) }
+        ensures settled { IfOk result (λ os. list_all is_final os.items ≡ true) }
         ensures count { IfOk result (λ os. length os.items ≡ length events.now) }
         ensures memory { IfErr result (λ e. e ≡ TiError.OutOfMemory) }
     {
-        let mut core = Core::new(alloc, limits)?;
+        // Before the core: so large a block finds room in the memory of the document's tree, if that was given up.
         let Ok(mut outcomes) = Vec::with_capacity(alloc, events.len()) else {
             return Err(TiError::OutOfMemory);
         };
+        let mut core = Core::new(alloc, limits)?;
         for event in events {
             let outcome = core.step(alloc, *event);
             let Ok(()) = outcomes.push(Some(outcome)) else {

@@ -18,7 +18,8 @@ pub fn words_are_told()
 {}
 
 /// From where an environment stands at a thread until it lets the thread go, each event of the thread's own is refused,
-/// and each of the environment's admitted reads tells of the one mode and the frames; the suspended flag may change.
+/// and each of the environment's admitted reads tells of the one mode and the frames, but for those that admitted pops
+/// took since, the newest first; the suspended flag may change.
 pub fn runs_tell_one_state()
     ensures { RunsTellOneState }
 {}

@@ -2,6 +2,7 @@ ghost use Rattle.std.specs.Prelude.{◌≡◌, ◌≢◌, ◌+◌, ◌++◌, ◌
 ghost use Rattle.std.specs.Io.KnownBytes.{Appends, Keeps};
 ghost use Rattle.std.specs.String.{string_len, string_capacity};
 ghost use Rattle.ti_script.specs.Texts.{line_text, lines_text};
+ghost use Rattle.ti_script.specs.Bounds.{AreNamesWithin};
 ghost use Rattle.ti_driver.specs.declared.fault.Fault.TheVariants.{Memory, Write as NotWritten};
 ghost use Rattle.ti_driver.specs.Lines.{AreWithin, HasRoom};
 ghost use Rattle.ti_driver.specs.Streams.{TakesFront, Sends};
@@ -10,11 +11,36 @@ use crate::fault::Fault;
 use crate::output::write_whole;
 use std::alloc::{AllocError, Global};
 use std::io::Write;
-use ti_script::{Names, line_text};
+use ti_script::{Names, line_bound, line_text};
 use ti_types::Outcome;
 
 /// So many bytes are gathered before they are written.
 const CHUNK: usize = 65_536;
+
+/// A line whose length is known to be at most this needs no measuring.
+const ESTIMATE: usize = 1_048_576;
+
+/// A length that the line of an outcome does not exceed, where no method's name is longer than `longest_name`: an estimate
+/// where that is small, else the length itself, for which the line is made.
+fn line_room(
+    line: &mut String,
+    methods: &Names,
+    longest_name: usize,
+    index: usize,
+    outcome: &Option<Outcome>,
+) -> Result<usize, AllocError>
+    requires { AreNamesWithin longest_name methods.now }
+    ensures { IfOk result (λ n. length (line_text methods.now index outcome.now) ≤ n) }
+{
+    if let Some(bound) = line_bound(longest_name, outcome) {
+        if bound <= ESTIMATE {
+            return Ok(bound);
+        }
+    }
+    line.clear();
+    line_text(line, methods, index, outcome)?;
+    Ok(line.len())
+}
 
 /// A length that no line of these outcomes exceeds.
 fn longest_line(
@@ -24,12 +50,12 @@ fn longest_line(
 ) -> Result<usize, AllocError>
     ensures { IfOk result (λ n. AreWithin n methods.now 0 outcomes.now) }
 {
+    let longest_name = methods.longest();
     let mut line = String::new(alloc);
     let mut longest = 0;
     for (index, outcome) in outcomes.iter().enumerate() {
-        line.clear();
-        line_text(&mut line, methods, index, outcome)?;
-        longest = longest.max(line.len());
+        let room = line_room(&mut line, methods, longest_name, index, outcome)?;
+        longest = longest.max(room);
     }
     Ok(longest)
 }

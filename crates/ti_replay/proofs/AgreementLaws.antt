@@ -176,7 +176,7 @@ caps_fold limits env t u d c [] h = h
 caps_fold limits env t u d c (x ∷ events) h =
     caps_fold limits env t u (dealt limits env t d x) (dealt limits env u c x) events (ap (λ k. caps_after env k x.event) h)
 
-same_thread : (t u : ThreadNo) → (t.0 == u.0) ≡ true → t ≡ u
+pub same_thread : (t u : ThreadNo) → (t.0 == u.0) ≡ true → t ≡ u
 same_thread t u h = ap (λ (n : ℕ). record { 0 = n }) (eqb-true _ _ h)
 
 -- an event at a thread, or about capabilities, comes to what it comes to at the thread

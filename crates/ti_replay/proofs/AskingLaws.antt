@@ -1,5 +1,5 @@
 -- What a replay keeps while it looks for a reply.
-use Rattle.std.proofs.Common.{◌≡◌, ℕ, ◌+◌, ◌<◌, ◌≤◌, true, List, [], ◌∷◌, ◌++◌, length, take, refl, ap, ◌∙◌, arith, append-nil}
+use Rattle.std.proofs.Common.{◌≡◌, ℕ, ◌+◌, ◌<◌, ◌≤◌, true, List, [], ◌∷◌, ◌++◌, length, take, drop, get_or, zero, suc, ap, ◌∙◌, arith, append-nil}
 use Rattle.std.specs.Option.{option_or}
 use Rattle.std.proofs.lemmas.Bool.Decides.{nat_tests}
 use Rattle.std.proofs.lemmas.List.Folds.{list_all-append}
@@ -8,32 +8,60 @@ use Rattle.ti_types.specs.declared.limits.Limits.{Limits}
 use Rattle.ti_types.specs.declared.place.Frame.{Frame}
 use Rattle.ti_types.specs.declared.step.Step.{Step}
 use Rattle.ti_types.specs.declared.step.Step.TheVariants.{Enter, EnterNative, At, Leave}
+use Rattle.ti_types.specs.declared.numbers.EnvNo.{EnvNo}
+use Rattle.ti_types.specs.declared.call.Call.{Call}
+use Rattle.ti_types.specs.declared.call.Call.TheVariants.{State, FrameCount, Trace, Location, Suspend, Resume, GetWord, SetWord, Pop}
 use Rattle.ti_types.specs.declared.entry.Entry.{Entry}
 use Rattle.ti_types.specs.declared.entry.Entry.TheVariants.{Start, Own, Hand, Back, End, Asked, Stop, Read, Go}
 use Rattle.ti_types.specs.declared.view.ThreadView.{ThreadView}
 use Rattle.ti_replay.specs.Settling.{Placed, is_waiting_call, settled}
-use Rattle.ti_replay.specs.View.{view, after, after_all, frames_after, new_thread}
+use Rattle.ti_replay.specs.View.{view, after, after_all, called, frames_after, new_thread}
 use Rattle.ti_replay.specs.Legal.{step_fits}
 use Rattle.ti_replay.specs.Replies.{reply, reply_from}
 use Rattle.ti_replay.specs.PlacedState.{PlacedState, placed_state, may_enter, entered, settled_by, all_calls}
 use Rattle.ti_replay.proofs.HistoryLaws.{view_runs, settled_hand, settled_wait, settled_now}
-use Rattle.ti_replay.proofs.LateStepLaws.{called_keeps, reply_from-append}
+use Rattle.ti_replay.proofs.LateStepLaws.{reply_from-append}
 use Rattle.ti_replay.proofs.StepLaws.{entry_at}
 
--- a waiting call leaves the frames
-pub wait_frames : (v : ThreadView) (x : Entry) → is_waiting_call x ≡ true → (after v x).frames ≡ v.frames
+leave_fewer : (frames : List Frame) → length (frames_after frames Leave) ≤ length frames
+leave_fewer [] = omega arith
+leave_fewer (f ∷ frames) = omega arith
+
+-- a call leaves no more frames
+called_fewer : (v : ThreadView) (env : EnvNo) (call : Call) → length (called v env call).frames ≤ length v.frames
+called_fewer v env State = omega arith
+called_fewer v env FrameCount = omega arith
+called_fewer v env (Trace start max_count) = omega arith
+called_fewer v env (Location depth) = omega arith
+called_fewer v env Suspend = grind arith
+called_fewer v env Resume = grind arith
+called_fewer v env GetWord = omega arith
+called_fewer v env (SetWord word) = grind arith
+called_fewer v env Pop = grind (arith, leave_fewer v.frames)
+
+-- a waiting call leaves no more frames
+pub wait_frames : (v : ThreadView) (x : Entry) → is_waiting_call x ≡ true → length (after v x).frames ≤ length v.frames
 wait_frames v Start h = cc
 wait_frames v (Own step) h = cc
 wait_frames v (Hand safe) h = cc
 wait_frames v Back h = cc
 wait_frames v End h = cc
-wait_frames v (Asked env number call) h = (called_keeps v env call).1
+wait_frames v (Asked env number call) h = called_fewer v env call
 wait_frames v (Stop env) h = cc
 wait_frames v (Read env n) h = cc
 wait_frames v (Go env) h = cc
 
-all_frames : (v : ThreadView) (w : List Placed) → all_calls w ≡ true → (after_all v w).frames ≡ v.frames
-all_frames v [] h = refl
+pub wait_few : (v : ThreadView) (x : Entry) (n : ℕ) → is_waiting_call x ≡ true → length v.frames < n → length (after v x).frames < n
+wait_few v x n h le = omega (arith, le, wait_frames v x h)
+
+-- the first of the calls that are left
+pub calls_here : (w : List Placed) (i : ℕ) → i < length w → all_calls (drop i w) ≡ true → is_waiting_call (get_or w i (0, Start)).1 ≡ true
+calls_here [] i l h = absurd (omega arith)
+calls_here (p ∷ w) zero l h = grind arith
+calls_here (p ∷ w) (suc i) l h = calls_here w i (omega arith) h
+
+all_frames : (v : ThreadView) (w : List Placed) → all_calls w ≡ true → length (after_all v w).frames ≤ length v.frames
+all_frames v [] h = omega arith
 all_frames v (p ∷ w) h = grind (arith, all_frames (after v p.1) w, wait_frames v p.1)
 
 step_depth : (limits : Limits) (frames : List Frame) (step : Step) → step_fits limits frames step ≡ true → length frames ≤ limits.depth → length (frames_after frames step) ≤ limits.depth
@@ -51,7 +79,7 @@ depth_kept limits s (Own step) h le c = grind (arith, step_depth limits s.view.f
 depth_kept limits s (Hand safe) h le c = grind (arith, all_frames (after s.view (Hand safe)) s.waiting)
 depth_kept limits s Back h le c = grind arith
 depth_kept limits s End h le c = grind (arith, all_frames (after s.view End) s.waiting)
-depth_kept limits s (Asked env number call) h le c = grind (arith, called_keeps s.view env call)
+depth_kept limits s (Asked env number call) h le c = grind (arith, called_fewer s.view env call)
 depth_kept limits s (Stop env) h le c = grind arith
 depth_kept limits s (Read env n) h le c = grind arith
 depth_kept limits s (Go env) h le c = grind arith

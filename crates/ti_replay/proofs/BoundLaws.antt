@@ -14,7 +14,7 @@ use Rattle.std.proofs.lemmas.List.Folds.{list_all-append}
 use Rattle.ti_types.specs.declared.limits.Limits.{Limits}
 use Rattle.ti_types.specs.declared.numbers.EnvNo.{EnvNo}
 use Rattle.ti_types.specs.declared.call.Call.{Call}
-use Rattle.ti_types.specs.declared.call.Call.TheVariants.{State, FrameCount, Trace, Location, Suspend, Resume, GetWord, SetWord}
+use Rattle.ti_types.specs.declared.call.Call.TheVariants.{State, FrameCount, Trace, Location, Suspend, Resume, GetWord, SetWord, Pop}
 use Rattle.ti_types.specs.declared.state.Mode.{Mode}
 use Rattle.ti_types.specs.declared.state.Mode.TheVariants as mode
 use Rattle.ti_types.specs.declared.state.Safe.TheVariants.{Native, Blocked, AtPoll}
@@ -43,6 +43,7 @@ quiet_call v env Suspend h = record { mode = grind arith; stopper = grind arith;
 quiet_call v env Resume h = cc
 quiet_call v env GetWord h = cc
 quiet_call v env (SetWord w) h = cc
+quiet_call v env Pop h = record { mode = grind arith; stopper = grind arith; words = grind arith }
 
 pub quiet : (v : ThreadView) (x : Entry) → is_waiting_call x ≡ true → IsQuiet v (after v x)
 quiet v Start h = cc
@@ -73,6 +74,7 @@ called_stopper v env Suspend = grind arith
 called_stopper v env Resume = grind arith
 called_stopper v env GetWord = refl
 called_stopper v env (SetWord w) = grind arith
+called_stopper v env Pop = grind arith
 
 -- what a state may still leave without a further cost
 abbrev mode_credit : Mode → ℕ

@@ -8,7 +8,7 @@ use Rattle.std.proofs.lemmas.List.Sums.{fold-append, sum_by-append}
 use Rattle.ti_types.specs.declared.limits.Limits.{Limits}
 use Rattle.ti_types.specs.declared.numbers.EnvNo.{EnvNo}
 use Rattle.ti_types.specs.declared.call.Call.{Call}
-use Rattle.ti_types.specs.declared.call.Call.TheVariants.{State, FrameCount, Trace, Location, Suspend, Resume, GetWord, SetWord}
+use Rattle.ti_types.specs.declared.call.Call.TheVariants.{State, FrameCount, Trace, Location, Suspend, Resume, GetWord, SetWord, Pop}
 use Rattle.ti_types.specs.declared.entry.Entry.{Entry}
 use Rattle.ti_types.specs.declared.entry.Entry.TheVariants.{Start, Own, Hand, Back, End, Asked, Stop, Read, Go}
 use Rattle.ti_types.specs.declared.view.ThreadView.{ThreadView}
@@ -36,6 +36,7 @@ called_mode v env Suspend = elim (is_alive v.mode) as (λ b. (cond b (record v {
 called_mode v env Resume = elim (is_alive v.mode) as (λ b. (cond b (record v { suspended = false }) v).mode ≡ v.mode) [ true ↦ refl | false ↦ refl ]
 called_mode v env GetWord = refl
 called_mode v env (SetWord word) = grind arith
+called_mode v env Pop = grind arith
 
 -- the view runs as the entries say
 after_runs : (v : ThreadView) (x : Entry) → is_running (after v x).mode ≡ runs_after (is_running v.mode) x

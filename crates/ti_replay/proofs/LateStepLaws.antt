@@ -8,11 +8,11 @@ use Rattle.ti_types.specs.declared.limits.Limits.{Limits}
 use Rattle.ti_types.specs.declared.numbers.EnvNo.{EnvNo}
 use Rattle.ti_types.specs.declared.step.Step.{Step}
 use Rattle.ti_types.specs.declared.call.Call.{Call}
-use Rattle.ti_types.specs.declared.call.Call.TheVariants.{State, FrameCount, Trace, Location, Suspend, Resume, GetWord, SetWord}
+use Rattle.ti_types.specs.declared.call.Call.TheVariants.{State, FrameCount, Trace, Location, Suspend, Resume, GetWord, SetWord, Pop}
 use Rattle.ti_types.specs.declared.entry.Entry.{Entry}
 use Rattle.ti_types.specs.declared.entry.Entry.TheVariants.{Start, Own, Hand, Back, End, Asked, Stop, Read, Go}
 use Rattle.ti_types.specs.declared.view.ThreadView.{ThreadView}
-use Rattle.ti_replay.specs.Answers.{answer_of}
+use Rattle.ti_replay.specs.Answers.{answer_of, is_running}
 use Rattle.ti_replay.specs.Costs.{charged}
 use Rattle.ti_replay.specs.Settling.{Placed, placed, settle, left_out, runs_behind, runs_after, put_behind, is_waiting_call, is_hand_over, hands_over, waits}
 use Rattle.ti_replay.specs.View.{view, after, after_all, called, new_thread}
@@ -26,50 +26,53 @@ use Rattle.ti_replay.proofs.CostLaws.{goes_on-append}
 use Rattle.ti_replay.proofs.HistoryStateLaws.{goes_on-allows, history_state-append}
 use Rattle.ti_replay.proofs.Charging.{charged_free}
 
--- a call does the same to the thread whether a step of the thread comes before it or behind it
-pub called_late : (v : ThreadView) (step : Step) (env : EnvNo) (call : Call) → called (after v (Own step)) env call ≡ after (called v env call) (Own step)
-called_late v step env State = refl
-called_late v step env FrameCount = refl
-called_late v step env (Trace start max_count) = refl
-called_late v step env (Location depth) = refl
-called_late v step env Suspend = grind arith
-called_late v step env Resume = grind arith
-called_late v step env GetWord = refl
-called_late v step env (SetWord word) = grind arith
+-- a call that does not wait does the same to the thread whether a step of the thread comes before it or behind it
+pub called_late : (v : ThreadView) (step : Step) (env : EnvNo) (call : Call) → waits call ≡ false → called (after v (Own step)) env call ≡ after (called v env call) (Own step)
+called_late v step env State h = refl
+called_late v step env FrameCount h = cc
+called_late v step env (Trace start max_count) h = cc
+called_late v step env (Location depth) h = cc
+called_late v step env Suspend h = cc
+called_late v step env Resume h = grind arith
+called_late v step env GetWord h = refl
+called_late v step env (SetWord word) h = grind arith
+called_late v step env Pop h = cc
 
-pub after_late : (v : ThreadView) (step : Step) (x : Entry) → is_passed x ≡ true → after (after v (Own step)) x ≡ after (after v x) (Own step)
-after_late v step Start h = cc
-after_late v step (Own other) h = cc
-after_late v step (Hand safe) h = cc
-after_late v step Back h = cc
-after_late v step End h = cc
-after_late v step (Asked env number call) h = called_late v step env call
-after_late v step (Stop env) h = refl
-after_late v step (Read env max_count) h = cc
-after_late v step (Go env) h = refl
+pub after_late : (v : ThreadView) (step : Step) (x : Entry) → is_passed x ≡ true → is_waiting_call x ≡ false → after (after v (Own step)) x ≡ after (after v x) (Own step)
+after_late v step Start h k = cc
+after_late v step (Own other) h k = cc
+after_late v step (Hand safe) h k = cc
+after_late v step Back h k = cc
+after_late v step End h k = cc
+after_late v step (Asked env number call) h k = called_late v step env call k
+after_late v step (Stop env) h k = refl
+after_late v step (Read env max_count) h k = cc
+after_late v step (Go env) h k = refl
 
--- the state behind the two is the same
-pub state_late : (s : HistoryState) (step : Step) (x : Entry) → is_passed x ≡ true → next_state (next_state s x) (Own step) ≡ next_state (next_state s (Own step)) x
-state_late s step Start h = cc
-state_late s step (Own other) h = cc
-state_late s step (Hand safe) h = cc
-state_late s step Back h = cc
-state_late s step End h = cc
-state_late s step (Asked env number call) h =
+-- where the thread runs, the state behind the two is the same
+pub state_late : (s : HistoryState) (step : Step) (x : Entry) → is_passed x ≡ true → is_running s.view.mode ≡ true → next_state (next_state s x) (Own step) ≡ next_state (next_state s (Own step)) x
+state_late s step Start h r = cc
+state_late s step (Own other) h r = cc
+state_late s step (Hand safe) h r = cc
+state_late s step Back h r = cc
+state_late s step End h r = cc
+state_late s step (Asked env number call) h r =
     grind (arith, called_late s.view step env call, charged_free s.costs (Own step), charged_free (charged s.costs (Asked env number call)) (Own step))
-state_late s step (Stop env) h = grind (arith, charged_free s.costs (Own step), charged_free (charged s.costs (Stop env)) (Own step))
-state_late s step (Read env max_count) h = cc
-state_late s step (Go env) h = grind (arith, charged_free s.costs (Own step), charged_free (charged s.costs (Go env)) (Own step))
+state_late s step (Stop env) h r = grind (arith, charged_free s.costs (Own step), charged_free (charged s.costs (Stop env)) (Own step))
+state_late s step (Read env max_count) h r = cc
+state_late s step (Go env) h r = grind (arith, charged_free s.costs (Own step), charged_free (charged s.costs (Go env)) (Own step))
 
-pub called_keeps : (v : ThreadView) (env : EnvNo) (call : Call) → ((called v env call).mode ≡ v.mode) × ((called v env call).frames ≡ v.frames)
-called_keeps v env State = (refl, refl)
-called_keeps v env FrameCount = (refl, refl)
-called_keeps v env (Trace start max_count) = (refl, refl)
-called_keeps v env (Location depth) = (refl, refl)
-called_keeps v env Suspend = (grind arith, grind arith)
-called_keeps v env Resume = (grind arith, grind arith)
-called_keeps v env GetWord = (refl, refl)
-called_keeps v env (SetWord word) = (grind arith, grind arith)
+-- a call leaves the mode, and one that does not wait the frames
+pub called_keeps : (v : ThreadView) (env : EnvNo) (call : Call) → ((called v env call).mode ≡ v.mode) × (waits call ≡ false → (called v env call).frames ≡ v.frames)
+called_keeps v env State = (refl, λ h. refl)
+called_keeps v env FrameCount = (refl, λ h. refl)
+called_keeps v env (Trace start max_count) = (refl, λ h. refl)
+called_keeps v env (Location depth) = (refl, λ h. refl)
+called_keeps v env Suspend = (grind arith, λ h. cc)
+called_keeps v env Resume = (grind arith, λ h. grind arith)
+called_keeps v env GetWord = (refl, λ h. refl)
+called_keeps v env (SetWord word) = (grind arith, λ h. grind arith)
+called_keeps v env Pop = (grind arith, λ h. cc)
 
 -- what is allowed in the one order is allowed in the other
 first_late : (limits : Limits) (s : HistoryState) (step : Step) (x : Entry) → is_passed x ≡ true → allows limits (next_state s (Own step)) x ≡ true → allows limits s x ≡ true
@@ -112,11 +115,11 @@ legal_late limits front rest step x h a =
       allows_late limits s step x rest h,
     )
 
-view_late : (limits : Limits) (front rest : List Entry) (step : Step) (x : Entry) → is_passed x ≡ true
+view_late : (limits : Limits) (front rest : List Entry) (step : Step) (x : Entry) → is_passed x ≡ true → is_running (view limits front).mode ≡ true
     → view limits (front ++ x ∷ Own step ∷ rest) ≡ view limits (front ++ Own step ∷ x ∷ rest)
-view_late limits front rest step x h =
+view_late limits front rest step x h r =
     ap (λ s. s.view) (history_state-append limits front (x ∷ Own step ∷ rest)
-    ∙ ap (λ s. fold next_state s rest) (state_late (history_state limits front) step x h)
+    ∙ ap (λ s. fold next_state s rest) (state_late (history_state limits front) step x h r)
     ∙ sym (history_state-append limits front (Own step ∷ x ∷ rest)))
 
 -- places exchanged in a list of entries
@@ -174,6 +177,7 @@ answered_late v step env Suspend h = cc
 answered_late v step env Resume h = refl
 answered_late v step env GetWord h = refl
 answered_late v step env (SetWord word) h = refl
+answered_late v step env Pop h = cc
 
 answer_late : (v : ThreadView) (step : Step) (x : Entry) → is_passed x ≡ true → is_waiting_call x ≡ false → answer_to (after v (Own step)) x ≡ answer_to v x
 answer_late v step Start h k = cc
@@ -203,7 +207,7 @@ all_behind_skip (c ∷ w) p s h = rw (all_behind_skip w p s h) (rw h refl)
 
 two_replies : (v : ThreadView) (i j : ℕ) (step : Step) (x : Entry) (q : List Placed) (place : ℕ) → is_passed x ≡ true → is_waiting_call x ≡ false
     → reply_from v ((j, x) ∷ (i, Own step) ∷ q) place ≡ reply_from v ((i, Own step) ∷ (j, x) ∷ q) place
-two_replies v i j step x q place h k = grind (arith, answer_late v step x h k, after_late v step x h)
+two_replies v i j step x q place h k = grind (arith, answer_late v step x h k, after_late v step x h k)
 
 -- the two in either order, behind a front that runs, give the same replies
 replies_either : (v : ThreadView) (p rest : List Placed) (i j : ℕ) (step : Step) (x : Entry) (place : ℕ) → is_passed x ≡ true → runs_behind false p ≡ true
@@ -270,4 +274,4 @@ reply_late limits front rest step x place h a =
 
 pub steps_may_be_late : StepsMayBeLate
 steps_may_be_late limits front rest step x h a =
-    record { legal = legal_late limits front rest step x h a; view = view_late limits front rest step x h; replies = λ place. reply_late limits front rest step x place h a }
+    record { legal = legal_late limits front rest step x h a; view = view_late limits front rest step x h (view_runs limits front ∙ runs_at_step limits front rest step x a); replies = λ place. reply_late limits front rest step x place h a }

@@ -70,7 +70,7 @@ late_one limits front step x h r =
     let e1 : history_state limits f1 ≡ next_state s (Own step) = history_state-snoc limits front (Own step) in
     let e2 : history_state limits f2 ≡ next_state s x = history_state-snoc limits front x in
     record {
-      state = history_state-snoc limits f1 x ∙ ap (λ z. next_state z x) e1 ∙ sym (state_late s step x h) ∙ ap (λ z. next_state z (Own step)) (sym e2) ∙ sym (history_state-snoc limits f2 (Own step));
+      state = history_state-snoc limits f1 x ∙ ap (λ z. next_state z x) e1 ∙ sym (state_late s step x h r) ∙ ap (λ z. next_state z (Own step)) (sym e2) ∙ sym (history_state-snoc limits f2 (Own step));
       replies = λ t.
           let old = reply_to limits front t in
           let a : reply_to limits f1 t ≡ old = reply_to-snoc limits front (Own step) t ∙ ap (λ z. option_or old z) (step_tells s.view s step t) ∙ or_none old in

@@ -13,6 +13,7 @@ pub mod WorkedEvents
 mod WorkedFrames
 mod WorkedPolls
 mod WorkedSuspensions
+mod WorkedPops
 mod WorkedStates
 mod WorkedWords
 mod WorkedStops
@@ -35,3 +36,4 @@ pub mod LifeLaws
 pub mod WordAnswers
 pub mod StopLaws
 pub mod MakerLaws
+pub mod TellingLaws

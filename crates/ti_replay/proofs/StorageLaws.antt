@@ -9,7 +9,7 @@ use Rattle.std.proofs.lemmas.Bool.Decides.{nat_tests}
 use Rattle.ti_types.specs.declared.limits.Limits.{Limits}
 use Rattle.ti_types.specs.declared.numbers.EnvNo.{EnvNo}
 use Rattle.ti_types.specs.declared.call.Call.{Call}
-use Rattle.ti_types.specs.declared.call.Call.TheVariants.{State, FrameCount, Trace, Location, Suspend, Resume, GetWord, SetWord}
+use Rattle.ti_types.specs.declared.call.Call.TheVariants.{State, FrameCount, Trace, Location, Suspend, Resume, GetWord, SetWord, Pop}
 use Rattle.ti_types.specs.declared.state.Safe.{Safe}
 use Rattle.ti_types.specs.declared.state.Safe.TheVariants.{Native, Blocked, AtPoll}
 use Rattle.ti_types.specs.declared.entry.Entry.{Entry}
@@ -53,6 +53,7 @@ step_word limits s (Asked other number Suspend) env k h l = (grind arith, grind 
 step_word limits s (Asked other number Resume) env k h l = (grind arith, grind arith)
 step_word limits s (Asked other number GetWord) env k h l = (grind arith, grind arith)
 step_word limits s (Asked other number (SetWord w)) env k h l = (grind (arith, word_set s.view.words env other w l), grind arith)
+step_word limits s (Asked other number Pop) env k h l = (grind arith, grind arith)
 step_word limits s (Stop other) env k h l = (grind arith, grind arith)
 step_word limits s (Read other n) env k h l = (grind arith, grind arith)
 step_word limits s (Go other) env k h l = (grind arith, grind arith)
@@ -66,6 +67,7 @@ called_length v env Suspend = grind arith
 called_length v env Resume = grind arith
 called_length v env GetWord = refl
 called_length v env (SetWord w) = grind (arith, length-set v.words env.0 w)
+called_length v env Pop = grind arith
 
 pub length_step : (s : HistoryState) (x : Entry) → WaitsWell s → length (next_state s x).view.words ≡ length s.view.words
 length_step s Start k = grind arith

@@ -5,7 +5,7 @@ use Rattle.std.proofs.lemmas.Bool.Decides.{nat_tests}
 use Rattle.std.proofs.lemmas.List.{length-replicate}
 use Rattle.ti_types.specs.declared.limits.Limits.{Limits}
 use Rattle.ti_types.specs.declared.numbers.EnvNo.{EnvNo}
-use Rattle.ti_types.specs.declared.call.Call.TheVariants.{State, FrameCount, Trace, Location, Suspend, Resume, GetWord, SetWord}
+use Rattle.ti_types.specs.declared.call.Call.TheVariants.{State, FrameCount, Trace, Location, Suspend, Resume, GetWord, SetWord, Pop}
 use Rattle.ti_types.specs.declared.entry.Entry.{Entry}
 use Rattle.ti_types.specs.declared.entry.Entry.TheVariants.{Start, Own, Hand, Back, End, Asked, Stop, Read, Go}
 use Rattle.ti_types.specs.declared.answer.Answer.{Answer}
@@ -55,6 +55,7 @@ told_one alive word env (Asked other number Suspend) es = refl
 told_one alive word env (Asked other number Resume) es = refl
 told_one alive word env (Asked other number GetWord) es = grind arith
 told_one alive word env (Asked other number (SetWord w)) es = grind arith
+told_one alive word env (Asked other number Pop) es = refl
 told_one alive word env (Stop other) es = refl
 told_one alive word env (Read other n) es = refl
 told_one alive word env (Go other) es = refl
@@ -82,6 +83,7 @@ word_reply limits front rest (Asked other number (SetWord w)) env h =
     let v = view limits front in
     ap (λ l. reply limits l (length front)) (sym (append_assoc front (Asked other number (SetWord w) ∷ []) rest))
     ∙ reply_stays limits (front ++ Asked other number (SetWord w) ∷ []) rest (length front) (answer_of v other (SetWord w)) (reply_at_once limits front other number (SetWord w) refl)
+word_reply limits front rest (Asked other number Pop) env h = cc
 word_reply limits front rest (Stop other) env h = cc
 word_reply limits front rest (Read other n) env h = cc
 word_reply limits front rest (Go other) env h = cc
@@ -129,6 +131,7 @@ call_allowed limits s (Asked other number Suspend) env h a = cc
 call_allowed limits s (Asked other number Resume) env h a = cc
 call_allowed limits s (Asked other number GetWord) env h a = grind (arith, nat_tests)
 call_allowed limits s (Asked other number (SetWord w)) env h a = grind (arith, nat_tests)
+call_allowed limits s (Asked other number Pop) env h a = cc
 call_allowed limits s (Stop other) env h a = cc
 call_allowed limits s (Read other n) env h a = cc
 call_allowed limits s (Go other) env h a = cc

@@ -8,10 +8,12 @@ use Rattle.ti_types.specs.declared.call.Call.{Call}
 use Rattle.ti_types.specs.declared.call.Call.TheVariants as call
 use Rattle.ti_types.specs.declared.answer.Answer.{Answer}
 use Rattle.ti_types.specs.declared.answer.Answer.TheVariants as answer
+use Rattle.ti_types.specs.declared.error.TiError.{TiError}
 use Rattle.ti_types.specs.declared.error.TiError.TheVariants.{ThreadNotAlive, ThreadSuspended, ThreadNotSuspended, IllegalArgument, NoMoreFrames}
 use Rattle.ti_types.specs.declared.view.ThreadView.{ThreadView}
 use Rattle.ti_types.specs.Frames.{bare_trace}
 pub use Rattle.ti_types.specs.Numbers.{or_zero}
+pub use Rattle.ti_types.specs.Pops.{pop_refusal}
 use Rattle.ti_types.specs.State.{bits_of}
 
 abbrev pub is_running : Mode → Bool
@@ -36,6 +38,11 @@ abbrev pub location_of : Option Frame → Answer
 location_of (Some frame) = answer.Location frame
 location_of None = answer.Refused NoMoreFrames
 
+-- an answer, and a refusal where there is one
+abbrev pub done_or : Option TiError → Answer
+done_or None = answer.Done
+done_or (Some error) = answer.Refused error
+
 -- the answer of a thread that is alive
 abbrev pub answer_alive : ThreadView → EnvNo → Call → Answer
 answer_alive v env call.State = answer.State (bits_of v.mode v.suspended)
@@ -46,6 +53,7 @@ answer_alive v env call.Suspend = if v.suspended then answer.Refused ThreadSuspe
 answer_alive v env call.Resume = if v.suspended then answer.Done else answer.Refused ThreadNotSuspended
 answer_alive v env call.GetWord = answer.Word (slice_index v.words env.0)
 answer_alive v env (call.SetWord word) = answer.Done
+answer_alive v env call.Pop = done_or (pop_refusal v.suspended v.frames)
 
 -- the state is told of every thread, all else of one that is alive
 abbrev pub answer_of : ThreadView → EnvNo → Call → Answer

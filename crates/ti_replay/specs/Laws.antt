@@ -5,13 +5,14 @@ use Rattle.ti_types.specs.declared.entry.Entry.{Entry}
 use Rattle.ti_types.specs.declared.answer.Answer.{Answer}
 use Rattle.ti_types.specs.declared.answer.Answer.TheVariants as answer
 use Rattle.ti_types.specs.declared.call.Call.{Call}
-use Rattle.ti_types.specs.declared.call.Call.TheVariants.{Suspend, Resume, SetWord}
+use Rattle.ti_types.specs.declared.call.Call.TheVariants.{Suspend, Resume, SetWord, Pop}
+use Rattle.ti_types.specs.declared.step.Step.TheVariants.{Leave}
 use Rattle.ti_types.specs.declared.view.ThreadView.{ThreadView}
 use Rattle.ti_replay.specs.Settling.{Placed, settled}
 use Rattle.ti_types.specs.declared.numbers.ThreadNo.{ThreadNo}
 use Rattle.ti_types.specs.declared.numbers.EnvNo.{EnvNo}
 use Rattle.ti_replay.specs.Answers.{answer_of}
-use Rattle.ti_replay.specs.View.{view, called}
+use Rattle.ti_replay.specs.View.{view, called, frames_after}
 use Rattle.ti_replay.specs.Word.{word_of}
 use Rattle.ti_replay.specs.Replies.{reply}
 use Rattle.ti_replay.specs.Legal.{is_legal}
@@ -52,6 +53,7 @@ abbrev pub changed : ThreadView → EnvNo → Call → ThreadView
 changed v env Suspend = record v { suspended = true }
 changed v env Resume = record v { suspended = false }
 changed v env (SetWord word) = record v { words = slice_set v.words env.0 word }
+changed v env Pop = record v { frames = frames_after v.frames Leave }
 changed v env _ = v
 
 -- a call changes the view only where the answer is that it is done

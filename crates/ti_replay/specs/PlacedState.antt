@@ -76,3 +76,7 @@ settled_by s x = settling_of s.view s.waiting s.next x
 
 abbrev pub all_calls : List Placed → Bool
 all_calls entries = list_all (λ p. is_waiting_call p.1) entries
+
+-- each of these is at a place before this one
+abbrev pub are_below : ℕ → List Placed → Bool
+are_below place entries = list_all (λ p. nat_lt p.0 place) entries

@@ -3,7 +3,7 @@
 use Rattle.std.specs.Prelude.{ℕ, Bool, true, false, not, ◌&&◌, if◌then◌else◌, List, [], ◌∷◌}
 use Rattle.std.specs.List.{fold, list_any, enumerate_from}
 use Rattle.ti_types.specs.declared.call.Call.{Call}
-use Rattle.ti_types.specs.declared.call.Call.TheVariants.{FrameCount, Trace, Location, Suspend}
+use Rattle.ti_types.specs.declared.call.Call.TheVariants.{FrameCount, Trace, Location, Suspend, Pop}
 use Rattle.ti_types.specs.declared.entry.Entry.{Entry}
 use Rattle.ti_types.specs.declared.entry.Entry.TheVariants.{Start, Hand, Back, End, Asked}
 
@@ -13,6 +13,7 @@ waits FrameCount = true
 waits (Trace start max_count) = true
 waits (Location depth) = true
 waits Suspend = true
+waits Pop = true
 waits _ = false
 
 abbrev pub is_waiting_call : Entry → Bool

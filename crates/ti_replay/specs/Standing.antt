@@ -1,8 +1,9 @@
 -- A thread that an environment has stopped.
-use Rattle.std.specs.Prelude.{◌≡◌, ℤ, Bool, true, false, not, ◌&&◌, if◌then◌else◌, ◌==◌, List, [], ◌∷◌, ◌++◌, take, Option, Some, is_none}
+use Rattle.std.specs.Prelude.{ℕ, ◌≡◌, ◌+◌, ℤ, Bool, true, false, not, ◌&&◌, if◌then◌else◌, ◌==◌, List, [], ◌∷◌, ◌++◌, take, drop, Option, Some, is_none}
 use Rattle.std.specs.List.{list_any}
 use Rattle.ti_types.specs.declared.limits.Limits.{Limits}
 use Rattle.ti_types.specs.declared.numbers.EnvNo.{EnvNo}
+use Rattle.ti_types.specs.declared.call.Call.TheVariants.{Pop}
 use Rattle.ti_types.specs.declared.entry.Entry.{Entry}
 use Rattle.ti_types.specs.declared.entry.Entry.TheVariants.{Start, Own, Hand, Back, End, Go}
 use Rattle.ti_types.specs.declared.view.ThreadView.{ThreadView}
@@ -65,23 +66,46 @@ abbrev pub was_refused : Option Outcome → Bool
 was_refused (Some (outcome.Refused error)) = true
 was_refused _ = false
 
--- a thread is as it was at an earlier front of the events, and stays so: the environment's stop stands, each own event
--- is refused and leaves nothing, and an admitted read tells of the earlier mode and frames. The suspended flag may change
-pub record IsHeld (limits : Limits) (env : EnvNo) (thread : ThreadNo) (front now : List Happening) : Type 0 where
+-- whether an event is a pop at the thread
+abbrev pub is_pop_at : ThreadNo → Event → Bool
+is_pop_at thread (event.Ask e t Pop) = t.0 == thread.0
+is_pop_at thread _ = false
+
+-- whether a call came to being done
+abbrev pub was_done : Option Outcome → Bool
+was_done (Some (outcome.Gave answer.Done)) = true
+was_done _ = false
+
+-- 1 for a pop at the thread that is done
+abbrev pub pop_count : ThreadNo → Event → Option Outcome → ℕ
+pop_count thread event o = if is_pop_at thread event && was_done o then 1 else 0
+
+-- how many pops at the thread are done, among events behind a front of all events
+abbrev pub pops_done : Limits → ThreadNo → List Happening → List Happening → List Happening → ℕ
+pops_done limits thread all front [] = 0
+pops_done limits thread all front (h ∷ more) =
+    pop_count thread h.event (out_of limits all front h) + pops_done limits thread all (front ++ h ∷ []) more
+
+-- a thread is as it was at an earlier front of the events, and stays so behind more of them: the environment's stop
+-- stands, each own event is refused and leaves nothing, and an admitted read tells of the earlier mode and frames. Of
+-- the frames only those are gone that were popped since, the newest first. The suspended flag may change
+pub record IsHeld (limits : Limits) (env : EnvNo) (thread : ThreadNo) (front more now : List Happening) : Type 0 where
   pub stands : is_standing limits (history_of limits thread now) env ≡ true
   pub mode : (view limits (history_of limits thread now)).mode ≡ (view limits (history_of limits thread front)).mode
-  pub frames : (view limits (history_of limits thread now)).frames ≡ (view limits (history_of limits thread front)).frames
+  pub frames : (rest : List Happening)
+      → (view limits (history_of limits thread now)).frames ≡ drop (pops_done limits thread (now ++ rest) front more) (view limits (history_of limits thread front)).frames
   pub refused : (all : List Happening) → (h : Happening) → is_own_of thread h.event ≡ true → was_refused (out_of limits all now h) ≡ true
   pub nothing_left : (h : Happening) → is_own_of thread h.event ≡ true → history_of limits thread (now ++ h ∷ []) ≡ history_of limits thread now
   pub reads : (rest : List Happening) → (max_count : ℤ) → (wanting : Bool)
       → is_none (refusal limits (dealings limits env thread now) (record { event = event.Read env thread max_count; wanting = wanting })) ≡ true
       → out_of limits (now ++ record { event = event.Read env thread max_count; wanting = wanting } ∷ rest) now (record { event = event.Read env thread max_count; wanting = wanting })
       ≡ Some (outcome.Gave (answer.Stack (bits_of (view limits (history_of limits thread front)).mode (view limits (history_of limits thread now)).suspended)
-      (bare_trace (take (or_zero max_count) (view limits (history_of limits thread front)).frames))))
+      (bare_trace (take (or_zero max_count) (drop (pops_done limits thread (now ++ record { event = event.Read env thread max_count; wanting = wanting } ∷ rest) front more)
+      (view limits (history_of limits thread front)).frames)))))
 
 -- from a front at which an environment stands at a thread, and until it lets the thread go, all is of one state
 abbrev pub OneStateUnderAStop : Type 0
 OneStateUnderAStop =
     (limits : Limits) (env : EnvNo) (thread : ThreadNo) (front more : List Happening) →
     is_standing limits (history_of limits thread front) env ≡ true → lets_go env thread more ≡ false →
-    IsHeld limits env thread front (front ++ more)
+    IsHeld limits env thread front more (front ++ more)

@@ -1,16 +1,17 @@
 -- What a history leaves of a thread.
-use Rattle.std.specs.Prelude.{Bool, true, false, ◌||◌, if◌then◌else◌, List, [], Some, None, is_some, slice_set, replicate}
+use Rattle.std.specs.Prelude.{Bool, true, false, ◌&&◌, ◌||◌, if◌then◌else◌, List, [], Some, None, is_some, is_none, slice_set, replicate}
 use Rattle.std.specs.List.{fold}
 use Rattle.ti_types.specs.declared.limits.Limits.{Limits}
 use Rattle.ti_types.specs.declared.numbers.EnvNo.{EnvNo}
 use Rattle.ti_types.specs.declared.state.Mode.TheVariants as mode
 use Rattle.ti_types.specs.declared.call.Call.{Call}
-use Rattle.ti_types.specs.declared.call.Call.TheVariants.{Suspend, Resume, SetWord}
+use Rattle.ti_types.specs.declared.call.Call.TheVariants.{Suspend, Resume, SetWord, Pop}
+use Rattle.ti_types.specs.declared.step.Step.TheVariants.{Leave}
 use Rattle.ti_types.specs.declared.entry.Entry.{Entry}
 use Rattle.ti_types.specs.declared.entry.Entry.TheVariants as entry
 use Rattle.ti_types.specs.declared.view.ThreadView.{ThreadView}
 pub use Rattle.ti_types.specs.Steps.{frames_after}
-use Rattle.ti_replay.specs.Answers.{is_alive}
+use Rattle.ti_replay.specs.Answers.{is_alive, pop_refusal}
 use Rattle.ti_replay.specs.Settling.{Placed, settled}
 
 -- a thread that has not started
@@ -18,11 +19,13 @@ abbrev pub new_thread : Limits → ThreadView
 new_thread limits = record { mode = mode.New; frames = []; suspended = false; stopper = None; words = replicate limits.envs 0 }
 
 -- what a call changes. A call that is refused changes nothing: at a suspended thread a suspension sets what is set
--- already, and a resumption clears what is clear at one that is not. Laws.CallsChangeWhereDone says so of all calls
+-- already, and a resumption clears what is clear at one that is not. A pop takes the newest frame where it may be
+-- popped, and the frames below stay as they are. Laws.CallsChangeWhereDone says so of all calls
 abbrev pub called : ThreadView → EnvNo → Call → ThreadView
 called v env Suspend = if is_alive v.mode then record v { suspended = true } else v
 called v env Resume = if is_alive v.mode then record v { suspended = false } else v
 called v env (SetWord word) = if is_alive v.mode then record v { words = slice_set v.words env.0 word } else v
+called v env Pop = if is_alive v.mode && is_none (pop_refusal v.suspended v.frames) then record v { frames = frames_after v.frames Leave } else v
 called v env _ = v
 
 -- the view after an entry takes place

@@ -2,10 +2,11 @@
 ghost use Rattle.std.specs.Prelude.{◌≡◌, IfOk, IfSome, take, drop, length, ◌≤◌, ◌<◌, ◌^◌};
 ghost use Rattle.std.specs.Option.{option_map};
 ghost use Rattle.ti_types.specs.Answer.{said};
-ghost use Rattle.ti_replay.specs.Answers.{answer_of, answer_alive as alive_answer_of, or_zero as or_zero_of, first_of_trace};
+ghost use Rattle.ti_replay.specs.Answers.{answer_of, answer_alive as alive_answer_of, or_zero as or_zero_of, first_of_trace, done_or as done_or_of};
 ghost use Rattle.ti_replay.specs.Replies.{answer_to};
 
 use crate::rules::is_alive;
+use crate::view::pop_refusal;
 use std::alloc::{AllocError, Global};
 use ti_types::{Answer, Call, Entry, EnvNo, FrameList, ThreadView, TiError, TraceBuf, state_bits};
 
@@ -57,6 +58,16 @@ pub fn trace_start(start: i32, count: usize) -> Option<usize>
     }
 }
 
+/// `Done`, or the refusal where there is one.
+pub fn done_or(refusal: Option<TiError>) -> Answer
+    ensures { said result ≡ done_or_of refusal }
+{
+    match refusal {
+        None => Answer::Done,
+        Some(error) => Answer::Refused(error),
+    }
+}
+
 fn answer_alive(
     alloc: Global,
     view: &ThreadView,
@@ -93,6 +104,7 @@ fn answer_alive(
         }
         Call::GetWord => Answer::Word(view.words.get(env.0 as usize)),
         Call::SetWord(_) => Answer::Done,
+        Call::Pop => done_or(pop_refusal(view)),
     })
 }
 

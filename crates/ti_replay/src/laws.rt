@@ -94,7 +94,8 @@ pub fn env_words_follow_their_calls()
 {}
 
 /// From where an environment has stopped a thread until it lets the thread go, whatever else happens: no event of the
-/// thread's own is accepted, its mode and frames stay, and all reads of the environment tell of the one mode and frames.
+/// thread's own is accepted, its mode and frames stay, but for one frame for each pop that is done there, the newest
+/// first, and all reads of the environment tell of the one mode and these frames.
 pub fn one_state_under_a_stop()
     ensures { OneStateUnderAStop }
 {}

@@ -16,8 +16,9 @@ pub mod laws;
 mod progress;
 mod replaying;
 pub mod rules;
+mod telling;
 mod view;
 
 pub use costs::Costs;
 pub use fault::ReplayFault;
-pub use replaying::{replay, reply_at};
+pub use replaying::{replay, replies, reply_at};

@@ -1,18 +1,20 @@
-ghost use Rattle.std.specs.Prelude.{◌≡◌, ◌+◌, ◌<◌, ◌^◌, ◌∷◌, [], ◌++◌, true, length, IfOk, OnOk, replicate};
+ghost use Rattle.std.specs.Prelude.{◌≡◌, ℕ, ◌+◌, ◌<◌, ◌^◌, ◌∷◌, [], ◌++◌, true, length, IfOk, OnOk, replicate};
 ghost use Rattle.ti_replay.specs.Costs.{no_costs, charged};
 ghost use Rattle.ti_replay.specs.View.{new_thread};
-ghost use Rattle.ti_replay.specs.PlacedState.{placed_state, may_enter, entered, view_behind, waiting_behind, settled_by, settling_of, all_calls};
-ghost use Rattle.ti_replay.specs.Replies.{reply_from};
+ghost use Rattle.ti_replay.specs.PlacedState.{placed_state, may_enter, entered, view_behind, waiting_behind, settled_by, settling_of, all_calls, are_below};
+ghost use Rattle.ti_replay.specs.Replies.{reply_from, told_at};
 ghost use Rattle.std.specs.Option.{option_map, option_or};
 ghost use Rattle.ti_types.specs.Answer.{said};
+ghost use Rattle.ti_types.specs.declared.entry.Entry.TheVariants as entry;
 
 use crate::asking::{take_entries_asking, take_entry_asking};
 use crate::costs::{Costs, charge, env_of, own_cost};
-use crate::rules::{fits, is_hand_over, is_running, is_waiting_call};
-use crate::view::{take_entries, take_entry};
+use crate::rules::{fits, is_hand_over, is_running, is_waiting_call, step_fits};
+use crate::telling::{tell_entries, tell_entry};
+use crate::view::{take_entries, take_entry, take_step};
 use std::alloc::{AllocError, Global};
 use std::marker::Model;
-use ti_types::{Answer, Entry, FrameList, Limits, Mode, ThreadView, WordList};
+use ti_types::{Answer, Entry, FrameList, Limits, Mode, Step, ThreadView, WordList};
 
 /// What a history has left so far, as all later entries need it: the view, the calls that wait, the place of the next
 /// entry, and what the thread and each environment have spent.
@@ -85,6 +87,42 @@ impl Progress {
         Ok(())
     }
 
+    /// Adds a step of the thread, where it may come next, and says whether it may; else nothing changes. The error is want
+    /// of memory.
+    #[tactic(auto, using(crate::proofs::Charging::charged_free))]
+    fn advance_by_step(&mut self, limits: &Limits, step: Step) -> Result<bool, AllocError>
+        requires room { self.old.next + 1 < 2 ^ 64 }
+        ensures may { IfOk result (λ may. may ≡ may_enter limits.now self.old (entry.Own step)) }
+        ensures state { IfOk result (λ may. may ≡ true → self.new ≡ entered self.old (entry.Own step)) }
+    {
+        let fits = is_running(self.view.mode)
+            && step_fits(limits, &self.view.frames, step)
+            && self.own < limits.own;
+        if fits {
+            take_step(&mut self.view.frames, step)?;
+            self.own += 1;
+            self.next += 1;
+        }
+        Ok(fits)
+    }
+
+    /// Adds an entry, where it may come next, and says whether it may; else nothing changes. The error is want of memory.
+    pub fn advance(&mut self, limits: &Limits, entry: Entry) -> Result<bool, AllocError>
+        requires room { self.old.next + 1 < 2 ^ 64 }
+        ensures may { IfOk result (λ may. may ≡ may_enter limits.now self.old entry) }
+        ensures state { IfOk result (λ may. may ≡ true → self.new ≡ entered self.old entry) }
+    {
+        // Most entries are steps.
+        if let Entry::Own(step) = entry {
+            return self.advance_by_step(limits, step);
+        }
+        if !self.may_enter(limits, entry) {
+            return Ok(false);
+        }
+        self.enter(limits, entry)?;
+        Ok(true)
+    }
+
     /// Adds an entry that may come next, and says what is answered to the one of a place, where none was answered
     /// before. The error is want of memory.
     #[tactic(auto, using(crate::proofs::CostLaws::due))]
@@ -117,6 +155,42 @@ impl Progress {
         self.own += own_cost(entry);
         self.next += 1;
         Ok(given)
+    }
+
+    /// Adds an entry that may come next, and writes what is answered to each entry that takes place then at its place.
+    /// There is a place for each earlier entry, and one more is added. The error is want of memory.
+    #[tactic(auto, using(crate::proofs::CostLaws::due))]
+    pub fn enter_telling(
+        &mut self,
+        alloc: Global,
+        limits: &Limits,
+        entry: Entry,
+        told: &mut Vec<Option<Answer>>,
+    ) -> Result<(), AllocError>
+        requires may { may_enter limits.now self.old entry ≡ true }
+        requires room { self.old.next + 1 < 2 ^ 64 }
+        requires few { length self.old.view.frames < 2 ^ 32 }
+        requires calls { all_calls self.old.waiting ≡ true }
+        requires below { are_below self.old.next self.old.waiting ≡ true }
+        requires places { length told.old.items ≡ self.old.next }
+        ensures state { OnOk result (self.new ≡ entered self.old entry) }
+        ensures places { OnOk result (length told.new.items ≡ self.new.next) }
+        ensures told { OnOk result ((place : ℕ) → told_at told.new.items place ≡ option_or (told_at told.old.items place) (reply_from self.old.view (settled_by self.old entry) place)) }
+    {
+        let _limits = *limits;
+        told.push(None)?;
+        settle_telling(
+            alloc,
+            &mut self.view,
+            &mut self.waiting,
+            self.next,
+            entry,
+            told.as_mut_slice(),
+        )?;
+        charge(&mut self.costs, entry);
+        self.own += own_cost(entry);
+        self.next += 1;
+        Ok(())
     }
 
     /// The view at the end.
@@ -183,4 +257,35 @@ fn settle_asking(
     } else {
         take_entry_asking(alloc, view, next, entry, place, given)
     }
+}
+
+/// Lets an entry take place, or wait, and writes what is answered to each that takes place.
+#[tactic(auto, using(crate::proofs::TellingLaws::below_all))]
+fn settle_telling(
+    alloc: Global,
+    view: &mut ThreadView,
+    waiting: &mut Vec<(usize, Entry)>,
+    next: usize,
+    entry: Entry,
+    told: &mut [Option<Answer>],
+) -> Result<(), AllocError>
+    requires few { length view.old.frames < 2 ^ 32 }
+    requires calls { all_calls waiting.old.items ≡ true }
+    requires below { are_below next waiting.old.items ≡ true }
+    requires places { length told.old ≡ next + 1 }
+    ensures view { OnOk result (view.new ≡ view_behind view.old waiting.old.items entry) }
+    ensures waiting { OnOk result (waiting.new.items ≡ waiting_behind view.old waiting.old.items next entry) }
+    ensures length { length told.new ≡ length told.old }
+    ensures told { OnOk result ((place : ℕ) → told_at told.new place ≡ option_or (told_at told.old place) (reply_from view.old (settling_of view.old waiting.old.items next entry) place)) }
+{
+    if is_hand_over(entry) {
+        tell_entry(alloc, view, told, next, entry)?;
+        tell_entries(alloc, view, told, waiting)?;
+        waiting.clear();
+    } else if is_waiting_call(entry) && is_running(view.mode) {
+        waiting.push((next, entry))?;
+    } else {
+        tell_entry(alloc, view, told, next, entry)?;
+    }
+    Ok(())
 }

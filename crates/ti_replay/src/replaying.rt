@@ -1,9 +1,9 @@
-ghost use Rattle.std.specs.Prelude.{◌≡◌, true, IfOk, IfErr, OnOk};
+ghost use Rattle.std.specs.Prelude.{◌≡◌, ℕ, true, IfOk, IfErr, OnOk, length};
 ghost use Rattle.ti_replay.specs.View.{view};
 ghost use Rattle.ti_replay.specs.Legal.{is_legal};
 ghost use Rattle.std.specs.Option.{option_map};
 ghost use Rattle.ti_types.specs.Answer.{said};
-ghost use Rattle.ti_replay.specs.Replies.{reply};
+ghost use Rattle.ti_replay.specs.Replies.{reply, told_at};
 ghost use Rattle.ti_replay.specs.Fault.{IsFaultOf};
 
 use crate::fault::ReplayFault;
@@ -22,10 +22,10 @@ pub fn replay(alloc: Global, limits: Limits, entries: &[Entry]) -> Result<Thread
 {
     let mut progress = Progress::new(alloc, &limits)?;
     for (at, entry) in entries.iter().enumerate() {
-        if !progress.may_enter(&limits, *entry) {
+        let legal = progress.advance(&limits, *entry)?;
+        if !legal {
             return Err(ReplayFault::Illegal { at });
         }
-        progress.enter(&limits, *entry)?;
     }
     Ok(progress.into_view())
 }
@@ -51,4 +51,28 @@ pub fn reply_at(
         given = progress.enter_asking(alloc, &limits, *entry, place, given)?;
     }
     Ok(given)
+}
+
+/// What a history replies to the entry at each place: as `reply_at` at every place, in one pass over the history.
+/// `None` stands at an entry that is no call or read, and at a call that still waits. The errors are those of `replay`
+/// (this profile, `specs/Replies`).
+pub fn replies(
+    alloc: Global,
+    limits: Limits,
+    entries: &[Entry],
+) -> Result<Vec<Option<Answer>>, ReplayFault>
+    ensures legal { OnOk result (is_legal limits entries.now ≡ true) }
+    ensures places { IfOk result (λ told. length told.items ≡ length entries.now) }
+    ensures replies { IfOk result (λ told. (place : ℕ) → told_at told.items place ≡ reply limits entries.now place) }
+    ensures fault { IfErr result (IsFaultOf limits entries.now) }
+{
+    let mut progress = Progress::new(alloc, &limits)?;
+    let mut told = Vec::new(alloc);
+    for (at, entry) in entries.iter().enumerate() {
+        if !progress.may_enter(&limits, *entry) {
+            return Err(ReplayFault::Illegal { at });
+        }
+        progress.enter_telling(alloc, &limits, *entry, &mut told)?;
+    }
+    Ok(told)
 }

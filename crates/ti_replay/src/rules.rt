@@ -43,14 +43,14 @@ pub fn is_hand_over(entry: Entry) -> bool
     matches!(entry, Entry::Hand(_) | Entry::End)
 }
 
-/// Whether a call waits for a running thread: those that read frames, and a suspension (this profile, after
+/// Whether a call waits for a running thread: those that read frames, a suspension, and a pop (this profile, after
 /// JEP 312: the operation runs once the thread is safe).
 pub fn waits(call: Call) -> bool
     ensures { result ≡ waits_is call }
 {
     matches!(
         call,
-        Call::FrameCount | Call::Trace { .. } | Call::Location { .. } | Call::Suspend
+        Call::FrameCount | Call::Trace { .. } | Call::Location { .. } | Call::Suspend | Call::Pop
     )
 }
 

@@ -2,3 +2,4 @@ pub mod NameLaws
 pub mod EventLaws
 pub mod TreeLaws
 pub mod RoomLaws
+pub mod BoundLaws

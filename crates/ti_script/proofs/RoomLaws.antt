@@ -1,8 +1,8 @@
 -- The room that texts take.
-use Rattle.std.proofs.Common.{◌≡◌, ℕ, zero, suc, ◌+◌, ◌/◌, ◌%◌, ◌^◌, ◌≤◌, ◌<◌, List, [], ◌∷◌, ◌++◌, length, drop, false, cond, refl, sym, ap, ◌∙◌, arith, inl, inr, ◌⊎◌, append_assoc, length-append}
+use Rattle.std.proofs.Common.{◌≡◌, ℕ, zero, suc, ◌+◌, ◌/◌, ◌%◌, ◌^◌, ◌≤◌, ◌<◌, List, [], ◌∷◌, ◌++◌, length, drop, false, cond, refl, sym, ap, ◌∙◌, arith, decimal, inl, inr, ◌⊎◌, append_assoc, length-append}
 use Rattle.std.specs.Fmt.{digits, digits_onto, digit_glyph}
-use Rattle.std.proofs.lemmas.Fmt.{hex_one_digit}
-use Rattle.std.proofs.lemmas.Bool.{cases_order}
+use Rattle.std.proofs.lemmas.Fmt.{hex_one_digit, decimal_digit}
+use Rattle.std.proofs.lemmas.Bool.{cases_order, lt-ltb}
 use mathlib.Core.Logic.{⊎_elim}
 use borrow.Author.Tests.{eq-eqb, ne_eqb}
 use Rattle.ti_types.specs.declared.place.Frame.{Frame}
@@ -70,3 +70,7 @@ more_digits n h small =
     ∙ ap (λ l. l ++ (last_glyph n ∷ [])) (all_digits (n / 16))
 
 pub ruleset hexadecimal = (one_digit, more_digits, length_of_both)
+
+-- a number of one digit, by the digits of hexadecimal numbers
+pub one_digit_decimal : (n : ℕ) → n < 10 → decimal n ≡ digit_glyph false n ∷ []
+one_digit_decimal n h = decimal_digit n h ∙ ap (λ d. d ∷ []) (sym (ap (λ t. cond t (48 + n) (87 + n)) (lt-ltb n 10 h)))

@@ -1,5 +1,5 @@
 -- The entries of a history: a table of words, and what stands behind each.
-use Rattle.std.specs.Prelude.{ℕ, List, [], ◌∷◌, ◌+◌, codes, Option, None, Some, Result, Ok, option_and_then, if◌then◌else◌}
+use Rattle.std.specs.Prelude.{ℕ, List, [], ◌∷◌, ◌+◌, ◌==◌, codes, Option, None, Some, Result, Ok, option_and_then, if◌then◌else◌}
 use Rattle.std.specs.Option.{option_map, option_or, ok_or}
 use Rattle.std.specs.Str.{bytes_eq}
 use Rattle.std.specs.Map.{lookup}
@@ -11,7 +11,7 @@ use Rattle.ti_types.specs.declared.state.Safe.{Safe}
 use Rattle.ti_types.specs.declared.state.Safe.TheVariants.{Native, Blocked, AtPoll}
 use Rattle.ti_types.specs.declared.step.Step.TheVariants.{Enter, EnterNative, At, Leave}
 use Rattle.ti_types.specs.declared.call.Call.{Call}
-use Rattle.ti_types.specs.declared.call.Call.TheVariants.{State, FrameCount, Trace, Location, Suspend, Resume, GetWord, SetWord}
+use Rattle.ti_types.specs.declared.call.Call.TheVariants.{State, FrameCount, Trace, Location, Suspend, Resume, GetWord, SetWord, Pop}
 use Rattle.ti_types.specs.declared.entry.Entry.{Entry}
 use Rattle.ti_types.specs.declared.entry.Entry.TheVariants.{Start, Own, Hand, Back, End, Asked, Stop, Read, Go}
 use Rattle.ti_script.specs.declared.fault.ScriptFault.{ScriptFault}
@@ -72,7 +72,7 @@ own_table =
     ∷ (codes "hand", one safe_in Hand)
     ∷ []
 
--- the calls
+-- the calls of both formats
 abbrev pub call_table : List (List ℕ × Behind Call)
 call_table =
     (codes "state", none State)
@@ -85,30 +85,37 @@ call_table =
     ∷ (codes "set", one whole_in SetWord)
     ∷ []
 
+-- the calls of format 2 alone
+abbrev pub later_call_table : List (List ℕ × Behind Call)
+later_call_table = (codes "pop", none Pop) ∷ []
+
+abbrev pub call_in : (format : ℕ) → List ℕ → Behind Call
+call_in format text ds = option_or (by_table call_table text ds) (if format == 2 then by_table later_call_table text ds else None)
+
 -- an environment, the number of its call, and the call
-abbrev pub asked : Behind Entry
-asked (e ∷ k ∷ w ∷ ds) =
-    option_and_then (λ env. option_and_then (λ number. option_and_then (λ text. option_map (Asked env number) (by_table call_table text ds)) (as_str w)) (u32_in k)) (env_in e)
-asked _ = None
+abbrev pub asked : (format : ℕ) → Behind Entry
+asked format (e ∷ k ∷ w ∷ ds) =
+    option_and_then (λ env. option_and_then (λ number. option_and_then (λ text. option_map (Asked env number) (call_in format text ds)) (as_str w)) (u32_in k)) (env_in e)
+asked format _ = None
 
 -- the entries of an environment
-abbrev pub environment_table : List (List ℕ × Behind Entry)
-environment_table =
-    (codes "asked", asked)
+abbrev pub environment_table : (format : ℕ) → List (List ℕ × Behind Entry)
+environment_table format =
+    (codes "asked", asked format)
     ∷ (codes "stop", one env_in Stop)
     ∷ (codes "read", two env_in i32_in Read)
     ∷ (codes "go", one env_in Go)
     ∷ []
 
-abbrev pub listed_entry : List Data → Option Entry
-listed_entry [] = None
-listed_entry (d ∷ ds) = option_and_then (λ text. option_or (by_table own_table text ds) (by_table environment_table text ds)) (as_str d)
+abbrev pub listed_entry : (format : ℕ) → List Data → Option Entry
+listed_entry format [] = None
+listed_entry format (d ∷ ds) = option_and_then (λ text. option_or (by_table own_table text ds) (by_table (environment_table format) text ds)) (as_str d)
 
 -- an entry: a word and what stands behind it
-abbrev pub entry_in : Data → Option Entry
-entry_in d = option_and_then listed_entry (array_in d)
+abbrev pub entry_in : (format : ℕ) → Data → Option Entry
+entry_in format d = option_and_then (listed_entry format) (array_in d)
 
 -- the entries of items that are numbered from this one on, or the first fault
-abbrev pub entries_in : ℕ → List Data → Result (List Entry) ScriptFault
-entries_in item [] = Ok []
-entries_in item (d ∷ ds) = ok_or (entry_in d) (Shape item) >>= λ x. entries_in (item + 1) ds >>= λ xs. Ok (x ∷ xs)
+abbrev pub entries_in : (format item : ℕ) → List Data → Result (List Entry) ScriptFault
+entries_in format item [] = Ok []
+entries_in format item (d ∷ ds) = ok_or (entry_in format d) (Shape item) >>= λ x. entries_in format (item + 1) ds >>= λ xs. Ok (x ∷ xs)

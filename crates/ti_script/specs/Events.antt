@@ -9,7 +9,7 @@ use Rattle.serde_json.specs.Find.{as_str, as_number, as_i64}
 use Rattle.ti_types.specs.declared.event.Event.{Event}
 use Rattle.ti_types.specs.declared.event.Event.TheVariants.{Start, Own, Poll, ToNative, ToBlocked, Back, End, Ask, Stop, Read, Go, AddCaps, Relinquish, GetCaps, SetEnvWord, GetEnvWord}
 use Rattle.ti_types.specs.declared.step.Step.TheVariants.{Enter, EnterNative, At, Leave}
-use Rattle.ti_types.specs.declared.call.Call.TheVariants.{State, FrameCount, Trace, Location, Suspend, Resume, GetWord, SetWord}
+use Rattle.ti_types.specs.declared.call.Call.TheVariants.{State, FrameCount, Trace, Location, Suspend, Resume, GetWord, SetWord, Pop}
 use Rattle.ti_types.specs.declared.state.Kind.{Kind}
 use Rattle.ti_types.specs.declared.state.Kind.TheVariants.{MonitorEnter, ObjectWait, TimedWait, Sleep, Park, TimedPark}
 use Rattle.ti_types.specs.declared.caps.Caps.{Caps}
@@ -88,6 +88,7 @@ ask_table e =
     ∷ (codes "resume", row (thread ∷ []) (λ t. Ask e t Resume))
     ∷ (codes "get", row (thread ∷ []) (λ t. Ask e t GetWord))
     ∷ (codes "set", row (thread ∷ word ∷ []) (λ t w. Ask e t (SetWord w)))
+    ∷ (codes "pop", row (thread ∷ []) (λ t. Ask e t Pop))
     ∷ []
 
 -- the words of an agent for stops, capabilities and its environment's own word

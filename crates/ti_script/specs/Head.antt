@@ -76,7 +76,7 @@ walk_members = codes "limits" ∷ codes "threads" ∷ codes "agents" ∷ codes "
 abbrev pub cast_fault : Data → Option ScriptFault
 cast_fault d = first_of
     (names_fault Threads 1 64 [] (at (codes "threads") d)
-    ∷ names_fault Agents 1 8 (texts (at (codes "threads") d)) (at (codes "agents") d)
+    ∷ names_fault Agents 1 32 (texts (at (codes "threads") d)) (at (codes "agents") d)
     ∷ names_fault Methods 0 65536 [] (at (codes "methods") d)
     ∷ [])
 

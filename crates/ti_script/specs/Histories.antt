@@ -1,5 +1,5 @@
 -- What a document says as a history, and which fault it has.
-use Rattle.std.specs.Prelude.{◌≡◌, ℕ, List, [], ◌∷◌, codes, Bool, false, ◌||◌, ◌==◌, Option, is_some, unwrap_or, option_and_then, Result, Ok}
+use Rattle.std.specs.Prelude.{◌≡◌, ℕ, List, [], ◌∷◌, codes, Bool, false, ◌||◌, ◌==◌, if◌then◌else◌, Option, is_some, unwrap_or, option_and_then, Result, Ok}
 use Rattle.std.specs.Option.{option_map_or}
 use Rattle.std.specs.Result.{result_err}
 use Rattle.serde_json.specs.Data.{Data}
@@ -21,17 +21,24 @@ history_members = codes "format" ∷ codes "limits" ∷ codes "agents" ∷ codes
 abbrev pub is_whole : Data → Bool
 is_whole d = is_some (whole_in d) || is_some (option_and_then as_i64 (as_number d))
 
--- 1 is the one format that there is
+-- the number of the format: 1, or 2 with more agents and one call more
+abbrev pub format_of : Data → ℕ
+format_of d = unwrap_or (whole_in d) 0
+
 abbrev pub format_fault : Data → Option ScriptFault
 format_fault d = first_of
     (unless (is_whole d) head_shape
-    ∷ unless (option_map_or (λ n. n == 1) (whole_in d) false) (Limit Format)
+    ∷ unless (option_map_or (λ n. n == 1 || n == 2) (whole_in d) false) (Limit Format)
     ∷ [])
 
-abbrev pub agents_fault : Data → Option ScriptFault
-agents_fault d = first_of
+-- how many agents there may be
+abbrev pub most_agents : (format : ℕ) → ℕ
+most_agents format = if format == 2 then 32 else 8
+
+abbrev pub agents_fault : (format : ℕ) → Data → Option ScriptFault
+agents_fault format d = first_of
     (unless (is_some (whole_in d)) head_shape
-    ∷ unless (is_within 1 8 (unwrap_or (whole_in d) 0)) (Limit Agents)
+    ∷ unless (is_within 1 (most_agents format) (unwrap_or (whole_in d) 0)) (Limit Agents)
     ∷ [])
 
 abbrev pub history_head_fault : Data → Option ScriptFault
@@ -39,12 +46,12 @@ history_head_fault d = first_of
     (unless (has_exactly history_members d) head_shape
     ∷ format_fault (at (codes "format") d)
     ∷ limits_fault (at (codes "limits") d)
-    ∷ agents_fault (at (codes "agents") d)
+    ∷ agents_fault (format_of (at (codes "format") d)) (at (codes "agents") d)
     ∷ items_fault Entries 262144 (at (codes "entries") d)
     ∷ [])
 
 abbrev pub entries_of : Data → Result (List Entry) ScriptFault
-entries_of d = entries_in 1 (elements (at (codes "entries") d))
+entries_of d = entries_in (format_of (at (codes "format") d)) 1 (elements (at (codes "entries") d))
 
 -- the first fault, in the order in which they are looked for
 abbrev pub history_fault : Data → Option ScriptFault

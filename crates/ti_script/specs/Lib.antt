@@ -8,3 +8,4 @@ pub mod Texts
 pub mod Entries
 pub mod Histories
 pub mod LimitNames
+pub mod Bounds

@@ -1,6 +1,8 @@
 ghost use Rattle.std.specs.Prelude.{◌≡◌, map};
 ghost use Rattle.serde_json.specs.View.{view};
 ghost use Rattle.ti_types.specs.Caps.{no_caps};
+ghost use Rattle.std.specs.Option.{ok_or};
+ghost use Rattle.ti_script.specs.declared.fault.ScriptFault.TheVariants.{Shape};
 ghost use Rattle.ti_script.specs.Head.{text_in};
 ghost use Rattle.ti_script.specs.Events.{thread, method, kind, number, signed, word, caps, given, u32_in, i32_in, kind_named, cap_named, caps_named, caps_in};
 
@@ -95,17 +97,15 @@ pub(crate) fn kind_in(cast: &Cast, item: u32, value: &Value) -> Result<Kind, Scr
     kind_named(text).ok_or(ScriptFault::Shape { item })
 }
 
-pub(crate) fn number_in(cast: &Cast, item: u32, value: &Value) -> Result<u32, ScriptFault>
-    ensures { result ≡ given cast.now item number (view value.now) }
+pub(crate) fn number_in(item: u32, value: &Value) -> Result<u32, ScriptFault>
+    ensures { result ≡ ok_or (u32_in (view value.now)) (Shape item) }
 {
-    let _ = cast;
     u32_in(value).ok_or(ScriptFault::Shape { item })
 }
 
-pub(crate) fn signed_in(cast: &Cast, item: u32, value: &Value) -> Result<i32, ScriptFault>
-    ensures { result ≡ given cast.now item signed (view value.now) }
+pub(crate) fn signed_in(item: u32, value: &Value) -> Result<i32, ScriptFault>
+    ensures { result ≡ ok_or (i32_in (view value.now)) (Shape item) }
 {
-    let _ = cast;
     i32_in(value).ok_or(ScriptFault::Shape { item })
 }
 

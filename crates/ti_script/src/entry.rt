@@ -1,6 +1,6 @@
 ghost use Rattle.std.specs.Prelude.{◌≡◌, map};
 ghost use Rattle.serde_json.specs.View.{view};
-ghost use Rattle.ti_script.specs.Entries.{env_in, number_of_method, safe_named, safe_in, asked, by_table, own_table, call_table, environment_table, entry_in};
+ghost use Rattle.ti_script.specs.Entries.{env_in, number_of_method, safe_named, safe_in, asked, by_table, own_table, call_table, later_call_table, call_in, environment_table, entry_in};
 
 use crate::element::{i32_in, kind_named, u32_in};
 use crate::tree::array_in;
@@ -54,6 +54,7 @@ fn own_entry(text: &str, rest: &[Value]) -> Option<Entry>
     }
 }
 
+/// A call of both formats.
 fn call_of(text: &str, rest: &[Value]) -> Option<Call>
     ensures { result ≡ by_table call_table text.now (map view rest.now) }
 {
@@ -77,25 +78,49 @@ fn call_of(text: &str, rest: &[Value]) -> Option<Call>
     }
 }
 
+/// A call of format 2 alone.
+fn later_call_of(text: &str, rest: &[Value]) -> Option<Call>
+    ensures { result ≡ by_table later_call_table text.now (map view rest.now) }
+{
+    match (text, rest) {
+        ("pop", []) => Some(Call::Pop),
+        _ => None,
+    }
+}
+
+/// A call of a format.
+fn call_in(format: u64, text: &str, rest: &[Value]) -> Option<Call>
+    ensures { result ≡ call_in format text.now (map view rest.now) }
+{
+    match call_of(text, rest) {
+        Some(call) => Some(call),
+        None => if format == 2 {
+            later_call_of(text, rest)
+        } else {
+            None
+        },
+    }
+}
+
 /// An environment, the number of its call, and the call.
-fn asked(rest: &[Value]) -> Option<Entry>
-    ensures { result ≡ asked (map view rest.now) }
+fn asked(format: u64, rest: &[Value]) -> Option<Entry>
+    ensures { result ≡ asked format (map view rest.now) }
 {
     let [env, number, text, rest @ ..] = rest else {
         return None;
     };
     let env = env_in(env)?;
     let number = u32_in(number)?;
-    let call = call_of(text.as_str()?, rest)?;
+    let call = call_in(format, text.as_str()?, rest)?;
     Some(Entry::Asked(env, number, call))
 }
 
 /// An entry of an environment.
-fn environment_entry(text: &str, rest: &[Value]) -> Option<Entry>
-    ensures { result ≡ by_table environment_table text.now (map view rest.now) }
+fn environment_entry(format: u64, text: &str, rest: &[Value]) -> Option<Entry>
+    ensures { result ≡ by_table (environment_table format) text.now (map view rest.now) }
 {
     match (text, rest) {
-        ("asked", _) => asked(rest),
+        ("asked", _) => asked(format, rest),
         ("stop", [env]) => Some(Entry::Stop(env_in(env)?)),
         ("read", [env, max_count]) => {
             let env = env_in(env)?;
@@ -107,9 +132,9 @@ fn environment_entry(text: &str, rest: &[Value]) -> Option<Entry>
     }
 }
 
-/// The entry of an item.
-pub(crate) fn entry_in(value: &Value) -> Option<Entry>
-    ensures { result ≡ entry_in (view value.now) }
+/// The entry of an item, in a document of this format.
+pub(crate) fn entry_in(format: u64, value: &Value) -> Option<Entry>
+    ensures { result ≡ entry_in format (view value.now) }
 {
     let [text, rest @ ..] = array_in(value)? else {
         return None;
@@ -117,6 +142,6 @@ pub(crate) fn entry_in(value: &Value) -> Option<Entry>
     let text = text.as_str()?;
     match own_entry(text, rest) {
         Some(entry) => Some(entry),
-        None => environment_entry(text, rest),
+        None => environment_entry(format, text, rest),
     }
 }

@@ -38,8 +38,8 @@ fn trace_ask(cast: &Cast, item: u32, agent: EnvNo, rest: &[Value]) -> Result<Eve
     match rest {
         [thread, start, max_count] => {
             let thread = thread_in(cast, item, thread)?;
-            let start = signed_in(cast, item, start)?;
-            let max_count = signed_in(cast, item, max_count)?;
+            let start = signed_in(item, start)?;
+            let max_count = signed_in(item, max_count)?;
             Ok(Event::Ask(agent, thread, Call::Trace { start, max_count }))
         }
         _ => Err(ScriptFault::Shape { item }),
@@ -52,7 +52,7 @@ fn location_ask(cast: &Cast, item: u32, agent: EnvNo, rest: &[Value]) -> Result<
     match rest {
         [thread, depth] => {
             let thread = thread_in(cast, item, thread)?;
-            let depth = signed_in(cast, item, depth)?;
+            let depth = signed_in(item, depth)?;
             Ok(Event::Ask(agent, thread, Call::Location { depth }))
         }
         _ => Err(ScriptFault::Shape { item }),
@@ -91,6 +91,7 @@ fn ask_event(
         "resume" => Some(plain_ask(cast, item, agent, Call::Resume, rest)),
         "get" => Some(plain_ask(cast, item, agent, Call::GetWord, rest)),
         "set" => Some(set_ask(cast, item, agent, rest)),
+        "pop" => Some(plain_ask(cast, item, agent, Call::Pop, rest)),
         _ => None,
     }
 }

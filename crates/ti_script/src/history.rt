@@ -1,4 +1,4 @@
-ghost use Rattle.std.specs.Prelude.{◌≡◌, ◌++◌, ◌∷◌, [], OnOk, OnErr};
+ghost use Rattle.std.specs.Prelude.{◌≡◌, ◌++◌, ◌∷◌, [], IfOk, OnOk, OnErr};
 
 use std::alloc::{AllocError, Global};
 use std::marker::Model;
@@ -27,6 +27,15 @@ impl EntryList {
         EntryList {
             items: Vec::new(alloc),
         }
+    }
+
+    /// No entries, with room for so many, so that adding them takes no memory. The error is want of memory.
+    pub fn with_room(alloc: Global, count: usize) -> Result<Self, AllocError>
+        ensures { IfOk result (λ entries. entries ≡ []) }
+    {
+        Ok(EntryList {
+            items: Vec::with_capacity(alloc, count)?,
+        })
     }
 
     /// Adds an entry at the end. Where memory is wanting, the entries stay as they were.

@@ -6,6 +6,7 @@
 //! texts of `specs/Texts.antt`, byte for byte.
 #![tactic(auto)]
 
+mod bound;
 mod element;
 mod entry;
 mod event;
@@ -21,6 +22,7 @@ mod text;
 mod tree;
 mod walk;
 
+pub use bound::line_bound;
 pub use fault::{LimitName, ScriptFault};
 pub use history::{EntryList, History};
 pub use names::{Cast, Names};

@@ -1,5 +1,6 @@
 ghost use Rattle.std.specs.Prelude.{◌≡◌, ◌<◌, ◌≤◌, ◌++◌, ◌∷◌, [], length, IfOk, OnErr, not, slice_get, option_copied, if◌then◌else◌};
 ghost use Rattle.ti_script.specs.Names.{number_in, is_among};
+ghost use Rattle.ti_script.specs.Bounds.{AreNamesWithin};
 
 use indexmap::IndexSet;
 use std::alloc::{AllocError, Global};
@@ -63,6 +64,20 @@ impl Names {
     {
         let name = self.set.get_index(number as usize)?;
         Some(name.as_str())
+    }
+
+    /// A length that no name exceeds. It looks at each name.
+    #[tactic(auto, using(crate::proofs::NameLaws::within))]
+    pub fn longest(&self) -> usize
+        ensures { AreNamesWithin result self.now }
+    {
+        let mut longest = 0;
+        for at in 0..self.len() {
+            if let Some(name) = self.name(at as u32) {
+                longest = longest.max(name.len());
+            }
+        }
+        longest
     }
 
     /// Adds a name at the end, where it is not here yet, and says whether it did. Where memory is wanting, the names

@@ -58,7 +58,7 @@ fn at_event(cast: &Cast, item: u32, thread: ThreadNo, rest: &[Value]) -> Result<
     ensures { result ≡ row_event cast.now item (map view rest.now) (row (number ∷ []) (λ p. Own thread (At p))) }
 {
     match rest {
-        [place] => Ok(Event::Own(thread, Step::At(number_in(cast, item, place)?))),
+        [place] => Ok(Event::Own(thread, Step::At(number_in(item, place)?))),
         _ => Err(ScriptFault::Shape { item }),
     }
 }

@@ -55,11 +55,11 @@ fn names_at(
 fn cast_in(alloc: Global, value: &Value) -> Result<Cast, ScriptFault>
     ensures read { Reads (λ cast. cast) result (cast_fault (view value.now)) (cast_of (view value.now)) }
     ensures threads { IfOk result (λ cast. (1 ≤ length cast.threads) × (length cast.threads ≤ 64)) }
-    ensures agents { IfOk result (λ cast. (1 ≤ length cast.agents) × (length cast.agents ≤ 8)) }
+    ensures agents { IfOk result (λ cast. (1 ≤ length cast.agents) × (length cast.agents ≤ 32)) }
 {
     let none = Names::new(alloc);
     let threads = names_at(alloc, value, "threads", LimitName::Threads, 1, 64, &none)?;
-    let agents = names_at(alloc, value, "agents", LimitName::Agents, 1, 8, &threads)?;
+    let agents = names_at(alloc, value, "agents", LimitName::Agents, 1, 32, &threads)?;
     let methods = names_at(alloc, value, "methods", LimitName::Methods, 0, 65536, &none)?;
     Ok(Cast {
         threads,
@@ -92,7 +92,7 @@ fn events_in(alloc: Global, cast: &Cast, items: &[Value]) -> Result<EventList, S
     requires { length items.now ≤ 65536 }
     ensures { Gives (λ events. events) result (events_in cast.now 1 (map view items.now)) }
 {
-    let mut events = EventList::new(alloc);
+    let mut events = EventList::with_room(alloc, items.len())?;
     let mut item = 1;
     for value in items {
         let event = event_in(cast, item, value)?;

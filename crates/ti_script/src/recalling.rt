@@ -5,7 +5,7 @@ ghost use Rattle.ti_script.specs.Faults.{Reads, Gives, Faults};
 ghost use Rattle.ti_script.specs.Tree.{at, whole_in};
 ghost use Rattle.ti_script.specs.Walks.{IsDocument, IsRefusalBy};
 ghost use Rattle.ti_script.specs.Entries.{entries_in};
-ghost use Rattle.ti_script.specs.Histories.{format_fault, agents_fault, history_fault, IsHistory};
+ghost use Rattle.ti_script.specs.Histories.{format_fault, format_of, agents_fault, most_agents, history_fault, IsHistory};
 
 use crate::entry::entry_in;
 use crate::fault::{LimitName, ScriptFault};
@@ -16,12 +16,13 @@ use serde_json::Value;
 use std::alloc::Global;
 use ti_types::Limits;
 
-/// The format has to be 1.
+/// The format has to be 1 or 2.
 fn format_in(value: &Value) -> Result<u64, ScriptFault>
-    ensures { Reads (λ format. format) result (format_fault (view value.now)) 1 }
+    ensures { Reads (λ format. format) result (format_fault (view value.now)) (format_of (view value.now)) }
 {
     match value.as_u64() {
         Some(1) => Ok(1),
+        Some(2) => Ok(2),
         Some(_) => Err(ScriptFault::Limit {
             which: LimitName::Format,
         }),
@@ -35,14 +36,22 @@ fn format_in(value: &Value) -> Result<u64, ScriptFault>
     }
 }
 
-fn agents_in(value: &Value) -> Result<u64, ScriptFault>
-    ensures read { Reads (λ agents. agents) result (agents_fault (view value.now)) (unwrap_or (whole_in (view value.now)) 0) }
-    ensures range { IfOk result (λ agents. (1 ≤ agents) × (agents ≤ 8)) }
+/// How many agents a format allows.
+fn most_agents(format: u64) -> u64
+    ensures most { result ≡ most_agents format }
+    ensures range { result ≤ 32 }
+{
+    if format == 2 { 32 } else { 8 }
+}
+
+fn agents_in(format: u64, value: &Value) -> Result<u64, ScriptFault>
+    ensures read { Reads (λ agents. agents) result (agents_fault format (view value.now)) (unwrap_or (whole_in (view value.now)) 0) }
+    ensures range { IfOk result (λ agents. (1 ≤ agents) × (agents ≤ 32)) }
 {
     let Some(agents) = value.as_u64() else {
         return Err(ScriptFault::Shape { item: 0 });
     };
-    if agents < 1 || 8 < agents {
+    if agents < 1 || most_agents(format) < agents {
         return Err(ScriptFault::Limit {
             which: LimitName::Agents,
         });
@@ -51,28 +60,28 @@ fn agents_in(value: &Value) -> Result<u64, ScriptFault>
 }
 
 fn format_at(value: &Value, key: &str) -> Result<u64, ScriptFault>
-    ensures { Reads (λ format. format) result (format_fault (at key.now (view value.now))) 1 }
+    ensures { Reads (λ format. format) result (format_fault (at key.now (view value.now))) (format_of (at key.now (view value.now))) }
 {
     let format = member(value, key)?;
     format_in(format)
 }
 
-fn agents_at(value: &Value, key: &str) -> Result<u64, ScriptFault>
-    ensures read { Reads (λ agents. agents) result (agents_fault (at key.now (view value.now))) (unwrap_or (whole_in (at key.now (view value.now))) 0) }
-    ensures range { IfOk result (λ agents. (1 ≤ agents) × (agents ≤ 8)) }
+fn agents_at(format: u64, value: &Value, key: &str) -> Result<u64, ScriptFault>
+    ensures read { Reads (λ agents. agents) result (agents_fault format (at key.now (view value.now))) (unwrap_or (whole_in (at key.now (view value.now))) 0) }
+    ensures range { IfOk result (λ agents. (1 ≤ agents) × (agents ≤ 32)) }
 {
     let agents = member(value, key)?;
-    agents_in(agents)
+    agents_in(format, agents)
 }
 
-fn entries_in(alloc: Global, items: &[Value]) -> Result<EntryList, ScriptFault>
+fn entries_in(alloc: Global, format: u64, items: &[Value]) -> Result<EntryList, ScriptFault>
     requires { length items.now ≤ 262144 }
-    ensures { Gives (λ entries. entries) result (entries_in 1 (map view items.now)) }
+    ensures { Gives (λ entries. entries) result (entries_in format 1 (map view items.now)) }
 {
-    let mut entries = EntryList::new(alloc);
+    let mut entries = EntryList::with_room(alloc, items.len())?;
     let mut item = 1;
     for value in items {
-        let Some(entry) = entry_in(value) else {
+        let Some(entry) = entry_in(format, value) else {
             return Err(ScriptFault::Shape { item });
         };
         entries.push(entry)?;
@@ -88,11 +97,11 @@ fn history_in(alloc: Global, value: &Value) -> Result<History, ScriptFault>
     if !has_exactly(value, &["format", "limits", "agents", "entries"]) {
         return Err(ScriptFault::Shape { item: 0 });
     }
-    let _format = format_at(value, "format")?;
+    let format = format_at(value, "format")?;
     let bounds = bounds_at(value, "limits")?;
-    let agents = agents_at(value, "agents")?;
+    let agents = agents_at(format, value, "agents")?;
     let items = items_at(value, "entries", LimitName::Entries, 262_144)?;
-    let entries = entries_in(alloc, items)?;
+    let entries = entries_in(alloc, format, items)?;
     let limits = Limits::new(1, agents as u32, bounds.depth, bounds.own, bounds.calls).unwrap();
     Ok(History { limits, entries })
 }

@@ -25,7 +25,7 @@ fn read_event(cast: &Cast, item: u32, agent: EnvNo, rest: &[Value]) -> Result<Ev
     match rest {
         [thread, max_count] => {
             let thread = thread_in(cast, item, thread)?;
-            let max_count = signed_in(cast, item, max_count)?;
+            let max_count = signed_in(item, max_count)?;
             Ok(Event::Read(agent, thread, max_count))
         },
         _ => Err(ScriptFault::Shape { item }),

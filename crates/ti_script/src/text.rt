@@ -8,12 +8,16 @@ use itoa::Buffer;
 use std::alloc::AllocError;
 use ti_types::{Answer, Caps, Frame, Outcome, Place, TiError};
 
+#[tactic(auto, using(crate::proofs::RoomLaws::one_digit_decimal))]
 fn put_number(out: &mut String, number: u64) -> Result<(), AllocError>
     ensures ok { OnOk result (string_bytes out.new ≡ string_bytes out.old ++ decimal number) }
     ensures len { OnOk result (string_len out.new ≡ string_len out.old + length (decimal number)) }
     ensures room { string_capacity out.old ≤ string_capacity out.new }
     ensures full { OnErr result (string_capacity out.old < string_len out.old + length (decimal number)) }
 {
+    if number < 10 {
+        return out.push_str(hexadecimal_digit(number as u32));
+    }
     let mut digits = Buffer::new();
     out.push_str(digits.format(number))
 }

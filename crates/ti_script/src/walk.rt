@@ -1,4 +1,4 @@
-ghost use Rattle.std.specs.Prelude.{◌≡◌, ◌++◌, ◌∷◌, [], OnOk, OnErr};
+ghost use Rattle.std.specs.Prelude.{◌≡◌, ◌++◌, ◌∷◌, [], IfOk, OnOk, OnErr};
 
 use crate::names::Names;
 use std::alloc::{AllocError, Global};
@@ -28,6 +28,15 @@ impl EventList {
         EventList {
             items: Vec::new(alloc),
         }
+    }
+
+    /// No events, with room for so many, so that adding them takes no memory. The error is want of memory.
+    pub fn with_room(alloc: Global, count: usize) -> Result<Self, AllocError>
+        ensures { IfOk result (λ events. events ≡ []) }
+    {
+        Ok(EventList {
+            items: Vec::with_capacity(alloc, count)?,
+        })
     }
 
     /// Adds an event at the end. Where memory is wanting, the events stay as they were.

@@ -1,5 +1,5 @@
 -- Calls of environments: their numbers, their room, and their replies.
-use Rattle.std.proofs.Common.{◌≡◌, ℕ, ◌<◌, ◌≤◌, true, false, List, [], ◌∷◌, ◌++◌, length, refl, ap, sym, ◌∙◌, arith, Some, None, length-append, subst, ◌&&◌, vec_capacity, ℤ, le_refl}
+use Rattle.std.proofs.Common.{◌≡◌, ℕ, ◌<◌, ◌≤◌, true, false, List, [], ◌∷◌, ◌++◌, length, refl, ap, sym, ◌∙◌, arith, Option, Some, None, length-append, subst, ◌&&◌, vec_capacity, ℤ, le_refl}
 use Rattle.std.proofs.lemmas.List.{map-append}
 use Rattle.std.specs.Global.{Vec}
 use Rattle.std.specs.List.{list_all}
@@ -10,6 +10,7 @@ use Rattle.ti_types.specs.declared.limits.Limits.{Limits}
 use Rattle.ti_types.specs.declared.numbers.EnvNo.{EnvNo}
 use Rattle.ti_types.specs.declared.numbers.ThreadNo.{ThreadNo}
 use Rattle.ti_types.specs.declared.place.Frame.{Frame}
+use Rattle.ti_types.specs.declared.state.Mode.{Mode}
 use Rattle.ti_types.specs.declared.call.Call.{Call}
 use Rattle.ti_types.specs.declared.answer.Answer.{Answer}
 use Rattle.ti_types.specs.declared.entry.Entry.{Entry}
@@ -36,7 +37,7 @@ use Rattle.ti_replay.proofs.PlaceLaws.{reply_at_once, reply_later, reply_past}
 use Rattle.ti_replay.proofs.AskingLaws.{reply-snoc}
 use Rattle.ti_slot.specs.declared.condition.Condition.{Condition}
 use Rattle.ti_slot.specs.declared.slot.Slot.TheInside.{Inside}
-use Rattle.ti_slot.specs.Condition.{view_of, frames_or}
+use Rattle.ti_slot.specs.Condition.{view_of, frames_or, AreWhereTheyWere}
 use Rattle.ti_slot.specs.Waiting.{entry_of, entries_of, calls_of, AreReady, IsBufferOf}
 use Rattle.ti_slot.specs.Inside.{IsSlot, thread_in}
 use Rattle.ti_slot.specs.Thread.{Thread, IsAsked, read_answer}
@@ -111,17 +112,25 @@ asked_waits a env n call thread buf h costs ops s may off e le ec eo b =
     (frames_or a.frames (view a.limits a.history.items).frames) s may e le
     (grind (arith, ec, off, more)) (laws.home a.frames (view a.limits a.history.items).frames) s.frames_home s.log_home refl refl (omega (arith, count)) (ready_more a.limits a.ops.waiting p s.ready b) calls)
 
+-- frames that are where they were are at home there
+frames_stay : (limits : Limits) (m : Mode) (f g : Option Stack) → AreWhereTheyWere f g → FramesAreHome limits m f → FramesAreHome limits m g
+frames_stay limits m (Some s) (Some t) same k = (k.0, same ∙ k.1)
+frames_stay limits m None None same k = k
+frames_stay limits m (Some s) None same k = absurd same
+frames_stay limits m None (Some t) same k = absurd same
+
 -- the slot after a call that is answered at once
-pub answered : (a : Inside) (env : EnvNo) (n : ℕ) (call : Call) (h : Vec Entry) (costs : List Costs) (c : Condition) (ops : Ops)
+pub answered : (a : Inside) (env : EnvNo) (n : ℕ) (call : Call) (h : Vec Entry) (costs : List Costs) (c : Condition) (g : Option Stack) (ops : Ops)
     → IsSlot a → May a (Asked env n call) → (waits call && is_running a.condition.mode) ≡ false → h.items ≡ a.history.items ++ Asked env n call ∷ [] → vec_capacity a.history ≤ vec_capacity h → costs ≡ charged a.costs.items (Asked env n call)
-    → ((frames : List Frame) → view_of c frames ≡ called (view_of a.condition frames) env call) → (fates : List (List Fate)) → ops ≡ with_fates a.ops fates
-    → Stands a.limits h.items (vec_capacity h) c a.frames a.log a.own costs ops
-answered a env n call h costs c ops s may off e le ec vc fates eo =
+    → ((others : List Frame) → view_of c (frames_or g others) ≡ called (view_of a.condition (frames_or a.frames others)) env call) → AreWhereTheyWere a.frames g
+    → (fates : List (List Fate)) → ops ≡ with_fates a.ops fates
+    → Stands a.limits h.items (vec_capacity h) c g a.log a.own costs ops
+answered a env n call h costs c g ops s may off e le ec vc stay fates eo =
     let x = Asked env n call in
-    let f = frames_or a.frames (view a.limits a.history.items).frames in
-    let same : c.mode ≡ a.condition.mode = ap (λ (v : ThreadView). v.mode) (vc []) ∙ (called_keeps (view_of a.condition []) env call).0 in
-    rw eo (laws.goes a.limits a.history.items (vec_capacity a.history) a.condition a.frames a.log a.own a.costs.items a.ops x h.items (vec_capacity h) c a.frames a.log a.own costs (with_fates a.ops fates) f s may e le
-    (grind (arith, ec, off, vc f)) (laws.home a.frames (view a.limits a.history.items).frames) (subst (λ m. FramesAreHome a.limits m a.frames) (sym same) s.frames_home) (subst (λ m. LogIsHome a.limits m a.log) (sym same) s.log_home) refl refl (omega arith) s.ready s.calls)
+    let f = (view a.limits a.history.items).frames in
+    let same : c.mode ≡ a.condition.mode = ap (λ (v : ThreadView). v.mode) (vc []) ∙ (called_keeps (view_of a.condition (frames_or a.frames [])) env call).0 in
+    rw eo (laws.goes a.limits a.history.items (vec_capacity a.history) a.condition a.frames a.log a.own a.costs.items a.ops x h.items (vec_capacity h) c g a.log a.own costs (with_fates a.ops fates) (frames_or g f) s may e le
+    (grind (arith, ec, off, vc f)) (laws.home g f) (subst (λ m. FramesAreHome a.limits m g) (sym same) (frames_stay a.limits a.condition.mode a.frames g stay s.frames_home)) (subst (λ m. LogIsHome a.limits m a.log) (sym same) s.log_home) refl refl (omega arith) s.ready s.calls)
 
 pub replied : (a : Inside) (env : EnvNo) (n : ℕ) (call : Call) (h : List Entry) (told : Answer) → IsSlot a → (waits call && is_running a.condition.mode) ≡ false → h ≡ a.history.items ++ Asked env n call ∷ []
     → ((others : List Frame) → said told ≡ answer_of (view_of a.condition (frames_or a.frames others)) env call) → reply a.limits h (length a.history.items) ≡ Some (said told)

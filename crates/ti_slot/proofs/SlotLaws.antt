@@ -119,20 +119,20 @@ abbrev pub at_mode : Condition → Mode → Condition
 at_mode c m = record { mode = m; suspended = c.suspended; stopper = c.stopper; words = c.words }
 
 -- the frames come home, and the waiting calls take place
-pub serve_stands : (limits : Limits) (h : List Entry) (cap cap' : ℕ) (c c' : Condition) (l : Option Steps) (own own' : ℕ) (costs : List Costs) (ops ops' : Ops) (x : Entry) (m : Mode) (fr : Stack) (h' : List Entry)
+pub serve_stands : (limits : Limits) (h : List Entry) (cap cap' : ℕ) (c c' : Condition) (l : Option Steps) (own own' : ℕ) (costs : List Costs) (ops ops' : Ops) (x : Entry) (m : Mode) (fr fr' : Stack) (h' : List Entry)
     → Stands limits h cap c None l own costs ops → may_follow limits h x ≡ true → h' ≡ h ++ x ∷ [] → cap ≤ cap'
     → is_hand_over x ≡ true → after (view_of c (view limits h).frames) x ≡ view_of (at_mode c m) fr.frames
-    → is_running m ≡ false → is_new m ≡ false → fr.depth ≡ limits.depth
-    → view_of c' fr.frames ≡ fold after (view_of (at_mode c m) fr.frames) (entries_of ops.waiting)
+    → is_running m ≡ false → is_new m ≡ false → fr'.depth ≡ limits.depth
+    → view_of c' fr'.frames ≡ fold after (view_of (at_mode c m) fr.frames) (entries_of ops.waiting)
     → ops'.waiting ≡ [] → ops'.room ≡ ops.room → ops'.calls ≡ ops.calls
     → own' ≡ own + own_cost x → charged costs x ≡ costs
-    → Stands limits h' cap' c' (Some fr) l own' costs ops'
-serve_stands limits h cap cap' c c' l own own' costs ops ops' x m fr h' s may e le hands first nr nn depth served none room few oe ce =
+    → Stands limits h' cap' c' (Some fr') l own' costs ops'
+serve_stands limits h cap cap' c c' l own own' costs ops ops' x m fr fr' h' s may e le hands first nr nn depth served none room few oe ce =
     let quiet = all_quiet (view_of (at_mode c m) fr.frames) (entries_of ops.waiting) (calls_wait ops.waiting s.calls) in
     let same : c'.mode ≡ m = ap (λ (v : ThreadView). v.mode) served ∙ quiet.mode in
-    let next : next_state (state_of c (view limits h).frames ops.waiting own costs) x ≡ state_of c' fr.frames ops'.waiting own' costs =
+    let next : next_state (state_of c (view limits h).frames ops.waiting own costs) x ≡ state_of c' fr'.frames ops'.waiting own' costs =
     grind (arith, hands, first, served, none, oe, ce) in
-    goes limits h cap c None l own costs ops x h' cap' c' (Some fr) l own' costs ops' fr.frames s may e le next refl
+    goes limits h cap c None l own costs ops x h' cap' c' (Some fr') l own' costs ops' fr'.frames s may e le next refl
     (ap is_running same ∙ nr, depth) (log_stays limits c.mode c'.mode l s.log_home s.frames_home (ap is_new same ∙ nn)) room few
     (let z : length ops'.waiting ≡ 0 = ap length none in omega (arith, z)) (rw none tt) (rw none refl)
 

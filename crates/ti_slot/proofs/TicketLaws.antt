@@ -1,5 +1,5 @@
 -- The tickets of a history's calls, and those that are open.
-use Rattle.std.proofs.Common.{◌≡◌, ℕ, ◌+◌, ◌==◌, nat_lt, true, false, ◌&&◌, ◌||◌, if◌then◌else◌, List, [], ◌∷◌, ◌++◌, refl, ap, sym, ◌∙◌, arith, append-nil, append_assoc, inl, inr}
+use Rattle.std.proofs.Common.{◌≡◌, ℕ, ◌+◌, ◌==◌, nat_lt, Bool, true, false, ◌&&◌, ◌||◌, if◌then◌else◌, List, [], ◌∷◌, ◌++◌, refl, ap, sym, ◌∙◌, arith, append-nil, append_assoc, inl, inr, subst}
 use Rattle.std.proofs.lemmas.List.{flat_map_more}
 use Rattle.std.proofs.lemmas.List.Folds.{list_any-append}
 use Rattle.std.proofs.lemmas.Bool.{cases_Bool, cases_eq}
@@ -109,3 +109,17 @@ listed_more t env number n m ts e h =
       | inl here ↦ let z = e here in grind (arith, nat_tests, a, h, here, z)
       | inr other ↦ grind (arith, nat_tests, a, h, other)
     ]
+
+pub open_once : (fates : List (List Fate)) (ts : List Ticket) → AreOnce ts → AreOnce (open_in fates ts)
+open_once fates [] o = tt
+open_once fates (t ∷ ts) o =
+    let none : has t (open_in fates ts) ≡ false = has-open t fates ts ∙ ap (λ b. is_open (fate_of t fates) && b) o.0 ∙ and_false (is_open (fate_of t fates)) in
+    let rest = open_once fates ts o.1 in
+    elim (cases_Bool (is_open (fate_of t fates))) [
+      | inl is ↦ subst AreOnce (sym (ap (λ b. if b then t ∷ open_in fates ts else open_in fates ts) is)) (none, rest)
+      | inr not ↦ subst AreOnce (sym (ap (λ b. if b then t ∷ open_in fates ts else open_in fates ts) not)) rest
+    ]
+  where
+    and_false : (b : Bool) → (b && false) ≡ false
+    and_false true = refl
+    and_false false = refl

@@ -40,7 +40,7 @@ use Rattle.ti_replay.specs.HistoryState.{HistoryState, history_state}
 use Rattle.ti_replay.specs.LateTickets.{steps_of}
 use Rattle.ti_replay.specs.Tickets.{reply_to}
 use Rattle.ti_slot.specs.declared.slot.Slot.TheInside.{Inside}
-use Rattle.ti_slot.specs.Condition.{view_of, frames_or}
+use Rattle.ti_slot.specs.Condition.{view_of, frames_or, AreWhereTheyWere}
 use Rattle.ti_slot.specs.Waiting.{answers_of, entries_of, said_in, said_fate, delivered, IsBufferOf}
 use Rattle.ti_slot.specs.Tickets.{Tells, has, without_ticket, asked_in, open_in, AreAwaited}
 use Rattle.ti_slot.specs.Thread.{Thread, with_more, IsAsked}
@@ -132,12 +132,12 @@ asks_here a t env n call costs s et he hc hw ec en =
     }
 
 -- the slot after a call that is answered at once, and what it comes to
-pub now_whole : (a : Inside) (env : EnvNo) (n : ℕ) (call : Call) (h : Vec Entry) (costs : List Costs) (c : Condition) (ops : Ops) → IsWhole a → Asks a env n call → (waits call && is_running a.condition.mode) ≡ false
+pub now_whole : (a : Inside) (env : EnvNo) (n : ℕ) (call : Call) (h : Vec Entry) (costs : List Costs) (c : Condition) (g : Option Stack) (ops : Ops) → IsWhole a → Asks a env n call → (waits call && is_running a.condition.mode) ≡ false
     → h.items ≡ a.history.items ++ Asked env n call ∷ [] → vec_capacity a.history ≤ vec_capacity h → costs ≡ charged a.costs.items (Asked env n call)
-    → ((frames : List Frame) → view_of c frames ≡ called (view_of a.condition frames) env call) → ops ≡ with_fates a.ops (with_call env Gone a.ops.fates)
-    → Stands a.limits h.items (vec_capacity h) c a.frames a.log a.own costs ops × Tells a.limits a.number h.items ops.waiting (said_in ops.fates)
-now_whole a env n call h costs c ops s k off e le ec vc eo = (
-  answered a env n call h costs c ops s.0 k.comes.may off e le ec vc (with_call env Gone a.ops.fates) eo,
+    → ((others : List Frame) → view_of c (frames_or g others) ≡ called (view_of a.condition (frames_or a.frames others)) env call) → AreWhereTheyWere a.frames g → ops ≡ with_fates a.ops (with_call env Gone a.ops.fates)
+    → Stands a.limits h.items (vec_capacity h) c g a.log a.own costs ops × Tells a.limits a.number h.items ops.waiting (said_in ops.fates)
+now_whole a env n call h costs c g ops s k off e le ec vc stay eo = (
+  answered a env n call h costs c g ops s.0 k.comes.may off e le ec vc stay (with_call env Gone a.ops.fates) eo,
   rw (e, eo, said-with_call env Gone a.ops.fates) (tells_now a.limits a.number a.history.items a.ops.waiting (said_in a.ops.fates) env n call k.there k.number (put_off_is a call s.0 ∙ off) s.1),
 )
 
@@ -199,29 +199,29 @@ served_thread a t steps x v h ops s et hx e given =
     ∙ ap (λ (z : Thread). with_more z (steps_of steps ++ x ∷ [])) et
 
 -- the slot after a hand-over
-pub hand_whole : (a : Inside) (t : Thread) (steps : List Step) (safe : Safe) (fr : Stack) (h : Vec Entry) (c : Condition) (own : ℕ) (ops : Ops) → IsWhole a → thread_in a ≡ t → Hands a steps safe fr
-    → h.items ≡ (a.history.items ++ steps_of steps) ++ Hand safe ∷ [] → vec_capacity a.history ≤ vec_capacity h → fr.depth ≡ t.limits.depth → own ≡ a.own + length steps + own_cost (Hand safe)
-    → view_of c fr.frames ≡ fold after (view_of (at_mode a.condition (mode.AtSafe safe)) fr.frames) (entries_of a.ops.waiting)
+pub hand_whole : (a : Inside) (t : Thread) (steps : List Step) (safe : Safe) (fr fr' : Stack) (h : Vec Entry) (c : Condition) (own : ℕ) (ops : Ops) → IsWhole a → thread_in a ≡ t → Hands a steps safe fr
+    → h.items ≡ (a.history.items ++ steps_of steps) ++ Hand safe ∷ [] → vec_capacity a.history ≤ vec_capacity h → fr'.depth ≡ a.limits.depth → own ≡ a.own + length steps + own_cost (Hand safe)
+    → view_of c fr'.frames ≡ fold after (view_of (at_mode a.condition (mode.AtSafe safe)) fr.frames) (entries_of a.ops.waiting)
     → ops.waiting ≡ [] → said_in ops.fates ≡ delivered (answers_of (view_of (at_mode a.condition (mode.AtSafe safe)) fr.frames) a.ops.waiting) (said_in a.ops.fates) → ops.room ≡ a.ops.room → ops.calls ≡ a.ops.calls
-    → Stands a.limits h.items (vec_capacity h) c (Some fr) a.log own a.costs.items ops × Tells a.limits a.number h.items ops.waiting (said_in ops.fates)
-hand_whole a t steps safe fr h c own ops s et k e le depth oe served none given room few =
+    → Stands a.limits h.items (vec_capacity h) c (Some fr') a.log own a.costs.items ops × Tells a.limits a.number h.items ops.waiting (said_in ops.fates)
+hand_whole a t steps safe fr fr' h c own ops s et k e le depth oe served none given room few =
     let here = ap (view_of (at_mode a.condition (mode.AtSafe safe))) (sym k.frames) in (
-      laws.serve_stands a.limits (a.history.items ++ steps_of steps) (vec_capacity a.history) (vec_capacity h) a.condition c a.log (a.own + length steps) own a.costs.items a.ops ops (Hand safe) (mode.AtSafe safe) fr h.items k.ran k.may e le
-          refl here refl refl (depth ∙ sym (ap (λ (z : Thread). z.limits.depth) et)) served none room few oe (charged_free a.costs.items (Hand safe) refl),
+      laws.serve_stands a.limits (a.history.items ++ steps_of steps) (vec_capacity a.history) (vec_capacity h) a.condition c a.log (a.own + length steps) own a.costs.items a.ops ops (Hand safe) (mode.AtSafe safe) fr fr' h.items k.ran k.may e le
+          refl here refl refl depth served none room few oe (charged_free a.costs.items (Hand safe) refl),
       served_after a steps (Hand safe) _ h.items ops s k.ran refl (ap (λ v. after v (Hand safe)) (ran_view a steps k.ran) ∙ here) e none given,
     )
 
 -- and after the end, with no frames
-pub end_whole : (a : Inside) (t : Thread) (steps : List Step) (fr cleared : Stack) (h : Vec Entry) (c : Condition) (own : ℕ) (ops : Ops) → IsWhole a → thread_in a ≡ t → Ran a steps
+pub end_whole : (a : Inside) (t : Thread) (steps : List Step) (fr cleared fr' : Stack) (h : Vec Entry) (c : Condition) (own : ℕ) (ops : Ops) → IsWhole a → thread_in a ≡ t → Ran a steps
     → may_follow a.limits (a.history.items ++ steps_of steps) End ≡ true → h.items ≡ (a.history.items ++ steps_of steps) ++ End ∷ [] → vec_capacity a.history ≤ vec_capacity h
-    → cleared ≡ with_frames fr [] → fr.depth ≡ t.limits.depth → own ≡ a.own + length steps
-    → view_of c cleared.frames ≡ fold after (view_of (at_mode a.condition mode.Ended) cleared.frames) (entries_of a.ops.waiting)
+    → cleared ≡ with_frames fr [] → fr'.depth ≡ a.limits.depth → own ≡ a.own + length steps
+    → view_of c fr'.frames ≡ fold after (view_of (at_mode a.condition mode.Ended) cleared.frames) (entries_of a.ops.waiting)
     → ops.waiting ≡ [] → said_in ops.fates ≡ delivered (answers_of (view_of (at_mode a.condition mode.Ended) cleared.frames) a.ops.waiting) (said_in a.ops.fates) → ops.room ≡ a.ops.room → ops.calls ≡ a.ops.calls
-    → Stands a.limits h.items (vec_capacity h) c (Some cleared) a.log own a.costs.items ops × Tells a.limits a.number h.items ops.waiting (said_in ops.fates)
-end_whole a t steps fr cleared h c own ops s et ran may e le ec depth oe served none given room few =
+    → Stands a.limits h.items (vec_capacity h) c (Some fr') a.log own a.costs.items ops × Tells a.limits a.number h.items ops.waiting (said_in ops.fates)
+end_whole a t steps fr cleared fr' h c own ops s et ran may e le ec depth oe served none given room few =
     let here = ap (view_of (at_mode a.condition mode.Ended)) (sym (ap (λ (f : Stack). f.frames) ec)) in (
-      laws.serve_stands a.limits (a.history.items ++ steps_of steps) (vec_capacity a.history) (vec_capacity h) a.condition c a.log (a.own + length steps) own a.costs.items a.ops ops End mode.Ended cleared h.items ran may e le
-          refl here refl refl (ap (λ (f : Stack). f.depth) ec ∙ depth ∙ sym (ap (λ (z : Thread). z.limits.depth) et)) served none room few (omega (arith, oe)) (charged_free a.costs.items End refl),
+      laws.serve_stands a.limits (a.history.items ++ steps_of steps) (vec_capacity a.history) (vec_capacity h) a.condition c a.log (a.own + length steps) own a.costs.items a.ops ops End mode.Ended cleared fr' h.items ran may e le
+          refl here refl refl depth served none room few (omega (arith, oe)) (charged_free a.costs.items End refl),
       served_after a steps End _ h.items ops s ran refl (ap (λ v. after v End) (ran_view a steps ran) ∙ here) e none given,
     )
 

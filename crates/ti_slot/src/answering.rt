@@ -10,10 +10,10 @@ ghost use Rattle.ti_slot.specs.Condition.{view_of, frames_or};
 ghost use Rattle.ti_slot.specs.Waiting.{entries_of, IsBufferOf, AreReady, calls_of, said_in, answers_of, delivered};
 ghost use Rattle.ti_slot.specs.Tickets.{AreAwaited, AreApart};
 
-use crate::condition::{Condition, take_call};
+use crate::condition::{Condition, pop_refusal, take_call};
 use ti_frames::Frames;
 use ti_ops::{Pending, PendingOps};
-use ti_replay::answers::{or_zero, trace_start};
+use ti_replay::answers::{done_or, or_zero, trace_start};
 use ti_replay::rules::{is_alive, waits};
 use ti_types::{Answer, Call, EnvNo, Limits, TiError, TraceBuf, state_bits};
 
@@ -27,6 +27,7 @@ fn trace(frames: &Frames, start: i32, most: u32, buf: TraceBuf) -> Answer
     match trace_start(start, frames.len()) {
         Some(first) => {
             frames.copy_into(first, most, &mut buf);
+            buf.fit();
             Answer::Trace(buf)
         }
         None => Answer::Refused(TiError::IllegalArgument),
@@ -63,6 +64,7 @@ fn answer_by_frames(
                 Answer::Done
             }
         }
+        Call::Pop => done_or(pop_refusal(condition, frames)),
         _ => unreachable!(),
     }
 }
@@ -123,29 +125,31 @@ pub fn stack(condition: &Condition, frames: &Frames, max_count: i32, buf: TraceB
     // For the prover alone: `len` says that there are at most `depth` frames, so the buffer has room for them.
     let _count = frames.len();
     frames.copy_into(0, or_zero(max_count), &mut buf);
+    buf.fit();
     Answer::Stack {
         state: state_bits(condition.mode, condition.suspended),
         frames: buf,
     }
 }
 
-/// Lets the waiting calls take place, one after another.
-pub fn serve(condition: &mut Condition, frames: &Frames, limits: &Limits, ops: &mut PendingOps)
+/// Lets the waiting calls take place, one after another. A pop among them takes a frame away.
+pub fn serve(condition: &mut Condition, frames: &mut Frames, limits: &Limits, ops: &mut PendingOps)
     requires ready { AreReady limits.now ops.old.waiting }
-    requires depth { frames.now.depth ≡ limits.now.depth }
+    requires depth { frames.old.depth ≡ limits.now.depth }
     requires calls { list_all waits_is (calls_of ops.old.waiting) ≡ true }
     requires awaited { AreAwaited ops.old.fates ops.old.waiting }
     requires apart { AreApart ops.old.waiting }
-    ensures view { view_of condition.new frames.now.frames ≡ fold after (view_of condition.old frames.now.frames) (entries_of ops.old.waiting) }
+    ensures view { view_of condition.new frames.new.frames ≡ fold after (view_of condition.old frames.old.frames) (entries_of ops.old.waiting) }
+    ensures depth { frames.new.depth ≡ limits.now.depth }
     ensures waiting { ops.new.waiting ≡ [] }
-    ensures given { said_in ops.new.fates ≡ delivered (answers_of (view_of condition.old frames.now.frames) ops.old.waiting) (said_in ops.old.fates) }
+    ensures given { said_in ops.new.fates ≡ delivered (answers_of (view_of condition.old frames.old.frames) ops.old.waiting) (said_in ops.old.fates) }
     ensures room { ops.new.room ≡ ops.old.room }
     ensures few { ops.new.calls ≡ ops.old.calls }
 {
     while let Some(p) = ops.take_first() {
         let Pending { ticket, call, buf } = p;
         let answer = answer_by_frames(condition, frames, limits, call, buf);
-        take_call(condition, ticket.env, call);
+        take_call(condition, frames, ticket.env, call);
         ops.deliver(ticket, answer);
     }
 }

@@ -14,7 +14,9 @@ ghost use Rattle.ti_replay.specs.Standing.{is_standing};
 ghost use Rattle.ti_replay.specs.Replies.{reply};
 ghost use Rattle.ti_slot.specs.Thread.{new_slot, with_more, with_tickets, done_or, IsAsked, read_answer};
 ghost use Rattle.std.specs.Option.{option_map};
-ghost use Rattle.ti_slot.specs.Tickets.{has, without_ticket};
+ghost use Rattle.ti_slot.specs.Tickets.{has, without_ticket, AreOnce};
+ghost use Rattle.ti_types.specs.declared.event.Ticket.{Ticket};
+ghost use Rattle.std.specs.Prelude.{◌&&◌, ◌==◌, nat_lt};
 ghost use Rattle.ti_replay.specs.Tickets.{reply_to};
 ghost use Rattle.ti_slot.specs.Refusal.{hand_refusal};
 ghost use Rattle.ti_slot.specs.Waiting.{IsBufferOf, HasRoomFor};
@@ -22,7 +24,7 @@ ghost use Rattle.ti_replay.specs.LateTickets.{steps_of};
 
 use crate::answering::{answer, serve, stack};
 use crate::asked::Asked;
-use crate::condition::{Condition, take_call};
+use crate::condition::{Condition, take_at_once};
 use crate::hand::refusal_of_hand;
 use crate::history::{charge, push, push_steps};
 use std::alloc::Global;
@@ -194,7 +196,13 @@ impl Slot {
         log.clear();
         self.own = own + own_cost(Entry::Hand(safe));
         self.condition.mode = Mode::AtSafe(safe);
-        serve(&mut self.condition, &frames, &self.limits, &mut self.ops);
+        let mut frames = frames;
+        serve(
+            &mut self.condition,
+            &mut frames,
+            &self.limits,
+            &mut self.ops,
+        );
         self.frames = Some(frames);
         Ok(())
     }
@@ -217,16 +225,22 @@ impl Slot {
         log.clear();
         self.own = own;
         self.condition.mode = Mode::Ended;
-        serve(&mut self.condition, &frames, &self.limits, &mut self.ops);
+        serve(
+            &mut self.condition,
+            &mut frames,
+            &self.limits,
+            &mut self.ops,
+        );
         self.frames = Some(frames);
     }
 
-    /// Asks the thread a call. One that reads frames, and a suspension, waits for a running thread until it hands over
-    /// or ends (JEP 312); every other call is answered at once, which the entry counts as the environment's next.
+    /// Asks the thread a call. One that reads frames, a suspension and a pop wait for a running thread until it hands
+    /// over or ends (JEP 312); every other call is answered at once, which the entry counts as the environment's next.
     ///
     /// The answer is the thread's own, a refusal included: `ThreadNotAlive` (15), `IllegalArgument` (103) for a trace's
-    /// start, `NoMoreFrames` (31), `ThreadSuspended` (14), `ThreadNotSuspended` (13), as JVM TI 11 says of each call.
-    /// A call that is refused changes nothing but the history. The buffer is empty and has room for a trace's frames.
+    /// start, `NoMoreFrames` (31), `ThreadSuspended` (14), `ThreadNotSuspended` (13), `OpaqueFrame` (32), as JVM TI 11
+    /// says of each call. A call that is refused changes nothing but the history. A pop takes the newest of the frames
+    /// that lie here. The buffer is empty and has room for a trace's frames.
     pub fn ask(&mut self, env: EnvNo, call: Call, buf: TraceBuf) -> Asked
         requires env { env.0 < self.old.limits.envs }
         requires well_formed { is_well_formed call ≡ true }
@@ -249,7 +263,7 @@ impl Slot {
             Asked::Waiting(ticket)
         } else {
             let told = answer(&self.condition, &self.frames, &self.limits, env, call, buf);
-            take_call(&mut self.condition, env, call);
+            take_at_once(&mut self.condition, &mut self.frames, env, call);
             self.ops.pass(env);
             charge(&mut self.costs, entry);
             push(&mut self.history, entry);
@@ -358,6 +372,21 @@ impl Slot {
         ensures { result ≡ is_standing self.now.limits self.now.history env }
     {
         is_stopper(self.condition.stopper, env) && !is_running(self.condition.mode)
+    }
+
+    /// Whose stop stands, if one does.
+    pub fn stopper(&self) -> Option<EnvNo>
+        ensures { result ≡ (view self.now.limits self.now.history).stopper }
+    {
+        self.condition.stopper
+    }
+
+    /// What is always true of the tickets: none is there twice, and each is of a call of this thread's history.
+    pub fn tickets(&self)
+        ensures once { AreOnce self.now.uncollected }
+        ensures known { (k : Ticket) → has k self.now.uncollected ≡ true → (k.thread.0 == self.now.number.0 && nat_lt k.no (asked_by k.env self.now.history)) ≡ true }
+    {
+        let _ = &self.history;
     }
 
     /// How many entries there are.

@@ -76,7 +76,7 @@ fn traces_are_of_the_frames_at_the_hand_over(rt: HostRuntime) -> Result<(), Fail
 fn refused_calls_change_nothing(rt: HostRuntime) -> Result<(), Fail> {
     expect_walk(
         &rt,
-        "{\"limits\":{\"depth\":4,\"own\":32,\"calls\":8},\"threads\":[\"t0\"],\"agents\":[\"e\"],\"methods\":[\"a\"],\"events\":[[\"e\",\"suspend\",5],[\"e\",\"add\",[\"can_suspend\",\"can_pop_frame\"]],[\"e\",\"caps\"],[\"e\",\"add\",[\"can_suspend\"]],[\"e\",\"caps\"],[\"e\",\"suspend\",5],[\"e\",\"suspend\",\"t0\"],[\"t0\",\"start\"],[\"e\",\"location\",\"t0\",-1],[\"e\",\"resume\",\"t0\"],[\"e\",\"location\",\"t0\",0],[\"t0\",\"leave\"],[\"t0\",\"native\"],[\"t0\",\"block\",\"sleep\"],[\"t0\",\"poll\"],[\"e\",\"go\",\"t0\"]]}",
+        "{\"limits\":{\"depth\":4,\"own\":32,\"calls\":8},\"threads\":[\"t0\"],\"agents\":[\"e\"],\"methods\":[\"a\"],\"events\":[[\"e\",\"suspend\",5],[\"e\",\"add\",[\"can_suspend\",\"can_tag_objects\"]],[\"e\",\"caps\"],[\"e\",\"add\",[\"can_suspend\"]],[\"e\",\"caps\"],[\"e\",\"suspend\",5],[\"e\",\"suspend\",\"t0\"],[\"t0\",\"start\"],[\"e\",\"location\",\"t0\",-1],[\"e\",\"resume\",\"t0\"],[\"e\",\"location\",\"t0\",0],[\"t0\",\"leave\"],[\"t0\",\"native\"],[\"t0\",\"block\",\"sleep\"],[\"t0\",\"poll\"],[\"e\",\"go\",\"t0\"]]}",
         "0 error 99\n1 error 98\n2 caps\n3 ok\n4 caps can_suspend\n5 error 10\n6 error 15\n7 ok\n8 error 103\n9 error 13\n10 error 31\n11 error 202\n12 error 207\n13 ok\n14 error 204\n15 error 212\n",
     )
 }
@@ -125,5 +125,24 @@ fn calls_wait_in_order(rt: HostRuntime) -> Result<(), Fail> {
         &rt,
         "{\"limits\":{\"depth\":4,\"own\":32,\"calls\":8},\"threads\":[\"t0\",\"t1\"],\"agents\":[\"e\",\"f\"],\"methods\":[\"a\",\"b\",\"c\",\"n\"],\"events\":[[\"e\",\"add\",[\"can_suspend\"]],[\"f\",\"add\",[\"can_suspend\"]],[\"t0\",\"start\"],[\"t0\",\"enter\",\"a\"],[\"e\",\"count\",\"t0\"],[\"f\",\"suspend\",\"t0\"],[\"t0\",\"enter\",\"b\"],[\"e\",\"suspend\",\"t0\"],[\"t0\",\"enter\",\"c\"],[\"t0\",\"poll\"]]}",
         "0 ok\n1 ok\n2 ok\n3 ok\n4 count 3\n5 ok\n6 ok\n7 error 14\n8 ok\n9 held\n",
+    )
+}
+
+#[test]
+fn frames_are_popped(rt: HostRuntime) -> Result<(), Fail> {
+    expect_walk(
+        &rt,
+        "{\"limits\":{\"depth\":4,\"own\":32,\"calls\":8},\"threads\":[\"t0\",\"t1\"],\"agents\":[\"e\",\"f\"],\"methods\":[\"a\",\"b\",\"c\",\"n\"],\"events\":[[\"e\",\"add\",[\"can_suspend\",\"can_pop_frame\"]],[\"t0\",\"start\"],[\"t0\",\"enter\",\"a\"],[\"t0\",\"at\",3],[\"t0\",\"enter\",\"b\"],[\"e\",\"pop\",\"t0\"],[\"e\",\"suspend\",\"t0\"],[\"e\",\"pop\",\"t0\"],[\"t0\",\"poll\"],[\"e\",\"trace\",\"t0\",0,4],[\"e\",\"pop\",\"t0\"],[\"f\",\"pop\",\"t0\"],[\"e\",\"resume\",\"t0\"],[\"t0\",\"back\"],[\"t0\",\"enter_native\",\"n\"],[\"t0\",\"native\"],[\"e\",\"suspend\",\"t0\"],[\"e\",\"pop\",\"t0\"],[\"f\",\"state\",\"t0\"],[\"e\",\"count\",\"t0\"]]}",
+        "0 ok\n1 ok\n2 ok\n3 ok\n4 ok\n5 error 13\n6 ok\n7 ok\n8 held\n9 trace a@3\n10 error 31\n11 error 99\n12 ok\n13 ok\n14 ok\n15 ok\n16 ok\n17 error 32\n18 state 0x500005\n19 error 209\n",
+    )
+}
+
+#[test]
+fn a_popped_history_is_legal(rt: HostRuntime) -> Result<(), Fail> {
+    expect_check(
+        &rt,
+        "{\"format\":2,\"limits\":{\"depth\":4,\"own\":32,\"calls\":8},\"agents\":9,\"entries\":[[\"start\"],[\"enter\",0],[\"asked\",8,0,\"suspend\"],[\"enter\",1],[\"asked\",8,1,\"pop\"],[\"hand\",\"poll\"]]}",
+        true,
+        "legal\n",
     )
 }

@@ -17,6 +17,6 @@ caps_without held gone = record { bits = held.bits - bit_and held.bits gone.bits
 abbrev pub holds_all : Caps → Caps → Bool
 holds_all held needed = bit_and held.bits needed.bits == needed.bits
 
--- only can_suspend can be had
+-- only can_suspend and can_pop_frame can be had
 abbrev pub can_be_had : Caps → Bool
-can_be_had caps = nat_lt caps.bits 2
+can_be_had caps = nat_lt caps.bits 4

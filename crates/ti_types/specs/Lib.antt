@@ -8,4 +8,5 @@ pub mod Trace
 pub mod Answer
 pub mod Numbers
 pub mod Steps
+pub mod Pops
 pub mod Refusing

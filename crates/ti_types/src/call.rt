@@ -26,6 +26,10 @@ pub enum Call {
     GetWord,
     /// SetThreadLocalStorage: sets the environment's word at the thread.
     SetWord(u64),
+    /// PopFrame: the newest frame goes, and its caller is the newest at once, where it was (the place is this
+    /// profile's). 13 where the thread is not suspended, 31 where there are less than two frames, 32 where one of the
+    /// two newest is native.
+    Pop,
 }
 
 impl Call {
@@ -43,13 +47,14 @@ impl Call {
     }
 }
 
-/// The capabilities that a call needs: can_suspend for `Suspend` and `Resume`, and none for the others (JVM TI 11,
-/// SuspendThread and ResumeThread). An environment without them is refused with 99.
+/// The capabilities that a call needs: can_suspend for `Suspend` and `Resume`, can_pop_frame for `Pop`, and none for
+/// the others (JVM TI 11, SuspendThread, ResumeThread and PopFrame). An environment without them is refused with 99.
 pub fn needs(call: Call) -> Caps
     ensures { result ≡ needed_by call }
 {
     match call {
         Call::Suspend | Call::Resume => Caps::CAN_SUSPEND,
+        Call::Pop => Caps::CAN_POP_FRAME,
         _ => Caps::none(),
     }
 }

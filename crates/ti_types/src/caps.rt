@@ -13,7 +13,7 @@ impl Caps {
     /// Suspends and resumes threads.
     pub const CAN_SUSPEND: Caps = Caps { bits: 1 };
 
-    /// Pops frames. It cannot be had in this profile.
+    /// Pops frames.
     pub const CAN_POP_FRAME: Caps = Caps { bits: 2 };
 
     /// Tags objects. It cannot be had in this profile.
@@ -52,10 +52,10 @@ impl Caps {
         self.bits & other.bits == other.bits
     }
 
-    /// Whether each capability of this set can be had: only can_suspend can (this profile).
+    /// Whether each capability of this set can be had: can_suspend and can_pop_frame can (this profile).
     pub fn can_be_had(self) -> bool
         ensures { result ≡ can_be_had_of self }
     {
-        self.bits < 2
+        self.bits < 4
     }
 }

@@ -6,7 +6,7 @@ ghost use Rattle.ti_types.specs.Limits.{InRange};
 pub struct Limits {
     /// How many threads there are, 1 to 64.
     pub threads: u32,
-    /// How many environments there are, 1 to 8.
+    /// How many environments there are, 1 to 32.
     pub envs: u32,
     /// How many frames a thread may have, 1 to 4,096.
     pub depth: u32,
@@ -29,7 +29,7 @@ impl Limits {
         ensures calls { IfSome result (λ l. l.calls ≡ calls) }
     {
         let threads_fit = 1 <= threads && threads <= 64;
-        let envs_fit = 1 <= envs && envs <= 8;
+        let envs_fit = 1 <= envs && envs <= 32;
         let depth_fits = 1 <= depth && depth <= 4096;
         let own_fits = 1 <= own && own <= 65536;
         let calls_fit = 1 <= calls && calls <= 1024;

@@ -12,7 +12,6 @@ use std::marker::Model;
 #[derive(Drop, Debug)]
 pub struct TraceBuf {
     frames: Option<Vec<Frame>>,
-    room: u32,
 }
 
 impl Model for TraceBuf {
@@ -27,16 +26,16 @@ impl Model for TraceBuf {
     ghost invariant = { HasRoom };
 }
 
+/// So much room is not worth giving back.
+const FEW: usize = 16;
+
 impl TraceBuf {
     /// A buffer of no room, which takes no memory.
     pub fn none() -> Self
         ensures frames { result.frames ≡ [] }
         ensures room { result.room ≡ 0 }
     {
-        TraceBuf {
-            frames: None,
-            room: 0,
-        }
+        TraceBuf { frames: None }
     }
 
     /// An empty buffer with room for the lesser of `max_count`, which is not negative, and the depth limit `depth`.
@@ -52,7 +51,6 @@ impl TraceBuf {
         let frames = Vec::with_capacity(alloc, room as usize)?;
         Ok(TraceBuf {
             frames: Some(frames),
-            room,
         })
     }
 
@@ -60,7 +58,10 @@ impl TraceBuf {
     pub fn room(&self) -> u32
         ensures { result ≡ self.now.room }
     {
-        self.room
+        match &self.frames {
+            None => 0,
+            Some(v) => v.capacity() as u32,
+        }
     }
 
     /// The frames so far, in the order in which they were added.
@@ -81,10 +82,19 @@ impl TraceBuf {
     {
         match &mut self.frames {
             None => unreachable!(),
-            Some(v) => match v.push(frame) {
-                Ok(()) => (),
-                Err(_) => unreachable!(),
-            },
+            Some(v) => v.push_reserved(frame),
+        }
+    }
+
+    /// Gives room back that no frame takes, where that is more than the frames take and more than a few. It takes no
+    /// memory: where the memory cannot be given back, the buffer keeps it.
+    pub fn fit(&mut self)
+        ensures { self.new.frames ≡ self.old.frames }
+    {
+        if let Some(v) = &mut self.frames {
+            if v.capacity() - v.len() > v.len() + FEW {
+                v.shrink_to_fit();
+            }
         }
     }
 }

@@ -5,13 +5,17 @@
 //! It stands on `ti_cell`, and nothing stands on it.
 #![tactic(auto)]
 
-ghost use Rattle.std.specs.Prelude.{ℕ, ◌≡◌, ◌+◌, ◌-◌, ◌<◌, ◌≤◌, IfSome, [], ◌∷◌, ◌++◌};
+ghost use Rattle.std.specs.Prelude.{ℕ, ◌≡◌, ◌+◌, ◌-◌, ◌<◌, ◌≤◌, IfSome, [], ◌∷◌, ◌++◌, None, is_some, if◌then◌else◌};
 ghost use Rattle.ti_types.specs.declared.call.Call.TheVariants.{SetWord};
 ghost use Rattle.ti_types.specs.declared.entry.Entry.TheVariants.{Asked};
 ghost use Rattle.ti_replay.specs.Legal.{asked_by};
 ghost use Rattle.ti_cell.specs.View.{subject_of};
 ghost use Rattle.ti_cell.specs.Seats.{env_seats};
 ghost use Rattle.tiholds.specs.Ready.{IsReady};
+ghost use Rattle.std.specs.Option.{option_map};
+ghost use Rattle.ti_types.specs.Answer.{said};
+ghost use Rattle.ti_slot.specs.Tickets.{has, without_ticket};
+ghost use Rattle.ti_replay.specs.Tickets.{reply_to};
 
 use std::alloc::Global;
 use std::env;
@@ -19,8 +23,8 @@ use std::process::ExitCode;
 use std::rt::Env;
 use std::sync::Wait;
 use std::thread::{Threads, join};
-use ti_cell::{EnvSeat, ThreadCell};
-use ti_types::{Call, EnvNo, Limits, ThreadNo, TraceBuf};
+use ti_cell::{CellSeat, EnvSeat, ThreadCell};
+use ti_types::{Answer, Call, EnvNo, Limits, ThreadNo, Ticket, TraceBuf};
 
 /// How often an environment holds a cell in a round: as often as it may call.
 const HOLDS: u32 = 1024;
@@ -46,6 +50,20 @@ fn set_word<R: Wait>(rt: &R, cell: &ThreadCell, seat: EnvSeat, env: EnvNo, word:
     let slot = hold.slot();
     let _asked = slot.ask(env, Call::SetWord(word), TraceBuf::none());
     hold.store()
+}
+
+/// Takes the answer to a ticket, where it is there.
+fn take_answer<R: Wait>(rt: &R, cell: &ThreadCell, seat: EnvSeat, ticket: Ticket) -> (EnvSeat, Option<Answer>)
+    requires here { seat.cell ≡ cell.now }
+    requires own { seat.view.number ≡ ticket.env.0 + 1 }
+    ensures answer { option_map said result.1 ≡ (if has ticket seat.view.posted then reply_to seat.view.subject.limits result.0.view.seen ticket else None) }
+    ensures posted { result.0.view.posted ≡ (if is_some result.1 then without_ticket ticket seat.view.posted else seat.view.posted) }
+    ensures mine { result.0.view.mine ≡ seat.view.mine }
+{
+    let mut hold = cell.hold(rt, seat);
+    let slot = hold.slot();
+    let answer = slot.collect(ticket);
+    (hold.store(), answer)
 }
 
 /// Holds the cell as often as the environment may call.

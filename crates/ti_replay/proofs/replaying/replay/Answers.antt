@@ -11,20 +11,20 @@ loop-at-preserved c =
     let i = c.loop-at.at in
     let within : i < length es = omega arith in
     let may : may_enter limits (placed_state limits (take i es)) (entry_at es i) ≡ true =
-    ap (λ s. may_enter limits s (entry_at es i)) (sym c.loop-at.invariant.progress) ∙ sym c.may_enter.ensures ∙ grind arith in
+    ap (λ s. may_enter limits s (entry_at es i)) (sym c.loop-at.invariant.progress) ∙ sym c.in_ok-legal.ensures.may ∙ grind arith in
     record {
-      progress = c.in_ok-enter.ensures ∙ ap (λ s. entered s (entry_at es i)) c.loop-at.invariant.progress ∙ sym (placed_state-take limits es i within);
+      progress = c.in_ok-legal.ensures.state (grind arith) ∙ ap (λ s. entered s (entry_at es i)) c.loop-at.invariant.progress ∙ sym (placed_state-take limits es i within);
       legal = first_illegal_on limits es i within may ∙ c.loop-at.invariant.legal;
     }
 
-pub returns-then-not-may_enter-clause-fault : goal.returns-then-not-may_enter-clause-fault
-returns-then-not-may_enter-clause-fault c =
+pub returns-then-not-legal-clause-fault : goal.returns-then-not-legal-clause-fault
+returns-then-not-legal-clause-fault c =
     let limits = c.args.limits in
     let es = c.args.entries.now in
     let i = c.loop-at.at in
     let within : i < length es = omega arith in
     let may_not : may_enter limits (placed_state limits (take i es)) (entry_at es i) ≡ false =
-    ap (λ s. may_enter limits s (entry_at es i)) (sym c.loop-at.invariant.progress) ∙ sym c.may_enter.ensures ∙ grind arith in
+    ap (λ s. may_enter limits s (entry_at es i)) (sym c.loop-at.invariant.progress) ∙ sym c.in_ok-legal.ensures.may ∙ grind arith in
     let first : first_illegal limits [] es ≡ Some i = sym c.loop-at.invariant.legal ∙ first_illegal_here limits es i within may_not in
     (illegal_from_some limits es i first, first)
 

@@ -13,8 +13,9 @@ invariant-loop-p l = record {
   calls : list_all waits (calls_of l.ops.waiting) ≡ true;
   awaited : AreAwaited l.ops.fates l.ops.waiting;
   apart : AreApart l.ops.waiting;
-  view : fold after (view_of l.condition l.frames.frames) (entries_of l.ops.waiting) ≡ fold after (view_of l.fn.condition l.frames.frames) (entries_of l.fn.ops.waiting);
-  given : delivered (answers_of (view_of l.condition l.frames.frames) l.ops.waiting) (said_in l.ops.fates) ≡ delivered (answers_of (view_of l.fn.condition l.frames.frames) l.fn.ops.waiting) (said_in l.fn.ops.fates);
+  depth : l.frames.depth ≡ l.limits.depth;
+  view : fold after (view_of l.condition l.frames.frames) (entries_of l.ops.waiting) ≡ fold after (view_of l.fn.condition l.fn.frames.frames) (entries_of l.fn.ops.waiting);
+  given : delivered (answers_of (view_of l.condition l.frames.frames) l.ops.waiting) (said_in l.ops.fates) ≡ delivered (answers_of (view_of l.fn.condition l.fn.frames.frames) l.fn.ops.waiting) (said_in l.fn.ops.fates);
   room : l.ops.room ≡ l.fn.ops.room;
   few : l.ops.calls ≡ l.fn.ops.calls;
 }

@@ -4,6 +4,7 @@ use Rattle.ti_slot.specs.Thread.{Thread}
 use Rattle.ti_cell.specs.declared.view.View.{View}
 use Rattle.ti_replay.specs.Makers.{Adds}
 use Rattle.ti_cell.specs.View.{IsAbout}
+use Rattle.ti_cell.specs.Rule.{Keeps}
 use Rattle.ti_cell.specs.Word.{word_at, word_of}
 use Rattle.ti_cell.proofs.Entries.{short}
 use Rattle.ti_cell.proofs.Steps.{frees_keep}
@@ -21,6 +22,6 @@ store-requires c =
     let now : c.free-word.result.bits ≡ word_of c.args.slot.limits false c.args.slot.history = c.free-word.ensures.bits ∙ λ i. word_at (c.len.ensures.len i) (c.barred.ensures i) (c.armed.ensures i) false in (
       search rules,
       search rules,
-      frees_keep _ _ _ _ _ c.args.slot (ap (λ (x : View). x.holds) v ∙ c.requires.seat.2) out
-          (subst (λ (x : View). Adds x.number x.seen c.args.slot.history) (sym v) c.requires.adds) c.len.ensures.legal (subst (λ (x : View). IsAbout x.subject c.args.slot) (sym v) c.requires.about) now,
+      frees_keep _ _ _ _ _ c.args.slot (ap (λ (x : View). x.gone) v ∙ c.requires.seat.3) (ap (λ (x : View). x.holds) v ∙ c.requires.seat.2) out
+          (subst (λ (x : View). Adds x.number x.seen c.args.slot.history) (sym v) c.requires.adds) (subst (λ (x : View). Keeps x.number x.found c.args.slot.uncollected) (sym v) c.requires.keeps) c.len.ensures.legal (subst (λ (x : View). IsAbout x.subject c.args.slot) (sym v) c.requires.about) now,
     )

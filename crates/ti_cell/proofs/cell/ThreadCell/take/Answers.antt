@@ -6,7 +6,7 @@ use Rattle.ti_cell.proofs.Steps.{locks_keep}
 use Rattle.ti_cell.proofs.cell.ThreadCell.take.Goals as goal
 
 pub compare_exchange-found-requires : goal.compare_exchange-found-requires
-compare_exchange-found-requires g c = (search rules, search rules, locks_keep _ _ _ _ _ _ (search rules) (search rules))
+compare_exchange-found-requires g c = (search rules, search rules, locks_keep _ _ _ _ _ _ (search rules) (search rules) (search rules))
 
 pub exchange-requires : goal.exchange-requires
 exchange-requires g c =

@@ -1,4 +1,4 @@
-use Rattle.std.proofs.Common.{arith, ◌≡◌, ◌<◌, ◌+◌, ◌++◌, ◌∷◌, [], List, Option, Some, length, map, take, get_or, sym, ap, subst, ◌∙◌, length-append}
+use Rattle.std.proofs.Common.{arith, true, ◌≡◌, ◌<◌, ◌+◌, ◌++◌, ◌∷◌, [], List, Option, Some, length, map, take, get_or, sym, ap, subst, ◌∙◌, length-append}
 use Rattle.std.proofs.lemmas.Grind.{take_at_read}
 use Rattle.std.proofs.lemmas.List.{length-take-le, take_all}
 use Rattle.ti_types.specs.declared.limits.Limits.{Limits}
@@ -8,7 +8,8 @@ use Rattle.ti_types.specs.declared.event.Outcome.{Outcome}
 use Rattle.ti_replay.specs.Admission.{Happening}
 use Rattle.ti_replay.specs.Outcomes.{happening, happenings, told_now, told_later, out_of, outs}
 use Rattle.ti_core.specs.Stands.{Stands}
-use Rattle.ti_core.specs.Runs.{HasSeen}
+use Rattle.ti_core.specs.Runs.{HasSeen, is_final}
+use Rattle.std.specs.List.{list_all}
 use Rattle.ti_core.proofs.NewLaws.{restored}
 use Rattle.ti_core.proofs.RunLaws.{happenings-snoc, seen_on, told_happening}
 use Rattle.ti_core.proofs.TurnLaws.{same_happenings}
@@ -55,3 +56,11 @@ returns-clause-outcomes c =
     let e : map told_later new ≡ outs c.args.limits (happenings es new) =
     told ∙ ap (λ (l : Limits). outs l hs) c.loop-event.invariant.limits ∙ ap (λ z. outs c.args.limits (happenings z os)) whole ∙ ap (λ z. outs c.args.limits (happenings es z)) (sym v) ∙ ap (outs c.args.limits) (sym marks) in
     subst (λ (z : List (Option Outcome)). map told_later z ≡ outs c.args.limits (happenings es z)) (sym q) e
+
+pub returns-clause-settled : goal.returns-clause-settled
+returns-clause-settled c =
+    let os = c.loop-event.outcomes.items in
+    let new = c.answer_all.new.outcomes in
+    let v = c.deref_mut.ensures.value in
+    let q = restored c.loop-event.outcomes.len os new (grind (arith, c.answer_all.auto.outcomes, v)) (grind (arith, c.deref_mut.ensures.len, v)) in
+    subst (λ (z : List (Option Outcome)). list_all is_final z ≡ true) (sym q) c.answer_all.ensures.settled

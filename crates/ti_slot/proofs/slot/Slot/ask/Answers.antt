@@ -49,8 +49,8 @@ push-requires-else-is_put_off c = (asks (goal.at.push-requires-else-is_put_off c
 pub invariant_of-self-else-is_put_off : goal.invariant_of-self-else-is_put_off
 invariant_of-self-else-is_put_off c =
     let push = c.push-else-is_put_off in
-    now_whole c.self.inside c.args.env c.asked-no.result c.args.call push.new.history c.charge-else-is_put_off.new.costs.items c.take_call.new.condition c.pass.new.self c.self.invariant (asks (goal.at.invariant_of-self-else-is_put_off c).After-asked-no)
-    (sym c.is_put_off.ensures ∙ c.if-is_put_off.false) push.ensures.items push.ensures.capacity c.charge-else-is_put_off.ensures c.take_call.ensures c.pass.ensures
+    now_whole c.self.inside c.args.env c.asked-no.result c.args.call push.new.history c.charge-else-is_put_off.new.costs.items c.take_at_once.new.condition c.take_at_once.new.frames c.pass.new.self c.self.invariant (asks (goal.at.invariant_of-self-else-is_put_off c).After-asked-no)
+    (sym c.is_put_off.ensures ∙ c.if-is_put_off.false) push.ensures.items push.ensures.capacity c.charge-else-is_put_off.ensures c.take_at_once.ensures.view c.take_at_once.ensures.home c.pass.ensures
 
 pub returns-else-is_put_off-clause-asked : goal.returns-else-is_put_off-clause-asked
 returns-else-is_put_off-clause-asked c =

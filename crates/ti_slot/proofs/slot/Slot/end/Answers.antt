@@ -37,8 +37,8 @@ pub invariant_of-self : goal.invariant_of-self
 invariant_of-self c =
     let i = c.self.inside in
     let p = goal.at.invariant_of-self c in
-    end_whole i _ c.args.log.now.steps c.args.frames c.clear.new.self c.push.new.history c.serve.new.condition (i.own + c.len.result) c.serve.new.ops c.self.invariant c.self.view_is (runs p.After-len).ran (may p.After-len)
-    (pushed p.After-push) (omega (arith, c.push_steps.ensures.capacity, c.push.ensures.capacity)) c.clear.ensures c.requires.depth (omega (arith, c.len.ensures.len))
+    end_whole i _ c.args.log.now.steps c.args.frames c.clear.new.self c.serve.new.frames c.push.new.history c.serve.new.condition (i.own + c.len.result) c.serve.new.ops c.self.invariant c.self.view_is (runs p.After-len).ran (may p.After-len)
+    (pushed p.After-push) (omega (arith, c.push_steps.ensures.capacity, c.push.ensures.capacity)) c.clear.ensures c.serve.ensures.depth (omega (arith, c.len.ensures.len))
     c.serve.ensures.view c.serve.ensures.waiting c.serve.ensures.given c.serve.ensures.room c.serve.ensures.few
 
 pub returns-clause-legal : goal.returns-clause-legal

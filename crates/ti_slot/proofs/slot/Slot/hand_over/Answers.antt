@@ -53,8 +53,8 @@ pub invariant_of-self : goal.invariant_of-self
 invariant_of-self c =
     let i = c.self.inside in
     let p = goal.at.invariant_of-self c in
-    hand_whole i _ c.args.log.now.steps c.args.safe c.args.frames c.push.new.history c.serve.new.condition (i.own + c.len.result + c.own_cost.result) c.serve.new.ops c.self.invariant c.self.view_is (hands p.In_default)
-    (pushed p.After-push) (omega (arith, c.push_steps.ensures.capacity, c.push.ensures.capacity)) c.requires.depth (omega (arith, c.len.ensures.len, c.own_cost.ensures.cost))
+    hand_whole i _ c.args.log.now.steps c.args.safe c.args.frames c.serve.new.frames c.push.new.history c.serve.new.condition (i.own + c.len.result + c.own_cost.result) c.serve.new.ops c.self.invariant c.self.view_is (hands p.In_default)
+    (pushed p.After-push) (omega (arith, c.push_steps.ensures.capacity, c.push.ensures.capacity)) c.serve.ensures.depth (omega (arith, c.len.ensures.len, c.own_cost.ensures.cost))
     c.serve.ensures.view c.serve.ensures.waiting c.serve.ensures.given c.serve.ensures.room c.serve.ensures.few
 
 pub returns-clause-when : goal.returns-clause-when

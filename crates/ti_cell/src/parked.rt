@@ -1,0 +1,68 @@
+ghost use Rattle.std.specs.Prelude.{◌≡◌, length, true, IfOk, IfErr};
+ghost use Rattle.ti_types.specs.declared.error.TiError.TheVariants as TiError;
+ghost use Rattle.ti_replay.specs.Legal.{is_legal, is_armed};
+ghost use Rattle.ti_replay.specs.View.{view, is_barred};
+ghost use Rattle.ti_slot.specs.Thread.{new_slot};
+
+use std::alloc::{AllocError, Global};
+use std::marker::Model;
+use ti_slot::Slot;
+use ti_types::{Limits, ThreadNo, TiError};
+
+/// A slot that is moved by a pointer. Contracts see it as the slot.
+#[derive(Drop)]
+pub struct Parked {
+    pub(crate) slot: Box<Slot>,
+}
+
+impl Model for Parked {
+    ghost use Rattle.ti_slot.specs.Thread.{Thread};
+
+    ghost Value = { Thread };
+
+    ghost view = { λ p. p.slot.value };
+}
+
+impl Parked {
+    pub fn new(alloc: Global, limits: Limits, number: ThreadNo) -> Result<Parked, TiError>
+        ensures thread { IfOk result (λ s. s ≡ new_slot limits number) }
+        ensures memory { IfErr result (λ e. e ≡ TiError.OutOfMemory) }
+    {
+        match Box::new(alloc, Slot::new(alloc, limits, number)?) {
+            Ok(slot) => Ok(Parked { slot }),
+            Err(refused) => Err(AllocError::from(refused).into()),
+        }
+    }
+
+    pub fn len(&self) -> usize
+        ensures len { result ≡ length self.now.history }
+        ensures legal { is_legal self.now.limits self.now.history ≡ true }
+    {
+        self.slot.len()
+    }
+
+    pub fn armed(&self) -> bool
+        ensures { result ≡ is_armed self.now.limits self.now.history }
+    {
+        self.slot.armed()
+    }
+
+    pub fn barred(&self) -> bool
+        ensures { result ≡ is_barred (view self.now.limits self.now.history) }
+    {
+        self.slot.barred()
+    }
+}
+
+/// The slot itself, and its memory is given back.
+pub fn unpark(parked: Option<Parked>) -> Option<Slot>
+    ensures { result ≡ parked }
+{
+    match parked {
+        Some(p) => {
+            let Parked { slot } = p;
+            Some(Box::into_inner(slot))
+        }
+        None => None,
+    }
+}

@@ -1,0 +1,16 @@
+ghost use Rattle.std.specs.Prelude.{◌≡◌};
+ghost use Rattle.std.specs.Borrow.{sem, follows};
+ghost use Rattle.ti_slot.specs.contracts.slot.Slot as slot_contracts;
+ghost use Rattle.ti_cell.specs.contracts.parked.Parked.{the_row};
+
+use crate::parked::Parked;
+use ti_slot::Slot;
+
+impl Parked {
+    pub fn slot_mut(&mut self) -> &mut Slot
+        ensures* writes_back { sem 𝓛 (follows the_row slot_contracts.the_row self.entry.ghost_name result.ghost_name (λ t. t)) }
+        ensures value { result.now ≡ self.old }
+    {
+        self.slot.as_mut()
+    }
+}

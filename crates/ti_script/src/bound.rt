@@ -1,0 +1,40 @@
+ghost use Rattle.std.specs.Prelude.{◌≡◌, ◌≤◌, ◌+◌, ◌*◌, ℕ, List, length, IfSome};
+ghost use Rattle.ti_script.specs.Texts.{line_text};
+ghost use Rattle.ti_script.specs.Bounds.{AreNamesWithin, frames_in_line};
+
+use ti_types::{Answer, Outcome};
+
+/// No more bytes than these stand in a line besides its frames.
+const LINE: usize = 256;
+
+/// No more bytes than these stand in a frame's text, with the space before it, besides its method's name.
+const FRAME: usize = 66;
+
+/// How many frames the text of an outcome names.
+fn frames_in_line(outcome: &Option<Outcome>) -> usize
+    ensures { result ≡ frames_in_line outcome.now }
+{
+    match outcome {
+        Some(Outcome::Gave(Answer::Trace(trace))) => trace.frames().len(),
+        Some(Outcome::Gave(Answer::Stack { frames, .. })) => frames.frames().len(),
+        Some(Outcome::Gave(Answer::Location(_))) => 1,
+        _ => 0,
+    }
+}
+
+/// `count * each + more`, where that is a `usize`.
+fn sum_of(count: usize, each: usize, more: usize) -> Option<usize>
+    ensures { IfSome result (λ n. n ≡ count * each + more) }
+{
+    count.checked_mul(each)?.checked_add(more)
+}
+
+/// A length that the line of an outcome does not exceed, whatever the line's index, where no method's name is longer than
+/// `longest_name`. It takes a constant time. None where that length is no `usize`.
+#[tactic(auto, using(crate::proofs::BoundLaws::line_within))]
+pub fn line_bound(longest_name: usize, outcome: &Option<Outcome>) -> Option<usize>
+    ensures { IfSome result (λ n. (methods : List (List ℕ)) (index : ℕ) → AreNamesWithin longest_name methods → length (line_text methods index outcome.now) ≤ n) }
+{
+    let frame = longest_name.checked_add(FRAME)?;
+    sum_of(frames_in_line(outcome), frame, LINE)
+}
