@@ -57,14 +57,16 @@ impl ThreadCell {
     {
         let mut seats = Vec::with_capacity(alloc, limits.envs as usize)?;
         let (cell, mut pass) = ThreadCell::open(alloc, limits, number)?;
-        for _i in 0..limits.envs {
-            match seats.push(cell.split(&mut pass)) {
+        for env in 0..limits.envs {
+            match seats.push(cell.split(&mut pass, env + 1)) {
                 Ok(()) => (),
                 Err(refused) => return Err(AllocError::from(refused).into()),
             }
         }
         let own = CellSeat {
             seat: pass,
+            number: 0,
+            count: 0,
             role: PhantomData,
         };
         Ok((cell, own, seats))
@@ -90,16 +92,19 @@ impl ThreadCell {
         }
     }
 
-    /// A seat of the next number, split off the owner's.
-    fn split(&self, pass: &mut Pass) -> EnvSeat
+    /// A seat of the next number, which is given, split off the owner's.
+    fn split(&self, pass: &mut Pass, number: u32) -> EnvSeat
         requires pass { pass.old.table_id ≡ self.now }
         requires owner { (pass.old.me.0.number ≡ 0) × (pass.old.me.0.gone ≡ false) }
+        requires number { number ≡ pass.old.me.0.made }
         ensures pass { (pass.new.table_id ≡ pass.old.table_id) × (pass.new.me ≡ (splitter pass.old.me.0, pass.old.me.1)) }
         ensures seat { (result.cell ≡ self.now) × (result.view ≡ split_off pass.old.me.0) }
     {
         let seat = self.table.shared.split_seat::<Seats>(pass);
         CellSeat {
             seat,
+            number,
+            count: 0,
             role: PhantomData,
         }
     }
@@ -115,11 +120,17 @@ impl ThreadCell {
         ensures view { result.view ≡ holding seat.view result.slot.history result.slot.uncollected }
         ensures taken { IsTaken seat.view result.slot }
     {
-        let CellSeat { mut seat, role } = seat;
+        let CellSeat {
+            mut seat,
+            number,
+            count: _,
+            role,
+        } = seat;
         let slot = self.take(rt, &mut seat);
         Hold {
             cell: self,
             seat,
+            number,
             slot,
             role,
         }
@@ -190,7 +201,12 @@ impl ThreadCell {
         ensures cell { own.new.cell ≡ own.old.cell }
         ensures view { own.new.view ≡ rejoined own.old.view seat.view }
     {
-        let CellSeat { seat, role: _ } = seat;
+        let CellSeat {
+            seat,
+            number: _,
+            count: _,
+            role: _,
+        } = seat;
         self.table.shared.join_seat::<Returns>(&mut own.seat, seat);
     }
 
@@ -214,7 +230,12 @@ impl ThreadCell {
         ensures about { IfSome result (λ s. IsAbout seat.view.subject s) }
     {
         let ThreadCell { table } = self;
-        let CellSeat { seat, role: _ } = seat;
+        let CellSeat {
+            seat,
+            number: _,
+            count: _,
+            role: _,
+        } = seat;
         let mut closed = table.close_with(seat);
         let word = Word {
             bits: closed.word(0),

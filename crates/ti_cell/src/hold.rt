@@ -15,6 +15,7 @@ use std::marker::{Model, PhantomData};
 pub struct Hold<'a, K> {
     pub(crate) cell: &'a ThreadCell,
     pub(crate) seat: Pass,
+    pub(crate) number: u32,
     pub(crate) slot: Parked,
     pub(crate) role: PhantomData<K>,
 }
@@ -27,7 +28,7 @@ impl<'a, K> Model for Hold<'a, K> {
 
     ghost view = { λ h. record { cell = h.cell.now; view = h.seat.me.0; slot = h.slot } };
 
-    ghost invariant = { λ h. (h.seat.table_id ≡ h.cell.now) × (h.seat.me.1 ≡ (0, None) ∷ []) × (h.seat.me.0.holds ≡ true) × (h.seat.me.0.gone ≡ false) };
+    ghost invariant = { λ h. (h.seat.table_id ≡ h.cell.now) × (h.seat.me.1 ≡ (0, None) ∷ []) × (h.seat.me.0.holds ≡ true) × (h.seat.me.0.gone ≡ false) × (h.number ≡ h.seat.me.0.number) };
 }
 
 impl<'a, K> Hold<'a, K> {
@@ -47,10 +48,17 @@ impl<'a, K> Hold<'a, K> {
         let Hold {
             cell,
             mut seat,
+            number,
             slot,
             role,
         } = self;
+        let count = slot.len();
         cell.give(&mut seat, slot);
-        CellSeat { seat, role }
+        CellSeat {
+            seat,
+            number,
+            count,
+            role,
+        }
     }
 }

@@ -1,4 +1,4 @@
-ghost use Rattle.std.specs.Prelude.{◌≡◌, true};
+ghost use Rattle.std.specs.Prelude.{◌≡◌, true, length};
 ghost use Rattle.ti_replay.specs.Legal.{is_legal};
 ghost use Rattle.ti_replay.specs.Makers.{made_by};
 
@@ -20,16 +20,20 @@ pub type OwnSeat = CellSeat<Own>;
 
 pub type EnvSeat = CellSeat<Env>;
 
-/// A seat of a cell, in the role `K`: what one user of the cell knows. It has no bytes, and is moved to where its user
-/// runs. Contracts see it as its cell and a `View`.
+/// A seat of a cell, in the role `K`: what one user of the cell knows. Of that it has at run time its number and how many
+/// entries it has seen, and it is moved to where its user runs. Contracts see it as its cell and a `View`.
 #[derive(Drop)]
 pub struct CellSeat<K> {
     pub(crate) seat: Pass,
+    /// The number of the seat: 0 of the owner, `e + 1` of environment `e`.
+    pub(crate) number: u32,
+    /// How many entries the seat has seen.
+    pub(crate) count: usize,
     pub(crate) role: PhantomData<K>,
 }
 
 impl<K> Model for CellSeat<K> {
-    ghost use Rattle.std.specs.Prelude.{◌≡◌, [], true, false};
+    ghost use Rattle.std.specs.Prelude.{◌≡◌, [], true, false, length};
     ghost use Rattle.ti_replay.specs.Legal.{is_legal};
     ghost use Rattle.ti_replay.specs.Makers.{made_by};
     ghost use Rattle.ti_cell.specs.Seats.{Sitting};
@@ -38,7 +42,7 @@ impl<K> Model for CellSeat<K> {
 
     ghost view = { λ s. record { cell = s.seat.table_id; view = s.seat.me.0 } };
 
-    ghost invariant = { λ s. (s.seat.me.1 ≡ []) × (s.seat.me.0.holds ≡ false) × (s.seat.me.0.gone ≡ false) × (is_legal s.seat.me.0.subject.limits s.seat.me.0.seen ≡ true) × (s.seat.me.0.mine ≡ made_by s.seat.me.0.number s.seat.me.0.seen) };
+    ghost invariant = { λ s. (s.seat.me.1 ≡ []) × (s.seat.me.0.holds ≡ false) × (s.seat.me.0.gone ≡ false) × (is_legal s.seat.me.0.subject.limits s.seat.me.0.seen ≡ true) × (s.seat.me.0.mine ≡ made_by s.seat.me.0.number s.seat.me.0.seen) × (s.number ≡ s.seat.me.0.number) × (s.count ≡ length s.seat.me.0.seen) };
 }
 
 impl<K> CellSeat<K> {
@@ -48,5 +52,19 @@ impl<K> CellSeat<K> {
         ensures mine { self.now.view.mine ≡ made_by self.now.view.number self.now.view.seen }
     {
         let _ = &self.seat;
+    }
+
+    /// The number of the seat: 0 of the owner, `e + 1` of environment `e` (this profile).
+    pub fn number(&self) -> u32
+        ensures { result ≡ self.now.view.number }
+    {
+        self.number
+    }
+
+    /// How many entries of the thread's history the seat has seen (this profile).
+    pub fn seen_len(&self) -> usize
+        ensures { result ≡ length self.now.view.seen }
+    {
+        self.count
     }
 }
