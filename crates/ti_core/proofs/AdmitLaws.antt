@@ -1,17 +1,14 @@
 -- Which calls reach a thread of a core, and that one event moves one thread at most.
-use Rattle.std.proofs.Common.{◌≡◌, ◌≢◌, ◌<◌, Bool, true, false, ◌&&◌, ◌==◌, nat_lt, not, cond, List, ◌++◌, length, refl, sym, arith, None, slice_index, slice_set, get_or-set_same, get_or-set_other, inl, inr, ltb-true, ℤ}
+use Rattle.std.proofs.Common.{◌≡◌, ◌≢◌, ◌<◌, Bool, true, false, ◌&&◌, ◌==◌, nat_lt, cond, List, ◌++◌, length, refl, ap, sym, arith, Option, slice_index, slice_set, get_or-set_same, get_or-set_other, inl, inr, ltb-true}
 use Rattle.std.proofs.lemmas.Bool.Decides.{nat_tests}
 use Rattle.std.proofs.lemmas.Bool.{cases_eq, cases_Bool}
 use Rattle.ti_types.specs.declared.limits.Limits.{Limits}
-use Rattle.ti_types.specs.declared.numbers.EnvNo.{EnvNo}
 use Rattle.ti_types.specs.declared.numbers.ThreadNo.{ThreadNo}
-use Rattle.ti_types.specs.declared.call.Call.{Call}
 use Rattle.ti_types.specs.declared.entry.Entry.{Entry}
-use Rattle.ti_types.specs.declared.event.Event.TheVariants.{Ask, Stop, Read, Go}
-use Rattle.ti_types.specs.declared.error.TiError.TheVariants.{InvalidEnvironment, InvalidThread, OutOfMemory}
-use Rattle.ti_replay.specs.Refusals.{or_else, unless}
-use Rattle.ti_replay.specs.Admission.{Dealings, refusal_of, takes_buffer}
-use Rattle.ti_env.specs.Env.{EnvValue, call_refusal, stop_refusal, read_refusal}
+use Rattle.ti_types.specs.declared.error.TiError.{TiError}
+use Rattle.ti_types.specs.Admitting.{reaching_refusal, admitting_refusal}
+use Rattle.ti_replay.specs.Admission.{Dealings}
+use Rattle.ti_env.specs.Env.{EnvValue, is_there, spent_at}
 use Rattle.ti_core.specs.Thread.{ThreadState}
 use Rattle.ti_core.specs.Core.{thread_at}
 use Rattle.ti_core.specs.Stands.{ThreadStands}
@@ -23,52 +20,19 @@ pub record Keeps (limits : Limits) (d : Dealings) (t : ThreadNo) (env : EnvValue
   pub spent_count : length env.spent ≡ limits.threads
   pub calls : env.calls ≡ limits.calls
 
-pub ask_why : (limits : Limits) (d : Dealings) (env : EnvValue) (w : Bool) (e : EnvNo) (t : ThreadNo) (c : Call) → (e.0 < limits.envs → Keeps limits d t env)
-    → or_else (unless (nat_lt e.0 limits.envs) InvalidEnvironment) (or_else (call_refusal env t c) (or_else (unless (nat_lt t.0 limits.threads) InvalidThread) (unless (not (w && takes_buffer c)) OutOfMemory)))
-    ≡ refusal_of limits d w (Ask e t c)
-ask_why limits d env w e t c k =
-    elim (cases_Bool (nat_lt e.0 limits.envs)) [
-      | inl there ↦
-          let q : Keeps limits d t env = k (ltb-true _ _ there) in
-          elim (cases_Bool (nat_lt t.0 limits.threads)) [
-            | inl here ↦ let s : slice_index env.spent t.0 ≡ d.spent = q.spent (ltb-true _ _ here) in grind (arith, nat_tests, there, here, s, q.caps, q.spent_count, q.calls)
-            | inr gone ↦ grind (arith, nat_tests, there, gone, q.caps, q.spent_count, q.calls)
-          ]
-      | inr none ↦ rw none refl
+-- so what it refuses at the thread by itself is what the definitions say
+pub same_reach : (limits : Limits) (d : Dealings) (t : ThreadNo) (env : EnvValue) (well_formed : Bool) → Keeps limits d t env
+    → reaching_refusal (is_there env t) well_formed (spent_at env t) env.calls ≡ reaching_refusal (nat_lt t.0 limits.threads) well_formed d.spent limits.calls
+same_reach limits d t env well_formed q =
+    elim (cases_Bool (nat_lt t.0 limits.threads)) [
+      | inl here ↦ let s : spent_at env t ≡ d.spent = q.spent (ltb-true _ _ here) in grind (arith, nat_tests, here, s, q.spent_count, q.calls)
+      | inr gone ↦ grind (arith, nat_tests, gone, q.spent_count)
     ]
 
-pub stop_why : (limits : Limits) (d : Dealings) (env : EnvValue) (w : Bool) (e : EnvNo) (t : ThreadNo) → (e.0 < limits.envs → Keeps limits d t env)
-    → or_else (unless (nat_lt e.0 limits.envs) InvalidEnvironment) (or_else (stop_refusal env t) (or_else (unless (nat_lt t.0 limits.threads) InvalidThread) (unless (not false) OutOfMemory)))
-    ≡ refusal_of limits d w (Stop e t)
-stop_why limits d env w e t k =
-    elim (cases_Bool (nat_lt e.0 limits.envs)) [
-      | inl there ↦
-          let q : Keeps limits d t env = k (ltb-true _ _ there) in
-          elim (cases_Bool (nat_lt t.0 limits.threads)) [
-            | inl here ↦ let s : slice_index env.spent t.0 ≡ d.spent = q.spent (ltb-true _ _ here) in grind (arith, nat_tests, there, here, s, q.spent_count, q.calls)
-            | inr gone ↦ grind (arith, nat_tests, there, gone, q.spent_count, q.calls)
-          ]
-      | inr none ↦ rw none refl
-    ]
-
-pub read_why : (limits : Limits) (d : Dealings) (env : EnvValue) (w : Bool) (e : EnvNo) (t : ThreadNo) (n : ℤ) → (e.0 < limits.envs → Keeps limits d t env)
-    → or_else (unless (nat_lt e.0 limits.envs) InvalidEnvironment) (or_else (read_refusal env t n) (or_else (unless (nat_lt t.0 limits.threads) InvalidThread) (unless (not w) OutOfMemory)))
-    ≡ refusal_of limits d w (Read e t n)
-read_why limits d env w e t n k =
-    elim (cases_Bool (nat_lt e.0 limits.envs)) [
-      | inl there ↦
-          let q : Keeps limits d t env = k (ltb-true _ _ there) in
-          elim (cases_Bool (nat_lt t.0 limits.threads)) [
-            | inl here ↦ let s : slice_index env.spent t.0 ≡ d.spent = q.spent (ltb-true _ _ here) in grind (arith, nat_tests, there, here, s, q.spent_count, q.calls)
-            | inr gone ↦ grind (arith, nat_tests, there, gone, q.spent_count, q.calls)
-          ]
-      | inr none ↦ rw none refl
-    ]
-
-pub go_why : (limits : Limits) (d : Dealings) (w : Bool) (e : EnvNo) (t : ThreadNo)
-    → or_else (unless (nat_lt e.0 limits.envs) InvalidEnvironment) (or_else None (or_else (unless (nat_lt t.0 limits.threads) InvalidThread) (unless (not false) OutOfMemory)))
-    ≡ refusal_of limits d w (Go e t)
-go_why limits d w e t = grind arith
+-- it matters only of an environment that is known
+pub where_known : (known : Bool) (one other : Option TiError) (w : Bool) → (known ≡ true → one ≡ other) → admitting_refusal known one w ≡ admitting_refusal known other w
+where_known true one other w h = ap (λ r. admitting_refusal true r w) (h refl)
+where_known false one other w h = refl
 
 -- one thread moves, or none
 pub moves : (limits : Limits) (t u : ThreadNo) (threads threads' : List ThreadState) (history history' left : List Entry) (goes : Bool) (x : ThreadState)

@@ -15,12 +15,12 @@ use Rattle.ti_types.specs.declared.entry.Entry.TheVariants as entry
 use Rattle.ti_types.specs.declared.state.Safe.TheVariants.{Native, Blocked}
 use Rattle.ti_replay.specs.Admission.{Happening, Dealings, dealings, spends, caps_after, refusal_of, can_be_had}
 use Rattle.ti_replay.proofs.AgreementLaws.{dealings-snoc}
-use Rattle.ti_env.specs.Env.{EnvValue, stop_refusal, read_refusal, with_caps}
+use Rattle.ti_env.specs.Env.{EnvValue, with_caps}
 use Rattle.ti_core.specs.Thread.{ThreadState}
 use Rattle.ti_core.specs.Core.{CoreState, Stepped, env_at, step_all, refused_or_else, spent_at, own_all, poll_all}
 use Rattle.ti_replay.specs.Outcomes.{env_word, env_word_after}
 use Rattle.ti_core.specs.Stands.{EnvStands, Stands}
-use Rattle.ti_core.proofs.StepLaws.{happened, same_thread, whys, whys_is_ask, whys_is_stop, whys_is_read, through, cond_same}
+use Rattle.ti_core.proofs.StepLaws.{happened, same_thread, whys, whys_is_ask, whys_is_stop, whys_is_read, ask_there, stop_there, read_there, cond_same}
 
 pub same_env : (e f : EnvNo) → e.0 ≡ f.0 → e ≡ f
 same_env e f h = ap (λ (n : ℕ). record { 0 = n }) h
@@ -190,17 +190,17 @@ env_goes events s w (Ask f u c) e k l =
     let why = whys s w (Ask f u c) in
     paid_stands s.limits e f u events (happened (Ask f u c) w) s.envs _ (is_none why) (k.envs e l) (omega (arith, l, k.env_count)) (agent_envs s.envs s.threads why _) (λ c. refl) (λ n. refl)
     (λ t. spends_is t u e f why (λ g v. refusal_of s.limits (dealings s.limits g v events) w (Ask f u c)) (whys_is_ask events s w f u c k))
-    (λ on. let z = through s f u _ _ on in omega (arith, z, k.thread_count))
+    (λ on. ask_there events s w f u c k on)
 env_goes events s w (Stop f u) e k l =
     let why = whys s w (Stop f u) in
     paid_stands s.limits e f u events (happened (Stop f u) w) s.envs _ (is_none why) (k.envs e l) (omega (arith, l, k.env_count)) (agent_envs s.envs s.threads why _) (λ c. refl) (λ n. refl)
     (λ t. spends_is t u e f why (λ g v. refusal_of s.limits (dealings s.limits g v events) w (Stop f u)) (whys_is_stop events s w f u k))
-    (λ on. let z = through s f u (stop_refusal (env_at s.envs f) u) false on in omega (arith, z, k.thread_count))
+    (λ on. stop_there events s w f u k on)
 env_goes events s w (Read f u n) e k l =
     let why = whys s w (Read f u n) in
     paid_stands s.limits e f u events (happened (Read f u n) w) s.envs _ (is_none why) (k.envs e l) (omega (arith, l, k.env_count)) (agent_envs s.envs s.threads why _) (λ c. refl) (λ n. refl)
     (λ t. spends_is t u e f why (λ g v. refusal_of s.limits (dealings s.limits g v events) w (Read f u n)) (whys_is_read events s w f u n k))
-    (λ on. let z = through s f u (read_refusal (env_at s.envs f) u n) w on in omega (arith, z, k.thread_count))
+    (λ on. read_there events s w f u n k on)
 env_goes events s w (Go f u) e k l =
     let q : (step_all s.limits s.envs s.threads w (Go f u)).envs ≡ s.envs = agent_envs s.envs s.threads (whys s w (Go f u)) _ ∙ cond_same (is_none (whys s w (Go f u))) s.envs in
     rw q (same_stands s.limits e events (happened (Go f u) w) (env_at s.envs e) (k.envs e l) (λ c. refl) (λ t d. grind arith) (λ n. refl))

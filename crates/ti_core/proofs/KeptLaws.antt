@@ -18,7 +18,7 @@ use Rattle.ti_types.specs.declared.event.Outcome.TheVariants as outcome
 use Rattle.ti_types.specs.declared.answer.Answer.{Answer}
 use Rattle.ti_types.specs.declared.error.TiError.{TiError}
 use Rattle.ti_types.specs.declared.state.Safe.TheVariants.{Native, Blocked}
-use Rattle.ti_replay.specs.Admission.{Happening, takes_buffer}
+use Rattle.ti_replay.specs.Admission.{Happening}
 use Rattle.ti_replay.specs.Events.{given, history_of}
 use Rattle.ti_replay.specs.Outcomes.{told_now}
 use Rattle.std.proofs.Math.ListN.{get_or-eq_default}
@@ -30,15 +30,14 @@ use Rattle.ti_core.proofs.CallLaws.{fresh_ticket, asked_same}
 use Rattle.ti_core.proofs.LoggedLaws.{logged, logged_reply}
 use Rattle.ti_slot.specs.Tickets.{has, same, without_ticket, AreOnce}
 use Rattle.ti_slot.specs.Thread.{Thread, ticket_of}
-use Rattle.ti_env.specs.Env.{call_refusal, stop_refusal, read_refusal}
 use Rattle.ti_core.specs.Thread.{ThreadState, own_next, entered_unless, refusal_at, poll_next, reply_now, tickets_after, ask_next, taken}
 use Rattle.ti_core.specs.Threads.{IfPosted, is_ticket_of}
-use Rattle.ti_core.specs.Core.{CoreState, Stepped, thread_at, no_thread, step_all, core_told, core_taken, is_uncollected, posts, refused_or_else, why_not, env_at, own_all, IsTicketOf}
+use Rattle.ti_core.specs.Core.{CoreState, Stepped, thread_at, no_thread, step_all, core_told, core_taken, is_uncollected, posts, refused_or_else, own_all, IsTicketOf}
 use Rattle.ti_replay.specs.Legal.{asked_by}
 use Rattle.ti_core.specs.Runs.{IsTicketBy}
 use Rattle.ti_core.specs.Stands.{Stands}
 use Rattle.ti_core.proofs.ThreadLaws.{entered_tickets}
-use Rattle.ti_core.proofs.StepLaws.{env_threads, is_alone, happened, whys}
+use Rattle.ti_core.proofs.StepLaws.{env_threads, is_alone, happened, whys, in_core, ask_there, stop_there, read_there, go_there}
 
 or_false : (b : Bool) → (b || false) ≡ b
 or_false true = refl
@@ -112,9 +111,6 @@ held_kept : (s : CoreState) (why : Option TiError) (other : Stepped) (u : Thread
 held_kept s None other u x k there e same_ts = still_kept s.limits s.threads other.threads u x k true (λ h. there refl) e same_ts
 held_kept s (Some error) other u x k there e same_ts = sym (or_false (has k (thread_at s.limits s.threads k.thread).thread.uncollected))
 
-thread_of_why : (s : CoreState) (e : EnvNo) (u : ThreadNo) (r : Option TiError) (w : Bool) → why_not s.envs s.threads e u r w ≡ None → u.0 < length s.threads
-thread_of_why s e u r w h = grind (arith, nat_tests, h)
-
 alone_kept : (s : CoreState) (w : Bool) (event : Event) (k : Ticket) → is_alone event ≡ true
     → has k (thread_at s.limits (step_all s.limits s.envs s.threads w event).threads k.thread).thread.uncollected ≡ (has k (thread_at s.limits s.threads k.thread).thread.uncollected || false)
 alone_kept s w event k h = ap (λ ts. has k (thread_at s.limits ts k.thread).thread.uncollected) (env_threads s w event h) ∙ sym (or_false (has k (thread_at s.limits s.threads k.thread).thread.uncollected))
@@ -134,10 +130,10 @@ kept_goes events s w (Poll u) k st =
 kept_goes events s w (Ask e u call) k st =
     let why = whys s w (Ask e u call) in
     refused_kept s why _ k (same (ticket_of (thread_at s.limits s.threads u).thread e) k)
-    (λ h. ask_kept events s w e u call k st (ap is_none h) (thread_of_why s e u (call_refusal (env_at s.envs e) u call) (w && takes_buffer call) h))
-kept_goes events s w (Stop e u) k st = held_kept s (whys s w (Stop e u)) _ u _ k (λ h. thread_of_why s e u (stop_refusal (env_at s.envs e) u) false h) refl refl
-kept_goes events s w (Read e u n) k st = held_kept s (whys s w (Read e u n)) _ u _ k (λ h. thread_of_why s e u (read_refusal (env_at s.envs e) u n) w h) refl refl
-kept_goes events s w (Go e u) k st = held_kept s (whys s w (Go e u)) _ u _ k (λ h. thread_of_why s e u None false h) refl refl
+    (λ h. ask_kept events s w e u call k st (ap is_none h) (in_core events s u st (ask_there events s w e u call st (ap is_none h))))
+kept_goes events s w (Stop e u) k st = held_kept s (whys s w (Stop e u)) _ u _ k (λ h. in_core events s u st (stop_there events s w e u st (ap is_none h))) refl refl
+kept_goes events s w (Read e u n) k st = held_kept s (whys s w (Read e u n)) _ u _ k (λ h. in_core events s u st (read_there events s w e u n st (ap is_none h))) refl refl
+kept_goes events s w (Go e u) k st = held_kept s (whys s w (Go e u)) _ u _ k (λ h. in_core events s u st (go_there events s w e u st (ap is_none h))) refl refl
 kept_goes events s w (AddCaps e caps) k st = alone_kept s w (AddCaps e caps) k refl
 kept_goes events s w (Relinquish e caps) k st = alone_kept s w (Relinquish e caps) k refl
 kept_goes events s w (GetCaps e) k st = alone_kept s w (GetCaps e) k refl

@@ -62,7 +62,7 @@ pub ask_goes : (s : CoreState) (w : Bool) (e : EnvNo) (t : ThreadNo) (call : Cal
       told = given (reply_now (thread_at s.limits s.threads t).thread.limits (thread_at s.limits s.threads t) e call);
     }
 ask_goes s w e t call le lt free off =
-    let q : why_not s.envs s.threads e t (call_refusal (env_at s.envs e) t call) (w && takes_buffer call) ≡ None = grind (arith, nat_tests, le, lt, free, off) in
+    let q : why_not s.envs e (call_refusal (env_at s.envs e) t call) (w && takes_buffer call) ≡ None = grind (arith, nat_tests, le, lt, free, off) in
     rw q refl
 
 pub read_goes : (s : CoreState) (w : Bool) (e : EnvNo) (t : ThreadNo) (n : ℤ) → e.0 < length s.envs → t.0 < length s.threads → read_refusal (env_at s.envs e) t n ≡ None → w ≡ false
@@ -72,5 +72,5 @@ pub read_goes : (s : CoreState) (w : Bool) (e : EnvNo) (t : ThreadNo) (n : ℤ) 
       told = read_told (thread_at s.limits s.threads t).thread.limits (thread_at s.limits s.threads t) e (thread_at s.limits s.threads t).thread.number n;
     }
 read_goes s w e t n le lt free off =
-    let q : why_not s.envs s.threads e t (read_refusal (env_at s.envs e) t n) w ≡ None = grind (arith, nat_tests, le, lt, free, off) in
+    let q : why_not s.envs e (read_refusal (env_at s.envs e) t n) w ≡ None = grind (arith, nat_tests, le, lt, free, off) in
     rw q refl

@@ -1,5 +1,5 @@
 -- A core goes on with each event as the definitions say.
-use Rattle.std.proofs.Common.{◌≡◌, ℕ, ◌<◌, Bool, true, false, ◌&&◌, ◌||◌, ◌==◌, nat_lt, cond, List, ◌++◌, length, refl, ap, sym, subst, ◌∙◌, arith, Option, Some, None, is_none, inl, inr, ltb-true, ℤ}
+use Rattle.std.proofs.Common.{◌≡◌, ℕ, ◌<◌, Bool, true, false, ◌&&◌, ◌||◌, ◌==◌, nat_lt, cond, List, ◌++◌, length, refl, ap, ap₂, sym, subst, ◌∙◌, arith, Option, Some, None, is_none, inl, inr, ltb-true, ℤ}
 use Rattle.std.proofs.lemmas.Bool.Decides.{nat_tests}
 use Rattle.std.proofs.lemmas.Bool.{cases_eq}
 use Rattle.ti_types.specs.declared.limits.Limits.{Limits}
@@ -11,18 +11,25 @@ use Rattle.ti_types.specs.declared.entry.Entry.TheVariants as entry
 use Rattle.ti_types.specs.declared.event.Event.{Event}
 use Rattle.ti_types.specs.declared.event.Event.TheVariants.{Start, Own, Poll, ToNative, ToBlocked, Back, End, Ask, Stop, Read, Go, AddCaps, Relinquish, GetCaps, SetEnvWord, GetEnvWord}
 use Rattle.ti_types.specs.declared.error.TiError.{TiError}
+use Rattle.ti_types.specs.declared.error.TiError.TheVariants.{MustPossessCapability}
+use Rattle.ti_types.specs.declared.caps.Caps.{Caps}
+use Rattle.ti_types.specs.Admitting.{reaching_refusal, going_refusal}
+use Rattle.ti_types.specs.Call.{needed_by, is_well_formed}
+use Rattle.ti_types.specs.Caps.{holds_all}
+use Rattle.ti_types.specs.Numbers.{is_not_negative}
+use Rattle.ti_types.specs.Refusing.{or_else, unless}
 use Rattle.ti_types.specs.declared.state.Safe.TheVariants.{Native, Blocked}
 use Rattle.ti_replay.specs.Admission.{Happening, dealings, refusal_of, takes_buffer}
 use Rattle.ti_replay.specs.Legal.{calls_spent}
 use Rattle.ti_replay.specs.Events.{left_by, left_own, history_behind, history_of}
 use Rattle.ti_replay.proofs.EventLaws.{history_is_paid}
-use Rattle.ti_env.specs.Env.{EnvValue, call_refusal, stop_refusal, read_refusal}
+use Rattle.ti_env.specs.Env.{EnvValue, is_there, spent_at, call_refusal, stop_refusal, read_refusal}
 use Rattle.ti_core.specs.Thread.{ThreadState, own_next, poll_next, ask_next, stop_next, go_next, read_next}
 use Rattle.ti_core.specs.Core.{CoreState, Stepped, thread_at, env_at, step_all, why_not, refused_or_else, own_all}
 use Rattle.ti_core.specs.Stands.{ThreadStands, Stands}
 use Rattle.ti_core.proofs.ThreadLaws.{own_stands, poll_stands}
 use Rattle.ti_core.proofs.CallLaws.{ask_stands, stop_stands, go_stands, read_stands}
-use Rattle.ti_core.proofs.AdmitLaws.{Keeps, ask_why, stop_why, read_why, go_why, moves}
+use Rattle.ti_core.proofs.AdmitLaws.{Keeps, same_reach, where_known, moves}
 
 pub same_thread : (t u : ThreadNo) → u.0 ≡ t.0 → u ≡ t
 same_thread t u h = ap (λ (n : ℕ). record { 0 = n }) h
@@ -74,23 +81,31 @@ own_goes events s u x t history' k l q =
 
 -- why a call is refused, as the core tells it
 abbrev pub whys : CoreState → Bool → Event → Option TiError
-whys s w (Ask e t c) = why_not s.envs s.threads e t (call_refusal (env_at s.envs e) t c) (w && takes_buffer c)
-whys s w (Stop e t) = why_not s.envs s.threads e t (stop_refusal (env_at s.envs e) t) false
-whys s w (Read e t n) = why_not s.envs s.threads e t (read_refusal (env_at s.envs e) t n) w
-whys s w (Go e t) = why_not s.envs s.threads e t None false
+whys s w (Ask e t c) = why_not s.envs e (call_refusal (env_at s.envs e) t c) (w && takes_buffer c)
+whys s w (Stop e t) = why_not s.envs e (stop_refusal (env_at s.envs e) t) false
+whys s w (Read e t n) = why_not s.envs e (read_refusal (env_at s.envs e) t n) w
+whys s w (Go e t) = why_not s.envs e (going_refusal (nat_lt t.0 (length s.threads))) false
 whys s w _ = None
 
+-- what an environment of a core refuses at a thread by itself
+reach : (events : List Happening) (s : CoreState) (e : EnvNo) (t : ThreadNo) (well_formed : Bool) → Stands events s → nat_lt e.0 s.limits.envs ≡ true
+    → reaching_refusal (is_there (env_at s.envs e) t) well_formed (spent_at (env_at s.envs e) t) (env_at s.envs e).calls
+    ≡ reaching_refusal (nat_lt t.0 s.limits.threads) well_formed (dealings s.limits e t events).spent s.limits.calls
+reach events s e t well_formed k h = same_reach s.limits (dealings s.limits e t events) t (env_at s.envs e) well_formed (keeps events s e t k (ltb-true _ _ h))
+
 pub whys_is_ask : (events : List Happening) (s : CoreState) (w : Bool) (e : EnvNo) (t : ThreadNo) (c : Call) → Stands events s → whys s w (Ask e t c) ≡ refusal_of s.limits (dealings s.limits e t events) w (Ask e t c)
-whys_is_ask events s w e t c k = rw (k.env_count, k.thread_count) (ask_why s.limits (dealings s.limits e t events) (env_at s.envs e) w e t c (λ h. keeps events s e t k h))
+whys_is_ask events s w e t c k =
+    rw k.env_count (where_known (nat_lt e.0 s.limits.envs) _ _ (w && takes_buffer c)
+    (λ h. ap₂ (λ (held : Caps) r. or_else (unless (holds_all held (needed_by c)) MustPossessCapability) r) (keeps events s e t k (ltb-true _ _ h)).caps (reach events s e t (is_well_formed c) k h)))
 
 pub whys_is_stop : (events : List Happening) (s : CoreState) (w : Bool) (e : EnvNo) (t : ThreadNo) → Stands events s → whys s w (Stop e t) ≡ refusal_of s.limits (dealings s.limits e t events) w (Stop e t)
-whys_is_stop events s w e t k = rw (k.env_count, k.thread_count) (stop_why s.limits (dealings s.limits e t events) (env_at s.envs e) w e t (λ h. keeps events s e t k h))
+whys_is_stop events s w e t k = rw k.env_count (where_known (nat_lt e.0 s.limits.envs) _ _ false (reach events s e t true k))
 
 pub whys_is_read : (events : List Happening) (s : CoreState) (w : Bool) (e : EnvNo) (t : ThreadNo) (n : ℤ) → Stands events s → whys s w (Read e t n) ≡ refusal_of s.limits (dealings s.limits e t events) w (Read e t n)
-whys_is_read events s w e t n k = rw (k.env_count, k.thread_count) (read_why s.limits (dealings s.limits e t events) (env_at s.envs e) w e t n (λ h. keeps events s e t k h))
+whys_is_read events s w e t n k = rw k.env_count (where_known (nat_lt e.0 s.limits.envs) _ _ w (reach events s e t (is_not_negative n) k))
 
 pub whys_is_go : (events : List Happening) (s : CoreState) (w : Bool) (e : EnvNo) (t : ThreadNo) → Stands events s → whys s w (Go e t) ≡ refusal_of s.limits (dealings s.limits e t events) w (Go e t)
-whys_is_go events s w e t k = rw (k.env_count, k.thread_count) (go_why s.limits (dealings s.limits e t events) w e t)
+whys_is_go events s w e t k = rw (k.env_count, k.thread_count) refl
 
 -- a call that is let through is an environment's, at a thread, and is paid for
 pub record IsLetThrough (limits : Limits) (events : List Happening) (e : EnvNo) (t : ThreadNo) : Type 0 where
@@ -122,9 +137,21 @@ read_through events limits w e t n h =
     let left : d.spent < limits.calls = grind (arith, nat_tests, h) in
     record { env = there; thread = here; calls = omega (arith, left, history_is_paid limits t events e) }
 
--- a thread that exists, where nothing refuses
-pub through : (s : CoreState) (e : EnvNo) (t : ThreadNo) (r : Option TiError) (w : Bool) → is_none (why_not s.envs s.threads e t r w) ≡ true → t.0 < length s.threads
-through s e t r w h = grind (arith, nat_tests, h)
+-- where nothing refuses, the thread is there
+pub ask_there : (events : List Happening) (s : CoreState) (w : Bool) (e : EnvNo) (t : ThreadNo) (c : Call) → Stands events s → is_none (whys s w (Ask e t c)) ≡ true → t.0 < s.limits.threads
+ask_there events s w e t c k on = (ask_through events s.limits w e t c (ap is_none (sym (whys_is_ask events s w e t c k)) ∙ on)).thread
+
+pub stop_there : (events : List Happening) (s : CoreState) (w : Bool) (e : EnvNo) (t : ThreadNo) → Stands events s → is_none (whys s w (Stop e t)) ≡ true → t.0 < s.limits.threads
+stop_there events s w e t k on = (stop_through events s.limits w e t (ap is_none (sym (whys_is_stop events s w e t k)) ∙ on)).thread
+
+pub read_there : (events : List Happening) (s : CoreState) (w : Bool) (e : EnvNo) (t : ThreadNo) (n : ℤ) → Stands events s → is_none (whys s w (Read e t n)) ≡ true → t.0 < s.limits.threads
+read_there events s w e t n k on = (read_through events s.limits w e t n (ap is_none (sym (whys_is_read events s w e t n k)) ∙ on)).thread
+
+pub go_there : (events : List Happening) (s : CoreState) (w : Bool) (e : EnvNo) (t : ThreadNo) → Stands events s → is_none (whys s w (Go e t)) ≡ true → t.0 < s.limits.threads
+go_there events s w e t k on = grind (arith, nat_tests, k.thread_count, on)
+
+pub in_core : (events : List Happening) (s : CoreState) (t : ThreadNo) → Stands events s → t.0 < s.limits.threads → t.0 < length s.threads
+in_core events s t k h = omega (arith, h, k.thread_count)
 
 pub cond_same : {X : Type 0} → (b : Bool) (x : X) → cond b x x ≡ x
 cond_same true x = refl
@@ -176,7 +203,7 @@ thread_goes events s w (Ask e u c) t k l =
     let why = whys s w (Ask e u c) in
     let is = whys_is_ask events s w e u c k in
     moves s.limits t u s.threads _ history _ (left_by s.limits history (Ask e u c)) (is_none why)
-    (ask_next (thread_at s.limits s.threads u).thread.limits (thread_at s.limits s.threads u) e c) (λ h. through s e u _ _ h) (agent_threads s.envs s.threads why _)
+    (ask_next (thread_at s.limits s.threads u).thread.limits (thread_at s.limits s.threads u) e c) (λ h. in_core events s u k (ask_there events s w e u c k h)) (agent_threads s.envs s.threads why _)
     (agent_history s.limits t u history _ why (λ v. refusal_of s.limits (dealings s.limits e v events) w (Ask e u c)) is)
     (λ same on. rw (same_thread t u same) (ask_stands s.limits t history (thread_at s.limits s.threads t) e c (k.threads t l)
     (ask_through events s.limits w e t c (subst (λ (v : ThreadNo). is_none (refusal_of s.limits (dealings s.limits e v events) w (Ask e v c)) ≡ true) (same_thread t u same) (ap is_none (sym is) ∙ on))).env))
@@ -186,7 +213,7 @@ thread_goes events s w (Stop e u) t k l =
     let why = whys s w (Stop e u) in
     let is = whys_is_stop events s w e u k in
     moves s.limits t u s.threads _ history _ (left_by s.limits history (Stop e u)) (is_none why)
-    (stop_next (thread_at s.limits s.threads u).thread.limits (thread_at s.limits s.threads u) e (thread_at s.limits s.threads u).thread.number) (λ h. through s e u (stop_refusal (env_at s.envs e) u) false h) (agent_threads s.envs s.threads why _)
+    (stop_next (thread_at s.limits s.threads u).thread.limits (thread_at s.limits s.threads u) e (thread_at s.limits s.threads u).thread.number) (λ h. in_core events s u k (stop_there events s w e u k h)) (agent_threads s.envs s.threads why _)
     (agent_history s.limits t u history _ why (λ v. refusal_of s.limits (dealings s.limits e v events) w (Stop e u)) is)
     (λ same on. rw (same_thread t u same) (stop_stands s.limits t t history (thread_at s.limits s.threads t) e (k.threads t l)))
     (k.threads t l)
@@ -195,7 +222,7 @@ thread_goes events s w (Read e u n) t k l =
     let why = whys s w (Read e u n) in
     let is = whys_is_read events s w e u n k in
     moves s.limits t u s.threads _ history _ (left_by s.limits history (Read e u n)) (is_none why)
-    (read_next (thread_at s.limits s.threads u).thread.limits (thread_at s.limits s.threads u) e (thread_at s.limits s.threads u).thread.number n) (λ h. through s e u (read_refusal (env_at s.envs e) u n) w h) (agent_threads s.envs s.threads why _)
+    (read_next (thread_at s.limits s.threads u).thread.limits (thread_at s.limits s.threads u) e (thread_at s.limits s.threads u).thread.number n) (λ h. in_core events s u k (read_there events s w e u n k h)) (agent_threads s.envs s.threads why _)
     (agent_history s.limits t u history _ why (λ v. refusal_of s.limits (dealings s.limits e v events) w (Read e u n)) is)
     (λ same on. rw (same_thread t u same) (read_stands s.limits t t history (thread_at s.limits s.threads t) e n (k.threads t l)))
     (k.threads t l)
@@ -204,7 +231,7 @@ thread_goes events s w (Go e u) t k l =
     let why = whys s w (Go e u) in
     let is = whys_is_go events s w e u k in
     moves s.limits t u s.threads _ history _ (left_by s.limits history (Go e u)) (is_none why)
-    (go_next (thread_at s.limits s.threads u).thread.limits (thread_at s.limits s.threads u) e (thread_at s.limits s.threads u).thread.number) (λ h. through s e u None false h) (agent_threads s.envs s.threads why _)
+    (go_next (thread_at s.limits s.threads u).thread.limits (thread_at s.limits s.threads u) e (thread_at s.limits s.threads u).thread.number) (λ h. in_core events s u k (go_there events s w e u k h)) (agent_threads s.envs s.threads why _)
     (agent_history s.limits t u history _ why (λ v. refusal_of s.limits (dealings s.limits e v events) w (Go e u)) is)
     (λ same on. rw (same_thread t u same) (go_stands s.limits t t history (thread_at s.limits s.threads t) e (k.threads t l)))
     (k.threads t l)

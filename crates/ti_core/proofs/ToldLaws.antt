@@ -1,5 +1,5 @@
 -- What a core says is what the definitions say, and the core stands for one more event.
-use Rattle.std.proofs.Common.{◌≡◌, ◌≢◌, ℕ, ◌<◌, Bool, true, false, ◌&&◌, ◌==◌, nat_lt, cond, List, [], ◌∷◌, ◌++◌, length, refl, ap, sym, ◌∙◌, arith, Option, Some, None, is_none, slice_set, length-set, get_or-set_same, get_or-set_other, inl, inr, ltb-true, bit_or}
+use Rattle.std.proofs.Common.{◌≡◌, ◌≢◌, ℕ, ◌<◌, Bool, true, false, ◌==◌, nat_lt, cond, List, [], ◌∷◌, ◌++◌, length, refl, ap, sym, ◌∙◌, arith, Option, Some, None, is_none, slice_set, length-set, get_or-set_same, get_or-set_other, inl, inr, ltb-true, bit_or}
 use Rattle.std.proofs.lemmas.List.{get_or-replicate, length-replicate}
 use Rattle.std.proofs.lemmas.Bool.Decides.{nat_tests}
 use Rattle.std.proofs.lemmas.Bool.{cases_eq, cases_Bool}
@@ -19,16 +19,16 @@ use Rattle.ti_types.specs.declared.state.Safe.TheVariants.{Native, Blocked}
 use Rattle.ti_replay.specs.Outcomes.{out_of}
 use Rattle.ti_replay.specs.Replies.{reply}
 use Rattle.ti_replay.specs.View.{view}
-use Rattle.ti_replay.specs.Admission.{Happening, dealings, refusal, takes_buffer, agent_of, is_aimed_at, is_own_of}
+use Rattle.ti_replay.specs.Admission.{Happening, dealings, refusal, agent_of, is_aimed_at, is_own_of}
 use Rattle.ti_replay.specs.Events.{left_by, history_of, own_outcome, refused_or, read_outcome, hold_refusal, given}
 use Rattle.ti_replay.proofs.AgreementLaws.{history_of-snoc}
-use Rattle.ti_env.specs.Env.{EnvValue, new_env, call_refusal, stop_refusal, read_refusal, with_caps}
+use Rattle.ti_env.specs.Env.{EnvValue, new_env, with_caps}
 use Rattle.ti_core.specs.Thread.{ThreadState, new_state, own_next, poll_next, taken}
 use Rattle.ti_core.specs.Core.{CoreState, Stepped, thread_at, env_at, step_all, refused_or_else, own_all, core_next, core_taken, no_thread, with_env}
 use Rattle.ti_core.specs.Stands.{ThreadStands, EnvStands, Stands, IsNext}
 use Rattle.ti_core.proofs.ThreadLaws.{own_told, poll_told}
 use Rattle.ti_core.proofs.CallLaws.{ask_told_is, stop_told_is, go_told_is, read_told_is, taken_stands}
-use Rattle.ti_core.proofs.StepLaws.{happened, same_thread, whys, whys_is_ask, whys_is_stop, whys_is_read, whys_is_go, through, thread_goes, env_threads}
+use Rattle.ti_core.proofs.StepLaws.{happened, same_thread, whys, whys_is_ask, whys_is_stop, whys_is_read, whys_is_go, ask_there, stop_there, read_there, go_there, thread_goes, env_threads}
 use Rattle.ti_core.proofs.EnvLaws.{env_goes, own_envs}
 
 self : (n : ℕ) → (n == n) ≡ true
@@ -84,7 +84,7 @@ told_goes events s w (Ask e u c) k =
     rw (self u.0) (agent_told s.envs s.threads why _ _ _ is
     (λ none.
     let on : is_none why ≡ true = ap is_none (is ∙ none) in
-    let l : u.0 < s.limits.threads = (let z = through s e u (call_refusal (env_at s.envs e) u c) (w && takes_buffer c) on in omega (arith, z, k.thread_count)) in
+    let l = ask_there events s w e u c k on in
     let n = history_now events s.limits u (happened (Ask e u c) w) refl (self u.0) none in
     ask_told_is s.limits u history (thread_at s.limits s.threads u) e c (k.threads u l)
     ∙ ap (λ m. given (reply s.limits m (length history))) (sym n)))
@@ -95,7 +95,7 @@ told_goes events s w (Stop e u) k =
     rw (self u.0) (agent_told s.envs s.threads why _ _ _ is
     (λ none.
     let on : is_none why ≡ true = ap is_none (is ∙ none) in
-    let l : u.0 < s.limits.threads = (let z = through s e u (stop_refusal (env_at s.envs e) u) false on in omega (arith, z, k.thread_count)) in
+    let l = stop_there events s w e u k on in
     stop_told_is s.limits u u history (thread_at s.limits s.threads u) e (k.threads u l)))
 told_goes events s w (Read e u n) k =
     let history = history_of s.limits u events in
@@ -104,7 +104,7 @@ told_goes events s w (Read e u n) k =
     rw (self u.0) (agent_told s.envs s.threads why _ _ _ is
     (λ none.
     let on : is_none why ≡ true = ap is_none (is ∙ none) in
-    let l : u.0 < s.limits.threads = (let z = through s e u (read_refusal (env_at s.envs e) u n) w on in omega (arith, z, k.thread_count)) in
+    let l = read_there events s w e u n k on in
     let m = history_now events s.limits u (happened (Read e u n) w) refl (self u.0) none in
     read_told_is s.limits u u history (thread_at s.limits s.threads u) e n (k.threads u l)
     ∙ ap (λ m. read_outcome (hold_refusal (view s.limits history) (Read e u n)) (reply s.limits m (length history))) (sym m)))
@@ -115,7 +115,7 @@ told_goes events s w (Go e u) k =
     rw (self u.0) (agent_told s.envs s.threads why _ _ _ is
     (λ none.
     let on : is_none why ≡ true = ap is_none (is ∙ none) in
-    let l : u.0 < s.limits.threads = (let z = through s e u None false on in omega (arith, z, k.thread_count)) in
+    let l = go_there events s w e u k on in
     go_told_is s.limits u u history (thread_at s.limits s.threads u) e (k.threads u l)))
 told_goes events s w (AddCaps e caps) k = rw k.env_count (grind (arith, k.env_count))
 told_goes events s w (Relinquish e caps) k = grind (arith, k.env_count)

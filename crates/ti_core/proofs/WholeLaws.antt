@@ -1,12 +1,11 @@
 -- A thread's parts stay where they belong.
-use Rattle.std.proofs.Common.{◌≡◌, ℕ, ◌+◌, ◌<◌, ◌≤◌, Bool, true, false, List, [], ◌∷◌, ◌++◌, length, refl, ap, sym, ◌∙◌, arith, Option, Some, None, append_assoc, append-nil, subst, nat_lt, ℤ, is_some}
+use Rattle.std.proofs.Common.{is_none, ◌≡◌, ℕ, ◌+◌, ◌<◌, ◌≤◌, Bool, true, false, List, [], ◌∷◌, ◌++◌, length, refl, ap, sym, ◌∙◌, arith, Option, Some, None, append_assoc, append-nil, subst, nat_lt, ℤ, is_some}
 use Rattle.std.proofs.lemmas.Bool.Decides.{nat_tests}
 use Rattle.std.proofs.lemmas.List.Sums.{fold-append}
 use Rattle.ti_types.specs.declared.limits.Limits.{Limits}
 use Rattle.ti_types.specs.declared.numbers.EnvNo.{EnvNo}
 use Rattle.ti_types.specs.declared.place.Frame.{Frame}
 use Rattle.ti_types.specs.declared.step.Step.{Step}
-use Rattle.ti_types.specs.declared.step.Step.TheVariants.{Enter, EnterNative, At, Leave}
 use Rattle.ti_types.specs.declared.state.Mode.{Mode}
 use Rattle.ti_types.specs.declared.state.Safe.{Safe}
 use Rattle.ti_types.specs.declared.answer.Answer.{Answer}
@@ -174,12 +173,7 @@ whole_home t u x steps l hand e none room legal =
     hand_stops r (Go env) h = cc
 
 fits_is : (limits : Limits) (frames : List Frame) (step : Step) → step_refusal limits.depth frames step ≡ None → step_fits limits frames step ≡ true
-fits_is limits frames (Enter method) h = grind (arith, h)
-fits_is limits frames (EnterNative method) h = grind (arith, h)
-fits_is limits [] (At position) h = cc
-fits_is limits (frame ∷ frames) (At position) h = grind (arith, h)
-fits_is limits [] Leave h = cc
-fits_is limits (frame ∷ frames) Leave h = refl
+fits_is limits frames step h = ap is_none h
 
 -- what the frames of a running thread refuse is what its history refuses
 pub fault_here : (t : Thread) (f : Stack) (l : Steps) (step : Step) → IsWhole t (Some f) (Some l) → step_refusal f.depth f.frames step ≡ step_refusal t.limits.depth (view t.limits (t.history ++ steps_of l.steps)).frames step

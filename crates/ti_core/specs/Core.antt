@@ -1,5 +1,5 @@
 -- All threads and environments of a core, and how each event changes them.
-use Rattle.std.specs.Prelude.{◌<◌, is_none, ◌≡◌, ◌+◌, ◌-◌, Bool, false, ◌&&◌, not, nat_lt, if◌then◌else◌, List, [], length, Option, Some, None, slice_index, slice_index_or, slice_set, bit_and, bit_or, ℤ}
+use Rattle.std.specs.Prelude.{◌<◌, is_none, ◌≡◌, ◌+◌, Bool, false, ◌&&◌, nat_lt, if◌then◌else◌, List, [], length, Option, Some, None, slice_index, slice_index_or, slice_set, ℤ}
 use Rattle.ti_types.specs.declared.limits.Limits.{Limits}
 use Rattle.ti_types.specs.declared.numbers.EnvNo.{EnvNo}
 use Rattle.ti_types.specs.declared.numbers.ThreadNo.{ThreadNo}
@@ -14,8 +14,9 @@ use Rattle.ti_types.specs.declared.event.Outcome.TheVariants as outcome
 use Rattle.ti_types.specs.declared.answer.Answer.{Answer}
 use Rattle.ti_types.specs.declared.answer.Answer.TheVariants as answer
 use Rattle.ti_types.specs.declared.error.TiError.{TiError}
-use Rattle.ti_types.specs.declared.error.TiError.TheVariants.{InvalidEnvironment, InvalidThread, OutOfMemory, NotAvailable}
-use Rattle.ti_replay.specs.Refusals.{or_else, unless}
+use Rattle.ti_types.specs.declared.error.TiError.TheVariants.{InvalidEnvironment, InvalidThread, NotAvailable}
+use Rattle.ti_types.specs.Caps.{caps_with, caps_without}
+use Rattle.ti_types.specs.Admitting.{admitting_refusal, going_refusal}
 use Rattle.ti_replay.specs.Admission.{Happening, takes_buffer, can_be_had}
 use Rattle.ti_replay.specs.Events.{own_entry, given, done_unless}
 use Rattle.ti_slot.specs.Thread.{ticket_of}
@@ -69,12 +70,9 @@ poll_all limits envs threads t =
     then record { envs = envs; threads = slice_set threads t.0 (poll_next (thread_at limits threads t).thread.limits (thread_at limits threads t)); told = Some (poll_said (thread_at limits threads t).thread.limits (thread_at limits threads t)) }
     else record { envs = envs; threads = threads; told = Some (outcome.Refused InvalidThread) }
 
--- why a call does not reach its thread
-abbrev pub why_not : List EnvValue → List ThreadState → EnvNo → ThreadNo → Option TiError → Bool → Option TiError
-why_not envs threads e t refusal wanting =
-    or_else (unless (nat_lt e.0 (length envs)) InvalidEnvironment)
-    (or_else refusal
-    (or_else (unless (nat_lt t.0 (length threads)) InvalidThread) (unless (not wanting) OutOfMemory)))
+-- why a call does not reach its thread, where its environment refuses so by itself
+abbrev pub why_not : List EnvValue → EnvNo → Option TiError → Bool → Option TiError
+why_not envs e by_itself wanting = admitting_refusal (nat_lt e.0 (length envs)) by_itself wanting
 
 abbrev pub refused_or_else : List EnvValue → List ThreadState → Option TiError → Stepped → Stepped
 refused_or_else envs threads (Some error) other = record { envs = envs; threads = threads; told = error_told error }
@@ -83,7 +81,7 @@ refused_or_else envs threads None other = other
 abbrev pub ask_all : Limits → List EnvValue → List ThreadState → Bool → EnvNo → ThreadNo → Call → Stepped
 ask_all limits envs threads wanting e t call =
     let s = thread_at limits threads t in
-    refused_or_else envs threads (why_not envs threads e t (call_refusal (env_at envs e) t call) (wanting && takes_buffer call))
+    refused_or_else envs threads (why_not envs e (call_refusal (env_at envs e) t call) (wanting && takes_buffer call))
     (record {
       envs = spent_at envs e t;
       threads = slice_set threads t.0 (ask_next s.thread.limits s e call);
@@ -93,13 +91,13 @@ ask_all limits envs threads wanting e t call =
 abbrev pub stop_all : Limits → List EnvValue → List ThreadState → EnvNo → ThreadNo → Stepped
 stop_all limits envs threads e t =
     let s = thread_at limits threads t in
-    refused_or_else envs threads (why_not envs threads e t (stop_refusal (env_at envs e) t) false)
+    refused_or_else envs threads (why_not envs e (stop_refusal (env_at envs e) t) false)
     (record { envs = spent_at envs e t; threads = slice_set threads t.0 (stop_next s.thread.limits s e s.thread.number); told = stop_told s.thread.limits s e s.thread.number })
 
 abbrev pub read_all : Limits → List EnvValue → List ThreadState → Bool → EnvNo → ThreadNo → ℤ → Stepped
 read_all limits envs threads wanting e t max_count =
     let s = thread_at limits threads t in
-    refused_or_else envs threads (why_not envs threads e t (read_refusal (env_at envs e) t max_count) wanting)
+    refused_or_else envs threads (why_not envs e (read_refusal (env_at envs e) t max_count) wanting)
     (record {
       envs = spent_at envs e t;
       threads = slice_set threads t.0 (read_next s.thread.limits s e s.thread.number max_count);
@@ -109,7 +107,7 @@ read_all limits envs threads wanting e t max_count =
 abbrev pub go_all : Limits → List EnvValue → List ThreadState → EnvNo → ThreadNo → Stepped
 go_all limits envs threads e t =
     let s = thread_at limits threads t in
-    refused_or_else envs threads (why_not envs threads e t None false)
+    refused_or_else envs threads (why_not envs e (going_refusal (nat_lt t.0 (length threads))) false)
     (record { envs = envs; threads = slice_set threads t.0 (go_next s.thread.limits s e s.thread.number); told = go_told s.thread.limits s e s.thread.number })
 
 abbrev pub with_env : List EnvValue → List ThreadState → EnvNo → EnvValue → Option Outcome → Stepped
@@ -121,13 +119,13 @@ with_env envs threads e env told =
 abbrev pub add_all : List EnvValue → List ThreadState → EnvNo → Caps → Stepped
 add_all envs threads e caps =
     let env = env_at envs e in
-    if can_be_had caps then with_env envs threads e (with_caps env (record { bits = bit_or env.caps.bits caps.bits })) (Some (outcome.Gave answer.Done))
+    if can_be_had caps then with_env envs threads e (with_caps env (caps_with env.caps caps)) (Some (outcome.Gave answer.Done))
     else with_env envs threads e env (error_told NotAvailable)
 
 abbrev pub relinquish_all : List EnvValue → List ThreadState → EnvNo → Caps → Stepped
 relinquish_all envs threads e caps =
     let env = env_at envs e in
-    with_env envs threads e (with_caps env (record { bits = env.caps.bits - bit_and env.caps.bits caps.bits })) (Some (outcome.Gave answer.Done))
+    with_env envs threads e (with_caps env (caps_without env.caps caps)) (Some (outcome.Gave answer.Done))
 
 abbrev pub tell_all : List EnvValue → List ThreadState → EnvNo → Answer → Stepped
 tell_all envs threads e a =

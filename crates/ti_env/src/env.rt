@@ -1,7 +1,8 @@
 ghost use Rattle.std.specs.Prelude.{◌≡◌, ◌<◌, ◌↔◌, true, None, Some, length, IfOk, IfErr, OnOk, OnErr, IsOk};
 ghost use Rattle.ti_types.specs.Caps.{caps_with, caps_without, can_be_had};
 ghost use Rattle.ti_types.specs.declared.error.TiError.TheVariants.{NotAvailable, OutOfMemory};
-ghost use Rattle.ti_env.specs.Env.{EnvValue, new_env, with_caps, with_word, with_spent, spent_at, left_at, refusal_at, call_refusal, stop_refusal, read_refusal};
+ghost use Rattle.ti_types.specs.Admitting.{reaching_refusal};
+ghost use Rattle.ti_env.specs.Env.{EnvValue, new_env, with_caps, with_word, with_spent, is_there, spent_at, left_at, call_refusal, stop_refusal, read_refusal};
 
 use std::alloc::Global;
 use std::marker::Model;
@@ -90,8 +91,8 @@ impl EnvState {
 
     /// That there is such a thread, else 10, that a call is well formed, else 103, and that a call is left, else 209.
     fn check(&self, thread: ThreadNo, well_formed: bool) -> Result<(), TiError>
-        ensures passed { OnOk result (refusal_at self.now thread well_formed ≡ None) }
-        ensures refused { IfErr result (λ e. refusal_at self.now thread well_formed ≡ Some e) }
+        ensures passed { OnOk result (reaching_refusal (is_there self.now thread) well_formed (spent_at self.now thread) self.now.calls ≡ None) }
+        ensures refused { IfErr result (λ e. reaching_refusal (is_there self.now thread) well_formed (spent_at self.now thread) self.now.calls ≡ Some e) }
     {
         let index = thread.0 as usize;
         if index >= self.spent.len() {
@@ -139,12 +140,14 @@ impl EnvState {
         self.check(thread, max_count >= 0)
     }
 
-    /// How many calls are left at a thread, which there must be (this profile).
+    /// How many calls are left at a thread (this profile): 0 where there is no such thread.
     pub fn left(&self, thread: ThreadNo) -> u32
-        requires { thread.0 < length self.now.spent }
         ensures { result ≡ left_at self.now thread }
     {
-        self.calls.saturating_sub(self.spent[thread.0 as usize])
+        match self.spent.get(thread.0 as usize) {
+            Some(spent) => self.calls.saturating_sub(*spent),
+            None => 0,
+        }
     }
 
     /// Spends one of the calls that are left at a thread; nothing is spent at the others (this profile). There must be such a

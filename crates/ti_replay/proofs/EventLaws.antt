@@ -5,11 +5,8 @@ use Rattle.std.proofs.lemmas.List.Sums.{sum_by-cons, sum_by-append}
 use Rattle.ti_types.specs.declared.limits.Limits.{Limits}
 use Rattle.ti_types.specs.declared.numbers.EnvNo.{EnvNo}
 use Rattle.ti_types.specs.declared.numbers.ThreadNo.{ThreadNo}
-use Rattle.ti_types.specs.declared.place.Frame.{Frame}
 use Rattle.ti_types.specs.declared.state.Safe.{Safe}
 use Rattle.ti_types.specs.declared.state.Safe.TheVariants.{AtPoll}
-use Rattle.ti_types.specs.declared.step.Step.{Step}
-use Rattle.ti_types.specs.declared.step.Step.TheVariants.{Enter, EnterNative, At, Leave}
 use Rattle.ti_types.specs.declared.entry.Entry.{Entry}
 use Rattle.ti_types.specs.declared.entry.Entry.TheVariants as entry
 use Rattle.ti_types.specs.declared.event.Event.{Event}
@@ -17,8 +14,7 @@ use Rattle.ti_types.specs.declared.event.Event.TheVariants.{Start, Own, Poll, To
 use Rattle.ti_types.specs.declared.view.ThreadView.{ThreadView}
 use Rattle.ti_replay.specs.Settling.{Placed, placed, left_out, runs_after, is_waiting_call}
 use Rattle.ti_replay.specs.View.{view, after, after_all}
-use Rattle.ti_replay.specs.Legal.{ask_count, asked_by, Situation, situation, fits, may_follow, goes_on, is_legal, step_fits, calls_spent, call_cost, own_spent, is_well_formed, is_not_negative, env_of, is_safe}
-use Rattle.ti_types.specs.Steps.{step_refusal}
+use Rattle.ti_replay.specs.Legal.{ask_count, asked_by, Situation, situation, fits, may_follow, goes_on, is_legal, calls_spent, call_cost, own_spent, is_well_formed, is_not_negative, env_of, is_safe}
 use Rattle.ti_replay.specs.Refusals.{own_refusal}
 use Rattle.ti_replay.specs.Admission.{Happening, dealt, Dealings, dealings, refusal, refusal_of, agent_of, is_own_of, is_by, is_paid}
 use Rattle.ti_replay.specs.Events.{left_by, left_own, left_by_poll, own_entry, history_behind, history_from, history_of}
@@ -27,19 +23,10 @@ use Rattle.ti_replay.proofs.LateStepLaws.{called_keeps}
 use Rattle.ti_replay.proofs.CostLaws.{goes_on-append}
 use Rattle.ti_replay.proofs.AgreementLaws.{dealings-snoc, by_is}
 
--- the frames allow a step that they do not refuse
-step_allowed : (limits : Limits) (frames : List Frame) (step : Step) → is_none (step_refusal limits.depth frames step) ≡ step_fits limits frames step
-step_allowed limits frames (Enter method) = grind arith
-step_allowed limits frames (EnterNative method) = grind arith
-step_allowed limits [] (At position) = refl
-step_allowed limits (frame ∷ frames) (At position) = grind arith
-step_allowed limits [] Leave = refl
-step_allowed limits (frame ∷ frames) Leave = refl
-
 -- an own event that is not refused leaves an entry that may follow
 own_allowed : (limits : Limits) (s : Situation) (event : Event) (x : Entry) → own_entry event ≡ Some x → is_none (own_refusal limits s.view s.own x) ≡ true → fits limits s x ≡ true
 own_allowed limits s (Start t) x e h = grind arith
-own_allowed limits s (Own t step) x e h = grind (arith, step_allowed limits s.view.frames step)
+own_allowed limits s (Own t step) x e h = grind arith
 own_allowed limits s (Poll t) x e h = cc
 own_allowed limits s (ToNative t) x e h = grind arith
 own_allowed limits s (ToBlocked t kind) x e h = grind arith

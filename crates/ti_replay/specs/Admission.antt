@@ -1,5 +1,5 @@
 -- Which calls of an agent reach the thread.
-use Rattle.std.specs.Prelude.{ℕ, ◌+◌, Bool, true, false, ◌&&◌, not, if◌then◌else◌, ◌==◌, nat_lt, List, Option, None, is_none}
+use Rattle.std.specs.Prelude.{ℕ, ◌+◌, Bool, true, false, ◌&&◌, if◌then◌else◌, ◌==◌, nat_lt, List, Option, None, is_none}
 use Rattle.std.specs.List.{fold}
 use Rattle.ti_types.specs.declared.limits.Limits.{Limits}
 use Rattle.ti_types.specs.declared.numbers.EnvNo.{EnvNo}
@@ -8,14 +8,11 @@ use Rattle.ti_types.specs.declared.caps.Caps.{Caps}
 use Rattle.ti_types.specs.declared.call.Call.{Call}
 use Rattle.ti_types.specs.declared.call.Call.TheVariants as call
 use Rattle.ti_types.specs.declared.error.TiError.{TiError}
-use Rattle.ti_types.specs.declared.error.TiError.TheVariants.{InvalidEnvironment, MustPossessCapability, InvalidThread, IllegalArgument, CallsSpent, OutOfMemory}
 use Rattle.ti_types.specs.declared.event.Event.{Event}
 use Rattle.ti_types.specs.declared.event.Event.TheVariants.{Start, Own, Poll, ToNative, ToBlocked, Back, End, Ask, Stop, Read, Go, AddCaps, Relinquish, GetCaps, SetEnvWord, GetEnvWord}
-use Rattle.ti_types.specs.Call.{needed_by}
+use Rattle.ti_types.specs.Admitting.{admitting_refusal, asking_refusal, stopping_refusal, reading_refusal, going_refusal}
 use Rattle.ti_types.specs.Caps.{no_caps, caps_with, caps_without}
 pub use Rattle.ti_types.specs.Caps.{holds_all, can_be_had}
-use Rattle.ti_replay.specs.Legal.{is_well_formed, is_not_negative}
-use Rattle.ti_replay.specs.Refusals.{or_else, unless}
 
 -- an event, and whether memory was wanting for the buffer of its answer
 pub record Happening : Type 0 where
@@ -83,24 +80,13 @@ takes_buffer _ = false
 -- why a call does not reach its thread
 abbrev pub refusal_of : Limits → Dealings → Bool → Event → Option TiError
 refusal_of limits d wanting (Ask e t call) =
-    or_else (unless (nat_lt e.0 limits.envs) InvalidEnvironment)
-    (or_else (unless (holds_all d.caps (needed_by call)) MustPossessCapability)
-    (or_else (unless (nat_lt t.0 limits.threads) InvalidThread)
-    (or_else (unless (is_well_formed call) IllegalArgument)
-    (or_else (unless (nat_lt d.spent limits.calls) CallsSpent)
-    (unless (not (wanting && takes_buffer call)) OutOfMemory)))))
+    admitting_refusal (nat_lt e.0 limits.envs) (asking_refusal d.caps (nat_lt t.0 limits.threads) d.spent limits.calls call) (wanting && takes_buffer call)
 refusal_of limits d wanting (Stop e t) =
-    or_else (unless (nat_lt e.0 limits.envs) InvalidEnvironment)
-    (or_else (unless (nat_lt t.0 limits.threads) InvalidThread)
-    (unless (nat_lt d.spent limits.calls) CallsSpent))
+    admitting_refusal (nat_lt e.0 limits.envs) (stopping_refusal (nat_lt t.0 limits.threads) d.spent limits.calls) false
 refusal_of limits d wanting (Read e t max_count) =
-    or_else (unless (nat_lt e.0 limits.envs) InvalidEnvironment)
-    (or_else (unless (nat_lt t.0 limits.threads) InvalidThread)
-    (or_else (unless (is_not_negative max_count) IllegalArgument)
-    (or_else (unless (nat_lt d.spent limits.calls) CallsSpent)
-    (unless (not wanting) OutOfMemory))))
+    admitting_refusal (nat_lt e.0 limits.envs) (reading_refusal (nat_lt t.0 limits.threads) d.spent limits.calls max_count) wanting
 refusal_of limits d wanting (Go e t) =
-    or_else (unless (nat_lt e.0 limits.envs) InvalidEnvironment) (unless (nat_lt t.0 limits.threads) InvalidThread)
+    admitting_refusal (nat_lt e.0 limits.envs) (going_refusal (nat_lt t.0 limits.threads)) false
 refusal_of limits d wanting _ = None
 
 abbrev pub refusal : Limits → Dealings → Happening → Option TiError

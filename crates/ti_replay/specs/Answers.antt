@@ -3,7 +3,7 @@ use Rattle.std.specs.Prelude.{ℕ, ◌+◌, ◌-◌, Bool, true, false, ◌||◌
 use Rattle.ti_types.specs.declared.numbers.EnvNo.{EnvNo}
 use Rattle.ti_types.specs.declared.place.Frame.{Frame}
 use Rattle.ti_types.specs.declared.state.Mode.{Mode}
-use Rattle.ti_types.specs.declared.state.Mode.TheVariants.{Running, AtSafe}
+use Rattle.ti_types.specs.declared.state.Mode.TheVariants.{New, Running, AtSafe}
 use Rattle.ti_types.specs.declared.call.Call.{Call}
 use Rattle.ti_types.specs.declared.call.Call.TheVariants as call
 use Rattle.ti_types.specs.declared.answer.Answer.{Answer}
@@ -19,6 +19,14 @@ use Rattle.ti_types.specs.State.{bits_of}
 abbrev pub is_running : Mode → Bool
 is_running Running = true
 is_running _ = false
+
+abbrev pub is_new : Mode → Bool
+is_new New = true
+is_new _ = false
+
+abbrev pub is_safe : Mode → Bool
+is_safe (AtSafe safe) = true
+is_safe _ = false
 
 abbrev pub is_alive : Mode → Bool
 is_alive Running = true

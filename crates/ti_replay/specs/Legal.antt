@@ -1,31 +1,23 @@
 -- Which histories a thread can have.
-use Rattle.std.specs.Prelude.{ℕ, ◌+◌, Bool, true, false, ◌&&◌, ◌||◌, not, if◌then◌else◌, ◌==◌, nat_lt, nat_le, List, [], ◌∷◌, ◌++◌, length, Option, Some, None, is_some, is_none}
+use Rattle.std.specs.Prelude.{ℕ, Bool, true, false, ◌&&◌, ◌||◌, not, if◌then◌else◌, ◌==◌, nat_lt, List, [], ◌∷◌, ◌++◌, length, Option, Some, None, is_some, is_none}
 use Rattle.std.specs.List.{sum_by}
 use Rattle.ti_types.specs.declared.limits.Limits.{Limits}
 use Rattle.ti_types.specs.declared.numbers.EnvNo.{EnvNo}
 use Rattle.ti_types.specs.declared.place.Frame.{Frame}
-use Rattle.ti_types.specs.declared.state.Mode.{Mode}
-use Rattle.ti_types.specs.declared.state.Mode.TheVariants as mode
 use Rattle.ti_types.specs.declared.state.Safe.TheVariants.{Native, Blocked, AtPoll}
 use Rattle.ti_types.specs.declared.step.Step.{Step}
-use Rattle.ti_types.specs.declared.step.Step.TheVariants.{Enter, EnterNative, At, Leave}
 use Rattle.ti_types.specs.declared.entry.Entry.{Entry}
-use Rattle.ti_types.specs.declared.entry.Entry.TheVariants.{Start, Own, Hand, Back, End, Asked, Stop, Read, Go}
+use Rattle.ti_types.specs.declared.entry.Entry.TheVariants.{Own, Hand, Asked, Stop, Read, Go}
 use Rattle.ti_types.specs.declared.view.ThreadView.{ThreadView}
 pub use Rattle.ti_types.specs.Numbers.{is_not_negative}
 pub use Rattle.ti_types.specs.Call.{is_well_formed}
+use Rattle.ti_types.specs.Steps.{step_refusal}
 pub use Rattle.ti_types.specs.Steps.{is_native, newest_is_native}
+pub use Rattle.ti_replay.specs.Answers.{is_new, is_safe}
 use Rattle.ti_replay.specs.Answers.{is_running}
+use Rattle.ti_replay.specs.Refusals.{own_refusal}
 use Rattle.ti_replay.specs.Settling.{unanswered}
-use Rattle.ti_replay.specs.View.{view, is_barred}
-
-abbrev pub is_new : Mode → Bool
-is_new mode.New = true
-is_new _ = false
-
-abbrev pub is_safe : Mode → Bool
-is_safe (mode.AtSafe safe) = true
-is_safe _ = false
+use Rattle.ti_replay.specs.View.{view}
 
 -- what an entry costs its thread
 abbrev pub own_cost : Entry → ℕ
@@ -66,14 +58,9 @@ asked_by env history = sum_by (ask_count env) history
 abbrev pub is_armed : Limits → List Entry → Bool
 is_armed limits history = nat_lt 0 (length (unanswered history)) || is_some (view limits history).stopper
 
--- whether frames allow a step
+-- whether frames allow a step: they do not refuse it
 abbrev pub step_fits : Limits → List Frame → Step → Bool
-step_fits limits frames (Enter method) = nat_lt (length frames) limits.depth
-step_fits limits frames (EnterNative method) = nat_lt (length frames) limits.depth
-step_fits limits (frame ∷ frames) (At position) = not (is_native frame.place)
-step_fits limits [] (At position) = false
-step_fits limits (frame ∷ frames) Leave = true
-step_fits limits [] Leave = false
+step_fits limits frames step = is_none (step_refusal limits.depth frames step)
 
 abbrev pub is_stopper : Option EnvNo → EnvNo → Bool
 is_stopper (Some other) env = other.0 == env.0
@@ -92,20 +79,16 @@ pub record Situation : Type 0 where
 abbrev pub has_call : Limits → Situation → EnvNo → Bool
 has_call limits s env = nat_lt env.0 limits.envs && nat_lt s.calls limits.calls
 
--- whether an entry may come
+-- whether an entry may come: one of the thread's own where it is not refused, and a poll's hand-over only where the thread
+-- is called for
 abbrev pub fits : Limits → Situation → Entry → Bool
-fits limits s Start = is_new s.view.mode && is_none s.view.stopper
-fits limits s (Own step) = is_running s.view.mode && step_fits limits s.view.frames step && nat_lt s.own limits.own
-fits limits s (Hand Native) = is_running s.view.mode && newest_is_native s.view.frames && nat_le (s.own + 2) limits.own
-fits limits s (Hand (Blocked kind)) = is_running s.view.mode && nat_le (s.own + 2) limits.own
-fits limits s (Hand AtPoll) = is_running s.view.mode && s.armed
-fits limits s Back = is_safe s.view.mode && not (is_barred s.view)
-fits limits s End = is_running s.view.mode
+fits limits s (Hand AtPoll) = is_none (own_refusal limits s.view s.own (Hand AtPoll)) && s.armed
 fits limits s (Asked env number call) = has_call limits s env && is_well_formed call && (number == s.asked)
 fits limits s (Stop env) = has_call limits s env && is_none s.view.stopper
 fits limits s (Read env max_count) =
     has_call limits s env && is_not_negative max_count && is_stopper s.view.stopper env && not (is_running s.view.mode)
 fits limits s (Go env) = nat_lt env.0 limits.envs && is_stopper s.view.stopper env
+fits limits s x = is_none (own_refusal limits s.view s.own x)
 
 -- the environment of an entry. The thread's own entries have none, and count as environment 0's
 abbrev pub env_of : Entry → EnvNo

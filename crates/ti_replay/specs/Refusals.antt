@@ -9,8 +9,7 @@ use Rattle.ti_types.specs.declared.error.TiError.TheVariants.{NotNew, Barred, No
 use Rattle.ti_types.specs.declared.view.ThreadView.{ThreadView}
 pub use Rattle.ti_types.specs.Refusing.{or_else, unless}
 use Rattle.ti_types.specs.Steps.{newest_is_native, step_refusal}
-use Rattle.ti_replay.specs.Answers.{is_running}
-use Rattle.ti_replay.specs.Legal.{is_new, is_safe}
+use Rattle.ti_replay.specs.Answers.{is_running, is_new, is_safe}
 use Rattle.ti_replay.specs.View.{is_barred}
 
 -- why an entry of the thread's own is refused at a view, with these costs so far

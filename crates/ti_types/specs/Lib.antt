@@ -10,3 +10,4 @@ pub mod Numbers
 pub mod Steps
 pub mod Pops
 pub mod Refusing
+pub mod Admitting

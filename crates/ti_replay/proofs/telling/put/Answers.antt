@@ -1,4 +1,4 @@
-use Rattle.std.proofs.Common.{◌≡◌, arith}
+use Rattle.std.proofs.Common.{arith}
 use Rattle.ti_replay.proofs.TellingLaws.{told_put, told_kept}
 use Rattle.ti_replay.proofs.telling.put.Goals as goal
 

@@ -1,6 +1,5 @@
-use Rattle.std.proofs.Common.{◌≡◌, ◌++◌, ◌∷◌, [], List, Option, None, arith, ap, ◌∙◌}
+use Rattle.std.proofs.Common.{◌≡◌, arith, ap, ◌∙◌}
 use Rattle.std.specs.Option.{option_or}
-use Rattle.ti_types.specs.declared.answer.Answer.{Answer}
 use Rattle.ti_replay.specs.Replies.{told_at, reply_from}
 use Rattle.ti_replay.specs.PlacedState.{settled_by}
 use Rattle.ti_replay.proofs.TellingLaws.{told_more, restored}
