@@ -1,5 +1,5 @@
 -- The text of a fault and the status that it ends with.
-use Rattle.std.specs.Prelude.{ℕ, List, ◌++◌, codes, decimal}
+use Rattle.std.specs.Prelude.{ℕ, Bool, List, ◌++◌, codes, decimal, Result, Ok, Err, if◌then◌else◌}
 use Rattle.ti_script.specs.LimitNames.{limit_text}
 use Rattle.ti_script.specs.declared.fault.ScriptFault.{ScriptFault}
 use Rattle.ti_script.specs.declared.fault.ScriptFault.TheVariants as script
@@ -33,3 +33,8 @@ status_of Read = 4
 status_of Write = 4
 status_of Cell = 4
 status_of Usage = 2
+
+-- the status that a run ends with: what it came to is true but where a history is illegal
+abbrev pub end_status : Result Bool Fault → ℕ
+end_status (Ok legal) = if legal then 0 else 1
+end_status (Err fault) = status_of fault

@@ -23,10 +23,8 @@ fn read_document<R: Read>(alloc: Global, reader: &mut R) -> Result<History, Faul
     ensures err { IfErr result (λ e. IsEarlyFault history_fault (R.remaining reader.old) e) }
 {
     let input = read_input(alloc, reader)?;
-    match read_history(alloc, &input) {
-        Ok(history) => Ok(history),
-        Err(fault) => Err(Fault::Script(fault)),
-    }
+    let history = read_history(alloc, &input)?;
+    Ok(history)
 }
 
 /// The place of the first entry that may not come where it stands.
@@ -72,8 +70,8 @@ fn put_verdict<W: Write>(writer: &mut W, verdict: Option<usize>) -> Result<(), F
 ///
 /// The document is at most 8,388,608 bytes, read in at most 16,777,216 calls of the reader. Faults: `Script` where the
 /// input is too long or is no history, `Read` where the reader fails, `Memory` where memory is wanting; in these cases
-/// nothing is written. `Write` where the writer fails or takes no byte; it then holds a prefix of the text. An illegal
-/// history is no fault. Source: this profile.
+/// nothing is written. `Write` where the writer fails or takes no byte; it then holds a prefix of the text. The writer is
+/// not flushed: one that keeps bytes back is the caller's to flush. An illegal history is no fault. Source: this profile.
 pub fn check<R: Read, W: Write>(
     alloc: Global,
     reader: &mut R,

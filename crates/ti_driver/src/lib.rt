@@ -6,6 +6,7 @@
 //! that every other fault comes before the first byte.
 #![tactic(auto)]
 
+mod carrying_out;
 mod checking;
 mod command;
 mod fault;
@@ -15,6 +16,7 @@ mod output;
 mod report;
 mod walking;
 
+pub use carrying_out::carry_out;
 pub use checking::check;
 pub use command::{Command, asked_command, command_of};
 pub use fault::{Fault, status};

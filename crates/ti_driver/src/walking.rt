@@ -24,10 +24,8 @@ fn read_document<R: Read>(alloc: Global, reader: &mut R) -> Result<Walk, Fault>
     ensures err { IfErr result (λ e. IsEarlyFault walk_fault (R.remaining reader.old) e) }
 {
     let input = read_input(alloc, reader)?;
-    match read_walk(alloc, &input) {
-        Ok(walk) => Ok(walk),
-        Err(fault) => Err(Fault::Script(fault)),
-    }
+    let walk = read_walk(alloc, &input)?;
+    Ok(walk)
 }
 
 /// What a walk's events come to.
@@ -56,9 +54,9 @@ fn write_walk<W: Write>(alloc: Global, walk: &Walk, writer: &mut W) -> Result<()
 ///
 /// The document is at most 8,388,608 bytes, read in at most 16,777,216 calls of the reader. Faults: `Script` where the
 /// input is too long or is no walk, `Read` where the reader fails, `Memory` where memory is wanting; in these cases
-/// nothing is written. `Write` where the writer fails or takes no byte; it then holds a prefix of the text. An event
-/// that was refused for want of memory alone has the line `error 110`, and the text is that of the events so marked.
-/// Source: this profile.
+/// nothing is written. `Write` where the writer fails or takes no byte; it then holds a prefix of the text. The writer is
+/// not flushed: one that keeps bytes back is the caller's to flush. An event that was refused for want of memory alone
+/// has the line `error 110`, and the text is that of the events so marked. Source: this profile.
 pub fn walk<R: Read, W: Write>(alloc: Global, reader: &mut R, writer: &mut W) -> Result<(), Fault>
     // The text of the definition's outcomes for the walk that the reader gave.
     ensures ok { OnOk result ((w : Walk) × (hs : List Happening) × IsGiven (R.remaining reader.old) w × IsRun w hs
