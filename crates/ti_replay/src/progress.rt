@@ -9,12 +9,15 @@ ghost use Rattle.ti_types.specs.declared.entry.Entry.TheVariants as entry;
 
 use crate::asking::{take_entries_asking, take_entry_asking};
 use crate::costs::{Costs, charge, env_of, own_cost};
-use crate::rules::{fits, is_hand_over, is_running, is_waiting_call, step_fits};
+use crate::rules::{
+    fits, is_hand_over, is_running, is_safe, is_stopper, is_waiting_call, newest_is_native,
+    step_fits,
+};
 use crate::telling::{tell_entries, tell_entry};
 use crate::view::{take_entries, take_entry, take_step};
 use std::alloc::{AllocError, Global};
 use std::marker::Model;
-use ti_types::{Answer, Entry, FrameList, Limits, Mode, Step, ThreadView, WordList};
+use ti_types::{Answer, Entry, EnvNo, FrameList, Limits, Mode, Safe, Step, ThreadView, WordList};
 
 /// What a history has left so far, as all later entries need it: the view, the calls that wait, the place of the next
 /// entry, and what the thread and each environment have spent.
@@ -106,15 +109,79 @@ impl Progress {
         Ok(fits)
     }
 
+    /// Adds a hand-over, where it may come next, and says whether it may; else nothing changes. The error is want of
+    /// memory.
+    #[tactic(auto, using(crate::proofs::Charging::charged_free))]
+    fn advance_by_hand(&mut self, limits: &Limits, safe: Safe) -> Result<bool, AllocError>
+        requires room { self.old.next + 1 < 2 ^ 64 }
+        ensures may { IfOk result (λ may. may ≡ may_enter limits.now self.old (entry.Hand safe)) }
+        ensures state { IfOk result (λ may. may ≡ true → self.new ≡ entered self.old (entry.Hand safe)) }
+    {
+        let armed = !self.waiting.is_empty() || self.view.stopper.is_some();
+        let fits = is_running(self.view.mode)
+            && match safe {
+                Safe::AtPoll => armed,
+                Safe::Native => {
+                    newest_is_native(&self.view.frames) && self.own as u64 + 2 <= limits.own as u64
+                }
+                Safe::Blocked(_) => self.own as u64 + 2 <= limits.own as u64,
+            };
+        if fits {
+            self.view.mode = Mode::AtSafe(safe);
+            take_entries(&mut self.view, &self.waiting)?;
+            self.waiting.clear();
+            self.own += own_cost(Entry::Hand(safe));
+            self.next += 1;
+        }
+        Ok(fits)
+    }
+
+    /// Adds a return, where it may come next, and says whether it may; else nothing changes.
+    #[tactic(auto, using(crate::proofs::Charging::charged_free))]
+    fn advance_by_back(&mut self, limits: &Limits) -> bool
+        requires room { self.old.next + 1 < 2 ^ 64 }
+        ensures may { result ≡ may_enter limits.now self.old entry.Back }
+        ensures state { result ≡ true → self.new ≡ entered self.old entry.Back }
+    {
+        let _limits = *limits;
+        let fits = is_safe(self.view.mode) && !(self.view.suspended || self.view.stopper.is_some());
+        if fits {
+            self.view.mode = Mode::Running;
+            self.next += 1;
+        }
+        fits
+    }
+
+    /// Adds a go, where it may come next, and says whether it may; else nothing changes.
+    #[tactic(auto, using(crate::proofs::Charging::charged_free))]
+    fn advance_by_go(&mut self, limits: &Limits, env: EnvNo) -> bool
+        requires room { self.old.next + 1 < 2 ^ 64 }
+        ensures may { result ≡ may_enter limits.now self.old (entry.Go env) }
+        ensures state { result ≡ true → self.new ≡ entered self.old (entry.Go env) }
+    {
+        let known = env.0 < limits.envs;
+        let stands = is_stopper(self.view.stopper, env);
+        let fits = known && stands;
+        if fits {
+            self.view.stopper = None;
+            self.next += 1;
+        }
+        fits
+    }
+
     /// Adds an entry, where it may come next, and says whether it may; else nothing changes. The error is want of memory.
     pub fn advance(&mut self, limits: &Limits, entry: Entry) -> Result<bool, AllocError>
         requires room { self.old.next + 1 < 2 ^ 64 }
         ensures may { IfOk result (λ may. may ≡ may_enter limits.now self.old entry) }
         ensures state { IfOk result (λ may. may ≡ true → self.new ≡ entered self.old entry) }
     {
-        // Most entries are steps.
-        if let Entry::Own(step) = entry {
-            return self.advance_by_step(limits, step);
+        // Most entries are these.
+        match entry {
+            Entry::Own(step) => return self.advance_by_step(limits, step),
+            Entry::Hand(safe) => return self.advance_by_hand(limits, safe),
+            Entry::Back => return Ok(self.advance_by_back(limits)),
+            Entry::Go(env) => return Ok(self.advance_by_go(limits, env)),
+            _ => (),
         }
         if !self.may_enter(limits, entry) {
             return Ok(false);
