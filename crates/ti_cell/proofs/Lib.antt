@@ -6,3 +6,4 @@ pub mod Back
 pub mod Steps
 pub mod Ends
 pub mod Goes
+pub mod Refused

@@ -175,9 +175,11 @@ impl Progress {
         ensures may { IfOk result (λ may. may ≡ may_enter limits.now self.old entry) }
         ensures state { IfOk result (λ may. may ≡ true → self.new ≡ entered self.old entry) }
     {
-        // Most entries are these.
+        // Most entries are steps, and most others are these.
+        if let Entry::Own(step) = entry {
+            return self.advance_by_step(limits, step);
+        }
         match entry {
-            Entry::Own(step) => return self.advance_by_step(limits, step),
             Entry::Hand(safe) => return self.advance_by_hand(limits, safe),
             Entry::Back => return Ok(self.advance_by_back(limits)),
             Entry::Go(env) => return Ok(self.advance_by_go(limits, env)),
