@@ -15,6 +15,5 @@ pub mod NewLaws
 pub mod KeptLaws
 pub mod RunLaws
 pub mod ListLaws
-pub mod RefusedLaws
 pub mod OfRunLaws
 pub mod TurnLaws

@@ -11,7 +11,9 @@ use Rattle.ti_replay.specs.Outcomes.{told_now, happening}
 use Rattle.ti_core.specs.Threads.{IfPosted, is_ticket_of}
 use Rattle.ti_core.specs.Core.{CoreState, is_uncollected}
 use Rattle.ti_core.specs.Stands.{Stands}
-use Rattle.ti_core.specs.Lists.{each_happened, IsSaid, AreSaid, AreFresh, are_tickets_of, HappenedAtEach}
+use Rattle.ti_replay.specs.Refused.{is_refusal}
+use Rattle.ti_replay.proofs.RefusedLaws.{refusals_keep}
+use Rattle.ti_core.specs.Lists.{each_happened, IsSaid, AreSaid, AreUnchanged, AreFresh, are_tickets_of, HappenedAtEach}
 
 -- what a core says of a step
 pub record OneStep (x : Event) (s new : CoreState) (o : Outcome) : Type 0 where
@@ -56,26 +58,42 @@ fresh_before s mid os outcome.Held kept fresh = tt
 fresh_before s mid os (outcome.Refused error) kept fresh = tt
 fresh_before s mid os (outcome.Gave a) kept fresh = tt
 
+-- the definitions' refusals change nothing
+said_unchanged : (limits : Limits) (front : List Happening) (event : ThreadNo → Event) (ts : List ThreadNo) (os : List Outcome) → AreSaid limits front event ts os → AreUnchanged limits front event ts os
+said_unchanged limits front event [] os s = tt
+said_unchanged limits front event (t ∷ ts) [] s = tt
+said_unchanged limits front event (t ∷ ts) (o ∷ os) s =
+    let h : Happening = happening (event t) (told_now o) in
+    (λ r. refusals_keep limits front h (ap is_refusal (sym s.0.0) ∙ r), said_unchanged limits (front ++ h ∷ []) event ts os s.1)
+
 pub none_happened : (event : ThreadNo → Event) (s : CoreState) → HappenedAtEach event [] s s []
 none_happened event s = record {
   limits = refl;
   stands = λ events k. rw append-nil k;
   outcomes = λ events k. tt;
+  refused = λ events k. tt;
   fresh = tt;
   kept = λ k. grind (arith);
 }
 
+more_said : (event : ThreadNo → Event) (ts : List ThreadNo) (s mid new : CoreState) (os : List Outcome) (t : ThreadNo) (o : Outcome)
+    → HappenedAtEach event ts s mid os → OneStep (event t) mid new o → (events : List Happening) → Stands events s → AreSaid s.limits events event (ts ++ t ∷ []) (os ++ o ∷ [])
+more_said event ts s mid new os t o h one events k =
+    let said = one.said (events ++ each_happened event ts os) (h.stands events k) in
+    said-snoc s.limits events event ts os t o (h.outcomes events k) (subst (λ m. IsSaid m (events ++ each_happened event ts os) (event t) o) h.limits said)
+
 pub one_more : (event : ThreadNo → Event) (ts : List ThreadNo) (s mid new : CoreState) (os : List Outcome) (t : ThreadNo) (o : Outcome)
     → length ts ≡ length os → HappenedAtEach event ts s mid os → OneStep (event t) mid new o → HappenedAtEach event (ts ++ t ∷ []) s new (os ++ o ∷ [])
-one_more event ts s mid new os t o count h one = record {
+one_more event ts s mid new os t o count h one =
+    let outcomes = more_said event ts s mid new os t o h one in
+    record {
   limits = one.limits ∙ h.limits;
   stands = λ events k.
       let more = one.stands (events ++ each_happened event ts os) (h.stands events k) in
       let e = append_assoc events (each_happened event ts os) (happening (event t) (told_now o) ∷ []) ∙ ap (λ l. events ++ l) (sym (happened-snoc event ts os t o count)) in
       subst (λ l. Stands l new) e more;
-  outcomes = λ events k.
-      let said = one.said (events ++ each_happened event ts os) (h.stands events k) in
-      said-snoc s.limits events event ts os t o (h.outcomes events k) (subst (λ m. IsSaid m (events ++ each_happened event ts os) (event t) o) h.limits said);
+  outcomes = outcomes;
+  refused = λ events k. said_unchanged s.limits events event (ts ++ t ∷ []) (os ++ o ∷ []) (outcomes events k);
   fresh = fresh-snoc s os o h.fresh (fresh_before s mid os o h.kept one.fresh);
   kept = λ k.
       let a = one.kept k in

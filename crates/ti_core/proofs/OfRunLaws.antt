@@ -1,5 +1,5 @@
 -- The laws of what a run gives, from the laws of the definitions.
-use Rattle.std.proofs.Common.{◌≡◌, Bool, List, [], ◌∷◌, ◌++◌, ◌+◌, length, length-append, map, refl, ap, ap₂, sym, ◌∙◌, arith, Option, Some, None, append_assoc, append-nil, is_none, take, drop, subst}
+use Rattle.std.proofs.Common.{◌≡◌, Bool, true, is_some, List, [], ◌∷◌, ◌++◌, ◌+◌, length, length-append, map, refl, ap, ap₂, sym, ◌∙◌, arith, Option, Some, None, append_assoc, append-nil, is_none, take, drop, subst}
 use Rattle.ti_types.specs.declared.limits.Limits.{Limits}
 use Rattle.ti_types.specs.declared.numbers.EnvNo.{EnvNo}
 use Rattle.ti_types.specs.declared.numbers.ThreadNo.{ThreadNo}
@@ -21,11 +21,13 @@ use Rattle.ti_replay.specs.Events.{history_of, refused_or, given}
 use Rattle.ti_replay.specs.Outcomes.{out_of, outs_from, told_later, was_for_memory, happening, happenings}
 use Rattle.ti_replay.specs.Standing.{was_refused, pop_count, pops_done}
 use Rattle.ti_replay.specs.Storage.{word_answer}
+use Rattle.ti_replay.specs.Refused.{is_refusal}
+use Rattle.ti_replay.proofs.RefusedLaws.{refusals_keep}
 use Rattle.ti_replay.proofs.AgreementLaws.{tells_the_kept}
 use Rattle.ti_replay.proofs.StopLaws.{one_state}
 use Rattle.ti_replay.proofs.WordAnswers.{word_is_given}
-use Rattle.ti_core.specs.OfRuns.{IsRunOf, pops_told, picked_from, RunsAgree, WordsAreTold, RunsTellOneState}
-use Rattle.ti_core.proofs.RunLaws.{ask_out}
+use Rattle.ti_core.specs.OfRuns.{IsRunOf, pops_told, picked_from, RunsAgree, WordsAreTold, RunsTellOneState, RefusalsKeepInRuns}
+use Rattle.ti_core.proofs.RunLaws.{ask_out, out_stays}
 
 abbrev first_or : List (Option Outcome) → Option Outcome
 first_or [] = None
@@ -146,3 +148,19 @@ runs_tell_one_state limits env thread before more after event os ps qs o h k run
           (bare_trace (take (or_zero n) (drop c (view limits (history_of limits thread front)).frames))))))
           (ap (λ z. pops_done limits thread (now ++ z ∷ rest) front (happenings more ps)) (sym g) ∙ popped);
     }
+
+-- what is answered when it comes is answered so at the end
+as_it_came : (limits : Limits) (front rest : List Happening) (h : Happening) → is_some (out_of limits (front ++ h ∷ []) front h) ≡ true
+    → out_of limits (front ++ h ∷ []) front h ≡ out_of limits (front ++ h ∷ rest) front h
+as_it_came limits front rest h now =
+    elim (out_of limits (front ++ h ∷ []) front h) as (λ (r : Option Outcome). out_of limits (front ++ h ∷ []) front h ≡ r → is_some r ≡ true → r ≡ out_of limits (front ++ h ∷ rest) front h) [
+      | None ↦ λ q there. cc
+      | Some x ↦ λ q there. sym (ap (λ all. out_of limits all front h) (sym (append_assoc front (h ∷ []) rest)) ∙ out_stays limits (front ++ h ∷ []) rest front h.wanting h.event x q)
+    ] refl now
+
+pub refusals_keep_in_runs : RefusalsKeepInRuns
+refusals_keep_in_runs limits before after event os ps o count run now refused =
+    let front = happenings before os in
+    let h : Happening = happening event o in
+    let told = run_place limits before after event os ps o count run in
+    refusals_keep limits front h (ap is_refusal (as_it_came limits front (happenings after ps) h now ∙ sym told) ∙ refused)

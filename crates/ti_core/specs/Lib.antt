@@ -4,6 +4,5 @@ pub mod Inside
 pub mod Core
 pub mod Stands
 pub mod Runs
-pub mod Refused
 pub mod OfRuns
 pub mod Lists

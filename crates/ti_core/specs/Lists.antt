@@ -1,5 +1,5 @@
 -- What a call at each thread of a list comes to: what one event for each of them does, in the list's order.
-use Rattle.std.specs.Prelude.{◌≡◌, Bool, false, ◌||◌, List, [], ◌∷◌, ◌++◌}
+use Rattle.std.specs.Prelude.{◌≡◌, Bool, true, false, ◌||◌, List, [], ◌∷◌, ◌++◌}
 use Rattle.ti_types.specs.declared.limits.Limits.{Limits}
 use Rattle.ti_types.specs.declared.numbers.EnvNo.{EnvNo}
 use Rattle.ti_types.specs.declared.numbers.ThreadNo.{ThreadNo}
@@ -10,6 +10,7 @@ use Rattle.ti_types.specs.declared.event.Ticket.{Ticket}
 use Rattle.ti_types.specs.declared.event.Outcome.{Outcome}
 use Rattle.ti_replay.specs.Admission.{Happening}
 use Rattle.ti_replay.specs.Outcomes.{out_of, told_now, happening}
+use Rattle.ti_replay.specs.Refused.{is_refusal, IsUnchanged}
 use Rattle.ti_core.specs.declared.lists.AtEach.{AtEach}
 use Rattle.ti_core.specs.declared.lists.AtEach.TheVariants as each
 use Rattle.ti_core.specs.Threads.{IfPosted, is_ticket_of}
@@ -43,6 +44,14 @@ AreSaid limits front event [] (o ∷ os) = ⊥
 AreSaid limits front event (t ∷ ts) [] = ⊥
 AreSaid limits front event (t ∷ ts) (o ∷ os) = IsSaid limits front (event t) o × AreSaid limits (front ++ happening (event t) (told_now o) ∷ []) event ts os
 
+-- where one of them is refused when it comes, it changes nothing else
+abbrev pub AreUnchanged : Limits → List Happening → (ThreadNo → Event) → List ThreadNo → List Outcome → Type 0
+AreUnchanged limits front event (t ∷ ts) (o ∷ os) =
+    (is_refusal (told_now o) ≡ true → IsUnchanged limits front (happening (event t) (told_now o)))
+    × AreUnchanged limits (front ++ happening (event t) (told_now o) ∷ []) event ts os
+AreUnchanged limits front event [] os = Unit {0}
+AreUnchanged limits front event (t ∷ ts) [] = Unit {0}
+
 -- whether one of the outcomes is this ticket
 abbrev pub are_tickets_of : List Outcome → Ticket → Bool
 are_tickets_of [] k = false
@@ -58,5 +67,6 @@ pub record HappenedAtEach (event : ThreadNo → Event) (threads : List ThreadNo)
   pub limits : new.limits ≡ s.limits
   pub stands : (events : List Happening) → Stands events s → Stands (events ++ each_happened event threads os) new
   pub outcomes : (events : List Happening) → Stands events s → AreSaid s.limits events event threads os
+  pub refused : (events : List Happening) → Stands events s → AreUnchanged s.limits events event threads os
   pub fresh : AreFresh s os
   pub kept : (k : Ticket) → is_uncollected new k ≡ (is_uncollected s k || are_tickets_of os k)

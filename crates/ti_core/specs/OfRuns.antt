@@ -1,5 +1,5 @@
 -- Laws of what a run gives: they speak of the outcomes themselves.
-use Rattle.std.specs.Prelude.{ℕ, ◌+◌, ℤ, ◌≡◌, true, false, List, [], ◌∷◌, ◌++◌, length, map, take, drop, Option, Some, is_none}
+use Rattle.std.specs.Prelude.{ℕ, ◌+◌, ℤ, ◌≡◌, true, false, List, [], ◌∷◌, ◌++◌, length, map, take, drop, Option, Some, is_none, is_some}
 use Rattle.ti_types.specs.declared.limits.Limits.{Limits}
 use Rattle.ti_types.specs.declared.numbers.EnvNo.{EnvNo}
 use Rattle.ti_types.specs.declared.numbers.ThreadNo.{ThreadNo}
@@ -16,7 +16,8 @@ use Rattle.ti_replay.specs.View.{view}
 use Rattle.ti_replay.specs.Admission.{Happening, dealings, refusal, is_own_of}
 use Rattle.ti_replay.specs.Agreement.{kept, kept_as, if_kept}
 use Rattle.ti_replay.specs.Events.{history_of, refused_or}
-use Rattle.ti_replay.specs.Outcomes.{outs, told_later, happening, happenings}
+use Rattle.ti_replay.specs.Refused.{is_refusal, IsUnchanged}
+use Rattle.ti_replay.specs.Outcomes.{out_of, outs, told_later, happening, happenings}
 use Rattle.ti_replay.specs.Standing.{is_standing, lets_go, was_refused, pop_count}
 use Rattle.ti_replay.specs.Storage.{word_answer}
 
@@ -76,3 +77,11 @@ RunsTellOneState =
     length before ≡ length os → length more ≡ length ps → IsRunOf limits ((before ++ more) ++ event ∷ after) ((os ++ ps) ++ o ∷ qs) →
     is_standing limits (history_of limits thread (happenings before os)) env ≡ true → lets_go env thread (happenings more ps) ≡ false →
     TellsOneState limits env thread (happenings before os) (happenings before os ++ happenings more ps) (pops_told thread more ps) event o
+
+-- an event that is answered when it comes, and then by a refusal, changes nothing else
+abbrev pub RefusalsKeepInRuns : Type 0
+RefusalsKeepInRuns =
+    (limits : Limits) (before after : List Event) (event : Event) (os ps : List (Option Outcome)) (o : Option Outcome) →
+    length before ≡ length os → IsRunOf limits (before ++ event ∷ after) (os ++ o ∷ ps) →
+    is_some (out_of limits (happenings before os ++ happening event o ∷ []) (happenings before os) (happening event o)) ≡ true →
+    is_refusal (told_later o) ≡ true → IsUnchanged limits (happenings before os) (happening event o)

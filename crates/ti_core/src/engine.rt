@@ -13,7 +13,7 @@ ghost use Rattle.ti_core.specs.Thread.{taken};
 ghost use Rattle.ti_core.specs.Core.{CoreState, core_of, core_next, core_told, core_taken, is_uncollected, thread_at, IsTicketOf};
 ghost use Rattle.std.specs.List.{list_all};
 ghost use Rattle.ti_core.specs.Runs.{IsTicketBy, is_final};
-ghost use Rattle.ti_core.specs.Refused.{is_refusal, IsUnchanged};
+ghost use Rattle.ti_replay.specs.Refused.{is_refusal, IsUnchanged};
 ghost use Rattle.ti_core.specs.Stands.{Stands, IsReached, AreNew};
 
 use crate::running::answer_all;
@@ -148,8 +148,10 @@ impl Core {
     /// what the definitions say of the event at the end of all of them: `Posted` exactly where the call waits, with
     /// the number that the call has among its environment's calls at the thread. A refused event (clause `refused`)
     /// leaves every thread, what waits at it, all words and all capabilities as they were, and every history too, save
-    /// the entry of an admitted call that the thread's own answer refuses; such a call, and an admitted stop or read,
-    /// still cost 1. Memory is taken for a `Trace` and a `Read` alone; 110 where it is wanting.
+    /// the entry of an admitted call that the thread's own answer refuses. Such a call, and an admitted stop or read
+    /// that is refused there, has cost 1 of the environment's calls at the thread; a call that is not admitted, and a
+    /// go, cost nothing. Memory is taken for a `Trace` and a `Read` alone; 110 where it is wanting, and the call then
+    /// costs nothing.
     pub fn step(&mut self, alloc: Global, event: Event) -> Outcome
         ensures limits { self.new.limits ≡ self.old.limits }
         ensures stands { (events : List Happening) → Stands events self.old → Stands (events ++ happening event (told_now result) ∷ []) self.new }

@@ -1,6 +1,6 @@
-//! Laws of what `Core::run` gives: each function's contract is a law, whose statement is the definition of that name in
-//! `specs/`, and its body does nothing. What they take of a run is what its clause `outcomes` says.
-ghost use Rattle.ti_core.specs.OfRuns.{RunsAgree, WordsAreTold, RunsTellOneState};
+//! Laws of what `Core::run` gives: each function's contract is a law, which stands as a definition in `specs/`, and
+//! its body does nothing. What they take of a run is what its clause `outcomes` says.
+ghost use Rattle.ti_core.specs.OfRuns.{RunsAgree, WordsAreTold, RunsTellOneState, RefusalsKeepInRuns};
 
 /// Two runs under the same limits that agree on an environment and a thread give equal outcomes at the events of the
 /// thread's own, at the environment's calls there and about its capabilities, and at the admitted calls of others there.
@@ -22,4 +22,11 @@ pub fn words_are_told()
 /// took since, the newest first; the suspended flag may change.
 pub fn runs_tell_one_state()
     ensures { RunsTellOneState }
+{}
+
+/// An event of a run that is answered when it comes, and by a refusal, has changed nothing but what `ti_replay`'s law
+/// `refusals_keep` names: the entry of an admitted call, and what an admitted call, stop or read costs. A call that
+/// waited and is refused at its thread's hand-over was not answered when it came.
+pub fn refusals_keep()
+    ensures { RefusalsKeepInRuns }
 {}

@@ -35,5 +35,6 @@ pub mod StorageReplies
 pub mod LifeLaws
 pub mod WordAnswers
 pub mod StopLaws
+pub mod RefusedLaws
 pub mod MakerLaws
 pub mod TellingLaws

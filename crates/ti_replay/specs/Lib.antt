@@ -18,5 +18,6 @@ pub mod Standing
 pub mod Tickets
 pub mod LateTickets
 pub mod Outcomes
+pub mod Refused
 pub mod Storage
 pub mod Makers

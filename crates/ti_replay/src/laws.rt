@@ -1,10 +1,11 @@
-//! Laws of histories, and of lists of events: each function's contract is a law, whose statement is the definition of
-//! that name in `specs/`, and its body does nothing.
+//! Laws of histories, and of lists of events: each function's contract is a law, which stands as a definition in
+//! `specs/`, and its body does nothing.
 ghost use Rattle.ti_replay.specs.Laws.{WordIsLast, HistoryIsBounded, HistoryIsLegal, SettledStays, ReplyStays, CallsChangeWhereDone};
 ghost use Rattle.ti_replay.specs.Agreement.{TellsTheKept};
 ghost use Rattle.ti_replay.specs.LateSteps.{StepsMayBeLate};
 ghost use Rattle.ti_replay.specs.LateTickets.{StepsComeLate, StepsStayLegal, TicketIsPlace};
 ghost use Rattle.ti_replay.specs.Makers.{ModeIsOwn, OwnCostsAreOwn, CallCostsAreItsOwn, NumbersAreItsOwn};
+ghost use Rattle.ti_replay.specs.Refused.{RefusalsKeep};
 ghost use Rattle.ti_replay.specs.Standing.{StandsStill, OneStateUnderAStop};
 ghost use Rattle.ti_replay.specs.Storage.{WordsReplyAlike, WordIsGiven, EnvWordsFollowTheirCalls};
 
@@ -71,6 +72,13 @@ pub fn tickets_are_places()
 #[tactic(auto, using(crate::proofs::DoneLaws::change_where_done))]
 pub fn calls_change_where_done()
     ensures { CallsChangeWhereDone }
+{}
+
+/// An event that is refused when it comes changes no thread's mode, frames, suspended flag, stop, words or waiting calls,
+/// and no environment's capabilities or word. A history gets no more than the entry of an admitted call. A call, stop or
+/// read that was admitted has cost its environment 1 at its thread; nothing else is spent.
+pub fn refusals_keep()
+    ensures { RefusalsKeep }
 {}
 
 /// Two legal histories with the same starts and ends and the same calls of an environment about its word reply

@@ -4,8 +4,8 @@ use Rattle.ti_core.specs.Core.{CoreState, is_uncollected}
 use Rattle.ti_core.specs.Stands.{Stands}
 use Rattle.ti_core.proofs.ToldLaws.{steps}
 use Rattle.ti_core.proofs.KeptLaws.{kept_goes, posted_is, ticket_fresh, ticket_as}
-use Rattle.ti_core.specs.Refused.{is_refusal}
-use Rattle.ti_core.proofs.RefusedLaws.{refusals_keep}
+use Rattle.ti_replay.specs.Refused.{is_refusal}
+use Rattle.ti_replay.proofs.RefusedLaws.{refusals_keep}
 use Rattle.ti_core.proofs.engine.Core.step.Goals as goal
 
 pub returns-clause-stands : goal.returns-clause-stands

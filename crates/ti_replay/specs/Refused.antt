@@ -1,5 +1,5 @@
 -- What a refused event leaves as it was.
-use Rattle.std.specs.Prelude.{◌≡◌, ◌<◌, Bool, true, false, if◌then◌else◌, List, [], ◌∷◌, ◌++◌, Option, Some}
+use Rattle.std.specs.Prelude.{ℕ, ◌≡◌, ◌<◌, ◌+◌, Bool, ◌&&◌, true, false, if◌then◌else◌, List, [], ◌∷◌, ◌++◌, Option, Some}
 use Rattle.ti_types.specs.declared.limits.Limits.{Limits}
 use Rattle.ti_types.specs.declared.numbers.EnvNo.{EnvNo}
 use Rattle.ti_types.specs.declared.numbers.ThreadNo.{ThreadNo}
@@ -13,9 +13,9 @@ use Rattle.ti_types.specs.declared.answer.Answer.TheVariants as answer
 use Rattle.ti_replay.specs.Legal.{asked_by}
 use Rattle.ti_replay.specs.Settling.{unanswered}
 use Rattle.ti_replay.specs.View.{view}
-use Rattle.ti_replay.specs.Admission.{Happening, dealings}
+use Rattle.ti_replay.specs.Admission.{Happening, dealings, is_by, is_paid}
 use Rattle.ti_replay.specs.Events.{history_of, reaches}
-use Rattle.ti_replay.specs.Outcomes.{env_word}
+use Rattle.ti_replay.specs.Outcomes.{out_of, env_word}
 
 -- whether an event was refused: a thread's own, or a call
 abbrev pub is_refusal : Option Outcome → Bool
@@ -31,11 +31,25 @@ asked_entry history _ = []
 abbrev pub asked_there : Limits → ThreadNo → List Happening → Happening → List Entry
 asked_there limits t events h = if reaches limits t events h then asked_entry (history_of limits t events) h.event else []
 
+-- what an event costs an environment at a thread: 1 where it is the environment's call, stop or read and reaches the
+-- thread. So a call that is not admitted costs nothing, one that is admitted and then refused by the thread costs 1, and a
+-- go costs nothing
+abbrev pub cost_there : Limits → EnvNo → ThreadNo → List Happening → Happening → ℕ
+cost_there limits e t events h = if reaches limits t events h && is_by e h.event && is_paid h.event then 1 else 0
+
 -- no thread's mode, frames, suspended flag, stop or words change, nor which calls wait at it, nor its history but for
--- the entry of an admitted call; and no environment's capabilities or word
+-- the entry of an admitted call; and no environment's capabilities or word, nor what it has spent at a thread but for an
+-- admitted call, stop or read
 pub record IsUnchanged (limits : Limits) (events : List Happening) (h : Happening) : Type 0 where
   pub views : (t : ThreadNo) → view limits (history_of limits t (events ++ h ∷ [])) ≡ view limits (history_of limits t events)
   pub waiting : (t : ThreadNo) → unanswered (history_of limits t (events ++ h ∷ [])) ≡ unanswered (history_of limits t events)
   pub histories : (t : ThreadNo) → history_of limits t (events ++ h ∷ []) ≡ history_of limits t events ++ asked_there limits t events h
   pub caps : (e : EnvNo) → (t : ThreadNo) → e.0 < limits.envs → (dealings limits e t (events ++ h ∷ [])).caps ≡ (dealings limits e t events).caps
   pub words : (e : EnvNo) → e.0 < limits.envs → env_word e (events ++ h ∷ []) ≡ env_word e events
+  pub spent : (e : EnvNo) → (t : ThreadNo) → (dealings limits e t (events ++ h ∷ [])).spent ≡ (dealings limits e t events).spent + cost_there limits e t events h
+
+-- an event that is refused when it comes changes nothing else
+abbrev pub RefusalsKeep : Type 0
+RefusalsKeep =
+    (limits : Limits) (events : List Happening) (h : Happening) →
+    is_refusal (out_of limits (events ++ h ∷ []) events h) ≡ true → IsUnchanged limits events h

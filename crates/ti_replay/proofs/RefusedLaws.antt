@@ -1,5 +1,5 @@
 -- A refused event changes nothing.
-use Rattle.std.proofs.Common.{◌≡◌, ℕ, ℤ, ◌<◌, Bool, true, false, cond, ◌&&◌, List, [], ◌∷◌, ◌++◌, length, refl, ap, sym, ◌∙◌, arith, Option, Some, None, append-nil, inl, inr}
+use Rattle.std.proofs.Common.{◌≡◌, ◌+◌, ℕ, ℤ, ◌<◌, Bool, true, false, cond, ◌&&◌, ◌||◌, nat_lt, is_none, List, [], ◌∷◌, ◌++◌, length, refl, ap, sym, ◌∙◌, arith, Option, Some, None, append-nil, inl, inr}
 use Rattle.std.proofs.lemmas.Bool.{cases_Bool}
 use Rattle.std.proofs.lemmas.Bool.Decides.{nat_tests}
 use Rattle.std.proofs.lemmas.List.Sums.{fold-append}
@@ -24,15 +24,15 @@ use Rattle.ti_replay.specs.Refusals.{own_refusal}
 use Rattle.ti_replay.specs.Replies.{reply}
 use Rattle.ti_replay.specs.Settling.{unanswered, waits}
 use Rattle.ti_replay.specs.View.{view, called}
-use Rattle.ti_replay.specs.Admission.{Happening, dealings, caps_after}
+use Rattle.ti_replay.specs.Admission.{Happening, dealings, refusal, caps_after, agent_of, is_aimed_at, is_by, is_own_of, is_paid}
 use Rattle.ti_replay.specs.Events.{left_by, left_own, if_none, history_of, reaches, done_unless, gave_unless, given, outcome_there, hold_refusal, read_outcome}
 use Rattle.ti_replay.specs.Outcomes.{out_of, env_word, env_word_after, word_set}
-use Rattle.ti_replay.proofs.AgreementLaws.{history_of-snoc, dealings-snoc, out_there}
+use Rattle.ti_replay.proofs.AgreementLaws.{history_of-snoc, dealings-snoc, by_is, out_there}
 use Rattle.ti_replay.proofs.AskingLaws.{reply-snoc}
 use Rattle.ti_replay.proofs.DoneLaws.{change_where_done}
 use Rattle.ti_replay.proofs.HistoryLaws.{view-snoc, unanswered-snoc}
 use Rattle.ti_replay.proofs.PlaceLaws.{reply_at_once, reply_later, reply_past}
-use Rattle.ti_core.specs.Refused.{is_refusal, asked_entry, asked_there, IsUnchanged}
+use Rattle.ti_replay.specs.Refused.{is_refusal, asked_entry, asked_there, cost_there, IsUnchanged, RefusalsKeep}
 
 -- what is left behind a history is the entry of a call, which changes nothing and does not wait
 record LeavesAll (limits : Limits) (history : List Entry) (event : Event) : Type 0 where
@@ -197,7 +197,43 @@ word_kept limits e all events word w (Go f t) there h = refl
 word_kept limits e all events word w (GetCaps f) there h = refl
 word_kept limits e all events word w (GetEnvWord f) there h = refl
 
-pub refusals_keep : (limits : Limits) (events : List Happening) (h : Happening) → is_refusal (out_of limits (events ++ h ∷ []) events h) ≡ true → IsUnchanged limits events h
+-- a thread's own event is no call
+own_unpaid : (t : ThreadNo) (event : Event) → is_own_of t event ≡ true → is_paid event ≡ false
+own_unpaid t (Start u) h = refl
+own_unpaid t (Own u step) h = refl
+own_unpaid t (Poll u) h = refl
+own_unpaid t (ToNative u) h = refl
+own_unpaid t (ToBlocked u kind) h = refl
+own_unpaid t (Back u) h = refl
+own_unpaid t (End u) h = refl
+own_unpaid t (Ask f u call) h = cc
+own_unpaid t (Stop f u) h = cc
+own_unpaid t (Read f u n) h = cc
+own_unpaid t (Go f u) h = refl
+own_unpaid t (AddCaps f caps) h = refl
+own_unpaid t (Relinquish f caps) h = refl
+own_unpaid t (GetCaps f) h = refl
+own_unpaid t (SetEnvWord f v) h = refl
+own_unpaid t (GetEnvWord f) h = refl
+
+-- what it costs, by what is known of it
+same_cost : (n : ℕ) (own inside aimed by paid free agent_free : Bool) → (own ≡ true → paid ≡ false) → (by ≡ true → free ≡ agent_free)
+    → cond (aimed && by && paid && free) (n + 1) n ≡ n + cond (((own && inside) || (aimed && agent_free)) && by && paid) 1 0
+same_cost n own inside aimed false paid free agent_free h k = grind arith
+same_cost n own inside aimed true false free agent_free h k = grind arith
+same_cost n true inside aimed true true free agent_free h k = let q = h refl in cc
+same_cost n false inside aimed true true free agent_free h k = let q = k refl in grind (arith, q)
+
+-- one more event costs what it costs
+pub cost_is : (limits : Limits) (e : EnvNo) (t : ThreadNo) (events : List Happening) (h : Happening)
+    → (dealings limits e t (events ++ h ∷ [])).spent ≡ (dealings limits e t events).spent + cost_there limits e t events h
+cost_is limits e t events h =
+    ap (λ d. d.spent) (dealings-snoc limits e t events h)
+    ∙ same_cost (dealings limits e t events).spent (is_own_of t h.event) (nat_lt t.0 limits.threads) (is_aimed_at t h.event) (is_by e h.event) (is_paid h.event)
+    (is_none (refusal limits (dealings limits e t events) h)) (is_none (refusal limits (dealings limits (agent_of h.event) t events) h))
+    (own_unpaid t h.event) (λ by. ap (λ g. is_none (refusal limits (dealings limits g t events) h)) (sym (by_is e h.event by)))
+
+pub refusals_keep : RefusalsKeep
 refusals_keep limits events h refused = record {
   views = λ t. (thread_unchanged limits t events h refused).view;
   waiting = λ t. (thread_unchanged limits t events h refused).waiting;
@@ -208,4 +244,5 @@ refusals_keep limits events h refused = record {
   words = λ e there.
       fold-append (env_word_after e) 0 events (h ∷ [])
       ∙ word_kept limits e (events ++ h ∷ []) events (env_word e events) h.wanting h.event there refused;
+  spent = λ e t. cost_is limits e t events h;
 }
