@@ -1,8 +1,11 @@
 -- A new core stands for nothing.
-use Rattle.std.proofs.Common.{◌≡◌, ℕ, ◌+◌, ◌<◌, ◌≤◌, take, drop, get_or, List, [], ◌∷◌, ◌++◌, length, refl, ap, sym, ◌∙◌, arith, replicate, inl, inr, length-append, subst}
-use Rattle.std.proofs.lemmas.List.{get_or-replicate, length-replicate, get_or_append_left, take-append-le, take_all}
+use Rattle.std.proofs.Common.{◌≡◌, ℕ, ◌+◌, ◌<◌, ◌≤◌, take, drop, get_or, List, [], ◌∷◌, ◌++◌, length, refl, ap, sym, ◌∙◌, arith, replicate, inl, inr, length-append, subst, false, nat_lt, ltb-true}
+use Rattle.std.proofs.lemmas.List.{get_or_past, get_or-replicate, length-replicate, get_or_append_left, take-append-le, take_all}
 use Rattle.std.proofs.Math.Seq.{get_or-append_seam}
-use Rattle.std.proofs.lemmas.Bool.{cases_eq}
+use Rattle.std.proofs.lemmas.Bool.{cases_eq, cases_Bool}
+use Rattle.std.proofs.lemmas.Bool.Decides.{nat_tests}
+use Rattle.ti_types.specs.declared.event.Ticket.{Ticket}
+use Rattle.ti_slot.specs.Tickets.{has}
 use Rattle.ti_types.specs.declared.limits.Limits.{Limits}
 use Rattle.ti_types.specs.declared.numbers.ThreadNo.{ThreadNo}
 use Rattle.ti_env.specs.Env.{new_env}
@@ -38,6 +41,16 @@ new_stands limits threads k = record {
   threads = λ t l. subst (ThreadStands limits t []) (sym (k.each t l)) (new_thread_stands limits t);
   envs = λ e l. rw (get_or-replicate limits.envs e.0 (new_env limits) no_env l) (new_env_stands limits e);
 }
+
+-- no ticket of a new core is out
+pub none_out : (limits : Limits) (threads : List ThreadState) (k : Ticket) → AreNew limits limits.threads threads → has k (thread_at limits threads k.thread).thread.uncollected ≡ false
+none_out limits threads k new =
+    elim (cases_Bool (nat_lt k.thread.0 limits.threads)) [
+      | inl there ↦ ap (λ (s : ThreadState). has k s.thread.uncollected) (new.each k.thread (ltb-true _ _ there))
+      | inr gone ↦
+          let past : length threads ≤ k.thread.0 = grind (arith, nat_tests, gone, new.count_is) in
+          ap (λ (s : ThreadState). has k s.thread.uncollected) (get_or_past threads k.thread.0 (no_thread limits) past)
+    ]
 
 -- what a call leaves of a whole slice is all of it
 pub restored : {X : Type 0} (n : ℕ) (xs new : List X) → length new ≡ length xs → n ≡ length xs → take n (new ++ drop (length new) xs) ≡ new

@@ -98,13 +98,14 @@ fn stands(limits: &Limits, threads: &[OneThread], env: EnvNo, thread: ThreadNo) 
 }
 
 impl Core {
-    /// A core in which nothing has happened, with all the room that it will need.
+    /// A core in which nothing has happened, with all the room that it will need. No ticket of it is out.
     ///
     /// 110 where memory is wanting; then nothing is made.
-    #[tactic(auto, using(crate::proofs::NewLaws::new_stands))]
+    #[tactic(auto, using(crate::proofs::NewLaws::new_stands, crate::proofs::NewLaws::none_out))]
     pub fn new(alloc: Global, limits: Limits) -> Result<Self, TiError>
         ensures limits { IfOk result (λ c. c.limits ≡ limits) }
         ensures stands { IfOk result (λ c. Stands [] c) }
+        ensures fresh { IfOk result (λ c. (k : Ticket) → is_uncollected c k ≡ false) }
         ensures memory { IfErr result (λ e. e ≡ TiError.OutOfMemory) }
     {
         let envs = new_envs(alloc, limits)?;
@@ -114,6 +115,14 @@ impl Core {
             envs,
             threads,
         })
+    }
+
+    /// What is always true of a core: it stands for some list of events. What `step`, `take`, `standing` and the list
+    /// calls say of every list for which a core stands, they say of that one.
+    pub fn facts(&self)
+        ensures stands { (events : List Happening) × Stands events self.now }
+    {
+        let _ = &self.limits;
     }
 
     /// Lets one event happen, as the rules of the core say.

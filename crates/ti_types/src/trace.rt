@@ -1,4 +1,4 @@
-ghost use Rattle.std.specs.Prelude.{◌≡◌, ◌<◌, true, ◌++◌, ◌∷◌, [], length, IfOk, IfErr, min};
+ghost use Rattle.std.specs.Prelude.{◌≡◌, ◌≤◌, ◌<◌, true, ◌++◌, ◌∷◌, [], length, IfOk, IfErr, min};
 ghost use Rattle.ti_types.specs.Numbers.{is_not_negative, or_zero};
 ghost use Rattle.ti_types.specs.declared.error.TiError.TheVariants.{OutOfMemory};
 
@@ -64,9 +64,10 @@ impl TraceBuf {
         }
     }
 
-    /// The frames so far, in the order in which they were added.
+    /// The frames so far, in the order in which they were added: no more than there is room for.
     pub fn frames(&self) -> &[Frame]
-        ensures { result.now ≡ self.now.frames }
+        ensures frames { result.now ≡ self.now.frames }
+        ensures room { length self.now.frames ≤ self.now.room }
     {
         match &self.frames {
             None => &[],
