@@ -1,18 +1,24 @@
 # `make run` builds the program and runs it on a first example. `make test` is the whole gate.
-# `make examples`, `make bench` and `make refused` run the program that `make run` has built: on the examples, on large
-# documents (and a program that holds cells), and with each allocation refused in turn (and the tests of a core so).
-.PHONY: run test examples bench refused
+# `make examples`, `make cases`, `make bench` and `make refused` run the program that `make run` has built: on the examples,
+# on all cases, on large documents (and a program that holds cells), and with each allocation refused in turn (and the
+# tests of a core so). `make edits` tries the edits that the gate leaves out.
+.PHONY: run test examples cases bench refused edits
 
 run:
 	cd crates/tiwalk && rt run < ../../examples/first.json
 
 test:
-	sh ci/must_not_compile.sh
+	python3 ci/edits.py --apply
 	python3 ci/examples.py --tested
-	rt ci
+	python3 ci/cases.py --covered
+	sh ci/must_not_compile.sh
+	python3 ci/gate.py
 
 examples:
-	python3 ci/examples.py
+	python3 ci/cases.py --examples
+
+cases:
+	python3 ci/cases.py
 
 bench:
 	python3 bench/bench.py
@@ -22,3 +28,6 @@ bench:
 refused:
 	python3 ci/refused_memory.py
 	python3 ci/refused_tests.py
+
+edits:
+	python3 ci/edits.py

@@ -87,6 +87,8 @@ def refuse_each(program, path, shim, folder):
 
 def main():
     program = os.path.abspath(sys.argv[1] if len(sys.argv) > 1 else "crates/tiwalk/out/tiwalk")
+    if not os.path.isfile(program):
+        sys.exit(f"there is no {program}: `make run` builds it")
     documents = [pathlib.Path(name) for name in sys.argv[2:]] or sorted(pathlib.Path("examples").glob("*.json"))
     passed = failed = 0
     with tempfile.TemporaryDirectory() as name:

@@ -1,0 +1,120 @@
+#!/usr/bin/env python3
+"""Runs `tiwalk` on each case, and compares standard output, standard error and status with what the case wants.
+
+The cases are the documents of `cases/` and `examples/`, those that are made (`ci/made_cases.py`), and the ends of a
+process that no document shows (`ci/process_ends.py`). What they want was worked out from the rules. The last line is
+'N passed, M failed'.
+
+    ci/cases.py [PROGRAM..]     crates/tiwalk/out/tiwalk by default: `make run` builds it
+    ci/cases.py --examples      the documents of `examples/` alone
+    ci/cases.py --covered       runs nothing, and wants a case for each word of the documents, each text and each fault
+
+Of a case NAME of `cases/`, NAME.in is the document and NAME.out what standard output gets, NAME.err what standard error
+gets, NAME.status the status, and NAME.args has the arguments, one a line. A file that is not there says: nothing,
+nothing, 0, `walk`. Of an example NAME.json is the document and NAME.out the text, with status 1 where it begins with
+`illegal`; one whose name has `history` in it is given to `check`.
+"""
+
+import dataclasses
+import os
+import pathlib
+import subprocess
+import sys
+
+sys.dont_write_bytecode = True
+
+import coverage_of_cases
+import made_cases
+import process_ends
+
+PROGRAM = "crates/tiwalk/out/tiwalk"
+SECONDS = 60
+
+
+@dataclasses.dataclass
+class Case:
+    """What the program is given, and what it has to make of it."""
+
+    name: str
+    arguments: list
+    document: bytes
+    wanted: tuple
+
+    def run(self, program):
+        """What standard output and standard error got, and the status."""
+        done = subprocess.run([program, *self.arguments], input=self.document, capture_output=True, timeout=SECONDS)
+        return done.stdout, done.stderr, done.returncode
+
+
+def read(path, otherwise):
+    return path.read_bytes() if path.exists() else otherwise
+
+
+def stored_cases():
+    for path in sorted(pathlib.Path("cases").glob("*.in")):
+        arguments = read(path.with_suffix(".args"), b"walk\n").decode().splitlines()
+        status = int(read(path.with_suffix(".status"), b"0"))
+        wanted = read(path.with_suffix(".out"), b""), read(path.with_suffix(".err"), b""), status
+        yield Case(path.stem, arguments, path.read_bytes(), wanted)
+
+
+def examples():
+    for path in sorted(pathlib.Path("examples").glob("*.json")):
+        text = path.with_suffix(".out").read_bytes()
+        arguments = ["check"] if "history" in path.stem else ["walk"]
+        yield Case(path.name, arguments, path.read_bytes(), (text, b"", 1 if text.startswith(b"illegal") else 0))
+
+
+def made():
+    for name, arguments, document, out, err, status in made_cases.CASES:
+        yield Case(name, arguments, document(), (out(), err, status))
+
+
+def difference(wanted, got):
+    """What was wanted and what there was instead, or None."""
+    for what, one, other in zip(("standard output", "standard error", "status"), wanted, got):
+        if one != other:
+            at = 0
+            if isinstance(one, bytes):
+                at = next((n for n, pair in enumerate(zip(one, other)) if pair[0] != pair[1]), min(len(one), len(other)))
+                at = one.rfind(b"\n", 0, at) + 1
+                one, other = one[at : at + 80], other[at : at + 80]
+            return f"{what}: wanted {one!r}, got {other!r}"
+    return None
+
+
+def passes(case, program):
+    try:
+        what = difference(case.wanted, case.run(program))
+    except (OSError, subprocess.TimeoutExpired) as error:
+        what = str(error)
+    if what:
+        print(f"{case.name}: {what}")
+    return not what
+
+
+def run_all(program, only_examples=False):
+    """How many cases passed and how many failed."""
+    if not os.path.isfile(program):
+        print(f"there is no {program}: `make run` builds it")
+        return 0, 1
+    program = os.path.abspath(program)
+    cases = list(examples()) if only_examples else [*stored_cases(), *examples(), *made(), *process_ends.ENDS]
+    passed = sum(passes(case, program) for case in cases)
+    return passed, len(cases) - passed
+
+
+def main():
+    words = sys.argv[1:]
+    if words == ["--covered"]:
+        passed, failed = coverage_of_cases.count([*stored_cases(), *examples(), *made(), *process_ends.ENDS])
+    else:
+        programs = [word for word in words if word != "--examples"] or [PROGRAM]
+        counts = [run_all(program, "--examples" in words) for program in programs]
+        passed, failed = map(sum, zip(*counts))
+    print(f"{passed} passed, {failed} failed")
+    return 1 if failed or not passed else 0
+
+
+if __name__ == "__main__":
+    sys.exit(main())

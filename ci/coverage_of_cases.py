@@ -1,0 +1,97 @@
+"""Which words, texts and faults of the definitions no case has.
+
+The words are read off the definitions (`codes "WORD"` in the files of `specs/`), so that a new one wants a case too.
+"""
+
+import json
+import pathlib
+import re
+
+SPECS = {
+    "events": "crates/ti_script/specs/Events.antt",
+    "entries": "crates/ti_script/specs/Entries.antt",
+    "texts": "crates/ti_script/specs/Texts.antt",
+    "limits": "crates/ti_script/specs/LimitNames.antt",
+    "faults": "crates/ti_driver/specs/Faults.antt",
+    "verdicts": "crates/ti_driver/specs/Runs.antt",
+    "commands": "crates/ti_driver/specs/Commands.antt",
+    "errors": "crates/ti_types/specs/TiError.antt",
+}
+
+# what no document leads to: there are no live runs, a capability cannot be had, no event names an environment that is not
+# there, and where a trace alone is refused for memory depends on the machine
+NOT_REACHED = {
+    ("faults", "cell"),
+    ("limits", "walks"),
+    ("limits", "calls_list"),
+    ("texts", "can_tag_objects"),
+    ("errors", "116"),
+    ("errors", "110"),
+}
+
+KINDS = ("monitor", "wait", "timed_wait", "sleep", "park", "timed_park")
+
+
+def words_of(table):
+    text = pathlib.Path(SPECS[table]).read_text()
+    if table == "errors":
+        return set(re.findall(r"^number_of \w+ = (\d+)$", text, re.M))
+    return {word.replace("\\n", "\n") for word in re.findall(r'codes "([^"]*)"', text)}
+
+
+def events_run(document, out):
+    """The words of a walk's events that were not refused, with kinds of blocks, and all capabilities that are named."""
+    for event, line in zip(document["events"], out.decode().splitlines()):
+        if event[1] in ("add", "relinquish"):
+            yield from event[2]
+        if " error " not in line:
+            yield from event[1:3] if event[1] == "block" else event[1:2]
+
+
+def entries_run(document, out):
+    """The words of a history's entries in front of the first illegal one, with their calls and kinds of hand-overs."""
+    verdict = out.split()
+    for entry in document["entries"][: int(verdict[1]) if len(verdict) > 1 else None]:
+        yield from entry[:2] if entry[0] == "hand" else entry[:1]
+        yield from entry[3:4] if entry[0] == "asked" else ()
+
+
+def found_in(cases):
+    """The words that the cases have, by their table."""
+    found = {table: set() for table in SPECS}
+    texts, faults = b"", b""
+    for case in cases:
+        out, err, status = case.wanted
+        command = (list(case.arguments) or ["walk"])[0]
+        faults += err
+        if err or not case.document:
+            continue
+        found["commands"].add(command)
+        if command == "walk":
+            texts += out
+            found["events"].update(events_run(json.loads(case.document), out))
+        else:
+            found["verdicts"].update(word for word in words_of("verdicts") if word.encode() in out)
+            found["entries"].update(entries_run(json.loads(case.document), out))
+    found["texts"] = {word for word in words_of("texts") if word.encode() in texts}
+    found["faults"] = {word for word in words_of("faults") if word.encode() in faults}
+    found["limits"] = set(re.findall(r"limit (\w+)\n", faults.decode()))
+    found["errors"] = set(re.findall(r" error (\d+)\n", texts.decode()))
+    return found
+
+
+def count(cases):
+    """How many words have a case, and how many have none, each of which is named."""
+    found = found_in(cases)
+    passed = failed = 0
+    for table in SPECS:
+        wanted = words_of(table) | (set(KINDS) if table == "entries" else set())
+        wanted -= {word for of, word in NOT_REACHED if of == table}
+        missing = sorted(wanted - found[table])
+        passed, failed = passed + len(wanted) - len(missing), failed + len(missing)
+        for word in missing:
+            print(f"no case has {word!r} of {SPECS[table]}")
+        if not wanted:
+            print(f"{SPECS[table]} has no word that is found so")
+            failed += 1
+    return passed, failed
