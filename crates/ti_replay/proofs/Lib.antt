@@ -19,6 +19,7 @@ mod WorkedWords
 mod WorkedStops
 mod WorkedBudgets
 mod WorkedThreads
+mod WorkedCorners
 pub mod DoneLaws
 pub mod EventLaws
 pub mod AskingLaws

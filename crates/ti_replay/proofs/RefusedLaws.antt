@@ -32,7 +32,7 @@ use Rattle.ti_replay.proofs.AskingLaws.{reply-snoc}
 use Rattle.ti_replay.proofs.DoneLaws.{change_where_done}
 use Rattle.ti_replay.proofs.HistoryLaws.{view-snoc, unanswered-snoc}
 use Rattle.ti_replay.proofs.PlaceLaws.{reply_at_once, reply_later, reply_past}
-use Rattle.ti_replay.specs.Refused.{is_refusal, asked_entry, asked_there, cost_there, IsUnchanged, RefusalsKeep}
+use Rattle.ti_replay.specs.Refused.{is_refusal, asked_entry, asked_there, cost_there, RefusalsKeep}
 
 -- what is left behind a history is the entry of a call, which changes nothing and does not wait
 record LeavesAll (limits : Limits) (history : List Entry) (event : Event) : Type 0 where
