@@ -17,7 +17,7 @@ use Rattle.ti_replay.specs.Admission.{Happening, Dealings, dealings, spends, cap
 use Rattle.ti_replay.proofs.AgreementLaws.{dealings-snoc}
 use Rattle.ti_env.specs.Env.{EnvValue, with_caps}
 use Rattle.ti_core.specs.Thread.{ThreadState}
-use Rattle.ti_core.specs.Core.{CoreState, Stepped, env_at, step_all, refused_or_else, spent_at, own_all, poll_all}
+use Rattle.ti_core.specs.Core.{CoreState, Stepped, env_at, stepped_by, refused_or_else, spent_at, stepped_own, stepped_poll}
 use Rattle.ti_replay.specs.Outcomes.{env_word, env_word_after}
 use Rattle.ti_core.specs.Stands.{EnvStands, Stands}
 use Rattle.ti_core.proofs.StepLaws.{happened, same_thread, whys, whys_is_ask, whys_is_stop, whys_is_read, ask_there, stop_there, read_there, cond_same}
@@ -153,7 +153,7 @@ with_stands limits e f events h envs envs' new k there es away s here =
           rw q (same_stands limits e events h (env_at envs e) k (away o).0 s (away o).1)
     ]
 
-pub own_envs : (s : CoreState) (w : Bool) (event : Event) (u : ThreadNo) (x : Entry) → (own_all s.limits s.envs s.threads u x).envs ≡ s.envs
+pub own_envs : (s : CoreState) (w : Bool) (event : Event) (u : ThreadNo) (x : Entry) → (stepped_own s.limits s.envs s.threads u x).envs ≡ s.envs
 own_envs s w event u x = grind arith
 
 -- what changes an environment's own parts
@@ -176,7 +176,7 @@ changed limits e events h env new k ns nc c n s = record {
 }
 
 pub env_goes : (events : List Happening) (s : CoreState) (w : Bool) (event : Event) (e : EnvNo) → Stands events s → e.0 < s.limits.envs
-    → EnvStands s.limits e (events ++ happened event w ∷ []) (env_at (step_all s.limits s.envs s.threads w event).envs e)
+    → EnvStands s.limits e (events ++ happened event w ∷ []) (env_at (stepped_by s.limits s.envs s.threads w event).envs e)
 env_goes events s w (Start u) e k l = rw (own_envs s w (Start u) u entry.Start) (same_stands s.limits e events (happened (Start u) w) (env_at s.envs e) (k.envs e l) (λ c. refl) (λ t d. refl) (λ n. refl))
 env_goes events s w (Own u step) e k l = rw (own_envs s w (Own u step) u (entry.Own step)) (same_stands s.limits e events (happened (Own u step) w) (env_at s.envs e) (k.envs e l) (λ c. refl) (λ t d. refl) (λ n. refl))
 env_goes events s w (ToNative u) e k l = rw (own_envs s w (ToNative u) u (entry.Hand Native)) (same_stands s.limits e events (happened (ToNative u) w) (env_at s.envs e) (k.envs e l) (λ c. refl) (λ t d. refl) (λ n. refl))
@@ -184,7 +184,7 @@ env_goes events s w (ToBlocked u kind) e k l = rw (own_envs s w (ToBlocked u kin
 env_goes events s w (Back u) e k l = rw (own_envs s w (Back u) u entry.Back) (same_stands s.limits e events (happened (Back u) w) (env_at s.envs e) (k.envs e l) (λ c. refl) (λ t d. refl) (λ n. refl))
 env_goes events s w (End u) e k l = rw (own_envs s w (End u) u entry.End) (same_stands s.limits e events (happened (End u) w) (env_at s.envs e) (k.envs e l) (λ c. refl) (λ t d. refl) (λ n. refl))
 env_goes events s w (Poll u) e k l =
-    let q : (poll_all s.limits s.envs s.threads u).envs ≡ s.envs = grind arith in
+    let q : (stepped_poll s.limits s.envs s.threads u).envs ≡ s.envs = grind arith in
     rw q (same_stands s.limits e events (happened (Poll u) w) (env_at s.envs e) (k.envs e l) (λ c. refl) (λ t d. refl) (λ n. refl))
 env_goes events s w (Ask f u c) e k l =
     let why = whys s w (Ask f u c) in
@@ -202,12 +202,12 @@ env_goes events s w (Read f u n) e k l =
     (λ t. spends_is t u e f why (λ g v. refusal_of s.limits (dealings s.limits g v events) w (Read f u n)) (whys_is_read events s w f u n k))
     (λ on. read_there events s w f u n k on)
 env_goes events s w (Go f u) e k l =
-    let q : (step_all s.limits s.envs s.threads w (Go f u)).envs ≡ s.envs = agent_envs s.envs s.threads (whys s w (Go f u)) _ ∙ cond_same (is_none (whys s w (Go f u))) s.envs in
+    let q : (stepped_by s.limits s.envs s.threads w (Go f u)).envs ≡ s.envs = agent_envs s.envs s.threads (whys s w (Go f u)) _ ∙ cond_same (is_none (whys s w (Go f u))) s.envs in
     rw q (same_stands s.limits e events (happened (Go f u) w) (env_at s.envs e) (k.envs e l) (λ c. refl) (λ t d. grind arith) (λ n. refl))
 env_goes events s w (AddCaps f caps) e k l =
     let env = env_at s.envs f in
     let new : EnvValue = cond (can_be_had caps) (with_caps env (record { bits = bit_or env.caps.bits caps.bits })) env in
-    let q : (step_all s.limits s.envs s.threads w (AddCaps f caps)).envs ≡ cond (nat_lt f.0 (length s.envs)) (slice_set s.envs f.0 new) s.envs = grind arith in
+    let q : (stepped_by s.limits s.envs s.threads w (AddCaps f caps)).envs ≡ cond (nat_lt f.0 (length s.envs)) (slice_set s.envs f.0 new) s.envs = grind arith in
     with_stands s.limits e f events (happened (AddCaps f caps) w) s.envs _ new (k.envs e l) (omega (arith, l, k.env_count)) q
     (λ o. (λ c. grind (arith, nat_tests, o), λ n. refl)) (λ t d. refl)
     (λ same. rw (same_env f e same) (changed s.limits e events (happened (AddCaps e caps) w) (env_at s.envs e) _ (k.envs e l) (grind arith) (grind arith) (λ d h. grind (arith, nat_tests, h)) (λ n h. grind (arith, h)) (λ t d. refl)))

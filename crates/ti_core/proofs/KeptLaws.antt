@@ -32,7 +32,7 @@ use Rattle.ti_slot.specs.Tickets.{has, same, without_ticket, AreOnce}
 use Rattle.ti_slot.specs.Thread.{Thread, ticket_of}
 use Rattle.ti_core.specs.Thread.{ThreadState, own_next, entered_unless, refusal_at, poll_next, reply_now, tickets_after, ask_next, taken}
 use Rattle.ti_core.specs.Threads.{IfPosted, is_ticket_of}
-use Rattle.ti_core.specs.Core.{CoreState, Stepped, thread_at, no_thread, step_all, core_told, core_taken, is_uncollected, posts, refused_or_else, own_all, IsTicketOf}
+use Rattle.ti_core.specs.Core.{CoreState, Stepped, thread_at, no_thread, stepped_by, core_told, core_taken, is_uncollected, posts, refused_or_else, stepped_own, IsTicketOf}
 use Rattle.ti_replay.specs.Legal.{asked_by}
 use Rattle.ti_core.specs.Runs.{IsTicketBy}
 use Rattle.ti_core.specs.Stands.{Stands}
@@ -75,10 +75,10 @@ own_tickets limits s x (Some error) = refl
 poll_tickets : (limits : Limits) (s : ThreadState) → (poll_next limits s).thread.uncollected ≡ s.thread.uncollected
 poll_tickets limits s = grind arith
 
-own_kept : (s : CoreState) (u : ThreadNo) (x : Entry) (k : Ticket) → has k (thread_at s.limits (own_all s.limits s.envs s.threads u x).threads k.thread).thread.uncollected ≡ (has k (thread_at s.limits s.threads k.thread).thread.uncollected || false)
+own_kept : (s : CoreState) (u : ThreadNo) (x : Entry) (k : Ticket) → has k (thread_at s.limits (stepped_own s.limits s.envs s.threads u x).threads k.thread).thread.uncollected ≡ (has k (thread_at s.limits s.threads k.thread).thread.uncollected || false)
 own_kept s u x k =
     let t = thread_at s.limits s.threads u in
-    still_kept s.limits s.threads (own_all s.limits s.envs s.threads u x).threads u (own_next t.thread.limits t x) k (nat_lt u.0 (length s.threads)) (λ h. ltb-true _ _ h) (grind arith) (own_tickets t.thread.limits t x (refusal_at t.thread.limits t x))
+    still_kept s.limits s.threads (stepped_own s.limits s.envs s.threads u x).threads u (own_next t.thread.limits t x) k (nat_lt u.0 (length s.threads)) (λ h. ltb-true _ _ h) (grind arith) (own_tickets t.thread.limits t x (refusal_at t.thread.limits t x))
 
 tickets_has : (t : Thread) (e : EnvNo) (r : Option Answer) (k : Ticket) → has k (tickets_after t e r) ≡ (has k t.uncollected || (is_none (given r) && same (ticket_of t e) k))
 tickets_has t e None k = list_any-append (λ v. same v k) t.uncollected (ticket_of t e ∷ []) ∙ grind arith
@@ -112,12 +112,12 @@ held_kept s None other u x k there e same_ts = still_kept s.limits s.threads oth
 held_kept s (Some error) other u x k there e same_ts = sym (or_false (has k (thread_at s.limits s.threads k.thread).thread.uncollected))
 
 alone_kept : (s : CoreState) (w : Bool) (event : Event) (k : Ticket) → is_alone event ≡ true
-    → has k (thread_at s.limits (step_all s.limits s.envs s.threads w event).threads k.thread).thread.uncollected ≡ (has k (thread_at s.limits s.threads k.thread).thread.uncollected || false)
+    → has k (thread_at s.limits (stepped_by s.limits s.envs s.threads w event).threads k.thread).thread.uncollected ≡ (has k (thread_at s.limits s.threads k.thread).thread.uncollected || false)
 alone_kept s w event k h = ap (λ ts. has k (thread_at s.limits ts k.thread).thread.uncollected) (env_threads s w event h) ∙ sym (or_false (has k (thread_at s.limits s.threads k.thread).thread.uncollected))
 
 -- an event posts its ticket, and takes none away
 pub kept_goes : (events : List Happening) (s : CoreState) (w : Bool) (event : Event) (k : Ticket) → Stands events s
-    → has k (thread_at s.limits (step_all s.limits s.envs s.threads w event).threads k.thread).thread.uncollected ≡ (has k (thread_at s.limits s.threads k.thread).thread.uncollected || posts s (happened event w) event k)
+    → has k (thread_at s.limits (stepped_by s.limits s.envs s.threads w event).threads k.thread).thread.uncollected ≡ (has k (thread_at s.limits s.threads k.thread).thread.uncollected || posts s (happened event w) event k)
 kept_goes events s w (Start u) k st = own_kept s u entry.Start k
 kept_goes events s w (Own u step) k st = own_kept s u (entry.Own step) k
 kept_goes events s w (ToNative u) k st = own_kept s u (entry.Hand Native) k

@@ -18,9 +18,10 @@ use Rattle.ti_replay.specs.Answers.{answer_of, is_running}
 use Rattle.ti_replay.specs.Settling.{waits, unanswered}
 use Rattle.ti_replay.specs.View.{view}
 use Rattle.ti_replay.specs.Legal.{is_armed, own_spent, own_cost, asked_by, ask_count, calls_spent, call_cost}
-use Rattle.ti_replay.specs.HistoryState.{HistoryState, history_state, next_state}
+use Rattle.ti_replay.specs.HistoryState.{HistoryState, history_state}
 use Rattle.ti_replay.specs.LateTickets.{steps_of}
 use Rattle.ti_replay.specs.Tickets.{reply_to, reply_in}
+use Rattle.ti_replay.proofs.NextStates.{next_state}
 use Rattle.ti_replay.proofs.Charging.{charged_free}
 use Rattle.ti_replay.proofs.HistoryStateLaws.{history_state-append}
 use Rattle.ti_replay.proofs.TicketReplies.{reply_to-snoc, settling}

@@ -25,7 +25,7 @@ use Rattle.ti_replay.specs.Events.{left_by, left_own, history_behind, history_of
 use Rattle.ti_replay.proofs.EventLaws.{history_is_paid}
 use Rattle.ti_env.specs.Env.{EnvValue, is_there, spent_at, call_refusal, stop_refusal, read_refusal}
 use Rattle.ti_core.specs.Thread.{ThreadState, own_next, poll_next, ask_next, stop_next, go_next, read_next}
-use Rattle.ti_core.specs.Core.{CoreState, Stepped, thread_at, env_at, step_all, why_not, refused_or_else, own_all}
+use Rattle.ti_core.specs.Core.{CoreState, Stepped, thread_at, env_at, stepped_by, why_not, refused_or_else, stepped_own}
 use Rattle.ti_core.specs.Stands.{ThreadStands, Stands}
 use Rattle.ti_core.proofs.ThreadLaws.{own_stands, poll_stands}
 use Rattle.ti_core.proofs.CallLaws.{ask_stands, stop_stands, go_stands, read_stands}
@@ -71,10 +71,10 @@ happened event w = record { event = event; wanting = w }
 -- the state of a thread behind an own event
 own_goes : (events : List Happening) (s : CoreState) (u : ThreadNo) (x : Entry) (t : ThreadNo) (history' : List Entry) → Stands events s → t.0 < s.limits.threads
     → history' ≡ cond (u.0 == t.0 && nat_lt u.0 (length s.threads)) (history_of s.limits t events ++ left_own s.limits (history_of s.limits t events) (Some x)) (history_of s.limits t events)
-    → ThreadStands s.limits t history' (thread_at s.limits (own_all s.limits s.envs s.threads u x).threads t)
+    → ThreadStands s.limits t history' (thread_at s.limits (stepped_own s.limits s.envs s.threads u x).threads t)
 own_goes events s u x t history' k l q =
     let history = history_of s.limits t events in
-    moves s.limits t u s.threads (own_all s.limits s.envs s.threads u x).threads history history' (left_own s.limits history (Some x)) (nat_lt u.0 (length s.threads))
+    moves s.limits t u s.threads (stepped_own s.limits s.envs s.threads u x).threads history history' (left_own s.limits history (Some x)) (nat_lt u.0 (length s.threads))
     (own_next (thread_at s.limits s.threads u).thread.limits (thread_at s.limits s.threads u) x) (λ h. ltb-true _ _ h) (grind arith) q
     (λ same on. rw (same_thread t u same) (own_stands s.limits t history (thread_at s.limits s.threads t) x (k.threads t l)))
     (k.threads t l)
@@ -166,7 +166,7 @@ is_alone (SetEnvWord e v) = true
 is_alone (GetEnvWord e) = true
 is_alone _ = false
 
-pub env_threads : (s : CoreState) (w : Bool) (event : Event) → is_alone event ≡ true → (step_all s.limits s.envs s.threads w event).threads ≡ s.threads
+pub env_threads : (s : CoreState) (w : Bool) (event : Event) → is_alone event ≡ true → (stepped_by s.limits s.envs s.threads w event).threads ≡ s.threads
 env_threads s w (Start t) h = cc
 env_threads s w (Own t step) h = cc
 env_threads s w (Poll t) h = cc
@@ -185,7 +185,7 @@ env_threads s w (SetEnvWord e v) h = grind arith
 env_threads s w (GetEnvWord e) h = refl
 
 pub thread_goes : (events : List Happening) (s : CoreState) (w : Bool) (event : Event) (t : ThreadNo) → Stands events s → t.0 < s.limits.threads
-    → ThreadStands s.limits t (history_behind s.limits t events (history_of s.limits t events) (happened event w)) (thread_at s.limits (step_all s.limits s.envs s.threads w event).threads t)
+    → ThreadStands s.limits t (history_behind s.limits t events (history_of s.limits t events) (happened event w)) (thread_at s.limits (stepped_by s.limits s.envs s.threads w event).threads t)
 thread_goes events s w (Start u) t k l = own_goes events s u entry.Start t _ k l (own_history s.limits t u (length s.threads) (history_of s.limits t events) _ true k.thread_count)
 thread_goes events s w (Own u step) t k l = own_goes events s u (entry.Own step) t _ k l (own_history s.limits t u (length s.threads) (history_of s.limits t events) _ true k.thread_count)
 thread_goes events s w (ToNative u) t k l = own_goes events s u (entry.Hand Native) t _ k l (own_history s.limits t u (length s.threads) (history_of s.limits t events) _ true k.thread_count)

@@ -24,7 +24,7 @@ use Rattle.ti_replay.specs.Events.{left_by, history_of, own_outcome, refused_or,
 use Rattle.ti_replay.proofs.AgreementLaws.{history_of-snoc}
 use Rattle.ti_env.specs.Env.{EnvValue, new_env, with_caps}
 use Rattle.ti_core.specs.Thread.{ThreadState, new_state, own_next, poll_next, taken}
-use Rattle.ti_core.specs.Core.{CoreState, Stepped, thread_at, env_at, step_all, refused_or_else, own_all, core_next, core_taken, no_thread, with_env}
+use Rattle.ti_core.specs.Core.{CoreState, Stepped, thread_at, env_at, stepped_by, refused_or_else, stepped_own, core_next, core_taken, no_thread, with_env}
 use Rattle.ti_core.specs.Stands.{ThreadStands, EnvStands, Stands, IsNext}
 use Rattle.ti_core.proofs.ThreadLaws.{own_told, poll_told}
 use Rattle.ti_core.proofs.CallLaws.{ask_told_is, stop_told_is, go_told_is, read_told_is, taken_stands}
@@ -35,7 +35,7 @@ self : (n : ℕ) → (n == n) ≡ true
 self n = grind (arith, nat_tests)
 
 own_told_goes : (events : List Happening) (s : CoreState) (u : ThreadNo) (x : Entry) → Stands events s
-    → (own_all s.limits s.envs s.threads u x).told ≡ cond (nat_lt u.0 s.limits.threads) (own_outcome s.limits (history_of s.limits u events) (Some x)) (Some (outcome.Refused InvalidThread))
+    → (stepped_own s.limits s.envs s.threads u x).told ≡ cond (nat_lt u.0 s.limits.threads) (own_outcome s.limits (history_of s.limits u events) (Some x)) (Some (outcome.Refused InvalidThread))
 own_told_goes events s u x k =
     elim (cases_Bool (nat_lt u.0 s.limits.threads)) [
       | inl on ↦
@@ -61,7 +61,7 @@ agent_told envs threads why r other there e h =
     ] e h
 
 pub told_goes : (events : List Happening) (s : CoreState) (w : Bool) (event : Event) → Stands events s
-    → (step_all s.limits s.envs s.threads w event).told ≡ out_of s.limits (events ++ happened event w ∷ []) events (happened event w)
+    → (stepped_by s.limits s.envs s.threads w event).told ≡ out_of s.limits (events ++ happened event w ∷ []) events (happened event w)
 told_goes events s w (Start u) k = rw (self u.0) (own_told_goes events s u entry.Start k)
 told_goes events s w (Own u step) k = rw (self u.0) (own_told_goes events s u (entry.Own step) k)
 told_goes events s w (ToNative u) k = rw (self u.0) (own_told_goes events s u (entry.Hand Native) k)
@@ -131,7 +131,7 @@ told_goes events s w (GetEnvWord e) k =
       | inr off ↦ grind (arith, k.env_count, off)
     ]
 
-own_length : (s : CoreState) (u : ThreadNo) (x : Entry) → length (own_all s.limits s.envs s.threads u x).threads ≡ length s.threads
+own_length : (s : CoreState) (u : ThreadNo) (x : Entry) → length (stepped_own s.limits s.envs s.threads u x).threads ≡ length s.threads
 own_length s u x = grind (arith, length-set s.threads u.0 (own_next (thread_at s.limits s.threads u).thread.limits (thread_at s.limits s.threads u) x))
 
 cond_length : {X : Type 0} → (b : Bool) (xs : List X) (i : ℕ) (x : X) → length (cond b (slice_set xs i x) xs) ≡ length xs
@@ -151,7 +151,7 @@ agent_env_length envs threads (Some error) other h = refl
 with_length : (envs : List EnvValue) (threads : List ThreadState) (e : EnvNo) (env : EnvValue) (told : Option Outcome) → length (with_env envs threads e env told).envs ≡ length envs
 with_length envs threads e env told = grind (arith, length-set envs e.0 env)
 
-thread_length : (s : CoreState) (w : Bool) (event : Event) → length (step_all s.limits s.envs s.threads w event).threads ≡ length s.threads
+thread_length : (s : CoreState) (w : Bool) (event : Event) → length (stepped_by s.limits s.envs s.threads w event).threads ≡ length s.threads
 thread_length s w (Start u) = own_length s u entry.Start
 thread_length s w (Own u step) = own_length s u (entry.Own step)
 thread_length s w (ToNative u) = own_length s u (entry.Hand Native)
@@ -169,7 +169,7 @@ thread_length s w (GetCaps e) = refl
 thread_length s w (SetEnvWord e v) = ap (λ (x : List ThreadState). length x) (env_threads s w (SetEnvWord e v) refl)
 thread_length s w (GetEnvWord e) = refl
 
-env_length : (s : CoreState) (w : Bool) (event : Event) → length (step_all s.limits s.envs s.threads w event).envs ≡ length s.envs
+env_length : (s : CoreState) (w : Bool) (event : Event) → length (stepped_by s.limits s.envs s.threads w event).envs ≡ length s.envs
 env_length s w (Start u) = ap (λ (x : List EnvValue). length x) (own_envs s w (Start u) u entry.Start)
 env_length s w (Own u step) = ap (λ (x : List EnvValue). length x) (own_envs s w (Own u step) u (entry.Own step))
 env_length s w (ToNative u) = ap (λ (x : List EnvValue). length x) (own_envs s w (ToNative u) u (entry.Hand Native))

@@ -58,16 +58,18 @@ abbrev pub spent_at : List EnvValue → EnvNo → ThreadNo → List EnvValue
 spent_at envs e t = let env = env_at envs e in slice_set envs e.0 (record env { spent = slice_set env.spent t.0 (slice_index env.spent t.0 + 1) })
 
 -- an own event but for a poll
-abbrev pub own_all : Limits → List EnvValue → List ThreadState → ThreadNo → Entry → Stepped
-own_all limits envs threads t x =
+abbrev pub stepped_own : Limits → List EnvValue → List ThreadState → ThreadNo → Entry → Stepped
+stepped_own limits envs threads t x =
+    let s = thread_at limits threads t in
     if nat_lt t.0 (length threads)
-    then record { envs = envs; threads = slice_set threads t.0 (own_next (thread_at limits threads t).thread.limits (thread_at limits threads t) x); told = done_unless (refusal_at (thread_at limits threads t).thread.limits (thread_at limits threads t) x) }
+    then record { envs = envs; threads = slice_set threads t.0 (own_next s.thread.limits s x); told = done_unless (refusal_at s.thread.limits s x) }
     else record { envs = envs; threads = threads; told = Some (outcome.Refused InvalidThread) }
 
-abbrev pub poll_all : Limits → List EnvValue → List ThreadState → ThreadNo → Stepped
-poll_all limits envs threads t =
+abbrev pub stepped_poll : Limits → List EnvValue → List ThreadState → ThreadNo → Stepped
+stepped_poll limits envs threads t =
+    let s = thread_at limits threads t in
     if nat_lt t.0 (length threads)
-    then record { envs = envs; threads = slice_set threads t.0 (poll_next (thread_at limits threads t).thread.limits (thread_at limits threads t)); told = Some (poll_said (thread_at limits threads t).thread.limits (thread_at limits threads t)) }
+    then record { envs = envs; threads = slice_set threads t.0 (poll_next s.thread.limits s); told = Some (poll_said s.thread.limits s) }
     else record { envs = envs; threads = threads; told = Some (outcome.Refused InvalidThread) }
 
 -- why a call does not reach its thread, where its environment refuses so by itself
@@ -78,8 +80,8 @@ abbrev pub refused_or_else : List EnvValue → List ThreadState → Option TiErr
 refused_or_else envs threads (Some error) other = record { envs = envs; threads = threads; told = error_told error }
 refused_or_else envs threads None other = other
 
-abbrev pub ask_all : Limits → List EnvValue → List ThreadState → Bool → EnvNo → ThreadNo → Call → Stepped
-ask_all limits envs threads wanting e t call =
+abbrev pub stepped_ask : Limits → List EnvValue → List ThreadState → Bool → EnvNo → ThreadNo → Call → Stepped
+stepped_ask limits envs threads wanting e t call =
     let s = thread_at limits threads t in
     refused_or_else envs threads (why_not envs e (call_refusal (env_at envs e) t call) (wanting && takes_buffer call))
     (record {
@@ -88,14 +90,14 @@ ask_all limits envs threads wanting e t call =
       told = given (reply_now s.thread.limits s e call);
     })
 
-abbrev pub stop_all : Limits → List EnvValue → List ThreadState → EnvNo → ThreadNo → Stepped
-stop_all limits envs threads e t =
+abbrev pub stepped_stop : Limits → List EnvValue → List ThreadState → EnvNo → ThreadNo → Stepped
+stepped_stop limits envs threads e t =
     let s = thread_at limits threads t in
     refused_or_else envs threads (why_not envs e (stop_refusal (env_at envs e) t) false)
     (record { envs = spent_at envs e t; threads = slice_set threads t.0 (stop_next s.thread.limits s e s.thread.number); told = stop_told s.thread.limits s e s.thread.number })
 
-abbrev pub read_all : Limits → List EnvValue → List ThreadState → Bool → EnvNo → ThreadNo → ℤ → Stepped
-read_all limits envs threads wanting e t max_count =
+abbrev pub stepped_read : Limits → List EnvValue → List ThreadState → Bool → EnvNo → ThreadNo → ℤ → Stepped
+stepped_read limits envs threads wanting e t max_count =
     let s = thread_at limits threads t in
     refused_or_else envs threads (why_not envs e (read_refusal (env_at envs e) t max_count) wanting)
     (record {
@@ -104,8 +106,8 @@ read_all limits envs threads wanting e t max_count =
       told = read_told s.thread.limits s e s.thread.number max_count;
     })
 
-abbrev pub go_all : Limits → List EnvValue → List ThreadState → EnvNo → ThreadNo → Stepped
-go_all limits envs threads e t =
+abbrev pub stepped_go : Limits → List EnvValue → List ThreadState → EnvNo → ThreadNo → Stepped
+stepped_go limits envs threads e t =
     let s = thread_at limits threads t in
     refused_or_else envs threads (why_not envs e (going_refusal (nat_lt t.0 (length threads))) false)
     (record { envs = envs; threads = slice_set threads t.0 (go_next s.thread.limits s e s.thread.number); told = go_told s.thread.limits s e s.thread.number })
@@ -116,45 +118,45 @@ with_env envs threads e env told =
     then record { envs = slice_set envs e.0 env; threads = threads; told = told }
     else record { envs = envs; threads = threads; told = error_told InvalidEnvironment }
 
-abbrev pub add_all : List EnvValue → List ThreadState → EnvNo → Caps → Stepped
-add_all envs threads e caps =
+abbrev pub stepped_add : List EnvValue → List ThreadState → EnvNo → Caps → Stepped
+stepped_add envs threads e caps =
     let env = env_at envs e in
     if can_be_had caps then with_env envs threads e (with_caps env (caps_with env.caps caps)) (Some (outcome.Gave answer.Done))
     else with_env envs threads e env (error_told NotAvailable)
 
-abbrev pub relinquish_all : List EnvValue → List ThreadState → EnvNo → Caps → Stepped
-relinquish_all envs threads e caps =
+abbrev pub stepped_relinquish : List EnvValue → List ThreadState → EnvNo → Caps → Stepped
+stepped_relinquish envs threads e caps =
     let env = env_at envs e in
     with_env envs threads e (with_caps env (caps_without env.caps caps)) (Some (outcome.Gave answer.Done))
 
-abbrev pub tell_all : List EnvValue → List ThreadState → EnvNo → Answer → Stepped
-tell_all envs threads e a =
+abbrev pub stepped_tell : List EnvValue → List ThreadState → EnvNo → Answer → Stepped
+stepped_tell envs threads e a =
     record { envs = envs; threads = threads; told = if nat_lt e.0 (length envs) then Some (outcome.Gave a) else error_told InvalidEnvironment }
 
-abbrev pub own_if : Limits → List EnvValue → List ThreadState → ThreadNo → Option Entry → Stepped
-own_if limits envs threads t (Some x) = own_all limits envs threads t x
-own_if limits envs threads t None = record { envs = envs; threads = threads; told = Some outcome.Done }
+abbrev pub stepped_own_if : Limits → List EnvValue → List ThreadState → ThreadNo → Option Entry → Stepped
+stepped_own_if limits envs threads t (Some x) = stepped_own limits envs threads t x
+stepped_own_if limits envs threads t None = record { envs = envs; threads = threads; told = Some outcome.Done }
 
-abbrev pub step_all : Limits → List EnvValue → List ThreadState → Bool → Event → Stepped
-step_all limits envs threads wanting (Poll t) = poll_all limits envs threads t
-step_all limits envs threads wanting (Ask e t call) = ask_all limits envs threads wanting e t call
-step_all limits envs threads wanting (Stop e t) = stop_all limits envs threads e t
-step_all limits envs threads wanting (Read e t max_count) = read_all limits envs threads wanting e t max_count
-step_all limits envs threads wanting (Go e t) = go_all limits envs threads e t
-step_all limits envs threads wanting (AddCaps e caps) = add_all envs threads e caps
-step_all limits envs threads wanting (Relinquish e caps) = relinquish_all envs threads e caps
-step_all limits envs threads wanting (GetCaps e) = tell_all envs threads e (answer.Caps (env_at envs e).caps)
-step_all limits envs threads wanting (SetEnvWord e word) = let env = env_at envs e in with_env envs threads e (record env { word = word }) (Some (outcome.Gave answer.Done))
-step_all limits envs threads wanting (GetEnvWord e) = tell_all envs threads e (answer.Word (env_at envs e).word)
-step_all limits envs threads wanting (Start t) = own_if limits envs threads t (own_entry (Start t))
-step_all limits envs threads wanting (Own t step) = own_if limits envs threads t (own_entry (Own t step))
-step_all limits envs threads wanting (ToNative t) = own_if limits envs threads t (own_entry (ToNative t))
-step_all limits envs threads wanting (ToBlocked t kind) = own_if limits envs threads t (own_entry (ToBlocked t kind))
-step_all limits envs threads wanting (Back t) = own_if limits envs threads t (own_entry (Back t))
-step_all limits envs threads wanting (End t) = own_if limits envs threads t (own_entry (End t))
+abbrev pub stepped_by : Limits → List EnvValue → List ThreadState → Bool → Event → Stepped
+stepped_by limits envs threads wanting (Poll t) = stepped_poll limits envs threads t
+stepped_by limits envs threads wanting (Ask e t call) = stepped_ask limits envs threads wanting e t call
+stepped_by limits envs threads wanting (Stop e t) = stepped_stop limits envs threads e t
+stepped_by limits envs threads wanting (Read e t max_count) = stepped_read limits envs threads wanting e t max_count
+stepped_by limits envs threads wanting (Go e t) = stepped_go limits envs threads e t
+stepped_by limits envs threads wanting (AddCaps e caps) = stepped_add envs threads e caps
+stepped_by limits envs threads wanting (Relinquish e caps) = stepped_relinquish envs threads e caps
+stepped_by limits envs threads wanting (GetCaps e) = stepped_tell envs threads e (answer.Caps (env_at envs e).caps)
+stepped_by limits envs threads wanting (SetEnvWord e word) = let env = env_at envs e in with_env envs threads e (record env { word = word }) (Some (outcome.Gave answer.Done))
+stepped_by limits envs threads wanting (GetEnvWord e) = stepped_tell envs threads e (answer.Word (env_at envs e).word)
+stepped_by limits envs threads wanting (Start t) = stepped_own_if limits envs threads t (own_entry (Start t))
+stepped_by limits envs threads wanting (Own t step) = stepped_own_if limits envs threads t (own_entry (Own t step))
+stepped_by limits envs threads wanting (ToNative t) = stepped_own_if limits envs threads t (own_entry (ToNative t))
+stepped_by limits envs threads wanting (ToBlocked t kind) = stepped_own_if limits envs threads t (own_entry (ToBlocked t kind))
+stepped_by limits envs threads wanting (Back t) = stepped_own_if limits envs threads t (own_entry (Back t))
+stepped_by limits envs threads wanting (End t) = stepped_own_if limits envs threads t (own_entry (End t))
 
 abbrev pub stepped : CoreState → Happening → Stepped
-stepped s h = step_all s.limits s.envs s.threads h.wanting h.event
+stepped s h = stepped_by s.limits s.envs s.threads h.wanting h.event
 
 -- the core after an event
 abbrev pub core_next : CoreState → Happening → CoreState

@@ -16,7 +16,6 @@ ghost use Rattle.ti_core.specs.Runs.{IsTicketBy, is_final};
 ghost use Rattle.ti_replay.specs.Refused.{is_refusal, IsUnchanged};
 ghost use Rattle.ti_core.specs.Stands.{Stands, IsReached, AreNew};
 
-use crate::running::answer_all;
 use crate::stepping;
 use crate::thread::OneThread;
 use std::alloc::Global;
@@ -190,34 +189,5 @@ impl Core {
         ensures { (events : List Happening) → Stands events self.now → result ≡ (nat_lt thread.0 self.now.limits.threads && is_standing self.now.limits (history_of self.now.limits thread events) env) }
     {
         stands(&self.limits, &self.threads, env, thread)
-    }
-
-    /// Lets a whole list of events happen in a new core. There is one outcome for each event: what the definitions
-    /// say of it among all of them, so a posted call has its answer, and none where it was left unanswered.
-    ///
-    /// 110 where memory is wanting for the core or for the list of outcomes; then nothing is given.
-    pub fn run(
-        alloc: Global,
-        limits: Limits,
-        events: &[Event],
-    ) -> Result<Vec<Option<Outcome>>, TiError>
-        ensures outcomes { IfOk result (λ os. map told_later os.items ≡ outs limits (happenings events.now os.items)) }
-        ensures settled { IfOk result (λ os. list_all is_final os.items ≡ true) }
-        ensures count { IfOk result (λ os. length os.items ≡ length events.now) }
-        ensures memory { IfErr result (λ e. e ≡ TiError.OutOfMemory) }
-    {
-        // Before the core: so large a block finds room in the memory of the document's tree, if that was given up.
-        let Ok(mut outcomes) = Vec::with_capacity(alloc, events.len()) else {
-            return Err(TiError::OutOfMemory);
-        };
-        let mut core = Core::new(alloc, limits)?;
-        for event in events {
-            let outcome = core.step(alloc, *event);
-            let Ok(()) = outcomes.push(Some(outcome)) else {
-                return Err(TiError::OutOfMemory);
-            };
-        }
-        answer_all(&mut core, &mut outcomes);
-        Ok(outcomes)
     }
 }

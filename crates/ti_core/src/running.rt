@@ -1,6 +1,6 @@
-ghost use Rattle.std.specs.Prelude.{◌≡◌, length, map, List, true, false, Some, None};
+ghost use Rattle.std.specs.Prelude.{◌≡◌, length, map, List, true, false, Some, None, IfOk, IfErr};
 ghost use Rattle.ti_replay.specs.Admission.{Happening};
-ghost use Rattle.ti_replay.specs.Outcomes.{told_later, was_for_memory, outs};
+ghost use Rattle.ti_replay.specs.Outcomes.{told_later, was_for_memory, outs, happenings};
 ghost use Rattle.ti_core.specs.Core.{is_uncollected};
 ghost use Rattle.ti_core.specs.Stands.{Stands};
 ghost use Rattle.std.specs.List.{list_all};
@@ -8,7 +8,7 @@ ghost use Rattle.ti_core.specs.Runs.{HasSeen, IsFinished, is_posted, is_final};
 
 use crate::engine::Core;
 use std::alloc::Global;
-use ti_types::{Event, Outcome, TiError, Ticket};
+use ti_types::{Event, Limits, Outcome, TiError, Ticket};
 
 /// The answer to a posted call, where it is there.
 fn answered(core: &mut Core, ticket: Ticket) -> Option<Outcome>
@@ -47,5 +47,36 @@ pub fn answer_all(core: &mut Core, outcomes: &mut [Option<Outcome>])
 {
     for place in 0..outcomes.len() {
         finish(core, &mut outcomes[place]);
+    }
+}
+
+impl Core {
+    /// Lets a whole list of events happen in a new core. There is one outcome for each event: what the definitions
+    /// say of it among all of them, so a posted call has its answer, and none where it was left unanswered.
+    ///
+    /// 110 where memory is wanting for the core or for the list of outcomes; then nothing is given.
+    pub fn run(
+        alloc: Global,
+        limits: Limits,
+        events: &[Event],
+    ) -> Result<Vec<Option<Outcome>>, TiError>
+        ensures outcomes { IfOk result (λ os. map told_later os.items ≡ outs limits (happenings events.now os.items)) }
+        ensures settled { IfOk result (λ os. list_all is_final os.items ≡ true) }
+        ensures count { IfOk result (λ os. length os.items ≡ length events.now) }
+        ensures memory { IfErr result (λ e. e ≡ TiError.OutOfMemory) }
+    {
+        // Before the core: so large a block finds room in the memory of the document's tree, if that was given up.
+        let Ok(mut outcomes) = Vec::with_capacity(alloc, events.len()) else {
+            return Err(TiError::OutOfMemory);
+        };
+        let mut core = Core::new(alloc, limits)?;
+        for event in events {
+            let outcome = core.step(alloc, *event);
+            let Ok(()) = outcomes.push(Some(outcome)) else {
+                return Err(TiError::OutOfMemory);
+            };
+        }
+        answer_all(&mut core, &mut outcomes);
+        Ok(outcomes)
     }
 }

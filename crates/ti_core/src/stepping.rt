@@ -8,7 +8,7 @@ ghost use Rattle.ti_core.specs.Thread.{is_made, made_told};
 ghost use Rattle.ti_core.specs.Stands.{IsReached};
 ghost use Rattle.ti_slot.specs.Thread.{ticket_of};
 ghost use Rattle.ti_core.specs.Threads.{IfPosted};
-ghost use Rattle.ti_core.specs.Core.{IsTicketOf, CoreState, core_of, thread_at, own_all, poll_all, ask_all, stop_all, read_all, go_all, add_all, relinquish_all, tell_all, step_all, with_env, env_at};
+ghost use Rattle.ti_core.specs.Core.{IsTicketOf, CoreState, core_of, thread_at, stepped_own, stepped_poll, stepped_ask, stepped_stop, stepped_read, stepped_go, stepped_add, stepped_relinquish, stepped_tell, stepped_by, with_env, env_at};
 
 use crate::thread::OneThread;
 use std::alloc::Global;
@@ -36,8 +36,8 @@ fn outcome_of(own: Result<(), TiError>) -> Outcome
 /// An own event but for a poll.
 fn make(limits: &Limits, threads: &mut [OneThread], t: ThreadNo, entry: Entry) -> Outcome
     requires own { is_made entry ≡ true }
-    ensures threads { threads.new ≡ (own_all limits.now [] threads.old t entry).threads }
-    ensures told { told_now result ≡ (own_all limits.now [] threads.old t entry).told }
+    ensures threads { threads.new ≡ (stepped_own limits.now [] threads.old t entry).threads }
+    ensures told { told_now result ≡ (stepped_own limits.now [] threads.old t entry).told }
 {
     let index = t.0 as usize;
     if index >= threads.len() {
@@ -48,8 +48,8 @@ fn make(limits: &Limits, threads: &mut [OneThread], t: ThreadNo, entry: Entry) -
 }
 
 fn poll(limits: &Limits, threads: &mut [OneThread], t: ThreadNo) -> Outcome
-    ensures threads { threads.new ≡ (poll_all limits.now [] threads.old t).threads }
-    ensures told { told_now result ≡ (poll_all limits.now [] threads.old t).told }
+    ensures threads { threads.new ≡ (stepped_poll limits.now [] threads.old t).threads }
+    ensures told { told_now result ≡ (stepped_poll limits.now [] threads.old t).told }
 {
     let index = t.0 as usize;
     if index >= threads.len() {
@@ -83,9 +83,9 @@ fn ask(
     call: Call,
 ) -> Outcome
     requires reached { IsReached (core_of limits.now envs.old threads.old) }
-    ensures envs { envs.new ≡ (ask_all limits.now envs.old threads.old (was_for_memory (told_now result)) e t call).envs }
-    ensures threads { threads.new ≡ (ask_all limits.now envs.old threads.old (was_for_memory (told_now result)) e t call).threads }
-    ensures told { told_now result ≡ (ask_all limits.now envs.old threads.old (was_for_memory (told_now result)) e t call).told }
+    ensures envs { envs.new ≡ (stepped_ask limits.now envs.old threads.old (was_for_memory (told_now result)) e t call).envs }
+    ensures threads { threads.new ≡ (stepped_ask limits.now envs.old threads.old (was_for_memory (told_now result)) e t call).threads }
+    ensures told { told_now result ≡ (stepped_ask limits.now envs.old threads.old (was_for_memory (told_now result)) e t call).told }
     ensures ticket { IfPosted result (λ k. IsTicketOf limits.now envs.old threads.old (Event.Ask e t call) k) }
 {
     let at = e.0 as usize;
@@ -116,9 +116,9 @@ fn stop(
     t: ThreadNo,
 ) -> Outcome
     requires reached { IsReached (core_of limits.now envs.old threads.old) }
-    ensures envs { envs.new ≡ (stop_all limits.now envs.old threads.old e t).envs }
-    ensures threads { threads.new ≡ (stop_all limits.now envs.old threads.old e t).threads }
-    ensures told { told_now result ≡ (stop_all limits.now envs.old threads.old e t).told }
+    ensures envs { envs.new ≡ (stepped_stop limits.now envs.old threads.old e t).envs }
+    ensures threads { threads.new ≡ (stepped_stop limits.now envs.old threads.old e t).threads }
+    ensures told { told_now result ≡ (stepped_stop limits.now envs.old threads.old e t).told }
 {
     let at = e.0 as usize;
     if at >= envs.len() {
@@ -145,9 +145,9 @@ fn read(
     max_count: i32,
 ) -> Outcome
     requires reached { IsReached (core_of limits.now envs.old threads.old) }
-    ensures envs { envs.new ≡ (read_all limits.now envs.old threads.old (was_for_memory (told_now result)) e t max_count).envs }
-    ensures threads { threads.new ≡ (read_all limits.now envs.old threads.old (was_for_memory (told_now result)) e t max_count).threads }
-    ensures told { told_now result ≡ (read_all limits.now envs.old threads.old (was_for_memory (told_now result)) e t max_count).told }
+    ensures envs { envs.new ≡ (stepped_read limits.now envs.old threads.old (was_for_memory (told_now result)) e t max_count).envs }
+    ensures threads { threads.new ≡ (stepped_read limits.now envs.old threads.old (was_for_memory (told_now result)) e t max_count).threads }
+    ensures told { told_now result ≡ (stepped_read limits.now envs.old threads.old (was_for_memory (told_now result)) e t max_count).told }
     ensures gave { is_some (told_now result) ≡ true }
 {
     let at = e.0 as usize;
@@ -178,8 +178,8 @@ fn go(
     t: ThreadNo,
 ) -> Outcome
     requires reached { IsReached (core_of limits.now envs.now threads.old) }
-    ensures threads { threads.new ≡ (go_all limits.now envs.now threads.old e t).threads }
-    ensures told { told_now result ≡ (go_all limits.now envs.now threads.old e t).told }
+    ensures threads { threads.new ≡ (stepped_go limits.now envs.now threads.old e t).threads }
+    ensures told { told_now result ≡ (stepped_go limits.now envs.now threads.old e t).told }
 {
     if e.0 as usize >= envs.len() {
         return refused(TiError::InvalidEnvironment);
@@ -193,8 +193,8 @@ fn go(
 }
 
 fn add(envs: &mut [EnvState], e: EnvNo, caps: Caps) -> Outcome
-    ensures envs { envs.new ≡ (add_all envs.old [] e caps).envs }
-    ensures told { told_now result ≡ (add_all envs.old [] e caps).told }
+    ensures envs { envs.new ≡ (stepped_add envs.old [] e caps).envs }
+    ensures told { told_now result ≡ (stepped_add envs.old [] e caps).told }
 {
     let at = e.0 as usize;
     if at >= envs.len() {
@@ -208,8 +208,8 @@ fn add(envs: &mut [EnvState], e: EnvNo, caps: Caps) -> Outcome
 }
 
 fn relinquish(envs: &mut [EnvState], e: EnvNo, caps: Caps) -> Outcome
-    ensures envs { envs.new ≡ (relinquish_all envs.old [] e caps).envs }
-    ensures told { told_now result ≡ (relinquish_all envs.old [] e caps).told }
+    ensures envs { envs.new ≡ (stepped_relinquish envs.old [] e caps).envs }
+    ensures told { told_now result ≡ (stepped_relinquish envs.old [] e caps).told }
 {
     let at = e.0 as usize;
     if at >= envs.len() {
@@ -234,7 +234,7 @@ fn set_word(envs: &mut [EnvState], e: EnvNo, word: u64) -> Outcome
 }
 
 fn word(envs: &[EnvState], e: EnvNo) -> Outcome
-    ensures { told_now result ≡ (tell_all envs.now [] e (Answer.Word (env_at envs.now e).word)).told }
+    ensures { told_now result ≡ (stepped_tell envs.now [] e (Answer.Word (env_at envs.now e).word)).told }
 {
     let at = e.0 as usize;
     if at >= envs.len() {
@@ -245,7 +245,7 @@ fn word(envs: &[EnvState], e: EnvNo) -> Outcome
 }
 
 fn caps(envs: &[EnvState], e: EnvNo) -> Outcome
-    ensures { told_now result ≡ (tell_all envs.now [] e (Answer.Caps (env_at envs.now e).caps)).told }
+    ensures { told_now result ≡ (stepped_tell envs.now [] e (Answer.Caps (env_at envs.now e).caps)).told }
 {
     let at = e.0 as usize;
     if at >= envs.len() {
@@ -264,9 +264,9 @@ pub fn step(
     event: Event,
 ) -> Outcome
     requires reached { IsReached (core_of limits.now envs.old threads.old) }
-    ensures envs { envs.new ≡ (step_all limits.now envs.old threads.old (was_for_memory (told_now result)) event).envs }
-    ensures threads { threads.new ≡ (step_all limits.now envs.old threads.old (was_for_memory (told_now result)) event).threads }
-    ensures told { told_now result ≡ (step_all limits.now envs.old threads.old (was_for_memory (told_now result)) event).told }
+    ensures envs { envs.new ≡ (stepped_by limits.now envs.old threads.old (was_for_memory (told_now result)) event).envs }
+    ensures threads { threads.new ≡ (stepped_by limits.now envs.old threads.old (was_for_memory (told_now result)) event).threads }
+    ensures told { told_now result ≡ (stepped_by limits.now envs.old threads.old (was_for_memory (told_now result)) event).told }
     ensures ticket { IfPosted result (λ k. IsTicketOf limits.now envs.old threads.old event k) }
 {
     match event {

@@ -26,7 +26,8 @@ use Rattle.ti_replay.specs.Settling.{is_waiting_call, waits}
 use Rattle.ti_replay.specs.View.{after, called}
 use Rattle.ti_replay.specs.Legal.{is_legal, own_cost, env_of, call_cost, call_cost_of, ask_count}
 use Rattle.ti_replay.proofs.LateStepLaws.{called_keeps}
-use Rattle.ti_replay.specs.HistoryState.{history_state, HistoryState, next_state, allows, allows_all}
+use Rattle.ti_replay.specs.HistoryState.{history_state, HistoryState}
+use Rattle.ti_replay.proofs.NextStates.{next_state, allows, allows_all}
 
 -- a waiting call leaves mode, stopper and words
 pub record IsQuiet (v w : ThreadView) : Type 0 where

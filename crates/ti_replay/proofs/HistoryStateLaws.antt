@@ -8,7 +8,8 @@ use Rattle.ti_replay.specs.Settling.{Placed}
 use Rattle.ti_replay.specs.View.{after, after_all}
 use Rattle.ti_replay.specs.Legal.{may_follow, goes_on}
 use Rattle.ti_replay.specs.PlacedState.{PlacedState, placed_state, entered}
-use Rattle.ti_replay.specs.HistoryState.{HistoryState, history_state, next_state, allows, allows_all}
+use Rattle.ti_replay.specs.HistoryState.{HistoryState, history_state}
+use Rattle.ti_replay.proofs.NextStates.{next_state, allows, allows_all}
 use Rattle.ti_replay.proofs.HistoryLaws.{placed_state-snoc}
 use Rattle.ti_replay.proofs.CostLaws.{may_follow_is}
 

@@ -17,9 +17,10 @@ use Rattle.ti_replay.specs.Costs.{charged}
 use Rattle.ti_replay.specs.Settling.{Placed, placed, settle, left_out, runs_behind, runs_after, put_behind, is_waiting_call, is_hand_over, hands_over, waits}
 use Rattle.ti_replay.specs.View.{view, after, after_all, called, new_thread}
 use Rattle.ti_replay.specs.Legal.{is_legal}
-use Rattle.ti_replay.specs.HistoryState.{HistoryState, history_state, next_state, allows, allows_all}
+use Rattle.ti_replay.specs.HistoryState.{HistoryState, history_state}
 use Rattle.ti_replay.specs.Replies.{reply, reply_from, answer_to}
 use Rattle.ti_replay.specs.LateSteps.{is_passed, exchanged, StepsMayBeLate}
+use Rattle.ti_replay.proofs.NextStates.{next_state, allows, allows_all}
 use Rattle.ti_replay.proofs.SettlingLaws.{settle-append, all_behind}
 use Rattle.ti_replay.proofs.HistoryLaws.{enumerate_from-append, view_runs}
 use Rattle.ti_replay.proofs.CostLaws.{goes_on-append}

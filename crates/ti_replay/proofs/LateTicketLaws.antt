@@ -7,7 +7,7 @@ use Rattle.ti_types.specs.declared.entry.Entry.{Entry}
 use Rattle.ti_types.specs.declared.entry.Entry.TheVariants.{Start, Own, Hand, Back, End, Asked, Stop, Read, Go}
 use Rattle.ti_types.specs.declared.view.ThreadView.{ThreadView}
 use Rattle.ti_replay.specs.View.{view}
-use Rattle.ti_replay.specs.HistoryState.{HistoryState, history_state, next_state, allows}
+use Rattle.ti_replay.specs.HistoryState.{HistoryState, history_state}
 use Rattle.ti_replay.specs.LateSteps.{is_passed}
 use Rattle.ti_replay.proofs.LateStepLaws.{state_late, answered_late}
 use Rattle.ti_types.specs.declared.answer.Answer.{Answer}
@@ -18,6 +18,7 @@ use Rattle.ti_replay.specs.Legal.{may_follow}
 use Rattle.ti_replay.specs.LateTickets.{steps_of}
 use Rattle.ti_replay.specs.LateTickets.{AreAlike}
 use Rattle.ti_replay.specs.Tickets.{reply_in, reply_to}
+use Rattle.ti_replay.proofs.NextStates.{next_state, allows}
 use Rattle.ti_replay.proofs.TicketReplies.{reply_to-snoc, settling}
 use Rattle.std.proofs.Common.{append_assoc, append-nil, subst, None, Option}
 

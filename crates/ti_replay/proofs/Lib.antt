@@ -5,6 +5,7 @@ pub mod CostLaws
 pub mod Charging
 pub mod StepLaws
 pub mod ReplyLaws
+pub mod NextStates
 pub mod HistoryStateLaws
 pub mod AgreementLaws
 pub mod TraceLaws

@@ -10,8 +10,9 @@ use Rattle.ti_types.specs.declared.entry.Entry.TheVariants.{Start, Own, Hand, Ba
 use Rattle.ti_replay.specs.Answers.{is_alive, is_running}
 use Rattle.ti_replay.specs.View.{view, after}
 use Rattle.ti_replay.specs.Legal.{is_legal, is_new}
-use Rattle.ti_replay.specs.HistoryState.{HistoryState, history_state, next_state, allows, allows_all}
+use Rattle.ti_replay.specs.HistoryState.{HistoryState, history_state}
 use Rattle.ti_replay.specs.Storage.{is_start, is_end, has_life}
+use Rattle.ti_replay.proofs.NextStates.{next_state, allows, allows_all}
 use Rattle.ti_replay.proofs.LateStepLaws.{called_keeps}
 use Rattle.ti_replay.proofs.HistoryStateLaws.{goes_on-allows, history_state-append}
 use Rattle.ti_replay.proofs.BoundLaws.{all_quiet, WaitsWell, waits_step}

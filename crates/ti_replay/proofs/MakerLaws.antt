@@ -11,8 +11,9 @@ use Rattle.ti_types.specs.declared.entry.Entry.TheVariants.{Start, Own, Hand, Ba
 use Rattle.ti_replay.specs.Settling.{is_waiting_call}
 use Rattle.ti_replay.specs.View.{view, after}
 use Rattle.ti_replay.specs.Legal.{own_cost, call_cost, ask_count, own_spent, calls_spent, asked_by}
-use Rattle.ti_replay.specs.HistoryState.{HistoryState, history_state, next_state}
+use Rattle.ti_replay.specs.HistoryState.{HistoryState, history_state}
 use Rattle.ti_replay.specs.Makers.{maker, made_by, mode_after}
+use Rattle.ti_replay.proofs.NextStates.{next_state}
 use Rattle.ti_replay.proofs.LateStepLaws.{called_keeps}
 use Rattle.ti_replay.proofs.HistoryStateLaws.{history_state-append}
 use Rattle.ti_replay.proofs.BoundLaws.{all_quiet}

@@ -7,8 +7,9 @@ use Rattle.ti_types.specs.declared.numbers.EnvNo.{EnvNo}
 use Rattle.ti_types.specs.declared.state.Safe.TheVariants.{Native, Blocked, AtPoll}
 use Rattle.ti_types.specs.declared.entry.Entry.{Entry}
 use Rattle.ti_types.specs.declared.entry.Entry.TheVariants.{Start, Own, Hand, Back, End, Asked, Stop, Read, Go}
-use Rattle.ti_replay.specs.HistoryState.{HistoryState, history_state, next_state, allows, allows_all}
+use Rattle.ti_replay.specs.HistoryState.{HistoryState, history_state}
 use Rattle.ti_replay.specs.Standing.{stands_for, is_own_entry, is_go_of, is_still, StandsStill}
+use Rattle.ti_replay.proofs.NextStates.{next_state, allows, allows_all}
 use Rattle.ti_replay.proofs.LateStepLaws.{called_keeps}
 use Rattle.ti_replay.proofs.BoundLaws.{called_stopper}
 use Rattle.ti_replay.proofs.CostLaws.{goes_on-append}

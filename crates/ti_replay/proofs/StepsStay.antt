@@ -7,11 +7,12 @@ use Rattle.ti_types.specs.declared.entry.Entry.TheVariants.{Start, Own, Hand, Ba
 use Rattle.ti_replay.specs.Answers.{is_running}
 use Rattle.ti_replay.specs.View.{frames_after}
 use Rattle.ti_replay.specs.Legal.{goes_on}
-use Rattle.ti_replay.specs.HistoryState.{HistoryState, history_state, next_state, allows, allows_all}
+use Rattle.ti_replay.specs.HistoryState.{HistoryState, history_state}
 use Rattle.ti_replay.specs.LateSteps.{is_passed}
 use Rattle.ti_replay.proofs.HistoryStateLaws.{history_state-snoc, goes_on-allows}
 use Rattle.ti_replay.proofs.LateStepLaws.{called_keeps}
 use Rattle.ti_replay.specs.LateTickets.{steps_of}
+use Rattle.ti_replay.proofs.NextStates.{next_state, allows, allows_all}
 
 -- what own steps depend on: the frames only where the thread runs
 pub record IsSameForSteps (s z : HistoryState) : Type 0 where

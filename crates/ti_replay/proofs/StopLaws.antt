@@ -30,11 +30,12 @@ use Rattle.ti_replay.specs.Laws.{is_done}
 use Rattle.ti_replay.specs.Legal.{asked_by, own_spent}
 use Rattle.ti_replay.specs.Refusals.{own_refusal}
 use Rattle.ti_replay.specs.Replies.{reply}
-use Rattle.ti_replay.specs.HistoryState.{HistoryState, history_state, next_state}
+use Rattle.ti_replay.specs.HistoryState.{HistoryState, history_state}
 use Rattle.ti_replay.specs.Admission.{Happening, dealings, refusal, is_own_of, is_aimed_at}
 use Rattle.ti_replay.specs.Events.{left_by, left_own, if_none, history_of, reaches, done_unless, outcome_there, outcome_of, hold_refusal, read_outcome, given, refused_or}
 use Rattle.ti_replay.specs.Outcomes.{out_of}
 use Rattle.ti_replay.specs.Standing.{stands_for, is_standing, is_own_entry, is_go_at, lets_go, was_refused, is_pop_at, was_done, pop_count, pops_done, OneStateUnderAStop}
+use Rattle.ti_replay.proofs.NextStates.{next_state}
 use Rattle.ti_replay.proofs.AgreementLaws.{history_of-snoc, out_there, same_thread}
 use Rattle.ti_replay.proofs.AskingLaws.{reply-snoc}
 use Rattle.ti_replay.proofs.BoundLaws.{called_stopper}

@@ -18,7 +18,8 @@ use Rattle.ti_types.specs.declared.view.ThreadView.{ThreadView}
 use Rattle.ti_replay.specs.Answers.{is_alive}
 use Rattle.ti_replay.specs.View.{after, called}
 use Rattle.ti_replay.specs.Word.{word_from, word_after, lives_after}
-use Rattle.ti_replay.specs.HistoryState.{history_state, HistoryState, next_state, allows, allows_all}
+use Rattle.ti_replay.specs.HistoryState.{history_state, HistoryState}
+use Rattle.ti_replay.proofs.NextStates.{next_state, allows, allows_all}
 use Rattle.ti_replay.proofs.BoundLaws.{all_quiet, WaitsWell, waits_step}
 
 -- the word of an environment in a state

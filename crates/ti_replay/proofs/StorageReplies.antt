@@ -15,8 +15,9 @@ use Rattle.ti_replay.specs.Answers.{is_alive, answer_of}
 use Rattle.ti_replay.specs.View.{view}
 use Rattle.ti_replay.specs.Word.{word_after, lives_after}
 use Rattle.ti_replay.specs.Replies.{reply}
-use Rattle.ti_replay.specs.HistoryState.{HistoryState, history_state, next_state, allows, allows_all}
+use Rattle.ti_replay.specs.HistoryState.{HistoryState, history_state}
 use Rattle.ti_replay.specs.Storage.{WordEvent, Started, Ended, Got, Set, word_event, with_event, word_events, is_word_call, with_reply, word_replies_from, WordsReplyAlike}
+use Rattle.ti_replay.proofs.NextStates.{next_state, allows, allows_all}
 use Rattle.ti_replay.proofs.HistoryStateLaws.{history_state-snoc, goes_on-allows}
 use Rattle.ti_replay.proofs.PlaceLaws.{reply_at_once}
 use Rattle.ti_replay.proofs.ReplyLaws.{reply_stays}

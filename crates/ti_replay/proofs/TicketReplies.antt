@@ -11,8 +11,9 @@ use Rattle.ti_types.specs.declared.view.ThreadView.{ThreadView}
 use Rattle.ti_replay.specs.Settling.{Placed, settled, is_hand_over}
 use Rattle.ti_replay.specs.View.{view, new_thread, after, after_all}
 use Rattle.ti_replay.specs.PlacedState.{placed_state, settled_by}
-use Rattle.ti_replay.specs.HistoryState.{HistoryState, history_state, is_put_off}
+use Rattle.ti_replay.specs.HistoryState.{HistoryState, history_state}
 use Rattle.ti_replay.specs.Tickets.{reply_in, reply_to}
+use Rattle.ti_replay.proofs.NextStates.{is_put_off}
 use Rattle.ti_replay.proofs.AskingLaws.{settled-snoc}
 
 pub option_or-assoc : (a b c : Option Answer) → option_or (option_or a b) c ≡ option_or a (option_or b c)

@@ -18,7 +18,7 @@ use Rattle.ti_replay.specs.Legal.{may_follow, is_new, is_safe, is_stopper, calls
 use Rattle.ti_replay.specs.View.{view}
 use Rattle.ti_replay.specs.Costs.{charged, IsDue}
 use Rattle.ti_types.specs.declared.limits.Limits.{Limits}
-use Rattle.ti_replay.specs.HistoryState.{HistoryState, history_state, next_state, allows}
+use Rattle.ti_replay.specs.HistoryState.{HistoryState, history_state}
 use Rattle.ti_replay.specs.PlacedState.{placed_state}
 use Rattle.ti_replay.proofs.CostLaws.{due, may_follow_is}
 use Rattle.ti_frames.specs.Frames.{Stack}
@@ -32,6 +32,7 @@ use Rattle.ti_slot.specs.Thread.{Thread}
 use Rattle.ti_slot.specs.Refusal.{hand_refusal}
 use Rattle.ti_replay.specs.LateTickets.{steps_of}
 use Rattle.ti_replay.specs.Refusals.{own_refusal}
+use Rattle.ti_replay.proofs.NextStates.{next_state, allows}
 use Rattle.ti_slot.specs.Slot.{Stands, state_of, FramesAreHome}
 use Rattle.ti_slot.proofs.SlotLaws as laws
 use Rattle.ti_replay.proofs.BoundLaws.{own_bounded}

@@ -20,7 +20,7 @@ use Rattle.ti_replay.specs.Settling.{waits, is_waiting_call, is_hand_over}
 use Rattle.ti_replay.specs.Legal.{is_legal, may_follow, is_new, is_safe, goes_on, own_cost, call_cost_of}
 use Rattle.ti_replay.specs.View.{view, frames_after, after}
 use Rattle.ti_replay.specs.Costs.{charged, no_costs}
-use Rattle.ti_replay.specs.HistoryState.{HistoryState, history_state, next_state}
+use Rattle.ti_replay.specs.HistoryState.{HistoryState, history_state}
 use Rattle.ti_replay.proofs.HistoryStateLaws.{history_state-snoc}
 use Rattle.ti_replay.proofs.CostLaws.{is_legal-snoc}
 use Rattle.ti_replay.proofs.Charging.{charged_free}
@@ -29,6 +29,7 @@ use Rattle.ti_slot.specs.declared.condition.Condition.{Condition}
 use Rattle.ti_slot.specs.Condition.{view_of, frames_or}
 use Rattle.ti_slot.specs.Waiting.{AreReady, calls_of, entries_of}
 use Rattle.ti_replay.specs.LateTickets.{steps_of}
+use Rattle.ti_replay.proofs.NextStates.{next_state}
 use Rattle.ti_slot.specs.Slot.{Stands, state_of, FramesAreHome, LogIsHome, room_of}
 
 -- the frames that are here are those

@@ -21,8 +21,9 @@ use Rattle.ti_ops.specs.Fates.{fates_by, fate_of, with_call, told_by, is_open}
 use Rattle.ti_replay.specs.Settling.{is_hand_over}
 use Rattle.ti_replay.specs.View.{view}
 use Rattle.ti_replay.specs.Legal.{asked_by, ask_count}
-use Rattle.ti_replay.specs.HistoryState.{HistoryState, history_state, is_put_off}
+use Rattle.ti_replay.specs.HistoryState.{HistoryState, history_state}
 use Rattle.ti_replay.specs.Tickets.{reply_in, reply_to}
+use Rattle.ti_replay.proofs.NextStates.{is_put_off}
 use Rattle.ti_replay.proofs.TicketReplies.{reply_to-snoc, settling}
 use Rattle.ti_slot.specs.Tickets.{has, AreOnce, ticket_in, asked_in, is_at, is_awaited, AreAwaited, AreApart, Tells}
 use Rattle.ti_slot.proofs.FateLaws.{within, fate-passed, fate-with_call, length-with_call, same_fate}
