@@ -19,7 +19,7 @@ use Rattle.ti_types.specs.declared.state.Safe.TheVariants.{Native, Blocked}
 use Rattle.ti_replay.specs.Outcomes.{out_of}
 use Rattle.ti_replay.specs.Replies.{reply}
 use Rattle.ti_replay.specs.View.{view}
-use Rattle.ti_replay.specs.Admission.{Happening, dealings, refusal, agent_of, is_aimed_at, is_own_of}
+use Rattle.ti_replay.specs.Admission.{Happening, dealings, dealings_by, refusal, agent_of, is_aimed_at, is_own_of}
 use Rattle.ti_replay.specs.Events.{left_by, history_of, own_outcome, refused_or, read_outcome, hold_refusal, given}
 use Rattle.ti_replay.proofs.AgreementLaws.{history_of-snoc}
 use Rattle.ti_env.specs.Env.{EnvValue, new_env, with_caps}
@@ -48,7 +48,7 @@ own_told_goes events s u x k =
 
 -- the history behind a call that goes through
 pub history_now : (events : List Happening) (limits : Limits) (u : ThreadNo) (h : Happening) → is_own_of u h.event ≡ false → is_aimed_at u h.event ≡ true
-    → refusal limits (dealings limits (agent_of h.event) u events) h ≡ None → history_of limits u (events ++ h ∷ []) ≡ history_of limits u events ++ left_by limits (history_of limits u events) h.event
+    → refusal limits (dealings_by limits (agent_of h.event) u events) h ≡ None → history_of limits u (events ++ h ∷ []) ≡ history_of limits u events ++ left_by limits (history_of limits u events) h.event
 history_now events limits u h o a r = history_of-snoc limits u events h ∙ rw (o, a, r) refl
 
 -- what is said of a call, where it is known of one that goes through

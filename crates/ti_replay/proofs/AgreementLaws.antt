@@ -14,7 +14,7 @@ use Rattle.ti_types.specs.declared.event.Outcome.TheVariants as outcome
 use Rattle.ti_types.specs.declared.error.TiError.TheVariants.{InvalidThread, InvalidEnvironment}
 use Rattle.ti_types.specs.declared.answer.Answer.TheVariants as answer
 use Rattle.ti_types.specs.Caps.{no_caps}
-use Rattle.ti_replay.specs.Admission.{Happening, Dealings, dealings, dealt, refusal, refusal_of, agent_of, is_aimed_at, is_own_of, is_about_caps, is_by, caps_after}
+use Rattle.ti_replay.specs.Admission.{Happening, Dealings, dealings, dealt, refusal, refusal_of, agent_of, is_aimed_at, is_own_of, is_about_caps, is_env, is_by, dealings_by, caps_after}
 use Rattle.ti_replay.specs.Events.{left_by, history_behind, history_from, history_of, outcome_there, outcome_of, refused_or, caps_outcome}
 use Rattle.ti_replay.specs.Outcomes.{out_of}
 use Rattle.ti_replay.specs.Agreement.{is_for_want, marked, Kept, Taken, Called, kept_as, kept_from, kept, with_first, if_kept, told_from, told, TellsTheKept}
@@ -81,8 +81,17 @@ caps_kept env held (GetCaps e) h = refl
 caps_kept env held (SetEnvWord e w) h = refl
 caps_kept env held (GetEnvWord e) h = refl
 
-pub by_is : (env : EnvNo) (event : Event) → is_by env event ≡ true → agent_of event ≡ env
-by_is env event h = ap (λ (n : ℕ). record { 0 = n }) (eqb-true _ _ h)
+one_env : (env : EnvNo) (o : Option EnvNo) → is_env env o ≡ true → o ≡ Some env
+one_env env (Some other) h = ap (λ (n : ℕ). Some (record { 0 = n })) (eqb-true _ _ h)
+one_env env None h = cc
+
+pub by_is : (env : EnvNo) (event : Event) → is_by env event ≡ true → agent_of event ≡ Some env
+by_is env event h = one_env env (agent_of event) h
+
+-- what the environment of an event holds is what this one does, where it is this one's
+pub dealings_is : (limits : Limits) (env : EnvNo) (thread : ThreadNo) (front : List Happening) (event : Event) → is_by env event ≡ true
+    → dealings_by limits (agent_of event) thread front ≡ dealings limits env thread front
+dealings_is limits env thread front event h = ap (λ o. dealings_by limits o thread front) (by_is env event h)
 
 -- one more event
 abbrev behind : Limits → EnvNo → ThreadNo → List Happening → List Entry → Happening → KeptState
@@ -115,7 +124,7 @@ took_one : (limits : Limits) (env : EnvNo) (thread : ThreadNo) (front : List Hap
     → behind limits env thread front history h ≡ took_if limits env thread (record { history = history; dealings = dealings limits env thread front }) (kept_as limits env thread front h)
 took_one limits env thread front history h =
     let sort : IsOneSort thread h.event = one_sort thread h.event in
-    grind (arith, sort, caps_kept env (dealings limits env thread front).caps h.event, by_is env h.event, refusal_marked limits (dealings limits env thread front) h)
+    grind (arith, sort, caps_kept env (dealings limits env thread front).caps h.event, dealings_is limits env thread front h.event, refusal_marked limits (dealings limits env thread front) h)
 
 pub history_from-append : (limits : Limits) (thread : ThreadNo) (front : List Happening) (history : List Entry) (xs ys : List Happening)
     → history_from limits thread front history (xs ++ ys) ≡ history_from limits thread (front ++ xs) (history_from limits thread front history xs) ys
@@ -168,7 +177,7 @@ outcome_one : (limits : Limits) (env : EnvNo) (thread : ThreadNo) (all front : L
     → outcome_of limits thread all front h ≡ outcome_if limits thread (history_of limits thread all) (left limits env thread front) (kept_as limits env thread front h) (outcome_of limits thread all front h)
 outcome_one limits env thread all front h =
     let sort : IsOneSort thread h.event = one_sort thread h.event in
-    grind (arith, sort, by_is env h.event, refusal_marked limits (dealings limits env thread front) h)
+    grind (arith, sort, dealings_is limits env thread front h.event, refusal_marked limits (dealings limits env thread front) h)
 
 -- what an environment holds does not depend on the thread
 caps_fold : (limits : Limits) (env : EnvNo) (t u : ThreadNo) (d c : Dealings) (events : List Happening) → d.caps ≡ c.caps → (fold (dealt limits env t) d events).caps ≡ (fold (dealt limits env u) c events).caps

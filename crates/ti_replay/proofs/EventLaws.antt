@@ -1,5 +1,5 @@
 -- The history that events leave is legal.
-use Rattle.std.proofs.Common.{◌≡◌, ◌≤◌, Bool, true, false, cond, ◌&&◌, nat_lt, List, [], ◌∷◌, ◌++◌, refl, ap, ◌∙◌, arith, Some, None, is_none, append-nil, append_assoc, fold}
+use Rattle.std.proofs.Common.{◌≡◌, ◌≤◌, sym, subst, Bool, true, false, cond, ◌&&◌, nat_lt, List, [], ◌∷◌, ◌++◌, refl, ap, ◌∙◌, arith, Some, None, is_none, append-nil, append_assoc, fold}
 use Rattle.std.proofs.lemmas.Bool.Decides.{nat_tests}
 use Rattle.std.proofs.lemmas.List.Sums.{sum_by-cons, sum_by-append}
 use Rattle.ti_types.specs.declared.limits.Limits.{Limits}
@@ -16,7 +16,7 @@ use Rattle.ti_replay.specs.Settling.{Placed, placed, left_out, runs_after, is_wa
 use Rattle.ti_replay.specs.View.{view, after, after_all}
 use Rattle.ti_replay.specs.Legal.{ask_count, asked_by, Situation, situation, fits, may_follow, goes_on, is_legal, calls_spent, call_cost, own_spent, is_well_formed, is_not_negative, env_of, is_safe}
 use Rattle.ti_replay.specs.Refusals.{own_refusal}
-use Rattle.ti_replay.specs.Admission.{Happening, dealt, Dealings, dealings, refusal, refusal_of, agent_of, is_own_of, is_by, is_paid}
+use Rattle.ti_replay.specs.Admission.{Happening, dealt, Dealings, dealings, dealings_by, refusal, refusal_of, agent_of, is_own_of, is_by, is_paid}
 use Rattle.ti_replay.specs.Events.{left_by, left_own, left_by_poll, own_entry, history_behind, history_from, history_of}
 use Rattle.ti_replay.proofs.HistoryLaws.{view_hand}
 use Rattle.ti_replay.proofs.LateStepLaws.{called_keeps}
@@ -72,7 +72,7 @@ callable limits history (Go e t) = nat_lt e.0 limits.envs
 callable limits history _ = true
 
 admitted_callable : (limits : Limits) (d : Dealings) (wanting : Bool) (history : List Entry) (event : Event)
-    → is_none (refusal_of limits d wanting event) ≡ true → calls_spent (agent_of event) history ≤ d.spent → callable limits history event ≡ true
+    → is_none (refusal_of limits d wanting event) ≡ true → ((e : EnvNo) → agent_of event ≡ Some e → calls_spent e history ≤ d.spent) → callable limits history event ≡ true
 admitted_callable limits d wanting history (Start t) h le = refl
 admitted_callable limits d wanting history (Own t step) h le = refl
 admitted_callable limits d wanting history (Poll t) h le = refl
@@ -80,9 +80,9 @@ admitted_callable limits d wanting history (ToNative t) h le = refl
 admitted_callable limits d wanting history (ToBlocked t kind) h le = refl
 admitted_callable limits d wanting history (Back t) h le = refl
 admitted_callable limits d wanting history (End t) h le = refl
-admitted_callable limits d wanting history (Ask e t call) h le = grind (arith, nat_tests)
-admitted_callable limits d wanting history (Stop e t) h le = grind (arith, nat_tests)
-admitted_callable limits d wanting history (Read e t n) h le = grind (arith, nat_tests)
+admitted_callable limits d wanting history (Ask e t call) h le = let few = le e refl in grind (arith, nat_tests, few)
+admitted_callable limits d wanting history (Stop e t) h le = let few = le e refl in grind (arith, nat_tests, few)
+admitted_callable limits d wanting history (Read e t n) h le = let few = le e refl in grind (arith, nat_tests, few)
 admitted_callable limits d wanting history (Go e t) h le = grind (arith, nat_tests)
 admitted_callable limits d wanting history (AddCaps e caps) h le = refl
 admitted_callable limits d wanting history (Relinquish e caps) h le = refl
@@ -173,11 +173,13 @@ paid_one limits thread front history h k env =
 legal_one : (limits : Limits) (thread : ThreadNo) (front : List Happening) (history : List Entry) (h : Happening)
     → IsPaidFor limits thread front history → is_legal limits (history_behind limits thread front history h) ≡ true
 legal_one limits thread front history h k =
-    let d = dealings limits (agent_of h.event) thread front in
+    let d = dealings_by limits (agent_of h.event) thread front in
+    let paid : (e : EnvNo) → agent_of h.event ≡ Some e → calls_spent e history ≤ d.spent =
+    λ e q. subst (λ o. calls_spent e history ≤ (dealings_by limits o thread front).spent) (sym q) (k.paid e) in
     let own : is_own_of thread h.event ≡ true → goes_on limits history (left_by limits history h.event) ≡ true =
     λ o. left_legal limits history h.event ((own_sort thread h.event o).1 limits history) in
     let aimed : is_none (refusal limits d h) ≡ true → goes_on limits history (left_by limits history h.event) ≡ true =
-    λ o. left_legal limits history h.event (admitted_callable limits d h.wanting history h.event o (k.paid (agent_of h.event))) in
+    λ o. left_legal limits history h.event (admitted_callable limits d h.wanting history h.event o paid) in
     grind (arith, own, aimed, k.legal, goes_on-append limits [] history (left_by limits history h.event))
 
 history_from_paid : (limits : Limits) (thread : ThreadNo) (front : List Happening) (history : List Entry) (events : List Happening)

@@ -24,10 +24,10 @@ use Rattle.ti_replay.specs.Refusals.{own_refusal}
 use Rattle.ti_replay.specs.Replies.{reply}
 use Rattle.ti_replay.specs.Settling.{unanswered, waits}
 use Rattle.ti_replay.specs.View.{view, called}
-use Rattle.ti_replay.specs.Admission.{Happening, dealings, refusal, caps_after, agent_of, is_aimed_at, is_by, is_own_of, is_paid}
+use Rattle.ti_replay.specs.Admission.{Happening, dealings, dealings_by, refusal, caps_after, agent_of, is_aimed_at, is_by, is_own_of, is_paid}
 use Rattle.ti_replay.specs.Events.{left_by, left_own, if_none, history_of, reaches, done_unless, gave_unless, given, outcome_there, hold_refusal, read_outcome}
 use Rattle.ti_replay.specs.Outcomes.{out_of, env_word, env_word_after, word_set}
-use Rattle.ti_replay.proofs.AgreementLaws.{history_of-snoc, dealings-snoc, by_is, out_there}
+use Rattle.ti_replay.proofs.AgreementLaws.{history_of-snoc, dealings-snoc, dealings_is, out_there}
 use Rattle.ti_replay.proofs.AskingLaws.{reply-snoc}
 use Rattle.ti_replay.proofs.DoneLaws.{change_where_done}
 use Rattle.ti_replay.proofs.HistoryLaws.{view-snoc, unanswered-snoc}
@@ -230,8 +230,8 @@ pub cost_is : (limits : Limits) (e : EnvNo) (t : ThreadNo) (events : List Happen
 cost_is limits e t events h =
     ap (λ d. d.spent) (dealings-snoc limits e t events h)
     ∙ same_cost (dealings limits e t events).spent (is_own_of t h.event) (nat_lt t.0 limits.threads) (is_aimed_at t h.event) (is_by e h.event) (is_paid h.event)
-    (is_none (refusal limits (dealings limits e t events) h)) (is_none (refusal limits (dealings limits (agent_of h.event) t events) h))
-    (own_unpaid t h.event) (λ by. ap (λ g. is_none (refusal limits (dealings limits g t events) h)) (sym (by_is e h.event by)))
+    (is_none (refusal limits (dealings limits e t events) h)) (is_none (refusal limits (dealings_by limits (agent_of h.event) t events) h))
+    (own_unpaid t h.event) (λ by. ap (λ d. is_none (refusal limits d h)) (sym (dealings_is limits e t events h.event by)))
 
 pub refusals_keep : RefusalsKeep
 refusals_keep limits events h refused = record {

@@ -1,5 +1,5 @@
 -- What an environment is told of its words, by the events.
-use Rattle.std.proofs.Common.{◌≡◌, ℕ, ◌<◌, ◌==◌, Bool, true, cond, List, [], ◌∷◌, ◌++◌, length, refl, ap, ap₂, sym, ◌∙◌, arith, Option, Some, append_assoc, append-nil, inl, inr}
+use Rattle.std.proofs.Common.{◌≡◌, ℕ, ◌<◌, ◌==◌, Bool, true, cond, List, [], ◌∷◌, ◌++◌, length, refl, ap, ap₂, sym, ◌∙◌, arith, Option, Some, append_assoc, append-nil, eqb-true, inl, inr}
 use Rattle.std.proofs.lemmas.Bool.{cases_Bool}
 use Rattle.std.proofs.lemmas.Bool.Decides.{nat_tests}
 use Rattle.std.proofs.lemmas.List.Sums.{fold-append}
@@ -21,7 +21,7 @@ use Rattle.ti_replay.specs.Admission.{Happening}
 use Rattle.ti_replay.specs.Events.{history_behind, history_from, history_of, left_by, reaches, given}
 use Rattle.ti_replay.specs.Outcomes.{out_of, word_set, env_word, env_word_after, word_outcome}
 use Rattle.ti_replay.specs.Storage.{word_answer, WordIsGiven, is_env_word_call, env_word_calls, env_words_told_from, EnvWordsFollowTheirCalls}
-use Rattle.ti_replay.proofs.AgreementLaws.{history_from-append, history_of-snoc, by_is}
+use Rattle.ti_replay.proofs.AgreementLaws.{history_from-append, history_of-snoc}
 use Rattle.ti_replay.proofs.EventLaws.{history_is_legal}
 use Rattle.ti_replay.proofs.LifeLaws.{alive_is}
 use Rattle.ti_replay.proofs.PlaceLaws.{reply_at_once}
@@ -101,7 +101,7 @@ told_event limits env all front wanting (SetEnvWord e w) es rest h = grind arith
 told_event limits env all front wanting (GetEnvWord e) es rest h =
     elim (cases_Bool (e.0 == env.0)) [
       | inl same ↦
-          let is : e ≡ env = by_is env (GetEnvWord e) same in
+          let is : e ≡ env = ap (λ (k : ℕ). record { 0 = k }) (eqb-true _ _ same) in
           rw same (ap₂ (λ w r. word_outcome limits e (answer.Word w) ∷ r) (ap (λ x. env_word x front) is) h)
       | inr other ↦ rw other h
     ]

@@ -1,5 +1,5 @@
 -- Which calls of an agent reach the thread.
-use Rattle.std.specs.Prelude.{ℕ, ◌+◌, Bool, true, false, ◌&&◌, if◌then◌else◌, ◌==◌, nat_lt, List, Option, None, is_none}
+use Rattle.std.specs.Prelude.{ℕ, ◌+◌, Bool, true, false, ◌&&◌, if◌then◌else◌, ◌==◌, nat_lt, List, Option, Some, None, is_none}
 use Rattle.std.specs.List.{fold}
 use Rattle.ti_types.specs.declared.limits.Limits.{Limits}
 use Rattle.ti_types.specs.declared.numbers.EnvNo.{EnvNo}
@@ -24,18 +24,18 @@ pub record Dealings : Type 0 where
   pub caps : Caps
   pub spent : ℕ
 
--- the environment of an agent's event. A thread's own event has none, and counts as environment 0's
-abbrev pub agent_of : Event → EnvNo
-agent_of (Ask e t call) = e
-agent_of (Stop e t) = e
-agent_of (Read e t max_count) = e
-agent_of (Go e t) = e
-agent_of (AddCaps e caps) = e
-agent_of (Relinquish e caps) = e
-agent_of (GetCaps e) = e
-agent_of (SetEnvWord e word) = e
-agent_of (GetEnvWord e) = e
-agent_of _ = record { 0 = 0 }
+-- the environment of an agent's event. A thread's own event has none
+abbrev pub agent_of : Event → Option EnvNo
+agent_of (Ask e t call) = Some e
+agent_of (Stop e t) = Some e
+agent_of (Read e t max_count) = Some e
+agent_of (Go e t) = Some e
+agent_of (AddCaps e caps) = Some e
+agent_of (Relinquish e caps) = Some e
+agent_of (GetCaps e) = Some e
+agent_of (SetEnvWord e word) = Some e
+agent_of (GetEnvWord e) = Some e
+agent_of _ = None
 
 -- whether the event is an agent's call at a thread
 abbrev pub is_aimed_at : ThreadNo → Event → Bool
@@ -63,8 +63,12 @@ is_about_caps (Relinquish e caps) = true
 is_about_caps (GetCaps e) = true
 is_about_caps _ = false
 
+abbrev pub is_env : EnvNo → Option EnvNo → Bool
+is_env env (Some other) = other.0 == env.0
+is_env env None = false
+
 abbrev pub is_by : EnvNo → Event → Bool
-is_by env event = (agent_of event).0 == env.0
+is_by env event = is_env env (agent_of event)
 
 -- whether the call costs one of the environment's calls at the thread
 abbrev pub is_paid : Event → Bool
@@ -112,5 +116,14 @@ dealt limits env thread d h =
       spent = if spends limits env thread d h then d.spent + 1 else d.spent;
     }
 
+-- of an environment for which nothing has happened
+abbrev pub no_dealings : Dealings
+no_dealings = record { caps = no_caps; spent = 0 }
+
 abbrev pub dealings : Limits → EnvNo → ThreadNo → List Happening → Dealings
-dealings limits env thread events = fold (dealt limits env thread) (record { caps = no_caps; spent = 0 }) events
+dealings limits env thread events = fold (dealt limits env thread) no_dealings events
+
+-- what the environment of an event holds, where it has one, and what that has spent at one thread
+abbrev pub dealings_by : Limits → Option EnvNo → ThreadNo → List Happening → Dealings
+dealings_by limits (Some env) thread events = dealings limits env thread events
+dealings_by limits None thread events = no_dealings

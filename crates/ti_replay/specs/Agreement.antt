@@ -7,7 +7,7 @@ use Rattle.ti_types.specs.declared.error.TiError.{TiError}
 use Rattle.ti_types.specs.declared.error.TiError.TheVariants.{OutOfMemory}
 use Rattle.ti_types.specs.declared.event.Event.{Event}
 use Rattle.ti_types.specs.declared.event.Outcome.{Outcome}
-use Rattle.ti_replay.specs.Admission.{Happening, Dealings, dealings, refusal, agent_of, is_aimed_at, is_own_of, is_about_caps, is_by}
+use Rattle.ti_replay.specs.Admission.{Happening, Dealings, dealings, dealings_by, refusal, agent_of, is_aimed_at, is_own_of, is_about_caps, is_by}
 use Rattle.ti_replay.specs.Outcomes.{out_of}
 
 -- whether a refusal is for want of memory
@@ -31,7 +31,7 @@ abbrev pub kept_as : Limits → EnvNo → ThreadNo → List Happening → Happen
 kept_as limits env thread front h =
     if is_own_of thread h.event then Some (Taken h.event)
     else if is_by env h.event && (is_aimed_at thread h.event || is_about_caps h.event) then Some (Called (marked limits (dealings limits env thread front) h))
-    else if is_aimed_at thread h.event && is_none (refusal limits (dealings limits (agent_of h.event) thread front) h) then Some (Taken h.event)
+    else if is_aimed_at thread h.event && is_none (refusal limits (dealings_by limits (agent_of h.event) thread front) h) then Some (Taken h.event)
     else None
 
 abbrev pub with_first : Option Kept → List Kept → List Kept

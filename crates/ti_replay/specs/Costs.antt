@@ -2,6 +2,7 @@
 use Rattle.std.specs.Prelude.{◌≡◌, ◌<◌, ◌+◌, List, slice_set, slice_index_or}
 use Rattle.ti_types.specs.declared.numbers.EnvNo.{EnvNo}
 use Rattle.ti_types.specs.declared.entry.Entry.{Entry}
+use Rattle.ti_types.specs.Limits.{most_calls}
 use Rattle.ti_types.specs.declared.entry.Entry.TheVariants.{Asked, Stop, Read}
 use Rattle.ti_replay.specs.declared.costs.Costs.{Costs}
 use Rattle.ti_replay.specs.Legal.{call_cost, ask_count, env_of}
@@ -21,7 +22,7 @@ charged costs x =
 
 -- the entry is numbered as the table says, and its environment has a call left
 abbrev pub IsDue : List Costs → Entry → Type 0
-IsDue costs (Asked env number call) = (number ≡ (costs_at costs env).asked) × ((costs_at costs env).calls < 1024)
-IsDue costs (Stop env) = (costs_at costs env).calls < 1024
-IsDue costs (Read env max_count) = (costs_at costs env).calls < 1024
+IsDue costs (Asked env number call) = (number ≡ (costs_at costs env).asked) × ((costs_at costs env).calls < most_calls)
+IsDue costs (Stop env) = (costs_at costs env).calls < most_calls
+IsDue costs (Read env max_count) = (costs_at costs env).calls < most_calls
 IsDue costs _ = Unit {0}

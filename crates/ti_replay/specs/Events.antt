@@ -19,7 +19,7 @@ use Rattle.ti_replay.specs.View.{view, is_barred}
 use Rattle.ti_replay.specs.Legal.{own_spent, asked_by, is_armed, is_stopper}
 use Rattle.ti_replay.specs.Replies.{reply}
 use Rattle.ti_replay.specs.Refusals.{own_refusal, or_else, unless}
-use Rattle.ti_replay.specs.Admission.{Happening, Dealings, dealings, refusal, can_be_had, agent_of, is_aimed_at, is_own_of}
+use Rattle.ti_replay.specs.Admission.{Happening, Dealings, dealings, dealings_by, refusal, can_be_had, agent_of, is_aimed_at, is_own_of}
 
 -- the one entry that an event of a thread's own leaves, but for a poll
 abbrev pub own_entry : Event → Option Entry
@@ -66,7 +66,7 @@ left_by limits history event = left_own limits history (own_entry event)
 abbrev pub reaches : Limits → ThreadNo → List Happening → Happening → Bool
 reaches limits thread front h =
     (is_own_of thread h.event && nat_lt thread.0 limits.threads)
-    || (is_aimed_at thread h.event && is_none (refusal limits (dealings limits (agent_of h.event) thread front) h))
+    || (is_aimed_at thread h.event && is_none (refusal limits (dealings_by limits (agent_of h.event) thread front) h))
 
 abbrev pub history_behind : Limits → ThreadNo → List Happening → List Entry → Happening → List Entry
 history_behind limits thread front history h = if reaches limits thread front h then history ++ left_by limits history h.event else history
@@ -130,7 +130,7 @@ refused_or None other = other
 -- what an event at a thread, or about capabilities, comes to among all events, behind a front of them
 abbrev pub outcome_of : Limits → ThreadNo → List Happening → List Happening → Happening → Option Outcome
 outcome_of limits thread all front h =
-    let d = dealings limits (agent_of h.event) thread front in
+    let d = dealings_by limits (agent_of h.event) thread front in
     if is_own_of thread h.event
     then (if nat_lt thread.0 limits.threads then outcome_there limits (history_of limits thread all) (history_of limits thread front) h.event else Some (outcome.Refused InvalidThread))
     else if is_aimed_at thread h.event
