@@ -6,7 +6,7 @@ use Rattle.ti_types.specs.declared.state.Safe.TheVariants.{Native, Blocked, AtPo
 use Rattle.ti_types.specs.declared.entry.Entry.{Entry}
 use Rattle.ti_types.specs.declared.entry.Entry.TheVariants as entry
 use Rattle.ti_types.specs.declared.error.TiError.{TiError}
-use Rattle.ti_types.specs.declared.error.TiError.TheVariants.{InvalidThread, InvalidEnvironment, NotAvailable, NotRunning, AlreadyStopped, NotStopped, StillRunning}
+use Rattle.ti_types.specs.declared.error.TiError.TheVariants.{InvalidThread, InvalidEnvironment, NotAvailable, NotRunning}
 use Rattle.ti_types.specs.declared.answer.Answer.{Answer}
 use Rattle.ti_types.specs.declared.answer.Answer.TheVariants as answer
 use Rattle.ti_types.specs.declared.event.Event.{Event}
@@ -16,9 +16,9 @@ use Rattle.ti_types.specs.declared.event.Outcome.TheVariants as outcome
 use Rattle.ti_types.specs.declared.view.ThreadView.{ThreadView}
 use Rattle.ti_replay.specs.Answers.{is_running}
 use Rattle.ti_replay.specs.View.{view, is_barred}
-use Rattle.ti_replay.specs.Legal.{own_spent, asked_by, is_armed, is_stopper}
+use Rattle.ti_replay.specs.Legal.{own_spent, asked_by, is_armed}
 use Rattle.ti_replay.specs.Replies.{reply}
-use Rattle.ti_replay.specs.Refusals.{own_refusal, or_else, unless}
+use Rattle.ti_replay.specs.Refusals.{own_refusal, held_refusal, or_else, unless}
 use Rattle.ti_replay.specs.Admission.{Happening, Dealings, dealings, dealings_by, refusal, can_be_had, agent_of, is_aimed_at, is_own_of}
 
 -- the one entry that an event of a thread's own leaves, but for a poll
@@ -33,9 +33,9 @@ own_entry _ = None
 
 -- why the thread's own answer to a stop, a read or a go is a refusal
 abbrev pub hold_refusal : ThreadView → Event → Option TiError
-hold_refusal v (Stop e t) = unless (is_none v.stopper) AlreadyStopped
-hold_refusal v (Read e t max_count) = or_else (unless (is_stopper v.stopper e) NotStopped) (unless (not (is_running v.mode)) StillRunning)
-hold_refusal v (Go e t) = unless (is_stopper v.stopper e) NotStopped
+hold_refusal v (Stop e t) = held_refusal v (entry.Stop e)
+hold_refusal v (Read e t max_count) = held_refusal v (entry.Read e max_count)
+hold_refusal v (Go e t) = held_refusal v (entry.Go e)
 hold_refusal v _ = None
 
 abbrev pub if_none : Option TiError → List Entry → List Entry

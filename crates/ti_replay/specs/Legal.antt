@@ -15,7 +15,8 @@ use Rattle.ti_types.specs.Steps.{step_refusal}
 pub use Rattle.ti_types.specs.Steps.{is_native, newest_is_native}
 pub use Rattle.ti_replay.specs.Answers.{is_new, is_safe}
 use Rattle.ti_replay.specs.Answers.{is_running}
-use Rattle.ti_replay.specs.Refusals.{own_refusal}
+pub use Rattle.ti_replay.specs.Refusals.{is_stopper}
+use Rattle.ti_replay.specs.Refusals.{own_refusal, held_refusal}
 use Rattle.ti_replay.specs.Settling.{unanswered}
 use Rattle.ti_replay.specs.View.{view}
 
@@ -62,10 +63,6 @@ is_armed limits history = nat_lt 0 (length (unanswered history)) || is_some (vie
 abbrev pub step_fits : Limits → List Frame → Step → Bool
 step_fits limits frames step = is_none (step_refusal limits.depth frames step)
 
-abbrev pub is_stopper : Option EnvNo → EnvNo → Bool
-is_stopper (Some other) env = other.0 == env.0
-is_stopper None env = false
-
 -- what is known of a history before an entry: the view, whether the thread is called for, what the thread has
 -- spent, and what the entry's environment has spent and asked
 pub record Situation : Type 0 where
@@ -80,14 +77,14 @@ abbrev pub has_call : Limits → Situation → EnvNo → Bool
 has_call limits s env = nat_lt env.0 limits.envs && nat_lt s.calls limits.calls
 
 -- whether an entry may come: one of the thread's own where it is not refused, and a poll's hand-over only where the thread
--- is called for
+-- is called for; an environment's where that is there and has a call left, no number is negative that may not be, a call
+-- has its number, and the thread does not refuse a stop, a read or a go
 abbrev pub fits : Limits → Situation → Entry → Bool
 fits limits s (Hand AtPoll) = is_none (own_refusal limits s.view s.own (Hand AtPoll)) && s.armed
 fits limits s (Asked env number call) = has_call limits s env && is_well_formed call && (number == s.asked)
-fits limits s (Stop env) = has_call limits s env && is_none s.view.stopper
-fits limits s (Read env max_count) =
-    has_call limits s env && is_not_negative max_count && is_stopper s.view.stopper env && not (is_running s.view.mode)
-fits limits s (Go env) = nat_lt env.0 limits.envs && is_stopper s.view.stopper env
+fits limits s (Stop env) = has_call limits s env && is_none (held_refusal s.view (Stop env))
+fits limits s (Read env max_count) = has_call limits s env && is_not_negative max_count && is_none (held_refusal s.view (Read env max_count))
+fits limits s (Go env) = nat_lt env.0 limits.envs && is_none (held_refusal s.view (Go env))
 fits limits s x = is_none (own_refusal limits s.view s.own x)
 
 -- the environment of an entry. The thread's own entries have none, and count as environment 0's
