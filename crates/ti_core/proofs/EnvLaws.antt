@@ -17,7 +17,7 @@ use Rattle.ti_replay.specs.Admission.{Happening, Dealings, dealings, spends, cap
 use Rattle.ti_replay.proofs.AgreementLaws.{dealings-snoc}
 use Rattle.ti_env.specs.Env.{EnvValue, with_caps}
 use Rattle.ti_core.specs.Thread.{ThreadState}
-use Rattle.ti_core.specs.Core.{CoreState, Stepped, env_at, stepped_by, refused_or_else, spent_at, stepped_own, stepped_poll}
+use Rattle.ti_core.specs.Core.{CoreState, Stepped, env_at, stepped_by, refused_or_else, spending, stepped_own, stepped_poll}
 use Rattle.ti_replay.specs.Outcomes.{env_word, env_word_after}
 use Rattle.ti_core.specs.Stands.{EnvStands, Stands}
 use Rattle.ti_core.proofs.StepLaws.{happened, same_thread, whys, whys_is_ask, whys_is_stop, whys_is_read, ask_there, stop_there, read_there, cond_same}
@@ -50,7 +50,7 @@ agent_envs envs threads (Some error) other = refl
 
 -- an environment that pays for a call, where it goes through
 paid_stands : (limits : Limits) (e f : EnvNo) (u : ThreadNo) (events : List Happening) (h : Happening) (envs envs' : List EnvValue) (goes : Bool)
-    → EnvStands limits e events (env_at envs e) → e.0 < length envs → envs' ≡ cond goes (spent_at envs f u) envs
+    → EnvStands limits e events (env_at envs e) → e.0 < length envs → envs' ≡ cond goes (spending envs f u) envs
     → ((c : Caps) → caps_after e c h.event ≡ c) → ((n : ℕ) → env_word_after e n h ≡ n)
     → ((t : ThreadNo) → spends limits e t (dealings limits e t events) h ≡ (u.0 == t.0 && (f.0 == e.0) && goes))
     → (goes ≡ true → u.0 < limits.threads)

@@ -87,17 +87,17 @@ pub one_more : (event : ThreadNo → Event) (ts : List ThreadNo) (s mid new : Co
 one_more event ts s mid new os t o count h one =
     let outcomes = more_said event ts s mid new os t o h one in
     record {
-  limits = one.limits ∙ h.limits;
-  stands = λ events k.
-      let more = one.stands (events ++ each_happened event ts os) (h.stands events k) in
-      let e = append_assoc events (each_happened event ts os) (happening (event t) (told_now o) ∷ []) ∙ ap (λ l. events ++ l) (sym (happened-snoc event ts os t o count)) in
-      subst (λ l. Stands l new) e more;
-  outcomes = outcomes;
-  refused = λ events k. said_unchanged s.limits events event (ts ++ t ∷ []) (os ++ o ∷ []) (outcomes events k);
-  fresh = fresh-snoc s os o h.fresh (fresh_before s mid os o h.kept one.fresh);
-  kept = λ k.
-      let a = one.kept k in
-      let b = h.kept k in
-      let c = tickets-snoc os o k in
-      grind (arith, a, b, c);
-}
+      limits = one.limits ∙ h.limits;
+      stands = λ events k.
+          let more = one.stands (events ++ each_happened event ts os) (h.stands events k) in
+          let e = append_assoc events (each_happened event ts os) (happening (event t) (told_now o) ∷ []) ∙ ap (λ l. events ++ l) (sym (happened-snoc event ts os t o count)) in
+          subst (λ l. Stands l new) e more;
+      outcomes = outcomes;
+      refused = λ events k. said_unchanged s.limits events event (ts ++ t ∷ []) (os ++ o ∷ []) (outcomes events k);
+      fresh = fresh-snoc s os o h.fresh (fresh_before s mid os o h.kept one.fresh);
+      kept = λ k.
+          let a = one.kept k in
+          let b = h.kept k in
+          let c = tickets-snoc os o k in
+          grind (arith, a, b, c);
+    }

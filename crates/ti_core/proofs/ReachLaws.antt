@@ -11,7 +11,7 @@ use Rattle.ti_replay.specs.Events.{history_of, given}
 use Rattle.ti_replay.specs.Legal.{calls_spent}
 use Rattle.ti_env.specs.Env.{call_refusal, stop_refusal, read_refusal}
 use Rattle.ti_core.specs.Thread.{ThreadState, reply_now, ask_next, read_next, read_told}
-use Rattle.ti_core.specs.Core.{CoreState, thread_at, env_at, why_not, spent_at, stepped_ask, stepped_read}
+use Rattle.ti_core.specs.Core.{CoreState, thread_at, env_at, why_not, spending, stepped_ask, stepped_read}
 use Rattle.ti_core.specs.Stands.{IsReached}
 use Rattle.ti_core.proofs.CallLaws.{spent_same}
 use Rattle.ti_core.proofs.StepLaws.{whys, whys_is_ask, whys_is_stop, whys_is_read, ask_through, stop_through, read_through, IsLetThrough}
@@ -57,7 +57,7 @@ thread_there s e t k le lt =
 -- what a call that goes through leaves
 pub ask_goes : (s : CoreState) (w : Bool) (e : EnvNo) (t : ThreadNo) (call : Call) → e.0 < length s.envs → t.0 < length s.threads → call_refusal (env_at s.envs e) t call ≡ None → w ≡ false
     → stepped_ask s.limits s.envs s.threads w e t call ≡ record {
-      envs = spent_at s.envs e t;
+      envs = spending s.envs e t;
       threads = slice_set s.threads t.0 (ask_next (thread_at s.limits s.threads t).thread.limits (thread_at s.limits s.threads t) e call);
       told = given (reply_now (thread_at s.limits s.threads t).thread.limits (thread_at s.limits s.threads t) e call);
     }
@@ -67,7 +67,7 @@ ask_goes s w e t call le lt free off =
 
 pub read_goes : (s : CoreState) (w : Bool) (e : EnvNo) (t : ThreadNo) (n : ℤ) → e.0 < length s.envs → t.0 < length s.threads → read_refusal (env_at s.envs e) t n ≡ None → w ≡ false
     → stepped_read s.limits s.envs s.threads w e t n ≡ record {
-      envs = spent_at s.envs e t;
+      envs = spending s.envs e t;
       threads = slice_set s.threads t.0 (read_next (thread_at s.limits s.threads t).thread.limits (thread_at s.limits s.threads t) e (thread_at s.limits s.threads t).thread.number n);
       told = read_told (thread_at s.limits s.threads t).thread.limits (thread_at s.limits s.threads t) e (thread_at s.limits s.threads t).thread.number n;
     }

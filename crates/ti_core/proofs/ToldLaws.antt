@@ -19,7 +19,7 @@ use Rattle.ti_types.specs.declared.state.Safe.TheVariants.{Native, Blocked}
 use Rattle.ti_replay.specs.Outcomes.{out_of}
 use Rattle.ti_replay.specs.Replies.{reply}
 use Rattle.ti_replay.specs.View.{view}
-use Rattle.ti_replay.specs.Admission.{Happening, dealings, dealings_by, refusal, agent_of, is_aimed_at, is_own_of}
+use Rattle.ti_replay.specs.Admission.{Happening, dealings_by, refusal, agent_of, is_aimed_at, is_own_of}
 use Rattle.ti_replay.specs.Events.{left_by, history_of, own_outcome, refused_or, read_outcome, hold_refusal, given}
 use Rattle.ti_replay.proofs.AgreementLaws.{history_of-snoc}
 use Rattle.ti_env.specs.Env.{EnvValue, new_env, with_caps}

@@ -1,5 +1,5 @@
 -- All threads and environments of a core, and how each event changes them.
-use Rattle.std.specs.Prelude.{◌<◌, is_none, ◌≡◌, ◌+◌, Bool, false, ◌&&◌, nat_lt, if◌then◌else◌, List, [], length, Option, Some, None, slice_index, slice_index_or, slice_set, ℤ}
+use Rattle.std.specs.Prelude.{◌<◌, is_none, ◌≡◌, Bool, false, ◌&&◌, nat_lt, if◌then◌else◌, List, [], length, Option, Some, None, slice_index_or, slice_set, ℤ}
 use Rattle.ti_types.specs.declared.limits.Limits.{Limits}
 use Rattle.ti_types.specs.declared.numbers.EnvNo.{EnvNo}
 use Rattle.ti_types.specs.declared.numbers.ThreadNo.{ThreadNo}
@@ -21,7 +21,7 @@ use Rattle.ti_replay.specs.Admission.{Happening, takes_buffer, can_be_had}
 use Rattle.ti_replay.specs.Events.{own_entry, given, done_unless}
 use Rattle.ti_slot.specs.Thread.{ticket_of}
 use Rattle.ti_slot.specs.Tickets.{has, same}
-use Rattle.ti_env.specs.Env.{EnvValue, call_refusal, stop_refusal, read_refusal, with_caps}
+use Rattle.ti_env.specs.Env.{EnvValue, call_refusal, stop_refusal, read_refusal, with_caps, with_word, with_spent}
 use Rattle.ti_core.specs.Thread.{ThreadState, refusal_at, own_next, poll_next, poll_said, reply_now, ask_next, stop_next, stop_told, go_next, go_told, read_next, read_told, taken, new_state}
 
 pub record CoreState : Type 0 where
@@ -54,8 +54,9 @@ env_at envs e = slice_index_or envs e.0 no_env
 abbrev pub error_told : TiError → Option Outcome
 error_told error = Some (outcome.Gave (answer.Refused error))
 
-abbrev pub spent_at : List EnvValue → EnvNo → ThreadNo → List EnvValue
-spent_at envs e t = let env = env_at envs e in slice_set envs e.0 (record env { spent = slice_set env.spent t.0 (slice_index env.spent t.0 + 1) })
+-- one call more spent by an environment at a thread
+abbrev pub spending : List EnvValue → EnvNo → ThreadNo → List EnvValue
+spending envs e t = slice_set envs e.0 (with_spent (env_at envs e) t)
 
 -- an own event but for a poll
 abbrev pub stepped_own : Limits → List EnvValue → List ThreadState → ThreadNo → Entry → Stepped
@@ -85,7 +86,7 @@ stepped_ask limits envs threads wanting e t call =
     let s = thread_at limits threads t in
     refused_or_else envs threads (why_not envs e (call_refusal (env_at envs e) t call) (wanting && takes_buffer call))
     (record {
-      envs = spent_at envs e t;
+      envs = spending envs e t;
       threads = slice_set threads t.0 (ask_next s.thread.limits s e call);
       told = given (reply_now s.thread.limits s e call);
     })
@@ -94,14 +95,14 @@ abbrev pub stepped_stop : Limits → List EnvValue → List ThreadState → EnvN
 stepped_stop limits envs threads e t =
     let s = thread_at limits threads t in
     refused_or_else envs threads (why_not envs e (stop_refusal (env_at envs e) t) false)
-    (record { envs = spent_at envs e t; threads = slice_set threads t.0 (stop_next s.thread.limits s e s.thread.number); told = stop_told s.thread.limits s e s.thread.number })
+    (record { envs = spending envs e t; threads = slice_set threads t.0 (stop_next s.thread.limits s e s.thread.number); told = stop_told s.thread.limits s e s.thread.number })
 
 abbrev pub stepped_read : Limits → List EnvValue → List ThreadState → Bool → EnvNo → ThreadNo → ℤ → Stepped
 stepped_read limits envs threads wanting e t max_count =
     let s = thread_at limits threads t in
     refused_or_else envs threads (why_not envs e (read_refusal (env_at envs e) t max_count) wanting)
     (record {
-      envs = spent_at envs e t;
+      envs = spending envs e t;
       threads = slice_set threads t.0 (read_next s.thread.limits s e s.thread.number max_count);
       told = read_told s.thread.limits s e s.thread.number max_count;
     })
@@ -146,7 +147,7 @@ stepped_by limits envs threads wanting (Go e t) = stepped_go limits envs threads
 stepped_by limits envs threads wanting (AddCaps e caps) = stepped_add envs threads e caps
 stepped_by limits envs threads wanting (Relinquish e caps) = stepped_relinquish envs threads e caps
 stepped_by limits envs threads wanting (GetCaps e) = stepped_tell envs threads e (answer.Caps (env_at envs e).caps)
-stepped_by limits envs threads wanting (SetEnvWord e word) = let env = env_at envs e in with_env envs threads e (record env { word = word }) (Some (outcome.Gave answer.Done))
+stepped_by limits envs threads wanting (SetEnvWord e word) = with_env envs threads e (with_word (env_at envs e) word) (Some (outcome.Gave answer.Done))
 stepped_by limits envs threads wanting (GetEnvWord e) = stepped_tell envs threads e (answer.Word (env_at envs e).word)
 stepped_by limits envs threads wanting (Start t) = stepped_own_if limits envs threads t (own_entry (Start t))
 stepped_by limits envs threads wanting (Own t step) = stepped_own_if limits envs threads t (own_entry (Own t step))

@@ -7,6 +7,7 @@ ghost use Rattle.ti_slot.specs.Waiting.{IsBufferOf, HasRoomFor};
 ghost use Rattle.ti_core.specs.Thread.{is_made, made_told};
 ghost use Rattle.ti_core.specs.Stands.{IsReached};
 ghost use Rattle.ti_slot.specs.Thread.{ticket_of};
+ghost use Rattle.ti_env.specs.Env.{with_word};
 ghost use Rattle.ti_core.specs.Threads.{IfPosted};
 ghost use Rattle.ti_core.specs.Core.{IsTicketOf, CoreState, core_of, thread_at, stepped_own, stepped_poll, stepped_ask, stepped_stop, stepped_read, stepped_go, stepped_add, stepped_relinquish, stepped_tell, stepped_by, with_env, env_at};
 
@@ -221,8 +222,8 @@ fn relinquish(envs: &mut [EnvState], e: EnvNo, caps: Caps) -> Outcome
 }
 
 fn set_word(envs: &mut [EnvState], e: EnvNo, word: u64) -> Outcome
-    ensures envs { envs.new ≡ (with_env envs.old [] e (record (env_at envs.old e) { word = word }) (Some (Outcome.Gave Answer.Done))).envs }
-    ensures told { told_now result ≡ (with_env envs.old [] e (record (env_at envs.old e) { word = word }) (Some (Outcome.Gave Answer.Done))).told }
+    ensures envs { envs.new ≡ (with_env envs.old [] e (with_word (env_at envs.old e) word) (Some (Outcome.Gave Answer.Done))).envs }
+    ensures told { told_now result ≡ (with_env envs.old [] e (with_word (env_at envs.old e) word) (Some (Outcome.Gave Answer.Done))).told }
 {
     let at = e.0 as usize;
     if at >= envs.len() {

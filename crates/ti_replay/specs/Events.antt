@@ -19,7 +19,7 @@ use Rattle.ti_replay.specs.View.{view, is_barred}
 use Rattle.ti_replay.specs.Legal.{own_spent, asked_by, is_armed}
 use Rattle.ti_replay.specs.Replies.{reply}
 use Rattle.ti_replay.specs.Refusals.{own_refusal, held_refusal, or_else, unless}
-use Rattle.ti_replay.specs.Admission.{Happening, Dealings, dealings, dealings_by, refusal, can_be_had, agent_of, is_aimed_at, is_own_of}
+use Rattle.ti_replay.specs.Admission.{Happening, Dealings, dealings_by, refusal, can_be_had, agent_of, is_aimed_at, is_own_of}
 
 -- the one entry that an event of a thread's own leaves, but for a poll
 abbrev pub own_entry : Event → Option Entry

@@ -1,4 +1,5 @@
--- All of a history that later entries depend on.
+-- All of a history that later entries depend on, without the places of entries: so it may be the same for two
+-- histories in which a step stands earlier or later. PlacedState is the same with the places, as `replay` keeps it.
 use Rattle.std.specs.Prelude.{ℕ, List, map, replicate}
 use Rattle.std.specs.List.{fold}
 use Rattle.ti_types.specs.declared.limits.Limits.{Limits}

@@ -1,5 +1,5 @@
 -- Which histories a thread can have.
-use Rattle.std.specs.Prelude.{ℕ, Bool, true, false, ◌&&◌, ◌||◌, not, if◌then◌else◌, ◌==◌, nat_lt, List, [], ◌∷◌, ◌++◌, length, Option, Some, None, is_some, is_none}
+use Rattle.std.specs.Prelude.{ℕ, Bool, true, ◌&&◌, ◌||◌, if◌then◌else◌, ◌==◌, nat_lt, List, [], ◌∷◌, ◌++◌, length, Option, Some, None, is_some, is_none}
 use Rattle.std.specs.List.{sum_by}
 use Rattle.ti_types.specs.declared.limits.Limits.{Limits}
 use Rattle.ti_types.specs.declared.numbers.EnvNo.{EnvNo}
@@ -12,9 +12,9 @@ use Rattle.ti_types.specs.declared.view.ThreadView.{ThreadView}
 pub use Rattle.ti_types.specs.Numbers.{is_not_negative}
 pub use Rattle.ti_types.specs.Call.{is_well_formed}
 use Rattle.ti_types.specs.Steps.{step_refusal}
+use Rattle.ti_types.specs.Admitting.{reaching_refusal}
 pub use Rattle.ti_types.specs.Steps.{is_native, newest_is_native}
 pub use Rattle.ti_replay.specs.Answers.{is_new, is_safe}
-use Rattle.ti_replay.specs.Answers.{is_running}
 pub use Rattle.ti_replay.specs.Refusals.{is_stopper}
 use Rattle.ti_replay.specs.Refusals.{own_refusal, held_refusal}
 use Rattle.ti_replay.specs.Settling.{unanswered}
@@ -72,18 +72,18 @@ pub record Situation : Type 0 where
   pub calls : ℕ
   pub asked : ℕ
 
--- whether an environment exists and has a call left
-abbrev pub has_call : Limits → Situation → EnvNo → Bool
-has_call limits s env = nat_lt env.0 limits.envs && nat_lt s.calls limits.calls
+-- whether an environment is there and lets a call at the thread through, which needs no capability
+abbrev pub lets_through : Limits → Situation → EnvNo → (well_formed : Bool) → Bool
+lets_through limits s env well_formed = nat_lt env.0 limits.envs && is_none (reaching_refusal true well_formed s.calls limits.calls)
 
 -- whether an entry may come: one of the thread's own where it is not refused, and a poll's hand-over only where the thread
--- is called for; an environment's where that is there and has a call left, no number is negative that may not be, a call
--- has its number, and the thread does not refuse a stop, a read or a go
+-- is called for; an environment's where that lets it through, a call has its number, and the thread does not refuse a
+-- stop, a read or a go
 abbrev pub fits : Limits → Situation → Entry → Bool
 fits limits s (Hand AtPoll) = is_none (own_refusal limits s.view s.own (Hand AtPoll)) && s.armed
-fits limits s (Asked env number call) = has_call limits s env && is_well_formed call && (number == s.asked)
-fits limits s (Stop env) = has_call limits s env && is_none (held_refusal s.view (Stop env))
-fits limits s (Read env max_count) = has_call limits s env && is_not_negative max_count && is_none (held_refusal s.view (Read env max_count))
+fits limits s (Asked env number call) = lets_through limits s env (is_well_formed call) && (number == s.asked)
+fits limits s (Stop env) = lets_through limits s env true && is_none (held_refusal s.view (Stop env))
+fits limits s (Read env max_count) = lets_through limits s env (is_not_negative max_count) && is_none (held_refusal s.view (Read env max_count))
 fits limits s (Go env) = nat_lt env.0 limits.envs && is_none (held_refusal s.view (Go env))
 fits limits s x = is_none (own_refusal limits s.view s.own x)
 
