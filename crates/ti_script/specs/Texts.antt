@@ -1,5 +1,5 @@
 -- The text of a line for each outcome.
-use Rattle.std.specs.Prelude.{ℕ, ◌+◌, List, [], ◌∷◌, ◌++◌, codes, decimal, slice_get, unwrap_or, false, Option, None, Some, if◌then◌else◌}
+use Rattle.std.specs.Prelude.{◌≡◌, ℕ, ◌+◌, List, [], ◌∷◌, ◌++◌, codes, decimal, slice_get, unwrap_or, false, Option, None, Some, if◌then◌else◌}
 use Rattle.std.specs.List.{flat_map}
 use Rattle.std.specs.Fmt.{digits}
 use Rattle.ti_types.specs.declared.place.Place.{Place}
@@ -68,3 +68,12 @@ line_text methods index o = decimal index ++ (codes " " ++ (outcome_text methods
 abbrev pub lines_text : List (List ℕ) → ℕ → List (Option Outcome) → List ℕ
 lines_text methods index [] = []
 lines_text methods index (o ∷ os) = line_text methods index o ++ lines_text methods (index + 1) os
+
+-- ---- what is added to a text
+
+-- the text grew by a front of another: none of it, some, or all
+pub record AddsFront (old new all : List ℕ) : Type 0 where
+  pub front : List ℕ
+  pub rest : List ℕ
+  pub split : all ≡ front ++ rest
+  pub added : new ≡ old ++ front
