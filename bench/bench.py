@@ -1,17 +1,26 @@
 #!/usr/bin/env python3
-"""Times `tiwalk` on large documents at 1/8, 1/4, 1/2 and all of their size.
+"""Measures `tiwalk` on large documents at 1/8, 1/4, 1/2 and all of their size.
 
-For each document and size it prints the seconds of processor time (the least of three runs), the peak memory, and the
-size of the text that was written. Growth is to be linear: four times the size, four times the time.
+For each document and size it prints how many items it has and how many bytes were written, and of each program the
+millions of instructions, where they can be counted, the seconds of processor time and of wall time (the least of three
+runs), and the peak memory. Growth is to be linear: four times the size, four times the instructions.
 
-    bench/bench.py [PROGRAM]        crates/tiwalk/out/tiwalk by default: `make run` builds it
+    bench/bench.py [--callgrind] [PROGRAM..]    crates/tiwalk/out/tiwalk by default: `make run` builds it
+
+Instructions are counted by `perf stat`, or by valgrind's callgrind where `--callgrind` asks for it (some minutes); `-`
+stands where nothing counts them. Of several programs the columns stand side by side, so that one tree is compared with
+another; `-` stands for a document that a program refuses.
 """
 
+import dataclasses
 import json
 import os
 import random
+import re
+import subprocess
 import sys
 import tempfile
+import time
 
 EVENTS = 65536
 PARTS = (8, 4, 2, 1)
@@ -71,9 +80,9 @@ def waiting(part):
     return walk({"depth": 4, "own": 32, "calls": 1024}, threads, AGENTS, [], events)
 
 
-def history(entries):
+def history(entries, agents=8):
     limits = {"depth": 4, "own": 65536, "calls": 1024}
-    return {"format": 1, "limits": limits, "agents": 8, "entries": entries}
+    return {"format": 1 if agents <= 8 else 2, "limits": limits, "agents": agents, "entries": entries}
 
 
 def steps(part):
@@ -81,20 +90,25 @@ def steps(part):
     return [["enter", 0], ["leave"]] * (65536 // part // 2) + [["end"]]
 
 
-def longest(part):
-    """The longest legal history, of 98,306 entries: each environment spends its calls on stops, which leave four each."""
+def longest(part, agents=32):
+    """The longest legal history, of 196,610 entries: each environment spends its calls on stops, which leave four each."""
     stops = [
         entry
         for _ in range(1024 // part)
-        for env in range(8)
+        for env in range(agents)
         for entry in (["stop", env], ["hand", "poll"], ["go", env], ["back"])
     ]
-    return history([["start"]] + stops + steps(part))
+    return history([["start"]] + stops + steps(part), agents)
+
+
+def longest_of_eight(part):
+    """The same of eight environments, as format 1 has it: 98,306 entries."""
+    return longest(part, 8)
 
 
 def illegal(part):
-    """The same, with an end too many."""
-    return history(longest(part)["entries"] + [["end"]])
+    """The longest history with an end too many."""
+    return history(longest(part)["entries"] + [["end"]], 32)
 
 
 def asked(part):
@@ -109,24 +123,70 @@ def asked(part):
 
 
 def greatest(part):
-    """As many entries as a document may have. At half the size and at the whole they are more than a legal history has:
-    illegal where the own steps are used up."""
-    return history((longest(1)["entries"][:-1] + [["leave"]] * 262144)[: 262144 // part])
+    """As many entries as a document may have. At the whole size they are more than a legal history has: illegal where the
+    own steps are used up."""
+    return history((longest(1)["entries"][:-1] + [["leave"]] * 262144)[: 262144 // part], 32)
+
+
+@dataclasses.dataclass
+class Cost:
+    """What a run took, and how much it wrote."""
+
+    seconds: float
+    wall: float
+    memory: int
+    written: int
 
 
 def run(program, arguments, path):
-    """The processor time and the peak memory of one run, and how much it wrote."""
-    with open(path, "rb") as source, tempfile.TemporaryFile() as sink:
+    """What one run took; None where the program refuses the document."""
+    with open(path, "rb") as source, tempfile.TemporaryFile() as sink, open(os.devnull, "wb") as silence:
+        start = time.perf_counter()
         child = os.fork()
         if child == 0:
-            os.dup2(source.fileno(), 0)
-            os.dup2(sink.fileno(), 1)
+            for stream, number in ((source, 0), (sink, 1), (silence, 2)):
+                os.dup2(stream.fileno(), number)
             os.execv(program, [program] + arguments)
         _, status, usage = os.wait4(child, 0)
+        wall = time.perf_counter() - start
         written = sink.seek(0, os.SEEK_END)
-    if os.waitstatus_to_exitcode(status) not in (0, 1):
-        sys.exit(f"{program} ended with status {os.waitstatus_to_exitcode(status)}")
-    return usage.ru_utime + usage.ru_stime, usage.ru_maxrss, written
+    code = os.waitstatus_to_exitcode(status)
+    if code not in (0, 1, 2):
+        sys.exit(f"{program} ended with status {code}")
+    return None if code == 2 else Cost(usage.ru_utime + usage.ru_stime, wall, usage.ru_maxrss, written)
+
+
+def counter(asks_callgrind):
+    """The words that count the instructions of the command behind them, with the pattern of the count; or None."""
+    if asks_callgrind:
+        return ["valgrind", "--tool=callgrind", "--callgrind-out-file=/dev/null"], r"refs:\s+([\d,]+)"
+    perf = ["perf", "stat", "-x", ";", "-e", "instructions:u"], r"^(\d+);"
+    try:
+        tried = subprocess.run([*perf[0], "true"], capture_output=True, text=True)
+    except OSError:
+        return None
+    return perf if re.search(perf[1], tried.stderr, re.M) else None
+
+
+def millions(count, program, arguments, path):
+    """The millions of instructions of one run, or None."""
+    if not count:
+        return None
+    words, pattern = count
+    with open(path, "rb") as source:
+        done = subprocess.run([*words, program, *arguments], stdin=source, stdout=subprocess.DEVNULL, stderr=subprocess.PIPE)
+    return int(re.search(pattern, done.stderr.decode(), re.M)[1].replace(",", "")) / 1e6
+
+
+def columns(count, program, arguments, path):
+    """The columns of one program, and how much it wrote."""
+    runs = [run(program, arguments, path) for _ in range(3)]
+    if None in runs:
+        return f"{'-':>10} {'-':>8} {'-':>8} {'-':>8}", None
+    seconds, wall, memory = (min(getattr(cost, name) for cost in runs) for name in ("seconds", "wall", "memory"))
+    counted = millions(count, program, arguments, path)
+    first = "-" if counted is None else f"{counted:.1f}"
+    return f"{first:>10} {seconds:8.3f} {wall:8.3f} {memory:8}", runs[0].written
 
 
 DOCUMENTS = (
@@ -134,6 +194,7 @@ DOCUMENTS = (
     ("deep traces", deep, []),
     ("waiting calls", waiting, []),
     ("longest history", longest, ["check"]),
+    ("longest of eight", longest_of_eight, ["check"]),
     ("one end more", illegal, ["check"]),
     ("asked history", asked, ["check"]),
     ("262,144 entries", greatest, ["check"]),
@@ -141,8 +202,15 @@ DOCUMENTS = (
 
 
 def main():
-    program = os.path.abspath(sys.argv[1] if len(sys.argv) > 1 else "crates/tiwalk/out/tiwalk")
-    print(f"{'document':16} {'part':>5} {'items':>8} {'seconds':>8} {'peak KB':>8} {'written':>10}")
+    words = sys.argv[1:]
+    count = counter("--callgrind" in words)
+    programs = [os.path.abspath(word) for word in words if word != "--callgrind"] or [os.path.abspath("crates/tiwalk/out/tiwalk")]
+    for program in programs:
+        if not os.path.isfile(program):
+            sys.exit(f"there is no {program}: `make run` builds it")
+        print(f"program: {program}")
+    heads = f"{'M instr.':>10} {'seconds':>8} {'wall':>8} {'peak KB':>8}"
+    print(f"{'document':16} {'part':>5} {'items':>8} {'written':>10}", *[heads] * len(programs), sep=" | ")
     for name, make, arguments in DOCUMENTS:
         for part in PARTS:
             document = make(part)
@@ -150,8 +218,9 @@ def main():
             with tempfile.NamedTemporaryFile("w", suffix=".json") as file:
                 json.dump(document, file, separators=(",", ":"))
                 file.flush()
-                seconds, memory, written = min(run(program, arguments, file.name) for _ in range(3))
-            print(f"{name:16} {'1/' + str(part):>5} {items:8} {seconds:8.3f} {memory:8} {written:10}")
+                found = [columns(count, program, arguments, file.name) for program in programs]
+            written = next((size for _, size in found if size is not None), "-")
+            print(f"{name:16} {'1/' + str(part):>5} {items:8} {written:>10}", *[text for text, _ in found], sep=" | ", flush=True)
 
 
 if __name__ == "__main__":
