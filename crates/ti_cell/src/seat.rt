@@ -1,4 +1,4 @@
-ghost use Rattle.std.specs.Prelude.{◌≡◌, true, length};
+ghost use Rattle.std.specs.Prelude.{◌≡◌, [], true, false, length};
 ghost use Rattle.ti_replay.specs.Legal.{is_legal};
 ghost use Rattle.ti_replay.specs.Makers.{made_by};
 
@@ -42,12 +42,15 @@ impl<K> Model for CellSeat<K> {
 
     ghost view = { λ s. record { cell = s.seat.table_id; view = s.seat.me.0 } };
 
-    ghost invariant = { λ s. (s.seat.me.1 ≡ []) × (s.seat.me.0.holds ≡ false) × (s.seat.me.0.gone ≡ false) × (is_legal s.seat.me.0.subject.limits s.seat.me.0.seen ≡ true) × (s.seat.me.0.mine ≡ made_by s.seat.me.0.number s.seat.me.0.seen) × (s.number ≡ s.seat.me.0.number) × (s.count ≡ length s.seat.me.0.seen) };
+    ghost invariant = { λ s. (s.seat.me.1 ≡ []) × (s.seat.me.0.holds ≡ false) × (s.seat.me.0.gone ≡ false) × (is_legal s.seat.me.0.subject.limits s.seat.me.0.seen ≡ true) × (s.seat.me.0.mine ≡ made_by s.seat.me.0.number s.seat.me.0.seen) × (s.number ≡ s.seat.me.0.number) × (s.count ≡ length s.seat.me.0.seen) × (s.seat.me.0.found ≡ []) };
 }
 
 impl<K> CellSeat<K> {
-    /// What is always true of a seat: what was seen is legal, and has of the seat's entries just those that it made.
+    /// What is always true of a seat: it holds nothing and has not come back, and what was seen is legal, and has of the
+    /// seat's entries just those that it made.
     pub fn facts(&self)
+        ensures rests { (self.now.view.holds ≡ false) × (self.now.view.found ≡ []) }
+        ensures there { self.now.view.gone ≡ false }
         ensures legal { is_legal self.now.view.subject.limits self.now.view.seen ≡ true }
         ensures mine { self.now.view.mine ≡ made_by self.now.view.number self.now.view.seen }
     {

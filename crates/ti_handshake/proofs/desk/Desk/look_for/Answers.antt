@@ -1,0 +1,27 @@
+use Rattle.ti_handshake.proofs.Desks.{took, collects, collect_adds, collect_may_keep, collected, gone_then}
+use Rattle.ti_handshake.proofs.desk.Desk.look_for.Goals as goal
+
+pub store-requires-clause-adds : goal.store-requires-clause-adds
+store-requires-clause-adds g c =
+    let k = took _ _ _ _ _ _ c.hold-hold.result _ c.self.invariant c.self.view_is c.in-Some.is c.take.ensures.value c.hold-hold.ensures.view c.hold-hold.ensures.taken c.slot-slot.ensures.value in
+    collect_adds _ _ _ _ c.slot-slot.result.now c.collect-answer.new.self _ k c.collect-answer.ensures.thread
+
+pub store-requires-clause-keeps : goal.store-requires-clause-keeps
+store-requires-clause-keeps g c =
+    let k = took _ _ _ _ _ _ c.hold-hold.result _ c.self.invariant c.self.view_is c.in-Some.is c.take.ensures.value c.hold-hold.ensures.view c.hold-hold.ensures.taken c.slot-slot.ensures.value in
+    collect_may_keep _ _ _ _ c.slot-slot.result.now c.collect-answer.new.self _ _ k c.requires.posted c.collect-answer.ensures.thread
+
+pub returns-clause-hold : goal.returns-clause-hold
+returns-clause-hold g c =
+    let k = took _ _ _ _ _ _ c.hold-hold.result _ c.self.invariant c.self.view_is c.in-Some.is c.take.ensures.value c.hold-hold.ensures.view c.hold-hold.ensures.taken c.slot-slot.ensures.value in
+    collects _ _ _ _ c.slot-slot.result.now c.collect-answer.new.self _ _ _ k c.requires.posted c.collect-answer.ensures.thread c.store.ensures.view c.store.ensures.legal c.store.ensures.mine
+
+pub returns-clause-answer : goal.returns-clause-answer
+returns-clause-answer g c =
+    let k = took _ _ _ _ _ _ c.hold-hold.result _ c.self.invariant c.self.view_is c.in-Some.is c.take.ensures.value c.hold-hold.ensures.view c.hold-hold.ensures.taken c.slot-slot.ensures.value in
+    collected _ _ _ _ c.slot-slot.result.now c.collect-answer.new.self _ _ _ _ k c.requires.posted c.store.ensures.view c.collect-answer.ensures.thread c.collect-answer.ensures.answer
+
+pub returns-clause-once : goal.returns-clause-once
+returns-clause-once g c =
+    let k = took _ _ _ _ _ _ c.hold-hold.result _ c.self.invariant c.self.view_is c.in-Some.is c.take.ensures.value c.hold-hold.ensures.view c.hold-hold.ensures.taken c.slot-slot.ensures.value in
+    gone_then _ _ _ _ c.slot-slot.result.now c.store.result.view _ c.collect-answer.result k c.tickets.ensures.once (returns-clause-hold g c).waits.posted

@@ -1,0 +1,321 @@
+ghost use Rattle.std.specs.Prelude.{◌≡◌, ◌<◌, ◌≤◌, ◌+◌, ◌++◌, true, false, if◌then◌else◌, is_some, [], ◌∷◌, length, Some, None, IfSome, MatchOption};
+ghost use Rattle.std.specs.Option.{option_map};
+ghost use Rattle.ti_types.specs.Answer.{said};
+ghost use Rattle.ti_types.specs.declared.entry.Entry.TheVariants as entry;
+ghost use Rattle.ti_replay.specs.Answers.{done_or, or_zero as or_zero_of};
+ghost use Rattle.ti_replay.specs.Events.{if_none};
+ghost use Rattle.ti_replay.specs.Makers.{made_by};
+ghost use Rattle.ti_replay.specs.Legal.{is_legal, calls_spent, is_well_formed, is_not_negative};
+ghost use Rattle.ti_replay.specs.Replies.{reply};
+ghost use Rattle.ti_replay.specs.Standing.{is_standing};
+ghost use Rattle.ti_replay.specs.Tickets.{reply_to};
+ghost use Rattle.ti_slot.specs.Thread.{read_answer};
+ghost use Rattle.ti_slot.specs.Tickets.{has, without_ticket};
+ghost use Rattle.ti_slot.specs.Waiting.{IsBufferOf, HasRoomFor};
+ghost use Rattle.ti_handshake.specs.Call.{GoesOn, Waits, WaitsWith, Holds, HoldsWith, found, IsTold, IsAnswered, next_call, ticket_told};
+ghost use Rattle.ti_handshake.specs.Desk.{Place, IsSame, ReplyAtPlace, is_anothers, there_found, stop_refusal, read_refusal, go_refusal};
+
+use std::marker::Model;
+use std::sync::Wait;
+use std::thread;
+use ti_cell::{EnvSeat, ThreadCell};
+use ti_slot::Asked;
+use ti_types::{Answer, Call, EnvNo, Ticket, TraceBuf};
+
+/// One environment at one thread. Contracts see it as its cell, its environment, and its seat's view.
+#[derive(Drop)]
+pub struct Desk<'a> {
+    cell: &'a ThreadCell,
+    env: EnvNo,
+    /// `None` only while a call holds the cell.
+    seat: Option<EnvSeat>,
+}
+
+impl<'a> Model for Desk<'a> {
+    ghost use Rattle.ti_handshake.specs.Desk.{Place};
+    ghost use Rattle.ti_handshake.specs.Seated.{IsThere, place_in};
+
+    ghost Value = { Place };
+
+    ghost view = { λ d. place_in d.cell.now d.env d.seat };
+
+    ghost invariant = { λ d. IsThere d.cell.now d.env d.seat };
+}
+
+impl<'a> Desk<'a> {
+    /// The desk of an environment's seat at this cell.
+    pub fn new(cell: &'a ThreadCell, seat: EnvSeat) -> Desk<'a>
+        requires cell { seat.cell ≡ cell.now }
+        requires number { 0 < seat.view.number }
+        requires there { seat.view.number ≤ seat.view.subject.limits.envs }
+        ensures cell { result.cell ≡ cell.now }
+        ensures env { result.env.0 + 1 ≡ seat.view.number }
+        ensures view { result.view ≡ seat.view }
+    {
+        let env = EnvNo(seat.number() - 1);
+        Desk {
+            cell,
+            env,
+            seat: Some(seat),
+        }
+    }
+
+    /// What is always true of a desk: its seat is its environment's and holds nothing, and what was seen is legal, and has
+    /// of the seat's entries just those that it made.
+    pub fn facts(&self)
+        ensures rests { (self.now.view.holds ≡ false) × (self.now.view.found ≡ []) }
+        ensures there_still { self.now.view.gone ≡ false }
+        ensures number { self.now.view.number ≡ self.now.env.0 + 1 }
+        ensures there { self.now.env.0 < self.now.view.subject.limits.envs }
+        ensures legal { is_legal self.now.view.subject.limits self.now.view.seen ≡ true }
+        ensures mine { self.now.view.mine ≡ made_by self.now.view.number self.now.view.seen }
+    {
+        let Some(seat) = &self.seat else {
+            unreachable!()
+        };
+        seat.facts();
+    }
+
+    /// The environment whose desk it is.
+    pub fn env(&self) -> EnvNo
+        ensures { result ≡ self.now.env }
+    {
+        self.env
+    }
+
+    /// How many entries of the thread's history were seen (this profile).
+    pub fn seen_len(&self) -> usize
+        ensures { result ≡ length self.now.view.seen }
+    {
+        let Some(seat) = &self.seat else {
+            unreachable!()
+        };
+        seat.seen_len()
+    }
+
+    /// Asks the thread a call by one hold: its answer, or a new ticket where the call waits for the running thread
+    /// (JEP 312), which is among the desk's tickets from then on. It costs one call.
+    ///
+    /// The answer is the thread's own, a refusal included, as `Slot::ask` says of each call (JVM TI 11): 13, 14, 15, 31,
+    /// 32, and 103 for a trace's start. A call that is refused changes nothing but the history. The buffer is empty and
+    /// has room for a trace's frames.
+    pub fn post<R: Wait>(&mut self, rt: &R, call: Call, buf: TraceBuf) -> Asked
+        requires well_formed { is_well_formed call ≡ true }
+        requires calls { calls_spent self.old.env self.old.view.mine < self.old.view.subject.limits.calls }
+        requires buf { IsBufferOf self.old.view.subject.limits call buf }
+        ensures same { IsSame self.old self.new }
+        ensures hold { HoldsWith self.old.view self.new.view (next_call self.old.view self.old.env call ∷ []) (self.old.view.posted ++ ticket_told result) }
+        ensures told { IsTold self.old.view self.new.view self.old.env call result }
+    {
+        let Some(seat) = self.seat.take() else {
+            unreachable!()
+        };
+        let mut hold = self.cell.hold(rt, seat);
+        let slot = hold.slot();
+        slot.tickets();
+        let asked = slot.ask(self.env, call, buf);
+        self.seat = Some(hold.store());
+        asked
+    }
+
+    /// The answer to a call of this desk that waited, by holds until it is there: the reply of the history to the ticket.
+    /// The ticket is one of the desk's, and is none from then on, so that it is answered once; the others stay.
+    pub fn collect<R: Wait>(&mut self, rt: &R, ticket: Ticket) -> Answer
+        requires posted { has ticket self.old.view.posted ≡ true }
+        ensures same { IsSame self.old self.new }
+        ensures hold { WaitsWith self.old.view self.new.view [] (without_ticket ticket self.old.view.posted) }
+        ensures once { has ticket self.new.view.posted ≡ false }
+        ensures answer { reply_to self.old.view.subject.limits self.new.view.seen ticket ≡ Some (said result) }
+        ensures place { ReplyAtPlace self.old.view.subject.limits self.new.view.seen ticket (said result) }
+    {
+        self.facts();
+        for _ in rt.forever() {
+            if let Some(answer) = self.look_for(rt, ticket) {
+                return answer;
+            }
+            thread::yield_now();
+        }
+        unreachable!()
+    }
+
+    /// The answer to a call of this desk that waited, by one hold, if it is there.
+    fn look_for<R: Wait>(&mut self, rt: &R, ticket: Ticket) -> Option<Answer>
+        requires posted { has ticket self.old.view.posted ≡ true }
+        ensures same { IsSame self.old self.new }
+        ensures hold { HoldsWith self.old.view self.new.view [] (if is_some result then without_ticket ticket self.old.view.posted else self.old.view.posted) }
+        ensures once { IfSome result (λ _. has ticket self.new.view.posted ≡ false) }
+        ensures answer { option_map said result ≡ reply_to self.old.view.subject.limits self.new.view.seen ticket }
+    {
+        let Some(seat) = self.seat.take() else {
+            unreachable!()
+        };
+        let mut hold = self.cell.hold(rt, seat);
+        let slot = hold.slot();
+        slot.tickets();
+        let answer = slot.collect(ticket);
+        self.seat = Some(hold.store());
+        answer
+    }
+
+    /// Asks the thread a call, and waits for its answer where it has to: the reply at the place of the call, whatever
+    /// others did before it took place. It costs one call, and the desk's tickets stay as they were.
+    ///
+    /// The answer is the thread's own, a refusal included, as of `post`.
+    pub fn call<R: Wait>(&mut self, rt: &R, call: Call, buf: TraceBuf) -> Answer
+        requires well_formed { is_well_formed call ≡ true }
+        requires calls { calls_spent self.old.env self.old.view.mine < self.old.view.subject.limits.calls }
+        requires buf { IsBufferOf self.old.view.subject.limits call buf }
+        ensures same { IsSame self.old self.new }
+        ensures goes { GoesOn self.old.view self.new.view }
+        ensures mine { self.new.view.mine ≡ self.old.view.mine ++ next_call self.old.view self.old.env call ∷ [] }
+        ensures posted { self.new.view.posted ≡ self.old.view.posted }
+        ensures answer { IsAnswered self.old.view self.new.view (next_call self.old.view self.old.env call) (said result) }
+    {
+        match self.post(rt, call, buf) {
+            Asked::Answered(answer) => answer,
+            Asked::Waiting(ticket) => self.collect(rt, ticket),
+        }
+    }
+
+    /// Stops the thread, and waits while another environment's stop stands. It costs one call in all. The thread runs on
+    /// to its next hand-over, and may not start or return (this profile).
+    ///
+    /// Refused with `AlreadyStopped` (211) where this environment's stop stands, and only there (this profile). Then
+    /// nothing changes.
+    pub fn stop<R: Wait>(&mut self, rt: &R) -> Answer
+        requires calls { calls_spent self.old.env self.old.view.mine < self.old.view.subject.limits.calls }
+        ensures same { IsSame self.old self.new }
+        ensures hold { Waits self.old.view self.new.view (if_none (stop_refusal self.old self.new) (entry.Stop self.old.env ∷ [])) }
+        ensures answer { said result ≡ done_or (stop_refusal self.old self.new) }
+        ensures waited { is_anothers self.old.env (there_found self.old self.new).stopper ≡ false }
+    {
+        self.facts();
+        for _ in rt.forever() {
+            if let Some(answer) = self.stop_unless_others(rt) {
+                return answer;
+            }
+            thread::yield_now();
+        }
+        unreachable!()
+    }
+
+    /// Stops the thread by one hold. It costs one call where it is not refused.
+    ///
+    /// Refused with `AlreadyStopped` (211) where any stop stands, this environment's own too (this profile). Then nothing
+    /// changes.
+    pub fn try_stop<R: Wait>(&mut self, rt: &R) -> Answer
+        requires calls { calls_spent self.old.env self.old.view.mine < self.old.view.subject.limits.calls }
+        ensures same { IsSame self.old self.new }
+        ensures hold { Holds self.old.view self.new.view (if_none (stop_refusal self.old self.new) (entry.Stop self.old.env ∷ [])) }
+        ensures answer { said result ≡ done_or (stop_refusal self.old self.new) }
+    {
+        let Some(seat) = self.seat.take() else {
+            unreachable!()
+        };
+        let mut hold = self.cell.hold(rt, seat);
+        let answer = hold.slot().stop(self.env);
+        self.seat = Some(hold.store());
+        answer
+    }
+
+    /// Stops the thread by one hold, but where another environment's stop stands: then nothing changes, and there is no
+    /// answer.
+    fn stop_unless_others<R: Wait>(&mut self, rt: &R) -> Option<Answer>
+        requires calls { calls_spent self.old.env self.old.view.mine < self.old.view.subject.limits.calls }
+        ensures same { IsSame self.old self.new }
+        ensures hold { MatchOption result
+            (Holds self.old.view self.new.view [])
+            (λ _. Holds self.old.view self.new.view (if_none (stop_refusal self.old self.new) (entry.Stop self.old.env ∷ []))) }
+        ensures answer { IfSome result (λ a. said a ≡ done_or (stop_refusal self.old self.new)) }
+        ensures waited { is_anothers self.old.env (there_found self.old self.new).stopper ≡ (if is_some result then false else true) }
+    {
+        let Some(seat) = self.seat.take() else {
+            unreachable!()
+        };
+        let mut hold = self.cell.hold(rt, seat);
+        let slot = hold.slot();
+        if is_others(slot.stopper(), self.env) {
+            self.seat = Some(hold.store());
+            return None;
+        }
+        let answer = slot.stop(self.env);
+        self.seat = Some(hold.store());
+        Some(answer)
+    }
+
+    /// Reads the thread's state and at most `max_count` newest frames under this environment's stop, by one hold (JVM TI
+    /// 11, GetAllStackTraces). A thread that is not alive has no frames. It costs one call where it is not refused. The
+    /// buffer is empty and has room for the frames.
+    ///
+    /// Refused with `NotStopped` (212) where its stop does not stand, and then with `StillRunning` (213) where the thread
+    /// runs (this profile). Then nothing changes.
+    pub fn read<R: Wait>(&mut self, rt: &R, max_count: i32, buf: TraceBuf) -> Answer
+        requires count { is_not_negative max_count ≡ true }
+        requires calls { calls_spent self.old.env self.old.view.mine < self.old.view.subject.limits.calls }
+        requires buf { HasRoomFor self.old.view.subject.limits (or_zero_of max_count) buf }
+        ensures same { IsSame self.old self.new }
+        ensures hold { Holds self.old.view self.new.view (if_none (read_refusal self.old self.new max_count) (entry.Read self.old.env max_count ∷ [])) }
+        ensures answer { read_answer (read_refusal self.old self.new max_count) (reply self.old.view.subject.limits self.new.view.seen (length (found self.old.view self.new.view))) ≡ Some (said result) }
+    {
+        let Some(seat) = self.seat.take() else {
+            unreachable!()
+        };
+        let mut hold = self.cell.hold(rt, seat);
+        let answer = hold.slot().read(self.env, max_count, buf);
+        self.seat = Some(hold.store());
+        answer
+    }
+
+    /// Lets the thread go, by one hold. It costs nothing.
+    ///
+    /// Refused with `NotStopped` (212) where this environment's stop does not stand (this profile). Then nothing changes.
+    pub fn go<R: Wait>(&mut self, rt: &R) -> Answer
+        ensures same { IsSame self.old self.new }
+        ensures hold { Holds self.old.view self.new.view (if_none (go_refusal self.old self.new) (entry.Go self.old.env ∷ [])) }
+        ensures answer { said result ≡ done_or (go_refusal self.old self.new) }
+    {
+        let Some(seat) = self.seat.take() else {
+            unreachable!()
+        };
+        let mut hold = self.cell.hold(rt, seat);
+        let answer = hold.slot().go(self.env);
+        self.seat = Some(hold.store());
+        answer
+    }
+
+    /// Whether this environment's stop stands and the thread does not run, by one hold that adds nothing.
+    pub fn standing<R: Wait>(&mut self, rt: &R) -> bool
+        ensures same { IsSame self.old self.new }
+        ensures hold { Holds self.old.view self.new.view [] }
+        ensures standing { result ≡ is_standing self.old.view.subject.limits self.new.view.seen self.old.env }
+    {
+        let Some(seat) = self.seat.take() else {
+            unreachable!()
+        };
+        let mut hold = self.cell.hold(rt, seat);
+        let standing = hold.slot().standing(self.env);
+        self.seat = Some(hold.store());
+        standing
+    }
+
+    /// The desk's seat, which may go back to the owner's (`ThreadCell::rejoin`).
+    pub fn into_seat(self) -> EnvSeat
+        ensures cell { result.cell ≡ self.entry.cell }
+        ensures view { result.view ≡ self.entry.view }
+    {
+        let Some(seat) = self.seat else {
+            unreachable!()
+        };
+        seat
+    }
+}
+
+/// Whether it is another environment whose stop stands.
+fn is_others(stopper: Option<EnvNo>, env: EnvNo) -> bool
+    ensures { result ≡ is_anothers env stopper }
+{
+    match stopper {
+        Some(other) => other.0 != env.0,
+        None => false,
+    }
+}

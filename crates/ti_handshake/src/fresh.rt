@@ -1,0 +1,97 @@
+ghost use Rattle.std.specs.Prelude.{◌≡◌, true, [], ◌∷◌, Some, None, IfOk, IfErr, MatchResult};
+ghost use Rattle.ti_types.specs.declared.entry.Entry.TheVariants as entry;
+ghost use Rattle.ti_types.specs.declared.error.TiError.TheVariants.{Barred};
+ghost use Rattle.ti_replay.specs.View.{view, is_barred};
+ghost use Rattle.ti_handshake.specs.Call.{Holds, Waits, found};
+ghost use Rattle.ti_handshake.specs.Thread.{refused_at};
+
+use crate::running::Running;
+use std::marker::Model;
+use std::sync::Wait;
+use std::thread;
+use ti_cell::{OwnSeat, ThreadCell};
+use ti_types::TiError;
+
+/// A thread that has not started. Contracts see it as its seat.
+#[derive(Drop)]
+pub struct Fresh<'a> {
+    cell: &'a ThreadCell,
+    seat: OwnSeat,
+}
+
+impl<'a> Model for Fresh<'a> {
+    ghost use Rattle.std.specs.Prelude.{◌≡◌};
+    ghost use Rattle.ti_cell.specs.Seats.{Sitting};
+    ghost use Rattle.ti_handshake.specs.Thread.{IsFresh};
+
+    ghost Value = { Sitting };
+
+    ghost view = { λ f. f.seat };
+
+    ghost invariant = { λ f. (f.seat.cell ≡ f.cell.now) × IsFresh f.seat };
+}
+
+impl<'a> Fresh<'a> {
+    /// The thread of a cell, whose seat has made no entry.
+    pub fn new(cell: &'a ThreadCell, seat: OwnSeat) -> Fresh<'a>
+        requires cell { seat.cell ≡ cell.now }
+        requires owner { seat.view.number ≡ 0 }
+        requires none { seat.view.mine ≡ [] }
+        ensures seat { result ≡ seat }
+    {
+        Fresh { cell, seat }
+    }
+
+    /// Starts the thread by one hold (JVM TI 11, GetThreadState: alive from here on).
+    ///
+    /// Refused with `Barred` (206) where a stop stands, and only there (this profile).
+    pub fn try_start<R: Wait>(self, rt: &R) -> Result<Running<'a>, (TiError, Fresh<'a>)>
+        ensures cell { MatchResult result (λ r. r.cell ≡ self.entry.cell) (λ e. e.1.cell ≡ self.entry.cell) }
+        ensures hold { MatchResult result (λ r. Holds self.entry.view r.view (entry.Start ∷ [])) (λ e. Holds self.entry.view e.1.view []) }
+        ensures when { MatchResult result
+            (λ r. refused_at self.entry.view.subject.limits (found self.entry.view r.view) entry.Start ≡ None)
+            (λ e. refused_at self.entry.view.subject.limits (found self.entry.view e.1.view) entry.Start ≡ Some e.0) }
+        ensures barred { IfErr result (λ e. (e.0 ≡ Barred) × (is_barred (view self.entry.view.subject.limits e.1.view.seen) ≡ true)) }
+        ensures steps { IfOk result (λ r. r.steps ≡ []) }
+    {
+        let Fresh { cell, seat } = self;
+        let mut hold = cell.hold(rt, seat);
+        let slot = hold.slot();
+        match slot.start() {
+            Ok((frames, log)) => {
+                let left = slot.own_left();
+                let seat = hold.store();
+                Ok(Running::of(cell, seat, frames, log, left))
+            }
+            Err(error) => {
+                let seat = hold.store();
+                Err((error, Fresh { cell, seat }))
+            }
+        }
+    }
+
+    /// Starts the thread, and waits while a stop stands.
+    pub fn start<R: Wait>(self, rt: &R) -> Running<'a>
+        ensures cell { result.cell ≡ self.entry.cell }
+        ensures hold { Waits self.entry.view result.view (entry.Start ∷ []) }
+        ensures steps { result.steps ≡ [] }
+    {
+        self.seat.facts();
+        let mut fresh = self;
+        for _ in rt.forever() {
+            match fresh.try_start(rt) {
+                Ok(running) => return running,
+                Err((_error, again)) => fresh = again,
+            }
+            thread::yield_now();
+        }
+        unreachable!()
+    }
+
+    /// The thread's seat.
+    pub fn into_seat(self) -> OwnSeat
+        ensures seat { result ≡ self.entry }
+    {
+        self.seat
+    }
+}

@@ -1,0 +1,151 @@
+ghost use Rattle.std.specs.Prelude.{◌≡◌, true, [], ◌∷◌, Some, None, IfOk, IfErr, MatchResult};
+ghost use Rattle.ti_types.specs.declared.entry.Entry.TheVariants as entry;
+ghost use Rattle.ti_types.specs.declared.error.TiError.TheVariants.{Barred};
+ghost use Rattle.ti_types.specs.declared.state.Mode.TheVariants as mode;
+ghost use Rattle.ti_replay.specs.Legal.{is_safe};
+ghost use Rattle.ti_replay.specs.View.{view, is_barred};
+ghost use Rattle.ti_handshake.specs.Call.{Holds, Waits, found};
+ghost use Rattle.ti_handshake.specs.Thread.{RestsWith, HasEnded, refused_at};
+
+use crate::running::Running;
+use std::marker::Model;
+use std::sync::Wait;
+use std::thread;
+use ti_cell::{OwnSeat, ThreadCell};
+use ti_frames::Log;
+use ti_types::TiError;
+
+/// A thread that handed over: in native code, blocked, or held at a poll. Its frames lie in the slot. Contracts see it
+/// as its seat.
+#[derive(Drop)]
+pub struct AtSafe<'a> {
+    cell: &'a ThreadCell,
+    seat: OwnSeat,
+    log: Log,
+}
+
+impl<'a> Model for AtSafe<'a> {
+    ghost use Rattle.ti_cell.specs.Seats.{Sitting};
+    ghost use Rattle.ti_handshake.specs.Thread.{RestsWith};
+
+    ghost Value = { Sitting };
+
+    ghost view = { λ a. a.seat };
+
+    ghost invariant = { λ a. RestsWith a.cell.now a.seat a.log };
+}
+
+impl<'a> AtSafe<'a> {
+    /// A thread that handed over, of its parts.
+    pub(crate) fn of(cell: &'a ThreadCell, seat: OwnSeat, log: Log) -> AtSafe<'a>
+        requires rests { RestsWith cell.now seat log }
+        ensures of { result ≡ seat }
+    {
+        AtSafe { cell, seat, log }
+    }
+
+    /// What is always true of a thread that handed over.
+    pub fn facts(&self)
+        ensures owner { self.now.view.number ≡ 0 }
+        ensures safe { is_safe (view self.now.view.subject.limits self.now.view.seen).mode ≡ true }
+    {
+        let _ = &self.seat;
+    }
+
+    /// Lets the thread return by one hold: a thread in native or blocked may not return while it is held (HotSpot Runtime
+    /// Overview; JVM TI 11, SuspendThread).
+    ///
+    /// Refused with `Barred` (206) where it is suspended or a stop stands, and only there.
+    pub fn try_back<R: Wait>(self, rt: &R) -> Result<Running<'a>, (TiError, AtSafe<'a>)>
+        ensures cell { MatchResult result (λ r. r.cell ≡ self.entry.cell) (λ e. e.1.cell ≡ self.entry.cell) }
+        ensures hold { MatchResult result (λ r. Holds self.entry.view r.view (entry.Back ∷ [])) (λ e. Holds self.entry.view e.1.view []) }
+        ensures when { MatchResult result
+            (λ r. refused_at self.entry.view.subject.limits (found self.entry.view r.view) entry.Back ≡ None)
+            (λ e. refused_at self.entry.view.subject.limits (found self.entry.view e.1.view) entry.Back ≡ Some e.0) }
+        ensures barred { IfErr result (λ e. (e.0 ≡ Barred) × (is_barred (view self.entry.view.subject.limits e.1.view.seen) ≡ true)) }
+        ensures steps { IfOk result (λ r. r.steps ≡ []) }
+    {
+        let AtSafe { cell, seat, log } = self;
+        let mut hold = cell.hold(rt, seat);
+        let slot = hold.slot();
+        match slot.back() {
+            Ok(frames) => {
+                let left = slot.own_left();
+                let seat = hold.store();
+                Ok(Running::of(cell, seat, frames, log, left))
+            }
+            Err(error) => {
+                let seat = hold.store();
+                Err((error, AtSafe { cell, seat, log }))
+            }
+        }
+    }
+
+    /// Lets the thread return, and waits while it is barred.
+    pub fn back<R: Wait>(self, rt: &R) -> Running<'a>
+        ensures cell { result.cell ≡ self.entry.cell }
+        ensures hold { Waits self.entry.view result.view (entry.Back ∷ []) }
+        ensures steps { result.steps ≡ [] }
+    {
+        self.seat.facts();
+        let mut safe = self;
+        for _ in rt.forever() {
+            match safe.try_back(rt) {
+                Ok(running) => return running,
+                Err((_error, again)) => safe = again,
+            }
+            thread::yield_now();
+        }
+        unreachable!()
+    }
+
+    /// The thread's seat.
+    pub fn into_seat(self) -> OwnSeat
+        ensures seat { result ≡ self.entry }
+    {
+        self.seat
+    }
+}
+
+/// A thread that has ended. Contracts see it as its seat.
+#[derive(Drop)]
+pub struct Ended<'a> {
+    cell: &'a ThreadCell,
+    seat: OwnSeat,
+}
+
+impl<'a> Model for Ended<'a> {
+    ghost use Rattle.ti_cell.specs.Seats.{Sitting};
+    ghost use Rattle.ti_handshake.specs.Thread.{HasEnded};
+
+    ghost Value = { Sitting };
+
+    ghost view = { λ e. e.seat };
+
+    ghost invariant = { λ e. HasEnded e.cell.now e.seat };
+}
+
+impl<'a> Ended<'a> {
+    /// A thread that has ended, of its parts.
+    pub(crate) fn of(cell: &'a ThreadCell, seat: OwnSeat) -> Ended<'a>
+        requires ended { HasEnded cell.now seat }
+        ensures of { result ≡ seat }
+    {
+        Ended { cell, seat }
+    }
+
+    /// What is always true of a thread that has ended.
+    pub fn facts(&self)
+        ensures owner { self.now.view.number ≡ 0 }
+        ensures ended { (view self.now.view.subject.limits self.now.view.seen).mode ≡ mode.Ended }
+    {
+        let _ = &self.seat;
+    }
+
+    /// The thread's seat.
+    pub fn into_seat(self) -> OwnSeat
+        ensures seat { result ≡ self.entry }
+    {
+        self.seat
+    }
+}
