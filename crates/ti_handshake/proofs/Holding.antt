@@ -1,5 +1,5 @@
 -- What one hold and its store tell together.
-use Rattle.std.proofs.Common.{◌≡◌, ℕ, ◌-◌, true, false, List, [], ◌++◌, length, take, drop, append-nil, append_assoc, refl, sym, ap, ◌∙◌, subst, arith}
+use Rattle.std.proofs.Common.{◌≡◌, ℕ, ◌-◌, true, false, List, [], ◌∷◌, ◌++◌, length, take, drop, append-nil, append_assoc, refl, sym, ap, ◌∙◌, subst, arith}
 use Rattle.std.proofs.Math.Seq.{drop-append_seam, take-append_seam}
 use Rattle.std.proofs.lemmas.List.{length-append}
 use Rattle.ti_types.specs.declared.entry.Entry.{Entry}
@@ -13,7 +13,7 @@ use Rattle.ti_cell.specs.declared.view.View.{View}
 use Rattle.ti_cell.specs.View.{holding, stored, tickets_of}
 use Rattle.ti_cell.specs.Rule.{IsTaken}
 use Rattle.ti_cell.proofs.Goes.{starts_then, mine_grows}
-use Rattle.ti_handshake.specs.Call.{GoesOn, WaitsWith, Waits, HoldsWith, Holds, added, found, with_looks}
+use Rattle.ti_handshake.specs.Call.{GoesOn, WaitsWith, Waits, HoldsWith, Holds, SawNews, added, found, with_looks}
 
 take_front : (f more : List Entry) (n : ℕ) → n ≡ length more → take (length (f ++ more) - n) (f ++ more) ≡ f
 take_front f more n e =
@@ -153,3 +153,17 @@ holds_refl v rests legal whole =
       waits = waits_looks v v [] (record { rests = rests; legal = legal; whole = whole }) (λ i. record v { looked = sym (append-nil v.looked) i });
       looked = refl;
     }
+
+-- a wait that added nothing, and then looks
+pub waits_news : (a b c : View) → Waits a b [] → SawNews b c → Waits a c []
+waits_news a b c p n =
+    let seated : IsSeated b = record {
+      rests = p.goes.rests;
+      legal = subst (λ (l : Limits). is_legal l b.seen ≡ true) (λ i. (sym p.goes.subject i).limits) p.goes.legal;
+      whole = p.goes.whole ∙ ap (λ (i : ℕ). made_by i b.seen) (sym p.goes.number);
+    } in
+    waits_then a b c [] p (waits_looks b c (n.0 ++ n.1 ∷ []) seated n.2)
+
+-- a hold that added nothing, and then looks
+pub news_then : (a b c d : View) → Waits a b [] → Waits b c [] → SawNews c d → Waits a d []
+news_then a b c d p q n = waits_news a c d (waits_then a b c [] p q) n

@@ -25,7 +25,7 @@ use Rattle.ti_cell.specs.declared.view.View.{View}
 use Rattle.ti_cell.specs.View.{holding, stored, tickets_but}
 use Rattle.ti_cell.specs.Rule.{IsTaken, Keeps}
 use Rattle.ti_cell.specs.Seats.{Sitting, Holding}
-use Rattle.ti_handshake.specs.Call.{Holds, found}
+use Rattle.ti_handshake.specs.Call.{Holds, SawNews, found}
 use Rattle.ti_handshake.specs.Thread.{RunsWith, RestsWith, HasEnded, IsFresh, refused_at, logged}
 use Rattle.ti_handshake.proofs.Holding.{held, found_held}
 use Rattle.ti_handshake.proofs.Modes.{mode-snoc}
@@ -208,6 +208,20 @@ still_safe cell s w h n l r k at =
       owner = at.owner;
       whole = at.whole;
       safe = subst (λ (x : Limits × List Entry). is_safe (view x.0 x.1).mode ≡ true) (λ i. (limits i, seen i)) (ap is_safe a.mode ∙ r.safe);
+      none = r.none;
+      room = r.room ∙ ap (λ (x : Limits). x.own) limits;
+    }
+
+-- looks change nothing of it
+pub looks_safe : (cell : TableId) (s w : Sitting) (l : Steps) → RestsWith cell s l → w.cell ≡ s.cell → SawNews s.view w.view → RestsWith cell w l
+looks_safe cell s w l r here n =
+    let seen : s.view.seen ≡ w.view.seen = sym (ap (λ (v : View). v.seen) n.2) in
+    let limits : s.view.subject.limits ≡ w.view.subject.limits = sym (ap (λ (v : View). v.subject.limits) n.2) in
+    record {
+      here = here ∙ r.here;
+      owner = ap (λ (v : View). v.number) n.2 ∙ r.owner;
+      whole = ap (λ (v : View). v.mine) n.2 ∙ (r.whole ∙ ap (made_by 0) seen);
+      safe = subst (λ (x : Limits × List Entry). is_safe (view x.0 x.1).mode ≡ true) (λ i. (limits i, seen i)) r.safe;
       none = r.none;
       room = r.room ∙ ap (λ (x : Limits). x.own) limits;
     }

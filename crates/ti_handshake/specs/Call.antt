@@ -1,5 +1,5 @@
 -- What a call through a cell tells a seat.
-use Rattle.std.specs.Prelude.{◌≡◌, ◌-◌, true, false, List, [], ◌∷◌, ◌++◌, length, take, drop, Some, None}
+use Rattle.std.specs.Prelude.{◌≡◌, ◌-◌, ◌<◌, true, false, List, [], ◌∷◌, ◌++◌, length, take, drop, Some, None}
 use Rattle.ti_types.specs.Answer.{said}
 use Rattle.ti_types.specs.declared.answer.Answer.{Answer}
 use Rattle.ti_types.specs.declared.call.Call.{Call}
@@ -62,6 +62,10 @@ Holds old new more = HoldsWith old new more old.posted
 -- the view with further looks
 abbrev pub with_looks : View → List Look → View
 with_looks v looks = record v { looked = v.looked ++ looks }
+
+-- looks alone, of which the last showed entries that were not seen
+abbrev pub SawNews : View → View → Type 0
+SawNews old new = (looks : List Look) × (last : Look) × (new ≡ with_looks old (looks ++ last ∷ [])) × (length old.seen < last.count)
 
 -- what a call that is asked comes to at once: the reply, or the ticket where there is none yet. No ticket was that one
 abbrev pub IsTold : View → View → EnvNo → Call → AskedOf → Type 0

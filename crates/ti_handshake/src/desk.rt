@@ -12,12 +12,12 @@ ghost use Rattle.ti_replay.specs.Tickets.{reply_to};
 ghost use Rattle.ti_slot.specs.Thread.{read_answer};
 ghost use Rattle.ti_slot.specs.Tickets.{has, without_ticket};
 ghost use Rattle.ti_slot.specs.Waiting.{IsBufferOf, HasRoomFor};
-ghost use Rattle.ti_handshake.specs.Call.{GoesOn, Waits, WaitsWith, Holds, HoldsWith, found, IsTold, IsAnswered, next_call, ticket_told};
+ghost use Rattle.ti_handshake.specs.Call.{GoesOn, Waits, WaitsWith, Holds, HoldsWith, found, IsTold, IsAnswered, SawNews, next_call, ticket_told};
 ghost use Rattle.ti_handshake.specs.Desk.{Place, IsSame, ReplyAtPlace, is_anothers, there_found, stop_refusal, read_refusal, go_refusal};
 
+use crate::waiting::await_news;
 use std::marker::Model;
 use std::sync::Wait;
-use std::thread;
 use ti_cell::{EnvSeat, ThreadCell};
 use ti_slot::Asked;
 use ti_types::{Answer, Call, EnvNo, Ticket, TraceBuf};
@@ -119,7 +119,8 @@ impl<'a> Desk<'a> {
     }
 
     /// The answer to a call of this desk that waited, by holds until it is there: the reply of the history to the ticket.
-    /// The ticket is one of the desk's, and is none from then on, so that it is answered once; the others stay.
+    /// The ticket is one of the desk's, and is none from then on, so that it is answered once; the others stay. Between
+    /// its holds it waits by looks (`await_news`).
     pub fn collect<R: Wait>(&mut self, rt: &R, ticket: Ticket) -> Answer
         requires posted { has ticket self.old.view.posted ≡ true }
         ensures same { IsSame self.old self.new }
@@ -133,7 +134,7 @@ impl<'a> Desk<'a> {
             if let Some(answer) = self.look_for(rt, ticket) {
                 return answer;
             }
-            thread::yield_now();
+            self.await_news(rt);
         }
         unreachable!()
     }
@@ -194,7 +195,7 @@ impl<'a> Desk<'a> {
             if let Some(answer) = self.stop_unless_others(rt) {
                 return answer;
             }
-            thread::yield_now();
+            self.await_news(rt);
         }
         unreachable!()
     }
@@ -296,6 +297,18 @@ impl<'a> Desk<'a> {
         let standing = hold.slot().standing(self.env);
         self.seat = Some(hold.store());
         standing
+    }
+
+    /// Waits until the thread's history has entries that the desk has not seen, by looks alone, so that who holds the cell
+    /// is not held up. Between them it pauses. What a hold would find has not changed before (this profile).
+    pub fn await_news<R: Wait>(&mut self, rt: &R)
+        ensures same { IsSame self.old self.new }
+        ensures news { SawNews self.old.view self.new.view }
+    {
+        let Some(seat) = &mut self.seat else {
+            unreachable!()
+        };
+        await_news(rt, self.cell, seat);
     }
 
     /// The desk's seat, which may go back to the owner's (`ThreadCell::rejoin`).

@@ -2,13 +2,13 @@ ghost use Rattle.std.specs.Prelude.{◌≡◌, true, [], ◌∷◌, Some, None, 
 ghost use Rattle.ti_types.specs.declared.entry.Entry.TheVariants as entry;
 ghost use Rattle.ti_types.specs.declared.error.TiError.TheVariants.{Barred};
 ghost use Rattle.ti_replay.specs.View.{view, is_barred};
-ghost use Rattle.ti_handshake.specs.Call.{Holds, Waits, found};
+ghost use Rattle.ti_handshake.specs.Call.{Holds, Waits, SawNews, found};
 ghost use Rattle.ti_handshake.specs.Thread.{refused_at};
 
 use crate::running::Running;
+use crate::waiting::await_news;
 use std::marker::Model;
 use std::sync::Wait;
-use std::thread;
 use ti_cell::{OwnSeat, ThreadCell};
 use ti_types::TiError;
 
@@ -70,7 +70,8 @@ impl<'a> Fresh<'a> {
         }
     }
 
-    /// Starts the thread, and waits while a stop stands.
+    /// Starts the thread, and waits while a stop stands: by looks, until the history has grown, and then by one hold more
+    /// (JVM TI 11, GetThreadState: alive from here on).
     pub fn start<R: Wait>(self, rt: &R) -> Running<'a>
         ensures cell { result.cell ≡ self.entry.cell }
         ensures hold { Waits self.entry.view result.view (entry.Start ∷ []) }
@@ -83,9 +84,17 @@ impl<'a> Fresh<'a> {
                 Ok(running) => return running,
                 Err((_error, again)) => fresh = again,
             }
-            thread::yield_now();
+            fresh.await_news(rt);
         }
         unreachable!()
+    }
+
+    /// Waits until the thread's history has entries that it has not seen, by looks alone.
+    fn await_news<R: Wait>(&mut self, rt: &R)
+        ensures cell { self.new.cell ≡ self.old.cell }
+        ensures news { SawNews self.old.view self.new.view }
+    {
+        await_news(rt, self.cell, &mut self.seat);
     }
 
     /// The thread's seat.

@@ -4,13 +4,13 @@ ghost use Rattle.ti_types.specs.declared.error.TiError.TheVariants.{Barred};
 ghost use Rattle.ti_types.specs.declared.state.Mode.TheVariants as mode;
 ghost use Rattle.ti_replay.specs.Legal.{is_safe};
 ghost use Rattle.ti_replay.specs.View.{view, is_barred};
-ghost use Rattle.ti_handshake.specs.Call.{Holds, Waits, found};
+ghost use Rattle.ti_handshake.specs.Call.{Holds, Waits, SawNews, found};
 ghost use Rattle.ti_handshake.specs.Thread.{RestsWith, HasEnded, refused_at};
 
 use crate::running::Running;
+use crate::waiting::await_news;
 use std::marker::Model;
 use std::sync::Wait;
-use std::thread;
 use ti_cell::{OwnSeat, ThreadCell};
 use ti_frames::Log;
 use ti_types::TiError;
@@ -81,7 +81,8 @@ impl<'a> AtSafe<'a> {
         }
     }
 
-    /// Lets the thread return, and waits while it is barred.
+    /// Lets the thread return, and waits while it is barred: by looks, until the history has grown, and then by one hold
+    /// more (HotSpot Runtime Overview).
     pub fn back<R: Wait>(self, rt: &R) -> Running<'a>
         ensures cell { result.cell ≡ self.entry.cell }
         ensures hold { Waits self.entry.view result.view (entry.Back ∷ []) }
@@ -94,9 +95,17 @@ impl<'a> AtSafe<'a> {
                 Ok(running) => return running,
                 Err((_error, again)) => safe = again,
             }
-            thread::yield_now();
+            safe.await_news(rt);
         }
         unreachable!()
+    }
+
+    /// Waits until the thread's history has entries that it has not seen, by looks alone.
+    fn await_news<R: Wait>(&mut self, rt: &R)
+        ensures cell { self.new.cell ≡ self.old.cell }
+        ensures news { SawNews self.old.view self.new.view }
+    {
+        await_news(rt, self.cell, &mut self.seat);
     }
 
     /// The thread's seat.

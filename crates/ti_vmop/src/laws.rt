@@ -1,0 +1,25 @@
+//! Laws of histories. They belong below, beside the other laws.
+ghost use Rattle.ti_vmop.specs.Stops.{StopsAreOwn, FrontsStay, DesksStay, PopsAddUp};
+
+/// Whether an environment's stop stands at a thread, its own entries say alone.
+#[tactic(auto, using(crate::proofs::Stopping::stops_are_own))]
+pub fn stops_are_own()
+    ensures { StopsAreOwn }
+{}
+
+/// Behind a front that stands for an environment, up to its go: no entry of the thread's own, one mode, and the frames of
+/// the front after the pops behind it.
+pub fn fronts_stay()
+    ensures { FrontsStay }
+{}
+
+/// The same of a desk that saw its thread stand: whatever it sees until its environment lets the thread go.
+pub fn desks_stay()
+    ensures { DesksStay }
+{}
+
+/// What is popped behind a front is what is popped in a first part of it, and behind that in the rest. So reads, of which
+/// each tells of what its desk had seen before, tell together of the first front.
+pub fn pops_add_up()
+    ensures { PopsAddUp }
+{}

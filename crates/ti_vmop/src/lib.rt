@@ -1,0 +1,20 @@
+//! Global operations: an environment stops threads, reads them while they stand, and lets them go.
+//!
+//! Below stand `ti_handshake`, whose desks these are, and `ti_env`, which counts what the environment may spend. Upward
+//! this crate promises:
+//!
+//! - `stop_all` answers when each listed thread has been seen to stand, and stops none where a budget does not do.
+//! - Until the environment lets a thread go, what its desk sees begins with that front, and has no entry of the thread's
+//!   own behind it (`desks_stay`); a read tells of the mode of the front, and of its frames after the pops behind it.
+//! - Only `Standing::go` makes a `Round`, and a `Standing` has to be spent by it.
+//! - No call takes memory.
+//!
+//! That `stop_all` answers is not promised: it waits for each thread to hand over.
+#![tactic(auto)]
+
+mod laws;
+mod one;
+mod standing;
+
+pub use laws::{desks_stay, fronts_stay, stops_are_own};
+pub use standing::{Round, Standing, VmTurn, stop_all};
