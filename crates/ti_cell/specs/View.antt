@@ -1,7 +1,7 @@
 -- What a seat knows, and how each step changes it.
 use Rattle.std.specs.Prelude.{ℕ, suc, ◌≡◌, ◌==◌, not, ◌+◌, if◌then◌else◌, true, false, List, [], ◌∷◌, ◌++◌, length, drop}
 use Rattle.std.specs.List.{filter}
-use Rattle.std.proofs.Common.{lit≤}
+use Rattle.ti_types.specs.Least.{least}
 use Rattle.ti_types.specs.declared.event.Ticket.{Ticket}
 use Rattle.ti_types.specs.declared.entry.Entry.{Entry}
 use Rattle.ti_types.specs.declared.limits.Limits.{Limits}
@@ -59,7 +59,7 @@ rejoined v w = record { number = v.number; seen = v.seen; mine = v.mine; looked 
 
 -- some subject
 abbrev nothing : Subject
-nothing = record { limits = record { threads = 1; envs = 1; depth = 1; own = 1; calls = 1; in_range = ((lit≤ tt, lit≤ tt), (lit≤ tt, lit≤ tt), (lit≤ tt, lit≤ tt), (lit≤ tt, lit≤ tt), (lit≤ tt, lit≤ tt)) }; thread = record { 0 = 0 } }
+nothing = record { limits = least; thread = record { 0 = 0 } }
 
 -- the view of a seat that came back
 abbrev pub nobody : View

@@ -18,11 +18,11 @@ pub record Keeps (limits : Limits) (d : Dealings) (t : ThreadNo) (env : EnvValue
   pub caps : env.caps ≡ d.caps
   pub spent : t.0 < limits.threads → slice_index env.spent t.0 ≡ d.spent
   pub spent_count : length env.spent ≡ limits.threads
-  pub calls : env.calls ≡ limits.calls
+  pub calls : env.limits.calls ≡ limits.calls
 
 -- so what it refuses at the thread by itself is what the definitions say
 pub same_reach : (limits : Limits) (d : Dealings) (t : ThreadNo) (env : EnvValue) (well_formed : Bool) → Keeps limits d t env
-    → reaching_refusal (is_there env t) well_formed (spent_at env t) env.calls ≡ reaching_refusal (nat_lt t.0 limits.threads) well_formed d.spent limits.calls
+    → reaching_refusal (is_there env t) well_formed (spent_at env t) env.limits.calls ≡ reaching_refusal (nat_lt t.0 limits.threads) well_formed d.spent limits.calls
 same_reach limits d t env well_formed q =
     elim (cases_Bool (nat_lt t.0 limits.threads)) [
       | inl here ↦ let s : spent_at env t ≡ d.spent = q.spent (ltb-true _ _ here) in grind (arith, nat_tests, here, s, q.spent_count, q.calls)

@@ -158,7 +158,7 @@ own_envs s w event u x = grind arith
 
 -- what changes an environment's own parts
 changed : (limits : Limits) (e : EnvNo) (events : List Happening) (h : Happening) (env new : EnvValue) → EnvStands limits e events env
-    → new.spent ≡ env.spent → new.calls ≡ env.calls
+    → new.spent ≡ env.spent → new.limits.calls ≡ env.limits.calls
     → ((d : Dealings) → env.caps ≡ d.caps → new.caps ≡ caps_after e d.caps h.event)
     → ((n : ℕ) → env.word ≡ n → new.word ≡ env_word_after e n h)
     → ((t : ThreadNo) → (d : Dealings) → spends limits e t d h ≡ false)

@@ -89,7 +89,7 @@ whys s w _ = None
 
 -- what an environment of a core refuses at a thread by itself
 reach : (events : List Happening) (s : CoreState) (e : EnvNo) (t : ThreadNo) (well_formed : Bool) → Stands events s → nat_lt e.0 s.limits.envs ≡ true
-    → reaching_refusal (is_there (env_at s.envs e) t) well_formed (spent_at (env_at s.envs e) t) (env_at s.envs e).calls
+    → reaching_refusal (is_there (env_at s.envs e) t) well_formed (spent_at (env_at s.envs e) t) (env_at s.envs e).limits.calls
     ≡ reaching_refusal (nat_lt t.0 s.limits.threads) well_formed (dealings s.limits e t events).spent s.limits.calls
 reach events s e t well_formed k h = same_reach s.limits (dealings s.limits e t events) t (env_at s.envs e) well_formed (keeps events s e t k (ltb-true _ _ h))
 

@@ -16,6 +16,7 @@ use Rattle.ti_types.specs.declared.answer.Answer.TheVariants as answer
 use Rattle.ti_types.specs.declared.error.TiError.{TiError}
 use Rattle.ti_types.specs.declared.error.TiError.TheVariants.{InvalidEnvironment, InvalidThread, NotAvailable}
 use Rattle.ti_types.specs.Caps.{caps_with, caps_without}
+use Rattle.ti_types.specs.Least.{least}
 use Rattle.ti_types.specs.Admitting.{admitting_refusal, going_refusal}
 use Rattle.ti_replay.specs.Admission.{Happening, takes_buffer, can_be_had}
 use Rattle.ti_replay.specs.Events.{own_entry, given, done_unless}
@@ -43,7 +44,7 @@ abbrev pub no_thread : Limits → ThreadState
 no_thread limits = new_state limits (record { 0 = 0 })
 
 abbrev pub no_env : EnvValue
-no_env = record { caps = record { bits = 0 }; spent = []; calls = 0; word = 0 }
+no_env = record { caps = record { bits = 0 }; spent = []; limits = least; word = 0 }
 
 abbrev pub thread_at : Limits → List ThreadState → ThreadNo → ThreadState
 thread_at limits threads t = slice_index_or threads t.0 (no_thread limits)

@@ -32,7 +32,7 @@ pub record EnvStands (limits : Limits) (e : EnvNo) (events : List Happening) (s 
   pub caps : (t : ThreadNo) → s.caps ≡ (dealings limits e t events).caps
   pub spent : (t : ThreadNo) → t.0 < limits.threads → slice_index s.spent t.0 ≡ (dealings limits e t events).spent
   pub spent_count : length s.spent ≡ limits.threads
-  pub calls : s.calls ≡ limits.calls
+  pub calls : s.limits.calls ≡ limits.calls
   pub word : s.word ≡ env_word e events
 
 -- a core in which these have happened

@@ -8,16 +8,16 @@ use Rattle.ti_types.specs.declared.error.TiError.{TiError}
 use Rattle.ti_types.specs.Caps.{no_caps}
 use Rattle.ti_types.specs.Admitting.{asking_refusal, stopping_refusal, reading_refusal}
 
--- the capabilities that are held, the calls spent at each thread, how many it may spend at each, and its own word
+-- the capabilities that are held, the calls spent at each thread, the limits that it was made under, and its own word
 pub record EnvValue : Type 0 where
   pub caps : Caps
   pub spent : List ℕ
-  pub calls : ℕ
+  pub limits : Limits
   pub word : ℕ
 
 -- of an environment that has done nothing
 abbrev pub new_env : Limits → EnvValue
-new_env limits = record { caps = no_caps; spent = replicate limits.threads 0; calls = limits.calls; word = 0 }
+new_env limits = record { caps = no_caps; spent = replicate limits.threads 0; limits = limits; word = 0 }
 
 abbrev pub with_caps : EnvValue → Caps → EnvValue
 with_caps s caps = record s { caps = caps }
@@ -38,16 +38,16 @@ with_spent s thread = record s { spent = slice_set s.spent thread.0 (spent_at s 
 
 -- how many calls are left at a thread: none where there is no such thread
 abbrev pub left_at : EnvValue → ThreadNo → ℕ
-left_at s thread = if is_there s thread then s.calls - spent_at s thread else 0
+left_at s thread = if is_there s thread then s.limits.calls - spent_at s thread else 0
 
 -- why a call does not reach its thread
 abbrev pub call_refusal : EnvValue → ThreadNo → Call → Option TiError
-call_refusal s thread call = asking_refusal s.caps (is_there s thread) (spent_at s thread) s.calls call
+call_refusal s thread call = asking_refusal s.caps (is_there s thread) (spent_at s thread) s.limits.calls call
 
 -- why a stop does not
 abbrev pub stop_refusal : EnvValue → ThreadNo → Option TiError
-stop_refusal s thread = stopping_refusal (is_there s thread) (spent_at s thread) s.calls
+stop_refusal s thread = stopping_refusal (is_there s thread) (spent_at s thread) s.limits.calls
 
 -- why a read under a stop does not
 abbrev pub read_refusal : EnvValue → ThreadNo → ℤ → Option TiError
-read_refusal s thread max_count = reading_refusal (is_there s thread) (spent_at s thread) s.calls max_count
+read_refusal s thread max_count = reading_refusal (is_there s thread) (spent_at s thread) s.limits.calls max_count

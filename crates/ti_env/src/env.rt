@@ -15,8 +15,7 @@ pub struct EnvState {
     caps: Caps,
     /// By the thread's number.
     spent: Vec<u32>,
-    /// How many calls may be spent at each thread.
-    calls: u32,
+    limits: Limits,
     word: u64,
 }
 
@@ -25,7 +24,7 @@ impl Model for EnvState {
 
     ghost Value = { EnvValue };
 
-    ghost view = { λ a. record { caps = a.caps; spent = a.spent.items; calls = a.calls; word = a.word } };
+    ghost view = { λ a. record { caps = a.caps; spent = a.spent.items; limits = a.limits; word = a.word } };
 }
 
 impl EnvState {
@@ -39,9 +38,16 @@ impl EnvState {
         Ok(EnvState {
             caps: Caps::none(),
             spent: vec![in alloc; 0; limits.threads as usize]?,
-            calls: limits.calls,
+            limits,
             word: 0,
         })
+    }
+
+    /// The limits that it was made under.
+    pub fn limits(&self) -> Limits
+        ensures { result ≡ self.now.limits }
+    {
+        self.limits
     }
 
     /// The capabilities that are held (JVM TI 11, GetCapabilities).
@@ -91,8 +97,8 @@ impl EnvState {
 
     /// That there is such a thread, else 10, that a call is well formed, else 103, and that a call is left, else 209.
     fn check(&self, thread: ThreadNo, well_formed: bool) -> Result<(), TiError>
-        ensures passed { OnOk result (reaching_refusal (is_there self.now thread) well_formed (spent_at self.now thread) self.now.calls ≡ None) }
-        ensures refused { IfErr result (λ e. reaching_refusal (is_there self.now thread) well_formed (spent_at self.now thread) self.now.calls ≡ Some e) }
+        ensures passed { OnOk result (reaching_refusal (is_there self.now thread) well_formed (spent_at self.now thread) self.now.limits.calls ≡ None) }
+        ensures refused { IfErr result (λ e. reaching_refusal (is_there self.now thread) well_formed (spent_at self.now thread) self.now.limits.calls ≡ Some e) }
     {
         let index = thread.0 as usize;
         if index >= self.spent.len() {
@@ -101,7 +107,7 @@ impl EnvState {
         if !well_formed {
             return Err(TiError::IllegalArgument);
         }
-        if self.spent[index] >= self.calls {
+        if self.spent[index] >= self.limits.calls {
             return Err(TiError::CallsSpent);
         }
         Ok(())
@@ -145,7 +151,7 @@ impl EnvState {
         ensures { result ≡ left_at self.now thread }
     {
         match self.spent.get(thread.0 as usize) {
-            Some(spent) => self.calls.saturating_sub(*spent),
+            Some(spent) => self.limits.calls.saturating_sub(*spent),
             None => 0,
         }
     }
@@ -154,10 +160,10 @@ impl EnvState {
     /// thread, and a call must be left there, as after `admit`, `admit_stop` or `admit_read`.
     pub fn spend(&mut self, thread: ThreadNo)
         requires there { thread.0 < length self.old.spent }
-        requires left { spent_at self.old thread < self.old.calls }
+        requires left { spent_at self.old thread < self.old.limits.calls }
         ensures { self.new ≡ with_spent self.old thread }
     {
-        let _calls = self.calls;
+        let _calls = self.limits.calls;
         self.spent[thread.0 as usize] += 1;
     }
 }

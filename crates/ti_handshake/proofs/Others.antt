@@ -9,7 +9,8 @@ use Rattle.ti_types.specs.declared.entry.Entry.TheVariants.{Start, Own, Hand, Ba
 use Rattle.ti_replay.specs.Answers.{is_running}
 use Rattle.ti_replay.specs.View.{view, frames_after}
 use Rattle.ti_replay.specs.Legal.{goes_on, own_spent}
-use Rattle.ti_replay.specs.HistoryState.{HistoryState, history_state, next_state, allows, allows_all}
+use Rattle.ti_replay.specs.HistoryState.{HistoryState, history_state}
+use Rattle.ti_replay.proofs.NextStates.{next_state, allows, allows_all}
 use Rattle.ti_replay.specs.LateTickets.{steps_of}
 use Rattle.ti_replay.specs.Makers.{maker, made_by, StartsWith}
 use Rattle.ti_replay.proofs.HistoryStateLaws.{history_state-append, goes_on-allows}

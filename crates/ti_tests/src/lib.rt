@@ -4,6 +4,8 @@
 #![tactic(auto)]
 
 #[cfg(test)]
+mod agents;
+#[cfg(test)]
 mod cells;
 #[cfg(test)]
 mod cores;

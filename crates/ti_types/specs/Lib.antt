@@ -11,3 +11,4 @@ pub mod Steps
 pub mod Pops
 pub mod Refusing
 pub mod Admitting
+pub mod Least

@@ -11,6 +11,7 @@ use Rattle.std.proofs.lemmas.List.Sums.{fold-append}
 use Rattle.std.proofs.lemmas.List.Folds.{list_all-append}
 use Rattle.ti_types.specs.declared.numbers.ThreadNo.{ThreadNo}
 use Rattle.ti_env.specs.Env.{EnvValue, left_at, spent_at, with_spent}
+use Rattle.ti_env.proofs.LeftLaws.{left_some}
 use Rattle.ti_replay.specs.Makers.{StartsWith}
 use Rattle.ti_replay.specs.Standing.{is_standing}
 use Rattle.ti_handshake.specs.Call.{Waits, found}
@@ -158,7 +159,7 @@ set_other (x ∷ xs) (suc i) (suc j) v n = set_other xs i j v (λ h. n (ap suc h
 
 pub record Untouched (s z : EnvValue) (t : ThreadNo) : Type 0 where
   pub spent : spent_at z t ≡ spent_at s t
-  pub calls : z.calls ≡ s.calls
+  pub calls : z.limits.calls ≡ s.limits.calls
   pub count : length z.spent ≡ length s.spent
 
 pub untouched : (s : EnvValue) (done : Listed) (t : ThreadNo) → is_listed t.0 done ≡ false → Untouched s (spend_all s done) t
@@ -182,12 +183,13 @@ spends s z w threads k n c h e is more =
 
 -- what a thread of the list has left before it is stopped
 pub may_spend : (s z : EnvValue) (threads : Listed) (k : ℕ) (c : ThreadNo × ℕ) → AreDistinct threads → are_paid s threads ≡ true → k < length threads → z ≡ spend_all s (take k threads)
-    → spent_at z (slice_index_or threads k c).0 < z.calls
+    → spent_at z (slice_index_or threads k c).0 < z.limits.calls
 may_spend s z threads k c distinct paid h is =
     let x = slice_index_or threads k c in
     let u = untouched s (take k threads) x.0 (distinct_at threads k c distinct h) in
     let left = paid_at s threads k c paid h in
-    subst (λ (w : EnvValue). spent_at w x.0 < w.calls) (sym is) (omega (arith, u.spent, u.calls, left))
+    let some : spent_at s x.0 < s.limits.calls = left_some s x.0 (omega (arith, left)) in
+    subst (λ (w : EnvValue). spent_at w x.0 < w.limits.calls) (sym is) (omega (arith, u.spent, u.calls, some))
 
 pub may_reach : (s z : EnvValue) (threads : Listed) (k n : ℕ) (c : ThreadNo × ℕ) → AreDistinct threads → AreThere n threads → length s.spent ≡ n → k < length threads → z ≡ spend_all s (take k threads)
     → (slice_index_or threads k c).0.0 < length z.spent

@@ -19,7 +19,8 @@ use Rattle.ti_replay.specs.Laws.{is_done}
 use Rattle.ti_replay.proofs.DoneLaws.{change_where_done}
 use Rattle.ti_replay.specs.View.{view, after, called, frames_after}
 use Rattle.ti_replay.specs.Legal.{is_legal, is_stopper}
-use Rattle.ti_replay.specs.HistoryState.{HistoryState, history_state, next_state, allows, allows_all}
+use Rattle.ti_replay.specs.HistoryState.{HistoryState, history_state}
+use Rattle.ti_replay.proofs.NextStates.{next_state, allows, allows_all}
 use Rattle.ti_replay.specs.Makers.{maker, made_by}
 use Rattle.ti_replay.specs.Standing.{is_standing, is_own_entry, is_go_of, is_still}
 use Rattle.ti_replay.proofs.BoundLaws.{all_quiet, called_stopper}

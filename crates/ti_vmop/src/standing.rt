@@ -180,7 +180,7 @@ impl<'l> Standing<'l> {
     ) -> Answer
         requires listed { is_listed thread.0 self.old.threads ≡ true }
         requires there { (thread.0 < length desks.old) × (length state.old.spent ≡ length desks.old) }
-        requires left { spent_at state.old thread < state.old.calls }
+        requires left { spent_at state.old thread < state.old.limits.calls }
         requires count { is_not_negative max_count ≡ true }
         requires desk { (p : Place) → slice_get desks.old thread.0 ≡ Some p → MayRead self.old.env state.old p thread max_count buf }
         ensures desks { AtEach ((thread, 0) ∷ []) desks.old desks.new (λ e. entry.Read e max_count ∷ []) }

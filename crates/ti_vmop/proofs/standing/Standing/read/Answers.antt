@@ -4,13 +4,15 @@ use Rattle.std.specs.Prelude.{slice_index_or}
 use Rattle.ti_types.specs.Answer.{said}
 use Rattle.ti_types.specs.declared.entry.Entry.TheVariants.{Read}
 use Rattle.ti_env.specs.Env.{left_at}
+use Rattle.ti_env.proofs.LeftLaws.{left_is}
 use Rattle.ti_vmop.proofs.Each.{at_index, set_here, each_none, each_step, read_adds, read_room, is_read}
 use Rattle.ti_vmop.proofs.standing.Standing.read.Goals as goal
 
 pub read_one-requires-clause-calls : goal.read_one-requires-clause-calls
 read_one-requires-clause-calls g c =
     let may = c.requires.desk _ (at_index c.args.desks.now c.args.thread.0 c.index-desks-thread.result c.requires.there.0) in
-    let left : 0 < left_at c.args.state.now c.args.thread = omega (arith, c.requires.left) in
+    let is = left_is c.args.state.now c.args.thread (omega (arith, c.requires.there.0, c.requires.there.1)) in
+    let left : 0 < left_at c.args.state.now c.args.thread = omega (arith, is, c.requires.left) in
     omega (arith, may.paid, left)
 
 pub read_one-requires-clause-buf : goal.read_one-requires-clause-buf

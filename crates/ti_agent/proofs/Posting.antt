@@ -1,0 +1,233 @@
+-- A call at one thread of a list after another.
+use Rattle.std.proofs.Common.{◌≡◌, ◌≢◌, ℕ, zero, suc, ◌+◌, ◌<◌, ◌==◌, ◌&&◌, ◌||◌, Bool, true, false, inl, inr, List, [], ◌∷◌, ◌++◌, length, take, drop, refl, ap, sym, ◌∙◌, arith, subst, Some, None, Option, get_or}
+use Rattle.std.specs.Prelude.{slice_get, slice_index_or, slice_set}
+use Rattle.std.proofs.lemmas.Bool.{cases_eq, cases_Bool}
+use Rattle.std.proofs.lemmas.Bool.Decides.{nat_tests}
+use Rattle.std.proofs.lemmas.List.Folds.{list_any-append}
+use Rattle.ti_types.specs.declared.answer.Answer.{Answer}
+use Rattle.ti_types.specs.declared.call.Call.{Call}
+use Rattle.ti_types.specs.declared.event.Ticket.{Ticket}
+use Rattle.ti_types.specs.declared.numbers.ThreadNo.{ThreadNo}
+use Rattle.ti_slot.specs.declared.asked.Asked.{Asked as AskedOf}
+use Rattle.ti_slot.specs.declared.asked.Asked.TheVariants.{Answered, Waiting}
+use Rattle.ti_slot.specs.Tickets.{same, has, without_ticket}
+use Rattle.ti_env.specs.Env.{call_refusal}
+use Rattle.ti_types.specs.declared.error.TiError.{TiError}
+use Rattle.ti_handshake.specs.Call.{ticket_told}
+use Rattle.ti_handshake.specs.Desk.{Place}
+use Rattle.ti_vmop.proofs.Each.{at_index, set_here}
+use Rattle.ti_agent.specs.Env.{Environment}
+use Rattle.ti_agent.specs.declared.lists.Posted.{Posted}
+use Rattle.ti_agent.specs.declared.lists.Posted.TheVariants.{Code, Waits}
+use Rattle.ti_agent.specs.Lists.{Posts, Collects, IsPosted, IsPostedBy, PostsEach, IsCollected, CollectsEach, IsOut, IsOpen, AreOthers, NoneTwice, AreOpen}
+
+-- a desk that is there
+
+get_range : (l : List Place) (i : ℕ) (p : Place) → slice_get l i ≡ Some p → i < length l
+get_range [] i p e = absurd (none e)
+  where
+    none : slice_get [] i ≡ Some p → ⊥
+    none e = cc
+get_range (x ∷ xs) zero p e = omega arith
+get_range (x ∷ xs) (suc i) p e = let h = get_range xs i p e in omega (arith, h)
+
+pub in_range_of : (s : Environment) (k : Ticket) → IsOut s k → k.thread.0 < length s.desks
+in_range_of s k o = get_range s.desks k.thread.0 o.desk o.there
+
+some_same : (x y : Place) → Some x ≡ Some y → x ≡ y
+some_same x y e = cc
+
+pub out_at : (s : Environment) (k : Ticket) (p : Place) → IsOut s k → p ≡ slice_index_or s.desks k.thread.0 p → (slice_get s.desks k.thread.0 ≡ Some p) × (has k p.view.posted ≡ true)
+out_at s k p o e =
+    let there : slice_get s.desks k.thread.0 ≡ Some p = at_index s.desks k.thread.0 p (in_range_of s k o) ∙ ap (λ (x : Place). Some x) (sym e) in
+    let is : o.desk ≡ p = some_same o.desk p (sym o.there ∙ there) in
+    (there, ap (λ (x : Place). has k x.view.posted) (sym is) ∙ o.out)
+
+set_at : (l : List Place) (i : ℕ) (x : Place) → i < length l → slice_get (slice_set l i x) i ≡ Some x
+set_at [] i x h = absurd (omega (arith, h))
+set_at (y ∷ ys) zero x h = refl
+set_at (y ∷ ys) (suc i) x h = set_at ys i x (omega (arith, h))
+
+set_apart : (l : List Place) (i j : ℕ) (x : Place) → i ≢ j → slice_get (slice_set l i x) j ≡ slice_get l j
+set_apart [] i j x n = refl
+set_apart (y ∷ ys) zero zero x n = absurd (n refl)
+set_apart (y ∷ ys) zero (suc j) x n = refl
+set_apart (y ∷ ys) (suc i) zero x n = refl
+set_apart (y ∷ ys) (suc i) (suc j) x n = set_apart ys i j x (λ h. n (ap suc h))
+
+-- tickets
+
+same_is : (a b : Ticket) → same a b ≡ true → a ≡ b
+same_is a b h =
+    let no : a.no ≡ b.no = grind (arith, nat_tests, h) in
+    let env : a.env.0 ≡ b.env.0 = grind (arith, nat_tests, h) in
+    let thread : a.thread.0 ≡ b.thread.0 = grind (arith, nat_tests, h) in
+    λ i. record { env = record { 0 = env i }; thread = record { 0 = thread i }; no = no i }
+
+same_self : (a : Ticket) → same a a ≡ true
+same_self a = grind (arith, nat_tests)
+
+has_more : (k : Ticket) (ts us : List Ticket) → has k ts ≡ true → has k (ts ++ us) ≡ true
+has_more k ts us h = list_any-append (λ (u : Ticket). same u k) ts us ∙ grind (arith, h)
+
+has_last : (k : Ticket) (ts : List Ticket) → has k (ts ++ k ∷ []) ≡ true
+has_last k ts = list_any-append (λ (u : Ticket). same u k) ts (k ∷ []) ∙ (let e = same_self k in grind (arith, e))
+
+has_without : (j k : Ticket) (ts : List Ticket) → same j k ≡ false → has j (without_ticket k ts) ≡ has j ts
+has_without j k [] h = refl
+has_without j k (u ∷ ts) h =
+    elim (cases_Bool (same u k)) [
+      | inl it ↦
+          let is : u ≡ k = same_is u k it in
+          let apart : same u j ≡ false = ap (λ (x : Ticket). same x j) is ∙ grind (arith, nat_tests, h) in
+          grind (arith, it, apart)
+      | inr other ↦ let rest = has_without j k ts h in grind (arith, other, rest)
+    ]
+
+-- what was posted before stays out
+
+out_apart : (s s' : Environment) (t : ℕ) (q : Place) (k : Ticket) → s'.desks ≡ slice_set s.desks t q → t ≢ k.thread.0 → IsOut s k → IsOut s' k
+out_apart s s' t q k e n o = record {
+  desk = o.desk;
+  there = ap (λ (l : List Place). slice_get l k.thread.0) e ∙ (set_apart s.desks t k.thread.0 q n ∙ o.there);
+  out = o.out;
+}
+
+out_here : (s s' : Environment) (t : ℕ) (p q : Place) (k : Ticket) → s'.desks ≡ slice_set s.desks t q → slice_get s.desks t ≡ Some p → t ≡ k.thread.0 → has k q.view.posted ≡ true → IsOut s' k
+out_here s s' t p q k e there same h = record {
+  desk = q;
+  there = ap (λ (l : List Place). slice_get l k.thread.0) e ∙ (ap (slice_get (slice_set s.desks t q)) (sym same) ∙ set_at s.desks t q (get_range s.desks t p there));
+  out = h;
+}
+
+desk_is : (s : Environment) (t : ℕ) (p : Place) (k : Ticket) (o : IsOut s k) → slice_get s.desks t ≡ Some p → t ≡ k.thread.0 → has k p.view.posted ≡ true
+desk_is s t p k o there e =
+    let is : o.desk ≡ p = some_same o.desk p (sym o.there ∙ (ap (slice_get s.desks) (sym e) ∙ there)) in
+    ap (λ (x : Place). has k x.view.posted) (sym is) ∙ o.out
+
+out_kept : (s s' : Environment) (t : ThreadNo) (c : Call) (r : AskedOf) (k : Ticket) → Posts s s' t c r → IsOut s k → IsOut s' k
+out_kept s s' t c r k w o =
+    let desks : s'.desks ≡ slice_set s.desks t.0 w.after = ap (λ (x : Environment). x.desks) w.new_is in
+    elim (cases_eq t.0 k.thread.0) [
+      | inl e ↦
+          let was = desk_is s t.0 w.before k o w.there e in
+          let is : has k w.after.view.posted ≡ true = ap (has k) w.hold.waits.posted ∙ has_more k w.before.view.posted (ticket_told r) was in
+          out_here s s' t.0 w.before w.after k desks w.there e is
+      | inr n ↦ out_apart s s' t.0 w.after k desks n o
+    ]
+
+out_new : (s s' : Environment) (t : ThreadNo) (c : Call) (k : Ticket) → Posts s s' t c (Waiting k) → IsOut s' k
+out_new s s' t c k w =
+    let desks : s'.desks ≡ slice_set s.desks t.0 w.after = ap (λ (x : Environment). x.desks) w.new_is in
+    let at : t.0 ≡ k.thread.0 = ap (λ (x : ThreadNo). x.0) (sym w.about) ∙ sym (ap (λ (x : Ticket). x.thread.0) w.told.1) in
+    let is : has k w.after.view.posted ≡ true = ap (has k) w.hold.waits.posted ∙ has_last k w.before.view.posted in
+    out_here s s' t.0 w.before w.after k desks w.there at is
+
+-- a new ticket is none of those that are out
+apart_new : (s s' : Environment) (t : ThreadNo) (c : Call) (k j : Ticket) → Posts s s' t c (Waiting k) → IsOut s j → same k j ≡ false
+apart_new s s' t c k j w o =
+    elim (cases_Bool (same k j)) [
+      | inr e ↦ e
+      | inl e ↦
+          let is : k ≡ j = same_is k j e in
+          let at : t.0 ≡ j.thread.0 = ap (λ (x : ThreadNo). x.0) (sym w.about) ∙ (sym (ap (λ (x : Ticket). x.thread.0) w.told.1) ∙ ap (λ (x : Ticket). x.thread.0) is) in
+          let was : has j w.before.view.posted ≡ true = desk_is s t.0 w.before j o w.there at in
+          let not : has j w.before.view.posted ≡ false = ap (λ (x : Ticket). has x w.before.view.posted) (sym is) ∙ w.told.2 in
+          let never : true ≡ false = sym was ∙ not in
+          cc
+    ]
+
+-- lists of them
+
+others_more : (j : Ticket) (xs ys : List Posted) → AreOthers j xs → AreOthers j ys → AreOthers j (xs ++ ys)
+others_more j [] ys h k = k
+others_more j (Code n ∷ xs) ys h k = others_more j xs ys h k
+others_more j (Waits i ∷ xs) ys h k = (h.0, others_more j xs ys h.1 k)
+
+twice_more : (x : Posted) (xs ys : List Posted) → NoneTwice x xs → NoneTwice x ys → NoneTwice x (xs ++ ys)
+twice_more (Code n) xs ys h k = tt
+twice_more (Waits j) xs ys h k = others_more j xs ys h k
+
+open_kept : (s s' : Environment) (t : ThreadNo) (c : Call) (r : AskedOf) (x : Posted) → Posts s s' t c r → IsOpen s x → IsOpen s' x
+open_kept s s' t c r (Code n) w o = tt
+open_kept s s' t c r (Waits k) w o = out_kept s s' t c r k w o
+
+open_answered : (s s' : Environment) (t : ThreadNo) (c : Call) (a : Answer) (n : ℕ) (xs : List Posted) → Posts s s' t c (Answered a) → AreOpen s xs → AreOpen s' (xs ++ Code n ∷ [])
+open_answered s s' t c a n [] w o = (tt, tt, tt)
+open_answered s s' t c a n (x ∷ xs) w o = (open_kept s s' t c (Answered a) x w o.0, twice_more x xs (Code n ∷ []) o.1 (code_apart x), open_answered s s' t c a n xs w o.2)
+  where
+    code_apart : (y : Posted) → NoneTwice y (Code n ∷ [])
+    code_apart (Code m) = tt
+    code_apart (Waits k) = tt
+
+open_refused : (s : Environment) (n : ℕ) (xs : List Posted) → AreOpen s xs → AreOpen s (xs ++ Code n ∷ [])
+open_refused s n [] o = (tt, tt, tt)
+open_refused s n (x ∷ xs) o = (o.0, twice_more x xs (Code n ∷ []) o.1 (code_apart x), open_refused s n xs o.2)
+  where
+    code_apart : (y : Posted) → NoneTwice y (Code n ∷ [])
+    code_apart (Code m) = tt
+    code_apart (Waits k) = tt
+
+open_waits : (s s' : Environment) (t : ThreadNo) (c : Call) (k : Ticket) (xs : List Posted) → Posts s s' t c (Waiting k) → AreOpen s xs → AreOpen s' (xs ++ Waits k ∷ [])
+open_waits s s' t c k [] w o = (out_new s s' t c k w, tt, tt)
+open_waits s s' t c k (x ∷ xs) w o = (open_kept s s' t c (Waiting k) x w o.0, twice_more x xs (Waits k ∷ []) o.1 (apart x o.0), open_waits s s' t c k xs w o.2)
+  where
+    apart : (y : Posted) → IsOpen s y → NoneTwice y (Waits k ∷ [])
+    apart (Code m) p = tt
+    apart (Waits j) p = (apart_new s s' t c k j w p, tt)
+
+pub open_more : (s s' : Environment) (c : Call) (t : ThreadNo) (x : Posted) (xs : List Posted) → IsPosted s s' c t x → AreOpen s xs → AreOpen s' (xs ++ x ∷ [])
+open_more s s' c t x xs h o = by_refusal (call_refusal s.state t c) x h
+  where
+    by_refusal : (r : Option TiError) (y : Posted) → IsPostedBy r s s' c t y → AreOpen s' (xs ++ y ∷ [])
+    by_refusal (Some e) (Code n) k = subst (λ (z : Environment). AreOpen z (xs ++ Code n ∷ [])) (sym k.0) (open_refused s n xs o)
+    by_refusal (Some e) (Waits j) k = absurd k
+    by_refusal None (Code n) k = open_answered s s' t c k.0 n xs k.1 o
+    by_refusal None (Waits j) k = open_waits s s' t c j xs k o
+
+pub posts_more : (s m m' : Environment) (c : Call) (ts : List ThreadNo) (xs : List Posted) (t : ThreadNo) (x : Posted) → PostsEach s m c ts xs → IsPosted m m' c t x → PostsEach s m' c (ts ++ t ∷ []) (xs ++ x ∷ [])
+posts_more s m m' c [] [] t x h k = (m', subst (λ (z : Environment). IsPosted z m' c t x) h k, refl)
+posts_more s m m' c (u ∷ ts) (y ∷ xs) t x h k = (h.0, h.1, posts_more h.0 m m' c ts xs t x h.2 k)
+posts_more s m m' c [] (y ∷ xs) t x h k = absurd h
+posts_more s m m' c (u ∷ ts) [] t x h k = absurd h
+
+-- collecting
+
+open_after : (s s' : Environment) (k : Ticket) (a : Answer) (x : Posted) → Collects s s' k a → AreOthers k (x ∷ []) → IsOpen s x → IsOpen s' x
+open_after s s' k a (Code n) w h o = tt
+open_after s s' k a (Waits j) w h o =
+    let desks : s'.desks ≡ slice_set s.desks k.thread.0 w.after = ap (λ (z : Environment). z.desks) w.new_is in
+    elim (cases_eq k.thread.0 j.thread.0) [
+      | inl e ↦
+          let was = desk_is s k.thread.0 w.before j o w.there e in
+          let is : has j w.after.view.posted ≡ true = ap (has j) w.hold.posted ∙ (has_without j k w.before.view.posted h.0 ∙ was) in
+          out_here s s' k.thread.0 w.before w.after j desks w.there e is
+      | inr n ↦ out_apart s s' k.thread.0 w.after j desks n o
+    ]
+
+first_other : (k : Ticket) (x : Posted) (xs : List Posted) → AreOthers k (x ∷ xs) → AreOthers k (x ∷ []) × AreOthers k xs
+first_other k (Code n) xs h = (tt, h)
+first_other k (Waits j) xs h = ((h.0, tt), h.1)
+
+open_collected : (s s' : Environment) (k : Ticket) (a : Answer) (xs : List Posted) → Collects s s' k a → AreOthers k xs → AreOpen s xs → AreOpen s' xs
+open_collected s s' k a [] w h o = tt
+open_collected s s' k a (x ∷ xs) w h o =
+    let f = first_other k x xs h in
+    (open_after s s' k a x w f.0 o.0, o.1, open_collected s s' k a xs w f.1 o.2)
+
+pub open_rest : (s s' : Environment) (x : Posted) (code : ℕ) (xs : List Posted) → IsCollected s s' x code → AreOpen s (x ∷ xs) → AreOpen s' xs
+open_rest s s' (Code n) code xs h o = subst (λ (z : Environment). AreOpen z xs) (sym h.0) o.2
+open_rest s s' (Waits k) code xs h o = open_collected s s' k h.0 xs h.1 o.1 o.2
+
+pub collects_more : (s m m' : Environment) (xs : List Posted) (codes : List ℕ) (x : Posted) (code : ℕ) → CollectsEach s m xs codes → IsCollected m m' x code → CollectsEach s m' (xs ++ x ∷ []) (codes ++ code ∷ [])
+collects_more s m m' [] [] x code h k = (m', subst (λ (z : Environment). IsCollected z m' x code) h k, refl)
+collects_more s m m' (y ∷ xs) (n ∷ codes) x code h k = (h.0, h.1, collects_more h.0 m m' xs codes x code h.2 k)
+collects_more s m m' [] (n ∷ codes) x code h k = absurd h
+collects_more s m m' (y ∷ xs) [] x code h k = absurd h
+
+-- the list at one place
+
+pub drop_more : {A : Type 0} (l : List A) (k n : ℕ) (d : A) → n ≡ suc k → k < length l → drop k l ≡ get_or l k d ∷ drop n l
+drop_more [] k n d e h = absurd (omega (arith, h))
+drop_more (x ∷ xs) zero n d e h = ap (λ l. x ∷ l) (sym (ap (λ (i : ℕ). drop i (x ∷ xs)) e))
+drop_more (x ∷ xs) (suc k) n d e h = drop_more xs k (suc k) d refl (omega (arith, h)) ∙ ap (λ (i : ℕ). get_or xs k d ∷ drop i (x ∷ xs)) (sym e)

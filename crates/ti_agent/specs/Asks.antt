@@ -1,0 +1,91 @@
+-- What one call of an environment comes to.
+use Rattle.std.specs.Prelude.{ℕ, ◌≡◌, Bool, true, false, ◌&&◌, not, List, [], ◌∷◌, ◌++◌, Option, Some, None, slice_get, slice_set, Result, Ok, Err}
+use Rattle.ti_types.specs.Answer.{said}
+use Rattle.ti_types.specs.Frames as buffer
+use Rattle.ti_types.specs.Frames.{bare_trace}
+use Rattle.ti_types.specs.declared.answer.Answer.{Answer}
+use Rattle.ti_types.specs.declared.answer.Answer.TheVariants as answer
+use Rattle.ti_types.specs.declared.call.Call.{Call}
+use Rattle.ti_types.specs.declared.call.Call.TheVariants as call
+use Rattle.ti_types.specs.declared.error.TiError.{TiError}
+use Rattle.ti_types.specs.declared.error.TiError.TheVariants.{OutOfMemory}
+use Rattle.ti_types.specs.declared.numbers.ThreadNo.{ThreadNo}
+use Rattle.ti_types.specs.declared.place.Frame.{Frame}
+use Rattle.ti_types.specs.Refusing.{or_else, unless}
+use Rattle.ti_env.specs.Env.{EnvValue, call_refusal, with_spent}
+use Rattle.ti_replay.specs.Admission.{takes_buffer}
+use Rattle.ti_handshake.specs.Call.{GoesOn, IsAnswered, next_call}
+use Rattle.ti_handshake.specs.Desk.{Place, IsSame}
+use Rattle.ti_agent.specs.Env.{Environment}
+
+-- a desk went on with one call, and this is the reply
+pub record Asks (old new : Place) (c : Call) (a : Answer) : Type 0 where
+  pub same : IsSame old new
+  pub goes : GoesOn old.view new.view
+  pub mine : new.view.mine ≡ old.view.mine ++ next_call old.view old.env c ∷ []
+  pub posted : new.view.posted ≡ old.view.posted
+  pub answer : IsAnswered old.view new.view (next_call old.view old.env c) a
+
+-- one call is spent at the thread, its desk went on with it, and nothing else changed
+pub record Went (old new : Environment) (thread : ThreadNo) (c : Call) (a : Answer) : Type 0 where
+  pub before : Place
+  pub after : Place
+  pub there : slice_get old.desks thread.0 ≡ Some before
+  pub asks : Asks before after c a
+  pub new_is : new ≡ record { env = old.env; state = with_spent old.state thread; desks = slice_set old.desks thread.0 after }
+
+abbrev pub is_for_memory : Answer → Bool
+is_for_memory (answer.Refused OutOfMemory) = true
+is_for_memory _ = false
+
+-- why a call does not reach its thread: 99, 10, 103, 209, and 110 where it takes memory and there is none. No thread
+-- answers 110
+abbrev pub refusal_of : EnvValue → ThreadNo → Call → Answer → Option TiError
+refusal_of state thread c a = or_else (call_refusal state thread c) (unless (not (takes_buffer c && is_for_memory a)) OutOfMemory)
+
+abbrev pub IsCalledBy : Option TiError → Environment → Environment → ThreadNo → Call → Answer → Type 0
+IsCalledBy (Some e) old new thread c a = (new ≡ old) × (a ≡ answer.Refused e)
+IsCalledBy None old new thread c a = Went old new thread c a
+
+-- a call at a thread: refused from what the environment keeps, with nothing changed, or answered by its desk there
+abbrev pub IsCalled : Environment → Environment → ThreadNo → Call → Answer → Type 0
+IsCalled old new thread c a = IsCalledBy (refusal_of old.state thread c a) old new thread c a
+
+-- an answer to this call
+abbrev pub IsKind : Call → Answer → Type 0
+IsKind c (answer.Refused e) = Unit {0}
+IsKind call.State (answer.State bits) = Unit {0}
+IsKind call.FrameCount (answer.Count n) = Unit {0}
+IsKind (call.Trace start max_count) (answer.Trace b) = Unit {0}
+IsKind (call.Location depth) (answer.Location f) = Unit {0}
+IsKind call.Suspend answer.Done = Unit {0}
+IsKind call.Resume answer.Done = Unit {0}
+IsKind call.GetWord (answer.Word w) = Unit {0}
+IsKind (call.SetWord word) answer.Done = Unit {0}
+IsKind call.Pop answer.Done = Unit {0}
+IsKind _ _ = ⊥
+
+-- the answers that calls give, read off what they return
+abbrev pub in_state : Result ℕ TiError → Answer
+in_state (Ok bits) = answer.State bits
+in_state (Err e) = answer.Refused e
+
+abbrev pub in_count : Result ℕ TiError → Answer
+in_count (Ok n) = answer.Count n
+in_count (Err e) = answer.Refused e
+
+abbrev pub in_word : Result ℕ TiError → Answer
+in_word (Ok w) = answer.Word w
+in_word (Err e) = answer.Refused e
+
+abbrev pub in_location : Result Frame TiError → Answer
+in_location (Ok f) = answer.Location f
+in_location (Err e) = answer.Refused e
+
+abbrev pub in_trace : Result buffer.Trace TiError → Answer
+in_trace (Ok b) = answer.Trace (bare_trace b.frames)
+in_trace (Err e) = answer.Refused e
+
+abbrev pub in_done : Result (Unit {0}) TiError → Answer
+in_done (Ok u) = answer.Done
+in_done (Err e) = answer.Refused e

@@ -1,0 +1,33 @@
+-- An environment, with a desk at each thread.
+use Rattle.std.specs.Prelude.{ℕ, ◌≡◌, ◌+◌, ◌-◌, ◌<◌, ◌≤◌, false, List, [], length, Some, slice_get}
+use Rattle.ti_types.specs.declared.numbers.EnvNo.{EnvNo}
+use Rattle.ti_env.specs.Env.{EnvValue, spent_at}
+use Rattle.ti_replay.specs.Legal.{calls_spent}
+use Rattle.ti_cell.specs.View.{subject_of}
+use Rattle.ti_handshake.specs.Desk.{Place}
+use Rattle.ti_vmop.specs.Stops.{stops_by}
+
+-- its number, what it keeps for itself, and its desks in the order of the threads' numbers
+pub record Environment : Type 0 where
+  pub env : EnvNo
+  pub state : EnvValue
+  pub desks : List Place
+
+-- a desk of the environment at thread i. None of its stops stands, and its thread has room for as many calls as the
+-- environment has left there
+pub record IsDesk (s : Environment) (i : ℕ) (p : Place) : Type 0 where
+  pub env_is : p.env ≡ s.env
+  pub about : p.view.subject ≡ subject_of s.state.limits (record { 0 = i })
+  pub free : stops_by p.env p.view.mine ≡ false
+  pub paid : s.state.limits.calls - spent_at s.state (record { 0 = i }) + calls_spent p.env p.view.mine ≤ s.state.limits.calls
+
+-- what is true of an environment between calls
+pub record IsWhole (s : Environment) : Type 0 where
+  pub count : length s.state.spent ≡ length s.desks
+  pub some : 0 < length s.desks
+  pub desks : (i : ℕ) (p : Place) → slice_get s.desks i ≡ Some p → IsDesk s i p
+
+-- desk i is the environment's at thread i, under its limits, and has made no call
+abbrev pub AreNewDesks : EnvNo → EnvValue → List Place → Type 0
+AreNewDesks env state desks =
+    (i : ℕ) (p : Place) → slice_get desks i ≡ Some p → (p.env ≡ env) × (p.view.subject ≡ subject_of state.limits (record { 0 = i })) × (p.view.mine ≡ [])

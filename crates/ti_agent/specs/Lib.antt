@@ -1,0 +1,3 @@
+pub mod Env
+pub mod Asks
+pub mod Lists

@@ -1,0 +1,106 @@
+-- What a call at each thread of a list comes to: it is posted at one thread after another, and then each that waits is
+-- collected, in the same order.
+use Rattle.std.specs.Prelude.{ℕ, ◌≡◌, Bool, true, false, List, [], ◌∷◌, ◌++◌, Option, Some, None, slice_get, slice_set}
+use Rattle.ti_types.specs.Answer.{said}
+use Rattle.ti_types.specs.declared.answer.Answer.{Answer}
+use Rattle.ti_types.specs.declared.answer.Answer.TheVariants as answer
+use Rattle.ti_types.specs.declared.call.Call.{Call}
+use Rattle.ti_types.specs.declared.error.TiError.{TiError}
+use Rattle.ti_types.specs.declared.event.Ticket.{Ticket}
+use Rattle.ti_types.specs.declared.numbers.ThreadNo.{ThreadNo}
+use Rattle.ti_types.specs.TiError.{number_of}
+use Rattle.ti_env.specs.Env.{call_refusal, with_spent}
+use Rattle.ti_replay.specs.Tickets.{reply_to}
+use Rattle.ti_slot.specs.declared.asked.Asked.{Asked as AskedOf}
+use Rattle.ti_slot.specs.declared.asked.Asked.TheVariants.{Answered, Waiting}
+use Rattle.ti_slot.specs.Tickets.{same, has, without_ticket}
+use Rattle.ti_handshake.specs.Call.{HoldsWith, WaitsWith, IsTold, next_call, ticket_told}
+use Rattle.ti_handshake.specs.Desk.{Place, IsSame}
+use Rattle.ti_agent.specs.Env.{Environment}
+use Rattle.ti_agent.specs.declared.lists.Posted.{Posted}
+use Rattle.ti_agent.specs.declared.lists.Posted.TheVariants.{Code, Waits}
+
+-- the code of an answer: 0, or the number of its error
+abbrev pub code_of : Answer → ℕ
+code_of (answer.Refused e) = number_of e
+code_of _ = 0
+
+-- one call is spent at the thread, its desk posted it by one hold, and nothing else changed
+pub record Posts (old new : Environment) (thread : ThreadNo) (c : Call) (r : AskedOf) : Type 0 where
+  pub before : Place
+  pub after : Place
+  pub there : slice_get old.desks thread.0 ≡ Some before
+  pub about : before.view.subject.thread ≡ thread
+  pub same : IsSame before after
+  pub hold : HoldsWith before.view after.view (next_call before.view before.env c ∷ []) (before.view.posted ++ ticket_told r)
+  pub told : IsTold before.view after.view before.env c r
+  pub new_is : new ≡ record { env = old.env; state = with_spent old.state thread; desks = slice_set old.desks thread.0 after }
+
+-- the desk at the ticket's thread collected it: the answer is the reply to it, it is out no more, and nothing else changed
+pub record Collects (old new : Environment) (ticket : Ticket) (a : Answer) : Type 0 where
+  pub before : Place
+  pub after : Place
+  pub there : slice_get old.desks ticket.thread.0 ≡ Some before
+  pub same : IsSame before after
+  pub hold : WaitsWith before.view after.view [] (without_ticket ticket before.view.posted)
+  pub answer : reply_to before.view.subject.limits after.view.seen ticket ≡ Some a
+  pub new_is : new ≡ record { env = old.env; state = old.state; desks = slice_set old.desks ticket.thread.0 after }
+
+-- a call at one thread: refused by the environment itself, with nothing changed; or posted, and answered or waiting
+abbrev pub IsPostedBy : Option TiError → Environment → Environment → Call → ThreadNo → Posted → Type 0
+IsPostedBy (Some e) old new c t (Code n) = (new ≡ old) × (n ≡ number_of e)
+IsPostedBy (Some e) old new c t (Waits k) = ⊥
+IsPostedBy None old new c t (Code n) = (a : Answer) × Posts old new t c (Answered a) × (n ≡ code_of (said a))
+IsPostedBy None old new c t (Waits k) = Posts old new t c (Waiting k)
+
+abbrev pub IsPosted : Environment → Environment → Call → ThreadNo → Posted → Type 0
+IsPosted old new c t x = IsPostedBy (call_refusal old.state t c) old new c t x
+
+-- one at each thread after another
+abbrev pub PostsEach : Environment → Environment → Call → List ThreadNo → List Posted → Type 0
+PostsEach old new c [] [] = new ≡ old
+PostsEach old new c (t ∷ ts) (x ∷ xs) = (next : Environment) × IsPosted old next c t x × PostsEach next new c ts xs
+PostsEach old new c _ _ = ⊥
+
+-- what was posted has a code already, or is collected
+abbrev pub IsCollected : Environment → Environment → Posted → ℕ → Type 0
+IsCollected old new (Code n) code = (new ≡ old) × (code ≡ n)
+IsCollected old new (Waits k) code = (a : Answer) × Collects old new k a × (code ≡ code_of a)
+
+-- one after another
+abbrev pub CollectsEach : Environment → Environment → List Posted → List ℕ → Type 0
+CollectsEach old new [] [] = new ≡ old
+CollectsEach old new (x ∷ xs) (code ∷ codes) = (next : Environment) × IsCollected old next x code × CollectsEach next new xs codes
+CollectsEach old new _ _ = ⊥
+
+-- a call at each thread of a list: all are posted before one is collected
+pub record WentEach (old new : Environment) (c : Call) (threads : List ThreadNo) (codes : List ℕ) : Type 0 where
+  pub between : Environment
+  pub posted : List Posted
+  pub posts : PostsEach old between c threads posted
+  pub collects : CollectsEach between new posted codes
+
+-- the ticket is out at the desk of its thread
+pub record IsOut (s : Environment) (k : Ticket) : Type 0 where
+  pub desk : Place
+  pub there : slice_get s.desks k.thread.0 ≡ Some desk
+  pub out : has k desk.view.posted ≡ true
+
+abbrev pub IsOpen : Environment → Posted → Type 0
+IsOpen s (Code n) = Unit {0}
+IsOpen s (Waits k) = IsOut s k
+
+-- no ticket among these is this one
+abbrev pub AreOthers : Ticket → List Posted → Type 0
+AreOthers k [] = Unit {0}
+AreOthers k (Code n ∷ xs) = AreOthers k xs
+AreOthers k (Waits j ∷ xs) = (same j k ≡ false) × AreOthers k xs
+
+abbrev pub NoneTwice : Posted → List Posted → Type 0
+NoneTwice (Code n) xs = Unit {0}
+NoneTwice (Waits k) xs = AreOthers k xs
+
+-- all that wait are out, each once
+abbrev pub AreOpen : Environment → List Posted → Type 0
+AreOpen s [] = Unit {0}
+AreOpen s (x ∷ xs) = IsOpen s x × NoneTwice x xs × AreOpen s xs

@@ -1,0 +1,242 @@
+ghost use Rattle.std.specs.Prelude.{◌≡◌, ◌↔◌, ◌<◌, length, true, false, None, Some, Ok, IfOk, IfErr, OnOk, OnErr, IsOk};
+ghost use Rattle.ti_types.specs.Answer.{said};
+ghost use Rattle.ti_types.specs.Caps.{caps_with, caps_without, can_be_had, holds_all};
+ghost use Rattle.ti_types.specs.declared.call.Call.TheVariants as call;
+ghost use Rattle.ti_types.specs.declared.error.TiError.TheVariants.{NotAvailable};
+ghost use Rattle.ti_env.specs.Env.{call_refusal, with_caps, with_word};
+ghost use Rattle.ti_replay.specs.Admission.{takes_buffer};
+ghost use Rattle.ti_slot.specs.Waiting.{IsBufferOf};
+ghost use Rattle.ti_agent.specs.Env.{Environment, AreNewDesks};
+ghost use Rattle.ti_agent.specs.Lists.{Posts, Collects, IsOut};
+ghost use Rattle.ti_agent.specs.Asks.{Went, IsCalled, IsKind, is_for_memory, in_state, in_count, in_word, in_location, in_trace, in_done};
+
+use crate::answers::{count_in, done_in, location_in, state_in, trace_in, word_in};
+use std::alloc::Global;
+use std::marker::Model;
+use std::sync::Wait;
+use ti_env::EnvState;
+use ti_handshake::Desk;
+use ti_slot::Asked;
+use ti_types::{Answer, Call, Caps, EnvNo, Frame, ThreadNo, TiError, Ticket, TraceBuf};
+
+/// An agent's environment, with a desk at each thread.
+#[derive(Drop)]
+pub struct Env<'a> {
+    pub(crate) env: EnvNo,
+    pub(crate) state: EnvState,
+    /// By the thread's number.
+    pub(crate) desks: Vec<Desk<'a>>,
+}
+
+impl<'a> Model for Env<'a> {
+    ghost use Rattle.ti_agent.specs.Env.{Environment, IsWhole};
+
+    ghost Value = { Environment };
+
+    ghost view = { λ a. record { env = a.env; state = a.state; desks = a.desks.items } };
+
+    ghost invariant = { λ a. IsWhole (record { env = a.env; state = a.state; desks = a.desks.items }) };
+}
+
+impl<'a> Env<'a> {
+    /// An environment of these desks, desk i at thread i. All are under the limits of the state, and none has made a
+    /// call.
+    pub fn new(env: EnvNo, state: EnvState, desks: Vec<Desk<'a>>) -> Env<'a>
+        requires count { length state.spent ≡ length desks.items }
+        requires some { 0 < length desks.items }
+        requires desks { AreNewDesks env state desks.items }
+        ensures { result ≡ record { env = env; state = state; desks = desks.entry.items } }
+    {
+        Env { env, state, desks }
+    }
+
+    /// Asks the thread a call that was admitted, and waits for its answer where it has to.
+    fn ask_one<R: Wait>(&mut self, rt: &R, thread: ThreadNo, call: Call, buf: TraceBuf) -> Answer
+        requires admitted { call_refusal self.old.state thread call ≡ None }
+        requires buf { IsBufferOf self.old.state.limits call buf }
+        ensures went { Went self.old self.new thread call (said result) }
+        ensures kind { IsKind call (said result) }
+        ensures room { is_for_memory (said result) ≡ false }
+    {
+        self.state.spend(thread);
+        self.desks[thread.0 as usize].call(rt, call, buf)
+    }
+
+    /// Whether a call reaches its thread, as `EnvState::admit` says.
+    pub(crate) fn admit(&self, thread: ThreadNo, call: Call) -> Result<(), TiError>
+        ensures admitted { OnOk result (call_refusal self.now.state thread call ≡ None) }
+        ensures refused { IfErr result (λ e. call_refusal self.now.state thread call ≡ Some e) }
+    {
+        self.state.admit(thread, call)
+    }
+
+    /// Whether these capabilities are held.
+    pub(crate) fn holds(&self, caps: Caps) -> bool
+        ensures { result ≡ holds_all self.now.state.caps caps }
+    {
+        self.state.caps().has(caps)
+    }
+
+    /// Posts a call that was admitted and takes no buffer.
+    pub(crate) fn post_one<R: Wait>(&mut self, rt: &R, thread: ThreadNo, call: Call) -> Asked
+        requires admitted { call_refusal self.old.state thread call ≡ None }
+        requires bare { takes_buffer call ≡ false }
+        ensures posts { Posts self.old self.new thread call result }
+    {
+        self.state.spend(thread);
+        self.desks[thread.0 as usize].post(rt, call, TraceBuf::none())
+    }
+
+    /// The answer to a call that waited, and was not collected.
+    pub(crate) fn collect_one<R: Wait>(&mut self, rt: &R, ticket: Ticket) -> Answer
+        requires out { IsOut self.old ticket }
+        ensures collects { Collects self.old self.new ticket (said result) }
+    {
+        self.desks[ticket.thread.0 as usize].collect(rt, ticket)
+    }
+
+    /// Asks the thread a call that takes no buffer.
+    fn ask<R: Wait>(&mut self, rt: &R, thread: ThreadNo, call: Call) -> Answer
+        requires bare { takes_buffer call ≡ false }
+        ensures called { IsCalled self.old self.new thread call (said result) }
+        ensures kind { IsKind call (said result) }
+    {
+        if let Err(error) = self.state.admit(thread, call) {
+            return Answer::Refused(error);
+        }
+        self.ask_one(rt, thread, call, TraceBuf::none())
+    }
+
+    /// GetThreadState (JVM TI 11).
+    pub fn get_thread_state<R: Wait>(&mut self, rt: &R, thread: ThreadNo) -> Result<u32, TiError>
+        ensures { IsCalled self.old self.new thread call.State (in_state result) }
+    {
+        state_in(self.ask(rt, thread, Call::State))
+    }
+
+    /// GetFrameCount (JVM TI 11).
+    pub fn get_frame_count<R: Wait>(&mut self, rt: &R, thread: ThreadNo) -> Result<u32, TiError>
+        ensures { IsCalled self.old self.new thread call.FrameCount (in_count result) }
+    {
+        count_in(self.ask(rt, thread, Call::FrameCount))
+    }
+
+    /// GetFrameLocation (JVM TI 11).
+    pub fn get_frame_location<R: Wait>(
+        &mut self,
+        rt: &R,
+        thread: ThreadNo,
+        depth: i32,
+    ) -> Result<Frame, TiError>
+        ensures { IsCalled self.old self.new thread (call.Location depth) (in_location result) }
+    {
+        location_in(self.ask(rt, thread, Call::Location { depth }), depth)
+    }
+
+    /// GetStackTrace (JVM TI 11). 110 where there is no memory for the frames; then nothing was posted.
+    pub fn get_stack_trace<R: Wait>(
+        &mut self,
+        rt: &R,
+        alloc: Global,
+        thread: ThreadNo,
+        start: i32,
+        max_count: i32,
+    ) -> Result<TraceBuf, TiError>
+        ensures { IsCalled self.old self.new thread (call.Trace start max_count) (in_trace result) }
+    {
+        let call = Call::Trace { start, max_count };
+        if let Err(error) = self.state.admit(thread, call) {
+            return Err(error);
+        }
+        match TraceBuf::make(alloc, max_count, self.state.limits().depth) {
+            Ok(buf) => trace_in(self.ask_one(rt, thread, call, buf), start, max_count),
+            Err(error) => Err(error),
+        }
+    }
+
+    /// SuspendThread (JVM TI 11).
+    pub fn suspend_thread<R: Wait>(&mut self, rt: &R, thread: ThreadNo) -> Result<(), TiError>
+        ensures { IsCalled self.old self.new thread call.Suspend (in_done result) }
+    {
+        done_in(self.ask(rt, thread, Call::Suspend))
+    }
+
+    /// ResumeThread (JVM TI 11).
+    pub fn resume_thread<R: Wait>(&mut self, rt: &R, thread: ThreadNo) -> Result<(), TiError>
+        ensures { IsCalled self.old self.new thread call.Resume (in_done result) }
+    {
+        done_in(self.ask(rt, thread, Call::Resume))
+    }
+
+    /// PopFrame (JVM TI 11).
+    pub fn pop_frame<R: Wait>(&mut self, rt: &R, thread: ThreadNo) -> Result<(), TiError>
+        ensures { IsCalled self.old self.new thread call.Pop (in_done result) }
+    {
+        done_in(self.ask(rt, thread, Call::Pop))
+    }
+
+    /// GetThreadLocalStorage (JVM TI 11).
+    pub fn get_thread_local_storage<R: Wait>(
+        &mut self,
+        rt: &R,
+        thread: ThreadNo,
+    ) -> Result<u64, TiError>
+        ensures { IsCalled self.old self.new thread call.GetWord (in_word result) }
+    {
+        word_in(self.ask(rt, thread, Call::GetWord))
+    }
+
+    /// SetThreadLocalStorage (JVM TI 11).
+    pub fn set_thread_local_storage<R: Wait>(
+        &mut self,
+        rt: &R,
+        thread: ThreadNo,
+        word: u64,
+    ) -> Result<(), TiError>
+        ensures { IsCalled self.old self.new thread (call.SetWord word) (in_done result) }
+    {
+        done_in(self.ask(rt, thread, Call::SetWord(word)))
+    }
+
+    /// GetEnvironmentLocalStorage (JVM TI 11): the environment's own word, 0 until it is set.
+    pub fn get_environment_local_storage(&self) -> Result<u64, TiError>
+        ensures { result ≡ Ok self.now.state.word }
+    {
+        Ok(self.state.word())
+    }
+
+    /// SetEnvironmentLocalStorage (JVM TI 11).
+    pub fn set_environment_local_storage(&mut self, word: u64) -> Result<(), TiError>
+        ensures ok { IsOk result }
+        ensures set { self.new ≡ record { env = self.old.env; state = with_word self.old.state word; desks = self.old.desks } }
+    {
+        self.state.set_word(word);
+        Ok(())
+    }
+
+    /// AddCapabilities (JVM TI 11): all of them or, with 98, none.
+    pub fn add_capabilities(&mut self, caps: Caps) -> Result<(), TiError>
+        ensures available { IsOk result ↔ (can_be_had caps ≡ true) }
+        ensures added { OnOk result (self.new ≡ record { env = self.old.env; state = with_caps self.old.state (caps_with self.old.state.caps caps); desks = self.old.desks }) }
+        ensures refused { IfErr result (λ e. e ≡ NotAvailable) }
+        ensures unchanged { OnErr result (self.new ≡ self.old) }
+    {
+        self.state.add(caps)
+    }
+
+    /// RelinquishCapabilities (JVM TI 11): one that is not held is no error.
+    pub fn relinquish_capabilities(&mut self, caps: Caps) -> Result<(), TiError>
+        ensures ok { IsOk result }
+        ensures gone { self.new ≡ record { env = self.old.env; state = with_caps self.old.state (caps_without self.old.state.caps caps); desks = self.old.desks } }
+    {
+        self.state.relinquish(caps);
+        Ok(())
+    }
+
+    /// GetCapabilities (JVM TI 11).
+    pub fn get_capabilities(&self) -> Result<Caps, TiError>
+        ensures { result ≡ Ok self.now.state.caps }
+    {
+        Ok(self.state.caps())
+    }
+}

@@ -1,0 +1,147 @@
+ghost use Rattle.std.specs.Prelude.{◌≡◌, ◌≤◌, [], length, vec_capacity, true, false, None, Some, IfOk, IfErr, OnOk, if◌then◌else◌};
+ghost use Rattle.ti_types.specs.Answer.{said};
+ghost use Rattle.ti_types.specs.Call.{needed_by};
+ghost use Rattle.ti_types.specs.Caps.{holds_all};
+ghost use Rattle.ti_types.specs.declared.call.Call.TheVariants as call;
+ghost use Rattle.ti_types.specs.declared.error.TiError.TheVariants.{OutOfMemory, MustPossessCapability};
+ghost use Rattle.ti_replay.specs.Admission.{takes_buffer};
+ghost use Rattle.ti_agent.specs.Lists.{IsPosted, PostsEach, IsCollected, CollectsEach, WentEach, IsOpen, AreOpen, code_of};
+
+use crate::env::Env;
+use std::alloc::Global;
+use std::sync::Wait;
+use ti_slot::Asked;
+use ti_types::{Answer, Call, ThreadNo, TiError, Ticket, needs};
+
+/// What came of a call at one thread when it was posted.
+#[derive(Clone, Copy)]
+pub(crate) enum Posted {
+    /// 0, or the number of its error.
+    Code(u32),
+    /// The ticket to collect it by.
+    Waits(Ticket),
+}
+
+/// 0, or the number of the error.
+fn code_in(answer: &Answer) -> u32
+    ensures { result ≡ code_of (said answer.now) }
+{
+    match answer {
+        Answer::Refused(error) => error.number(),
+        _ => 0,
+    }
+}
+
+impl<'a> Env<'a> {
+    /// Posts a call at a thread, or gives the code of its refusal.
+    fn post_at<R: Wait>(&mut self, rt: &R, thread: ThreadNo, call: Call) -> Posted
+        requires bare { takes_buffer call ≡ false }
+        ensures posted { IsPosted self.old self.new call thread result }
+    {
+        if let Err(error) = self.admit(thread, call) {
+            return Posted::Code(error.number());
+        }
+        match self.post_one(rt, thread, call) {
+            Asked::Answered(answer) => Posted::Code(code_in(&answer)),
+            Asked::Waiting(ticket) => Posted::Waits(ticket),
+        }
+    }
+
+    /// Posts a call at each thread, in the list's order.
+    fn post_each<R: Wait>(
+        &mut self,
+        rt: &R,
+        call: Call,
+        threads: &[ThreadNo],
+        posted: &mut Vec<Posted>,
+    )
+        requires bare { takes_buffer call ≡ false }
+        requires empty { posted.old.items ≡ [] }
+        requires room { length threads.now ≤ vec_capacity posted.old }
+        ensures posts { PostsEach self.old self.new call threads.now posted.new.items }
+        ensures out { AreOpen self.new posted.new.items }
+        ensures count { length posted.new.items ≡ length threads.now }
+    {
+        for thread in threads {
+            posted.push_reserved(self.post_at(rt, *thread, call));
+        }
+    }
+
+    /// The code of a call that was posted, for which it may wait.
+    fn collect_at<R: Wait>(&mut self, rt: &R, posted: Posted) -> u32
+        requires out { IsOpen self.old posted }
+        ensures collected { IsCollected self.old self.new posted result }
+    {
+        match posted {
+            Posted::Code(code) => code,
+            Posted::Waits(ticket) => code_in(&self.collect_one(rt, ticket)),
+        }
+    }
+
+    /// The code of each, in the list's order.
+    fn collect_each<R: Wait>(&mut self, rt: &R, posted: &[Posted], codes: &mut Vec<u32>)
+        requires out { AreOpen self.old posted.now }
+        requires empty { codes.old.items ≡ [] }
+        requires room { length posted.now ≤ vec_capacity codes.old }
+        ensures collects { CollectsEach self.old self.new posted.now codes.new.items }
+    {
+        for one in posted {
+            codes.push_reserved(self.collect_at(rt, *one));
+        }
+    }
+
+    /// A call at each thread: posted to all in the list's order, and collected then.
+    fn call_each<R: Wait>(
+        &mut self,
+        rt: &R,
+        alloc: Global,
+        call: Call,
+        threads: &[ThreadNo],
+    ) -> Result<Vec<u32>, TiError>
+        requires bare { takes_buffer call ≡ false }
+        ensures each { IfOk result (λ codes. WentEach self.old self.new call threads.now codes.items) }
+        ensures capable { OnOk result (holds_all self.old.state.caps (needed_by call) ≡ true) }
+        ensures refused { IfErr result (λ e. (e ≡ (if holds_all self.old.state.caps (needed_by call) then OutOfMemory else MustPossessCapability)) × (self.new ≡ self.old)) }
+    {
+        if !self.holds(needs(call)) {
+            return Err(TiError::MustPossessCapability);
+        }
+        let mut posted = Vec::with_capacity(alloc, threads.len())?;
+        let mut codes = Vec::with_capacity(alloc, threads.len())?;
+        self.post_each(rt, call, threads, &mut posted);
+        self.collect_each(rt, &posted, &mut codes);
+        Ok(codes)
+    }
+
+    /// SuspendThreadList (JVM TI 11): one code for each element, 0 or the number of its error. All are posted, in the
+    /// list's order, before the first is waited for; a refused element keeps no other from its turn. It spends one call
+    /// for each element that reaches its thread.
+    ///
+    /// 99 MUST_POSSESS_CAPABILITY and then 110 OUT_OF_MEMORY for the whole call; then nothing was posted.
+    pub fn suspend_thread_list<R: Wait>(
+        &mut self,
+        rt: &R,
+        alloc: Global,
+        threads: &[ThreadNo],
+    ) -> Result<Vec<u32>, TiError>
+        ensures each { IfOk result (λ codes. WentEach self.old self.new call.Suspend threads.now codes.items) }
+        ensures capable { OnOk result (holds_all self.old.state.caps (needed_by call.Suspend) ≡ true) }
+        ensures refused { IfErr result (λ e. (e ≡ (if holds_all self.old.state.caps (needed_by call.Suspend) then OutOfMemory else MustPossessCapability)) × (self.new ≡ self.old)) }
+    {
+        self.call_each(rt, alloc, Call::Suspend, threads)
+    }
+
+    /// ResumeThreadList (JVM TI 11), as `suspend_thread_list`.
+    pub fn resume_thread_list<R: Wait>(
+        &mut self,
+        rt: &R,
+        alloc: Global,
+        threads: &[ThreadNo],
+    ) -> Result<Vec<u32>, TiError>
+        ensures each { IfOk result (λ codes. WentEach self.old self.new call.Resume threads.now codes.items) }
+        ensures capable { OnOk result (holds_all self.old.state.caps (needed_by call.Resume) ≡ true) }
+        ensures refused { IfErr result (λ e. (e ≡ (if holds_all self.old.state.caps (needed_by call.Resume) then OutOfMemory else MustPossessCapability)) × (self.new ≡ self.old)) }
+    {
+        self.call_each(rt, alloc, Call::Resume, threads)
+    }
+}
