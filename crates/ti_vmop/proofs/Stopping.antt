@@ -1,6 +1,9 @@
 -- An environment's stop is a matter of its own entries, and what stays behind a front that stands for it.
 use Rattle.std.proofs.Common.{◌≡◌, ◌+◌, ◌==◌, Bool, true, false, cond, List, [], ◌∷◌, ◌++◌, refl, ap, sym, ◌∙◌, arith, append-nil, append_assoc, subst}
-use Rattle.std.specs.Prelude.{if◌then◌else◌, drop}
+use Rattle.std.specs.Prelude.{ℕ, if◌then◌else◌, take, drop}
+use Rattle.ti_types.specs.Frames.{bare_trace}
+use Rattle.ti_types.specs.State.{bits_of}
+use Rattle.ti_types.specs.declared.answer.Answer.TheVariants as answer
 use Rattle.std.proofs.lemmas.List.{drop-drop}
 use Rattle.std.specs.List.{fold, list_all}
 use Rattle.std.proofs.lemmas.Bool.{and_parts}
@@ -14,7 +17,7 @@ use Rattle.ti_types.specs.declared.call.Call.TheVariants.{State, FrameCount, Tra
 use Rattle.ti_types.specs.declared.place.Frame.{Frame}
 use Rattle.ti_types.specs.declared.step.Step.TheVariants.{Leave}
 use Rattle.ti_types.specs.declared.view.ThreadView.{ThreadView}
-use Rattle.ti_replay.specs.Answers.{answer_of, is_running}
+use Rattle.ti_replay.specs.Answers.{answer_of, is_running, or_zero}
 use Rattle.ti_replay.specs.Laws.{is_done}
 use Rattle.ti_replay.proofs.DoneLaws.{change_where_done}
 use Rattle.ti_replay.specs.View.{view, after, called, frames_after}
@@ -29,7 +32,7 @@ use Rattle.ti_replay.proofs.HistoryStateLaws.{history_state-append, history_stat
 use Rattle.ti_replay.proofs.StandingLaws.{stands_still}
 use Rattle.ti_handshake.proofs.Modes.{calls_step}
 use Rattle.ti_handshake.proofs.Others.{others_leave}
-use Rattle.ti_vmop.specs.Stops.{stops_after, StopsAreOwn, lets_go, IsStill, frames_popped, popped_behind, PopsAddUp}
+use Rattle.ti_vmop.specs.Stops.{stops_after, StopsAreOwn, lets_go, IsStill, frames_popped, popped_behind, FrontsTell}
 
 stop_step : (limits : Limits) (s : HistoryState) (x : Entry) (env : EnvNo) → list_all is_waiting_call s.waiting ≡ true → allows limits s x ≡ true
     → is_stopper (next_state s x).view.stopper env ≡ stops_after env (is_stopper s.view.stopper env) x
@@ -188,7 +191,8 @@ frames_behind limits front (x ∷ more) none rests =
     none_own_first x more none false is =
         (is, sym (ap (λ (b : Bool). cond b (x ∷ made_by 0 more) (made_by 0 more)) is) ∙ none, ap (λ (b : Bool). cond b (x ∷ []) []) is)
 
-pub pops_add_up : PopsAddUp
+-- what is popped behind a front is what is popped in a first part, and behind that in the rest
+pops_add_up : (limits : Limits) (front more rest : List Entry) → popped_behind limits front (more ++ rest) ≡ popped_behind limits front more + popped_behind limits (front ++ more) rest
 pops_add_up limits front [] rest =
     let whole = ap (λ (h : List Entry). popped_behind limits h rest) (append-nil front) in
     omega (arith, whole)
@@ -196,6 +200,14 @@ pops_add_up limits front (x ∷ more) rest =
     let later = pops_add_up limits (front ++ x ∷ []) more rest in
     let whole = ap (λ (h : List Entry). popped_behind limits h rest) (append_assoc front (x ∷ []) more) in
     omega (arith, later, whole)
+
+pub fronts_tell : FrontsTell
+fronts_tell limits env front more rest max_count a still tells =
+    let first = (view limits front).frames in
+    let frames : drop (popped_behind limits (front ++ more) rest) (view limits (front ++ more)).frames ≡ drop (popped_behind limits front (more ++ rest)) first =
+    ap (drop (popped_behind limits (front ++ more) rest)) still.frames
+    ∙ (drop-drop (popped_behind limits (front ++ more) rest) (popped_behind limits front more) first ∙ ap (λ (n : ℕ). drop n first) (sym (pops_add_up limits front more rest))) in
+    (tells.0, tells.1 ∙ (λ i. answer.Stack (bits_of (still.mode i) tells.0) (bare_trace (take (or_zero max_count) (frames i)))))
 
 pub front_stays : (limits : Limits) (env : EnvNo) (front more : List Entry) → is_legal limits (front ++ more) ≡ true → is_standing limits front env ≡ true → lets_go env more ≡ false → IsStill limits env front more
 front_stays limits env front more legal stands stays =

@@ -68,10 +68,11 @@ TellsOf limits front more max_count a =
     (suspended : Bool)
     × (a ≡ answer.Stack (bits_of (view limits front).mode suspended) (bare_trace (take (or_zero max_count) (drop (popped_behind limits front more) (view limits front).frames))))
 
--- what is popped behind a front is what is popped in a first part, and behind it in the rest
-abbrev pub PopsAddUp : Type 0
-PopsAddUp =
-    (limits : Limits) (front more rest : List Entry) → popped_behind limits front (more ++ rest) ≡ popped_behind limits front more + popped_behind limits (front ++ more) rest
+-- what tells of a later front tells of the first: its mode, and its frames after all pops behind it
+abbrev pub FrontsTell : Type 0
+FrontsTell =
+    (limits : Limits) (env : EnvNo) (front more rest : List Entry) (max_count : ℤ) (a : Answer) → IsStill limits env front more → TellsOf limits (front ++ more) rest max_count a
+    → TellsOf limits front (more ++ rest) max_count a
 
 -- The same of a desk: a seat of the environment that saw its thread stand, and has let nobody go since
 abbrev pub DesksStay : Type 0

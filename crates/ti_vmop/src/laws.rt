@@ -1,5 +1,5 @@
 //! Laws of histories. They belong below, beside the other laws.
-ghost use Rattle.ti_vmop.specs.Stops.{StopsAreOwn, FrontsStay, DesksStay, PopsAddUp};
+ghost use Rattle.ti_vmop.specs.Stops.{StopsAreOwn, FrontsStay, DesksStay, FrontsTell};
 
 /// Whether an environment's stop stands at a thread, its own entries say alone.
 #[tactic(auto, using(crate::proofs::Stopping::stops_are_own))]
@@ -18,8 +18,8 @@ pub fn desks_stay()
     ensures { DesksStay }
 {}
 
-/// What is popped behind a front is what is popped in a first part of it, and behind that in the rest. So reads, of which
-/// each tells of what its desk had seen before, tell together of the first front.
-pub fn pops_add_up()
-    ensures { PopsAddUp }
+/// What a read tells of what its desk had seen, it tells of the front that stood first: its mode, and its frames after all
+/// pops behind it. So all reads of a round tell of one front.
+pub fn fronts_tell()
+    ensures { FrontsTell }
 {}
