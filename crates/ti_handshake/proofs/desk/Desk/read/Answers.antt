@@ -7,7 +7,9 @@ use Rattle.ti_types.specs.declared.event.Event.TheVariants as event
 use Rattle.ti_replay.specs.Events.{hold_refusal, if_none}
 use Rattle.ti_replay.specs.View.{view}
 use Rattle.ti_slot.specs.Thread.{Thread, with_more}
-use Rattle.ti_handshake.proofs.Desks.{took, may_call, Known, in_slot, stores_as, adds_held, keeps_all}
+use Rattle.ti_handshake.proofs.Desks.{Took, took, may_call, Known, in_slot, stores_as, adds_held, keeps_all}
+use Rattle.ti_handshake.proofs.desk.Desk.read.Given.{Over}
+use Rattle.ti_handshake.proofs.desk.Desk.read.Goals.{After-slot}
 use Rattle.ti_handshake.proofs.desk.Desk.read.Goals as goal
 
 abbrev why : (max_count : ℤ) → Known → Option TiError
@@ -16,24 +18,28 @@ why max_count x = hold_refusal (view x.limits x.history) (event.Read x.env x.thr
 abbrev adds : (max_count : ℤ) → Known → List Entry
 adds max_count x = if_none (why max_count x) (entry.Read x.env max_count ∷ [])
 
+-- the slot that the desk took
+taken : (g : Over) (c : After-slot g) → Took c.args.self.now c.self.inside.env c.in-Some.seat c.hold-hold.result c.slot.result.now
+taken g c = took _ _ _ _ _ _ c.hold-hold.result _ c.self.invariant c.self.view_is c.in-Some.is c.take.ensures.value c.hold-hold.ensures.view c.hold-hold.ensures.taken c.slot.ensures.value
+
 pub read-answer-requires-clause-calls : goal.read-answer-requires-clause-calls
 read-answer-requires-clause-calls g c =
-    let k = took _ _ _ _ _ _ c.hold-hold.result _ c.self.invariant c.self.view_is c.in-Some.is c.take.ensures.value c.hold-hold.ensures.view c.hold-hold.ensures.taken c.slot.ensures.value in
+    let k = taken g (goal.at.read-answer-requires-clause-calls g c).After-slot in
     may_call _ _ _ _ _ k c.requires.calls
 
 pub store-requires-clause-adds : goal.store-requires-clause-adds
 store-requires-clause-adds g c =
-    let k = took _ _ _ _ _ _ c.hold-hold.result _ c.self.invariant c.self.view_is c.in-Some.is c.take.ensures.value c.hold-hold.ensures.view c.hold-hold.ensures.taken c.slot.ensures.value in
+    let k = taken g (goal.at.store-requires-clause-adds g c).After-slot in
     adds_held _ _ _ _ _ _ _ _ k refl c.read-answer.ensures.thread
 
 pub store-requires-clause-keeps : goal.store-requires-clause-keeps
 store-requires-clause-keeps g c =
-    let k = took _ _ _ _ _ _ c.hold-hold.result _ c.self.invariant c.self.view_is c.in-Some.is c.take.ensures.value c.hold-hold.ensures.view c.hold-hold.ensures.taken c.slot.ensures.value in
+    let k = taken g (goal.at.store-requires-clause-keeps g c).After-slot in
     keeps_all _ _ _ _ c.slot.result.now c.read-answer.new.self k (ap (λ (t : Thread). t.uncollected) c.read-answer.ensures.thread)
 
 pub returns-clause-hold : goal.returns-clause-hold
 returns-clause-hold g c =
-    let k = took _ _ _ _ _ _ c.hold-hold.result _ c.self.invariant c.self.view_is c.in-Some.is c.take.ensures.value c.hold-hold.ensures.view c.hold-hold.ensures.taken c.slot.ensures.value in
+    let k = taken g (goal.at.returns-clause-hold g c).After-slot in
     let z : to_z w32 (of_z w32 c.args.max_count) ≡ c.args.max_count = to_z-of_z w32 c.args.max_count c.ranges.max_count in
     let longer : c.read-answer.new.self ≡ with_more c.slot.result.now (adds c.args.max_count (in_slot c.slot.result.now c.self.inside.env)) =
     c.read-answer.ensures.thread ∙ ap (λ (m : ℤ). with_more c.slot.result.now (adds m (in_slot c.slot.result.now c.self.inside.env))) z in

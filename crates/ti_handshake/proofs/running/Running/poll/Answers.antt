@@ -8,63 +8,69 @@ use Rattle.ti_cell.specs.Seats.{Sitting}
 use Rattle.ti_handshake.specs.Thread.{Runner, runner_in}
 use Rattle.ti_handshake.specs.Polls.{IsClear, HasGone, IsHeld, polled}
 use Rattle.ti_handshake.specs.Call.{Holds, found}
-use Rattle.ti_handshake.proofs.Owners.{owns, home, steps_and, may_store, may_keep, nothing, stores, leaves, left_at, runs_on, rests, no_refusal, gone_thread, poll_barred, same_history, clear_entries, gone_entries, held_entries}
+use Rattle.ti_handshake.proofs.Owners.{Owns, owns, home, steps_and, may_store, may_keep, nothing, stores, leaves, left_at, runs_on, rests, no_refusal, gone_thread, poll_barred, same_history, clear_entries, gone_entries, held_entries}
+use Rattle.ti_handshake.proofs.running.Running.poll.Given.{Over}
+use Rattle.ti_handshake.proofs.running.Running.poll.Goals.{After-slot-slot}
 use Rattle.ti_handshake.proofs.running.Running.poll.Goals as goal
+
+-- the slot that the thread took
+taken : (g : Over) (c : After-slot-slot g) → Owns c.self.inside.seat c.hold-hold.result c.slot-slot.result.now
+taken g c = owns c.self.inside.seat c.hold-hold.result c.slot-slot.result.now c.self.invariant.thread.owner c.hold-hold.ensures.view c.hold-hold.ensures.taken c.slot-slot.ensures.value
 
 pub store-seat-requires-clause-adds : goal.store-seat-requires-clause-adds
 store-seat-requires-clause-adds g c =
-    let k = owns c.self.inside.seat c.hold-hold.result c.slot-slot.result.now c.self.invariant.thread.owner c.hold-hold.ensures.view c.hold-hold.ensures.taken c.slot-slot.ensures.value in
+    let k = taken g (goal.at.store-seat-requires-clause-adds g c).After-slot-slot in
     may_store _ _ c.slot-slot.result.now c.slot-slot.result.now [] k tt (nothing c.slot-slot.result.now c.slot-slot.result.now refl)
 
 pub of-requires : goal.of-requires
 of-requires g c =
-    let k = owns c.self.inside.seat c.hold-hold.result c.slot-slot.result.now c.self.invariant.thread.owner c.hold-hold.ensures.view c.hold-hold.ensures.taken c.slot-slot.ensures.value in
+    let k = taken g (goal.at.of-requires g c).After-slot-slot in
     let s = c.store-seat.ensures in
     let at = leaves _ c.store-seat.result _ _ _ c.slot-slot.result.now.history _ k c.self.invariant.here c.hold-hold.ensures.cell s.cell s.view s.mine in
     record { runs = runs_on _ _ _ _ _ _ _ _ _ _ c.self.invariant k at refl refl }
 
 pub hand_over-requires-clause-running : goal.hand_over-requires-clause-running
 hand_over-requires-clause-running g c =
-    let k = owns c.self.inside.seat c.hold-hold.result c.slot-slot.result.now c.self.invariant.thread.owner c.hold-hold.ensures.view c.hold-hold.ensures.taken c.slot-slot.ensures.value in
+    let k = taken g (goal.at.hand_over-requires-clause-running g c).After-slot-slot in
     (home _ _ _ _ _ _ _ c.self.invariant k).running
 
 pub hand_over-requires-clause-steps : goal.hand_over-requires-clause-steps
 hand_over-requires-clause-steps g c =
-    let k = owns c.self.inside.seat c.hold-hold.result c.slot-slot.result.now c.self.invariant.thread.owner c.hold-hold.ensures.view c.hold-hold.ensures.taken c.slot-slot.ensures.value in
+    let k = taken g (goal.at.hand_over-requires-clause-steps g c).After-slot-slot in
     (home _ _ _ _ _ _ _ c.self.invariant k).steps
 
 pub hand_over-requires-clause-frames : goal.hand_over-requires-clause-frames
 hand_over-requires-clause-frames g c =
-    let k = owns c.self.inside.seat c.hold-hold.result c.slot-slot.result.now c.self.invariant.thread.owner c.hold-hold.ensures.view c.hold-hold.ensures.taken c.slot-slot.ensures.value in
+    let k = taken g (goal.at.hand_over-requires-clause-frames g c).After-slot-slot in
     (home _ _ _ _ _ _ _ c.self.invariant k).frames
 
 pub unreachable-requires : goal.unreachable-requires
 unreachable-requires g c =
-    let k = owns c.self.inside.seat c.hold-hold.result c.slot-slot.result.now c.self.invariant.thread.owner c.hold-hold.ensures.view c.hold-hold.ensures.taken c.slot-slot.ensures.value in
+    let k = taken g (goal.at.unreachable-requires g c).After-slot-slot in
     no_refusal _ _ _ _ (home _ _ _ _ _ _ _ c.self.invariant k) c.in-Err.ensures.when
 
 pub store-seat-requires-in-Ok-back-clause-adds : goal.store-seat-requires-in-Ok-back-clause-adds
 store-seat-requires-in-Ok-back-clause-adds g c =
-    let k = owns c.self.inside.seat c.hold-hold.result c.slot-slot.result.now c.self.invariant.thread.owner c.hold-hold.ensures.view c.hold-hold.ensures.taken c.slot-slot.ensures.value in
+    let k = taken g (goal.at.store-seat-requires-in-Ok-back-clause-adds g c).After-slot-slot in
     let l = c.self.inside.log.steps in
     may_store _ _ c.slot-slot.result.now c.back.new.self (steps_of l ++ Hand AtPoll ∷ Back ∷ []) k (steps_and l (Hand AtPoll ∷ Back ∷ []) (refl, (refl, tt))) (gone_thread c.slot-slot.result.now c.hand_over.new.self c.back.new.self l c.in-Ok.ensures.thread c.in-Ok-back.ensures.thread)
 
 pub store-seat-requires-in-Err-back-clause-adds : goal.store-seat-requires-in-Err-back-clause-adds
 store-seat-requires-in-Err-back-clause-adds g c =
-    let k = owns c.self.inside.seat c.hold-hold.result c.slot-slot.result.now c.self.invariant.thread.owner c.hold-hold.ensures.view c.hold-hold.ensures.taken c.slot-slot.ensures.value in
+    let k = taken g (goal.at.store-seat-requires-in-Err-back-clause-adds g c).After-slot-slot in
     let l = c.self.inside.log.steps in
     may_store _ _ c.slot-slot.result.now c.back.new.self (steps_of l ++ Hand AtPoll ∷ []) k (steps_and l (Hand AtPoll ∷ []) (refl, tt)) (c.in-Err-back.ensures.thread ∙ c.in-Ok.ensures.thread)
 
 pub of-requires-in-Err-back : goal.of-requires-in-Err-back
 of-requires-in-Err-back g c =
-    let k = owns c.self.inside.seat c.hold-hold.result c.slot-slot.result.now c.self.invariant.thread.owner c.hold-hold.ensures.view c.hold-hold.ensures.taken c.slot-slot.ensures.value in
+    let k = taken g (goal.at.of-requires-in-Err-back g c).After-slot-slot in
     let s = c.store-seat-in-Err-back.ensures in
     let at = leaves _ c.store-seat-in-Err-back.result _ _ _ c.back.new.self.history _ k c.self.invariant.here c.hold-hold.ensures.cell s.cell s.view s.mine in
     record { rests = rests _ _ _ _ _ c.hand_over.new.self _ _ _ _ _ c.self.invariant k (left_at _ _ _ _ (same_history c.hand_over.new.self c.back.new.self c.in-Err-back.ensures.thread) at) c.in-Ok.ensures.thread c.in-Ok.ensures.log }
 
 pub returns-in-Ok-back-clause-polled : goal.returns-in-Ok-back-clause-polled
 returns-in-Ok-back-clause-polled g c =
-    let k = owns c.self.inside.seat c.hold-hold.result c.slot-slot.result.now c.self.invariant.thread.owner c.hold-hold.ensures.view c.hold-hold.ensures.taken c.slot-slot.ensures.value in
+    let k = taken g (goal.at.returns-in-Ok-back-clause-polled g c).After-slot-slot in
     let l = c.self.inside.log.steps in
     let s = c.store-seat-in-Ok-back.ensures in
     let at = leaves _ c.store-seat-in-Ok-back.result _ _ _ c.back.new.self.history _ k c.self.invariant.here c.hold-hold.ensures.cell s.cell s.view s.mine in
@@ -77,7 +83,7 @@ returns-in-Ok-back-clause-polled g c =
 
 pub returns-in-Err-back-clause-polled : goal.returns-in-Err-back-clause-polled
 returns-in-Err-back-clause-polled g c =
-    let k = owns c.self.inside.seat c.hold-hold.result c.slot-slot.result.now c.self.invariant.thread.owner c.hold-hold.ensures.view c.hold-hold.ensures.taken c.slot-slot.ensures.value in
+    let k = taken g (goal.at.returns-in-Err-back-clause-polled g c).After-slot-slot in
     let l = c.self.inside.log.steps in
     let s = c.store-seat-in-Err-back.ensures in
     let same = same_history c.hand_over.new.self c.back.new.self c.in-Err-back.ensures.thread in
@@ -91,7 +97,7 @@ returns-in-Err-back-clause-polled g c =
 
 pub returns-in-Ok-back-clause-entries : goal.returns-in-Ok-back-clause-entries
 returns-in-Ok-back-clause-entries g c =
-    let k = owns c.self.inside.seat c.hold-hold.result c.slot-slot.result.now c.self.invariant.thread.owner c.hold-hold.ensures.view c.hold-hold.ensures.taken c.slot-slot.ensures.value in
+    let k = taken g (goal.at.returns-in-Ok-back-clause-entries g c).After-slot-slot in
     let l = c.self.inside.log in
     let s = c.store-seat-in-Ok-back.ensures in
     let held = stores _ _ c.slot-slot.result.now c.back.new.self _ (steps_of l.steps ++ Hand AtPoll ∷ Back ∷ []) k s.view (gone_thread c.slot-slot.result.now c.hand_over.new.self c.back.new.self l.steps c.in-Ok.ensures.thread c.in-Ok-back.ensures.thread) s.legal s.mine in
@@ -100,7 +106,7 @@ returns-in-Ok-back-clause-entries g c =
 
 pub returns-in-Err-back-clause-entries : goal.returns-in-Err-back-clause-entries
 returns-in-Err-back-clause-entries g c =
-    let k = owns c.self.inside.seat c.hold-hold.result c.slot-slot.result.now c.self.invariant.thread.owner c.hold-hold.ensures.view c.hold-hold.ensures.taken c.slot-slot.ensures.value in
+    let k = taken g (goal.at.returns-in-Err-back-clause-entries g c).After-slot-slot in
     let l = c.self.inside.log in
     let s = c.store-seat-in-Err-back.ensures in
     let held = stores _ _ c.slot-slot.result.now c.back.new.self _ (steps_of l.steps ++ Hand AtPoll ∷ []) k s.view (c.in-Err-back.ensures.thread ∙ c.in-Ok.ensures.thread) s.legal s.mine in
@@ -109,7 +115,7 @@ returns-in-Err-back-clause-entries g c =
 
 pub returns-then-not-armed-clause-entries : goal.returns-then-not-armed-clause-entries
 returns-then-not-armed-clause-entries g c =
-    let k = owns c.self.inside.seat c.hold-hold.result c.slot-slot.result.now c.self.invariant.thread.owner c.hold-hold.ensures.view c.hold-hold.ensures.taken c.slot-slot.ensures.value in
+    let k = taken g (goal.at.returns-then-not-armed-clause-entries g c).After-slot-slot in
     let s = c.store-seat.ensures in
     let held = stores _ _ c.slot-slot.result.now c.slot-slot.result.now _ [] k s.view (nothing c.slot-slot.result.now c.slot-slot.result.now refl) s.legal s.mine in
     let all = clear_entries _ _ c.slot-slot.result.now _ c.self.inside.log.steps k s.view (sym c.armed.ensures ∙ c.if-not-armed.true) held in
@@ -117,22 +123,22 @@ returns-then-not-armed-clause-entries g c =
 
 pub store-seat-requires-clause-keeps : goal.store-seat-requires-clause-keeps
 store-seat-requires-clause-keeps g c =
-    let k = owns c.self.inside.seat c.hold-hold.result c.slot-slot.result.now c.self.invariant.thread.owner c.hold-hold.ensures.view c.hold-hold.ensures.taken c.slot-slot.ensures.value in
+    let k = taken g (goal.at.store-seat-requires-clause-keeps g c).After-slot-slot in
     may_keep _ _ c.slot-slot.result.now c.slot-slot.result.now [] k (nothing c.slot-slot.result.now c.slot-slot.result.now refl)
 
 pub store-seat-requires-in-Ok-back-clause-keeps : goal.store-seat-requires-in-Ok-back-clause-keeps
 store-seat-requires-in-Ok-back-clause-keeps g c =
-    let k = owns c.self.inside.seat c.hold-hold.result c.slot-slot.result.now c.self.invariant.thread.owner c.hold-hold.ensures.view c.hold-hold.ensures.taken c.slot-slot.ensures.value in
+    let k = taken g (goal.at.store-seat-requires-in-Ok-back-clause-keeps g c).After-slot-slot in
     may_keep _ _ c.slot-slot.result.now c.back.new.self (steps_of c.self.inside.log.steps ++ Hand AtPoll ∷ Back ∷ []) k (gone_thread c.slot-slot.result.now c.hand_over.new.self c.back.new.self c.self.inside.log.steps c.in-Ok.ensures.thread c.in-Ok-back.ensures.thread)
 
 pub store-seat-requires-in-Err-back-clause-keeps : goal.store-seat-requires-in-Err-back-clause-keeps
 store-seat-requires-in-Err-back-clause-keeps g c =
-    let k = owns c.self.inside.seat c.hold-hold.result c.slot-slot.result.now c.self.invariant.thread.owner c.hold-hold.ensures.view c.hold-hold.ensures.taken c.slot-slot.ensures.value in
+    let k = taken g (goal.at.store-seat-requires-in-Err-back-clause-keeps g c).After-slot-slot in
     may_keep _ _ c.slot-slot.result.now c.back.new.self (steps_of c.self.inside.log.steps ++ Hand AtPoll ∷ []) k (c.in-Err-back.ensures.thread ∙ c.in-Ok.ensures.thread)
 
 pub returns-then-not-armed-clause-polled : goal.returns-then-not-armed-clause-polled
 returns-then-not-armed-clause-polled g c =
-    let k = owns c.self.inside.seat c.hold-hold.result c.slot-slot.result.now c.self.invariant.thread.owner c.hold-hold.ensures.view c.hold-hold.ensures.taken c.slot-slot.ensures.value in
+    let k = taken g (goal.at.returns-then-not-armed-clause-polled g c).After-slot-slot in
     let i = c.self.inside in
     let w = c.store-seat.result in
     let s = c.store-seat.ensures in

@@ -2,24 +2,30 @@ use Rattle.std.proofs.Common.{◌≡◌, [], true, subst}
 use Rattle.ti_types.specs.declared.error.TiError.TheVariants.{Barred}
 use Rattle.ti_replay.specs.View.{view, is_barred}
 use Rattle.ti_cell.specs.Seats.{Sitting}
-use Rattle.ti_handshake.proofs.Owners.{owns, may_store, may_keep, leaves, left_at, nothing, same_history, back_barred, still_safe}
+use Rattle.ti_handshake.proofs.Owners.{Owns, owns, may_store, may_keep, leaves, left_at, nothing, same_history, back_barred, still_safe}
+use Rattle.ti_handshake.proofs.safe.AtSafe.try_back.Given.{Over}
+use Rattle.ti_handshake.proofs.safe.AtSafe.try_back.Goals.{After-slot-slot}
 use Rattle.ti_handshake.proofs.safe.AtSafe.try_back.Goals as goal
+
+-- the slot that the thread took
+taken : (g : Over) (c : After-slot-slot g) → Owns c.self.inside.seat c.hold-hold.result c.slot-slot.result.now
+taken g c = owns c.self.inside.seat c.hold-hold.result c.slot-slot.result.now c.self.invariant.owner c.hold-hold.ensures.view c.hold-hold.ensures.taken c.slot-slot.ensures.value
 
 pub store-seat-requires-in-Err-clause-adds : goal.store-seat-requires-in-Err-clause-adds
 store-seat-requires-in-Err-clause-adds g c =
-    let k = owns c.self.inside.seat c.hold-hold.result _ c.self.invariant.owner c.hold-hold.ensures.view c.hold-hold.ensures.taken c.slot-slot.ensures.value in
+    let k = taken g (goal.at.store-seat-requires-in-Err-clause-adds g c).After-slot-slot in
     may_store _ _ c.slot-slot.result.now c.back.new.self [] k tt (nothing c.slot-slot.result.now c.back.new.self c.in-Err.ensures.thread)
 
 pub invariant_of-result : goal.invariant_of-result
 invariant_of-result g c =
-    let k = owns c.self.inside.seat c.hold-hold.result _ c.self.invariant.owner c.hold-hold.ensures.view c.hold-hold.ensures.taken c.slot-slot.ensures.value in
+    let k = taken g (goal.at.invariant_of-result g c).After-slot-slot in
     let s = c.store-seat-in-Err.ensures in
     let at = leaves _ c.store-seat-in-Err.result _ _ _ c.back.new.self.history _ k c.self.invariant.here c.hold-hold.ensures.cell s.cell s.view s.mine in
     still_safe _ _ _ _ _ _ c.self.invariant k (left_at _ _ _ _ (same_history c.slot-slot.result.now c.back.new.self c.in-Err.ensures.thread) at)
 
 pub returns-in-Err-clause-barred : goal.returns-in-Err-clause-barred
 returns-in-Err-clause-barred g c =
-    let k = owns c.self.inside.seat c.hold-hold.result _ c.self.invariant.owner c.hold-hold.ensures.view c.hold-hold.ensures.taken c.slot-slot.ensures.value in
+    let k = taken g (goal.at.returns-in-Err-clause-barred g c).After-slot-slot in
     let s = c.store-seat-in-Err.ensures in
     let at = leaves _ c.store-seat-in-Err.result _ _ _ c.back.new.self.history _ k c.self.invariant.here c.hold-hold.ensures.cell s.cell s.view s.mine in
     let b = back_barred _ _ _ _ _ _ _ c.self.invariant k (left_at _ _ _ _ (same_history c.slot-slot.result.now c.back.new.self c.in-Err.ensures.thread) at) c.in-Err.ensures.when in
@@ -27,5 +33,5 @@ returns-in-Err-clause-barred g c =
 
 pub store-seat-requires-in-Err-clause-keeps : goal.store-seat-requires-in-Err-clause-keeps
 store-seat-requires-in-Err-clause-keeps g c =
-    let k = owns c.self.inside.seat c.hold-hold.result _ c.self.invariant.owner c.hold-hold.ensures.view c.hold-hold.ensures.taken c.slot-slot.ensures.value in
+    let k = taken g (goal.at.store-seat-requires-in-Err-clause-keeps g c).After-slot-slot in
     may_keep _ _ c.slot-slot.result.now c.back.new.self [] k (nothing c.slot-slot.result.now c.back.new.self c.in-Err.ensures.thread)
