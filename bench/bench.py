@@ -14,6 +14,7 @@ another; `-` stands for a document that a program refuses.
 
 import dataclasses
 import json
+import multiprocessing
 import os
 import random
 import re
@@ -201,6 +202,14 @@ DOCUMENTS = (
 )
 
 
+def write(make, part, path):
+    """Writes a document of that size, and gives the number of its items."""
+    document = make(part)
+    with open(path, "w") as file:
+        json.dump(document, file, separators=(",", ":"))
+    return len(document.get("events", document.get("entries")))
+
+
 def main():
     words = sys.argv[1:]
     count = counter("--callgrind" in words)
@@ -211,16 +220,16 @@ def main():
         print(f"program: {program}")
     heads = f"{'M instr.':>10} {'seconds':>8} {'wall':>8} {'peak KB':>8}"
     print(f"{'document':16} {'part':>5} {'items':>8} {'written':>10}", *[heads] * len(programs), sep=" | ")
-    for name, make, arguments in DOCUMENTS:
-        for part in PARTS:
-            document = make(part)
-            items = len(document.get("events", document.get("entries")))
-            with tempfile.NamedTemporaryFile("w", suffix=".json") as file:
-                json.dump(document, file, separators=(",", ":"))
-                file.flush()
-                found = [columns(count, program, arguments, file.name) for program in programs]
-            written = next((size for _, size in found if size is not None), "-")
-            print(f"{name:16} {'1/' + str(part):>5} {items:8} {written:>10}", *[text for text, _ in found], sep=" | ", flush=True)
+    # documents are made in a process of their own, since a run's peak is at least what this one has
+    with multiprocessing.Pool(1) as maker, tempfile.TemporaryDirectory() as room:
+        path = os.path.join(room, "document.json")
+        for name, make, arguments in DOCUMENTS:
+            for part in PARTS:
+                items = maker.apply(write, (make, part, path))
+                found = [columns(count, program, arguments, path) for program in programs]
+                written = next((size for _, size in found if size is not None), "-")
+                line = f"{name:16} {'1/' + str(part):>5} {items:8} {written:>10}"
+                print(line, *[text for text, _ in found], sep=" | ", flush=True)
 
 
 if __name__ == "__main__":

@@ -61,7 +61,7 @@ def try_all(names):
     refused = missed = 0
     with tempfile.TemporaryDirectory(prefix="edits-") as room:
         copy = pathlib.Path(room, "tree")
-        shutil.copytree(".", copy, ignore=shutil.ignore_patterns(".git", "must-fail"))
+        shutil.copytree(".", copy, ignore=shutil.ignore_patterns(".git", "must-fail", "incremental"))
         for crate in crates:
             (copy / crate / "more-edits").rename(copy / crate / "must-fail")
             done = subprocess.run(["rt", "must-fail", crate.name], cwd=copy, stdout=subprocess.PIPE, text=True, errors="replace")
