@@ -1,6 +1,11 @@
 ghost use Rattle.std.specs.Prelude.{◌≡◌, map};
 ghost use Rattle.serde_json.specs.View.{view};
-ghost use Rattle.ti_script.specs.Entries.{env_in, number_of_method, safe_named, safe_in, asked, by_table, own_table, call_table, later_call_table, call_in, environment_table, entry_in};
+ghost use Rattle.ti_types.specs.declared.step.Step.TheVariants.{Enter, EnterNative, At};
+ghost use Rattle.ti_types.specs.declared.call.Call.TheVariants.{Trace, Location, SetWord};
+ghost use Rattle.ti_types.specs.declared.entry.Entry.TheVariants.{Own, Hand, Stop, Read, Go};
+ghost use Rattle.ti_script.specs.Tree.{whole_in};
+ghost use Rattle.ti_script.specs.Events.{u32_in, i32_in};
+ghost use Rattle.ti_script.specs.Entries.{none, one, two, env_in, number_of_method, safe_named, safe_in, asked, by_table, own_table, call_table, later_call_table, call_in, environment_table, entry_in};
 
 use crate::element::{i32_in, kind_named, u32_in};
 use crate::tree::array_in;
@@ -35,21 +40,109 @@ fn safe_in(value: &Value) -> Option<Safe>
     safe_named(value.as_str()?)
 }
 
+/// An entry with nothing behind its word.
+fn plain_entry(entry: Entry, rest: &[Value]) -> Option<Entry>
+    ensures { result ≡ none entry (map view rest.now) }
+{
+    match rest {
+        [] => Some(entry),
+        _ => None,
+    }
+}
+
+fn enter_entry(rest: &[Value]) -> Option<Entry>
+    ensures { result ≡ one number_of_method (λ m. Own (Enter m)) (map view rest.now) }
+{
+    match rest {
+        [method] => Some(Entry::Own(Step::Enter(number_of_method(method)?))),
+        _ => None,
+    }
+}
+
+fn enter_native_entry(rest: &[Value]) -> Option<Entry>
+    ensures { result ≡ one number_of_method (λ m. Own (EnterNative m)) (map view rest.now) }
+{
+    match rest {
+        [method] => Some(Entry::Own(Step::EnterNative(number_of_method(method)?))),
+        _ => None,
+    }
+}
+
+fn at_entry(rest: &[Value]) -> Option<Entry>
+    ensures { result ≡ one u32_in (λ p. Own (At p)) (map view rest.now) }
+{
+    match rest {
+        [place] => Some(Entry::Own(Step::At(u32_in(place)?))),
+        _ => None,
+    }
+}
+
+fn hand_entry(rest: &[Value]) -> Option<Entry>
+    ensures { result ≡ one safe_in Hand (map view rest.now) }
+{
+    match rest {
+        [safe] => Some(Entry::Hand(safe_in(safe)?)),
+        _ => None,
+    }
+}
+
 /// An entry of the thread's own.
 fn own_entry(text: &str, rest: &[Value]) -> Option<Entry>
     ensures { result ≡ by_table own_table text.now (map view rest.now) }
 {
-    match (text, rest) {
-        ("start", []) => Some(Entry::Start),
-        ("back", []) => Some(Entry::Back),
-        ("end", []) => Some(Entry::End),
-        ("enter", [method]) => Some(Entry::Own(Step::Enter(number_of_method(method)?))),
-        ("enter_native", [method]) => {
-            Some(Entry::Own(Step::EnterNative(number_of_method(method)?)))
+    match text {
+        "start" => plain_entry(Entry::Start, rest),
+        "back" => plain_entry(Entry::Back, rest),
+        "end" => plain_entry(Entry::End, rest),
+        "enter" => enter_entry(rest),
+        "enter_native" => enter_native_entry(rest),
+        "at" => at_entry(rest),
+        "leave" => plain_entry(Entry::Own(Step::Leave), rest),
+        "hand" => hand_entry(rest),
+        _ => None,
+    }
+}
+
+/// A call with nothing behind its word.
+fn plain_call(call: Call, rest: &[Value]) -> Option<Call>
+    ensures { result ≡ none call (map view rest.now) }
+{
+    match rest {
+        [] => Some(call),
+        _ => None,
+    }
+}
+
+fn trace_call(rest: &[Value]) -> Option<Call>
+    ensures { result ≡ two i32_in i32_in Trace (map view rest.now) }
+{
+    match rest {
+        [start, max_count] => {
+            let start = i32_in(start)?;
+            let max_count = i32_in(max_count)?;
+            Some(Call::Trace { start, max_count })
         }
-        ("at", [place]) => Some(Entry::Own(Step::At(u32_in(place)?))),
-        ("leave", []) => Some(Entry::Own(Step::Leave)),
-        ("hand", [safe]) => Some(Entry::Hand(safe_in(safe)?)),
+        _ => None,
+    }
+}
+
+fn location_call(rest: &[Value]) -> Option<Call>
+    ensures { result ≡ one i32_in Location (map view rest.now) }
+{
+    match rest {
+        [depth] => {
+            let depth = i32_in(depth)?;
+            Some(Call::Location { depth })
+        }
+        _ => None,
+    }
+}
+
+fn set_call(rest: &[Value]) -> Option<Call>
+    ensures { result ≡ one whole_in SetWord (map view rest.now) }
+{
+    match rest {
+        [word] => Some(Call::SetWord(word.as_u64()?)),
         _ => None,
     }
 }
@@ -58,22 +151,15 @@ fn own_entry(text: &str, rest: &[Value]) -> Option<Entry>
 fn call_of(text: &str, rest: &[Value]) -> Option<Call>
     ensures { result ≡ by_table call_table text.now (map view rest.now) }
 {
-    match (text, rest) {
-        ("state", []) => Some(Call::State),
-        ("count", []) => Some(Call::FrameCount),
-        ("trace", [start, max_count]) => {
-            let start = i32_in(start)?;
-            let max_count = i32_in(max_count)?;
-            Some(Call::Trace { start, max_count })
-        }
-        ("location", [depth]) => {
-            let depth = i32_in(depth)?;
-            Some(Call::Location { depth })
-        }
-        ("suspend", []) => Some(Call::Suspend),
-        ("resume", []) => Some(Call::Resume),
-        ("get", []) => Some(Call::GetWord),
-        ("set", [word]) => Some(Call::SetWord(word.as_u64()?)),
+    match text {
+        "state" => plain_call(Call::State, rest),
+        "count" => plain_call(Call::FrameCount, rest),
+        "trace" => trace_call(rest),
+        "location" => location_call(rest),
+        "suspend" => plain_call(Call::Suspend, rest),
+        "resume" => plain_call(Call::Resume, rest),
+        "get" => plain_call(Call::GetWord, rest),
+        "set" => set_call(rest),
         _ => None,
     }
 }
@@ -82,8 +168,8 @@ fn call_of(text: &str, rest: &[Value]) -> Option<Call>
 fn later_call_of(text: &str, rest: &[Value]) -> Option<Call>
     ensures { result ≡ by_table later_call_table text.now (map view rest.now) }
 {
-    match (text, rest) {
-        ("pop", []) => Some(Call::Pop),
+    match text {
+        "pop" => plain_call(Call::Pop, rest),
         _ => None,
     }
 }
@@ -115,19 +201,46 @@ fn asked(format: u64, rest: &[Value]) -> Option<Entry>
     Some(Entry::Asked(env, number, call))
 }
 
-/// An entry of an environment.
-fn environment_entry(format: u64, text: &str, rest: &[Value]) -> Option<Entry>
-    ensures { result ≡ by_table (environment_table format) text.now (map view rest.now) }
+fn stop_entry(rest: &[Value]) -> Option<Entry>
+    ensures { result ≡ one env_in Stop (map view rest.now) }
 {
-    match (text, rest) {
-        ("asked", _) => asked(format, rest),
-        ("stop", [env]) => Some(Entry::Stop(env_in(env)?)),
-        ("read", [env, max_count]) => {
+    match rest {
+        [env] => Some(Entry::Stop(env_in(env)?)),
+        _ => None,
+    }
+}
+
+fn read_entry(rest: &[Value]) -> Option<Entry>
+    ensures { result ≡ two env_in i32_in Read (map view rest.now) }
+{
+    match rest {
+        [env, max_count] => {
             let env = env_in(env)?;
             let max_count = i32_in(max_count)?;
             Some(Entry::Read(env, max_count))
         }
-        ("go", [env]) => Some(Entry::Go(env_in(env)?)),
+        _ => None,
+    }
+}
+
+fn go_entry(rest: &[Value]) -> Option<Entry>
+    ensures { result ≡ one env_in Go (map view rest.now) }
+{
+    match rest {
+        [env] => Some(Entry::Go(env_in(env)?)),
+        _ => None,
+    }
+}
+
+/// An entry of an environment.
+fn environment_entry(format: u64, text: &str, rest: &[Value]) -> Option<Entry>
+    ensures { result ≡ by_table (environment_table format) text.now (map view rest.now) }
+{
+    match text {
+        "asked" => asked(format, rest),
+        "stop" => stop_entry(rest),
+        "read" => read_entry(rest),
+        "go" => go_entry(rest),
         _ => None,
     }
 }
