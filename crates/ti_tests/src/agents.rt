@@ -82,16 +82,21 @@ fn await_let_go<'a, R: Wait>(rt: &R, held: AtSafe<'a>) -> Option<Running<'a>> {
     None
 }
 
+/// How many frames the thread has, up to 8: it leaves them.
+fn frames_of(running: &mut Running<'_>) -> u32 {
+    for frames in 0..8 {
+        if running.step(Step::Leave).is_err() {
+            return frames;
+        }
+    }
+    8
+}
+
 /// What the thread does: it polls until it is held and runs on once it is let go. How many frames it has then.
 fn run_thread<R: Wait>(rt: &R, running: Running<'_>) -> Option<u32> {
     let held = await_held(rt, running)?;
     let mut running = await_let_go(rt, held)?;
-    let mut frames = 0;
-    for _ in 0..8 {
-        if running.step(Step::Leave).is_ok() {
-            frames += 1;
-        }
-    }
+    let frames = frames_of(&mut running);
     let _ended = running.end(rt);
     Some(frames)
 }
@@ -153,16 +158,16 @@ fn inspect<R: Wait + AllocGlobal>(rt: &R, env: Env<'_>) -> Result<(), u32> {
     Ok(())
 }
 
-/// What the second environment does meanwhile: it asks for the thread's state, again and again. How often it was told one.
-fn watch<R: Wait>(rt: &R, env: Env<'_>) -> u32 {
+/// What the second environment does meanwhile: it asks for the thread's state, again and again. Whether it was told one
+/// each time.
+fn watch<R: Wait>(rt: &R, env: Env<'_>) -> bool {
     let mut env = env;
-    let mut told = 0;
     for _ in 0..STATES {
-        if env.get_thread_state(rt, ThreadNo(0)).is_ok() {
-            told += 1;
+        if env.get_thread_state(rt, ThreadNo(0)).is_err() {
+            return false;
         }
     }
-    told
+    true
 }
 
 /// A thread runs with two frames, one environment inspects it, and another holds the cell in between: what each came to.
@@ -170,7 +175,7 @@ fn watch<R: Wait>(rt: &R, env: Env<'_>) -> u32 {
 fn inspected<R: Threads + Wait + Sync + AllocGlobal>(
     rt: &R,
     limits: Limits,
-) -> Option<(Option<u32>, Result<(), u32>, u32)>
+) -> Option<(Option<u32>, Result<(), u32>, bool)>
     requires one { limits.threads ≡ 1 }
     requires envs { limits.envs ≡ 2 }
 {
@@ -188,11 +193,11 @@ fn inspected<R: Threads + Wait + Sync + AllocGlobal>(
     let (frames, (told, states)) = join(
         rt,
         move || -> Option<u32> { run_thread(rt, running) },
-        move || -> (Result<(), u32>, u32) {
+        move || -> (Result<(), u32>, bool) {
             join(
                 rt,
                 move || -> Result<(), u32> { inspect(rt, first) },
-                move || -> u32 { watch(rt, second) },
+                move || -> bool { watch(rt, second) },
             )
         },
     );
@@ -210,6 +215,6 @@ fn an_environment_inspects_a_running_thread(rt: HostRuntime) -> Result<(), Fail>
     };
     assert!(rt; told == Ok(()));
     assert!(rt; frames == Some(1));
-    assert_eq!(rt; states, STATES);
+    assert!(rt; states);
     Ok(())
 }
