@@ -1,5 +1,5 @@
 -- What others do at a running thread changes neither its mode, nor its frames, nor what it has spent, and leaves what it
--- has logged legal. This belongs to the laws of histories.
+-- has logged legal.
 use Rattle.std.proofs.Common.{◌≡◌, ℕ, ◌==◌, Bool, true, false, cond, List, [], ◌∷◌, ◌++◌, refl, ap, sym, ◌∙◌, arith, add-zero, subst}
 use Rattle.std.specs.List.{fold}
 use Rattle.ti_types.specs.declared.limits.Limits.{Limits}

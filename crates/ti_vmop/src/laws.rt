@@ -1,4 +1,4 @@
-//! Laws of histories. They belong below, beside the other laws.
+//! Laws of histories, on which the promises of global operations rest.
 ghost use Rattle.ti_vmop.specs.Stops.{StopsAreOwn, FrontsStay, DesksStay, FrontsTell};
 
 /// Whether an environment's stop stands at a thread, its own entries say alone.
