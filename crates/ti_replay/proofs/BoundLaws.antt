@@ -1,5 +1,5 @@
 -- How long a legal history can be.
-use Rattle.std.proofs.Common.{◌≡◌, ℕ, ◌+◌, ◌*◌, ◌<◌, ◌≤◌, Bool, true, false, cond, nat_lt, List, [], ◌∷◌, length, refl, sym, ◌∙◌, arith, is_some, length-append, get_or, set, suc, zero, replicate, inl, inr, suc-mul, add-zero, get_or-set_same, get_or-set_other, length-set, mul-zero}
+use Rattle.std.proofs.Common.{◌≡◌, ℕ, ◌+◌, ◌*◌, ◌<◌, ◌≤◌, Bool, true, false, cond, nat_lt, List, [], ◌∷◌, length, refl, sym, ◌∙◌, arith, is_some, length-append, get_or, set, suc, zero, replicate, inl, inr, suc-mul, add-zero, get_or-set_same, get_or-set_other, mul-zero}
 use Rattle.std.specs.List.{fold, sum_by, list_all}
 use Rattle.std.proofs.lemmas.Bool.Decides.{nat_tests}
 use Rattle.std.proofs.lemmas.List.Sums.{sum_by-cons, sum_by-set}
@@ -8,7 +8,8 @@ use Rattle.std.proofs.lemmas.List.{length-replicate}
 use Rattle.ti_replay.proofs.HistoryStateLaws.{goes_on-allows}
 use Rattle.std.proofs.lemmas.Bool.{cases_eq}
 use Rattle.ti_replay.specs.declared.costs.Costs.{Costs}
-use Rattle.ti_replay.specs.Costs.{no_costs, charged}
+use Rattle.ti_replay.specs.Costs.{no_costs, charged, charged_to}
+use Rattle.ti_replay.proofs.CostLaws.{length-charged}
 use Rattle.ti_replay.proofs.Charging.{charged_free}
 use Rattle.std.proofs.lemmas.List.Folds.{list_all-append}
 use Rattle.ti_types.specs.declared.limits.Limits.{Limits}
@@ -24,7 +25,7 @@ use Rattle.ti_types.specs.declared.view.ThreadView.{ThreadView}
 use Rattle.ti_replay.specs.Answers.{is_running}
 use Rattle.ti_replay.specs.Settling.{is_waiting_call, waits}
 use Rattle.ti_replay.specs.View.{after, called}
-use Rattle.ti_replay.specs.Legal.{is_legal, own_cost, env_of, call_cost, call_cost_of, ask_count}
+use Rattle.ti_replay.specs.Legal.{is_legal, own_cost, call_cost, call_cost_of, ask_count}
 use Rattle.ti_replay.proofs.LateStepLaws.{called_keeps}
 use Rattle.ti_replay.specs.HistoryState.{history_state, HistoryState}
 use Rattle.ti_replay.proofs.NextStates.{next_state, allows, allows_all}
@@ -168,13 +169,13 @@ within_set most i t c l le k j =
       | inr other ↦ rw (get_or-set_other t i j c no_costs other) (k j)
     ]
 
-charged_one : (limits : Limits) (t : List Costs) (x : Entry) → (env_of x).0 < length t → (get_or t (env_of x).0 no_costs).calls < limits.calls → IsWithin limits.calls t → call_cost (env_of x) x ≡ 1
-    → IsWithin limits.calls (charged t x) × (table_sum (charged t x) ≡ table_sum t + 1)
-charged_one limits t x l room k one =
-    let old = get_or t (env_of x).0 no_costs in
-    let c : Costs = record { asked = old.asked + ask_count (env_of x) x; calls = old.calls + call_cost (env_of x) x } in
-    let le : old.calls + call_cost (env_of x) x ≤ limits.calls = omega arith in
-    (within_set limits.calls (env_of x).0 t c l le k, omega (arith, one, sum_by-set (λ (c : Costs). c.calls) t (env_of x).0 c no_costs l))
+charged_one : (limits : Limits) (t : List Costs) (x : Entry) (env : EnvNo) → env.0 < length t → (get_or t env.0 no_costs).calls < limits.calls → IsWithin limits.calls t → call_cost env x ≡ 1
+    → IsWithin limits.calls (charged_to t env x) × (table_sum (charged_to t env x) ≡ table_sum t + 1)
+charged_one limits t x env l room k one =
+    let old = get_or t env.0 no_costs in
+    let c : Costs = record { asked = old.asked + ask_count env x; calls = old.calls + call_cost env x } in
+    let le : old.calls + call_cost env x ≤ limits.calls = omega arith in
+    (within_set limits.calls env.0 t c l le k, omega (arith, one, sum_by-set (λ (c : Costs). c.calls) t env.0 c no_costs l))
 
 charge_step : (limits : Limits) (s : HistoryState) (x : Entry) → allows limits s x ≡ true → length s.costs ≡ limits.envs → IsWithin limits.calls s.costs
     → IsWithin limits.calls (charged s.costs x) × (table_sum (charged s.costs x) ≡ table_sum s.costs + call_cost_of x)
@@ -184,12 +185,9 @@ charge_step limits s (Hand safe) h n k = rw (charged_free s.costs (Hand safe) re
 charge_step limits s Back h n k = rw (charged_free s.costs Back refl) (k, sym (add-zero (table_sum s.costs)))
 charge_step limits s End h n k = rw (charged_free s.costs End refl) (k, sym (add-zero (table_sum s.costs)))
 charge_step limits s (Go env) h n k = rw (charged_free s.costs (Go env) refl) (k, sym (add-zero (table_sum s.costs)))
-charge_step limits s (Asked env number call) h n k = charged_one limits s.costs (Asked env number call) (grind (arith, nat_tests)) (grind (arith, nat_tests)) k (grind (arith, nat_tests))
-charge_step limits s (Stop env) h n k = charged_one limits s.costs (Stop env) (grind (arith, nat_tests)) (grind (arith, nat_tests)) k (grind (arith, nat_tests))
-charge_step limits s (Read env m) h n k = charged_one limits s.costs (Read env m) (grind (arith, nat_tests)) (grind (arith, nat_tests)) k (grind (arith, nat_tests))
-
-length_charged : (t : List Costs) (x : Entry) → length (charged t x) ≡ length t
-length_charged t x = length-set t (env_of x).0 _
+charge_step limits s (Asked env number call) h n k = charged_one limits s.costs (Asked env number call) env (grind (arith, nat_tests)) (grind (arith, nat_tests)) k (grind (arith, nat_tests))
+charge_step limits s (Stop env) h n k = charged_one limits s.costs (Stop env) env (grind (arith, nat_tests)) (grind (arith, nat_tests)) k (grind (arith, nat_tests))
+charge_step limits s (Read env m) h n k = charged_one limits s.costs (Read env m) env (grind (arith, nat_tests)) (grind (arith, nat_tests)) k (grind (arith, nat_tests))
 
 -- what a legal run costs the thread and the environments is within the limits
 pub run_kept : (limits : Limits) (s : HistoryState) (history : List Entry) → allows_all limits s history ≡ true → s.own ≤ limits.own → length s.costs ≡ limits.envs → IsWithin limits.calls s.costs
@@ -199,7 +197,7 @@ run_kept limits s (x ∷ history) h o n k =
     let here : allows limits s x ≡ true = grind arith in
     let there : allows_all limits (next_state s x) history ≡ true = grind arith in
     let step = charge_step limits s x here n k in
-    let rest = run_kept limits (next_state s x) history there (own_step limits s x here o) (length_charged s.costs x ∙ n) step.0 in
+    let rest = run_kept limits (next_state s x) history there (own_step limits s x here o) (length-charged s.costs x ∙ n) step.0 in
     (omega (arith, rest.0, sum_by-cons own_cost x history), omega (arith, rest.1, step.1, sum_by-cons call_cost_of x history))
 
 -- an empty table

@@ -1,5 +1,5 @@
 -- The table of costs is what the history's entries cost.
-use Rattle.std.proofs.Common.{ltb-true, ◌↔◌, ◌≡◌, ◌≢◌, ℕ, ◌+◌, ◌<◌, true, false, ◌&&◌, inl, inr, List, [], ◌∷◌, ◌++◌, length, refl, ap, sym, ◌∙◌, arith, replicate, append-nil, append_assoc, nat_lt, length-set, get_or-set_other, get_or-set_same, None}
+use Rattle.std.proofs.Common.{ltb-true, ◌↔◌, ◌≡◌, ◌≢◌, ℕ, ◌+◌, ◌<◌, true, false, ◌&&◌, inl, inr, List, [], ◌∷◌, ◌++◌, length, refl, ap, sym, ◌∙◌, arith, replicate, append-nil, append_assoc, nat_lt, length-set, get_or-set_other, get_or-set_same, Some, None}
 use Rattle.std.specs.List.{fold}
 use Rattle.std.proofs.lemmas.List.{get_or-replicate, length-replicate}
 use Rattle.std.proofs.lemmas.List.Sums.{sum_by-cons}
@@ -12,31 +12,8 @@ use Rattle.ti_types.specs.declared.entry.Entry.{Entry}
 use Rattle.ti_types.specs.declared.entry.Entry.TheVariants.{Start, Own, Hand, Back, End, Asked, Stop, Read, Go}
 use Rattle.ti_replay.specs.Legal.{situation, fits, may_follow, first_illegal, goes_on, is_legal, env_of, ask_count, call_cost, calls_spent, asked_by}
 use Rattle.ti_replay.specs.declared.costs.Costs.{Costs}
-use Rattle.ti_replay.specs.Costs.{no_costs, costs_at, charged, IsDue}
+use Rattle.ti_replay.specs.Costs.{no_costs, costs_at, charged, charged_to, IsDue}
 use Rattle.ti_replay.specs.PlacedState.{PlacedState, placed_state, situation_in, may_enter}
-
--- an entry costs nothing to an environment that is not its own
-ask_count_other : (env : EnvNo) (x : Entry) → env.0 ≢ (env_of x).0 → ask_count env x ≡ 0
-ask_count_other env Start n = refl
-ask_count_other env (Own step) n = refl
-ask_count_other env (Hand safe) n = refl
-ask_count_other env Back n = refl
-ask_count_other env End n = refl
-ask_count_other env (Asked other number call) n = grind (arith, nat_tests)
-ask_count_other env (Stop other) n = refl
-ask_count_other env (Read other max_count) n = refl
-ask_count_other env (Go other) n = refl
-
-call_cost_other : (env : EnvNo) (x : Entry) → env.0 ≢ (env_of x).0 → call_cost env x ≡ 0
-call_cost_other env Start n = refl
-call_cost_other env (Own step) n = refl
-call_cost_other env (Hand safe) n = refl
-call_cost_other env Back n = refl
-call_cost_other env End n = refl
-call_cost_other env (Asked other number call) n = grind (arith, nat_tests)
-call_cost_other env (Stop other) n = grind (arith, nat_tests)
-call_cost_other env (Read other max_count) n = grind (arith, nat_tests)
-call_cost_other env (Go other) n = refl
 
 abbrev pub more : Costs → ℕ → ℕ → Costs
 more c asked calls = record { asked = c.asked + asked; calls = c.calls + calls }
@@ -44,17 +21,37 @@ more c asked calls = record { asked = c.asked + asked; calls = c.calls + calls }
 same_env : (a b : EnvNo) → a.0 ≡ b.0 → a ≡ b
 same_env a b h = ap (λ (n : ℕ). record { 0 = n }) h
 
-costs_at-charged : (t : List Costs) (x : Entry) (env : EnvNo) → env.0 < length t → costs_at (charged t x) env ≡ more (costs_at t env) (ask_count env x) (call_cost env x)
-costs_at-charged t x env h =
-    elim (cases_eq env.0 (env_of x).0) [
+charged_row : (t : List Costs) (x : Entry) (other env : EnvNo) → env.0 < length t → (env.0 ≢ other.0 → (ask_count env x ≡ 0) × (call_cost env x ≡ 0))
+    → costs_at (charged_to t other x) env ≡ more (costs_at t env) (ask_count env x) (call_cost env x)
+charged_row t x other env h free =
+    elim (cases_eq env.0 other.0) [
       | inl same ↦
-          let e : env ≡ env_of x = same_env env (env_of x) same in
-          rw e (get_or-set_same t (env_of x).0 _ no_costs (let k : (env_of x).0 < length t = omega arith in k))
-      | inr other ↦ rw (ask_count_other env x other, call_cost_other env x other) (get_or-set_other t (env_of x).0 env.0 _ no_costs other ∙ grind arith)
+          let e : env ≡ other = same_env env other same in
+          rw e (get_or-set_same t other.0 _ no_costs (let k : other.0 < length t = omega (arith, h, same) in k))
+      | inr apart ↦ rw ((free apart).0, (free apart).1) (get_or-set_other t other.0 env.0 _ no_costs apart ∙ grind arith)
     ]
 
-length-charged : (t : List Costs) (x : Entry) → length (charged t x) ≡ length t
-length-charged t x = length-set t (env_of x).0 _
+costs_at-charged : (t : List Costs) (x : Entry) (env : EnvNo) → env.0 < length t → costs_at (charged t x) env ≡ more (costs_at t env) (ask_count env x) (call_cost env x)
+costs_at-charged t Start env h = grind arith
+costs_at-charged t (Own step) env h = grind arith
+costs_at-charged t (Hand safe) env h = grind arith
+costs_at-charged t Back env h = grind arith
+costs_at-charged t End env h = grind arith
+costs_at-charged t (Asked other number call) env h = charged_row t (Asked other number call) other env h (λ n. (grind (arith, nat_tests), grind (arith, nat_tests)))
+costs_at-charged t (Stop other) env h = charged_row t (Stop other) other env h (λ n. (refl, grind (arith, nat_tests)))
+costs_at-charged t (Read other max_count) env h = charged_row t (Read other max_count) other env h (λ n. (refl, grind (arith, nat_tests)))
+costs_at-charged t (Go other) env h = charged_row t (Go other) other env h (λ n. (refl, refl))
+
+pub length-charged : (t : List Costs) (x : Entry) → length (charged t x) ≡ length t
+length-charged t Start = refl
+length-charged t (Own step) = refl
+length-charged t (Hand safe) = refl
+length-charged t Back = refl
+length-charged t End = refl
+length-charged t (Asked env number call) = length-set t env.0 _
+length-charged t (Stop env) = length-set t env.0 _
+length-charged t (Read env max_count) = length-set t env.0 _
+length-charged t (Go env) = length-set t env.0 _
 
 costs_at-fold : (t : List Costs) (history : List Entry) (env : EnvNo) → env.0 < length t → costs_at (fold charged t history) env ≡ more (costs_at t env) (asked_by env history) (calls_spent env history)
 costs_at-fold t [] env h = grind arith
@@ -62,7 +59,7 @@ costs_at-fold t (x ∷ history) env h =
     grind (arith, costs_at-fold (charged t x) history env, costs_at-charged t x env, length-charged t x, sum_by-cons (ask_count env) x history, sum_by-cons (call_cost env) x history)
 
 -- for an environment that exists, the state tells what the history tells
-pub situation_is : (limits : Limits) (history : List Entry) (env : EnvNo) → env.0 < limits.envs → situation_in (placed_state limits history) env ≡ situation limits history env
+pub situation_is : (limits : Limits) (history : List Entry) (env : EnvNo) → env.0 < limits.envs → situation_in (placed_state limits history) (Some env) ≡ situation limits history (Some env)
 situation_is limits history env h =
     let n : length (replicate limits.envs no_costs) ≡ limits.envs = length-replicate limits.envs no_costs in
     let z : costs_at (replicate limits.envs no_costs) env ≡ no_costs = get_or-replicate limits.envs env.0 no_costs no_costs h in
@@ -71,26 +68,28 @@ situation_is limits history env h =
 envs_positive : (limits : Limits) → 0 < limits.envs
 envs_positive limits = omega (arith, limits.in_range)
 
+of_environment : (limits : Limits) (history : List Entry) (x : Entry) (env : EnvNo) → env_of x ≡ Some env
+    → (nat_lt env.0 limits.envs ≡ false → fits limits (situation limits history (Some env)) x ≡ fits limits (situation_in (placed_state limits history) (Some env)) x)
+    → may_follow limits history x ≡ may_enter limits (placed_state limits history) x
+of_environment limits history x env is without =
+    rw is (elim (cases_Bool (nat_lt env.0 limits.envs)) [
+      | inl there ↦ ap (λ s. fits limits s x) (sym (situation_is limits history env (ltb-true _ _ there)))
+      | inr gone ↦ without gone
+    ])
+
 -- the test by the state is the test by the history
 pub may_follow_is : (limits : Limits) (history : List Entry) (x : Entry) → may_follow limits history x ≡ may_enter limits (placed_state limits history) x
-may_follow_is limits history x =
-    elim (cases_Bool (nat_lt (env_of x).0 limits.envs)) [
-      | inl there ↦ ap (λ s. fits limits s x) (sym (situation_is limits history (env_of x) (ltb-true _ _ there)))
-      | inr not_there ↦ without_env limits history x not_there
-    ]
-  where
-    without_env : (limits : Limits) (history : List Entry) (x : Entry) → nat_lt (env_of x).0 limits.envs ≡ false → may_follow limits history x ≡ may_enter limits (placed_state limits history) x
-    without_env limits history Start h = refl
-    without_env limits history (Own step) h = refl
-    without_env limits history (Hand Native) h = refl
-    without_env limits history (Hand (Blocked kind)) h = refl
-    without_env limits history (Hand AtPoll) h = refl
-    without_env limits history Back h = refl
-    without_env limits history End h = refl
-    without_env limits history (Asked env number call) h = rw h refl
-    without_env limits history (Stop env) h = rw h refl
-    without_env limits history (Read env max_count) h = rw h refl
-    without_env limits history (Go env) h = rw h refl
+may_follow_is limits history Start = refl
+may_follow_is limits history (Own step) = refl
+may_follow_is limits history (Hand Native) = refl
+may_follow_is limits history (Hand (Blocked kind)) = refl
+may_follow_is limits history (Hand AtPoll) = refl
+may_follow_is limits history Back = refl
+may_follow_is limits history End = refl
+may_follow_is limits history (Asked env number call) = of_environment limits history (Asked env number call) env refl (λ h. rw h refl)
+may_follow_is limits history (Stop env) = of_environment limits history (Stop env) env refl (λ h. rw h refl)
+may_follow_is limits history (Read env max_count) = of_environment limits history (Read env max_count) env refl (λ h. rw h refl)
+may_follow_is limits history (Go env) = of_environment limits history (Go env) env refl (λ h. rw h refl)
 
 -- a history is legal where no entry is illegal
 pub goes_on_is : (limits : Limits) (front history : List Entry) → (goes_on limits front history ≡ true) ↔ (first_illegal limits front history ≡ None)

@@ -1,5 +1,5 @@
 -- How one more entry changes all of a history that later entries depend on, with a list of the calls that wait.
-use Rattle.std.specs.Prelude.{◌+◌, Bool, true, ◌&&◌, ◌||◌, nat_lt, if◌then◌else◌, List, [], ◌∷◌, ◌++◌, length, is_some}
+use Rattle.std.specs.Prelude.{◌+◌, Bool, true, ◌&&◌, ◌||◌, nat_lt, if◌then◌else◌, List, [], ◌∷◌, ◌++◌, length, is_some, Option}
 use Rattle.std.specs.List.{fold}
 use Rattle.ti_types.specs.declared.limits.Limits.{Limits}
 use Rattle.ti_types.specs.declared.numbers.EnvNo.{EnvNo}
@@ -8,7 +8,7 @@ use Rattle.ti_replay.specs.Answers.{is_running}
 use Rattle.ti_replay.specs.Settling.{is_hand_over, is_waiting_call}
 use Rattle.ti_replay.specs.View.{after}
 use Rattle.ti_replay.specs.Legal.{Situation, own_cost, fits, env_of}
-use Rattle.ti_replay.specs.Costs.{costs_at, charged}
+use Rattle.ti_replay.specs.Costs.{costs_of, charged}
 use Rattle.ti_replay.specs.HistoryState.{HistoryState}
 
 -- whether an entry waits at this state
@@ -25,9 +25,9 @@ next_state s x =
       costs = charged s.costs x;
     }
 
-abbrev pub situation_at : HistoryState → EnvNo → Situation
+abbrev pub situation_at : HistoryState → Option EnvNo → Situation
 situation_at s env =
-    let costs = costs_at s.costs env in
+    let costs = costs_of s.costs env in
     record {
       view = s.view;
       armed = nat_lt 0 (length s.waiting) || is_some s.view.stopper;

@@ -1,5 +1,5 @@
 -- The costs of a history's entries, in a table with a row for each environment.
-use Rattle.std.specs.Prelude.{◌≡◌, ◌<◌, ◌+◌, List, slice_set, slice_index_or}
+use Rattle.std.specs.Prelude.{◌≡◌, ◌<◌, ◌+◌, List, Option, Some, None, slice_set, slice_index_or}
 use Rattle.ti_types.specs.declared.numbers.EnvNo.{EnvNo}
 use Rattle.ti_types.specs.declared.entry.Entry.{Entry}
 use Rattle.ti_types.specs.Limits.{most_calls}
@@ -13,12 +13,24 @@ no_costs = record { asked = 0; calls = 0 }
 abbrev pub costs_at : List Costs → EnvNo → Costs
 costs_at costs env = slice_index_or costs env.0 no_costs
 
--- the costs after an entry
-abbrev pub charged : List Costs → Entry → List Costs
-charged costs x =
-    let env = env_of x in
+-- of the environment of an entry, and none where it has none
+abbrev pub costs_of : List Costs → Option EnvNo → Costs
+costs_of costs (Some env) = costs_at costs env
+costs_of costs None = no_costs
+
+-- the costs after an entry of an environment
+abbrev pub charged_to : List Costs → EnvNo → Entry → List Costs
+charged_to costs env x =
     let old = costs_at costs env in
     slice_set costs env.0 (record { asked = old.asked + ask_count env x; calls = old.calls + call_cost env x })
+
+abbrev pub charged_by : List Costs → Option EnvNo → Entry → List Costs
+charged_by costs (Some env) x = charged_to costs env x
+charged_by costs None x = costs
+
+-- the costs after an entry
+abbrev pub charged : List Costs → Entry → List Costs
+charged costs x = charged_by costs (env_of x) x
 
 -- the entry is numbered as the table says, and its environment has a call left
 abbrev pub IsDue : List Costs → Entry → Type 0

@@ -87,23 +87,28 @@ fits limits s (Read env max_count) = lets_through limits s env (is_not_negative 
 fits limits s (Go env) = nat_lt env.0 limits.envs && is_none (held_refusal s.view (Go env))
 fits limits s x = is_none (own_refusal limits s.view s.own x)
 
--- the environment of an entry. The thread's own entries have none, and count as environment 0's
-abbrev pub env_of : Entry → EnvNo
-env_of (Asked env number call) = env
-env_of (Stop env) = env
-env_of (Read env max_count) = env
-env_of (Go env) = env
-env_of _ = record { 0 = 0 }
+-- the environment of an entry. The thread's own entries have none
+abbrev pub env_of : Entry → Option EnvNo
+env_of (Asked env number call) = Some env
+env_of (Stop env) = Some env
+env_of (Read env max_count) = Some env
+env_of (Go env) = Some env
+env_of _ = None
+
+-- what is counted of an environment, and 0 where there is none
+abbrev pub counted : Option EnvNo → (EnvNo → ℕ) → ℕ
+counted (Some env) count = count env
+counted None count = 0
 
 -- what a history leaves, as the next entry of an environment finds it
-abbrev pub situation : Limits → List Entry → EnvNo → Situation
+abbrev pub situation : Limits → List Entry → Option EnvNo → Situation
 situation limits history env =
     record {
       view = view limits history;
       armed = is_armed limits history;
       own = own_spent history;
-      calls = calls_spent env history;
-      asked = asked_by env history;
+      calls = counted env (λ e. calls_spent e history);
+      asked = counted env (λ e. asked_by e history);
     }
 
 -- whether an entry may come behind a history

@@ -1,12 +1,12 @@
 -- All that later entries of a history depend on, kept entry by entry.
-use Rattle.std.specs.Prelude.{ℕ, ◌+◌, Bool, ◌&&◌, ◌||◌, nat_lt, if◌then◌else◌, List, [], ◌∷◌, ◌++◌, length, is_some, replicate}
+use Rattle.std.specs.Prelude.{ℕ, ◌+◌, Bool, ◌&&◌, ◌||◌, nat_lt, if◌then◌else◌, List, [], ◌∷◌, ◌++◌, length, is_some, replicate, Option}
 use Rattle.std.specs.List.{fold, list_all}
 use Rattle.ti_types.specs.declared.limits.Limits.{Limits}
 use Rattle.ti_types.specs.declared.numbers.EnvNo.{EnvNo}
 use Rattle.ti_types.specs.declared.entry.Entry.{Entry}
 use Rattle.ti_types.specs.declared.view.ThreadView.{ThreadView}
 use Rattle.ti_replay.specs.declared.costs.Costs.{Costs}
-use Rattle.ti_replay.specs.Costs.{no_costs, costs_at, charged}
+use Rattle.ti_replay.specs.Costs.{no_costs, costs_of, charged}
 use Rattle.ti_replay.specs.Answers.{is_running}
 use Rattle.ti_replay.specs.Settling.{Placed, is_hand_over, is_waiting_call, unanswered}
 use Rattle.ti_replay.specs.View.{view, after, after_all}
@@ -52,9 +52,9 @@ entered s x =
       costs = charged s.costs x;
     }
 
-abbrev pub situation_in : PlacedState → EnvNo → Situation
+abbrev pub situation_in : PlacedState → Option EnvNo → Situation
 situation_in s env =
-    let costs = costs_at s.costs env in
+    let costs = costs_of s.costs env in
     record {
       view = s.view;
       armed = nat_lt 0 (length s.waiting) || is_some s.view.stopper;

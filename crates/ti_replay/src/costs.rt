@@ -14,13 +14,15 @@ pub struct Costs {
     pub calls: u32,
 }
 
-/// The environment of an entry, and environment 0 for the thread's own entries, which cost no environment anything.
-pub fn env_of(entry: Entry) -> EnvNo
+/// The environment of an entry, and none for the thread's own entries, which cost no environment anything.
+pub fn env_of(entry: Entry) -> Option<EnvNo>
     ensures { result ≡ env_of_entry entry }
 {
     match entry {
-        Entry::Asked(env, _, _) | Entry::Stop(env) | Entry::Read(env, _) | Entry::Go(env) => env,
-        _ => EnvNo(0),
+        Entry::Asked(env, _, _) | Entry::Stop(env) | Entry::Read(env, _) | Entry::Go(env) => Some(
+            env,
+        ),
+        _ => None,
     }
 }
 

@@ -65,11 +65,9 @@ impl Progress {
     pub fn may_enter(&self, limits: &Limits, entry: Entry) -> bool
         ensures { result ≡ may_enter limits.now self.now entry }
     {
-        let index = env_of(entry).0 as usize;
-        let costs = if index < self.costs.len() {
-            self.costs[index]
-        } else {
-            Costs { asked: 0, calls: 0 }
+        let costs = match env_of(entry) {
+            Some(env) if (env.0 as usize) < self.costs.len() => self.costs[env.0 as usize],
+            _ => Costs { asked: 0, calls: 0 },
         };
         let armed = !self.waiting.is_empty() || self.view.stopper.is_some();
         fits(limits, &self.view, armed, self.own, costs, entry)
