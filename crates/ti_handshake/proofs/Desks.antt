@@ -1,7 +1,6 @@
 -- A desk's call: what was taken, what was stored, and what the call tells.
 use Rattle.std.proofs.Common.{◌≡◌, ℕ, suc, ◌+◌, ◌<◌, ◌==◌, Bool, cond, true, false, inl, inr, eq-eqb, append-nil, refl, List, [], ◌∷◌, ◌++◌, length, append_assoc, sym, ap, ◌∙◌, subst, arith, Option, Some, None}
 use Rattle.atomic_table.specs.Seated.{TableId}
-use Rattle.ti_types.specs.Answer.{said}
 use Rattle.ti_types.specs.declared.answer.Answer.{Answer}
 use Rattle.ti_types.specs.declared.call.Call.{Call}
 use Rattle.ti_types.specs.declared.entry.Entry.{Entry}
@@ -16,9 +15,7 @@ use Rattle.std.specs.Prelude.{is_some, IfSome, nat_lt, ◌&&◌, if◌then◌els
 use Rattle.std.proofs.lemmas.Bool.{cases_Bool, eqb-true}
 use Rattle.std.proofs.lemmas.Bool.Decides.{nat_tests}
 use Rattle.std.proofs.lemmas.List.Elements.{filter-append}
-use Rattle.ti_types.specs.declared.event.Event.TheVariants as event
-use Rattle.ti_replay.specs.Events.{if_none, hold_refusal}
-use Rattle.ti_replay.specs.View.{view}
+use Rattle.ti_replay.specs.Events.{if_none}
 use Rattle.ti_replay.specs.Tickets.{reply_to}
 use Rattle.ti_replay.proofs.PlaceTickets.{reply_by_ticket}
 use Rattle.ti_types.specs.declared.error.TiError.{TiError}
@@ -34,7 +31,7 @@ use Rattle.ti_cell.proofs.Calls.{has_of, left_of, collect_keeps}
 use Rattle.ti_cell.specs.Seats.{Sitting, Holding}
 use Rattle.ti_cell.proofs.Goes.{asked_more, asked_is, may_ask}
 use Rattle.ti_handshake.specs.Call.{WaitsWith, HoldsWith, Holds, found, IsTold, IsAnswered, next_call, ticket_told}
-use Rattle.ti_handshake.specs.Desk.{Place, Sits, IsSame, ReplyAtPlace}
+use Rattle.ti_handshake.specs.Desk.{Place, Sits, ReplyAtPlace}
 use Rattle.ti_handshake.specs.Seated.{IsThere, place_in}
 use Rattle.ti_handshake.proofs.Holding.{held, held_with, found_held}
 
@@ -319,13 +316,6 @@ at_place limits history t a legal is front rest call stands =
     ∙ (reply_by_ticket limits front rest t call (subst (λ (h : List Entry). is_legal limits h ≡ true) stands legal)
     ∙ ((λ i. reply_to limits (sym stands i) t) ∙ is))
 
-pub same_then : (a b c : Place) → IsSame a b → IsSame b c → IsSame a c
-same_then a b c p q = record { cell = q.cell ∙ p.cell; env = q.env ∙ p.env }
-
--- a call that was answered at once
-pub answered_now : (p q : Place) (call : Call) (a : Answer) (tickets : List Ticket) → WaitsWith p.view q.view (next_call p.view p.env call ∷ []) tickets → IsTold p.view q.view p.env call (Answered a) → IsAnswered p.view q.view (next_call p.view p.env call) (said a)
-answered_now p q call a tickets k is = record { front = found p.view q.view; rest = []; stands = k.last; behind = k.here; replied = is }
-
 -- a call that waited, and was collected
 pub answered_later : (p m q : Place) (call : Call) (t : Ticket) (a : Answer) (tickets left : List Ticket) → WaitsWith p.view m.view (next_call p.view p.env call ∷ []) tickets → IsTold p.view m.view p.env call (Waiting t)
     → WaitsWith m.view q.view [] left → ReplyAtPlace m.view.subject.limits q.view.seen t a → IsAnswered p.view q.view (next_call p.view p.env call) a
@@ -343,10 +333,6 @@ answered_later p m q call t a tickets left k is l place =
       behind = k.here;
       replied = subst (λ (x : Limits). reply x q.view.seen (length front) ≡ Some a) (ap (λ x. x.limits) k.goes.subject) (place front l.goes.begins.0 call there);
     }
-
--- where another environment's stop stands, a stop is refused
-pub others_refuse : (limits : Limits) (env : EnvNo) (thread : ThreadNo) (history : List Entry) (x : List Entry) → is_some (view limits history).stopper ≡ true → if_none (hold_refusal (view limits history) (event.Stop env thread)) x ≡ []
-others_refuse limits env thread history x some = grind (arith, some)
 
 -- a ticket that is new comes out of the tickets as it came in
 pub in_and_out : (t : Ticket) (tickets : List Ticket) → has t tickets ≡ false → without_ticket t (tickets ++ t ∷ []) ≡ tickets

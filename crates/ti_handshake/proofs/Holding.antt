@@ -103,10 +103,6 @@ waits_with a b c more tickets p q =
 pub waits_then : (a b c : View) (more : List Entry) → Waits a b [] → Waits b c more → Waits a c more
 waits_then a b c more p q = subst (λ (l : List Ticket). WaitsWith a c more l) p.posted (waits_with a b c more b.posted p q)
 
--- holds that added nothing, and then another
-pub holds_then : (a b c : View) (more : List Entry) → Holds a b [] → Holds b c more → Holds a c more
-holds_then a b c more p q = record { waits = waits_then a b c more p.waits q.waits; looked = q.looked ∙ p.looked }
-
 pub found_then : (a b c : View) → Waits a b [] → found b c ≡ found a c
 found_then a b c p = same_found a b c (p.mine ∙ append-nil a.mine)
 
@@ -145,13 +141,6 @@ waits_looks v w looks k e =
       posted = ap (λ (x : View). x.posted) e;
       last = seen ∙ ap (λ (l : List Entry). l ++ []) (sym f);
       here = subst (λ (l : List Entry). StartsWith l v.seen) (sym f) ([], sym (append-nil v.seen));
-    }
-
-pub holds_refl : (v : View) → (v.holds ≡ false) × (v.found ≡ []) → is_legal v.subject.limits v.seen ≡ true → v.mine ≡ made_by v.number v.seen → Holds v v []
-holds_refl v rests legal whole =
-    record {
-      waits = waits_looks v v [] (record { rests = rests; legal = legal; whole = whole }) (λ i. record v { looked = sym (append-nil v.looked) i });
-      looked = refl;
     }
 
 -- a wait that added nothing, and then looks

@@ -129,28 +129,6 @@ leaves s w h n cell history left k here there stays store whole =
       whole = whole ∙ ap (λ (i : ℕ). made_by i w.view.seen) number;
     }
 
--- a thread that starts or returns
-pub away : (cell : TableId) (s w : Sitting) (h : Holding) (n m : Thread) (f : Stack) (l : Steps) (left : ℕ) → Owns s h n → Left s w m.history → s.cell ≡ cell → m.limits ≡ n.limits
-    → is_running (view m.limits m.history).mode ≡ true → f.frames ≡ (view m.limits m.history).frames → f.depth ≡ n.limits.depth → l.steps ≡ [] → l.room ≡ n.limits.own
-    → left + own_spent m.history ≡ m.limits.own → RunsWith cell w f l left
-away cell s w h n m f l left k at here same runs frames depth none room budget =
-    let limits : m.limits ≡ w.view.subject.limits = same ∙ (k.taken.about.0 ∙ sym (ap (λ (v : View). v.subject.limits) (λ i. record w.view { subject = at.subject i }))) in
-    let seen = sym at.seen in
-    let empty : logged w.view.seen l.steps ≡ m.history = ap (λ (z : List Step). logged w.view.seen z) none ∙ (append-nil w.view.seen ∙ at.seen) in
-    record {
-      here = at.cell ∙ here;
-      thread = record {
-        owner = at.owner;
-        whole = at.whole;
-        runs = subst (λ (x : Limits × List Entry). is_running (view x.0 x.1).mode ≡ true) (λ i. (limits i, seen i)) runs;
-        frames = frames ∙ (λ i. (view (limits i) (sym empty i)).frames);
-        goes = ap (λ (z : List Step). goes_on w.view.subject.limits w.view.seen (steps_of z)) none;
-      };
-      depth = depth ∙ (ap (λ (x : Limits). x.depth) (sym same) ∙ ap (λ (x : Limits). x.depth) limits);
-      room = room ∙ (ap (λ (x : Limits). x.own) (sym same) ∙ ap (λ (x : Limits). x.own) limits);
-      budget = subst (λ (x : Limits × List Entry). left + own_spent x.1 ≡ x.0.own) (λ i. (limits i, seen i)) budget;
-    }
-
 -- a thread that runs on behind what others did
 pub runs_on : (cell : TableId) (s w : Sitting) (h : Holding) (n : Thread) (f g : Stack) (l m : Steps) (left : ℕ) → RunsWith cell s f l left → Owns s h n → Left s w n.history → g ≡ f → m ≡ l → RunsWith cell w g m left
 runs_on cell s w h n f g l m left r k at same_frames same_log =
@@ -250,10 +228,6 @@ start_barred s w h n e r k at why =
     let new : is_new (view n.limits n.history).mode ≡ true = ap is_new (mode_is_own n.limits n.history ∙ ap (λ (x : List Entry). (view n.limits x).mode) none) in
     let b = barred_start n.limits (view n.limits n.history) (own_spent n.history) e new why in
     (b.0, subst (λ (x : Limits × List Entry). is_barred (view x.0 x.1) ≡ true) (λ i. (limits i, sym at.seen i)) b.1)
-
--- what is refused at a view depends on no logged steps where there are none
-pub no_steps : (h : List Entry) → h ++ steps_of [] ≡ h
-no_steps h = append-nil h
 
 pub left_at : (s w : Sitting) (a b : List Entry) → a ≡ b → Left s w a → Left s w b
 left_at s w a b e at = record { cell = at.cell; owner = at.owner; subject = at.subject; seen = at.seen ∙ e; whole = at.whole }
