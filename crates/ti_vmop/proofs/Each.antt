@@ -1,14 +1,12 @@
 -- One thread of a list after another.
-use Rattle.std.proofs.Common.{◌≡◌, ◌≢◌, ℕ, zero, suc, ◌+◌, ◌<◌, ◌≤◌, ◌==◌, ◌||◌, Bool, true, false, inl, inr, List, [], ◌∷◌, ◌++◌, length, take, refl, ap, sym, ◌∙◌, arith, subst, eq-eqb, ne_eqb, Some, nat_lt, length-set, append-nil}
+use Rattle.std.proofs.Common.{◌≡◌, ◌≢◌, ℕ, zero, suc, ◌+◌, ◌<◌, ◌≤◌, ◌==◌, ◌||◌, Bool, true, false, inl, inr, List, [], ◌∷◌, ◌++◌, length, take, refl, ap, sym, ◌∙◌, arith, subst, eq-eqb, ne_eqb, Some, length-set, append-nil}
 use Rattle.std.specs.Prelude.{slice_get, slice_index_or, slice_set, slice_index}
 use Rattle.std.proofs.lemmas.Bool.{cases_eq, cases_Bool, ltb-true, and_parts}
-use Rattle.std.proofs.lemmas.Bool.Decides.{nat_tests}
 use Rattle.ti_types.specs.declared.entry.Entry.{Entry}
 use Rattle.ti_types.specs.declared.numbers.EnvNo.{EnvNo}
 use Rattle.ti_types.specs.declared.limits.Limits.{Limits}
 use Rattle.ti_handshake.proofs.Holding.{goes_then}
 use Rattle.std.proofs.lemmas.List.Sums.{fold-append}
-use Rattle.std.proofs.lemmas.List.Folds.{list_all-append}
 use Rattle.ti_types.specs.declared.numbers.ThreadNo.{ThreadNo}
 use Rattle.ti_env.specs.Env.{EnvValue, left_at, spent_at, with_spent}
 use Rattle.ti_env.proofs.LeftLaws.{left_some}
@@ -199,23 +197,12 @@ may_reach s z threads k n c distinct there count h is =
     let t = there_at n threads k c there h in
     subst (λ (w : EnvValue). x.0.0 < length w.spent) (sym is) (omega (arith, u.count, count, t))
 
--- whether all are paid, one after another
-pub paid_more : (state : EnvValue) (threads : Listed) (k n : ℕ) (c : ThreadNo × ℕ) → k < length threads → n ≡ suc k → are_paid state (take k threads) ≡ true
-    → (slice_index_or threads k c).1 < left_at state (slice_index_or threads k c).0 → are_paid state (take n threads) ≡ true
-paid_more state threads k n c h e before one =
-    let x = slice_index_or threads k c in
-    ap (are_paid state) (take_more threads k n c e h)
-    ∙ (list_all-append (λ y. nat_lt y.1 (left_at state y.0)) (take k threads) (x ∷ []) ∙ grind (arith, nat_tests, before, one))
-
 pub not_paid : (state : EnvValue) (threads : Listed) (k : ℕ) (c : ThreadNo × ℕ) → k < length threads → left_at state (slice_index_or threads k c).0 ≤ (slice_index_or threads k c).1 → are_paid state threads ≡ false
 not_paid state threads k c h few =
     elim (cases_Bool (are_paid state threads)) [
       | inl paid ↦ absurd (omega (arith, paid_at state threads k c paid h, few))
       | inr unpaid ↦ unpaid
     ]
-
-pub paid_all : (state : EnvValue) (threads : Listed) (n : ℕ) → length threads ≤ n → are_paid state (take n threads) ≡ true → are_paid state threads ≡ true
-paid_all state threads n h a = ap (are_paid state) (sym (take_all threads n h)) ∙ a
 
 pub in_range : (l : List Place) (i : ℕ) (x : Place) → slice_get l i ≡ Some x → i < length l
 in_range [] i x h = cc
