@@ -21,7 +21,7 @@ use Rattle.ti_replay.specs.Replies.{reply}
 use Rattle.ti_replay.specs.View.{view}
 use Rattle.ti_replay.specs.Admission.{Happening, dealings_by, refusal, agent_of, is_aimed_at, is_own_of}
 use Rattle.ti_replay.specs.Events.{left_by, history_of, own_outcome, refused_or, read_outcome, hold_refusal, given}
-use Rattle.ti_replay.proofs.AgreementLaws.{history_of-snoc}
+use Rattle.ti_replay.proofs.AgreementLaws.{history_of-snoc, caps_are}
 use Rattle.ti_env.specs.Env.{EnvValue, new_env, with_caps}
 use Rattle.ti_core.specs.Thread.{ThreadState, new_state, own_next, poll_next, taken}
 use Rattle.ti_core.specs.Core.{CoreState, Stepped, thread_at, env_at, stepped_by, refused_or_else, stepped_own, core_next, core_taken, no_thread, with_env}
@@ -121,7 +121,7 @@ told_goes events s w (AddCaps e caps) k = rw k.env_count (grind (arith, k.env_co
 told_goes events s w (Relinquish e caps) k = grind (arith, k.env_count)
 told_goes events s w (GetCaps e) k =
     elim (cases_Bool (nat_lt e.0 s.limits.envs)) [
-      | inl on ↦ let q = (k.envs e (ltb-true _ _ on)).caps (record { 0 = 0 }) in grind (arith, k.env_count, on, q)
+      | inl on ↦ let q = (k.envs e (ltb-true _ _ on)).caps (record { 0 = 0 }) ∙ caps_are s.limits e (record { 0 = 0 }) events in grind (arith, k.env_count, on, q)
       | inr off ↦ grind (arith, k.env_count, off)
     ]
 told_goes events s w (SetEnvWord e v) k = grind (arith, k.env_count)

@@ -13,8 +13,7 @@ use Rattle.ti_types.specs.declared.event.Outcome.{Outcome}
 use Rattle.ti_types.specs.declared.event.Outcome.TheVariants as outcome
 use Rattle.ti_types.specs.declared.error.TiError.TheVariants.{InvalidThread, InvalidEnvironment}
 use Rattle.ti_types.specs.declared.answer.Answer.TheVariants as answer
-use Rattle.ti_types.specs.Caps.{no_caps}
-use Rattle.ti_replay.specs.Admission.{Happening, Dealings, dealings, dealt, refusal, refusal_of, agent_of, is_aimed_at, is_own_of, is_about_caps, is_env, is_by, dealings_by, caps_after}
+use Rattle.ti_replay.specs.Admission.{Happening, Dealings, dealings, dealt, refusal, refusal_of, agent_of, is_aimed_at, is_own_of, is_about_caps, is_env, is_by, dealings_by, no_dealings, caps_of, caps_after}
 use Rattle.ti_replay.specs.Events.{left_by, history_behind, history_from, history_of, outcome_there, outcome_of, refused_or, caps_outcome}
 use Rattle.ti_replay.specs.Outcomes.{out_of}
 use Rattle.ti_replay.specs.Agreement.{is_for_want, marked, Kept, Taken, Called, kept_as, kept_from, kept, with_first, if_kept, told_from, told, TellsTheKept}
@@ -167,7 +166,7 @@ abbrev kept_outcome : Limits → ThreadNo → List Entry → KeptState → Kept 
 kept_outcome limits thread whole s (Taken event) =
     cond (is_own_of thread event && not (nat_lt thread.0 limits.threads)) (Some (outcome.Refused InvalidThread)) (outcome_there limits whole s.history event)
 kept_outcome limits thread whole s (Called h) =
-    cond (is_aimed_at thread h.event) (refused_or (refusal limits s.dealings h) (outcome_there limits whole s.history h.event)) (caps_outcome limits s.dealings h.event)
+    cond (is_aimed_at thread h.event) (refused_or (refusal limits s.dealings h) (outcome_there limits whole s.history h.event)) (caps_outcome limits s.dealings.caps h.event)
 
 abbrev outcome_if : Limits → ThreadNo → List Entry → KeptState → Option Kept → Option Outcome → Option Outcome
 outcome_if limits thread whole s None other = other
@@ -180,10 +179,12 @@ outcome_one limits env thread all front h =
     grind (arith, sort, dealings_is limits env thread front h.event, refusal_marked limits (dealings limits env thread front) h)
 
 -- what an environment holds does not depend on the thread
-caps_fold : (limits : Limits) (env : EnvNo) (t u : ThreadNo) (d c : Dealings) (events : List Happening) → d.caps ≡ c.caps → (fold (dealt limits env t) d events).caps ≡ (fold (dealt limits env u) c events).caps
-caps_fold limits env t u d c [] h = h
-caps_fold limits env t u d c (x ∷ events) h =
-    caps_fold limits env t u (dealt limits env t d x) (dealt limits env u c x) events (ap (λ k. caps_after env k x.event) h)
+caps_fold : (limits : Limits) (env : EnvNo) (t : ThreadNo) (d : Dealings) (events : List Happening) → (fold (dealt limits env t) d events).caps ≡ fold (λ held h. caps_after env held h.event) d.caps events
+caps_fold limits env t d [] = refl
+caps_fold limits env t d (x ∷ events) = caps_fold limits env t (dealt limits env t d x) events
+
+pub caps_are : (limits : Limits) (env : EnvNo) (t : ThreadNo) (events : List Happening) → (dealings limits env t events).caps ≡ caps_of env events
+caps_are limits env t events = caps_fold limits env t no_dealings events
 
 pub same_thread : (t u : ThreadNo) → (t.0 == u.0) ≡ true → t ≡ u
 same_thread t u h = ap (λ (n : ℕ). record { 0 = n }) (eqb-true _ _ h)
@@ -207,7 +208,7 @@ out_there limits thread all front wanting (AddCaps e caps) h = refl
 out_there limits thread all front wanting (Relinquish e caps) h = refl
 out_there limits thread all front wanting (GetCaps e) h =
     ap (λ c. cond (nat_lt e.0 limits.envs) (Some (outcome.Gave (answer.Caps c))) (Some (outcome.Gave (answer.Refused InvalidEnvironment))))
-    (caps_fold limits e (record { 0 = 0 }) thread (record { caps = no_caps; spent = 0 }) (record { caps = no_caps; spent = 0 }) front refl)
+    (sym (caps_are limits e thread front))
 out_there limits thread all front wanting (SetEnvWord e w) h = cc
 out_there limits thread all front wanting (GetEnvWord e) h = cc
 

@@ -104,6 +104,10 @@ caps_after env held (Relinquish e caps) =
     if e.0 == env.0 then caps_without held caps else held
 caps_after env held _ = held
 
+-- the capabilities that an environment holds
+abbrev pub caps_of : EnvNo → List Happening → Caps
+caps_of env events = fold (λ held h. caps_after env held h.event) no_caps events
+
 -- an admitted call that is paid for
 abbrev pub spends : Limits → EnvNo → ThreadNo → Dealings → Happening → Bool
 spends limits env thread d h =

@@ -2,6 +2,7 @@
 use Rattle.std.specs.Prelude.{Bool, ◌&&◌, ◌||◌, not, if◌then◌else◌, nat_lt, List, [], ◌∷◌, ◌++◌, length, Option, Some, None, is_none}
 use Rattle.ti_types.specs.declared.limits.Limits.{Limits}
 use Rattle.ti_types.specs.declared.numbers.ThreadNo.{ThreadNo}
+use Rattle.ti_types.specs.declared.caps.Caps.{Caps}
 use Rattle.ti_types.specs.declared.state.Safe.TheVariants.{Native, Blocked, AtPoll}
 use Rattle.ti_types.specs.declared.entry.Entry.{Entry}
 use Rattle.ti_types.specs.declared.entry.Entry.TheVariants as entry
@@ -19,7 +20,7 @@ use Rattle.ti_replay.specs.View.{view, is_barred}
 use Rattle.ti_replay.specs.Legal.{own_spent, asked_by, is_armed}
 use Rattle.ti_replay.specs.Replies.{reply}
 use Rattle.ti_replay.specs.Refusals.{own_refusal, held_refusal, or_else, unless}
-use Rattle.ti_replay.specs.Admission.{Happening, Dealings, dealings_by, refusal, can_be_had, agent_of, is_aimed_at, is_own_of}
+use Rattle.ti_replay.specs.Admission.{Happening, dealings_by, refusal, can_be_had, agent_of, is_aimed_at, is_own_of}
 
 -- the one entry that an event of a thread's own leaves, but for a poll
 abbrev pub own_entry : Event → Option Entry
@@ -115,13 +116,13 @@ outcome_there limits whole history (Go e t) = gave_unless (hold_refusal (view li
 outcome_there limits whole history event = own_outcome limits history (own_entry event)
 
 -- what a call about capabilities comes to
-abbrev pub caps_outcome : Limits → Dealings → Event → Option Outcome
-caps_outcome limits d (AddCaps e caps) =
+abbrev pub caps_outcome : Limits → Caps → Event → Option Outcome
+caps_outcome limits held (AddCaps e caps) =
     gave_unless (or_else (unless (nat_lt e.0 limits.envs) InvalidEnvironment) (unless (can_be_had caps) NotAvailable))
-caps_outcome limits d (Relinquish e caps) = gave_unless (unless (nat_lt e.0 limits.envs) InvalidEnvironment)
-caps_outcome limits d (GetCaps e) =
-    if nat_lt e.0 limits.envs then Some (outcome.Gave (answer.Caps d.caps)) else Some (outcome.Gave (answer.Refused InvalidEnvironment))
-caps_outcome limits d event = None
+caps_outcome limits held (Relinquish e caps) = gave_unless (unless (nat_lt e.0 limits.envs) InvalidEnvironment)
+caps_outcome limits held (GetCaps e) =
+    if nat_lt e.0 limits.envs then Some (outcome.Gave (answer.Caps held)) else Some (outcome.Gave (answer.Refused InvalidEnvironment))
+caps_outcome limits held event = None
 
 abbrev pub refused_or : Option TiError → Option Outcome → Option Outcome
 refused_or (Some error) other = Some (outcome.Gave (answer.Refused error))
@@ -135,4 +136,4 @@ outcome_of limits thread all front h =
     then (if nat_lt thread.0 limits.threads then outcome_there limits (history_of limits thread all) (history_of limits thread front) h.event else Some (outcome.Refused InvalidThread))
     else if is_aimed_at thread h.event
     then refused_or (refusal limits d h) (outcome_there limits (history_of limits thread all) (history_of limits thread front) h.event)
-    else caps_outcome limits d h.event
+    else caps_outcome limits d.caps h.event

@@ -3,32 +3,16 @@ use Rattle.std.specs.Prelude.{Bool, true, false, ◌==◌, nat_lt, if◌then◌e
 use Rattle.std.specs.List.{fold}
 use Rattle.ti_types.specs.declared.limits.Limits.{Limits}
 use Rattle.ti_types.specs.declared.numbers.EnvNo.{EnvNo}
-use Rattle.ti_types.specs.declared.numbers.ThreadNo.{ThreadNo}
 use Rattle.ti_types.specs.declared.event.Event.{Event}
-use Rattle.ti_types.specs.declared.event.Event.TheVariants.{Start, Own, Poll, ToNative, ToBlocked, Back, End, Ask, Stop, Read, Go, SetEnvWord, GetEnvWord}
+use Rattle.ti_types.specs.declared.event.Event.TheVariants.{Start, Own, Poll, ToNative, ToBlocked, Back, End, Ask, Stop, Read, Go, AddCaps, Relinquish, GetCaps, SetEnvWord, GetEnvWord}
 use Rattle.ti_types.specs.declared.event.Outcome.{Outcome}
 use Rattle.ti_types.specs.declared.event.Outcome.TheVariants as outcome
 use Rattle.ti_types.specs.declared.answer.Answer.{Answer}
 use Rattle.ti_types.specs.declared.answer.Answer.TheVariants as answer
 use Rattle.ti_types.specs.declared.error.TiError.TheVariants.{InvalidEnvironment, OutOfMemory}
 use Rattle.ti_types.specs.Answer.{said}
-use Rattle.ti_replay.specs.Admission.{Happening}
-use Rattle.ti_replay.specs.Events.{outcome_of}
-
--- the thread of an event. One about an environment alone has none, and counts as thread 0's
-abbrev pub thread_of : Event → ThreadNo
-thread_of (Start t) = t
-thread_of (Own t step) = t
-thread_of (Poll t) = t
-thread_of (ToNative t) = t
-thread_of (ToBlocked t kind) = t
-thread_of (Back t) = t
-thread_of (End t) = t
-thread_of (Ask e t call) = t
-thread_of (Stop e t) = t
-thread_of (Read e t max_count) = t
-thread_of (Go e t) = t
-thread_of _ = record { 0 = 0 }
+use Rattle.ti_replay.specs.Admission.{Happening, caps_of}
+use Rattle.ti_replay.specs.Events.{caps_outcome, outcome_of}
 
 abbrev pub word_set : EnvNo → ℕ → Event → ℕ
 word_set env word (SetEnvWord e w) = if e.0 == env.0 then w else word
@@ -45,10 +29,24 @@ env_word env events = fold (env_word_after env) 0 events
 abbrev pub word_outcome : Limits → EnvNo → Answer → Option Outcome
 word_outcome limits e a = Some (outcome.Gave (if nat_lt e.0 limits.envs then a else answer.Refused InvalidEnvironment))
 
+-- an event at a thread by what it comes to there, one about an environment alone by that one's own events
 abbrev pub out_by : Limits → List Happening → List Happening → Happening → Event → Option Outcome
+out_by limits all front h (Start t) = outcome_of limits t all front h
+out_by limits all front h (Own t step) = outcome_of limits t all front h
+out_by limits all front h (Poll t) = outcome_of limits t all front h
+out_by limits all front h (ToNative t) = outcome_of limits t all front h
+out_by limits all front h (ToBlocked t kind) = outcome_of limits t all front h
+out_by limits all front h (Back t) = outcome_of limits t all front h
+out_by limits all front h (End t) = outcome_of limits t all front h
+out_by limits all front h (Ask e t call) = outcome_of limits t all front h
+out_by limits all front h (Stop e t) = outcome_of limits t all front h
+out_by limits all front h (Read e t max_count) = outcome_of limits t all front h
+out_by limits all front h (Go e t) = outcome_of limits t all front h
+out_by limits all front h (AddCaps e caps) = caps_outcome limits (caps_of e front) h.event
+out_by limits all front h (Relinquish e caps) = caps_outcome limits (caps_of e front) h.event
+out_by limits all front h (GetCaps e) = caps_outcome limits (caps_of e front) h.event
 out_by limits all front h (SetEnvWord e w) = word_outcome limits e answer.Done
 out_by limits all front h (GetEnvWord e) = word_outcome limits e (answer.Word (env_word e front))
-out_by limits all front h event = outcome_of limits (thread_of event) all front h
 
 -- what an event comes to among all events, behind a front of them. None: it is not answered
 abbrev pub out_of : Limits → List Happening → List Happening → Happening → Option Outcome
