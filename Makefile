@@ -2,10 +2,14 @@
 # `make examples`, `make cases`, `make bench` and `make refused` run the program that `make run` has built: on the examples,
 # on all cases, on large documents (and a program that holds cells), and with each allocation refused in turn (and the
 # tests of a core so). `make edits` tries the edits that the gate leaves out.
-.PHONY: run test examples cases bench refused edits
+# `make try` runs the program on a first example without proving anything.
+.PHONY: run try test examples cases bench refused edits
 
 run:
 	cd crates/tiwalk && rt run < ../../examples/first.json
+
+try:
+	cd crates/tiwalk && rt try < ../../examples/first.json
 
 test:
 	python3 ci/edits.py --apply

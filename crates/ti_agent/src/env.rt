@@ -50,6 +50,19 @@ impl<'a> Env<'a> {
         Env { env, state, desks }
     }
 
+    /// Its desks, in the order of the threads' numbers. Their seats may go back to the owners' (`ThreadCell::rejoin`), and
+    /// what the environment kept for itself is gone (JVM TI 11, DisposeEnvironment, in so far).
+    pub fn into_desks(self) -> Vec<Desk<'a>>
+        ensures { result.items ≡ self.entry.desks }
+    {
+        let Env {
+            env: _,
+            state: _,
+            desks,
+        } = self;
+        desks
+    }
+
     /// Asks the thread a call that was admitted, and waits for its answer where it has to.
     fn ask_one<R: Wait>(&mut self, rt: &R, thread: ThreadNo, call: Call, buf: TraceBuf) -> Answer
         requires admitted { call_refusal self.old.state thread call ≡ None }
