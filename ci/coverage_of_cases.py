@@ -35,7 +35,7 @@ KINDS = ("monitor", "wait", "timed_wait", "sleep", "park", "timed_park")
 def words_of(table):
     text = pathlib.Path(SPECS[table]).read_text()
     if table == "errors":
-        return set(re.findall(r"^number_of \w+ = (\d+)$", text, re.M))
+        return set(re.findall(r"^number_of [\w.]+ = (\d+)$", text, re.M))
     return {word.replace("\\n", "\n") for word in re.findall(r'codes "([^"]*)"', text)}
 
 
