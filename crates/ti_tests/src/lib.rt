@@ -10,6 +10,8 @@ mod cells;
 #[cfg(test)]
 mod cores;
 #[cfg(test)]
+mod hand_overs;
+#[cfg(test)]
 mod lists;
 #[cfg(test)]
 mod memory;
