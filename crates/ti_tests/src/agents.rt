@@ -38,7 +38,11 @@ fn environment<'a>(
 }
 
 /// The seats of two environments.
-fn both(cell: &ThreadCell, limits: Limits, seats: Vec<EnvSeat>) -> Option<(EnvSeat, EnvSeat)>
+pub(crate) fn both(
+    cell: &ThreadCell,
+    limits: Limits,
+    seats: Vec<EnvSeat>,
+) -> Option<(EnvSeat, EnvSeat)>
     requires seats { seats.items ≡ env_seats cell.now (subject_of limits (record { 0 = 0 })) 2 }
     requires envs { limits.envs ≡ 2 }
     ensures first { IfSome result (λ s. IsNewSeat cell.now limits (record { 0 = 0 }) s.0) }

@@ -6,6 +6,7 @@ ghost use Rattle.ti_slot.specs.Tickets.{has};
 ghost use Rattle.ti_slot.specs.Waiting.{IsBufferOf};
 ghost use Rattle.ti_tests.specs.HandOvers.{MayCall};
 
+use crate::agents::both;
 use std::sync::Wait;
 use std::test::*;
 use ti_cell::{EnvSeat, OwnSeat, ThreadCell};
@@ -30,6 +31,13 @@ fn ask<R: Wait>(rt: &R, desk: &mut Desk<'_>, call: Call) -> Result<Ticket, Fail>
         return Err("the call waits for the thread".into());
     };
     Ok(ticket)
+}
+
+/// A hold of another environment, where there is one: it asks whether its stop stands, and adds nothing.
+fn hold_between<R: Wait>(rt: &R, other: &mut Option<Desk<'_>>) {
+    if let Some(desk) = other {
+        let _stands = desk.standing(rt);
+    }
 }
 
 /// The answer to a call that waited.
@@ -101,6 +109,7 @@ fn count_frames<'a, R: Wait>(
     rt: &R,
     running: Running<'a>,
     desk: &mut Desk<'_>,
+    other: &mut Option<Desk<'_>>,
 ) -> Result<Running<'a>, Fail>
     requires desk { MayCall desk.old.cell 3 desk.old }
     ensures desk { IfOk result (λ _. MayCall desk.old.cell 2 desk.new) }
@@ -108,7 +117,9 @@ fn count_frames<'a, R: Wait>(
 {
     let ticket = ask(rt, desk, Call::FrameCount)?;
     expect(desk.seen_len() == 2, "2 entries are seen")?;
+    hold_between(rt, other);
     let running = enter_and_poll(rt, running)?;
+    hold_between(rt, other);
     let Answer::Count(frames) = answer_to(rt, desk, ticket) else {
         return Err("it is a count".into());
     };
@@ -122,6 +133,7 @@ fn suspend<'a, R: Wait>(
     rt: &R,
     running: Running<'a>,
     desk: &mut Desk<'_>,
+    other: &mut Option<Desk<'_>>,
 ) -> Result<AtSafe<'a>, Fail>
     requires desk { MayCall desk.old.cell 2 desk.old }
     ensures desk { IfOk result (λ _. MayCall desk.old.cell 1 desk.new) }
@@ -131,7 +143,9 @@ fn suspend<'a, R: Wait>(
     expect(running.poll_clear(), "nobody calls for the thread")?;
     let ticket = ask(rt, desk, Call::Suspend)?;
     expect(desk.seen_len() == 7, "7 entries are seen")?;
+    hold_between(rt, other);
     let held = poll_and_rest(rt, running)?;
+    hold_between(rt, other);
     let Answer::Done = answer_to(rt, desk, ticket) else {
         return Err("it is done".into());
     };
@@ -140,7 +154,12 @@ fn suspend<'a, R: Wait>(
 }
 
 /// The thread may not return (206) until it is resumed, and then ends: its seat.
-fn resume_and_end<R: Wait>(rt: &R, held: AtSafe<'_>, desk: &mut Desk<'_>) -> Result<OwnSeat, Fail>
+fn resume_and_end<R: Wait>(
+    rt: &R,
+    held: AtSafe<'_>,
+    desk: &mut Desk<'_>,
+    other: &mut Option<Desk<'_>>,
+) -> Result<OwnSeat, Fail>
     requires desk { MayCall desk.old.cell 1 desk.old }
     ensures desk { IfOk result (λ _. desk.new.cell ≡ desk.old.cell) }
     ensures cell { IfOk result (λ s. s.cell ≡ held.entry.cell) }
@@ -150,22 +169,25 @@ fn resume_and_end<R: Wait>(rt: &R, held: AtSafe<'_>, desk: &mut Desk<'_>) -> Res
         return Err("the thread is suspended".into());
     };
     expect(error == TiError::Barred, "the error is 206")?;
+    hold_between(rt, other);
     let Answer::Done = resume(rt, desk) else {
         return Err("it is done".into());
     };
     expect(desk.seen_len() == 9, "9 entries are seen")?;
+    hold_between(rt, other);
     let Ok(running) = held.try_back(rt) else {
         return Err("the thread is resumed".into());
     };
     Ok(running.end(rt).into_seat())
 }
 
-/// What the thread and an environment do in turn: the seats that they have then.
+/// What the thread and an environment do in turn, with another's holds in between: the seats that they have then.
 fn in_turn<R: Wait>(
     rt: &R,
     cell: &ThreadCell,
     own: OwnSeat,
     seat: EnvSeat,
+    other: Option<Desk<'_>>,
 ) -> Result<(OwnSeat, EnvSeat), Fail>
     requires own { (own.cell ≡ cell.now) × (own.view.number ≡ 0) × (own.view.mine ≡ []) }
     requires seat { (seat.cell ≡ cell.now) × (seat.view.number ≡ 1) × (seat.view.mine ≡ []) }
@@ -174,10 +196,14 @@ fn in_turn<R: Wait>(
     ensures seat { IfOk result (λ s. s.1.cell ≡ cell.now) }
 {
     let mut desk = Desk::new(cell, seat);
+    let mut other = other;
     let running = start(rt, cell, own)?;
-    let running = count_frames(rt, running, &mut desk)?;
-    let held = suspend(rt, running, &mut desk)?;
-    let own = resume_and_end(rt, held, &mut desk)?;
+    hold_between(rt, &mut other);
+    let running = count_frames(rt, running, &mut desk, &mut other)?;
+    hold_between(rt, &mut other);
+    let held = suspend(rt, running, &mut desk, &mut other)?;
+    hold_between(rt, &mut other);
+    let own = resume_and_end(rt, held, &mut desk, &mut other)?;
     Ok((own, desk.into_seat()))
 }
 
@@ -199,8 +225,25 @@ fn a_thread_hands_over_to_one_environment(rt: HostRuntime) -> Result<(), Fail> {
         return Err("there is memory".into());
     };
     let seat = seats.pop().ok_or("there is an environment")?;
-    let (own, seat) = in_turn(&rt, &cell, own, seat)?;
+    let (own, seat) = in_turn(&rt, &cell, own, seat, None)?;
     let slot = close(cell, own, seat).ok_or("all seats are back")?;
+    assert_eq!(rt; slot.len(), 11);
+    Ok(())
+}
+
+/// Another environment's holds in between change none of it.
+#[test]
+fn another_environment_holds_in_between(rt: HostRuntime) -> Result<(), Fail> {
+    let Some(limits) = Limits::new(2, 2, 4, 32, 8) else {
+        return Err("the limits are in range".into());
+    };
+    let Ok((cell, own, seats)) = ThreadCell::make(rt.alloc(), limits, ThreadNo(0)) else {
+        return Err("there is memory".into());
+    };
+    let (seat, second) = both(&cell, limits, seats).ok_or("there are two environments")?;
+    let other = Desk::new(&cell, second);
+    let (own, seat) = in_turn(&rt, &cell, own, seat, Some(other))?;
+    let slot = close(cell, own, seat).ok_or("the thread's seat is back")?;
     assert_eq!(rt; slot.len(), 11);
     Ok(())
 }
