@@ -1,3 +1,5 @@
 pub mod Replied
 pub mod Posting
 pub mod Whole
+pub mod Listing
+pub mod Tracing

@@ -1,5 +1,5 @@
 -- A call at one thread of a list after another.
-use Rattle.std.proofs.Common.{◌≡◌, ◌≢◌, ℕ, zero, suc, ◌+◌, ◌<◌, ◌==◌, ◌&&◌, ◌||◌, Bool, true, false, inl, inr, List, [], ◌∷◌, ◌++◌, length, take, drop, refl, ap, sym, ◌∙◌, arith, subst, Some, None, Option, get_or}
+use Rattle.std.proofs.Common.{◌≡◌, ◌≢◌, ℕ, zero, suc, ◌<◌, true, false, inl, inr, List, [], ◌∷◌, ◌++◌, length, drop, refl, ap, sym, ◌∙◌, arith, subst, Some, None, Option, get_or}
 use Rattle.std.specs.Prelude.{slice_get, slice_index_or, slice_set}
 use Rattle.std.proofs.lemmas.Bool.{cases_eq, cases_Bool}
 use Rattle.std.proofs.lemmas.Bool.Decides.{nat_tests}
@@ -15,7 +15,7 @@ use Rattle.ti_env.specs.Env.{call_refusal}
 use Rattle.ti_types.specs.declared.error.TiError.{TiError}
 use Rattle.ti_handshake.specs.Call.{ticket_told}
 use Rattle.ti_handshake.specs.Desk.{Place}
-use Rattle.ti_vmop.proofs.Each.{at_index, set_here}
+use Rattle.ti_vmop.proofs.Each.{at_index}
 use Rattle.ti_agent.specs.Env.{Environment}
 use Rattle.ti_agent.specs.declared.lists.Posted.{Posted}
 use Rattle.ti_agent.specs.declared.lists.Posted.TheVariants.{Code, Waits}

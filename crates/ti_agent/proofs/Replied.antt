@@ -1,5 +1,5 @@
 -- The reply at the place of a call is an answer to that call.
-use Rattle.std.proofs.Common.{◌≡◌, ℕ, ◌+◌, ◌<◌, ◌≤◌, ◌==◌, ◌&&◌, Bool, true, false, List, [], ◌∷◌, ◌++◌, length, refl, ap, sym, ◌∙◌, arith, subst, append_assoc, inl, inr, Option, Some, None, if◌then◌else◌, ℤ}
+use Rattle.std.proofs.Common.{◌≡◌, ℕ, ◌+◌, ◌<◌, ◌==◌, ◌&&◌, Bool, true, false, List, [], ◌∷◌, ◌++◌, length, refl, ap, sym, ◌∙◌, arith, subst, inl, inr, Option, Some, None, if◌then◌else◌, ℤ}
 use Rattle.std.specs.Prelude.{slice_get}
 use Rattle.std.specs.List.{enumerate_from}
 use Rattle.std.proofs.lemmas.Bool.{cases_Bool}
@@ -8,8 +8,6 @@ use Rattle.ti_types.specs.declared.answer.Answer.{Answer}
 use Rattle.ti_types.specs.declared.call.Call.{Call}
 use Rattle.ti_types.specs.declared.call.Call.TheVariants as call
 use Rattle.ti_types.specs.declared.entry.Entry.{Entry}
-use Rattle.ti_types.specs.declared.entry.Entry.TheVariants.{Asked}
-use Rattle.ti_types.specs.declared.limits.Limits.{Limits}
 use Rattle.ti_types.specs.declared.numbers.EnvNo.{EnvNo}
 use Rattle.ti_types.specs.declared.place.Frame.{Frame}
 use Rattle.ti_types.specs.declared.view.ThreadView.{ThreadView}
@@ -18,8 +16,7 @@ use Rattle.ti_types.specs.Pops.{popping_refusal, pop_refusal}
 use Rattle.ti_replay.specs.Answers.{or_zero, answer_of, first_of_trace, trace_from, location_of, is_alive, done_or}
 use Rattle.ti_replay.specs.Settling.{Placed, placed, settle, settled, put_behind, runs_after, is_waiting_call, hands_over}
 use Rattle.ti_replay.specs.View.{new_thread, after}
-use Rattle.ti_replay.specs.Replies.{reply, reply_from, answer_to}
-use Rattle.ti_replay.proofs.HistoryLaws.{enumerate_from-append}
+use Rattle.ti_replay.specs.Replies.{reply_from, answer_to}
 use Rattle.ti_cell.specs.declared.view.View.{View}
 use Rattle.ti_handshake.specs.Call.{IsAnswered, next_call}
 use Rattle.ti_agent.specs.Asks.{IsKind, is_for_memory}
@@ -32,9 +29,9 @@ AllAt place x (p ∷ s) = (p.0 ≡ place → p.1 ≡ x) × AllAt place x s
 all_put : (place : ℕ) (x : Entry) (c : Placed) (s : List Placed) → (c.0 ≡ place → c.1 ≡ x) → AllAt place x s → AllAt place x (put_behind c s)
 all_put place x c [] h k = tt
 all_put place x c (p ∷ s) h k = elim (cases_Bool (hands_over p)) [
-    | inl e ↦ subst (λ (b : Bool). AllAt place x (if b then p ∷ c ∷ s else p ∷ put_behind c s)) (sym e) (k.0, (h, k.1))
-    | inr e ↦ subst (λ (b : Bool). AllAt place x (if b then p ∷ c ∷ s else p ∷ put_behind c s)) (sym e) (k.0, all_put place x c s h k.1)
-  ]
+  | inl e ↦ subst (λ (b : Bool). AllAt place x (if b then p ∷ c ∷ s else p ∷ put_behind c s)) (sym e) (k.0, (h, k.1))
+  | inr e ↦ subst (λ (b : Bool). AllAt place x (if b then p ∷ c ∷ s else p ∷ put_behind c s)) (sym e) (k.0, all_put place x c s h k.1)
+]
 
 all_settle : (place : ℕ) (x : Entry) (r : Bool) (s : List Placed) → AllAt place x s → AllAt place x (settle r s)
 all_settle place x r [] k = tt

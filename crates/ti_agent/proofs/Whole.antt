@@ -1,5 +1,5 @@
 -- What is true of an environment stays true.
-use Rattle.std.proofs.Common.{◌≡◌, ◌≢◌, ℕ, zero, suc, ◌+◌, ◌-◌, ◌<◌, ◌≤◌, ◌==◌, Bool, true, false, inl, inr, List, [], ◌∷◌, ◌++◌, length, refl, ap, sym, ◌∙◌, arith, subst, Some, None, nat_lt, length-set}
+use Rattle.std.proofs.Common.{◌≡◌, ◌≢◌, ℕ, zero, suc, ◌+◌, ◌-◌, ◌<◌, ◌≤◌, false, inl, inr, List, [], ◌∷◌, ◌++◌, length, refl, ap, sym, ◌∙◌, arith, subst, Some, None, length-set}
 use Rattle.std.specs.Prelude.{slice_get, slice_index_or, slice_set, slice_index}
 use Rattle.std.proofs.lemmas.Bool.{cases_eq}
 use Rattle.std.proofs.lemmas.Bool.Decides.{nat_tests}
@@ -12,11 +12,10 @@ use Rattle.ti_types.specs.declared.limits.Limits.{Limits}
 use Rattle.ti_types.specs.declared.numbers.EnvNo.{EnvNo}
 use Rattle.ti_types.specs.declared.numbers.ThreadNo.{ThreadNo}
 use Rattle.ti_types.specs.Frames as buffer
-use Rattle.ti_env.specs.Env.{EnvValue, call_refusal, left_at, spent_at, with_spent, with_caps}
+use Rattle.ti_env.specs.Env.{EnvValue, call_refusal, spent_at, with_spent, with_caps}
 use Rattle.ti_replay.specs.Legal.{calls_spent}
 use Rattle.ti_slot.specs.Waiting.{IsBufferOf}
 use Rattle.ti_cell.specs.View.{subject_of}
-use Rattle.ti_cell.specs.declared.view.View.{View}
 use Rattle.ti_cell.proofs.Goes.{spent_more}
 use Rattle.ti_handshake.specs.Call.{GoesOn, HoldsWith, WaitsWith, IsTold, next_call, ticket_told}
 use Rattle.ti_types.specs.declared.event.Ticket.{Ticket}
@@ -24,7 +23,7 @@ use Rattle.ti_slot.specs.declared.asked.Asked.{Asked as AskedOf}
 use Rattle.ti_agent.specs.Lists.{Posts}
 use Rattle.ti_handshake.specs.Desk.{Place, IsSame}
 use Rattle.ti_vmop.specs.Stops.{stops_by, stops_after}
-use Rattle.ti_vmop.proofs.Each.{at_index, set_here, in_range}
+use Rattle.ti_vmop.proofs.Each.{at_index, set_here}
 use Rattle.ti_agent.specs.Env.{Environment, IsDesk, IsWhole}
 use Rattle.std.proofs.Common.{append-nil}
 use Rattle.ti_agent.specs.Asks.{Asks, Went, IsCalled, IsCalledBy, refusal_of, is_for_memory}
@@ -54,14 +53,14 @@ has_buffer s thread c p b whole h e has =
     let k = whole.desks thread.0 p (desk_at s thread c p whole h e) in
     subst (λ (x : Limits). IsBufferOf x c b) (sym (ap (λ x. x.limits) k.about)) has
 
-set_there : (l : List Place) (t i : ℕ) (x w : Place) → t ≢ i → slice_get (slice_set l t x) i ≡ Some w → slice_get l i ≡ Some w
+pub set_there : (l : List Place) (t i : ℕ) (x w : Place) → t ≢ i → slice_get (slice_set l t x) i ≡ Some w → slice_get l i ≡ Some w
 set_there [] t i x w n e = e
 set_there (y ∷ ys) zero zero x w n e = absurd (n refl)
 set_there (y ∷ ys) zero (suc i) x w n e = e
 set_there (y ∷ ys) (suc t) zero x w n e = e
 set_there (y ∷ ys) (suc t) (suc i) x w n e = set_there ys t i x w (λ h. n (ap suc h)) e
 
-set_other : (l : List ℕ) (i j v : ℕ) → i ≢ j → slice_index (slice_set l i v) j ≡ slice_index l j
+pub set_other : (l : List ℕ) (i j v : ℕ) → i ≢ j → slice_index (slice_set l i v) j ≡ slice_index l j
 set_other [] i j v n = refl
 set_other (x ∷ xs) zero zero v n = absurd (n refl)
 set_other (x ∷ xs) zero (suc j) v n = refl
@@ -103,14 +102,14 @@ whole_after s thread c p q state whole h e spend same_place goes_on more = subst
 
     desks : (i : ℕ) (w : Place) → slice_get (slice_set s.desks thread.0 q) i ≡ Some w → IsDesk (after_call s thread (with_spent s.state thread) q) i w
     desks i w f = elim (cases_eq thread.0 i) [
-        | inl same ↦
+      | inl same ↦
           let is : q ≡ w = set_here s.desks thread.0 q w (ap (slice_get (slice_set s.desks thread.0 q)) same ∙ f) in
           subst (λ (x : Place). IsDesk (after_call s thread (with_spent s.state thread) q) i x) is (here i same)
-        | inr other ↦
+      | inr other ↦
           let old = whole.desks i w (set_there s.desks thread.0 i q w other f) in
           let spent : slice_index (with_spent s.state thread).spent i ≡ slice_index s.state.spent i = set_other s.state.spent thread.0 i (spent_at s.state thread + 1) other in
           record { env_is = old.env_is; about = old.about; free = old.free; paid = omega (arith, old.paid, spent) }
-      ]
+    ]
 
     done : IsWhole (after_call s thread (with_spent s.state thread) q)
     done = record {
@@ -192,14 +191,14 @@ whole_seen s t p q tickets whole at same hold = record {
 
     desks : (i : ℕ) (w : Place) → slice_get (slice_set s.desks t q) i ≡ Some w → IsDesk (record { env = s.env; state = s.state; desks = slice_set s.desks t q }) i w
     desks i w f = elim (cases_eq t i) [
-        | inl e ↦
+      | inl e ↦
           let is : q ≡ w = set_here s.desks t q w (ap (slice_get (slice_set s.desks t q)) e ∙ f) in
           let there : IsDesk s i w = subst (λ (z : ℕ × Place). IsDesk s z.0 z.1) (λ j. (e j, is j)) here in
           record { env_is = there.env_is; about = there.about; free = there.free; paid = there.paid }
-        | inr other ↦
+      | inr other ↦
           let old = whole.desks i w (set_there s.desks t i q w other f) in
           record { env_is = old.env_is; about = old.about; free = old.free; paid = old.paid }
-      ]
+    ]
 
 pub desk_there : (s : Environment) (t : ℕ) (p : Place) → t < length s.desks → p ≡ slice_index_or s.desks t p → slice_get s.desks t ≡ Some p
 desk_there s t p h e = at_index s.desks t p h ∙ ap (λ (x : Place). Some x) (sym e)

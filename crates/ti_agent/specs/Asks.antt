@@ -1,6 +1,5 @@
 -- What one call of an environment comes to.
-use Rattle.std.specs.Prelude.{ℕ, ◌≡◌, Bool, true, false, ◌&&◌, not, List, [], ◌∷◌, ◌++◌, Option, Some, None, slice_get, slice_set, Result, Ok, Err}
-use Rattle.ti_types.specs.Answer.{said}
+use Rattle.std.specs.Prelude.{ℕ, ◌≡◌, Bool, true, false, ◌&&◌, not, [], ◌∷◌, ◌++◌, Option, Some, None, slice_get, slice_set, Result, Ok, Err}
 use Rattle.ti_types.specs.Frames as buffer
 use Rattle.ti_types.specs.Frames.{bare_trace}
 use Rattle.ti_types.specs.declared.answer.Answer.{Answer}

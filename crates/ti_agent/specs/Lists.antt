@@ -1,6 +1,6 @@
 -- What a call at each thread of a list comes to: it is posted at one thread after another, and then each that waits is
 -- collected, in the same order.
-use Rattle.std.specs.Prelude.{ℕ, ◌≡◌, Bool, true, false, List, [], ◌∷◌, ◌++◌, Option, Some, None, slice_get, slice_set}
+use Rattle.std.specs.Prelude.{ℕ, ◌≡◌, true, false, List, [], ◌∷◌, ◌++◌, Option, Some, None, slice_get, slice_set}
 use Rattle.ti_types.specs.Answer.{said}
 use Rattle.ti_types.specs.declared.answer.Answer.{Answer}
 use Rattle.ti_types.specs.declared.answer.Answer.TheVariants as answer

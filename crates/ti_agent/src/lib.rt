@@ -5,10 +5,14 @@
 //!
 //! - A call that reaches no thread is refused from what the environment itself keeps, and changes nothing.
 //! - Any other adds its one entry to the desk of its thread, spends one call there, and answers what that desk answered.
+//! - A trace of all threads stops each of them before it reads the first, lets none go before it has read the last, and
+//!   takes all of its memory before any stop.
 #![tactic(auto)]
 
 mod answers;
 mod env;
 mod lists;
+mod traces;
 
 pub use env::Env;
+pub use traces::StackInfo;

@@ -1,6 +1,5 @@
-use Rattle.std.proofs.Common.{◌≡◌, ◌∙◌, sym, subst, ap, refl, None}
+use Rattle.std.proofs.Common.{◌≡◌, sym, subst, refl, None}
 use Rattle.ti_types.specs.Answer.{said}
-use Rattle.ti_types.specs.declared.answer.Answer.{Answer}
 use Rattle.ti_env.specs.Env.{call_refusal}
 use Rattle.ti_slot.specs.Waiting.{IsBufferOf}
 use Rattle.ti_agent.specs.Env.{Environment}
@@ -36,7 +35,7 @@ returns-clause-went g c =
     let e = c.call.ensures in
     let k : Asks c.index_mut.result.now c.call.new.self c.args.call (said c.call.result) = record { same = e.same; goes = e.goes; mine = e.mine; posted = e.posted; answer = e.answer } in
     subst (λ (x : Environment). Went x (after_call s c.args.thread c.spend.new.self c.call.new.self) c.args.thread c.args.call (said c.call.result)) c.self.view_is
-      (went s (after_call s c.args.thread c.spend.new.self c.call.new.self) c.args.thread c.args.call c.index_mut.result.now c.call.new.self (said c.call.result) c.spend.new.self c.self.invariant free c.index_mut.ensures.value c.spend.ensures k refl)
+    (went s (after_call s c.args.thread c.spend.new.self c.call.new.self) c.args.thread c.args.call c.index_mut.result.now c.call.new.self (said c.call.result) c.spend.new.self c.self.invariant free c.index_mut.ensures.value c.spend.ensures k refl)
 
 pub returns-clause-kind : goal.returns-clause-kind
 returns-clause-kind g c = answered_kind _ _ _ c.args.call (said c.call.result) c.call.ensures.answer

@@ -1,5 +1,5 @@
-use Rattle.std.proofs.Common.{◌≡◌, sym, subst, List}
-use Rattle.ti_agent.specs.Lists.{CollectsEach, WentEach}
+use Rattle.std.proofs.Common.{subst, List}
+use Rattle.ti_agent.specs.Lists.{CollectsEach}
 use Rattle.ti_agent.specs.declared.lists.Posted.{Posted}
 use Rattle.ti_agent.proofs.env.Env.call_each.Goals as goal
 

@@ -1,8 +1,5 @@
-use Rattle.std.proofs.Common.{rules, ◌≡◌, ◌<◌, ◌∙◌, true, false, length, sym, ap, subst, refl, Some}
-use Rattle.std.specs.Prelude.{slice_get}
+use Rattle.std.proofs.Common.{rules, sym, subst, refl}
 use Rattle.ti_types.specs.Answer.{said}
-use Rattle.ti_slot.specs.Tickets.{has, without_ticket}
-use Rattle.ti_handshake.specs.Desk.{Place}
 use Rattle.ti_agent.specs.Env.{Environment}
 use Rattle.ti_agent.specs.Lists.{Collects, IsOut}
 use Rattle.ti_agent.proofs.Whole.{whole_seen, seen_call}

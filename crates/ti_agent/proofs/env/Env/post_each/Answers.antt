@@ -1,8 +1,7 @@
-use Rattle.std.proofs.Common.{rules, arith, ◌≡◌, ◌<◌, ◌+◌, ◌++◌, ◌∷◌, [], length, take, get_or, sym, ap, subst, ◌∙◌, length-append, List}
+use Rattle.std.proofs.Common.{rules, ◌≡◌, ◌<◌, ◌+◌, ◌++◌, ◌∷◌, [], length, take, get_or, sym, ap, subst, ◌∙◌, length-append, List}
 use Rattle.std.proofs.lemmas.Grind.{take_at_read}
-use Rattle.std.proofs.lemmas.List.{take_all}
 use Rattle.ti_types.specs.declared.numbers.ThreadNo.{ThreadNo}
-use Rattle.ti_agent.specs.Lists.{PostsEach, AreOpen, IsPosted}
+use Rattle.ti_agent.specs.Lists.{PostsEach, AreOpen}
 use Rattle.ti_agent.specs.declared.lists.Posted.{Posted}
 use Rattle.ti_agent.proofs.Posting.{posts_more, open_more}
 use Rattle.ti_agent.proofs.env.Env.post_each.Goals as goal

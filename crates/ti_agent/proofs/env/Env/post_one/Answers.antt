@@ -25,5 +25,5 @@ returns g c =
     let e = c.post.ensures in
     record {
       posts = subst (λ (x : Environment). Posts x (after_call s c.args.thread c.spend.new.self c.post.new.self) c.args.thread c.args.call c.post.result) c.self.view_is
-        (posts s (after_call s c.args.thread c.spend.new.self c.post.new.self) c.args.thread c.args.call c.index_mut.result.now c.post.new.self c.post.result c.spend.new.self c.self.invariant free c.index_mut.ensures.value c.spend.ensures e.same e.hold e.told refl);
+          (posts s (after_call s c.args.thread c.spend.new.self c.post.new.self) c.args.thread c.args.call c.index_mut.result.now c.post.new.self c.post.result c.spend.new.self c.self.invariant free c.index_mut.ensures.value c.spend.ensures e.same e.hold e.told refl);
     }

@@ -1,0 +1,395 @@
+-- An environment while its threads are stopped, read and let go.
+use Rattle.std.proofs.Common.{◌≡◌, ◌≢◌, ℕ, ℤ, zero, suc, ◌+◌, ◌-◌, ◌<◌, ◌≤◌, Bool, true, false, inl, inr, List, [], ◌∷◌, ◌++◌, length, map, take, drop, refl, ap, sym, ◌∙◌, arith, subst, eq-eqb, ne_eqb, nat_lt, length-set, length-append, append_assoc, Some, if◌then◌else◌}
+use Rattle.std.specs.Prelude.{slice_get, slice_index_or, slice_index}
+use Rattle.std.proofs.lemmas.Bool.{cases_eq, cases_Bool}
+use Rattle.std.proofs.lemmas.Bool.Decides.{nat_tests}
+use Rattle.std.proofs.lemmas.List.Sums.{fold-append, sum_by-append}
+use Rattle.ti_types.specs.declared.entry.Entry.{Entry}
+use Rattle.ti_types.specs.declared.entry.Entry.TheVariants.{Stop, Read, Go}
+use Rattle.ti_types.specs.declared.limits.Limits.{Limits}
+use Rattle.ti_types.specs.declared.numbers.EnvNo.{EnvNo}
+use Rattle.ti_types.specs.declared.numbers.ThreadNo.{ThreadNo}
+use Rattle.ti_types.specs.Frames as buffer
+use Rattle.ti_types.specs.Numbers.{or_zero}
+use Rattle.ti_env.specs.Env.{EnvValue, left_at, spent_at, with_spent}
+use Rattle.ti_env.proofs.LeftLaws.{left_is, left_some}
+use Rattle.ti_replay.specs.Legal.{calls_spent, call_cost}
+use Rattle.ti_replay.specs.Standing.{is_standing}
+use Rattle.ti_cell.specs.View.{subject_of}
+use Rattle.ti_slot.specs.Waiting.{HasRoomFor}
+use Rattle.ti_handshake.specs.Desk.{Place}
+use Rattle.ti_vmop.specs.Stops.{stops_by, stops_after}
+use Rattle.ti_vmop.specs.Turns.{Listed, is_listed, AreDistinct, AreThere, are_paid, MayStop, MayRead, AreOneEnvironments, spend_all, AtEach, AllStand, IsRead}
+use Rattle.ti_vmop.proofs.Each.{in_range, untouched}
+use Rattle.ti_vmop.proofs.Uses.{was_there, has_added, unlisted_stays, spent_then, more_spent}
+use Rattle.ti_agent.specs.Env.{Environment, IsDesk, IsWhole}
+use Rattle.ti_agent.specs.Traces.{Telling, ReadsOne, ReadsEach, told_stack, told_alive, Told, IsHeld, AreHeld, times, AreLeft, AreRoomy, HasRead, told_info, all_once}
+use Rattle.std.proofs.lemmas.List.{map-append}
+use Rattle.ti_vmop.specs.Turns.{Stood, with_reads, one_read_more}
+use Rattle.std.specs.Prelude.{◌^◌}
+use Rattle.ti_agent.specs.declared.traces.StackInfo.{StackInfo}
+use Rattle.ti_agent.proofs.Whole.{set_other}
+use Rattle.ti_agent.proofs.Listing.{few_then, times_none, times_once, listed_all, distinct_all, there_all}
+
+-- Before the stops
+
+pub may_stop : (s : Environment) (i : ℕ) (p : Place) → IsWhole s → slice_get s.desks i ≡ Some p → MayStop p.view.subject.limits s.state p (record { 0 = i })
+may_stop s i p whole at =
+    let d = whole.desks i p at in
+    let left = left_is s.state (record { 0 = i }) (let r = in_range s.desks i p at in omega (arith, r, whole.count)) in
+    let calls : p.view.subject.limits.calls ≡ s.state.limits.calls = ap (λ x. x.limits.calls) d.about in
+    record { free = d.free; paid = omega (arith, d.paid, left, calls) }
+
+pub one_environment : (s : Environment) → IsWhole s → AreOneEnvironments s.desks
+one_environment s whole i p q first at =
+    let d = whole.desks i p at in
+    let o = whole.desks 0 q first in
+    let limits : s.state.limits ≡ q.view.subject.limits = sym (ap (λ x. x.limits) o.about) in
+    (d.env_is ∙ sym o.env_is, d.about ∙ ap (λ (l : Limits). subject_of l (record { 0 = i })) limits)
+
+first_desk : (l : List Place) → 0 < length l → (p : Place) × (slice_get l 0 ≡ Some p)
+first_desk [] h = absurd (omega (arith, h))
+first_desk (x ∷ l) h = (x, refl)
+
+-- the number that the first desk has is the environment's
+pub same_env : (s : Environment) (e : EnvNo) → IsWhole s → ((p : Place) → slice_get s.desks 0 ≡ Some p → e ≡ p.env) → e ≡ s.env
+same_env s e whole is =
+    let f = first_desk s.desks whole.some in
+    is f.0 f.1 ∙ (whole.desks 0 f.0 f.1).env_is
+
+pub distinct_in : (l : Listed) (n : ℕ) → l ≡ all_once n → AreDistinct l
+distinct_in l n is = subst AreDistinct (sym is) (distinct_all n)
+
+pub there_in : (l : Listed) (n m : ℕ) → l ≡ all_once n → n ≡ m → AreThere m l
+there_in l n m is same = subst (λ (z : ℕ × Listed). AreThere z.0 z.1) (λ j. (same j, sym is j)) (there_all n)
+
+-- What the stops spend
+
+pub limits_all : (s : EnvValue) (l : Listed) → (spend_all s l).limits ≡ s.limits
+limits_all s [] = refl
+limits_all s (y ∷ l) = limits_all (with_spent s y.0) l
+
+count_spent : (s : EnvValue) (l : Listed) → length (spend_all s l).spent ≡ length s.spent
+count_spent s [] = refl
+count_spent s (y ∷ l) = count_spent (with_spent s y.0) l ∙ length-set s.spent y.0.0 (spent_at s y.0 + 1)
+
+spent_listed : (s : EnvValue) (l : Listed) (n i : ℕ) → AreDistinct l → AreThere n l → length s.spent ≡ n → is_listed i l ≡ true → spent_at (spend_all s l) (record { 0 = i }) ≡ spent_at s (record { 0 = i }) + 1
+spent_listed s [] n i d t count h = cc
+spent_listed s (y ∷ l) n i d t count h =
+    let here : y.0.0 < n = grind (arith, nat_tests, t) in
+    elim (cases_eq y.0.0 i) [
+      | inl same ↦
+          let gone : is_listed i l ≡ false = subst (λ (j : ℕ). is_listed j l ≡ false) same d.0 in
+          let u = untouched (with_spent s y.0) l (record { 0 = i }) gone in
+          let now : slice_index (with_spent s y.0).spent i ≡ slice_index s.spent i + 1 = subst (λ (j : ℕ). slice_index (with_spent s y.0).spent j ≡ slice_index s.spent j + 1) same (spent_then s y.0 (omega (arith, here, count))) in
+          u.spent ∙ now
+      | inr other ↦
+          let rest : is_listed i l ≡ true = grind (arith, ne_eqb y.0.0 i other, h) in
+          let there : AreThere n l = grind (arith, t) in
+          let still : slice_index (with_spent s y.0).spent i ≡ slice_index s.spent i = set_other s.spent y.0.0 i (spent_at s y.0 + 1) other in
+          spent_listed (with_spent s y.0) l n i d.1 there (length-set s.spent y.0.0 (spent_at s y.0 + 1) ∙ count) rest ∙ ap (λ (v : ℕ). v + 1) still
+    ]
+
+pub paid_listed : (s : EnvValue) (l : Listed) (i : ℕ) → are_paid s l ≡ true → is_listed i l ≡ true → 0 < left_at s (record { 0 = i })
+paid_listed s [] i paid h = cc
+paid_listed s (y ∷ l) i paid h =
+    elim (cases_eq y.0.0 i) [
+      | inl same ↦
+          let some : 0 < left_at s y.0 = grind (arith, nat_tests, paid) in
+          subst (λ (j : ℕ). 0 < left_at s (record { 0 = j })) same some
+      | inr other ↦
+          let rest : is_listed i l ≡ true = grind (arith, ne_eqb y.0.0 i other, h) in
+          let still : are_paid s l ≡ true = grind (arith, paid) in
+          paid_listed s l i still rest
+    ]
+
+stop_costs : (env : EnvNo) → call_cost env (Stop env) ≡ 1
+stop_costs env = ap (λ (b : Bool). if b then 1 else 0) (eq-eqb env.0 env.0 refl)
+
+read_costs : (env : EnvNo) (m : ℤ) → call_cost env (Read env m) ≡ 1
+read_costs env m = ap (λ (b : Bool). if b then 1 else 0) (eq-eqb env.0 env.0 refl)
+
+stops_go : (env : EnvNo) (mine : List Entry) → stops_by env (mine ++ Go env ∷ []) ≡ false
+stops_go env mine = fold-append (stops_after env) false mine (Go env ∷ []) ∙ ap (λ (b : Bool). if b then false else stops_by env mine) (eq-eqb env.0 env.0 refl)
+
+go_costs : (env : EnvNo) (mine : List Entry) → calls_spent env (mine ++ Go env ∷ []) ≡ calls_spent env mine
+go_costs env mine = sum_by-append (call_cost env) mine (Go env ∷ []) ∙ omega arith
+
+-- Behind the stops
+
+abbrev pub with_desks : Environment → EnvValue → List Place → Environment
+with_desks s state desks = record { env = s.env; state = state; desks = desks }
+
+pub held_after_stops : (s : Environment) (l : Listed) (z : EnvValue) (ds : List Place) → IsWhole s → AreDistinct l → AreThere (length s.desks) l → are_paid s.state l ≡ true → z ≡ spend_all s.state l
+    → AtEach l s.desks ds (λ e. Stop e ∷ []) → AllStand l ds → AreHeld (with_desks s z ds) l
+held_after_stops s l z ds whole distinct there paid spends each stand = record {
+  count = ap (λ (v : EnvValue). length v.spent) spends ∙ (count_spent s.state l ∙ (whole.count ∙ sym each.0));
+  some = omega (arith, whole.some, each.0);
+  desks = one;
+}
+  where
+    limits : z.limits ≡ s.state.limits
+    limits = ap (λ (v : EnvValue). v.limits) spends ∙ limits_all s.state l
+
+    listed : (i : ℕ) (p q : Place) → is_listed i l ≡ true → slice_get s.desks i ≡ Some p → slice_get ds i ≡ Some q → IsHeld (with_desks s z ds) l i q
+    listed i p q is at e =
+        let h = has_added l s.desks ds (λ e. Stop e ∷ []) i p q each is at e in
+        let old = whole.desks i p at in
+        let calls : calls_spent q.env q.view.mine ≡ calls_spent p.env p.view.mine + 1 = (λ j. calls_spent (h.same.env j) (h.mine j)) ∙ more_spent p.env p.view.mine (Stop p.env) (stop_costs p.env) in
+        let spent : spent_at z (record { 0 = i }) ≡ spent_at s.state (record { 0 = i }) + 1 = ap (λ (v : EnvValue). spent_at v (record { 0 = i })) spends ∙ spent_listed s.state l (length s.desks) i distinct there whole.count is in
+        let some : spent_at s.state (record { 0 = i }) < s.state.limits.calls = left_some s.state (record { 0 = i }) (paid_listed s.state l i paid is) in
+        let most : z.limits.calls ≡ s.state.limits.calls = ap (λ (v : Limits). v.calls) limits in
+        record {
+          env_is = h.same.env ∙ old.env_is;
+          about = h.goes.subject ∙ (old.about ∙ ap (λ (v : Limits). subject_of v (record { 0 = i })) (sym limits));
+          stands = λ b. stand i q e is;
+          free = λ no'. (let o : true ≡ false = sym is ∙ no' in cc);
+          paid = omega (arith, old.paid, calls, spent, some, most);
+        }
+
+    unlisted : (i : ℕ) (p q : Place) → is_listed i l ≡ false → slice_get s.desks i ≡ Some p → slice_get ds i ≡ Some q → IsHeld (with_desks s z ds) l i q
+    unlisted i p q is at e =
+        let still : q ≡ p = unlisted_stays l s.desks ds (λ e. Stop e ∷ []) i p q each is at e in
+        let old = whole.desks i p at in
+        let u = untouched s.state l (record { 0 = i }) is in
+        let spent : spent_at z (record { 0 = i }) ≡ spent_at s.state (record { 0 = i }) = ap (λ (v : EnvValue). spent_at v (record { 0 = i })) spends ∙ u.spent in
+        let most : z.limits.calls ≡ s.state.limits.calls = ap (λ (v : Limits). v.calls) limits in
+        let was : IsHeld (with_desks s z ds) l i p = record {
+          env_is = old.env_is;
+          about = old.about ∙ ap (λ (v : Limits). subject_of v (record { 0 = i })) (sym limits);
+          stands = λ yes'. (let o : true ≡ false = sym yes' ∙ is in cc);
+          free = λ b. old.free;
+          paid = omega (arith, old.paid, spent, most);
+        } in
+        subst (λ (x : Place). IsHeld (with_desks s z ds) l i x) (sym still) was
+
+    one : (i : ℕ) (q : Place) → slice_get ds i ≡ Some q → IsHeld (with_desks s z ds) l i q
+    one i q e =
+        let w = was_there l s.desks ds (λ e. Stop e ∷ []) i q each e in
+        elim (cases_Bool (is_listed i l)) [
+          | inl is ↦ listed i w.0 q is w.1 e
+          | inr is ↦ unlisted i w.0 q is w.1 e
+        ]
+
+-- what is left to each thread of all, behind the stops
+pub left_after_stops : (s z : EnvValue) (n : ℕ) → length s.spent ≡ n → are_paid s (all_once n) ≡ true → z ≡ spend_all s (all_once n) → AreThere n (all_once n) → AreLeft z (all_once n)
+left_after_stops s z n count paid spends there i =
+    let l = all_once n in
+    elim (cases_Bool (is_listed i l)) [
+      | inl is ↦
+          let within : i < n = (let h : nat_lt i n ≡ true = sym (listed_all i n) ∙ is in grind (arith, nat_tests, h)) in
+          let two : 2 ≤ left_at s (record { 0 = i }) = enough within in
+          let left : left_at s (record { 0 = i }) ≡ s.limits.calls - spent_at s (record { 0 = i }) = left_is s (record { 0 = i }) (omega (arith, within, count)) in
+          let spent : spent_at z (record { 0 = i }) ≡ spent_at s (record { 0 = i }) + 1 = ap (λ (v : EnvValue). spent_at v (record { 0 = i })) spends ∙ spent_listed s l n i (distinct_all n) there count is in
+          let many : length z.spent ≡ length s.spent = ap (λ (v : EnvValue). length v.spent) spends ∙ count_spent s l in
+          let most : z.limits.calls ≡ s.limits.calls = ap (λ (v : EnvValue). v.limits.calls) spends ∙ ap (λ (v : Limits). v.calls) (limits_all s l) in
+          let now : left_at z (record { 0 = i }) ≡ z.limits.calls - spent_at z (record { 0 = i }) = left_is z (record { 0 = i }) (omega (arith, within, count, many)) in
+          omega (arith, times_once i l (distinct_all n), two, left, spent, most, now)
+      | inr is ↦ omega (arith, times_none i l is)
+    ]
+  where
+    enough : i < n → 2 ≤ left_at s (record { 0 = i })
+    enough within =
+        elim (cases_Bool (nat_lt (left_at s (record { 0 = i })) 2)) [
+          | inl few ↦
+              let less : left_at s (record { 0 = i }) < 2 = grind (arith, nat_tests, few) in
+              let o : true ≡ false = sym paid ∙ few_then s i n within less in
+              cc
+          | inr many ↦ grind (arith, nat_tests, many)
+        ]
+
+pub left_in : (s z : EnvValue) (l : Listed) → l ≡ all_once (length s.spent) → are_paid s l ≡ true → z ≡ spend_all s l → AreLeft z l
+left_in s z l is paid spends =
+    let n = length s.spent in
+    subst (AreLeft z) (sym is) (left_after_stops s z n refl (ap (are_paid s) (sym is) ∙ paid) (spends ∙ ap (spend_all s) is) (there_all n))
+
+-- Reads
+
+pub may_read : (s : Environment) (l : Listed) (t : ThreadNo) (p : Place) (m : ℤ) (b : buffer.Trace) → AreHeld s l → is_listed t.0 l ≡ true → slice_get s.desks t.0 ≡ Some p → HasRoomFor s.state.limits (or_zero m) b
+    → MayRead s.env s.state p t m b
+may_read s l t p m b held listed at room =
+    let d = held.desks t.0 p at in
+    let left = left_is s.state t (let r = in_range s.desks t.0 p at in omega (arith, r, held.count)) in
+    let calls : p.view.subject.limits.calls ≡ s.state.limits.calls = ap (λ x. x.limits.calls) d.about in
+    record {
+      env_is = d.env_is;
+      stands = d.stands listed;
+      paid = omega (arith, d.paid, left, calls);
+      room = subst (λ (x : Limits). HasRoomFor x (or_zero m) b) (sym (ap (λ x. x.limits) d.about)) room;
+    }
+
+pub held_after_read : (s n : Environment) (l : Listed) (m : ℤ) (x : Telling) → AreHeld s l → is_listed x.thread.0 l ≡ true → 0 < left_at s.state x.thread → x.thread.0 < length s.desks → ReadsOne s n m x → AreHeld n l
+held_after_read s n l m x held is_in left there r = record {
+  count = ap (λ (v : EnvValue). length v.spent) r.state_is ∙ (length-set s.state.spent x.thread.0 (spent_at s.state x.thread + 1) ∙ (held.count ∙ sym r.desks.0));
+  some = omega (arith, held.some, r.desks.0);
+  desks = one;
+}
+  where
+    here : Listed
+    here = (x.thread, 0) ∷ []
+
+    limits : n.state.limits ≡ s.state.limits
+    limits = ap (λ (v : EnvValue). v.limits) r.state_is
+
+    most : n.state.limits.calls ≡ s.state.limits.calls
+    most = ap (λ (v : Limits). v.calls) limits
+
+    read : (i : ℕ) (p q : Place) → x.thread.0 ≡ i → slice_get s.desks i ≡ Some p → slice_get n.desks i ≡ Some q → IsHeld n l i q
+    read i p q same at e =
+        let listed : is_listed i ((x.thread, 0) ∷ []) ≡ true = grind (arith, eq-eqb x.thread.0 i same) in
+        let h = has_added ((x.thread, 0) ∷ []) s.desks n.desks (λ e. Read e m ∷ []) i p q r.desks listed at e in
+        let old = held.desks i p at in
+        let told : IsRead p q m x.answer = r.answer_is p q (subst (λ (j : ℕ). slice_get s.desks j ≡ Some p) (sym same) at) (subst (λ (j : ℕ). slice_get n.desks j ≡ Some q) (sym same) e) in
+        let calls : calls_spent q.env q.view.mine ≡ calls_spent p.env p.view.mine + 1 = (λ j. calls_spent (h.same.env j) (h.mine j)) ∙ more_spent p.env p.view.mine (Read p.env m) (read_costs p.env m) in
+        let first : slice_index n.state.spent x.thread.0 ≡ slice_index s.state.spent x.thread.0 + 1 = ap (λ (v : EnvValue). slice_index v.spent x.thread.0) r.state_is ∙ spent_then s.state x.thread (omega (arith, there, held.count)) in
+        let spent : slice_index n.state.spent i ≡ slice_index s.state.spent i + 1 = subst (λ (j : ℕ). slice_index n.state.spent j ≡ slice_index s.state.spent j + 1) same first in
+        let some : slice_index s.state.spent i < s.state.limits.calls = subst (λ (j : ℕ). slice_index s.state.spent j < s.state.limits.calls) same (left_some s.state x.thread left) in
+        record {
+          env_is = h.same.env ∙ (old.env_is ∙ sym r.env_is);
+          about = h.goes.subject ∙ (old.about ∙ ap (λ (v : Limits). subject_of v (record { 0 = i })) (sym limits));
+          stands = λ b. subst (λ (z : Limits × EnvNo). is_standing z.0 q.view.seen z.1 ≡ true) (λ j. ((sym h.goes.subject j).limits, sym h.same.env j)) told.stands;
+          free = λ no'. (let o : true ≡ false = sym is_in ∙ (ap (λ (j : ℕ). is_listed j l) same ∙ no') in cc);
+          paid = omega (arith, old.paid, calls, spent, some, most);
+        }
+
+    other_desk : (i : ℕ) (p q : Place) → x.thread.0 ≢ i → slice_get s.desks i ≡ Some p → slice_get n.desks i ≡ Some q → IsHeld n l i q
+    other_desk i p q apart at e =
+        let unlisted : is_listed i ((x.thread, 0) ∷ []) ≡ false = grind (arith, ne_eqb x.thread.0 i apart) in
+        let still : q ≡ p = unlisted_stays ((x.thread, 0) ∷ []) s.desks n.desks (λ e. Read e m ∷ []) i p q r.desks unlisted at e in
+        let old = held.desks i p at in
+        let spent : slice_index n.state.spent i ≡ slice_index s.state.spent i = ap (λ (v : EnvValue). slice_index v.spent i) r.state_is ∙ set_other s.state.spent x.thread.0 i (spent_at s.state x.thread + 1) apart in
+        let was : IsHeld n l i p = record {
+          env_is = old.env_is ∙ sym r.env_is;
+          about = old.about ∙ ap (λ (v : Limits). subject_of v (record { 0 = i })) (sym limits);
+          stands = old.stands;
+          free = old.free;
+          paid = omega (arith, old.paid, spent, most);
+        } in
+        subst (λ (v : Place). IsHeld n l i v) (sym still) was
+
+    one : (i : ℕ) (q : Place) → slice_get n.desks i ≡ Some q → IsHeld n l i q
+    one i q e =
+        let w = was_there ((x.thread, 0) ∷ []) s.desks n.desks (λ e. Read e m ∷ []) i q r.desks e in
+        elim (cases_eq x.thread.0 i) [
+          | inl same ↦ read i w.0 q same w.1 e
+          | inr apart ↦ other_desk i w.0 q apart w.1 e
+        ]
+
+-- what is left to the others, and to the same thread later
+pub left_then : (s z : EnvValue) (x : ThreadNo × ℕ) (rest : Listed) → AreLeft s (x ∷ rest) → z ≡ with_spent s x.0 → x.0.0 < length s.spent → AreLeft z rest
+left_then s z x rest left spends there i =
+    elim (cases_eq x.0.0 i) [
+      | inl same ↦
+          let more : times i (x ∷ rest) ≡ suc (times i rest) = grind (arith, eq-eqb x.0.0 i same) in
+          let now : slice_index z.spent i ≡ slice_index s.spent i + 1 = ap (λ (v : EnvValue). slice_index v.spent i) spends ∙ subst (λ (j : ℕ). slice_index (with_spent s x.0).spent j ≡ slice_index s.spent j + 1) same (spent_then s x.0 there) in
+          let was = left_is s (record { 0 = i }) (omega (arith, same, there)) in
+          let is = left_is z (record { 0 = i }) (omega (arith, same, there, count)) in
+          omega (arith, left i, more, now, was, is, most)
+      | inr apart ↦
+          let more : times i (x ∷ rest) ≡ times i rest = grind (arith, ne_eqb x.0.0 i apart) in
+          let still : slice_index z.spent i ≡ slice_index s.spent i = ap (λ (v : EnvValue). slice_index v.spent i) spends ∙ set_other s.spent x.0.0 i (spent_at s x.0 + 1) apart in
+          let same_left : left_at z (record { 0 = i }) ≡ left_at s (record { 0 = i }) = λ j. (if nat_lt i (count j) then most j - still j else 0) in
+          omega (arith, left i, more, same_left)
+    ]
+  where
+    count : length z.spent ≡ length s.spent
+    count = ap (λ (v : EnvValue). length v.spent) spends ∙ length-set s.spent x.0.0 (spent_at s x.0 + 1)
+
+    most : z.limits.calls ≡ s.limits.calls
+    most = ap (λ (v : EnvValue). v.limits.calls) spends
+
+-- one read more
+pub reads_more : (old now new : Environment) (m : ℤ) (xs : List Telling) (x : Telling) → ReadsEach old now m xs → ReadsOne now new m x → ReadsEach old new m (xs ++ x ∷ [])
+reads_more old now new m [] x done one = (new, subst (λ (s : Environment). ReadsOne s new m x) done one, refl)
+reads_more old now new m (y ∷ ys) x done one = (done.0, done.1, reads_more done.0 now new m ys x done.2 one)
+
+pub told_more : (xs : List Telling) (x : Telling) → told_alive (xs ++ x ∷ []) ≡ told_alive xs ++ told_stack x.thread x.answer
+told_more [] x = append-none (told_stack x.thread x.answer)
+  where
+    append-none : (l : List Told) → l ++ [] ≡ l
+    append-none [] = refl
+    append-none (y ∷ ys) = ap (λ (v : List Told). y ∷ v) (append-none ys)
+told_more (y ∷ ys) x = ap (λ (v : List Told). told_stack y.thread y.answer ++ v) (told_more ys x) ∙ sym (append_assoc (told_stack y.thread y.answer) (told_alive ys) (told_stack x.thread x.answer))
+
+pub has_read_more : (old now new : Environment) (m : ℤ) (ts : Listed) (t : ThreadNo × ℕ) (x : Telling) (infos later : List StackInfo) → HasRead old now m ts infos → ReadsOne now new m x → x.thread ≡ t.0
+    → map told_info later ≡ map told_info infos ++ told_stack x.thread x.answer → HasRead old new m (ts ++ t ∷ []) later
+has_read_more old now new m ts t x infos later done one same kept = record {
+  tellings = done.tellings ++ x ∷ [];
+  reads = reads_more old now new m done.tellings x done.reads one;
+  of_each = map-append (λ y. y.thread) done.tellings (x ∷ []) ∙ ((λ j. done.of_each j ++ same j ∷ []) ∙ sym (map-append (λ y. y.0) ts (t ∷ [])));
+  alive = kept ∙ (ap (λ v. v ++ told_stack x.thread x.answer) done.alive ∙ sym (told_more done.tellings x));
+}
+
+pub left_one : (s : EnvValue) (x : ThreadNo × ℕ) (rest : Listed) → AreLeft s (x ∷ rest) → 0 < left_at s x.0
+left_one s x rest left =
+    let more : times x.0.0 (x ∷ rest) ≡ suc (times x.0.0 rest) = grind (arith, eq-eqb x.0.0 x.0.0 refl) in
+    omega (arith, left x.0.0, more)
+
+pub count_read : (s now new : Stood) (i : ℕ) → i < 2 ^ 64 - 1 → now ≡ with_reads s i → new ≡ with_reads now (one_read_more now.reads) → new ≡ with_reads s (i + 1)
+count_read s now new i few is more =
+    let one : one_read_more i ≡ i + 1 = grind (arith, nat_tests, few) in
+    more ∙ (ap (λ (v : Stood). with_reads v (one_read_more v.reads)) is ∙ ap (with_reads s) one)
+
+-- The last buffer of a list, and the rest
+
+last_is : (l : List buffer.Trace) (b d : buffer.Trace) → slice_index_or (l ++ b ∷ []) (length l) d ≡ b
+last_is [] b d = refl
+last_is (x ∷ l) b d = last_is l b d
+
+before_last : (l : List buffer.Trace) (b d : buffer.Trace) (k : ℕ) → k < length l → slice_index_or (l ++ b ∷ []) k d ≡ slice_index_or l k d
+before_last [] b d k h = absurd (omega (arith, h))
+before_last (x ∷ l) b d zero h = refl
+before_last (x ∷ l) b d (suc k) h = before_last l b d k (omega (arith, h))
+
+pub roomy_last : (limits : Limits) (m : ℤ) (all rest : List buffer.Trace) (b : buffer.Trace) → AreRoomy limits m all → all ≡ rest ++ b ∷ [] → HasRoomFor limits (or_zero m) b × AreRoomy limits m rest
+roomy_last limits m all rest b roomy is =
+    let whole : AreRoomy limits m (rest ++ b ∷ []) = subst (AreRoomy limits m) is roomy in
+    let count : length (rest ++ b ∷ []) ≡ length rest + 1 = length-append rest (b ∷ []) in (
+      subst (HasRoomFor limits (or_zero m)) (last_is rest b b) (whole (length rest) b (omega (arith, count))),
+      λ k d h. subst (HasRoomFor limits (or_zero m)) (before_last rest b d k h) (whole k d (omega (arith, count, h))),
+    )
+
+-- Behind the gos
+
+pub whole_after_go : (s : Environment) (l : Listed) (ds : List Place) → AreHeld s l → AtEach l s.desks ds (λ e. Go e ∷ []) → IsWhole (with_desks s s.state ds)
+whole_after_go s l ds held each = record {
+  count = held.count ∙ sym each.0;
+  some = omega (arith, held.some, each.0);
+  desks = one;
+}
+  where
+    listed : (i : ℕ) (p q : Place) → is_listed i l ≡ true → slice_get s.desks i ≡ Some p → slice_get ds i ≡ Some q → IsDesk (with_desks s s.state ds) i q
+    listed i p q is at e =
+        let h = has_added l s.desks ds (λ e. Go e ∷ []) i p q each is at e in
+        let old = held.desks i p at in
+        let calls : calls_spent q.env q.view.mine ≡ calls_spent p.env p.view.mine = (λ j. calls_spent (h.same.env j) (h.mine j)) ∙ go_costs p.env p.view.mine in
+        record {
+          env_is = h.same.env ∙ old.env_is;
+          about = h.goes.subject ∙ old.about;
+          free = (λ j. stops_by (h.same.env j) (h.mine j)) ∙ stops_go p.env p.view.mine;
+          paid = omega (arith, old.paid, calls);
+        }
+
+    unlisted : (i : ℕ) (p q : Place) → is_listed i l ≡ false → slice_get s.desks i ≡ Some p → slice_get ds i ≡ Some q → IsDesk (with_desks s s.state ds) i q
+    unlisted i p q is at e =
+        let still : q ≡ p = unlisted_stays l s.desks ds (λ e. Go e ∷ []) i p q each is at e in
+        let old = held.desks i p at in
+        let was : IsDesk (with_desks s s.state ds) i p = record { env_is = old.env_is; about = old.about; free = old.free is; paid = old.paid } in
+        subst (λ (v : Place). IsDesk (with_desks s s.state ds) i v) (sym still) was
+
+    one : (i : ℕ) (q : Place) → slice_get ds i ≡ Some q → IsDesk (with_desks s s.state ds) i q
+    one i q e =
+        let w = was_there l s.desks ds (λ e. Go e ∷ []) i q each e in
+        elim (cases_Bool (is_listed i l)) [
+          | inl is ↦ listed i w.0 q is w.1 e
+          | inr is ↦ unlisted i w.0 q is w.1 e
+        ]
+
+-- a list of as many desks in the place of another
+pub desks_are : (later old : List Place) (n : ℕ) → length later ≡ n → length old ≡ n → take n (later ++ drop (length later) old) ≡ later
+desks_are [] [] zero h k = refl
+desks_are [] (y ∷ old) n h k = absurd (omega (arith, h, k))
+desks_are [] [] (suc n) h k = absurd (omega (arith, h))
+desks_are (x ∷ later) old zero h k = absurd (omega (arith, h))
+desks_are (x ∷ later) [] (suc n) h k = absurd (omega (arith, k))
+desks_are (x ∷ later) (y ∷ old) (suc n) h k = ap (λ (l : List Place). x ∷ l) (desks_are later old n (omega (arith, h)) (omega (arith, k)))

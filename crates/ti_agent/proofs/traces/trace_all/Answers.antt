@@ -1,0 +1,88 @@
+use Rattle.std.proofs.Common.{◌≡◌, length, sym, ap, subst, ◌∙◌, refl, w32, to_z, of_z, ℤ}
+use Rattle.std.proofs.lemmas.Int.{to_z-of_z}
+use Rattle.ti_types.specs.declared.numbers.EnvNo.{EnvNo}
+use Rattle.ti_types.specs.declared.limits.Limits.{Limits}
+use Rattle.ti_types.specs.declared.entry.Entry.TheVariants.{Go}
+use Rattle.std.proofs.Common.{[], ◌∷◌}
+use Rattle.ti_vmop.specs.Turns.{Listed, AtEach, AreThere}
+use Rattle.ti_agent.specs.Env.{Environment}
+use Rattle.ti_agent.specs.Traces.{AreHeld, AreRoomy, HasRead}
+use Rattle.ti_agent.proofs.Tracing.{may_stop, one_environment, same_env, distinct_in, there_in, left_in, limits_all, held_after_stops, whole_after_go}
+use Rattle.ti_agent.proofs.traces.trace_all.Goals as goal
+
+pub stop_all-requires-clause-desks : goal.stop_all-requires-clause-desks
+stop_all-requires-clause-desks g c = (one_environment (record { env = c.args.env; state = c.args.state.now; desks = c.args.desks.now }) c.requires.whole, c.requires.whole.some)
+
+pub stop_all-requires-clause-there : goal.stop_all-requires-clause-there
+stop_all-requires-clause-there g c = (there_in c.args.list.now (length c.args.state.now.spent) (length c.args.desks.now) c.requires.all c.requires.whole.count, c.requires.whole.count)
+
+pub stop_all-requires-clause-distinct : goal.stop_all-requires-clause-distinct
+stop_all-requires-clause-distinct g c = distinct_in c.args.list.now (length c.args.state.now.spent) c.requires.all
+
+pub stop_all-requires-clause-may : goal.stop_all-requires-clause-may
+stop_all-requires-clause-may g c i p at listed = may_stop (record { env = c.args.env; state = c.args.state.now; desks = c.args.desks.now }) i p c.requires.whole at
+
+pub read_each-requires-clause-held : goal.read_each-requires-clause-held
+read_each-requires-clause-held g c =
+    let s : Environment = record { env = c.args.env; state = c.args.state.now; desks = c.args.desks.now } in
+    let l = c.args.list.now in
+    let r = c.in-Ok.ensures in
+    let there = there_in l (length s.state.spent) (length s.desks) c.requires.all c.requires.whole.count in
+    let distinct = distinct_in l (length s.state.spent) c.requires.all in
+    let held = held_after_stops s l c.stop_all.new.state c.stop_all.new.desks c.requires.whole distinct there c.requires.paid r.state r.desks r.stand in
+    subst (λ (e : EnvNo). AreHeld (record { env = e; state = c.stop_all.new.state; desks = c.stop_all.new.desks }) l) (sym (same_env s c.in-Ok.standing.env c.requires.whole r.env)) held
+
+pub read_each-requires-clause-there : goal.read_each-requires-clause-there
+read_each-requires-clause-there g c =
+    there_in c.args.list.now (length c.args.state.now.spent) (length c.stop_all.new.desks) c.requires.all (c.requires.whole.count ∙ sym c.in-Ok.ensures.desks.0)
+
+pub read_each-requires-clause-left : goal.read_each-requires-clause-left
+read_each-requires-clause-left g c = left_in c.args.state.now c.stop_all.new.state c.args.list.now c.requires.all c.requires.paid c.in-Ok.ensures.state
+
+pub read_each-requires-clause-bufs : goal.read_each-requires-clause-bufs
+read_each-requires-clause-bufs g c =
+    let m : to_z w32 (of_z w32 c.args.max_count) ≡ c.args.max_count = to_z-of_z w32 c.args.max_count c.ranges.max_count in
+    let limits : c.stop_all.new.state.limits ≡ c.args.state.now.limits = ap (λ v. v.limits) c.in-Ok.ensures.state ∙ limits_all c.args.state.now c.args.list.now in
+    (c.requires.bufs.0, subst (λ (z : Limits × ℤ). AreRoomy z.0 z.1 c.args.bufs.items) (λ j. (sym limits j, sym m j)) c.requires.bufs.1)
+
+pub go-requires-clause-there : goal.go-requires-clause-there
+go-requires-clause-there g c =
+    let threads : c.read_each.new.standing.threads ≡ c.args.list.now = ap (λ v. v.threads) c.read_each.ensures.standing ∙ c.in-Ok.ensures.standing.0 in
+    let count : length c.read_each.new.desks ≡ length c.args.desks.now = c.read_each.auto.desks ∙ c.in-Ok.ensures.desks.0 in
+    subst (λ (l : Listed). AreThere (length c.read_each.new.desks) l) (sym threads)
+    (there_in c.args.list.now (length c.args.state.now.spent) (length c.read_each.new.desks) c.requires.all (c.requires.whole.count ∙ sym count))
+
+pub returns-clause-whole : goal.returns-clause-whole
+returns-clause-whole g c =
+    let s : Environment = record { env = c.args.env; state = c.args.state.now; desks = c.args.desks.now } in
+    let l = c.args.list.now in
+    let env : c.in-Ok.standing.env ≡ c.args.env = same_env s c.in-Ok.standing.env c.requires.whole c.in-Ok.ensures.env in
+    let threads : c.read_each.new.standing.threads ≡ l = ap (λ v. v.threads) c.read_each.ensures.standing ∙ c.in-Ok.ensures.standing.0 in
+    let seen : Environment = record { env = c.args.env; state = c.read_each.new.state; desks = c.read_each.new.desks } in
+    let held : AreHeld seen l = subst (λ (e : EnvNo). AreHeld (record { env = e; state = c.read_each.new.state; desks = c.read_each.new.desks }) l) env c.read_each.ensures.held in
+    let goes : AtEach l c.read_each.new.desks c.go.new.desks (λ e. Go e ∷ []) = subst (λ (v : Listed). AtEach v c.read_each.new.desks c.go.new.desks (λ e. Go e ∷ [])) threads c.go.ensures.desks in
+    whole_after_go seen l c.go.new.desks held goes
+
+pub returns-clause-traced : goal.returns-clause-traced
+returns-clause-traced g c =
+    let s : Environment = record { env = c.args.env; state = c.args.state.now; desks = c.args.desks.now } in
+    let l = c.args.list.now in
+    let r = c.in-Ok.ensures in
+    let env : c.in-Ok.standing.env ≡ c.args.env = same_env s c.in-Ok.standing.env c.requires.whole r.env in
+    let threads : c.read_each.new.standing.threads ≡ l = ap (λ v. v.threads) c.read_each.ensures.standing ∙ r.standing.0 in
+    let m : to_z w32 (of_z w32 c.args.max_count) ≡ c.args.max_count = to_z-of_z w32 c.args.max_count c.ranges.max_count in
+    let stopped : Environment = record { env = c.args.env; state = c.stop_all.new.state; desks = c.stop_all.new.desks } in
+    let seen : Environment = record { env = c.args.env; state = c.read_each.new.state; desks = c.read_each.new.desks } in
+    let infos = c.read_each.new.infos.items in
+    let reads : HasRead stopped seen c.args.max_count l infos = subst (λ (z : EnvNo × ℤ). HasRead (record { env = z.0; state = c.stop_all.new.state; desks = c.stop_all.new.desks }) (record { env = z.0; state = c.read_each.new.state; desks = c.read_each.new.desks }) z.1 l infos) (λ j. (env j, m j)) c.read_each.ensures.reads in
+    let goes : AtEach l c.read_each.new.desks c.go.new.desks (λ e. Go e ∷ []) = subst (λ (v : Listed). AtEach v c.read_each.new.desks c.go.new.desks (λ e. Go e ∷ [])) threads c.go.ensures.desks in
+    record {
+      stopped = stopped;
+      seen = seen;
+      stops = record { env_is = refl; state_is = r.state; desks = r.desks; stand = r.stand };
+      reads = reads;
+      goes = record { env_is = refl; state_is = refl; desks = goes };
+      env_is = c.go.ensures.env ∙ (ap (λ v. v.env) c.read_each.ensures.standing ∙ env);
+      threads_are = c.go.ensures.threads ∙ ap (λ v. length v) threads;
+      reads_are = c.go.ensures.reads ∙ ap (λ v. v.reads) c.read_each.ensures.standing;
+    }
