@@ -53,7 +53,12 @@ fn set_word<R: Wait>(rt: &R, cell: &ThreadCell, seat: EnvSeat, env: EnvNo, word:
 }
 
 /// Takes the answer to a ticket, where it is there.
-fn take_answer<R: Wait>(rt: &R, cell: &ThreadCell, seat: EnvSeat, ticket: Ticket) -> (EnvSeat, Option<Answer>)
+fn take_answer<R: Wait>(
+    rt: &R,
+    cell: &ThreadCell,
+    seat: EnvSeat,
+    ticket: Ticket,
+) -> (EnvSeat, Option<Answer>)
     requires here { seat.cell ≡ cell.now }
     requires own { seat.view.number ≡ ticket.env.0 + 1 }
     ensures answer { option_map said result.1 ≡ (if has ticket seat.view.posted then reply_to seat.view.subject.limits result.0.view.seen ticket else None) }
