@@ -4,7 +4,7 @@ ghost use Rattle.ti_cell.specs.Seats.{env_seats};
 ghost use Rattle.ti_tests.specs.Agents.{IsNewSeat};
 
 use std::alloc::Global;
-use std::sync::Wait;
+use std::sync::{Mutex, Wait};
 use std::test::*;
 use std::thread;
 use std::thread::{Threads, join};
@@ -13,6 +13,7 @@ use ti_cell::{EnvSeat, ThreadCell};
 use ti_env::EnvState;
 use ti_handshake::{AtSafe, Desk, Fresh, Polled, Running};
 use ti_types::{Caps, EnvNo, Limits, MethodNo, Place, Step, ThreadNo, TiError};
+use ti_vmop::VmTurn;
 
 /// How often a loop turns before it gives up.
 const TURNS: u32 = 1_000_000;
@@ -105,6 +106,21 @@ fn run_thread<R: Wait>(rt: &R, running: Running<'_>) -> Option<u32> {
     Some(frames)
 }
 
+/// Whether a global trace tells of the one thread, which is suspended with one frame.
+fn is_traced<R: Wait + AllocGlobal>(rt: &R, env: &mut Env<'_>) -> bool {
+    let turn = Mutex::new(VmTurn::new());
+    match env.get_all_stack_traces(rt, rt.alloc(), &turn, 8) {
+        Ok((infos, round)) => {
+            let told = match infos.as_slice() {
+                [info] => info.state == 0x10_0005 && info.frames.frames().len() == 1,
+                _ => false,
+            };
+            told && round.threads() == 1 && round.reads() == 1
+        }
+        Err(_) => false,
+    }
+}
+
 /// What the first environment is told of a thread that runs with two frames, and what it does there: it counts its frames,
 /// suspends it, reads it, pops a frame, and resumes it. The first call whose answer is not the right one.
 fn inspect<R: Wait + AllocGlobal>(rt: &R, env: Env<'_>) -> Result<(), u32> {
@@ -143,6 +159,9 @@ fn inspect<R: Wait + AllocGlobal>(rt: &R, env: Env<'_>) -> Result<(), u32> {
     }
     if env.get_frame_count(rt, thread) != Ok(1) {
         return Err(8);
+    }
+    if !is_traced(rt, &mut env) {
+        return Err(13);
     }
     if env.set_thread_local_storage(rt, thread, 7) != Ok(()) {
         return Err(9);
