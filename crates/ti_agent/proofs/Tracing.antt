@@ -18,7 +18,7 @@ use Rattle.ti_replay.specs.Standing.{is_standing}
 use Rattle.ti_cell.specs.View.{subject_of}
 use Rattle.ti_slot.specs.Waiting.{HasRoomFor}
 use Rattle.ti_handshake.specs.Desk.{Place}
-use Rattle.ti_vmop.specs.Stops.{stops_by, stops_after}
+use Rattle.ti_replay.specs.Fronts.{stops_by, stops_after}
 use Rattle.ti_vmop.specs.Turns.{Listed, is_listed, AreDistinct, AreThere, are_paid, MayStop, MayRead, AreOneEnvironments, spend_all, AtEach, AllStand, IsRead}
 use Rattle.ti_vmop.proofs.Each.{in_range, untouched}
 use Rattle.ti_vmop.proofs.Uses.{was_there, has_added, unlisted_stays, spent_then, more_spent}

@@ -22,7 +22,7 @@ use Rattle.ti_types.specs.declared.event.Ticket.{Ticket}
 use Rattle.ti_slot.specs.declared.asked.Asked.{Asked as AskedOf}
 use Rattle.ti_agent.specs.Lists.{Posts}
 use Rattle.ti_handshake.specs.Desk.{Place, IsSame}
-use Rattle.ti_vmop.specs.Stops.{stops_by, stops_after}
+use Rattle.ti_replay.specs.Fronts.{stops_by, stops_after}
 use Rattle.ti_vmop.proofs.Each.{at_index, set_here}
 use Rattle.ti_agent.specs.Env.{Environment, IsDesk, IsWhole}
 use Rattle.std.proofs.Common.{append-nil}

@@ -5,7 +5,7 @@ use Rattle.ti_env.specs.Env.{EnvValue, spent_at}
 use Rattle.ti_replay.specs.Legal.{calls_spent}
 use Rattle.ti_cell.specs.View.{subject_of}
 use Rattle.ti_handshake.specs.Desk.{Place}
-use Rattle.ti_vmop.specs.Stops.{stops_by}
+use Rattle.ti_replay.specs.Fronts.{stops_by}
 
 -- its number, what it keeps for itself, and its desks in the order of the threads' numbers
 pub record Environment : Type 0 where

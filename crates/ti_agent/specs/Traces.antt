@@ -18,7 +18,7 @@ use Rattle.ti_replay.specs.Standing.{is_standing}
 use Rattle.ti_cell.specs.View.{subject_of}
 use Rattle.ti_slot.specs.Waiting.{HasRoomFor}
 use Rattle.ti_handshake.specs.Desk.{Place}
-use Rattle.ti_vmop.specs.Stops.{stops_by}
+use Rattle.ti_replay.specs.Fronts.{stops_by}
 use Rattle.ti_vmop.specs.Turns.{Listed, is_listed, are_paid, spend_all, AtEach, AllStand, IsRead}
 use Rattle.ti_vmop.specs.declared.standing.Round.{Round}
 use Rattle.ti_agent.specs.Env.{Environment}

@@ -34,7 +34,7 @@ use Rattle.ti_slot.specs.Thread.{next_asked, ticket_of}
 use Rattle.ti_slot.specs.Tickets.{same}
 use Rattle.ti_core.specs.Thread.{ThreadState, entries, more, reply_now, tickets_after, ask_next, held_by, stop_next, stop_told, go_next, go_told, read_next, read_told, taken}
 use Rattle.ti_core.specs.Stands.{ThreadStands}
-use Rattle.ti_core.proofs.LoggedLaws.{logged, logged_runs, logged_asked, logged_calls, logged_answer}
+use Rattle.ti_replay.proofs.LoggedLaws.{logged, logged_runs, logged_asked, logged_calls, logged_answer}
 use Rattle.ti_core.proofs.WholeLaws.{passed_mode}
 use Rattle.ti_core.proofs.ThreadLaws.{asked_more}
 

@@ -27,7 +27,7 @@ use Rattle.ti_replay.specs.HistoryState.{HistoryState}
 use Rattle.ti_replay.specs.Standing.{is_standing}
 use Rattle.ti_replay.specs.Tickets.{reply_to}
 use Rattle.ti_core.proofs.CallLaws.{fresh_ticket, asked_same}
-use Rattle.ti_core.proofs.LoggedLaws.{logged, logged_reply}
+use Rattle.ti_replay.proofs.LoggedLaws.{logged, logged_reply}
 use Rattle.ti_slot.specs.Tickets.{has, same, without_ticket, AreOnce}
 use Rattle.ti_slot.specs.Thread.{Thread, ticket_of}
 use Rattle.ti_core.specs.Thread.{ThreadState, own_next, entered_unless, refusal_at, poll_next, reply_now, tickets_after, ask_next, taken}

@@ -1,4 +1,3 @@
-pub mod LoggedLaws
 pub mod WholeLaws
 pub mod AskedLaws
 pub mod PollLaws

@@ -20,7 +20,7 @@ use Rattle.ti_replay.specs.LateTickets.{steps_of}
 use Rattle.ti_replay.proofs.HistoryLaws.{view_hand}
 use Rattle.ti_replay.proofs.LateStepLaws.{called_keeps}
 use Rattle.ti_core.specs.Thread.{ThreadState, entries, seen, entered, at_poll, refusal_at, own_next, own_said, poll_next, poll_said}
-use Rattle.ti_core.proofs.LoggedLaws.{steps-snoc}
+use Rattle.ti_replay.proofs.LoggedLaws.{steps-snoc}
 
 -- an entry of the thread's own comes behind what is there
 pub entries-snoc : (s : ThreadState) (x : Entry) → entries (entered s x) ≡ entries s ++ x ∷ []

@@ -38,7 +38,7 @@ use Rattle.ti_replay.specs.Events.{read_outcome}
 use Rattle.ti_slot.specs.Thread.{read_answer}
 use Rattle.ti_core.specs.Thread.{ThreadState, seen, refusal_at, own_next, read_next, read_told}
 use Rattle.ti_core.specs.Inside.{steps_in, state_in, HasLog, AreWith, IsWhole}
-use Rattle.ti_core.proofs.LoggedLaws.{logged, logged_runs, logged_own, steps-snoc}
+use Rattle.ti_replay.proofs.LoggedLaws.{logged, logged_runs, logged_own, steps-snoc}
 
 -- what a call, a stop or a go leaves of what steps depend on
 passed_here : (limits : Limits) (h : List Entry) (x : Entry) → is_passed x ≡ true → IsSameForSteps (history_state limits (h ++ x ∷ [])) (history_state limits h)

@@ -28,10 +28,11 @@ use Rattle.ti_cell.specs.Seats.{Sitting, Holding}
 use Rattle.ti_handshake.specs.Call.{Holds, SawNews, found}
 use Rattle.ti_handshake.specs.Thread.{RunsWith, RestsWith, HasEnded, IsFresh, refused_at, logged}
 use Rattle.ti_handshake.proofs.Holding.{held, found_held}
-use Rattle.ti_handshake.proofs.Modes.{mode-snoc}
-use Rattle.ti_handshake.proofs.Steps.{logged_runs, logged_armed}
+use Rattle.ti_replay.proofs.MakerLaws.{mode-snoc}
+use Rattle.ti_replay.proofs.LoggedLaws.{logged_runs, logged_armed}
 use Rattle.ti_handshake.specs.Polls.{polled}
-use Rattle.ti_handshake.proofs.Others.{LeavesIt, left_alone}
+use Rattle.ti_replay.specs.Alone.{LeavesIt}
+use Rattle.ti_replay.proofs.AloneLaws.{left_alone}
 
 -- s is the seat before, h the hold, and n the slot as the hold lends it
 pub record Owns (s : Sitting) (h : Holding) (n : Thread) : Type 0 where

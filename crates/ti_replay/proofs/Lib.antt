@@ -40,3 +40,6 @@ pub mod StopLaws
 pub mod RefusedLaws
 pub mod MakerLaws
 pub mod TellingLaws
+pub mod AloneLaws
+pub mod LoggedLaws
+pub mod FrontLaws

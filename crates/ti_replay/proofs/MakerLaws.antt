@@ -1,7 +1,7 @@
 -- What is known of a history from the entries of one maker.
-use Rattle.std.proofs.Common.{◌≡◌, ℕ, suc, ◌==◌, ◌+◌, ne_eqb, Bool, true, false, cond, List, [], ◌∷◌, refl, ap, sym, ◌∙◌, arith}
+use Rattle.std.proofs.Common.{◌≡◌, ℕ, suc, ◌==◌, ◌+◌, ne_eqb, Bool, true, false, cond, List, [], ◌∷◌, ◌++◌, refl, ap, sym, ◌∙◌, arith}
 use Rattle.std.specs.List.{fold, filter, sum_by, list_all}
-use Rattle.std.proofs.lemmas.List.Sums.{sum_by-cons}
+use Rattle.std.proofs.lemmas.List.Sums.{sum_by-cons, fold-append}
 use Rattle.std.proofs.lemmas.List.Folds.{list_all-append}
 use Rattle.ti_types.specs.declared.limits.Limits.{Limits}
 use Rattle.ti_types.specs.declared.numbers.EnvNo.{EnvNo}
@@ -21,7 +21,7 @@ use Rattle.ti_replay.proofs.BoundLaws.{all_quiet}
 -- The mode
 
 -- only calls wait
-calls_step : (s : HistoryState) (x : Entry) → list_all is_waiting_call s.waiting ≡ true → list_all is_waiting_call (next_state s x).waiting ≡ true
+pub calls_step : (s : HistoryState) (x : Entry) → list_all is_waiting_call s.waiting ≡ true → list_all is_waiting_call (next_state s x).waiting ≡ true
 calls_step s Start h = grind (arith, h)
 calls_step s (Own step) h = grind (arith, h)
 calls_step s (Hand safe) h = grind (arith, h)
@@ -50,6 +50,11 @@ mode_run s (x ∷ history) h =
 
 mode_is : (limits : Limits) (history : List Entry) → (view limits history).mode ≡ fold mode_after (view limits []).mode history
 mode_is limits history = ap (λ (s : HistoryState). s.view.mode) (history_state-append limits [] history) ∙ mode_run (history_state limits []) history refl
+
+-- the mode behind one more entry
+pub mode-snoc : (limits : Limits) (history : List Entry) (x : Entry) → (view limits (history ++ x ∷ [])).mode ≡ mode_after (view limits history).mode x
+mode-snoc limits history x =
+    mode_is limits (history ++ x ∷ []) ∙ (fold-append mode_after (view limits []).mode history (x ∷ []) ∙ ap (λ (m : Mode). mode_after m x) (sym (mode_is limits history)))
 
 -- an entry of another is not among those that count
 not_counted : (m : Mode) (x : Entry) (history : List Entry) → (maker x == 0) ≡ false → fold mode_after m (made_by 0 history) ≡ fold mode_after m (made_by 0 (x ∷ history))

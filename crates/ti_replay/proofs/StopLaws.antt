@@ -105,7 +105,7 @@ popped : (v : ThreadView) (e : EnvNo) (b : Bool) → (if b then record v { frame
 popped v e true = leave_drops v.frames
 popped v e false = refl
 
-call_frames : (v : ThreadView) (e : EnvNo) (call : Call) → (called v e call).frames ≡ drop (taken v e call) v.frames
+pub call_frames : (v : ThreadView) (e : EnvNo) (call : Call) → (called v e call).frames ≡ drop (taken v e call) v.frames
 call_frames v e State = refl
 call_frames v e FrameCount = refl
 call_frames v e (Trace start max_count) = refl

@@ -21,3 +21,5 @@ pub mod Outcomes
 pub mod Refused
 pub mod Storage
 pub mod Makers
+pub mod Alone
+pub mod Fronts

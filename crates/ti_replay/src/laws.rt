@@ -2,6 +2,8 @@
 //! `specs/`, and its body does nothing.
 ghost use Rattle.ti_replay.specs.Laws.{WordIsLast, HistoryIsBounded, HistoryIsLegal, SettledStays, ReplyStays, CallsChangeWhereDone};
 ghost use Rattle.ti_replay.specs.Agreement.{TellsTheKept};
+ghost use Rattle.ti_replay.specs.Alone.{LeftAlone};
+ghost use Rattle.ti_replay.specs.Fronts.{StopsAreOwn, FrontsStay, FrontsStayByOwn, FrontsTell};
 ghost use Rattle.ti_replay.specs.LateSteps.{StepsMayBeLate};
 ghost use Rattle.ti_replay.specs.LateTickets.{StepsComeLate, StepsStayLegal, TicketIsPlace};
 ghost use Rattle.ti_replay.specs.Makers.{ModeIsOwn, OwnCostsAreOwn, CallCostsAreItsOwn, NumbersAreItsOwn};
@@ -118,4 +120,29 @@ pub fn own_entries_say_the_mode()
 pub fn environments_count_apart()
     ensures costs { CallCostsAreItsOwn }
     ensures numbers { NumbersAreItsOwn }
+{}
+
+/// What others do at a thread changes neither its mode, nor what it has spent, nor whether the steps that it has logged
+/// may come; nor, while it runs, its frames.
+pub fn threads_are_left_alone()
+    ensures { LeftAlone }
+{}
+
+/// Whether an environment's stop stands at a thread, its own entries say alone.
+#[tactic(auto, using(crate::proofs::FrontLaws::stops_are_own))]
+pub fn stops_are_own()
+    ensures { StopsAreOwn }
+{}
+
+/// Behind a front that stands for an environment, up to its go: no entry of the thread's own, one mode, and the frames of
+/// the front after the pops behind it. That the environment let nobody go, its own entries say.
+pub fn fronts_stay()
+    ensures fronts { FrontsStay }
+    ensures own { FrontsStayByOwn }
+{}
+
+/// What a read tells of a later front, it tells of the one that stood first: its mode, and its frames after all pops
+/// behind it. So all reads of an environment between its stop and its go tell of one front.
+pub fn fronts_tell()
+    ensures { FrontsTell }
 {}

@@ -1,12 +1,12 @@
 -- A global operation at one thread.
-use Rattle.std.proofs.Common.{◌≡◌, ℕ, ◌+◌, ◌==◌, Bool, true, false, cond, ℤ, List, [], ◌∷◌, ◌++◌, length, refl, ap, sym, ◌∙◌, arith, subst, eq-eqb, Option, Some, None}
+use Rattle.std.proofs.Common.{◌≡◌, ℕ, ◌+◌, Bool, true, false, cond, ℤ, List, [], ◌∷◌, ◌++◌, length, refl, ap, sym, ◌∙◌, arith, subst, eq-eqb, Option, Some, None}
 use Rattle.std.specs.Prelude.{take, drop, is_none}
 use Rattle.std.proofs.lemmas.Bool.{and_parts}
 use Rattle.std.proofs.lemmas.Bool.Decides.{nat_tests}
 use Rattle.std.proofs.lemmas.List.{append_cancel_right}
 use Rattle.ti_types.specs.declared.answer.Answer.{Answer}
 use Rattle.ti_types.specs.declared.entry.Entry.{Entry}
-use Rattle.ti_types.specs.declared.entry.Entry.TheVariants.{Start, Own, Hand, Back, End, Asked, Stop, Read, Go}
+use Rattle.ti_types.specs.declared.entry.Entry.TheVariants.{Stop, Read, Go}
 use Rattle.ti_types.specs.declared.error.TiError.{TiError}
 use Rattle.ti_types.specs.declared.error.TiError.TheVariants.{AlreadyStopped}
 use Rattle.ti_types.specs.declared.event.Event.TheVariants as event
@@ -23,7 +23,7 @@ use Rattle.ti_replay.specs.Legal.{is_legal, is_stopper}
 use Rattle.ti_replay.specs.Makers.{maker, made_by, StartsWith}
 use Rattle.ti_replay.specs.Events.{hold_refusal, if_none}
 use Rattle.ti_replay.specs.Replies.{reply}
-use Rattle.ti_replay.specs.Standing.{is_standing, is_go_of, stands_for}
+use Rattle.ti_replay.specs.Standing.{is_standing, stands_for}
 use Rattle.ti_replay.proofs.AskingLaws.{reply-snoc}
 use Rattle.ti_replay.proofs.PlaceLaws.{reply_past}
 use Rattle.ti_replay.specs.View.{view}
@@ -33,9 +33,10 @@ use Rattle.ti_cell.specs.declared.view.View.{View}
 use Rattle.ti_handshake.specs.Call.{Waits, found, added}
 use Rattle.ti_handshake.proofs.Holding.{added_is}
 use Rattle.ti_handshake.specs.Desk.{Place, is_anothers}
-use Rattle.ti_handshake.proofs.Others.{made-append, none_since}
-use Rattle.ti_vmop.specs.Stops.{stops_by, lets_go, IsStill, TellsOf, DesksStay, popped_behind}
-use Rattle.ti_vmop.proofs.Stopping.{stops_are_own, front_stays}
+use Rattle.ti_replay.proofs.AloneLaws.{made-append, none_since}
+use Rattle.ti_replay.specs.Fronts.{stops_by, lets_go, IsStill, TellsOf, popped_behind}
+use Rattle.ti_vmop.specs.Desks.{DesksStay}
+use Rattle.ti_replay.proofs.FrontLaws.{stops_are_own, front_stays, front_stays_by_own}
 
 -- what was found has of the seat's entries just those that were made before
 pub found_mine : (v w : View) (more : List Entry) → Waits v w more → made_by v.number more ≡ more → made_by v.number (found v w) ≡ v.mine
@@ -74,36 +75,14 @@ stopped p w number k others free =
     let own : is_stopper now.stopper p.env ≡ false = stops_are_own limits p.env (found p.view w) (found_legal p.view w (if_none r (Stop p.env ∷ [])) k) ∙ (ap (stops_by p.env) mine ∙ free) in
     subst (λ (o : Option TiError). Waits p.view w (if_none o (Stop p.env ∷ []))) (no_others p.env now.stopper others own) k
 
--- without entries of its own, an environment lets nobody go
-no_go : (env : EnvNo) (more : List Entry) → made_by (env.0 + 1) more ≡ [] → lets_go env more ≡ false
-no_go env [] none = refl
-no_go env (x ∷ more) none = one (maker x == env.0 + 1) refl (no_go env more)
-  where
-    not_go : (x : Entry) → (maker x == env.0 + 1) ≡ false → is_go_of env x ≡ false
-    not_go Start h = refl
-    not_go (Own step) h = refl
-    not_go (Hand safe) h = refl
-    not_go Back h = refl
-    not_go End h = refl
-    not_go (Asked other n call) h = refl
-    not_go (Stop other) h = refl
-    not_go (Read other n) h = refl
-    not_go (Go other) h = grind (arith, nat_tests, h)
-
-    one : (b : Bool) → (maker x == env.0 + 1) ≡ b → (made_by (env.0 + 1) more ≡ [] → lets_go env more ≡ false) → lets_go env (x ∷ more) ≡ false
-    one true is rest = let e : x ∷ made_by (env.0 + 1) more ≡ [] = sym (ap (λ (b : Bool). cond b (x ∷ made_by (env.0 + 1) more) (made_by (env.0 + 1) more)) is) ∙ none in cc
-    one false is rest =
-        let later = rest (sym (ap (λ (b : Bool). cond b (x ∷ made_by (env.0 + 1) more) (made_by (env.0 + 1) more)) is) ∙ none) in
-        grind (arith, not_go x is, later)
-
 -- the thread that stood when it was last seen stands where a call finds it, in the same mode, with the same frames
 pub found_still : (p : Place) (w : View) (more : List Entry) → p.view.number ≡ p.env.0 + 1 → p.view.mine ≡ made_by p.view.number p.view.seen
     → Waits p.view w more → made_by p.view.number more ≡ more → is_standing p.view.subject.limits p.view.seen p.env ≡ true
     → (k : StartsWith (found p.view w) p.view.seen) → IsStill p.view.subject.limits p.env p.view.seen k.0
 found_still p w more number whole k own stands s =
     let none : made_by p.view.number s.0 ≡ [] = none_since p.view.number p.view.seen (found p.view w) s (sym whole ∙ sym (found_mine p.view w more k own)) in
-    let free : lets_go p.env s.0 ≡ false = no_go p.env s.0 (ap (λ (n : ℕ). made_by n s.0) (sym number) ∙ none) in
-    front_stays p.view.subject.limits p.env p.view.seen s.0 (subst (λ (l : List Entry). is_legal p.view.subject.limits l ≡ true) s.1 (found_legal p.view w more k)) stands free
+    let free : lets_go p.env (made_by (p.env.0 + 1) s.0) ≡ false = ap (lets_go p.env) (ap (λ (n : ℕ). made_by n s.0) (sym number) ∙ none) in
+    front_stays_by_own p.view.subject.limits p.env p.view.seen (found p.view w) (found_legal p.view w more k) stands s free
 
 -- a read is answered by the view at its place
 reply_read : (limits : Limits) (history : List Entry) (env : EnvNo) (n : ℤ) → reply limits (history ++ Read env n ∷ []) (length history) ≡ Some (stack_of (view limits history) n)
@@ -168,31 +147,10 @@ read_stands p w n more f k =
 pub recount : (p : Place) (w : View) (r : Option TiError) (m n : ℤ) → m ≡ n → Waits p.view w (if_none r (Read p.env m ∷ [])) → Waits p.view w (if_none r (Read p.env n ∷ []))
 recount p w r m n e k = subst (λ (x : ℤ). Waits p.view w (if_none r (Read p.env x ∷ []))) e k
 
--- whom an environment lets go is a matter of its own entries
-own_goes : (env : EnvNo) (more : List Entry) → lets_go env more ≡ lets_go env (made_by (env.0 + 1) more)
-own_goes env [] = refl
-own_goes env (x ∷ more) = one (own_goes env more) (maker x == env.0 + 1) refl
-  where
-    other : (x : Entry) → (maker x == env.0 + 1) ≡ false → is_go_of env x ≡ false
-    other Start h = refl
-    other (Own step) h = refl
-    other (Hand safe) h = refl
-    other Back h = refl
-    other End h = refl
-    other (Asked e n call) h = refl
-    other (Stop e) h = refl
-    other (Read e n) h = refl
-    other (Go e) h = grind (arith, nat_tests, h)
-
-    one : lets_go env more ≡ lets_go env (made_by (env.0 + 1) more) → (b : Bool) → (maker x == env.0 + 1) ≡ b → lets_go env (x ∷ more) ≡ lets_go env (cond (maker x == env.0 + 1) (x ∷ made_by (env.0 + 1) more) (made_by (env.0 + 1) more))
-    one rest true is = grind (arith, rest) ∙ ap (λ (b : Bool). lets_go env (cond b (x ∷ made_by (env.0 + 1) more) (made_by (env.0 + 1) more))) (sym is)
-    one rest false is = grind (arith, rest, other x is) ∙ ap (λ (b : Bool). lets_go env (cond b (x ∷ made_by (env.0 + 1) more) (made_by (env.0 + 1) more))) (sym is)
-
 pub desks_stay : DesksStay
 desks_stay env old new number whole goes stands stays later =
     let more = made_by old.number later.0 in
     let mine : new.mine ≡ old.mine ++ more =
     goes.whole ∙ (ap (made_by old.number) later.1 ∙ (made-append old.number old.seen later.0 ∙ ap (λ (l : List Entry). l ++ more) (sym whole))) in
     let own : added old new ≡ made_by (env.0 + 1) later.0 = added_is old new more mine ∙ ap (λ (n : ℕ). made_by n later.0) number in
-    let free : lets_go env later.0 ≡ false = own_goes env later.0 ∙ (ap (lets_go env) (sym own) ∙ stays) in
-    front_stays old.subject.limits env old.seen later.0 (subst (λ (l : List Entry). is_legal old.subject.limits l ≡ true) later.1 goes.legal) stands free
+    front_stays_by_own old.subject.limits env old.seen new.seen goes.legal stands later (ap (lets_go env) (sym own) ∙ stays)

@@ -20,7 +20,7 @@ use Rattle.ti_replay.specs.Replies.{reply}
 use Rattle.ti_replay.specs.Answers.{or_zero}
 use Rattle.ti_slot.specs.Waiting.{HasRoomFor}
 use Rattle.ti_types.specs.Frames as buffer
-use Rattle.ti_vmop.specs.Stops.{TellsOf}
+use Rattle.ti_replay.specs.Fronts.{TellsOf}
 use Rattle.ti_handshake.specs.Desk.{Place, IsSame}
 use Rattle.ti_vmop.specs.Turns.{Listed, is_listed, AreDistinct, AreThere, are_paid, spend_all, HasAdded, AtDesk, AtEach, AllStand, IsRead}
 

@@ -13,7 +13,7 @@ use Rattle.ti_replay.specs.Standing.{is_standing}
 use Rattle.ti_cell.specs.View.{subject_of}
 use Rattle.ti_handshake.specs.Call.{GoesOn, found}
 use Rattle.ti_handshake.specs.Desk.{Place, IsSame}
-use Rattle.ti_vmop.specs.Stops.{stops_by, TellsOf}
+use Rattle.ti_replay.specs.Fronts.{stops_by, TellsOf}
 use Rattle.ti_types.specs.declared.answer.Answer.{Answer}
 use Rattle.ti_types.specs.Frames as buffer
 use Rattle.ti_slot.specs.Waiting.{HasRoomFor}

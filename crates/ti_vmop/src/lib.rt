@@ -6,7 +6,7 @@
 //! - `stop_all` answers when each listed thread has been seen to stand, and stops none where a budget does not do.
 //! - Until the environment lets a thread go, what its desk sees begins with that front, and has no entry of the thread's
 //!   own behind it (`desks_stay`); a read tells of the mode of the front, and of its frames after the pops behind it
-//!   (`fronts_tell`).
+//!   (`fronts_tell` of `ti_replay`).
 //! - Only `Standing::go` makes a `Round`, and a `Standing` has to be spent by it.
 //! - No call takes memory.
 //!
@@ -17,5 +17,5 @@ mod laws;
 mod one;
 mod standing;
 
-pub use laws::{desks_stay, fronts_stay, fronts_tell, stops_are_own};
+pub use laws::desks_stay;
 pub use standing::{Round, Standing, VmTurn, stop_all};

@@ -10,7 +10,7 @@ ghost use Rattle.ti_replay.specs.Standing.{is_standing};
 ghost use Rattle.ti_slot.specs.Waiting.{HasRoomFor};
 ghost use Rattle.ti_handshake.specs.Call.{Waits, Holds, found};
 ghost use Rattle.ti_handshake.specs.Desk.{IsSame};
-ghost use Rattle.ti_vmop.specs.Stops.{stops_by, TellsOf};
+ghost use Rattle.ti_replay.specs.Fronts.{stops_by, TellsOf};
 
 use std::sync::Wait;
 use ti_handshake::Desk;

@@ -4,7 +4,7 @@ use Rattle.ti_replay.specs.Legal.{is_armed}
 use Rattle.ti_frames.specs.Log.{Steps}
 use Rattle.ti_core.specs.Thread.{ThreadState, entries}
 use Rattle.ti_core.specs.Inside.{steps_in, IsWhole}
-use Rattle.ti_core.proofs.LoggedLaws.{logged_armed}
+use Rattle.ti_replay.proofs.LoggedLaws.{logged_armed}
 use Rattle.ti_core.proofs.WholeLaws.{whole_home}
 use Rattle.ti_core.proofs.thread.OneThread.hand_over.Goals as goal
 

@@ -5,7 +5,7 @@ use Rattle.ti_replay.specs.Legal.{is_armed}
 use Rattle.std.specs.Prelude.{is_some}
 use Rattle.ti_core.specs.Thread.{ThreadState, entries, seen, poll_next, poll_said}
 use Rattle.ti_core.specs.Inside.{steps_in, state_in}
-use Rattle.ti_core.proofs.LoggedLaws.{logged_armed}
+use Rattle.ti_replay.proofs.LoggedLaws.{logged_armed}
 use Rattle.ti_core.proofs.WholeLaws.{frames_run}
 use Rattle.ti_core.proofs.PollLaws.{poll_calm, poll_went, poll_stayed}
 use Rattle.ti_core.proofs.thread.OneThread.poll.Goals as goal

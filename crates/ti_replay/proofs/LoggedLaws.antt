@@ -1,4 +1,4 @@
--- What the steps behind a history leave as it was.
+-- What a running thread has logged: what the steps behind a history leave as it was.
 use Rattle.std.proofs.Common.{◌≡◌, ◌+◌, false, List, [], ◌∷◌, ◌++◌, length, map, refl, ap, sym, ◌∙◌, arith, Option, Some, None, append_assoc, append-nil, add-zero}
 use Rattle.std.proofs.lemmas.List.{map-append}
 use Rattle.std.proofs.lemmas.List.Sums.{sum_by-append, sum_by-cons}
@@ -134,7 +134,3 @@ logged_answer limits h steps env call w =
 
 pub steps-snoc : (h : List Entry) (steps : List Step) (x : Step) → h ++ steps_of (steps ++ x ∷ []) ≡ (h ++ steps_of steps) ++ Own x ∷ []
 steps-snoc h steps x = ap (λ l. h ++ l) (map-append Own steps (x ∷ [])) ∙ sym (append_assoc h (steps_of steps) (Own x ∷ []))
-
--- the table of frames and that of a history are one
-pub goes_on_one : {X : Type 0} (x : X) → x ≡ x
-goes_on_one x = refl

@@ -7,12 +7,12 @@ use Rattle.ti_types.specs.declared.step.Step.{Step}
 use Rattle.ti_types.specs.declared.entry.Entry.{Entry}
 use Rattle.ti_types.specs.declared.entry.Entry.TheVariants.{Start, Own, Hand, Back, End, Asked, Stop, Read, Go}
 use Rattle.ti_replay.specs.Answers.{is_running}
-use Rattle.ti_replay.specs.View.{view, frames_after}
-use Rattle.ti_replay.specs.Legal.{goes_on, own_spent}
+use Rattle.ti_replay.specs.View.{frames_after}
 use Rattle.ti_replay.specs.HistoryState.{HistoryState, history_state}
 use Rattle.ti_replay.proofs.NextStates.{next_state, allows, allows_all}
 use Rattle.ti_replay.specs.LateTickets.{steps_of}
 use Rattle.ti_replay.specs.Makers.{maker, made_by, StartsWith}
+use Rattle.ti_replay.specs.Alone.{LeavesIt, LeftAlone}
 use Rattle.ti_replay.proofs.HistoryStateLaws.{history_state-append, goes_on-allows}
 use Rattle.ti_replay.proofs.LateStepLaws.{called_keeps}
 use Rattle.ti_replay.proofs.StepsStay.{IsSameForSteps}
@@ -64,13 +64,7 @@ steps_mode : (s : HistoryState) (steps : List Step) → (fold next_state s (step
 steps_mode s [] = refl
 steps_mode s (x ∷ steps) = steps_mode (next_state s (Own x)) steps
 
--- behind a history, entries of others. Where the thread runs they leave its frames, since a pop waits there
-pub record LeavesIt (limits : Limits) (old new : List Entry) (steps : List Step) : Type 0 where
-  pub mode : (view limits new).mode ≡ (view limits old).mode
-  pub frames : is_running (view limits old).mode ≡ true → (view limits (new ++ steps_of steps)).frames ≡ (view limits (old ++ steps_of steps)).frames
-  pub own : own_spent new ≡ own_spent old
-  pub goes : goes_on limits new (steps_of steps) ≡ goes_on limits old (steps_of steps)
-
+-- behind a history, entries of others
 pub others_leave : (limits : Limits) (old more : List Entry) (steps : List Step) → made_by 0 more ≡ [] → LeavesIt limits old (old ++ more) steps
 others_leave limits old more steps none =
     let s = history_state limits old in
@@ -104,6 +98,6 @@ pub none_since : (n : ℕ) (seen history : List Entry) (s : StartsWith history s
 none_since n seen history s e = nothing_more (made_by n seen) (made_by n s.0) (e ∙ (ap (made_by n) s.1 ∙ made-append n seen s.0))
 
 -- what is left to a thread by a history that begins with what it saw, and has no further entry of its own
-pub left_alone : (limits : Limits) (seen history : List Entry) (steps : List Step) → StartsWith history seen → made_by 0 seen ≡ made_by 0 history → LeavesIt limits seen history steps
+pub left_alone : LeftAlone
 left_alone limits seen history steps s e =
     subst (λ (h : List Entry). LeavesIt limits seen h steps) (sym s.1) (others_leave limits seen s.0 steps (none_since 0 seen history s e))

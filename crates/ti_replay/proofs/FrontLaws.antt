@@ -1,6 +1,6 @@
 -- An environment's stop is a matter of its own entries, and what stays behind a front that stands for it.
 use Rattle.std.proofs.Common.{◌≡◌, ◌+◌, ◌==◌, Bool, true, false, cond, List, [], ◌∷◌, ◌++◌, refl, ap, sym, ◌∙◌, arith, append-nil, append_assoc, subst}
-use Rattle.std.specs.Prelude.{ℕ, if◌then◌else◌, take, drop}
+use Rattle.std.specs.Prelude.{ℕ, take, drop}
 use Rattle.ti_types.specs.Frames.{bare_trace}
 use Rattle.ti_types.specs.State.{bits_of}
 use Rattle.ti_types.specs.declared.answer.Answer.TheVariants as answer
@@ -14,25 +14,21 @@ use Rattle.ti_types.specs.declared.entry.Entry.{Entry}
 use Rattle.ti_types.specs.declared.entry.Entry.TheVariants.{Start, Own, Hand, Back, End, Asked, Stop, Read, Go}
 use Rattle.ti_replay.specs.Settling.{is_waiting_call}
 use Rattle.ti_types.specs.declared.call.Call.TheVariants.{State, FrameCount, Trace, Location, Suspend, Resume, GetWord, SetWord, Pop}
-use Rattle.ti_types.specs.declared.place.Frame.{Frame}
-use Rattle.ti_types.specs.declared.step.Step.TheVariants.{Leave}
-use Rattle.ti_types.specs.declared.view.ThreadView.{ThreadView}
-use Rattle.ti_replay.specs.Answers.{answer_of, is_running, or_zero}
-use Rattle.ti_replay.specs.Laws.{is_done}
-use Rattle.ti_replay.proofs.DoneLaws.{change_where_done}
-use Rattle.ti_replay.specs.View.{view, after, called, frames_after}
+use Rattle.ti_replay.specs.Answers.{is_running, or_zero}
+use Rattle.ti_replay.specs.View.{view, after}
 use Rattle.ti_replay.specs.Legal.{is_legal, is_stopper}
 use Rattle.ti_replay.specs.HistoryState.{HistoryState, history_state}
 use Rattle.ti_replay.proofs.NextStates.{next_state, allows, allows_all}
 use Rattle.ti_replay.specs.Makers.{maker, made_by}
-use Rattle.ti_replay.specs.Standing.{is_standing, is_own_entry, is_go_of, is_still}
+use Rattle.ti_replay.specs.Standing.{is_own_entry, is_go_of, is_still}
 use Rattle.ti_replay.proofs.BoundLaws.{all_quiet, called_stopper}
 use Rattle.ti_replay.proofs.CostLaws.{goes_on-append}
 use Rattle.ti_replay.proofs.HistoryStateLaws.{history_state-append, history_state-snoc, goes_on-allows}
 use Rattle.ti_replay.proofs.StandingLaws.{stands_still}
-use Rattle.ti_handshake.proofs.Modes.{calls_step}
-use Rattle.ti_handshake.proofs.Others.{others_leave}
-use Rattle.ti_vmop.specs.Stops.{stops_after, StopsAreOwn, lets_go, IsStill, frames_popped, popped_behind, FrontsTell}
+use Rattle.ti_replay.proofs.StopLaws.{call_frames}
+use Rattle.ti_replay.proofs.MakerLaws.{calls_step}
+use Rattle.ti_replay.proofs.AloneLaws.{others_leave}
+use Rattle.ti_replay.specs.Fronts.{stops_after, StopsAreOwn, lets_go, frames_popped, popped_behind, FrontsStay, FrontsStayByOwn, FrontsTell}
 
 stop_step : (limits : Limits) (s : HistoryState) (x : Entry) (env : EnvNo) → list_all is_waiting_call s.waiting ≡ true → allows limits s x ≡ true
     → is_stopper (next_state s x).view.stopper env ≡ stops_after env (is_stopper s.view.stopper env) x
@@ -134,18 +130,6 @@ waiting_calls limits s (x ∷ history) w = waiting_calls limits (next_state s x)
 calls_of : (limits : Limits) (history : List Entry) → list_all is_waiting_call (history_state limits history).waiting ≡ true
 calls_of limits history = subst (λ (s : HistoryState). list_all is_waiting_call s.waiting ≡ true) (sym (history_state-append limits [] history)) (waiting_calls limits (history_state limits []) history refl)
 
--- what a pop takes away
-leave_drops : (frames : List Frame) → frames_after frames Leave ≡ drop 1 frames
-leave_drops [] = refl
-leave_drops (f ∷ frames) = refl
-
-pop_drops : (v : ThreadView) (b : Bool) → (if b then record v { frames = frames_after v.frames Leave } else v).frames ≡ drop (if b then 1 else 0) v.frames
-pop_drops v true = leave_drops v.frames
-pop_drops v false = refl
-
-pop_frames : (v : ThreadView) (env : EnvNo) → (called v env Pop).frames ≡ drop (if is_done (answer_of v env Pop) then 1 else 0) v.frames
-pop_frames v env = ap (λ (w : ThreadView). w.frames) (change_where_done v env Pop) ∙ pop_drops v (is_done (answer_of v env Pop))
-
 -- what one entry of another takes away from a thread that does not run
 entry_frames : (limits : Limits) (front : List Entry) (x : Entry) → (maker x == 0) ≡ false → is_running (view limits front).mode ≡ false
     → (view limits (front ++ x ∷ [])).frames ≡ drop (frames_popped limits front x) (view limits front).frames
@@ -169,7 +153,7 @@ entry_frames limits front x other rests =
     one (Asked env n Resume) h = grind (arith, rests)
     one (Asked env n GetWord) h = refl
     one (Asked env n (SetWord word)) h = grind (arith, rests)
-    one (Asked env n Pop) h = grind (arith, rests) ∙ pop_frames s.view env
+    one (Asked env n Pop) h = grind (arith, rests) ∙ call_frames s.view env Pop
     one (Stop env) h = refl
     one (Read env n) h = refl
     one (Go env) h = refl
@@ -209,7 +193,7 @@ fronts_tell limits env front more rest max_count a still tells =
     ∙ (drop-drop (popped_behind limits (front ++ more) rest) (popped_behind limits front more) first ∙ ap (λ (n : ℕ). drop n first) (sym (pops_add_up limits front more rest))) in
     (tells.0, tells.1 ∙ (λ i. answer.Stack (bits_of (still.mode i) tells.0) (bare_trace (take (or_zero max_count) (frames i)))))
 
-pub front_stays : (limits : Limits) (env : EnvNo) (front more : List Entry) → is_legal limits (front ++ more) ≡ true → is_standing limits front env ≡ true → lets_go env more ≡ false → IsStill limits env front more
+pub front_stays : FrontsStay
 front_stays limits env front more legal stands stays =
     let still : is_still env more ≡ true = stands_still limits front more env legal stands in
     let none = none_own env more still stays in
@@ -225,3 +209,27 @@ front_stays limits env front more legal stands stays =
       mode = left.mode;
       frames = frames_behind limits front more none (grind (arith, parts.1));
     }
+
+-- whom an environment lets go is a matter of its own entries
+own_goes : (env : EnvNo) (more : List Entry) → lets_go env more ≡ lets_go env (made_by (env.0 + 1) more)
+own_goes env [] = refl
+own_goes env (x ∷ more) = one (own_goes env more) (maker x == env.0 + 1) refl
+  where
+    other : (x : Entry) → (maker x == env.0 + 1) ≡ false → is_go_of env x ≡ false
+    other Start h = refl
+    other (Own step) h = refl
+    other (Hand safe) h = refl
+    other Back h = refl
+    other End h = refl
+    other (Asked e n call) h = refl
+    other (Stop e) h = refl
+    other (Read e n) h = refl
+    other (Go e) h = grind (arith, nat_tests, h)
+
+    one : lets_go env more ≡ lets_go env (made_by (env.0 + 1) more) → (b : Bool) → (maker x == env.0 + 1) ≡ b → lets_go env (x ∷ more) ≡ lets_go env (cond (maker x == env.0 + 1) (x ∷ made_by (env.0 + 1) more) (made_by (env.0 + 1) more))
+    one rest true is = grind (arith, rest) ∙ ap (λ (b : Bool). lets_go env (cond b (x ∷ made_by (env.0 + 1) more) (made_by (env.0 + 1) more))) (sym is)
+    one rest false is = grind (arith, rest, other x is) ∙ ap (λ (b : Bool). lets_go env (cond b (x ∷ made_by (env.0 + 1) more) (made_by (env.0 + 1) more))) (sym is)
+
+pub front_stays_by_own : FrontsStayByOwn
+front_stays_by_own limits env front history legal stands later stays =
+    front_stays limits env front later.0 (subst (λ (l : List Entry). is_legal limits l ≡ true) later.1 legal) stands (own_goes env later.0 ∙ stays)

@@ -1,4 +1,5 @@
--- An environment's stop at one thread.
+-- An environment's stop at one thread: which entries say that it stands, and what stays from there until the environment
+-- lets the thread go.
 use Rattle.std.specs.Prelude.{ℕ, ℤ, ◌≡◌, ◌+◌, Bool, true, false, if◌then◌else◌, ◌==◌, List, [], ◌∷◌, ◌++◌, take, drop}
 use Rattle.std.specs.List.{fold, list_any}
 use Rattle.ti_types.specs.Frames.{bare_trace}
@@ -14,8 +15,6 @@ use Rattle.ti_replay.specs.Answers.{answer_of, or_zero}
 use Rattle.ti_replay.specs.Laws.{is_done}
 use Rattle.ti_replay.specs.Legal.{is_legal, is_stopper}
 use Rattle.ti_replay.specs.Makers.{made_by, StartsWith}
-use Rattle.ti_cell.specs.declared.view.View.{View}
-use Rattle.ti_handshake.specs.Call.{GoesOn, added}
 use Rattle.ti_replay.specs.Standing.{is_standing, is_go_of}
 use Rattle.ti_replay.specs.View.{view}
 
@@ -74,9 +73,9 @@ FrontsTell =
     (limits : Limits) (env : EnvNo) (front more rest : List Entry) (max_count : ℤ) (a : Answer) → IsStill limits env front more → TellsOf limits (front ++ more) rest max_count a
     → TellsOf limits front (more ++ rest) max_count a
 
--- The same of a desk: a seat of the environment that saw its thread stand, and has let nobody go since
-abbrev pub DesksStay : Type 0
-DesksStay =
-    (env : EnvNo) (old new : View) → old.number ≡ env.0 + 1 → old.mine ≡ made_by old.number old.seen → GoesOn old new
-    → is_standing old.subject.limits old.seen env ≡ true → lets_go env (added old new) ≡ false
-    → (later : StartsWith new.seen old.seen) → IsStill old.subject.limits env old.seen later.0
+-- The same of whoever knows the entries of the environment alone: of a history that goes on behind a front that stands, no
+-- more has to be known than that the environment let nobody go by an entry of its own
+abbrev pub FrontsStayByOwn : Type 0
+FrontsStayByOwn =
+    (limits : Limits) (env : EnvNo) (front history : List Entry) → is_legal limits history ≡ true → is_standing limits front env ≡ true
+    → (later : StartsWith history front) → lets_go env (made_by (env.0 + 1) later.0) ≡ false → IsStill limits env front later.0
