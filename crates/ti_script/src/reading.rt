@@ -11,7 +11,7 @@ use crate::event::event_in;
 use crate::fault::{LimitName, ScriptFault};
 use crate::head::{Bounds, bounds_in, names_in};
 use crate::names::{Cast, Names};
-use crate::tree::{array_in, has_exactly};
+use crate::tree::{array_in, give_up, has_exactly};
 use crate::walk::{EventList, Walk};
 use serde_json::Value;
 use std::alloc::Global;
@@ -145,7 +145,11 @@ pub fn read_walk(alloc: Global, bytes: &[u8]) -> Result<Walk, ScriptFault>
     ensures err { IfErr result (λ e. IsRefusal e bytes.now) }
 {
     match Value::from_slice(alloc, bytes) {
-        Ok(document) => walk_in(alloc, &document),
+        Ok(document) => {
+            let walk = walk_in(alloc, &document);
+            give_up(document);
+            walk
+        }
         Err(e) => if e.is_memory() {
             Err(ScriptFault::Memory)
         } else {

@@ -11,7 +11,7 @@ use crate::entry::entry_in;
 use crate::fault::{LimitName, ScriptFault};
 use crate::history::{EntryList, History};
 use crate::reading::{bounds_at, items_at, member};
-use crate::tree::has_exactly;
+use crate::tree::{give_up, has_exactly};
 use serde_json::Value;
 use std::alloc::Global;
 use ti_types::Limits;
@@ -116,7 +116,11 @@ pub fn read_history(alloc: Global, bytes: &[u8]) -> Result<History, ScriptFault>
     ensures err { IfErr result (λ e. IsRefusalBy history_fault e bytes.now) }
 {
     match Value::from_slice(alloc, bytes) {
-        Ok(document) => history_in(alloc, &document),
+        Ok(document) => {
+            let history = history_in(alloc, &document);
+            give_up(document);
+            history
+        }
         Err(e) => if e.is_memory() {
             Err(ScriptFault::Memory)
         } else {
