@@ -1,0 +1,135 @@
+//! One call with its reply.
+ghost use Rattle.std.specs.Prelude.{◌≡◌, ◌↔◌, true, Some, slice_get, IfOk};
+ghost use Rattle.ti_types.specs.Answer.{said};
+ghost use Rattle.ti_types.specs.declared.answer.Answer.TheVariants.{Refused};
+ghost use Rattle.ti_live.specs.declared.reply.Reply.TheVariants.{Plain};
+ghost use Rattle.ti_report.specs.Doings.{wants, events_of};
+ghost use Rattle.ti_report.specs.Fits.{sort_of};
+ghost use Rattle.ti_report.specs.Books.{page_in};
+ghost use Rattle.ti_report.specs.Accounts.{told_one, accounted_all, whole_now, IsReplyNow, CallNow, called_now};
+
+use crate::account::Account;
+use crate::book::Book;
+use crate::checking::codes_fit;
+use crate::events::events_of;
+use crate::stacks::stacks_fit;
+use crate::whole::why_whole;
+use std::alloc::{AllocError, Global};
+use ti_live::{AgentCall, Reply};
+use ti_types::{Answer, Event, Limits, TiError};
+
+/// Whether the reply says that memory was wanting.
+fn wants(reply: &Reply) -> bool
+    ensures { result ≡ wants reply.now }
+{
+    matches!(reply, Reply::Plain(Answer::Refused(TiError::OutOfMemory)))
+}
+
+/// Whether the reply is the refusal with this error.
+fn is_refusal(reply: &Reply, error: TiError) -> bool
+    ensures { (result ≡ true) ↔ (reply.now ≡ Plain (Refused error)) }
+{
+    match reply {
+        Reply::Plain(Answer::Refused(other)) => *other == error,
+        _ => false,
+    }
+}
+
+/// Whether one event is told this answer.
+fn one_fits(
+    account: &mut Account,
+    limits: Limits,
+    books: &[Book],
+    wanting: bool,
+    events: &[Event],
+    answer: &Answer,
+) -> bool
+    ensures fits { (result ≡ true) ↔ (told_one limits (λ t. page_in (slice_get books.now t) account.old.env) account.old wanting events.now ≡ Some (said answer.now)) }
+    ensures account { result ≡ true → account.new ≡ accounted_all limits account.old wanting events.now }
+{
+    match events {
+        [event] => {
+            if !account.says(limits, books, wanting, *event, answer) {
+                return false;
+            }
+            account.account(limits, wanting, *event);
+            true
+        }
+        _ => false,
+    }
+}
+
+/// Whether a call that has done these is replied so.
+#[tactic(auto, using(crate::proofs::CheckLaws::coded_calls))]
+fn reply_fits(
+    account: &mut Account,
+    limits: Limits,
+    books: &[Book],
+    wanting: bool,
+    call: &AgentCall,
+    events: &[Event],
+    reply: &Reply,
+) -> bool
+    requires { events.now ≡ events_of limits account.old.env call.now }
+    ensures fits { (result ≡ true) ↔ IsReplyNow limits (λ t. page_in (slice_get books.now t) account.old.env) account.old wanting (sort_of call.now) events.now reply.now }
+    ensures account { result ≡ true → account.new ≡ accounted_all limits account.old wanting events.now }
+{
+    match (call, reply) {
+        (AgentCall::SuspendList(_) | AgentCall::ResumeList(_), Reply::Codes(codes)) => {
+            codes_fit(account, limits, books, wanting, events, codes.as_slice())
+        }
+        (AgentCall::AllStacks(_), Reply::Stacks(infos)) => {
+            stacks_fit(
+                account,
+                limits,
+                books,
+                wanting,
+                events,
+                true,
+                infos.as_slice(),
+            )
+        }
+        (AgentCall::ListStacks(_, _), Reply::Stacks(infos)) => {
+            stacks_fit(
+                account,
+                limits,
+                books,
+                wanting,
+                events,
+                false,
+                infos.as_slice(),
+            )
+        }
+        (
+            AgentCall::SuspendList(_)
+            | AgentCall::ResumeList(_)
+            | AgentCall::AllStacks(_)
+            | AgentCall::ListStacks(_, _),
+            _,
+        ) => false,
+        (_, Reply::Plain(answer)) => one_fits(account, limits, books, wanting, events, answer),
+        _ => false,
+    }
+}
+
+/// Whether a call is replied so. The error is want of memory.
+pub fn call_fits(
+    alloc: Global,
+    account: &mut Account,
+    limits: Limits,
+    books: &[Book],
+    call: &AgentCall,
+    reply: &Reply,
+) -> Result<bool, AllocError>
+    ensures fits { IfOk result (λ yes. (yes ≡ true) ↔ CallNow limits (λ t. page_in (slice_get books.now t) account.old.env) account.old call.now reply.now) }
+    ensures account { IfOk result (λ yes. yes ≡ true → account.new ≡ called_now limits account.old call.now reply.now) }
+{
+    let wanting = wants(reply);
+    if let Some(error) = why_whole(alloc, account, limits, wanting, call)? {
+        return Ok(is_refusal(reply, error));
+    }
+    let env = account.env();
+    let events = events_of(alloc, limits, env, call)?;
+    let fits = reply_fits(account, limits, books, wanting, call, &events, reply);
+    Ok(fits)
+}

@@ -1,0 +1,102 @@
+//! The stacks of a call for several threads.
+ghost use Rattle.std.specs.Prelude.{◌≡◌, ◌↔◌, ◌++◌, true, ◌∷◌, Some, length, drop, slice_get, IfSome, IfNone, List, Option};
+ghost use Rattle.ti_live.specs.declared.reply.StackInfo.{StackInfo};
+ghost use Rattle.ti_report.specs.Books.{page_in};
+ghost use Rattle.ti_report.specs.Fits.{stack_told, said_info};
+ghost use Rattle.ti_report.specs.Accounts.{CanCount, told_now, stacks_now, accounted_all, kept, said_infos};
+ghost use Rattle.ti_types.specs.Frames.{bare_trace};
+
+use crate::account::Account;
+use crate::book::Book;
+use crate::same::same_frames;
+use ti_live::StackInfo;
+use ti_types::{Answer, Event, Limits, ThreadNo, TraceBuf};
+
+/// Whether a stack says this of a thread.
+fn same_info(info: &StackInfo, thread: ThreadNo, state: u32, frames: &TraceBuf) -> bool
+    ensures { (result ≡ true) ↔ (said_info info.now ≡ record { thread = thread; state = state; frames = bare_trace frames.now.frames }) }
+{
+    info.thread == thread
+        && info.state == state
+        && same_frames(info.frames.frames(), frames.frames())
+}
+
+/// The place behind a stack, where the stack at a place is that one, or is left out since the thread is not alive. None
+/// where it is another.
+fn behind_stack(
+    thread: ThreadNo,
+    state: u32,
+    frames: &TraceBuf,
+    live: bool,
+    infos: &[StackInfo],
+    next: usize,
+) -> Option<usize>
+    ensures some { IfSome result (λ n. (rest : List (Option StackInfo)) → (said_infos (drop next infos.now) ≡ kept live (Some (record { thread = thread; state = state; frames = bare_trace frames.now.frames }) ∷ rest)) ↔ (said_infos (drop n infos.now) ≡ kept live rest)) }
+    ensures none { IfNone result ((rest : List (Option StackInfo)) → said_infos (drop next infos.now) ≡ kept live (Some (record { thread = thread; state = state; frames = bare_trace frames.now.frames }) ∷ rest) → ⊥) }
+{
+    if live && state & 1 != 1 {
+        return Some(next);
+    }
+    if next >= infos.len() {
+        return None;
+    }
+    if !same_info(&infos[next], thread, state, frames) {
+        return None;
+    }
+    Some(next + 1)
+}
+
+/// The place behind the stack that a call is told, where the stack at a place is that one, and the place itself for a stop
+/// or a go that is done. None where it is not so.
+fn next_stack(
+    account: &Account,
+    limits: Limits,
+    books: &[Book],
+    wanting: bool,
+    event: Event,
+    live: bool,
+    infos: &[StackInfo],
+    next: usize,
+) -> Option<usize>
+    ensures some { IfSome result (λ n. (rest : List (Option StackInfo)) → (said_infos (drop next infos.now) ≡ kept live (stack_told event (told_now limits (λ t. page_in (slice_get books.now t) account.now.env) account.now wanting event) ++ rest)) ↔ (said_infos (drop n infos.now) ≡ kept live rest)) }
+    ensures none { IfNone result ((rest : List (Option StackInfo)) → said_infos (drop next infos.now) ≡ kept live (stack_told event (told_now limits (λ t. page_in (slice_get books.now t) account.now.env) account.now wanting event) ++ rest) → ⊥) }
+    ensures room { IfSome result (λ n. CanCount limits account.now wanting event) }
+{
+    let Event::Read(_, thread, _) = event else {
+        if !account.says(limits, books, wanting, event, &Answer::Done) {
+            return None;
+        }
+        return Some(next);
+    };
+    match account.stack(limits, books, wanting, event) {
+        Some((state, frames)) => behind_stack(thread, state, frames, live, infos, next),
+        None => None,
+    }
+}
+
+/// Whether these events, one after another, are told these stacks: those of all that they read, or of those alone that
+/// are alive.
+pub fn stacks_fit(
+    account: &mut Account,
+    limits: Limits,
+    books: &[Book],
+    wanting: bool,
+    events: &[Event],
+    live: bool,
+    infos: &[StackInfo],
+) -> bool
+    ensures fits { (result ≡ true) ↔ (said_infos infos.now ≡ kept live (stacks_now limits (λ t. page_in (slice_get books.now t) account.old.env) account.old wanting events.now)) }
+    ensures account { result ≡ true → account.new ≡ accounted_all limits account.old wanting events.now }
+{
+    let mut next = 0;
+    for i in 0..events.len() {
+        let Some(place) = next_stack(
+            account, limits, books, wanting, events[i], live, infos, next,
+        ) else {
+            return false;
+        };
+        next = place;
+        account.account(limits, wanting, events[i]);
+    }
+    next >= infos.len()
+}
