@@ -1,6 +1,6 @@
 # `make run` builds the program and runs it on a first example. `make test` is the whole gate.
 # `make examples`, `make cases`, `make bench` and `make refused` run the program that `make run` has built: on the examples,
-# on all cases, on large documents (and a program that holds cells), and with each allocation refused in turn (and the
+# on all cases, on large documents (and programs that hold cells and run threads), and with each allocation refused in turn (and the
 # tests of a core so). `make edits` tries the edits that the gate leaves out.
 # `make try` runs the program on a first example without proving anything.
 .PHONY: run try test examples cases bench refused edits
@@ -28,6 +28,8 @@ bench:
 	python3 bench/bench.py
 	cd crates/tiholds && rt run
 	python3 bench/cells.py
+	cd crates/tiruns && rt run -- steps 0
+	python3 bench/running.py
 
 refused:
 	python3 ci/refused_memory.py

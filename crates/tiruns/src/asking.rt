@@ -1,0 +1,178 @@
+use crate::spent::{Began, Spent};
+use std::rt::Clock;
+use std::sync::{Mutex, Wait};
+use std::thread::{Threads, join};
+use std::time::CpuClock;
+use ti_agent::Env;
+use ti_types::{ThreadNo, TiError};
+use ti_vmop::VmTurn;
+
+/// What an environment asks, again and again, of thread 0, or of all.
+#[derive(Clone, Copy)]
+pub enum Work {
+    State,
+    Word,
+    Count,
+    Trace,
+    All,
+}
+
+/// How many environments ask at once.
+#[derive(Clone, Copy)]
+pub enum Crowd {
+    Nobody,
+    One,
+    Two,
+    Four,
+}
+
+impl Crowd {
+    pub fn size(self) -> u32 {
+        match self {
+            Crowd::Nobody => 0,
+            Crowd::One => 1,
+            Crowd::Two => 2,
+            Crowd::Four => 4,
+        }
+    }
+}
+
+/// What those who ask share: the turn, and how many of them are done.
+#[derive(Drop)]
+pub struct Shared {
+    pub turn: Mutex<VmTurn>,
+    pub done: Mutex<u32>,
+}
+
+impl Shared {
+    pub fn new() -> Self {
+        Shared {
+            turn: Mutex::new(VmTurn::new()),
+            done: Mutex::new(0),
+        }
+    }
+
+    /// One more is done.
+    fn note_done<R: Wait>(&self, rt: &R) {
+        let mut done = self.done.lock(rt);
+        *done = done.saturating_add(1);
+    }
+
+    /// How many are done.
+    pub fn count_done<R: Wait>(&self, rt: &R) -> u32 {
+        *self.done.lock(rt)
+    }
+}
+
+impl Work {
+    /// How often an environment may ask it before its calls are spent: it has 1,024 at each thread, and a trace of all
+    /// threads takes two of each.
+    fn times(self) -> u32 {
+        match self {
+            Work::All => 512,
+            _ => 1024,
+        }
+    }
+
+    /// Asks once.
+    fn once<R: Wait + AllocGlobal>(
+        self,
+        rt: &R,
+        shared: &Shared,
+        env: &mut Env<'_>,
+    ) -> Result<(), TiError> {
+        let thread = ThreadNo(0);
+        match self {
+            Work::State => {
+                let _bits = env.get_thread_state(rt, thread)?;
+            }
+            Work::Word => {
+                let _word = env.get_thread_local_storage(rt, thread)?;
+            }
+            Work::Count => {
+                let _count = env.get_frame_count(rt, thread)?;
+            }
+            Work::Trace => {
+                let _frames = env.get_stack_trace(rt, rt.alloc(), thread, 0, 32)?;
+            }
+            Work::All => {
+                let _stacks = env.get_all_stack_traces(rt, rt.alloc(), &shared.turn, 32)?;
+            }
+        }
+        Ok(())
+    }
+}
+
+/// Asks until all calls are spent.
+fn ask_on<R: Wait + Clock + CpuClock + AllocGlobal>(
+    rt: &R,
+    shared: &Shared,
+    env: Env<'_>,
+    work: Work,
+) -> Option<Spent> {
+    let mut env = env;
+    let times = work.times();
+    let began = Began::now(rt)?;
+    for _ in 0..times {
+        if work.once(rt, shared, &mut env).is_err() {
+            return None;
+        }
+    }
+    began.spent(rt, u64::from(times))
+}
+
+/// The same, and then notes that it is done.
+fn ask<R: Wait + Clock + CpuClock + AllocGlobal>(
+    rt: &R,
+    shared: &Shared,
+    env: Env<'_>,
+    work: Work,
+) -> Option<Spent> {
+    let spent = ask_on(rt, shared, env, work);
+    shared.note_done(rt);
+    spent
+}
+
+fn both(one: Option<Spent>, two: Option<Spent>) -> Option<Spent> {
+    Some(one?.and(two?))
+}
+
+/// Two environments ask at once.
+fn ask_two<R: Threads + Wait + Sync + Clock + CpuClock + AllocGlobal>(
+    rt: &R,
+    shared: &Shared,
+    envs: (Env<'_>, Env<'_>),
+    work: Work,
+) -> Option<Spent> {
+    let (first, second) = envs;
+    let (one, two) = join(
+        rt,
+        move || -> Option<Spent> { ask(rt, shared, first, work) },
+        move || -> Option<Spent> { ask(rt, shared, second, work) },
+    );
+    both(one, two)
+}
+
+/// So many environments ask at once.
+pub fn ask_all<R: Threads + Wait + Sync + Clock + CpuClock + AllocGlobal>(
+    rt: &R,
+    shared: &Shared,
+    envs: ((Env<'_>, Env<'_>), (Env<'_>, Env<'_>)),
+    work: Work,
+    crowd: Crowd,
+) -> Option<Spent> {
+    let (front, back) = envs;
+    match crowd {
+        Crowd::Nobody => Some(Spent::nothing()),
+        Crowd::One => ask(rt, shared, front.0, work),
+        Crowd::Two => ask_two(rt, shared, front, work),
+        Crowd::Four => {
+            let (one, two) = join(
+                rt,
+                move || -> Option<Spent> { ask_two(rt, shared, front, work) },
+                move || -> Option<Spent> { ask_two(rt, shared, back, work) },
+            );
+            both(one, two)
+        }
+    }
+}
