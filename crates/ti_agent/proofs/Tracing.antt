@@ -27,7 +27,7 @@ use Rattle.ti_agent.specs.Traces.{Telling, ReadsOne, ReadsEach, told_stack, told
 use Rattle.std.proofs.lemmas.List.{map-append}
 use Rattle.ti_vmop.specs.Turns.{Stood, with_reads, one_read_more}
 use Rattle.std.specs.Prelude.{◌^◌}
-use Rattle.ti_agent.specs.declared.traces.StackInfo.{StackInfo}
+use Rattle.ti_types.specs.declared.stack.StackInfo.{StackInfo}
 use Rattle.ti_agent.proofs.Whole.{set_other}
 use Rattle.ti_agent.proofs.Listing.{few_then, times_none, times_once, listed_all, distinct_all, there_all}
 

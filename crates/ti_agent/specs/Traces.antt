@@ -22,7 +22,7 @@ use Rattle.ti_replay.specs.Fronts.{stops_by}
 use Rattle.ti_vmop.specs.Turns.{Listed, is_listed, are_paid, spend_all, AtEach, AllStand, IsRead}
 use Rattle.ti_vmop.specs.declared.standing.Round.{Round}
 use Rattle.ti_agent.specs.Env.{Environment}
-use Rattle.ti_agent.specs.declared.traces.StackInfo.{StackInfo}
+use Rattle.ti_types.specs.declared.stack.StackInfo.{StackInfo}
 
 -- so many threads, in the order of their numbers, each with one read to come
 abbrev pub all_once : ℕ → Listed

@@ -15,4 +15,3 @@ mod lists;
 mod traces;
 
 pub use env::Env;
-pub use traces::StackInfo;

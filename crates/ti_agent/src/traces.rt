@@ -14,16 +14,8 @@ use std::alloc::Global;
 use std::sync::{Mutex, Wait};
 use ti_env::EnvState;
 use ti_handshake::Desk;
-use ti_types::{Answer, EnvNo, ThreadNo, TiError, TraceBuf};
+use ti_types::{Answer, EnvNo, StackInfo, ThreadNo, TiError, TraceBuf};
 use ti_vmop::{Round, Standing, VmTurn, stop_all};
-
-/// What is told of one thread (JVM TI 11, jvmtiStackInfo): the bits of its state, and its frames, the newest first.
-#[derive(Drop)]
-pub struct StackInfo {
-    pub thread: ThreadNo,
-    pub state: u32,
-    pub frames: TraceBuf,
-}
 
 /// So many empty buffers.
 fn buffers(

@@ -12,5 +12,5 @@ mod report;
 
 pub use call::AgentCall;
 pub use listed::Listed;
-pub use reply::{Reply, StackInfo};
+pub use reply::Reply;
 pub use report::{LiveReport, Refusal, Script};

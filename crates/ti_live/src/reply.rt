@@ -1,15 +1,5 @@
 use crate::listed::Listed;
-use ti_types::{Answer, ThreadNo, TraceBuf};
-
-/// What is told of one thread (JVM TI 11, jvmtiStackInfo).
-#[derive(Drop, Debug)]
-pub struct StackInfo {
-    pub thread: ThreadNo,
-    /// The bits of GetThreadState.
-    pub state: u32,
-    /// The newest frames, the newest first. A thread that is not alive has none.
-    pub frames: TraceBuf,
-}
+use ti_types::{Answer, StackInfo};
 
 /// The reply to an agent's call.
 #[derive(Drop, Debug)]

@@ -27,7 +27,7 @@ use Rattle.ti_report.proofs.EventLaws.{all_from, all_alike}
 use Rattle.ti_report.specs.Doings.{events_of, wants, refused_whole, can_pay, times, once, looks, every_thread, done_by, all_done}
 use Rattle.ti_report.specs.Told.{is_call, used, got, history_at}
 use Rattle.ti_replay.specs.Admission.{Happening}
-use Rattle.ti_live.specs.declared.reply.StackInfo.{StackInfo}
+use Rattle.ti_types.specs.declared.stack.StackInfo.{StackInfo}
 use Rattle.std.proofs.lemmas.List.{get_or-replicate, length-replicate}
 use Rattle.ti_report.specs.declared.book.Book.{Book}
 use Rattle.ti_report.specs.Books.{Row, page_in, rows_in, spent_in, AreBooks}

@@ -24,7 +24,7 @@ use Rattle.ti_live.specs.declared.call.AgentCall.{AgentCall}
 use Rattle.ti_live.specs.declared.call.AgentCall.TheVariants as call
 use Rattle.ti_live.specs.declared.reply.Reply.{Reply}
 use Rattle.ti_live.specs.declared.reply.Reply.TheVariants.{Plain, Codes, Stacks}
-use Rattle.ti_live.specs.declared.reply.StackInfo.{StackInfo}
+use Rattle.ti_types.specs.declared.stack.StackInfo.{StackInfo}
 use Rattle.ti_report.specs.Doings.{all_done}
 use Rattle.ti_report.specs.Told.{used, got, history_at}
 use Rattle.ti_report.specs.Walks.{WalkFits}

@@ -27,7 +27,7 @@ use Rattle.ti_replay.specs.Admission.{holds_all, Happening, dealings, refusal_of
 use Rattle.ti_replay.specs.Legal.{calls_spent}
 use Rattle.ti_replay.specs.Outcomes.{env_word, env_word_after}
 use Rattle.ti_report.specs.Told.{thread_of, is_call, is_due, refused_or_got, got_by, got, used, history_at}
-use Rattle.ti_live.specs.declared.reply.StackInfo.{StackInfo}
+use Rattle.ti_types.specs.declared.stack.StackInfo.{StackInfo}
 use Rattle.ti_report.specs.Books.{Row}
 use Rattle.ti_report.specs.Fits.{code_of, stack_told, is_live, said_info, Sort, single, coded, live_stacks, stacks, sort_of}
 

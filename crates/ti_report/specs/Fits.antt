@@ -19,7 +19,7 @@ use Rattle.ti_live.specs.declared.call.AgentCall.{AgentCall}
 use Rattle.ti_live.specs.declared.call.AgentCall.TheVariants.{SuspendList, ResumeList, AllStacks, ListStacks}
 use Rattle.ti_live.specs.declared.reply.Reply.{Reply}
 use Rattle.ti_live.specs.declared.reply.Reply.TheVariants.{Plain, Codes, Stacks}
-use Rattle.ti_live.specs.declared.reply.StackInfo.{StackInfo}
+use Rattle.ti_types.specs.declared.stack.StackInfo.{StackInfo}
 use Rattle.ti_live.specs.declared.report.Script.{Script}
 use Rattle.ti_live.specs.declared.report.LiveReport.{LiveReport}
 use Rattle.ti_report.specs.Doings.{refused_whole, wants, done_by, all_done}

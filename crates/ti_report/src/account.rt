@@ -16,8 +16,9 @@ use crate::book::{Book, Row};
 use crate::same::{asks_same, same_answer, same_frames};
 use std::alloc::{AllocError, Global};
 use std::marker::Model;
-use ti_live::StackInfo;
-use ti_types::{Answer, Call, Caps, EnvNo, Event, Limits, ThreadNo, TiError, TraceBuf, needs};
+use ti_types::{
+    Answer, Call, Caps, EnvNo, Event, Limits, StackInfo, ThreadNo, TiError, TraceBuf, needs,
+};
 
 /// What an agent has done so far: its capabilities, its word, and by thread how many of its calls it has spent and how many
 /// of its entries it has used.

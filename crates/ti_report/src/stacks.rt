@@ -1,6 +1,6 @@
 //! The stacks of a call for several threads.
 ghost use Rattle.std.specs.Prelude.{◌≡◌, ◌↔◌, ◌++◌, true, ◌∷◌, Some, length, drop, slice_get, IfSome, IfNone, List, Option};
-ghost use Rattle.ti_live.specs.declared.reply.StackInfo.{StackInfo};
+ghost use Rattle.ti_types.specs.declared.stack.StackInfo.{StackInfo};
 ghost use Rattle.ti_report.specs.Books.{page_in};
 ghost use Rattle.ti_report.specs.Fits.{stack_told, said_info};
 ghost use Rattle.ti_report.specs.Accounts.{CanCount, told_now, stacks_now, accounted_all, kept, said_infos};
@@ -9,8 +9,7 @@ ghost use Rattle.ti_types.specs.Frames.{bare_trace};
 use crate::account::Account;
 use crate::book::Book;
 use crate::same::same_frames;
-use ti_live::StackInfo;
-use ti_types::{Answer, Event, Limits, ThreadNo, TraceBuf};
+use ti_types::{Answer, Event, Limits, StackInfo, ThreadNo, TraceBuf};
 
 /// Whether a stack says this of a thread.
 fn same_info(info: &StackInfo, thread: ThreadNo, state: u32, frames: &TraceBuf) -> bool

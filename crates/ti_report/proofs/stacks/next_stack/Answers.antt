@@ -1,7 +1,7 @@
 use Rattle.std.proofs.Common.{◌≡◌, ◌↔◌, ◌++◌, ◌∷◌, [], List, Option, Some, None, drop, slice_get, IfSome, IfNone, sym, ◌∙◌, subst, rules}
 use Rattle.ti_types.specs.declared.answer.Answer.{Answer}
 use Rattle.ti_types.specs.Frames.{bare_trace}
-use Rattle.ti_live.specs.declared.reply.StackInfo.{StackInfo}
+use Rattle.ti_types.specs.declared.stack.StackInfo.{StackInfo}
 use Rattle.ti_report.specs.Books.{page_in}
 use Rattle.ti_report.specs.Fits.{stack_of, stack_told}
 use Rattle.ti_report.specs.Accounts.{told_now, kept, said_infos}

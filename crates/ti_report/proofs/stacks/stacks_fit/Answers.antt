@@ -2,7 +2,7 @@ use Rattle.std.proofs.Common.{◌≡◌, ◌↔◌, [], refl, nat_le, ◌++◌, 
 use Rattle.ti_types.specs.declared.event.Event.{Event}
 use Rattle.ti_types.specs.declared.event.Event.TheVariants.{Start}
 use Rattle.ti_types.specs.declared.numbers.EnvNo.{EnvNo}
-use Rattle.ti_live.specs.declared.reply.StackInfo.{StackInfo}
+use Rattle.ti_types.specs.declared.stack.StackInfo.{StackInfo}
 use Rattle.ti_report.specs.Books.{Row, page_in}
 use Rattle.ti_report.specs.Fits.{stack_told}
 use Rattle.ti_report.specs.Accounts.{told_now, accounted, stacks_now, kept, said_infos}
