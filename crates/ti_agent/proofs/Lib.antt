@@ -2,4 +2,5 @@ pub mod Replied
 pub mod Posting
 pub mod Whole
 pub mod Listing
+pub mod Counts
 pub mod Tracing

@@ -1,9 +1,10 @@
 -- An environment while its threads are stopped, read and let go.
-use Rattle.std.proofs.Common.{◌≡◌, ◌≢◌, ℕ, ℤ, zero, suc, ◌+◌, ◌-◌, ◌<◌, ◌≤◌, Bool, true, false, inl, inr, List, [], ◌∷◌, ◌++◌, length, map, take, drop, refl, ap, sym, ◌∙◌, arith, subst, eq-eqb, ne_eqb, nat_lt, length-set, length-append, append_assoc, Some, if◌then◌else◌}
+use Rattle.std.proofs.Common.{◌≡◌, ◌≢◌, ℕ, ℤ, zero, suc, ◌+◌, ◌-◌, ◌<◌, Bool, true, false, inl, inr, List, [], ◌∷◌, ◌++◌, length, take, drop, refl, ap, sym, ◌∙◌, arith, subst, eq-eqb, ne_eqb, nat_lt, length-set, length-append, append_assoc, Some, if◌then◌else◌}
 use Rattle.std.specs.Prelude.{slice_get, slice_index_or, slice_index}
 use Rattle.std.proofs.lemmas.Bool.{cases_eq, cases_Bool}
 use Rattle.std.proofs.lemmas.Bool.Decides.{nat_tests}
 use Rattle.std.proofs.lemmas.List.Sums.{fold-append, sum_by-append}
+use Rattle.ti_types.specs.declared.answer.Answer.{Answer}
 use Rattle.ti_types.specs.declared.entry.Entry.{Entry}
 use Rattle.ti_types.specs.declared.entry.Entry.TheVariants.{Stop, Read, Go}
 use Rattle.ti_types.specs.declared.limits.Limits.{Limits}
@@ -23,13 +24,13 @@ use Rattle.ti_vmop.specs.Turns.{Listed, is_listed, AreDistinct, AreThere, are_pa
 use Rattle.ti_vmop.proofs.Each.{in_range, untouched}
 use Rattle.ti_vmop.proofs.Uses.{was_there, has_added, unlisted_stays, spent_then, more_spent}
 use Rattle.ti_agent.specs.Env.{Environment, IsDesk, IsWhole}
-use Rattle.ti_agent.specs.Traces.{Telling, ReadsOne, ReadsEach, told_stack, told_alive, Told, IsHeld, AreHeld, times, AreLeft, AreRoomy, HasRead, told_info, all_once}
+use Rattle.ti_agent.specs.Traces.{Telling, ReadsOne, ReadsEach, told_stack, told_each, Told, IsHeld, AreHeld, times, are_there, is_stack, each_once, AreLeft, AreListed, AreRoomy, HasRead, told_info}
 use Rattle.std.proofs.lemmas.List.{map-append}
 use Rattle.ti_vmop.specs.Turns.{Stood, with_reads, one_read_more}
 use Rattle.std.specs.Prelude.{◌^◌}
 use Rattle.ti_types.specs.declared.stack.StackInfo.{StackInfo}
 use Rattle.ti_agent.proofs.Whole.{set_other}
-use Rattle.ti_agent.proofs.Listing.{few_then, times_none, times_once, listed_all, distinct_all, there_all}
+use Rattle.ti_agent.proofs.Listing.{times_high, times_here, listed_once, distinct_once, there_once, paid_for, are_listed}
 
 -- Before the stops
 
@@ -57,11 +58,14 @@ same_env s e whole is =
     let f = first_desk s.desks whole.some in
     is f.0 f.1 ∙ (whole.desks 0 f.0 f.1).env_is
 
-pub distinct_in : (l : Listed) (n : ℕ) → l ≡ all_once n → AreDistinct l
-distinct_in l n is = subst AreDistinct (sym is) (distinct_all n)
+pub distinct_in : (l : Listed) (n : ℕ) (t : List ThreadNo) → l ≡ each_once n t → AreDistinct l
+distinct_in l n t is = subst AreDistinct (sym is) (distinct_once n t)
 
-pub there_in : (l : Listed) (n m : ℕ) → l ≡ all_once n → n ≡ m → AreThere m l
-there_in l n m is same = subst (λ (z : ℕ × Listed). AreThere z.0 z.1) (λ j. (same j, sym is j)) (there_all n)
+pub there_in : (l : Listed) (n m : ℕ) (t : List ThreadNo) → l ≡ each_once n t → n ≡ m → AreThere m l
+there_in l n m t is same = subst (λ (z : ℕ × Listed). AreThere z.0 z.1) (λ j. (same j, sym is j)) (there_once n t)
+
+pub all_listed : (l : Listed) (n : ℕ) (t : List ThreadNo) → l ≡ each_once n t → are_there n t ≡ true → AreListed l t
+all_listed l n t is there = subst (λ (z : Listed). AreListed z t) (sym is) (are_listed n t there)
 
 -- What the stops spend
 
@@ -171,37 +175,34 @@ held_after_stops s l z ds whole distinct there paid spends each stand = record {
           | inr is ↦ unlisted i w.0 q is w.1 e
         ]
 
--- what is left to each thread of all, behind the stops
-pub left_after_stops : (s z : EnvValue) (n : ℕ) → length s.spent ≡ n → are_paid s (all_once n) ≡ true → z ≡ spend_all s (all_once n) → AreThere n (all_once n) → AreLeft z (all_once n)
-left_after_stops s z n count paid spends there i =
-    let l = all_once n in
-    elim (cases_Bool (is_listed i l)) [
-      | inl is ↦
-          let within : i < n = (let h : nat_lt i n ≡ true = sym (listed_all i n) ∙ is in grind (arith, nat_tests, h)) in
-          let two : 2 ≤ left_at s (record { 0 = i }) = enough within in
-          let left : left_at s (record { 0 = i }) ≡ s.limits.calls - spent_at s (record { 0 = i }) = left_is s (record { 0 = i }) (omega (arith, within, count)) in
-          let spent : spent_at z (record { 0 = i }) ≡ spent_at s (record { 0 = i }) + 1 = ap (λ (v : EnvValue). spent_at v (record { 0 = i })) spends ∙ spent_listed s l n i (distinct_all n) there count is in
-          let many : length z.spent ≡ length s.spent = ap (λ (v : EnvValue). length v.spent) spends ∙ count_spent s l in
-          let most : z.limits.calls ≡ s.limits.calls = ap (λ (v : EnvValue). v.limits.calls) spends ∙ ap (λ (v : Limits). v.calls) (limits_all s l) in
-          let now : left_at z (record { 0 = i }) ≡ z.limits.calls - spent_at z (record { 0 = i }) = left_is z (record { 0 = i }) (omega (arith, within, count, many)) in
-          omega (arith, times_once i l (distinct_all n), two, left, spent, most, now)
-      | inr is ↦ omega (arith, times_none i l is)
+-- what is left to each thread of a list, behind the stops
+pub left_in : (s z : EnvValue) (l : List ThreadNo) (stopping : Listed) → stopping ≡ each_once (length s.spent) l → are_there (length s.spent) l ≡ true → are_paid s stopping ≡ true → z ≡ spend_all s stopping → AreLeft z l
+left_in s z l stopping is there paid spends i =
+    elim (cases_eq (times i l) 0) [
+      | inl none ↦ omega (arith, none)
+      | inr some ↦
+          let within : i < n = elim (cases_Bool (nat_lt i n)) [
+            | inl yes' ↦ grind (arith, nat_tests, yes')
+            | inr no' ↦ absurd (some (times_high n i l there (grind (arith, nat_tests, no'))))
+          ] in
+          let listed : is_listed i once ≡ true = listed_once n i l within some in
+          let enough : times i l < left_at s (record { 0 = i }) = paid_for s n i l within (ap (are_paid s) (sym is) ∙ paid) some in
+          let left : left_at s (record { 0 = i }) ≡ s.limits.calls - spent_at s (record { 0 = i }) = left_is s (record { 0 = i }) within in
+          let spent : spent_at z (record { 0 = i }) ≡ spent_at s (record { 0 = i }) + 1 = ap (λ (v : EnvValue). spent_at v (record { 0 = i })) stops ∙ spent_listed s once n i (distinct_once n l) (there_once n l) refl listed in
+          let many : length z.spent ≡ length s.spent = ap (λ (v : EnvValue). length v.spent) stops ∙ count_spent s once in
+          let most : z.limits.calls ≡ s.limits.calls = ap (λ (v : EnvValue). v.limits.calls) stops ∙ ap (λ (v : Limits). v.calls) (limits_all s once) in
+          let now : left_at z (record { 0 = i }) ≡ z.limits.calls - spent_at z (record { 0 = i }) = left_is z (record { 0 = i }) (omega (arith, within, many)) in
+          omega (arith, enough, left, spent, most, now)
     ]
   where
-    enough : i < n → 2 ≤ left_at s (record { 0 = i })
-    enough within =
-        elim (cases_Bool (nat_lt (left_at s (record { 0 = i })) 2)) [
-          | inl few ↦
-              let less : left_at s (record { 0 = i }) < 2 = grind (arith, nat_tests, few) in
-              let o : true ≡ false = sym paid ∙ few_then s i n within less in
-              cc
-          | inr many ↦ grind (arith, nat_tests, many)
-        ]
+    n : ℕ
+    n = length s.spent
 
-pub left_in : (s z : EnvValue) (l : Listed) → l ≡ all_once (length s.spent) → are_paid s l ≡ true → z ≡ spend_all s l → AreLeft z l
-left_in s z l is paid spends =
-    let n = length s.spent in
-    subst (AreLeft z) (sym is) (left_after_stops s z n refl (ap (are_paid s) (sym is) ∙ paid) (spends ∙ ap (spend_all s) is) (there_all n))
+    once : Listed
+    once = each_once n l
+
+    stops : z ≡ spend_all s once
+    stops = spends ∙ ap (spend_all s) is
 
 -- Reads
 
@@ -276,24 +277,24 @@ held_after_read s n l m x held is_in left there r = record {
         ]
 
 -- what is left to the others, and to the same thread later
-pub left_then : (s z : EnvValue) (x : ThreadNo × ℕ) (rest : Listed) → AreLeft s (x ∷ rest) → z ≡ with_spent s x.0 → x.0.0 < length s.spent → AreLeft z rest
+pub left_then : (s z : EnvValue) (x : ThreadNo) (rest : List ThreadNo) → AreLeft s (x ∷ rest) → z ≡ with_spent s x → x.0 < length s.spent → AreLeft z rest
 left_then s z x rest left spends there i =
-    elim (cases_eq x.0.0 i) [
+    elim (cases_eq x.0 i) [
       | inl same ↦
-          let more : times i (x ∷ rest) ≡ suc (times i rest) = grind (arith, eq-eqb x.0.0 i same) in
-          let now : slice_index z.spent i ≡ slice_index s.spent i + 1 = ap (λ (v : EnvValue). slice_index v.spent i) spends ∙ subst (λ (j : ℕ). slice_index (with_spent s x.0).spent j ≡ slice_index s.spent j + 1) same (spent_then s x.0 there) in
+          let more : times i (x ∷ rest) ≡ suc (times i rest) = grind (arith, eq-eqb x.0 i same) in
+          let now : slice_index z.spent i ≡ slice_index s.spent i + 1 = ap (λ (v : EnvValue). slice_index v.spent i) spends ∙ subst (λ (j : ℕ). slice_index (with_spent s x).spent j ≡ slice_index s.spent j + 1) same (spent_then s x there) in
           let was = left_is s (record { 0 = i }) (omega (arith, same, there)) in
           let is = left_is z (record { 0 = i }) (omega (arith, same, there, count)) in
           omega (arith, left i, more, now, was, is, most)
       | inr apart ↦
-          let more : times i (x ∷ rest) ≡ times i rest = grind (arith, ne_eqb x.0.0 i apart) in
-          let still : slice_index z.spent i ≡ slice_index s.spent i = ap (λ (v : EnvValue). slice_index v.spent i) spends ∙ set_other s.spent x.0.0 i (spent_at s x.0 + 1) apart in
+          let more : times i (x ∷ rest) ≡ times i rest = grind (arith, ne_eqb x.0 i apart) in
+          let still : slice_index z.spent i ≡ slice_index s.spent i = ap (λ (v : EnvValue). slice_index v.spent i) spends ∙ set_other s.spent x.0 i (spent_at s x + 1) apart in
           let same_left : left_at z (record { 0 = i }) ≡ left_at s (record { 0 = i }) = λ j. (if nat_lt i (count j) then most j - still j else 0) in
           omega (arith, left i, more, same_left)
     ]
   where
     count : length z.spent ≡ length s.spent
-    count = ap (λ (v : EnvValue). length v.spent) spends ∙ length-set s.spent x.0.0 (spent_at s x.0 + 1)
+    count = ap (λ (v : EnvValue). length v.spent) spends ∙ length-set s.spent x.0 (spent_at s x + 1)
 
     most : z.limits.calls ≡ s.limits.calls
     most = ap (λ (v : EnvValue). v.limits.calls) spends
@@ -303,27 +304,39 @@ pub reads_more : (old now new : Environment) (m : ℤ) (xs : List Telling) (x : 
 reads_more old now new m [] x done one = (new, subst (λ (s : Environment). ReadsOne s new m x) done one, refl)
 reads_more old now new m (y ∷ ys) x done one = (done.0, done.1, reads_more done.0 now new m ys x done.2 one)
 
-pub told_more : (xs : List Telling) (x : Telling) → told_alive (xs ++ x ∷ []) ≡ told_alive xs ++ told_stack x.thread x.answer
+pub told_more : (xs : List Telling) (x : Telling) → told_each (xs ++ x ∷ []) ≡ told_each xs ++ told_stack x.thread x.answer
 told_more [] x = append-none (told_stack x.thread x.answer)
   where
     append-none : (l : List Told) → l ++ [] ≡ l
     append-none [] = refl
     append-none (y ∷ ys) = ap (λ (v : List Told). y ∷ v) (append-none ys)
-told_more (y ∷ ys) x = ap (λ (v : List Told). told_stack y.thread y.answer ++ v) (told_more ys x) ∙ sym (append_assoc (told_stack y.thread y.answer) (told_alive ys) (told_stack x.thread x.answer))
+told_more (y ∷ ys) x = ap (λ (v : List Told). told_stack y.thread y.answer ++ v) (told_more ys x) ∙ sym (append_assoc (told_stack y.thread y.answer) (told_each ys) (told_stack x.thread x.answer))
 
-pub has_read_more : (old now new : Environment) (m : ℤ) (ts : Listed) (t : ThreadNo × ℕ) (x : Telling) (infos later : List StackInfo) → HasRead old now m ts infos → ReadsOne now new m x → x.thread ≡ t.0
-    → map told_info later ≡ map told_info infos ++ told_stack x.thread x.answer → HasRead old new m (ts ++ t ∷ []) later
-has_read_more old now new m ts t x infos later done one same kept = record {
+pub has_read_more : (old now new : Environment) (m : ℤ) (ts : List ThreadNo) (x : Telling) (infos : List StackInfo) (info : StackInfo) → HasRead old now m ts infos → ReadsOne now new m x
+    → told_info info ∷ [] ≡ told_stack x.thread x.answer → info.thread ≡ x.thread → HasRead old new m (ts ++ x.thread ∷ []) (infos ++ info ∷ [])
+has_read_more old now new m ts x infos info done one tells same = record {
   tellings = done.tellings ++ x ∷ [];
   reads = reads_more old now new m done.tellings x done.reads one;
-  of_each = map-append (λ y. y.thread) done.tellings (x ∷ []) ∙ ((λ j. done.of_each j ++ same j ∷ []) ∙ sym (map-append (λ y. y.0) ts (t ∷ [])));
-  alive = kept ∙ (ap (λ v. v ++ told_stack x.thread x.answer) done.alive ∙ sym (told_more done.tellings x));
+  of_each = map-append (λ y. y.thread) done.tellings (x ∷ []) ∙ ap (λ (v : List ThreadNo). v ++ x.thread ∷ []) done.of_each;
+  told = map-append told_info infos (info ∷ []) ∙ ((λ j. done.told j ++ tells j) ∙ sym (told_more done.tellings x));
+  each = map-append (λ y. y.thread) infos (info ∷ []) ∙ (λ j. done.each j ++ same j ∷ []);
 }
 
-pub left_one : (s : EnvValue) (x : ThreadNo × ℕ) (rest : Listed) → AreLeft s (x ∷ rest) → 0 < left_at s x.0
-left_one s x rest left =
-    let more : times x.0.0 (x ∷ rest) ≡ suc (times x.0.0 rest) = grind (arith, eq-eqb x.0.0 x.0.0 refl) in
-    omega (arith, left x.0.0, more)
+desk_at : (l : List Place) (i : ℕ) → i < length l → (p : Place) × (slice_get l i ≡ Some p)
+desk_at [] i h = absurd (omega (arith, h))
+desk_at (x ∷ l) zero h = (x, refl)
+desk_at (x ∷ l) (suc i) h = desk_at l i (omega (arith, h))
+
+-- a read tells of a stack
+pub tells_stack : (old new : List Place) (i : ℕ) (m : ℤ) (a : Answer) → i < length old → length new ≡ length old
+    → ((p q : Place) → slice_get old i ≡ Some p → slice_get new i ≡ Some q → IsRead p q m a) → is_stack a ≡ true
+tells_stack old new i m a here same read =
+    let p = desk_at old i here in
+    let q = desk_at new i (omega (arith, here, same)) in
+    ap is_stack (read p.0 q.0 p.1 q.1).tells.1
+
+pub left_one : (s : EnvValue) (x : ThreadNo) (rest : List ThreadNo) → AreLeft s (x ∷ rest) → 0 < left_at s x
+left_one s x rest left = omega (arith, left x.0, times_here x.0 x rest refl)
 
 pub count_read : (s now new : Stood) (i : ℕ) → i < 2 ^ 64 - 1 → now ≡ with_reads s i → new ≡ with_reads now (one_read_more now.reads) → new ≡ with_reads s (i + 1)
 count_read s now new i few is more =

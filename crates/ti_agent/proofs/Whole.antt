@@ -67,7 +67,7 @@ set_other (x ∷ xs) zero (suc j) v n = refl
 set_other (x ∷ xs) (suc i) zero v n = refl
 set_other (x ∷ xs) (suc i) (suc j) v n = set_other xs i j v (λ h. n (ap suc h))
 
-set_same : (l : List ℕ) (i v : ℕ) → i < length l → slice_index (slice_set l i v) i ≡ v
+pub set_same : (l : List ℕ) (i v : ℕ) → i < length l → slice_index (slice_set l i v) i ≡ v
 set_same [] i v h = absurd (omega (arith, h))
 set_same (x ∷ xs) zero v h = refl
 set_same (x ∷ xs) (suc i) v h = set_same xs i v (omega (arith, h))

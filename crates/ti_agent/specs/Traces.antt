@@ -1,10 +1,10 @@
 -- Stack traces of several threads at once.
-use Rattle.std.specs.Prelude.{ℕ, ℤ, zero, suc, ◌≡◌, ◌+◌, ◌-◌, ◌^◌, ◌≤◌, ◌<◌, Bool, true, false, ◌==◌, bit_and, nat_lt, if◌then◌else◌, List, [], ◌∷◌, ◌++◌, length, map, Option, Some, slice_get}
-use Rattle.std.specs.List.{All}
+use Rattle.std.specs.Prelude.{ℕ, ℤ, zero, suc, ◌≡◌, ◌+◌, ◌-◌, ◌≤◌, ◌<◌, Bool, true, false, ◌==◌, bit_and, nat_lt, if◌then◌else◌, List, [], ◌∷◌, ◌++◌, length, map, Option, Some, None, slice_get, slice_index}
+use Rattle.std.specs.List.{All, filter, list_all}
 use Rattle.ti_types.specs.declared.answer.Answer.{Answer}
 use Rattle.ti_types.specs.declared.answer.Answer.TheVariants as answer
 use Rattle.ti_types.specs.declared.error.TiError.{TiError}
-use Rattle.ti_types.specs.declared.error.TiError.TheVariants.{IllegalArgument, CallsSpent, OutOfMemory}
+use Rattle.ti_types.specs.declared.error.TiError.TheVariants.{InvalidThread, IllegalArgument, CallsSpent, OutOfMemory}
 use Rattle.ti_types.specs.declared.entry.Entry.TheVariants.{Stop, Read, Go}
 use Rattle.ti_types.specs.declared.limits.Limits.{Limits}
 use Rattle.ti_types.specs.declared.numbers.ThreadNo.{ThreadNo}
@@ -24,18 +24,56 @@ use Rattle.ti_vmop.specs.declared.standing.Round.{Round}
 use Rattle.ti_agent.specs.Env.{Environment}
 use Rattle.ti_types.specs.declared.stack.StackInfo.{StackInfo}
 
--- so many threads, in the order of their numbers, each with one read to come
+-- so many threads, in the order of their numbers
+abbrev pub each_thread : ℕ → List ThreadNo
+each_thread zero = []
+each_thread (suc n) = each_thread n ++ (record { 0 = n }) ∷ []
+
+-- the same, each with one read to come
 abbrev pub all_once : ℕ → Listed
 all_once zero = []
 all_once (suc n) = all_once n ++ (record { 0 = n }, 1) ∷ []
 
--- Why no thread is traced, but for the memory of what is told. A list has no room for threads whose number does not fit
--- in 32 bits
+-- how often a thread is in a list
+abbrev pub times : ℕ → List ThreadNo → ℕ
+times i [] = 0
+times i (x ∷ threads) = if x.0 == i then suc (times i threads) else times i threads
+
+-- a thread with so many reads to come, where there is one
+abbrev pub where_some : ℕ → ℕ → Listed
+where_some i reads = if reads == 0 then [] else (record { 0 = i }, reads) ∷ []
+
+-- the threads of a list whose numbers are below one, each once, in the order of their numbers, with as many reads to come
+-- as it is often in the list
+abbrev pub each_once : ℕ → List ThreadNo → Listed
+each_once zero threads = []
+each_once (suc n) threads = each_once n threads ++ where_some n (times n threads)
+
+-- whether there are all threads of a list
+abbrev pub are_there : ℕ → List ThreadNo → Bool
+are_there count threads = list_all (λ x. nat_lt x.0 count) threads
+
+-- why no thread is traced, but for the memory of what is told
 abbrev pub refusal_of_all : EnvValue → ℤ → Option TiError
 refusal_of_all state max_count =
     or_else (unless (is_not_negative max_count) IllegalArgument)
-    (or_else (unless (nat_lt (length state.spent) (2 ^ 32)) OutOfMemory)
-    (unless (are_paid state (all_once (length state.spent))) CallsSpent))
+    (unless (are_paid state (all_once (length state.spent))) CallsSpent)
+
+-- why the threads of a list are not traced, before it is counted how often each is in it
+abbrev pub refusal_of_list : EnvValue → List ThreadNo → ℤ → Option TiError
+refusal_of_list state threads max_count =
+    or_else (unless (are_there (length state.spent) threads) InvalidThread)
+    (unless (is_not_negative max_count) IllegalArgument)
+
+-- why they are not, once it was counted
+abbrev pub refusal_of_counted : EnvValue → List ThreadNo → Option TiError
+refusal_of_counted state threads = unless (are_paid state (each_once (length state.spent) threads)) CallsSpent
+
+-- A list was refused. Memory was wanting where no other refusal comes first; those of the calls that are left come only
+-- where there was memory to count
+pub record IsListRefused (state : EnvValue) (threads : List ThreadNo) (max_count : ℤ) (e : TiError) : Type 0 where
+  pub counted : Bool
+  pub first : Some e ≡ or_else (refusal_of_list state threads max_count) (or_else (if counted then refusal_of_counted state threads else None) (Some OutOfMemory))
 
 -- whether the bits of a thread say that it is alive
 abbrev pub is_alive : ℕ → Bool
@@ -56,13 +94,18 @@ abbrev pub told_info : StackInfo → Told
 told_info info = record { thread = info.thread; state = info.state; frames = info.frames.frames }
 
 abbrev pub told_stack : ThreadNo → Answer → List Told
-told_stack thread (answer.Stack bits b) = if is_alive bits then record { thread = thread; state = bits; frames = b.frames } ∷ [] else []
+told_stack thread (answer.Stack bits b) = record { thread = thread; state = bits; frames = b.frames } ∷ []
 told_stack thread _ = []
 
--- those of a list that are alive, in its order
-abbrev pub told_alive : List Telling → List Told
-told_alive [] = []
-told_alive (x ∷ more) = told_stack x.thread x.answer ++ told_alive more
+-- whether an answer tells of a thread's stack
+abbrev pub is_stack : Answer → Bool
+is_stack (answer.Stack bits b) = true
+is_stack _ = false
+
+-- one after another
+abbrev pub told_each : List Telling → List Told
+told_each [] = []
+told_each (x ∷ more) = told_stack x.thread x.answer ++ told_each more
 
 -- one call is spent at the thread, its desk read it by one hold, and nothing else changed
 pub record ReadsOne (old new : Environment) (max_count : ℤ) (x : Telling) : Type 0 where
@@ -76,12 +119,13 @@ abbrev pub ReadsEach : Environment → Environment → ℤ → List Telling → 
 ReadsEach old new max_count [] = new ≡ old
 ReadsEach old new max_count (x ∷ more) = (next : Environment) × ReadsOne old next max_count x × ReadsEach next new max_count more
 
--- The threads of a list were read, one after another, and these are those that are alive
-pub record HasRead (old new : Environment) (max_count : ℤ) (threads : Listed) (infos : List StackInfo) : Type 0 where
+-- the threads of a list were read, one after another, each as often as it is in the list, and this is what they told
+pub record HasRead (old new : Environment) (max_count : ℤ) (threads : List ThreadNo) (infos : List StackInfo) : Type 0 where
   pub tellings : List Telling
   pub reads : ReadsEach old new max_count tellings
-  pub of_each : map (λ x. x.thread) tellings ≡ map (λ x. x.0) threads
-  pub alive : map told_info infos ≡ told_alive tellings
+  pub of_each : map (λ x. x.thread) tellings ≡ threads
+  pub told : map told_info infos ≡ told_each tellings
+  pub each : map (λ x. x.thread) infos ≡ threads
 
 -- the threads of a list are stopped, and all of them stand
 pub record Stops (old new : Environment) (threads : Listed) : Type 0 where
@@ -96,16 +140,23 @@ pub record LetsGo (old new : Environment) (threads : Listed) : Type 0 where
   pub state_is : new.state ≡ old.state
   pub desks : AtEach threads old.desks new.desks (λ e. Go e ∷ [])
 
--- Threads are stopped, read then, and let go then. The round is the environment's, over all of them
-pub record IsTraced (old new : Environment) (max_count : ℤ) (threads : Listed) (infos : List StackInfo) (round : Round) : Type 0 where
+-- The threads of a list are stopped, each once; then each is read as often as it is in the list, in its order; and then all
+-- are let go. The round is the environment's, over all of them
+pub record IsTraced (old new : Environment) (max_count : ℤ) (stopping : Listed) (threads : List ThreadNo) (infos : List StackInfo) (round : Round) : Type 0 where
   pub stopped : Environment
   pub seen : Environment
-  pub stops : Stops old stopped threads
+  pub stops : Stops old stopped stopping
   pub reads : HasRead stopped seen max_count threads infos
-  pub goes : LetsGo seen new threads
+  pub goes : LetsGo seen new stopping
   pub env_is : round.env ≡ old.env
-  pub threads_are : round.threads ≡ length threads
+  pub threads_are : round.threads ≡ length stopping
   pub reads_are : round.reads ≡ length threads
+
+-- all threads were traced, and these are those that are alive
+pub record TracesAlive (old new : Environment) (max_count : ℤ) (infos : List StackInfo) (round : Round) : Type 0 where
+  pub all : List StackInfo
+  pub traced : IsTraced old new max_count (all_once (length old.desks)) (each_thread (length old.desks)) all round
+  pub alive : infos ≡ filter (λ x. is_alive x.state) all
 
 -- A desk between the stops and the gos: the environment's, at thread i. A listed thread stands
 pub record IsHeld (s : Environment) (threads : Listed) (i : ℕ) (p : Place) : Type 0 where
@@ -121,14 +172,24 @@ pub record AreHeld (s : Environment) (threads : Listed) : Type 0 where
   pub some : 0 < length s.desks
   pub desks : (i : ℕ) (p : Place) → slice_get s.desks i ≡ Some p → IsHeld s threads i p
 
--- how often a thread is in a list
-abbrev pub times : ℕ → Listed → ℕ
-times i [] = 0
-times i (x ∷ threads) = if x.0.0 == i then suc (times i threads) else times i threads
-
--- each thread has a call left for each time that it is listed
-abbrev pub AreLeft : EnvValue → Listed → Type 0
+-- each thread has a call left for each time that it is in a list
+abbrev pub AreLeft : EnvValue → List ThreadNo → Type 0
 AreLeft state threads = (i : ℕ) → times i threads ≤ left_at state (record { 0 = i })
+
+-- the threads of a list are all among those that are stopped
+abbrev pub AreListed : Listed → List ThreadNo → Type 0
+AreListed stopping threads = list_all (λ x. is_listed x.0 stopping) threads ≡ true
+
+-- The threads of a list were not counted: there was no memory to count them, or a thread has fewer calls left than its stop
+-- and its reads cost
+pub record IsNotCounted (state : EnvValue) (threads : List ThreadNo) (e : TiError) : Type 0 where
+  pub counted : Bool
+  pub is : Some e ≡ (if counted then refusal_of_counted state threads else Some OutOfMemory)
+
+-- how often each of so many threads is in a list, by their numbers
+pub record AreCounts (count : ℕ) (threads : List ThreadNo) (counts : List ℕ) : Type 0 where
+  pub length_is : length counts ≡ count
+  pub each : (i : ℕ) → i < count → slice_index counts i ≡ times i threads
 
 -- empty buffers with room for the frames
 abbrev pub AreRoomy : Limits → ℤ → List buffer.Trace → Type 0

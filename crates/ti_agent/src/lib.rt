@@ -10,6 +10,7 @@
 #![tactic(auto)]
 
 mod answers;
+mod counting;
 mod env;
 mod lists;
 mod traces;

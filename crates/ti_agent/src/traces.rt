@@ -1,5 +1,5 @@
 //! Stack traces of several threads at once, under one turn.
-ghost use Rattle.std.specs.Prelude.{◌≡◌, ◌≤◌, ◌<◌, ◌+◌, ◌++◌, true, [], length, map, vec_capacity, Some, None, IfOk, IfErr, OnOk, OnErr};
+ghost use Rattle.std.specs.Prelude.{◌≡◌, ◌≤◌, ◌∷◌, true, [], length, vec_capacity, Some, None, IfOk, IfErr, OnOk, OnErr};
 ghost use Rattle.ti_types.specs.Answer.{said};
 ghost use Rattle.ti_types.specs.Numbers.{is_not_negative};
 ghost use Rattle.ti_types.specs.declared.error.TiError.TheVariants.{OutOfMemory};
@@ -7,8 +7,11 @@ ghost use Rattle.ti_types.specs.Refusing.{or_else};
 ghost use Rattle.ti_types.specs.declared.limits.Limits.{Limits};
 ghost use Rattle.ti_vmop.specs.Turns.{AreThere, are_paid, with_reads};
 ghost use Rattle.ti_agent.specs.Env.{IsWhole};
-ghost use Rattle.ti_agent.specs.Traces.{all_once, told_info, told_stack, refusal_of_all, AreHeld, AreLeft, AreRoomy, HasRead, IsTraced};
+ghost use Rattle.ti_agent.specs.Traces.{are_there, each_once, is_stack, told_info, told_stack, refusal_of_all, refusal_of_list, refusal_of_counted, AreHeld, AreLeft, AreListed, AreRoomy, HasRead, IsListRefused, IsTraced, TracesAlive};
 
+use crate::counting::{
+    all_threads, all_with_one_read, are_all_paid, are_all_there, count_each, counted_threads,
+};
 use crate::env::Env;
 use std::alloc::Global;
 use std::sync::{Mutex, Wait};
@@ -36,107 +39,84 @@ fn buffers(
     Ok(bufs)
 }
 
-/// So many threads, in the order of their numbers, each with one read to come.
-fn all_threads(alloc: Global, count: u32) -> Result<Vec<(ThreadNo, u32)>, TiError>
-    ensures all { IfOk result (λ v. v.items ≡ all_once count) }
-    ensures memory { IfErr result (λ e. e ≡ OutOfMemory) }
+/// What the answer to a read tells of a thread.
+fn told_of(thread: ThreadNo, answer: Answer) -> StackInfo
+    requires stack { is_stack (said answer) ≡ true }
+    ensures told { told_info result ∷ [] ≡ told_stack thread (said answer) }
+    ensures thread { result.thread ≡ thread }
 {
-    let mut list = Vec::with_capacity(alloc, count as usize)?;
-    for i in 0..count {
-        list.push_reserved((ThreadNo(i), 1));
-    }
-    Ok(list)
-}
-
-/// Whether each of so many threads has a call left for its stop and one for its read.
-fn are_all_paid(state: &EnvState, count: u32) -> bool
-    ensures { result ≡ are_paid state.now (all_once count) }
-{
-    for i in 0..count {
-        if state.left(ThreadNo(i)) < 2 {
-            return false;
-        }
-    }
-    true
-}
-
-/// Keeps what is told of a thread that is alive.
-fn keep_alive(infos: &mut Vec<StackInfo>, thread: ThreadNo, answer: Answer)
-    requires room { length infos.old.items < vec_capacity infos.old }
-    ensures kept { map told_info infos.new.items ≡ map told_info infos.old.items ++ told_stack thread (said answer) }
-    ensures count { length infos.new.items ≤ length infos.old.items + 1 }
-    ensures capacity { vec_capacity infos.new ≡ vec_capacity infos.old }
-{
-    if let Answer::Stack { state, frames } = answer {
-        if state & 1 == 1 {
-            infos.push_reserved(StackInfo {
-                thread,
-                state,
-                frames,
-            });
-        }
+    let Answer::Stack { state, frames } = answer else {
+        unreachable!()
+    };
+    StackInfo {
+        thread,
+        state,
+        frames,
     }
 }
 
-/// Reads each listed thread once, in the list's order, and keeps what is told of those that are alive.
+/// Reads each thread of a list of those that stand, in the list's order, and keeps what it tells.
 fn read_each<R: Wait>(
     rt: &R,
     standing: &mut Standing<'_>,
     desks: &mut [Desk<'_>],
     state: &mut EnvState,
-    list: &[(ThreadNo, u32)],
+    threads: &[ThreadNo],
     max_count: i32,
     bufs: Vec<TraceBuf>,
     infos: &mut Vec<StackInfo>,
 )
-    requires held { AreHeld (record { env = standing.old.env; state = state.old; desks = desks.old }) list.now }
-    requires there { AreThere (length desks.old) list.now }
-    requires standing { (standing.old.threads ≡ list.now) × (standing.old.reads ≡ 0) }
-    requires left { AreLeft state.old list.now }
+    requires held { AreHeld (record { env = standing.old.env; state = state.old; desks = desks.old }) standing.old.threads }
+    requires there { AreThere (length desks.old) standing.old.threads }
+    requires listed { AreListed standing.old.threads threads.now }
+    requires none { standing.old.reads ≡ 0 }
+    requires left { AreLeft state.old threads.now }
     requires count { is_not_negative max_count ≡ true }
-    requires bufs { (length bufs.items ≡ length list.now) × AreRoomy state.old.limits max_count bufs.items }
+    requires bufs { (length bufs.items ≡ length threads.now) × AreRoomy state.old.limits max_count bufs.items }
     requires empty { infos.old.items ≡ [] }
-    requires room { length list.now ≤ vec_capacity infos.old }
-    ensures held { AreHeld (record { env = standing.old.env; state = state.new; desks = desks.new }) list.now }
-    ensures reads { HasRead (record { env = standing.old.env; state = state.old; desks = desks.old }) (record { env = standing.old.env; state = state.new; desks = desks.new }) max_count list.now infos.new.items }
-    ensures standing { standing.new ≡ with_reads standing.old (length list.now) }
+    requires room { length threads.now ≤ vec_capacity infos.old }
+    ensures held { AreHeld (record { env = standing.old.env; state = state.new; desks = desks.new }) standing.old.threads }
+    ensures reads { HasRead (record { env = standing.old.env; state = state.old; desks = desks.old }) (record { env = standing.old.env; state = state.new; desks = desks.new }) max_count threads.now infos.new.items }
+    ensures standing { standing.new ≡ with_reads standing.old (length threads.now) }
 {
     let mut bufs = bufs;
-    for i in 0..list.len() {
-        let (thread, _reads) = list[i];
+    for i in 0..threads.len() {
+        let thread = threads[i];
         let buf = match bufs.pop() {
             Some(buf) => buf,
             None => unreachable!(),
         };
         let answer = standing.read(rt, desks, state, thread, max_count, buf);
-        keep_alive(infos, thread, answer);
+        infos.push_reserved(told_of(thread, answer));
     }
 }
 
-/// Stops all threads of an environment, reads each, and lets them go.
-fn trace_all<R: Wait>(
+/// Stops the threads of a list, each once, reads each as often as it is in the list, and lets them go.
+fn trace_each<R: Wait>(
     rt: &R,
     turn: &mut VmTurn,
     env: EnvNo,
     desks: &mut [Desk<'_>],
     state: &mut EnvState,
-    list: &[(ThreadNo, u32)],
+    stopping: &[(ThreadNo, u32)],
+    threads: &[ThreadNo],
     max_count: i32,
     bufs: Vec<TraceBuf>,
     infos: &mut Vec<StackInfo>,
 ) -> Round
     requires whole { IsWhole (record { env = env; state = state.old; desks = desks.old }) }
-    requires all { list.now ≡ all_once (length state.old.spent) }
-    requires paid { are_paid state.old list.now ≡ true }
+    requires stopping { stopping.now ≡ each_once (length state.old.spent) threads.now }
+    requires there { are_there (length state.old.spent) threads.now ≡ true }
+    requires paid { are_paid state.old stopping.now ≡ true }
     requires count { is_not_negative max_count ≡ true }
-    requires bufs { (length bufs.items ≡ length list.now) × AreRoomy state.old.limits max_count bufs.items }
+    requires bufs { (length bufs.items ≡ length threads.now) × AreRoomy state.old.limits max_count bufs.items }
     requires empty { infos.old.items ≡ [] }
-    requires room { length list.now ≤ vec_capacity infos.old }
+    requires room { length threads.now ≤ vec_capacity infos.old }
     ensures whole { IsWhole (record { env = env; state = state.new; desks = desks.new }) }
-    ensures traced { IsTraced (record { env = env; state = state.old; desks = desks.old }) (record { env = env; state = state.new; desks = desks.new }) max_count list.now infos.new.items result }
+    ensures traced { IsTraced (record { env = env; state = state.old; desks = desks.old }) (record { env = env; state = state.new; desks = desks.new }) max_count stopping.now threads.now infos.new.items result }
 {
     let _env = env;
-    let Ok(mut standing) = stop_all(rt, turn, desks, state, list) else {
+    let Ok(mut standing) = stop_all(rt, turn, desks, state, stopping) else {
         unreachable!()
     };
     read_each(
@@ -144,7 +124,7 @@ fn trace_all<R: Wait>(
         &mut standing,
         desks,
         state,
-        list,
+        threads,
         max_count,
         bufs,
         infos,
@@ -156,20 +136,69 @@ impl<'a> Env<'a> {
     /// How many threads there are, where all may be traced but for memory.
     fn admit_all(&self, max_count: i32) -> Result<u32, TiError>
         ensures count { IfOk result (λ n. n ≡ length self.now.state.spent) }
+        ensures desks { IfOk result (λ n. n ≡ length self.now.desks) }
         ensures admitted { OnOk result (refusal_of_all self.now.state max_count ≡ None) }
         ensures refused { IfErr result (λ e. refusal_of_all self.now.state max_count ≡ Some e) }
     {
         if max_count < 0 {
             return Err(TiError::IllegalArgument);
         }
-        let count = self.desks.len();
-        if count > u32::MAX as usize {
-            return Err(TiError::OutOfMemory);
-        }
-        if !are_all_paid(&self.state, count as u32) {
+        let count = self.state.threads();
+        if !are_all_paid(&self.state, count) {
             return Err(TiError::CallsSpent);
         }
-        Ok(count as u32)
+        Ok(count)
+    }
+
+    /// Whether the threads of a list may be traced, but for what is left to them and memory.
+    fn admit_list(&self, threads: &[ThreadNo], max_count: i32) -> Result<(), TiError>
+        ensures admitted { OnOk result (refusal_of_list self.now.state threads.now max_count ≡ None) }
+        ensures refused { IfErr result (λ e. refusal_of_list self.now.state threads.now max_count ≡ Some e) }
+    {
+        if !are_all_there(threads, self.state.threads()) {
+            return Err(TiError::InvalidThread);
+        }
+        if max_count < 0 {
+            return Err(TiError::IllegalArgument);
+        }
+        Ok(())
+    }
+
+    /// Traces the threads of a list, each of which is stopped once, with all memory taken before. 110 where there is none,
+    /// and then nothing has changed.
+    fn trace<R: Wait>(
+        &mut self,
+        rt: &R,
+        alloc: Global,
+        turn: &Mutex<VmTurn>,
+        stopping: &[(ThreadNo, u32)],
+        threads: &[ThreadNo],
+        max_count: i32,
+    ) -> Result<(Vec<StackInfo>, Round), TiError>
+        requires stopping { stopping.now ≡ each_once (length self.old.state.spent) threads.now }
+        requires there { are_there (length self.old.state.spent) threads.now ≡ true }
+        requires paid { are_paid self.old.state stopping.now ≡ true }
+        requires count { is_not_negative max_count ≡ true }
+        ensures traced { IfOk result (λ r. IsTraced self.old self.new max_count stopping.now threads.now r.0.items r.1) }
+        ensures memory { IfErr result (λ e. e ≡ OutOfMemory) }
+        ensures unchanged { OnErr result (self.new ≡ self.old) }
+    {
+        let bufs = buffers(alloc, threads.len(), max_count, self.state.limits().depth)?;
+        let mut infos = Vec::with_capacity(alloc, threads.len())?;
+        let mut held = turn.lock(rt);
+        let round = trace_each(
+            rt,
+            &mut held,
+            self.env,
+            &mut self.desks,
+            &mut self.state,
+            stopping,
+            threads,
+            max_count,
+            bufs,
+            &mut infos,
+        );
+        Ok((infos, round))
     }
 
     /// GetAllStackTraces (JVM TI 11): what is told of the threads that are alive, in the order of their numbers, with at
@@ -179,8 +208,7 @@ impl<'a> Env<'a> {
     ///
     /// The errors, in this order, all before any stop: 103 ILLEGAL_ARGUMENT, where `max_count` is negative; 209
     /// CALLS_SPENT, where a thread has fewer than two calls left; 110 OUT_OF_MEMORY, where there is no memory for what
-    /// is told (or, before 209, where there are more threads than 32 bits number). Then nothing has changed. The order,
-    /// and that no memory is taken while threads stand, is this profile's.
+    /// is told. Then nothing has changed. The order, and that no memory is taken while threads stand, is this profile's.
     pub fn get_all_stack_traces<R: Wait>(
         &mut self,
         rt: &R,
@@ -189,26 +217,46 @@ impl<'a> Env<'a> {
         max_count: i32,
     ) -> Result<(Vec<StackInfo>, Round), TiError>
         ensures admitted { OnOk result (refusal_of_all self.old.state max_count ≡ None) }
-        ensures traced { IfOk result (λ r. IsTraced self.old self.new max_count (all_once (length self.old.desks)) r.0.items r.1) }
+        ensures traced { IfOk result (λ r. TracesAlive self.old self.new max_count r.0.items r.1) }
         ensures refused { IfErr result (λ e. Some e ≡ or_else (refusal_of_all self.old.state max_count) (Some OutOfMemory)) }
         ensures unchanged { OnErr result (self.new ≡ self.old) }
     {
         let count = self.admit_all(max_count)?;
-        let list = all_threads(alloc, count)?;
-        let bufs = buffers(alloc, list.len(), max_count, self.state.limits().depth)?;
-        let mut infos = Vec::with_capacity(alloc, list.len())?;
-        let mut held = turn.lock(rt);
-        let round = trace_all(
-            rt,
-            &mut held,
-            self.env,
-            &mut self.desks,
-            &mut self.state,
-            &list,
-            max_count,
-            bufs,
-            &mut infos,
-        );
+        let threads = all_threads(alloc, count)?;
+        let stopping = all_with_one_read(alloc, count)?;
+        let (mut infos, round) = self.trace(rt, alloc, turn, &stopping, &threads, max_count)?;
+        infos.retain(|info: &StackInfo| info.state & 1 == 1);
         Ok((infos, round))
+    }
+
+    /// GetThreadListStackTraces (JVM TI 11): what is told of each thread of a list, in the list's order, with at most
+    /// `max_count` of the newest frames of each, and the round that was made. A thread that is not alive has no frames. One
+    /// that is in the list more than once is stopped once, and read and told of as often as it is there. All are
+    /// stopped before the first is read, and all are read before the first is let go, under the turn, for which it
+    /// waits. It spends a call at each thread for its stop, and one for each of its reads.
+    ///
+    /// The errors, in this order, all before any stop: 10 INVALID_THREAD, where one of the list is no thread; 103
+    /// ILLEGAL_ARGUMENT, where `max_count` is negative; 110 OUT_OF_MEMORY, where there is no memory to count how often
+    /// each thread is in the list; 209 CALLS_SPENT, where a thread has fewer calls left than it would cost; 110 where
+    /// there is no memory for what is told. Then nothing has changed. The order, that a thread is told of more than
+    /// once, and that no memory is taken while threads stand, is this profile's.
+    pub fn get_thread_list_stack_traces<R: Wait>(
+        &mut self,
+        rt: &R,
+        alloc: Global,
+        turn: &Mutex<VmTurn>,
+        threads: &[ThreadNo],
+        max_count: i32,
+    ) -> Result<(Vec<StackInfo>, Round), TiError>
+        ensures admitted { OnOk result (refusal_of_list self.old.state threads.now max_count ≡ None) }
+        ensures paid { OnOk result (refusal_of_counted self.old.state threads.now ≡ None) }
+        ensures traced { IfOk result (λ r. IsTraced self.old self.new max_count (each_once (length self.old.desks) threads.now) threads.now r.0.items r.1) }
+        ensures refused { IfErr result (λ e. IsListRefused self.old.state threads.now max_count e) }
+        ensures unchanged { OnErr result (self.new ≡ self.old) }
+    {
+        self.admit_list(threads, max_count)?;
+        let counts = count_each(alloc, &self.state, threads)?;
+        let stopping = counted_threads(alloc, self.state.threads(), &counts)?;
+        self.trace(rt, alloc, turn, &stopping, threads, max_count)
     }
 }

@@ -1,5 +1,5 @@
 -- How many calls are left at a thread.
-use Rattle.std.proofs.Common.{◌≡◌, ℕ, ◌<◌, ◌-◌, Bool, true, if◌then◌else◌, length, nat_lt, arith, ap, inl, inr}
+use Rattle.std.proofs.Common.{◌≡◌, ◌<◌, ◌-◌, Bool, true, if◌then◌else◌, length, arith, ap, inl, inr}
 use Rattle.std.proofs.lemmas.Bool.Decides.{nat_tests}
 use Rattle.std.proofs.lemmas.Bool.{cases_Bool}
 use Rattle.ti_types.specs.declared.numbers.ThreadNo.{ThreadNo}

@@ -20,11 +20,14 @@ pub struct EnvState {
 }
 
 impl Model for EnvState {
+    ghost use Rattle.std.specs.Prelude.{◌≡◌, length};
     ghost use Rattle.ti_env.specs.Env.{EnvValue};
 
     ghost Value = { EnvValue };
 
     ghost view = { λ a. record { caps = a.caps; spent = a.spent.items; limits = a.limits; word = a.word } };
+
+    ghost invariant = { λ a. length a.spent.items ≡ a.limits.threads };
 }
 
 impl EnvState {
@@ -48,6 +51,14 @@ impl EnvState {
         ensures { result ≡ self.now.limits }
     {
         self.limits
+    }
+
+    /// How many threads there are: 1 to 64, numbered from 0 on (this profile).
+    pub fn threads(&self) -> u32
+        ensures limits { result ≡ self.now.limits.threads }
+        ensures counted { length self.now.spent ≡ result }
+    {
+        self.limits.threads
     }
 
     /// The capabilities that are held (JVM TI 11, GetCapabilities).

@@ -6,13 +6,13 @@ use Rattle.ti_agent.proofs.traces.read_each.Given as goal
 -- those so far, and those to come
 abbrev pub invariant-loop-i : goal.invariant-loop-i
 invariant-loop-i g l = record {
-  held : AreHeld (record { env = l.fn.standing.env; state = l.state; desks = l.desks }) l.list;
-  left : AreLeft l.state (drop l.i l.list);
+  held : AreHeld (record { env = l.fn.standing.env; state = l.state; desks = l.desks }) l.fn.standing.threads;
+  left : AreLeft l.state (drop l.i l.threads);
   limits : l.state.limits ≡ l.fn.state.limits;
-  reads : HasRead (record { env = l.fn.standing.env; state = l.fn.state; desks = l.fn.desks }) (record { env = l.fn.standing.env; state = l.state; desks = l.desks }) l.fn.max_count (take l.i l.list) l.infos.items;
+  reads : HasRead (record { env = l.fn.standing.env; state = l.fn.state; desks = l.fn.desks }) (record { env = l.fn.standing.env; state = l.state; desks = l.desks }) l.fn.max_count (take l.i l.threads) l.infos.items;
   standing : l.standing ≡ with_reads l.fn.standing l.i;
-  bufs : length l.bufs.items + l.i ≡ length l.list;
+  bufs : length l.bufs.items + l.i ≡ length l.threads;
   roomy : AreRoomy l.fn.state.limits l.fn.max_count l.bufs.items;
-  few : length l.infos.items ≤ l.i;
-  room : length l.list ≤ vec_capacity l.infos;
+  few : length l.infos.items ≡ l.i;
+  room : length l.threads ≤ vec_capacity l.infos;
 }

@@ -6,18 +6,18 @@ use Rattle.ti_types.specs.declared.entry.Entry.TheVariants.{Go}
 use Rattle.std.proofs.Common.{[], ◌∷◌}
 use Rattle.ti_vmop.specs.Turns.{Listed, AtEach, AreThere}
 use Rattle.ti_agent.specs.Env.{Environment}
-use Rattle.ti_agent.specs.Traces.{AreHeld, AreRoomy, HasRead}
-use Rattle.ti_agent.proofs.Tracing.{may_stop, one_environment, same_env, distinct_in, there_in, left_in, limits_all, held_after_stops, whole_after_go}
-use Rattle.ti_agent.proofs.traces.trace_all.Goals as goal
+use Rattle.ti_agent.specs.Traces.{AreHeld, AreListed, AreRoomy, HasRead}
+use Rattle.ti_agent.proofs.Tracing.{may_stop, one_environment, same_env, distinct_in, there_in, all_listed, left_in, limits_all, held_after_stops, whole_after_go}
+use Rattle.ti_agent.proofs.traces.trace_each.Goals as goal
 
 pub stop_all-requires-clause-desks : goal.stop_all-requires-clause-desks
 stop_all-requires-clause-desks g c = (one_environment (record { env = c.args.env; state = c.args.state.now; desks = c.args.desks.now }) c.requires.whole, c.requires.whole.some)
 
 pub stop_all-requires-clause-there : goal.stop_all-requires-clause-there
-stop_all-requires-clause-there g c = (there_in c.args.list.now (length c.args.state.now.spent) (length c.args.desks.now) c.requires.all c.requires.whole.count, c.requires.whole.count)
+stop_all-requires-clause-there g c = (there_in c.args.stopping.now (length c.args.state.now.spent) (length c.args.desks.now) c.args.threads.now c.requires.stopping c.requires.whole.count, c.requires.whole.count)
 
 pub stop_all-requires-clause-distinct : goal.stop_all-requires-clause-distinct
-stop_all-requires-clause-distinct g c = distinct_in c.args.list.now (length c.args.state.now.spent) c.requires.all
+stop_all-requires-clause-distinct g c = distinct_in c.args.stopping.now (length c.args.state.now.spent) c.args.threads.now c.requires.stopping
 
 pub stop_all-requires-clause-may : goal.stop_all-requires-clause-may
 stop_all-requires-clause-may g c i p at listed = may_stop (record { env = c.args.env; state = c.args.state.now; desks = c.args.desks.now }) i p c.requires.whole at
@@ -25,48 +25,54 @@ stop_all-requires-clause-may g c i p at listed = may_stop (record { env = c.args
 pub read_each-requires-clause-held : goal.read_each-requires-clause-held
 read_each-requires-clause-held g c =
     let s : Environment = record { env = c.args.env; state = c.args.state.now; desks = c.args.desks.now } in
-    let l = c.args.list.now in
+    let l = c.args.stopping.now in
     let r = c.in-Ok.ensures in
-    let there = there_in l (length s.state.spent) (length s.desks) c.requires.all c.requires.whole.count in
-    let distinct = distinct_in l (length s.state.spent) c.requires.all in
+    let there = there_in l (length s.state.spent) (length s.desks) c.args.threads.now c.requires.stopping c.requires.whole.count in
+    let distinct = distinct_in l (length s.state.spent) c.args.threads.now c.requires.stopping in
     let held = held_after_stops s l c.stop_all.new.state c.stop_all.new.desks c.requires.whole distinct there c.requires.paid r.state r.desks r.stand in
-    subst (λ (e : EnvNo). AreHeld (record { env = e; state = c.stop_all.new.state; desks = c.stop_all.new.desks }) l) (sym (same_env s c.in-Ok.standing.env c.requires.whole r.env)) held
+    subst (λ (z : EnvNo × Listed). AreHeld (record { env = z.0; state = c.stop_all.new.state; desks = c.stop_all.new.desks }) z.1) (λ j. (sym (same_env s c.in-Ok.standing.env c.requires.whole r.env) j, sym r.standing.0 j)) held
 
 pub read_each-requires-clause-there : goal.read_each-requires-clause-there
 read_each-requires-clause-there g c =
-    there_in c.args.list.now (length c.args.state.now.spent) (length c.stop_all.new.desks) c.requires.all (c.requires.whole.count ∙ sym c.in-Ok.ensures.desks.0)
+    subst (AreThere (length c.stop_all.new.desks)) (sym c.in-Ok.ensures.standing.0)
+    (there_in c.args.stopping.now (length c.args.state.now.spent) (length c.stop_all.new.desks) c.args.threads.now c.requires.stopping (c.requires.whole.count ∙ sym c.in-Ok.ensures.desks.0))
+
+pub read_each-requires-clause-listed : goal.read_each-requires-clause-listed
+read_each-requires-clause-listed g c =
+    subst (λ (v : Listed). AreListed v c.args.threads.now) (sym c.in-Ok.ensures.standing.0)
+    (all_listed c.args.stopping.now (length c.args.state.now.spent) c.args.threads.now c.requires.stopping c.requires.there)
 
 pub read_each-requires-clause-left : goal.read_each-requires-clause-left
-read_each-requires-clause-left g c = left_in c.args.state.now c.stop_all.new.state c.args.list.now c.requires.all c.requires.paid c.in-Ok.ensures.state
+read_each-requires-clause-left g c = left_in c.args.state.now c.stop_all.new.state c.args.threads.now c.args.stopping.now c.requires.stopping c.requires.there c.requires.paid c.in-Ok.ensures.state
 
 pub read_each-requires-clause-bufs : goal.read_each-requires-clause-bufs
 read_each-requires-clause-bufs g c =
     let m : to_z w32 (of_z w32 c.args.max_count) ≡ c.args.max_count = to_z-of_z w32 c.args.max_count c.ranges.max_count in
-    let limits : c.stop_all.new.state.limits ≡ c.args.state.now.limits = ap (λ v. v.limits) c.in-Ok.ensures.state ∙ limits_all c.args.state.now c.args.list.now in
+    let limits : c.stop_all.new.state.limits ≡ c.args.state.now.limits = ap (λ v. v.limits) c.in-Ok.ensures.state ∙ limits_all c.args.state.now c.args.stopping.now in
     (c.requires.bufs.0, subst (λ (z : Limits × ℤ). AreRoomy z.0 z.1 c.args.bufs.items) (λ j. (sym limits j, sym m j)) c.requires.bufs.1)
 
 pub go-requires-clause-there : goal.go-requires-clause-there
 go-requires-clause-there g c =
-    let threads : c.read_each.new.standing.threads ≡ c.args.list.now = ap (λ v. v.threads) c.read_each.ensures.standing ∙ c.in-Ok.ensures.standing.0 in
+    let threads : c.read_each.new.standing.threads ≡ c.args.stopping.now = ap (λ v. v.threads) c.read_each.ensures.standing ∙ c.in-Ok.ensures.standing.0 in
     let count : length c.read_each.new.desks ≡ length c.args.desks.now = c.read_each.auto.desks ∙ c.in-Ok.ensures.desks.0 in
     subst (λ (l : Listed). AreThere (length c.read_each.new.desks) l) (sym threads)
-    (there_in c.args.list.now (length c.args.state.now.spent) (length c.read_each.new.desks) c.requires.all (c.requires.whole.count ∙ sym count))
+    (there_in c.args.stopping.now (length c.args.state.now.spent) (length c.read_each.new.desks) c.args.threads.now c.requires.stopping (c.requires.whole.count ∙ sym count))
 
 pub returns-clause-whole : goal.returns-clause-whole
 returns-clause-whole g c =
     let s : Environment = record { env = c.args.env; state = c.args.state.now; desks = c.args.desks.now } in
-    let l = c.args.list.now in
+    let l = c.args.stopping.now in
     let env : c.in-Ok.standing.env ≡ c.args.env = same_env s c.in-Ok.standing.env c.requires.whole c.in-Ok.ensures.env in
     let threads : c.read_each.new.standing.threads ≡ l = ap (λ v. v.threads) c.read_each.ensures.standing ∙ c.in-Ok.ensures.standing.0 in
     let seen : Environment = record { env = c.args.env; state = c.read_each.new.state; desks = c.read_each.new.desks } in
-    let held : AreHeld seen l = subst (λ (e : EnvNo). AreHeld (record { env = e; state = c.read_each.new.state; desks = c.read_each.new.desks }) l) env c.read_each.ensures.held in
+    let held : AreHeld seen l = subst (λ (z : EnvNo × Listed). AreHeld (record { env = z.0; state = c.read_each.new.state; desks = c.read_each.new.desks }) z.1) (λ j. (env j, c.in-Ok.ensures.standing.0 j)) c.read_each.ensures.held in
     let goes : AtEach l c.read_each.new.desks c.go.new.desks (λ e. Go e ∷ []) = subst (λ (v : Listed). AtEach v c.read_each.new.desks c.go.new.desks (λ e. Go e ∷ [])) threads c.go.ensures.desks in
     whole_after_go seen l c.go.new.desks held goes
 
 pub returns-clause-traced : goal.returns-clause-traced
 returns-clause-traced g c =
     let s : Environment = record { env = c.args.env; state = c.args.state.now; desks = c.args.desks.now } in
-    let l = c.args.list.now in
+    let l = c.args.stopping.now in
     let r = c.in-Ok.ensures in
     let env : c.in-Ok.standing.env ≡ c.args.env = same_env s c.in-Ok.standing.env c.requires.whole r.env in
     let threads : c.read_each.new.standing.threads ≡ l = ap (λ v. v.threads) c.read_each.ensures.standing ∙ r.standing.0 in
@@ -74,7 +80,7 @@ returns-clause-traced g c =
     let stopped : Environment = record { env = c.args.env; state = c.stop_all.new.state; desks = c.stop_all.new.desks } in
     let seen : Environment = record { env = c.args.env; state = c.read_each.new.state; desks = c.read_each.new.desks } in
     let infos = c.read_each.new.infos.items in
-    let reads : HasRead stopped seen c.args.max_count l infos = subst (λ (z : EnvNo × ℤ). HasRead (record { env = z.0; state = c.stop_all.new.state; desks = c.stop_all.new.desks }) (record { env = z.0; state = c.read_each.new.state; desks = c.read_each.new.desks }) z.1 l infos) (λ j. (env j, m j)) c.read_each.ensures.reads in
+    let reads : HasRead stopped seen c.args.max_count c.args.threads.now infos = subst (λ (z : EnvNo × ℤ). HasRead (record { env = z.0; state = c.stop_all.new.state; desks = c.stop_all.new.desks }) (record { env = z.0; state = c.read_each.new.state; desks = c.read_each.new.desks }) z.1 c.args.threads.now infos) (λ j. (env j, m j)) c.read_each.ensures.reads in
     let goes : AtEach l c.read_each.new.desks c.go.new.desks (λ e. Go e ∷ []) = subst (λ (v : Listed). AtEach v c.read_each.new.desks c.go.new.desks (λ e. Go e ∷ [])) threads c.go.ensures.desks in
     record {
       stopped = stopped;

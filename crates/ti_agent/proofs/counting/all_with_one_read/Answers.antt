@@ -1,6 +1,6 @@
 use Rattle.std.proofs.Common.{rules, ◌≡◌, length, ap, ◌∙◌}
 use Rattle.ti_agent.proofs.Listing.{count_all}
-use Rattle.ti_agent.proofs.traces.all_threads.Goals as goal
+use Rattle.ti_agent.proofs.counting.all_with_one_read.Goals as goal
 
 pub push_reserved-requires : goal.push_reserved-requires
 push_reserved-requires c =

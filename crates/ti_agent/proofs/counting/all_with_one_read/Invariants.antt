@@ -1,6 +1,6 @@
 use Rattle.std.proofs.Common.{◌≡◌, ◌≤◌, vec_capacity}
 use Rattle.ti_agent.specs.Traces.{all_once}
-use Rattle.ti_agent.proofs.traces.all_threads.Given as goal
+use Rattle.ti_agent.proofs.counting.all_with_one_read.Given as goal
 
 -- those so far
 abbrev pub invariant-loop-i : goal.invariant-loop-i

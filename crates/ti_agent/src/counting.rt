@@ -1,0 +1,98 @@
+//! How often each thread is in a list: as many reads are to come of it, under one stop.
+ghost use Rattle.std.specs.Prelude.{ℕ, List, ◌≡◌, ◌<◌, true, length, IfOk, IfErr, OnOk, MatchResult};
+ghost use Rattle.ti_types.specs.declared.error.TiError.TheVariants.{CallsSpent, OutOfMemory};
+ghost use Rattle.ti_types.specs.declared.numbers.ThreadNo.{ThreadNo as Thread};
+ghost use Rattle.ti_vmop.specs.Turns.{are_paid};
+ghost use Rattle.ti_agent.specs.Traces.{all_once, each_once, each_thread, are_there, AreCounts, IsNotCounted};
+
+use std::alloc::Global;
+use ti_env::EnvState;
+use ti_types::{ThreadNo, TiError};
+
+/// So many threads, in the order of their numbers.
+pub(crate) fn all_threads(alloc: Global, count: u32) -> Result<Vec<ThreadNo>, TiError>
+    ensures all { IfOk result (λ v. v.items ≡ each_thread count) }
+    ensures memory { IfErr result (λ e. e ≡ OutOfMemory) }
+{
+    let mut threads = Vec::with_capacity(alloc, count as usize)?;
+    for i in 0..count {
+        threads.push_reserved(ThreadNo(i));
+    }
+    Ok(threads)
+}
+
+/// The same, each with one read to come.
+pub(crate) fn all_with_one_read(alloc: Global, count: u32) -> Result<Vec<(ThreadNo, u32)>, TiError>
+    ensures all { IfOk result (λ v. v.items ≡ all_once count) }
+    ensures memory { IfErr result (λ e. e ≡ OutOfMemory) }
+{
+    let mut list = Vec::with_capacity(alloc, count as usize)?;
+    for i in 0..count {
+        list.push_reserved((ThreadNo(i), 1));
+    }
+    Ok(list)
+}
+
+/// Whether there are all threads of a list, where there are so many.
+pub(crate) fn are_all_there(threads: &[ThreadNo], count: u32) -> bool
+    ensures { result ≡ are_there count threads.now }
+{
+    threads.iter().all(|thread| thread.0 < count)
+}
+
+/// Whether each of so many threads has a call left for its stop and one for its read.
+pub(crate) fn are_all_paid(state: &EnvState, count: u32) -> bool
+    ensures { result ≡ are_paid state.now (all_once count) }
+{
+    for i in 0..count {
+        if state.left(ThreadNo(i)) < 2 {
+            return false;
+        }
+    }
+    true
+}
+
+/// How often each thread is in a list, by its number. 110 where there is no memory for the counts; 209 where a thread has
+/// no call left for its stop and each of its reads.
+pub(crate) fn count_each(
+    alloc: Global,
+    state: &EnvState,
+    threads: &[ThreadNo],
+) -> Result<Vec<u32>, TiError>
+    requires there { are_there (length state.now.spent) threads.now ≡ true }
+    ensures counts { IfOk result (λ v. AreCounts (length state.now.spent) threads.now v.items) }
+    ensures paid { MatchResult result (λ _. are_paid state.now (each_once (length state.now.spent) threads.now) ≡ true) (λ e. IsNotCounted state.now threads.now e) }
+{
+    let mut counts = vec![in alloc; 0u32; state.threads() as usize]?;
+    for i in 0..threads.len() {
+        let thread = threads[i];
+        let reads = state.left(thread).saturating_sub(1);
+        let index = thread.0 as usize;
+        if counts[index] >= reads {
+            return Err(TiError::CallsSpent);
+        }
+        counts[index] += 1;
+    }
+    Ok(counts)
+}
+
+/// The threads that were counted at all, each once, in the order of their numbers, with as many reads to come as were
+/// counted.
+pub(crate) fn counted_threads(
+    alloc: Global,
+    count: u32,
+    counts: &[u32],
+) -> Result<Vec<(ThreadNo, u32)>, TiError>
+    requires counts { length counts.now ≡ count }
+    ensures listed { IfOk result (λ v. (threads : List Thread) → AreCounts count threads counts.now → v.items ≡ each_once count threads) }
+    ensures memory { IfErr result (λ e. e ≡ OutOfMemory) }
+{
+    let mut list = Vec::with_capacity(alloc, count as usize)?;
+    for i in 0..count {
+        let reads = counts[i as usize];
+        if reads > 0 {
+            list.push_reserved((ThreadNo(i), reads));
+        }
+    }
+    Ok(list)
+}
