@@ -4,3 +4,6 @@ pub mod TreeLaws
 pub mod FrontLaws
 pub mod RoomLaws
 pub mod BoundLaws
+pub mod LiveLaws
+pub mod LiveTextLaws
+mod WorkedLives

@@ -91,18 +91,23 @@ ask_table e =
     ∷ (codes "pop", row (thread ∷ []) (λ t. Ask e t Pop))
     ∷ []
 
+-- the words about an environment alone
+abbrev pub env_table : EnvNo → List (List ℕ × Row)
+env_table e =
+    (codes "add", row (caps ∷ []) (λ c. AddCaps e c))
+    ∷ (codes "relinquish", row (caps ∷ []) (λ c. Relinquish e c))
+    ∷ (codes "caps", row [] (GetCaps e))
+    ∷ (codes "setenv", row (word ∷ []) (λ w. SetEnvWord e w))
+    ∷ (codes "getenv", row [] (GetEnvWord e))
+    ∷ []
+
 -- the words of an agent for stops, capabilities and its environment's own word
 abbrev pub service_table : EnvNo → List (List ℕ × Row)
 service_table e =
     (codes "stop", row (thread ∷ []) (λ t. Stop e t))
     ∷ (codes "read", row (thread ∷ signed ∷ []) (λ t n. Read e t n))
     ∷ (codes "go", row (thread ∷ []) (λ t. Go e t))
-    ∷ (codes "add", row (caps ∷ []) (λ c. AddCaps e c))
-    ∷ (codes "relinquish", row (caps ∷ []) (λ c. Relinquish e c))
-    ∷ (codes "caps", row [] (GetCaps e))
-    ∷ (codes "setenv", row (word ∷ []) (λ w. SetEnvWord e w))
-    ∷ (codes "getenv", row [] (GetEnvWord e))
-    ∷ []
+    ∷ env_table e
 
 -- the words of an agent
 abbrev pub agent_table : EnvNo → List (List ℕ × Row)

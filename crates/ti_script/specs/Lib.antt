@@ -9,3 +9,5 @@ pub mod Entries
 pub mod Histories
 pub mod LimitNames
 pub mod Bounds
+pub mod Lives
+pub mod LiveTexts

@@ -73,7 +73,7 @@ fn set_ask(cast: &Cast, item: u32, agent: EnvNo, rest: &[Value]) -> Result<Event
 }
 
 /// The event of a word that asks a thread. None where it is no such word.
-fn ask_event(
+pub(crate) fn ask_event(
     cast: &Cast,
     item: u32,
     agent: EnvNo,

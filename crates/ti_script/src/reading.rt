@@ -52,7 +52,7 @@ fn names_at(
     names_in(alloc, names, which, low, high, earlier)
 }
 
-fn cast_in(alloc: Global, value: &Value) -> Result<Cast, ScriptFault>
+pub(crate) fn cast_in(alloc: Global, value: &Value) -> Result<Cast, ScriptFault>
     ensures read { Reads (λ cast. cast) result (cast_fault (view value.now)) (cast_of (view value.now)) }
     ensures threads { IfOk result (λ cast. (1 ≤ length cast.threads) × (length cast.threads ≤ 64)) }
     ensures agents { IfOk result (λ cast. (1 ≤ length cast.agents) × (length cast.agents ≤ 32)) }

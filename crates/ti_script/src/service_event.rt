@@ -1,7 +1,7 @@
 ghost use Rattle.std.specs.Prelude.{◌≡◌, [], ◌∷◌, map};
 ghost use Rattle.serde_json.specs.View.{view};
 ghost use Rattle.ti_types.specs.declared.event.Event.TheVariants.{Stop, Read, Go, AddCaps, Relinquish, SetEnvWord};
-ghost use Rattle.ti_script.specs.Events.{thread, signed, word, caps, row, service_table, row_event, word_event};
+ghost use Rattle.ti_script.specs.Events.{thread, signed, word, caps, row, env_table, service_table, row_event, word_event};
 
 use crate::element::{caps_of, signed_in, thread_in, word_in};
 use crate::fault::ScriptFault;
@@ -73,6 +73,26 @@ fn set_event(cast: &Cast, item: u32, agent: EnvNo, rest: &[Value]) -> Result<Eve
     }
 }
 
+/// The event of a word about the environment alone.
+pub(crate) fn env_event(
+    cast: &Cast,
+    item: u32,
+    agent: EnvNo,
+    text: &str,
+    rest: &[Value],
+) -> Result<Event, ScriptFault>
+    ensures { result ≡ word_event cast.now item (env_table agent) text.now (map view rest.now) }
+{
+    match text {
+        "add" => add_event(cast, item, agent, rest),
+        "relinquish" => relinquish_event(cast, item, agent, rest),
+        "caps" => plain_event(cast, item, Event::GetCaps(agent), rest),
+        "setenv" => set_event(cast, item, agent, rest),
+        "getenv" => plain_event(cast, item, Event::GetEnvWord(agent), rest),
+        _ => Err(ScriptFault::Shape { item }),
+    }
+}
+
 /// The event of a word for stops, capabilities and the environment's own word.
 pub(crate) fn service_event(
     cast: &Cast,
@@ -87,11 +107,6 @@ pub(crate) fn service_event(
         "stop" => stop_event(cast, item, agent, rest),
         "read" => read_event(cast, item, agent, rest),
         "go" => go_event(cast, item, agent, rest),
-        "add" => add_event(cast, item, agent, rest),
-        "relinquish" => relinquish_event(cast, item, agent, rest),
-        "caps" => plain_event(cast, item, Event::GetCaps(agent), rest),
-        "setenv" => set_event(cast, item, agent, rest),
-        "getenv" => plain_event(cast, item, Event::GetEnvWord(agent), rest),
-        _ => Err(ScriptFault::Shape { item }),
+        _ => env_event(cast, item, agent, text, rest),
     }
 }

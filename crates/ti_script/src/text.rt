@@ -9,7 +9,7 @@ use std::alloc::AllocError;
 use ti_types::{Answer, Caps, Frame, Outcome, Place, TiError};
 
 #[tactic(auto, using(crate::proofs::RoomLaws::one_digit_decimal, crate::proofs::FrontLaws::fronts))]
-fn put_number(out: &mut String, number: u64) -> Result<(), AllocError>
+pub(crate) fn put_number(out: &mut String, number: u64) -> Result<(), AllocError>
     ensures ok { OnOk result (string_bytes out.new ≡ string_bytes out.old ++ decimal number) }
     ensures len { OnOk result (string_len out.new ≡ string_len out.old + length (decimal number)) }
     ensures room { string_capacity out.old ≤ string_capacity out.new }
@@ -105,7 +105,11 @@ fn put_frame_behind(out: &mut String, methods: &Names, frame: Frame) -> Result<(
 }
 
 #[tactic(auto, using(crate::proofs::RoomLaws::frames_left, crate::proofs::FrontLaws::fronts, crate::proofs::FrontLaws::leaving))]
-fn put_frames(out: &mut String, methods: &Names, frames: &[Frame]) -> Result<(), AllocError>
+pub(crate) fn put_frames(
+    out: &mut String,
+    methods: &Names,
+    frames: &[Frame],
+) -> Result<(), AllocError>
     ensures ok { OnOk result (string_bytes out.new ≡ string_bytes out.old ++ frames_text methods.now frames.now) }
     ensures len { OnOk result (string_len out.new ≡ string_len out.old + length (frames_text methods.now frames.now)) }
     ensures room { string_capacity out.old ≤ string_capacity out.new }
@@ -159,7 +163,7 @@ fn put_caps(out: &mut String, held: Caps) -> Result<(), AllocError>
 }
 
 #[tactic(auto, using(crate::proofs::RoomLaws::lengths, crate::proofs::FrontLaws::fronts))]
-fn put_bits(out: &mut String, bits: u32) -> Result<(), AllocError>
+pub(crate) fn put_bits(out: &mut String, bits: u32) -> Result<(), AllocError>
     ensures ok { OnOk result (string_bytes out.new ≡ string_bytes out.old ++ bits_text bits) }
     ensures len { OnOk result (string_len out.new ≡ string_len out.old + length (bits_text bits)) }
     ensures room { string_capacity out.old ≤ string_capacity out.new }
@@ -183,7 +187,7 @@ fn put_counted(out: &mut String, word: &str, number: u64) -> Result<(), AllocErr
 }
 
 #[tactic(auto, using(crate::proofs::FrontLaws::fronts))]
-fn put_error(out: &mut String, error: TiError) -> Result<(), AllocError>
+pub(crate) fn put_error(out: &mut String, error: TiError) -> Result<(), AllocError>
     ensures ok { OnOk result (string_bytes out.new ≡ string_bytes out.old ++ error_text error) }
     ensures len { OnOk result (string_len out.new ≡ string_len out.old + length (error_text error)) }
     ensures room { string_capacity out.old ≤ string_capacity out.new }
@@ -212,7 +216,11 @@ fn put_stack(
 }
 
 #[tactic(auto, using(crate::proofs::RoomLaws::lengths, crate::proofs::FrontLaws::fronts))]
-fn put_answer(out: &mut String, methods: &Names, answer: &Answer) -> Result<(), AllocError>
+pub(crate) fn put_answer(
+    out: &mut String,
+    methods: &Names,
+    answer: &Answer,
+) -> Result<(), AllocError>
     ensures ok { OnOk result (string_bytes out.new ≡ string_bytes out.old ++ answer_text methods.now answer.now) }
     ensures len { OnOk result (string_len out.new ≡ string_len out.old + length (answer_text methods.now answer.now)) }
     ensures room { string_capacity out.old ≤ string_capacity out.new }

@@ -1,0 +1,164 @@
+-- What a document says as a live script, and which fault it has.
+use Rattle.std.specs.Prelude.{◌≡◌, ◌+◌, ◌==◌, ◌&&◌, ◌||◌, ℕ, Bool, List, [], ◌∷◌, ◌++◌, length, codes, nat_le, is_some, if◌then◌else◌, Option, None, Some, Result, Ok, Err}
+use Rattle.std.specs.Option.{ok_or}
+use Rattle.std.specs.Result.{result_err}
+use Rattle.std.specs.List.{list_all, sum_by}
+use Rattle.std.specs.Str.{bytes_eq}
+use Rattle.std.specs.Map.{lookup}
+use Rattle.serde_json.specs.Data.{Data}
+use Rattle.serde_json.specs.Find.{as_str}
+use Rattle.ti_types.specs.declared.event.Event.{Event}
+use Rattle.ti_types.specs.declared.event.Event.TheVariants as event
+use Rattle.ti_types.specs.declared.numbers.ThreadNo.{ThreadNo}
+use Rattle.ti_types.specs.declared.numbers.EnvNo.{EnvNo}
+use Rattle.ti_live.specs.declared.call.AgentCall.{AgentCall}
+use Rattle.ti_live.specs.declared.call.AgentCall.TheVariants.{Ask, AddCaps, Relinquish, GetCaps, SetEnvWord, GetEnvWord, SuspendList, ResumeList, AllStacks, ListStacks}
+use Rattle.ti_script.specs.declared.fault.LimitName.TheVariants.{Walks, CallsList}
+use Rattle.ti_script.specs.declared.fault.ScriptFault.{ScriptFault}
+use Rattle.ti_script.specs.declared.fault.ScriptFault.TheVariants.{Shape, Limit}
+use Rattle.ti_script.specs.declared.names.Cast.{Cast}
+use Rattle.ti_script.specs.declared.live.Live.{Live}
+use Rattle.ti_script.specs.Tree.{at, array_in, elements, has_exactly}
+use Rattle.ti_script.specs.Faults.{unless, first_of, head_shape}
+use Rattle.ti_script.specs.Head.{is_within, is_text, limits_fault, bounds_of, cast_fault, texts}
+use Rattle.ti_script.specs.Events.{◌>>=◌, Row, thread, signed, given, u32_in, ask_table, env_table, thread_table, word_event}
+use Rattle.ti_script.specs.Walks.{cast_of}
+
+-- ---- the head
+
+abbrev pub live_members : List (List ℕ)
+live_members = codes "limits" ∷ codes "threads" ∷ codes "agents" ∷ codes "methods" ∷ codes "walks" ∷ codes "calls" ∷ []
+
+-- an array of so many arrays
+abbrev pub are_lists : ℕ → Data → Bool
+are_lists count d = is_some (array_in d) && (length (elements d) == count && list_all (λ x. is_some (array_in x)) (elements d))
+
+-- how many elements the arrays of an array have in all
+abbrev pub count_in_all : List Data → ℕ
+count_in_all ds = sum_by (λ x. length (elements x)) ds
+
+-- the tests of the two arrays of lists: an array for each thread, an array for each agent, and then the two counts
+abbrev pub lists_fault : Cast → Data → Option ScriptFault
+lists_fault cast d = first_of
+    (unless (are_lists (length cast.threads) (at (codes "walks") d)) head_shape
+    ∷ unless (are_lists (length cast.agents) (at (codes "calls") d)) head_shape
+    ∷ unless (is_within 0 65536 (count_in_all (elements (at (codes "walks") d)))) (Limit Walks)
+    ∷ unless (is_within 0 65536 (count_in_all (elements (at (codes "calls") d)))) (Limit CallsList)
+    ∷ [])
+
+-- ---- the items
+
+-- the words of an agent that stand for one event: no stop, no read and no go among them
+abbrev pub one_table : EnvNo → List (List ℕ × Row)
+one_table e = ask_table e ++ env_table e
+
+-- the call of an event of these tables
+abbrev pub as_call : Event → AgentCall
+as_call (event.Ask e t c) = Ask t c
+as_call (event.AddCaps e c) = AddCaps c
+as_call (event.Relinquish e c) = Relinquish c
+as_call (event.SetEnvWord e n) = SetEnvWord n
+as_call (event.GetEnvWord e) = GetEnvWord
+as_call _ = GetCaps
+
+-- a thread's name or number
+abbrev pub is_thread_element : Data → Bool
+is_thread_element d = is_text d || is_some (u32_in d)
+
+module _ (cast : Cast) (item : ℕ) where
+  abbrev pub threads_given : List Data → Result (List ThreadNo) ScriptFault
+  threads_given [] = Ok []
+  threads_given (d ∷ ds) = given cast item thread d >>= λ t. threads_given ds >>= λ ts. Ok (t ∷ ts)
+
+  -- a list of threads: its length, the kinds and ranges of its elements, and then its names
+  abbrev pub threads_in : Data → Result (List ThreadNo) ScriptFault
+  threads_in d = ok_or (array_in d) (Shape item) >>= λ ds. if nat_le (length ds) 1024 && list_all is_thread_element ds then threads_given ds else Err (Shape item)
+
+  abbrev pub of_threads : (List ThreadNo → AgentCall) → List Data → Result AgentCall ScriptFault
+  of_threads make (d ∷ []) = threads_in d >>= λ ts. Ok (make ts)
+  of_threads make _ = Err (Shape item)
+
+  abbrev pub of_count : List Data → Result AgentCall ScriptFault
+  of_count (d ∷ []) = given cast item signed d >>= λ n. Ok (AllStacks n)
+  of_count _ = Err (Shape item)
+
+  abbrev pub of_both : List Data → Result AgentCall ScriptFault
+  of_both (d ∷ f ∷ []) = threads_in d >>= λ ts. given cast item signed f >>= λ n. Ok (ListStacks ts n)
+  of_both _ = Err (Shape item)
+
+  -- the words of a live run alone
+  abbrev pub list_table : List (List ℕ × (List Data → Result AgentCall ScriptFault))
+  list_table =
+      (codes "suspend_list", of_threads SuspendList)
+      ∷ (codes "resume_list", of_threads ResumeList)
+      ∷ (codes "all", of_count)
+      ∷ (codes "list", of_both)
+      ∷ []
+
+  abbrev pub listed_or : Option (List Data → Result AgentCall ScriptFault) → List Data → Result AgentCall ScriptFault → Result AgentCall ScriptFault
+  listed_or (Some read) ds other = read ds
+  listed_or None ds other = other
+
+  abbrev pub word_call : EnvNo → List ℕ → List Data → Result AgentCall ScriptFault
+  word_call e text ds = listed_or (lookup (bytes_eq text) list_table) ds (word_event cast item (one_table e) text ds >>= λ x. Ok (as_call x))
+
+  -- a word and what stands behind it
+  abbrev pub worded : {A : Type 0} → (List ℕ → List Data → Result A ScriptFault) → List Data → Result A ScriptFault
+  worded read [] = Err (Shape item)
+  worded read (b ∷ ds) = ok_or (as_str b) (Shape item) >>= λ text. read text ds
+
+  abbrev pub operation_in : ThreadNo → Data → Result Event ScriptFault
+  operation_in t d = ok_or (array_in d) (Shape item) >>= worded (word_event cast item (thread_table t))
+
+  abbrev pub call_in : EnvNo → Data → Result AgentCall ScriptFault
+  call_in e d = ok_or (array_in d) (Shape item) >>= worded (word_call e)
+
+-- the operations of one thread, as items that are numbered from this one on, or the first fault
+abbrev pub operations_in : Cast → ThreadNo → ℕ → List Data → Result (List Event) ScriptFault
+operations_in cast t item [] = Ok []
+operations_in cast t item (d ∷ ds) = operation_in cast item t d >>= λ x. operations_in cast t (item + 1) ds >>= λ xs. Ok (x ∷ xs)
+
+-- the walks of threads that are numbered from this one on: their items are numbered on
+abbrev pub walks_in : Cast → (number : ℕ) → (item : ℕ) → List Data → Result (List (List Event)) ScriptFault
+walks_in cast number item [] = Ok []
+walks_in cast number item (d ∷ ds) =
+    operations_in cast (record { 0 = number }) item (elements d) >>= λ w. walks_in cast (number + 1) (item + length (elements d)) ds >>= λ ws. Ok (w ∷ ws)
+
+abbrev pub calls_of_one : Cast → EnvNo → ℕ → List Data → Result (List AgentCall) ScriptFault
+calls_of_one cast e item [] = Ok []
+calls_of_one cast e item (d ∷ ds) = call_in cast item e d >>= λ x. calls_of_one cast e (item + 1) ds >>= λ xs. Ok (x ∷ xs)
+
+abbrev pub calls_in : Cast → (agent : ℕ) → (item : ℕ) → List Data → Result (List (List AgentCall)) ScriptFault
+calls_in cast agent item [] = Ok []
+calls_in cast agent item (d ∷ ds) =
+    calls_of_one cast (record { 0 = agent }) item (elements d) >>= λ c. calls_in cast (agent + 1) (item + length (elements d)) ds >>= λ cs. Ok (c ∷ cs)
+
+-- walks, and then calls, whose items are numbered on behind those of the walks
+abbrev pub items_in : Cast → (walks calls : List Data) → Result (List (List Event) × List (List AgentCall)) ScriptFault
+items_in cast walks calls = walks_in cast 0 1 walks >>= λ ws. calls_in cast 0 (1 + count_in_all walks) calls >>= λ cs. Ok (ws, cs)
+
+abbrev pub items_of : Cast → Data → Result (List (List Event) × List (List AgentCall)) ScriptFault
+items_of cast d = items_in cast (elements (at (codes "walks") d)) (elements (at (codes "calls") d))
+
+-- the tests behind those of the names: of the two arrays of lists, and then of the items
+abbrev pub body_fault : Cast → Data → Option ScriptFault
+body_fault cast d = first_of (lists_fault cast d ∷ result_err (items_of cast d) ∷ [])
+
+-- the first fault, in the order in which they are looked for
+abbrev pub live_fault : Data → Option ScriptFault
+live_fault d = first_of
+    (unless (has_exactly live_members d) head_shape
+    ∷ limits_fault (at (codes "limits") d)
+    ∷ cast_fault d
+    ∷ body_fault (cast_of d) d
+    ∷ [])
+
+-- the script is what the document says
+pub record IsLive (d : Data) (l : Live) : Type 0 where
+  pub bounds : (l.limits.depth, l.limits.own, l.limits.calls) ≡ bounds_of (at (codes "limits") d)
+  pub threads : l.threads ≡ texts (at (codes "threads") d)
+  pub agents : l.agents ≡ texts (at (codes "agents") d)
+  pub methods : l.methods ≡ texts (at (codes "methods") d)
+  pub items : items_of (cast_of d) d ≡ Ok (l.walks, l.calls)
+  pub thread_count : l.limits.threads ≡ length l.threads
+  pub agent_count : l.limits.envs ≡ length l.agents

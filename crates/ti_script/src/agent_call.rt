@@ -1,0 +1,199 @@
+//! A call of an agent in a live script: a word and what stands behind it.
+ghost use Rattle.std.specs.Prelude.{◌≡◌, map};
+ghost use Rattle.std.specs.List.{list_all};
+ghost use Rattle.serde_json.specs.View.{view};
+ghost use Rattle.ti_live.specs.declared.call.AgentCall.TheVariants.{SuspendList, ResumeList};
+ghost use Rattle.ti_script.specs.Faults.{Gives};
+ghost use Rattle.ti_script.specs.Events.{word_event};
+ghost use Rattle.ti_script.specs.Lives.{as_call, one_table, is_thread_element, threads_given, threads_in, of_threads, of_count, of_both, word_call, call_in};
+
+use crate::element::{signed_in, thread_in, u32_in};
+use crate::event::ask_event;
+use crate::fault::ScriptFault;
+use crate::names::Cast;
+use crate::service_event::env_event;
+use crate::tree::array_in;
+use serde_json::Value;
+use std::alloc::Global;
+use ti_live::{AgentCall, Listed};
+use ti_types::{EnvNo, Event, ThreadNo};
+
+/// The call of an event.
+fn as_call(event: Event) -> AgentCall
+    ensures { result ≡ as_call event }
+{
+    match event {
+        Event::Ask(_, thread, call) => AgentCall::Ask(thread, call),
+        Event::AddCaps(_, caps) => AgentCall::AddCaps(caps),
+        Event::Relinquish(_, caps) => AgentCall::Relinquish(caps),
+        Event::SetEnvWord(_, word) => AgentCall::SetEnvWord(word),
+        Event::GetEnvWord(_) => AgentCall::GetEnvWord,
+        _ => AgentCall::GetCaps,
+    }
+}
+
+/// The call of a word that stands for one event.
+fn one_event(
+    cast: &Cast,
+    item: u32,
+    agent: EnvNo,
+    text: &str,
+    rest: &[Value],
+) -> Result<Event, ScriptFault>
+    ensures { result ≡ word_event cast.now item (one_table agent) text.now (map view rest.now) }
+{
+    match ask_event(cast, item, agent, text, rest) {
+        Some(event) => event,
+        None => env_event(cast, item, agent, text, rest),
+    }
+}
+
+/// Whether a value may stand for a thread: a text, or a whole number of 32 bits.
+fn is_thread_element(value: &Value) -> bool
+    ensures { result ≡ is_thread_element (view value.now) }
+{
+    value.is_string() || u32_in(value).is_some()
+}
+
+fn are_thread_elements(values: &[Value]) -> bool
+    ensures { result ≡ list_all (λ value. is_thread_element (view value)) values.now }
+{
+    values.iter().all(|value| is_thread_element(value))
+}
+
+/// The threads that these values stand for. A text that is no thread's name is `Name`.
+fn threads_given(
+    alloc: Global,
+    cast: &Cast,
+    item: u32,
+    values: &[Value],
+) -> Result<Listed<ThreadNo>, ScriptFault>
+    ensures { Gives (λ threads. threads) result (threads_given cast.now item (map view values.now)) }
+{
+    let mut threads = Listed::new(alloc);
+    for value in values {
+        let thread = thread_in(cast, item, value)?;
+        threads.push(thread)?;
+    }
+    Ok(threads)
+}
+
+/// A list of threads: at most 1,024, each a number or a name.
+#[tactic(auto, using(crate::proofs::TreeLaws::list_all_views, crate::proofs::TreeLaws::length_of_map))]
+fn threads_in(
+    alloc: Global,
+    cast: &Cast,
+    item: u32,
+    value: &Value,
+) -> Result<Listed<ThreadNo>, ScriptFault>
+    ensures { Gives (λ threads. threads) result (threads_in cast.now item (view value.now)) }
+{
+    let Some(values) = array_in(value) else {
+        return Err(ScriptFault::Shape { item });
+    };
+    if values.len() > 1024 || !are_thread_elements(values) {
+        return Err(ScriptFault::Shape { item });
+    }
+    threads_given(alloc, cast, item, values)
+}
+
+/// SuspendThreadList of a list of threads.
+fn suspend_list(
+    alloc: Global,
+    cast: &Cast,
+    item: u32,
+    rest: &[Value],
+) -> Result<AgentCall, ScriptFault>
+    ensures { Gives (λ call. call) result (of_threads cast.now item SuspendList (map view rest.now)) }
+{
+    match rest {
+        [threads] => Ok(AgentCall::SuspendList(threads_in(alloc, cast, item, threads)?)),
+        _ => Err(ScriptFault::Shape { item }),
+    }
+}
+
+/// ResumeThreadList of a list of threads.
+fn resume_list(
+    alloc: Global,
+    cast: &Cast,
+    item: u32,
+    rest: &[Value],
+) -> Result<AgentCall, ScriptFault>
+    ensures { Gives (λ call. call) result (of_threads cast.now item ResumeList (map view rest.now)) }
+{
+    match rest {
+        [threads] => Ok(AgentCall::ResumeList(threads_in(alloc, cast, item, threads)?)),
+        _ => Err(ScriptFault::Shape { item }),
+    }
+}
+
+/// GetAllStackTraces with a count of frames.
+fn all_stacks(cast: &Cast, item: u32, rest: &[Value]) -> Result<AgentCall, ScriptFault>
+    ensures { Gives (λ call. call) result (of_count cast.now item (map view rest.now)) }
+{
+    match rest {
+        [max_count] => Ok(AgentCall::AllStacks(signed_in(item, max_count)?)),
+        _ => Err(ScriptFault::Shape { item }),
+    }
+}
+
+/// GetThreadListStackTraces of a list of threads with a count of frames.
+fn list_stacks(
+    alloc: Global,
+    cast: &Cast,
+    item: u32,
+    rest: &[Value],
+) -> Result<AgentCall, ScriptFault>
+    ensures { Gives (λ call. call) result (of_both cast.now item (map view rest.now)) }
+{
+    match rest {
+        [threads, max_count] => {
+            let threads = threads_in(alloc, cast, item, threads)?;
+            let max_count = signed_in(item, max_count)?;
+            Ok(AgentCall::ListStacks(threads, max_count))
+        }
+        _ => Err(ScriptFault::Shape { item }),
+    }
+}
+
+/// The call of a word.
+fn word_call(
+    alloc: Global,
+    cast: &Cast,
+    item: u32,
+    agent: EnvNo,
+    text: &str,
+    rest: &[Value],
+) -> Result<AgentCall, ScriptFault>
+    ensures { Gives (λ call. call) result (word_call cast.now item agent text.now (map view rest.now)) }
+{
+    match text {
+        "suspend_list" => suspend_list(alloc, cast, item, rest),
+        "resume_list" => resume_list(alloc, cast, item, rest),
+        "all" => all_stacks(cast, item, rest),
+        "list" => list_stacks(alloc, cast, item, rest),
+        _ => {
+            let event = one_event(cast, item, agent, text, rest)?;
+            Ok(as_call(event))
+        }
+    }
+}
+
+/// A call of an agent: a word and what stands behind it.
+pub(crate) fn call_in(
+    alloc: Global,
+    cast: &Cast,
+    item: u32,
+    agent: EnvNo,
+    value: &Value,
+) -> Result<AgentCall, ScriptFault>
+    ensures { Gives (λ call. call) result (call_in cast.now item agent (view value.now)) }
+{
+    let Some([word, rest @ ..]) = array_in(value) else {
+        return Err(ScriptFault::Shape { item });
+    };
+    let Some(word) = word.as_str() else {
+        return Err(ScriptFault::Shape { item });
+    };
+    word_call(alloc, cast, item, agent, word, rest)
+}

@@ -1,0 +1,248 @@
+//! The reading of a live script, from its bytes on.
+ghost use Rattle.std.specs.Prelude.{◌≡◌, ◌≤◌, ◌+◌, List, length, map, codes, None, Ok, is_some, IfOk, IfErr};
+ghost use Rattle.std.specs.List.{list_all};
+ghost use Rattle.serde_json.specs.View.{view};
+ghost use Rattle.serde_json.specs.Data.{Data};
+ghost use Rattle.ti_script.specs.Faults.{Reads, Gives, Faults, unless, head_shape};
+ghost use Rattle.ti_script.specs.declared.fault.ScriptFault.TheVariants.{Limit};
+ghost use Rattle.ti_script.specs.Tree.{at, elements, array_in};
+ghost use Rattle.ti_script.specs.Head.{is_within};
+ghost use Rattle.ti_script.specs.Walks.{IsDocument, IsRefusalBy};
+ghost use Rattle.ti_script.specs.Lives.{are_lists, count_in_all, lists_fault, walks_in, calls_in, items_in, items_of, body_fault, live_fault, IsLive};
+
+use crate::fault::{LimitName, ScriptFault};
+use crate::lists::{calls_of_one, operations_in};
+use crate::live::Live;
+use crate::names::Cast;
+use crate::reading::{bounds_at, cast_in, member};
+use crate::tree::{array_in, has_exactly};
+use serde_json::Value;
+use std::alloc::Global;
+use ti_live::{AgentCall, Listed};
+use ti_types::{EnvNo, Event, Limits, ThreadNo};
+
+/// The elements of an array, and none of another value.
+fn elements(value: &Value) -> &[Value]
+    ensures { map view result.now ≡ elements (view value.now) }
+{
+    match array_in(value) {
+        Some(values) => values,
+        None => &[],
+    }
+}
+
+/// How many elements these arrays have in all, at most 65,536.
+fn items_in_all(values: &[Value], which: LimitName) -> Result<u32, ScriptFault>
+    ensures read { Reads (λ n. n) result (unless (is_within 0 65536 (count_in_all (map view values.now))) (Limit which)) (count_in_all (map view values.now)) }
+    ensures few { IfOk result (λ n. n ≤ 65536) }
+{
+    let mut count = 0u32;
+    for value in values {
+        let here = elements(value).len();
+        if here > 65536 - count as usize {
+            return Err(ScriptFault::Limit { which });
+        }
+        count += here as u32;
+    }
+    Ok(count)
+}
+
+/// The walks of all threads: their items are numbered on from 1.
+fn walks_in(
+    alloc: Global,
+    cast: &Cast,
+    values: &[Value],
+) -> Result<Listed<Listed<Event>>, ScriptFault>
+    requires few { count_in_all (map view values.now) ≤ 65536 }
+    requires threads { length values.now ≤ 64 }
+    ensures { Gives (λ walks. walks) result (walks_in cast.now 0 1 (map view values.now)) }
+{
+    let mut walks = Listed::new(alloc);
+    let mut number = 0u32;
+    let mut item = 1u32;
+    for value in values {
+        let list = elements(value);
+        let walk = operations_in(alloc, cast, ThreadNo(number), item, list)?;
+        walks.push(walk)?;
+        number += 1;
+        item += list.len() as u32;
+    }
+    Ok(walks)
+}
+
+/// The calls of all agents: their items are numbered on from this one.
+fn calls_in(
+    alloc: Global,
+    cast: &Cast,
+    first: u32,
+    values: &[Value],
+) -> Result<Listed<Listed<AgentCall>>, ScriptFault>
+    requires few { count_in_all (map view values.now) ≤ 65536 }
+    requires first { first ≤ 65537 }
+    requires agents { length values.now ≤ 64 }
+    ensures { Gives (λ calls. calls) result (calls_in cast.now 0 first (map view values.now)) }
+{
+    let mut calls = Listed::new(alloc);
+    let mut number = 0u32;
+    let mut item = first;
+    for value in values {
+        let list = elements(value);
+        let one = calls_of_one(alloc, cast, EnvNo(number), item, list)?;
+        calls.push(one)?;
+        number += 1;
+        item += list.len() as u32;
+    }
+    Ok(calls)
+}
+
+/// Whether a value is an array of so many arrays.
+#[tactic(auto, using(crate::proofs::TreeLaws::list_all_views, crate::proofs::TreeLaws::length_of_map))]
+fn are_lists(value: &Value, count: usize) -> bool
+    ensures { result ≡ are_lists count (view value.now) }
+{
+    let Some(values) = array_in(value) else {
+        return false;
+    };
+    values.len() == count && are_arrays(values)
+}
+
+fn are_arrays(values: &[Value]) -> bool
+    ensures { result ≡ list_all (λ value. is_some (array_in (view value))) values.now }
+{
+    values.iter().all(|value| array_in(value).is_some())
+}
+
+/// The arrays of a member that is an array of so many.
+fn lists_at<'a>(value: &'a Value, key: &str, count: usize) -> Result<&'a [Value], ScriptFault>
+    ensures read { Reads (λ lists. map view lists.now) result (unless (are_lists count (at key.now (view value.now))) head_shape) (elements (at key.now (view value.now))) }
+    ensures count { IfOk result (λ lists. length lists.now ≡ count) }
+{
+    let lists = member(value, key)?;
+    if !are_lists(lists, count) {
+        return Err(ScriptFault::Shape { item: 0 });
+    }
+    let Some(lists) = array_in(lists) else {
+        return Err(ScriptFault::Shape { item: 0 });
+    };
+    if lists.len() != count {
+        return Err(ScriptFault::Shape { item: 0 });
+    }
+    Ok(lists)
+}
+
+/// The two arrays of lists of a live script, and how many operations the first has in all.
+#[derive(Drop)]
+struct Lists<'a> {
+    walks: &'a [Value],
+    calls: &'a [Value],
+    operations: u32,
+}
+
+/// The walks and the calls, as arrays of so many arrays, with few items in all.
+fn lists_in<'a>(cast: &Cast, value: &'a Value) -> Result<Lists<'a>, ScriptFault>
+    ensures read { Reads {Y = List Data × List Data} (λ l. (map view l.walks.now, map view l.calls.now)) result (lists_fault cast.now (view value.now)) (elements (at (codes "walks") (view value.now)), elements (at (codes "calls") (view value.now))) }
+    ensures counts { IfOk result (λ l. (length l.walks.now ≡ length cast.now.threads) × (length l.calls.now ≡ length cast.now.agents)) }
+    ensures few { IfOk result (λ l. (count_in_all (map view l.walks.now) ≤ 65536) × (count_in_all (map view l.calls.now) ≤ 65536)) }
+    ensures operations { IfOk result (λ l. l.operations ≡ count_in_all (map view l.walks.now)) }
+{
+    let walks = lists_at(value, "walks", cast.threads.len())?;
+    let calls = lists_at(value, "calls", cast.agents.len())?;
+    let operations = items_in_all(walks, LimitName::Walks)?;
+    let _calls = items_in_all(calls, LimitName::CallsList)?;
+    Ok(Lists {
+        walks,
+        calls,
+        operations,
+    })
+}
+
+/// The walks of all threads, and the calls of all agents, whose items are numbered on from this one.
+fn items_in(
+    alloc: Global,
+    cast: &Cast,
+    walks: &[Value],
+    first: u32,
+    calls: &[Value],
+) -> Result<(Listed<Listed<Event>>, Listed<Listed<AgentCall>>), ScriptFault>
+    requires counts { (length walks.now ≤ 64) × (length calls.now ≤ 64) }
+    requires few { (count_in_all (map view walks.now) ≤ 65536) × (count_in_all (map view calls.now) ≤ 65536) }
+    requires first { first ≡ 1 + count_in_all (map view walks.now) }
+    ensures { Gives (λ items. items) result (items_in cast.now (map view walks.now) (map view calls.now)) }
+{
+    let walks = walks_in(alloc, cast, walks)?;
+    let calls = calls_in(alloc, cast, first, calls)?;
+    Ok((walks, calls))
+}
+
+/// The walks and the calls of a document whose names these are.
+fn body_in(
+    alloc: Global,
+    cast: &Cast,
+    value: &Value,
+) -> Result<(Listed<Listed<Event>>, Listed<Listed<AgentCall>>), ScriptFault>
+    requires threads { length cast.now.threads ≤ 64 }
+    requires agents { length cast.now.agents ≤ 32 }
+    ensures ok { IfOk result (λ items. (body_fault cast.now (view value.now) ≡ None) × (items_of cast.now (view value.now) ≡ Ok (items.0, items.1))) }
+    ensures err { IfErr result (λ e. Faults e (body_fault cast.now (view value.now))) }
+{
+    let lists = lists_in(cast, value)?;
+    items_in(alloc, cast, lists.walks, 1 + lists.operations, lists.calls)
+}
+
+fn live_in(alloc: Global, value: &Value) -> Result<Live, ScriptFault>
+    ensures ok { IfOk result (λ l. (live_fault (view value.now) ≡ None) × IsLive (view value.now) l) }
+    ensures err { IfErr result (λ e. Faults e (live_fault (view value.now))) }
+{
+    if !has_exactly(
+        value,
+        &["limits", "threads", "agents", "methods", "walks", "calls"],
+    ) {
+        return Err(ScriptFault::Shape { item: 0 });
+    }
+    let bounds = bounds_at(value, "limits")?;
+    let cast = cast_in(alloc, value)?;
+    let (walks, calls) = body_in(alloc, &cast, value)?;
+    let Cast {
+        threads,
+        agents,
+        methods,
+    } = cast;
+    let limits = Limits::new(
+        threads.len() as u32,
+        agents.len() as u32,
+        bounds.depth,
+        bounds.own,
+        bounds.calls,
+    )
+    .unwrap();
+    Ok(Live {
+        limits,
+        threads,
+        agents,
+        methods,
+        walks,
+        calls,
+    })
+}
+
+/// The live script that the bytes of a document say, or its first fault.
+///
+/// The bytes are read as one JSON tree; the tree is given up before the script is handed out. `Json` where they are no
+/// JSON text, `Memory` where memory is wanting, and otherwise the first fault of the tree in the order of
+/// `specs/Lives.antt`: of the members, the limits and the names, as `read_walk` looks for them; then `Shape` of item 0 where
+/// `walks` is no array of an array for each thread, or `calls` none of an array for each agent; then `Limit` `walks` and
+/// `calls_list`, where there are more than 65,536 operations or calls in all; then of the items, which are numbered from 1
+/// over the threads' operations and then on over the agents' calls. Source: this profile.
+pub fn read_live(alloc: Global, bytes: &[u8]) -> Result<Live, ScriptFault>
+    ensures ok { IfOk result (λ l. (d : Data) × IsDocument bytes.now d × (live_fault d ≡ None) × IsLive d l) }
+    ensures err { IfErr result (λ e. IsRefusalBy live_fault e bytes.now) }
+{
+    match Value::from_slice(alloc, bytes) {
+        Ok(document) => live_in(alloc, &document),
+        Err(e) => if e.is_memory() {
+            Err(ScriptFault::Memory)
+        } else {
+            Err(ScriptFault::Json)
+        },
+    }
+}

@@ -1,0 +1,29 @@
+//! An operation of a thread in a live script: a thread's event of a walk, without the thread.
+ghost use Rattle.std.specs.Prelude.{◌≡◌};
+ghost use Rattle.serde_json.specs.View.{view};
+ghost use Rattle.ti_script.specs.Lives.{operation_in};
+
+use crate::fault::ScriptFault;
+use crate::names::Cast;
+use crate::own_event::thread_event;
+use crate::tree::array_in;
+use serde_json::Value;
+use ti_types::{Event, ThreadNo};
+
+/// An operation of a thread: a word and what its row wants.
+pub(crate) fn operation_in(
+    cast: &Cast,
+    item: u32,
+    thread: ThreadNo,
+    value: &Value,
+) -> Result<Event, ScriptFault>
+    ensures { result ≡ operation_in cast.now item thread (view value.now) }
+{
+    let Some([word, rest @ ..]) = array_in(value) else {
+        return Err(ScriptFault::Shape { item });
+    };
+    let Some(word) = word.as_str() else {
+        return Err(ScriptFault::Shape { item });
+    };
+    thread_event(cast, item, thread, word, rest)
+}
