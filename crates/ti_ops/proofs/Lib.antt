@@ -1,1 +1,2 @@
-pub mod FateLaws
+pub mod Listed
+pub mod ChunkLaws

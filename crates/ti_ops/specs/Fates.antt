@@ -6,13 +6,13 @@ use Rattle.ti_types.specs.declared.answer.Answer.{Answer}
 use Rattle.ti_ops.specs.declared.fate.Fate.{Fate}
 use Rattle.ti_ops.specs.declared.fate.Fate.TheVariants.{Waiting, Told, Gone}
 
--- the fates of one environment's calls, by number, and how many there may be
+-- the fates of each environment's calls, by number, and how many calls an environment may ask
 pub record Fates : Type 0 where
-  pub fates : List Fate
-  pub room : ℕ
+  pub lists : List (List Fate)
+  pub calls : ℕ
 
-abbrev pub with_list : Fates → List Fate → Fates
-with_list f fates = record { fates = fates; room = f.room }
+abbrev pub with_lists : Fates → List (List Fate) → Fates
+with_lists f lists = record { lists = lists; calls = f.calls }
 
 -- the answer that is there to be collected
 abbrev pub told_by : Fate → Option Answer

@@ -4,7 +4,7 @@ ghost use Rattle.ti_ops.specs.Ops.{with_waiting, with_fates, with_posted};
 ghost use Rattle.ti_ops.specs.declared.fate.Fate.TheVariants as fate;
 
 use crate::fate::Fate;
-use crate::fates::FateList;
+use crate::table::FateTable;
 use std::alloc::Global;
 use std::collections::VecDeque;
 use std::marker::Model;
@@ -26,23 +26,20 @@ pub struct Pending {
 pub struct PendingOps {
     /// The earliest posted first.
     waiting: VecDeque<Pending>,
-    /// One for each environment.
-    fates: Vec<FateList>,
+    fates: FateTable,
     room: usize,
-    calls: u32,
 }
 
 impl Model for PendingOps {
-    ghost use Rattle.std.specs.Prelude.{◌≤◌, length, map};
+    ghost use Rattle.std.specs.Prelude.{◌≤◌, length};
     ghost use Rattle.std.specs.VecDeque.{deque_capacity};
     ghost use Rattle.ti_ops.specs.Ops.{Ops};
-    ghost use Rattle.ti_ops.specs.Rooms.{HaveRoom, fates_in};
 
     ghost Value = { Ops };
 
-    ghost view = { λ s. record { waiting = s.waiting.items; fates = fates_in s.fates.items; room = s.room; calls = s.calls } };
+    ghost view = { λ s. record { waiting = s.waiting.items; fates = s.fates.lists; room = s.room; calls = s.fates.calls } };
 
-    ghost invariant = { λ s. (length s.waiting.items ≤ s.room) × (s.room ≤ deque_capacity s.waiting) × HaveRoom s.calls s.fates.items };
+    ghost invariant = { λ s. (length s.waiting.items ≤ s.room) × (s.room ≤ deque_capacity s.waiting) };
 }
 
 impl PendingOps {
@@ -58,12 +55,11 @@ impl PendingOps {
     {
         let room = envs as usize * calls as usize;
         let waiting = VecDeque::with_capacity(alloc, room)?;
-        let fates = empty_lists(alloc, envs, calls)?;
+        let fates = FateTable::new(alloc, envs, calls)?;
         Ok(PendingOps {
             waiting,
             fates,
             room,
-            calls,
         })
     }
 
@@ -82,8 +78,7 @@ impl PendingOps {
         requires room { length self.old.waiting < self.old.room }
         ensures { self.new ≡ with_posted self.old (record { ticket = ticket; call = call; buf = buf }) }
     {
-        let fates = &mut self.fates[ticket.env.0 as usize];
-        fates.push(Fate::Waiting);
+        self.fates.push(ticket.env, Fate::Waiting);
         self.waiting
             .push_back_reserved(Pending { ticket, call, buf });
     }
@@ -94,8 +89,7 @@ impl PendingOps {
         requires calls { length (fates_by env self.old.fates) < self.old.calls }
         ensures { self.new ≡ with_fates self.old (with_call env fate.Gone self.old.fates) }
     {
-        let fates = &mut self.fates[env.0 as usize];
-        fates.push(Fate::Gone);
+        self.fates.push(env, Fate::Gone);
     }
 
     /// Takes the call that has waited longest, with its buffer, or `None` where none waits.
@@ -111,8 +105,7 @@ impl PendingOps {
         requires { fate_of ticket self.old.fates ≡ fate.Waiting }
         ensures { self.new ≡ with_fates self.old (with_fate ticket (fate.Told answer) self.old.fates) }
     {
-        let fates = &mut self.fates[ticket.env.0 as usize];
-        fates.tell(ticket.no, answer);
+        self.fates.tell(ticket, answer);
     }
 
     /// Takes the answer to a ticket out, or gives `None` where it is not there: the call is not answered yet, was
@@ -121,27 +114,6 @@ impl PendingOps {
         ensures answer { result ≡ told_by (fate_of ticket self.old.fates) }
         ensures fates { self.new ≡ with_fates self.old (if is_some result then with_fate ticket fate.Gone self.old.fates else self.old.fates) }
     {
-        let at = ticket.env.0 as usize;
-        if at >= self.fates.len() {
-            return None;
-        }
-        let fates = &mut self.fates[at];
-        fates.take(ticket.no)
+        self.fates.take(ticket)
     }
-}
-
-/// A list of no calls for each environment.
-fn empty_lists(alloc: Global, envs: u32, calls: u32) -> Result<Vec<FateList>, TiError>
-    ensures lists { IfOk result (λ v. v.items ≡ replicate envs (record { fates = []; room = calls })) }
-    ensures memory { IfErr result (λ e. e ≡ TiError.OutOfMemory) }
-{
-    let mut lists = Vec::with_capacity(alloc, envs as usize)?;
-    for _env in 0..envs {
-        let list = FateList::new(alloc, calls)?;
-        match lists.push(list) {
-            Ok(()) => (),
-            Err(_) => unreachable!(),
-        }
-    }
-    Ok(lists)
 }
