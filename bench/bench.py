@@ -81,6 +81,13 @@ def waiting(part):
     return walk({"depth": 4, "own": 32, "calls": 1024}, threads, AGENTS, [], events)
 
 
+def rooms(part):
+    """The greatest core, of 64 threads of 4,096 frames and 32 agents, which is hardly used: a start, a question, a poll."""
+    threads, agents = [f"t{n}" for n in range(64 // part)], [f"a{n}" for n in range(32)]
+    events = [["t0", "start"], ["a0", "count", "t0"], ["t0", "poll"]]
+    return walk({"depth": 4096, "own": 65536, "calls": 1024}, threads, agents, [], events)
+
+
 def history(entries, agents=8):
     limits = {"depth": 4, "own": 65536, "calls": 1024}
     return {"format": 1 if agents <= 8 else 2, "limits": limits, "agents": agents, "entries": entries}
@@ -194,6 +201,7 @@ DOCUMENTS = (
     ("mixed walk", mixed, []),
     ("deep traces", deep, []),
     ("waiting calls", waiting, []),
+    ("greatest rooms", rooms, []),
     ("longest history", longest, ["check"]),
     ("longest of eight", longest_of_eight, ["check"]),
     ("one end more", illegal, ["check"]),

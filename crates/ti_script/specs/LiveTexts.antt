@@ -3,7 +3,7 @@ use Rattle.std.specs.Prelude.{ℕ, ◌+◌, List, [], ◌∷◌, ◌++◌, codes
 use Rattle.std.specs.List.{flat_map}
 use Rattle.ti_live.specs.declared.reply.Reply.{Reply}
 use Rattle.ti_live.specs.declared.reply.Reply.TheVariants.{Plain, Codes, Stacks}
-use Rattle.ti_live.specs.declared.reply.StackInfo.{StackInfo}
+use Rattle.ti_types.specs.declared.stack.StackInfo.{StackInfo}
 use Rattle.ti_live.specs.declared.report.Refusal.{Refusal}
 use Rattle.ti_script.specs.Texts.{answer_text, bits_text, frames_text}
 
