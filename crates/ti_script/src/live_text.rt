@@ -10,8 +10,8 @@ ghost use Rattle.ti_script.specs.LiveTexts.{name_text, numbered_text, codes_text
 use crate::names::Names;
 use crate::text::{put_answer, put_bits, put_frames, put_number};
 use std::alloc::AllocError;
-use ti_live::{Listed, Refusal, Reply, StackInfo};
-use ti_types::Frame;
+use ti_live::{Listed, Refusal, Reply};
+use ti_types::{Frame, StackInfo};
 
 /// Adds the name of a number, and nothing where none has it.
 #[tactic(auto, using(crate::proofs::RoomLaws::lengths, crate::proofs::FrontLaws::fronts))]
