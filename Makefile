@@ -15,6 +15,7 @@ test:
 	python3 ci/edits.py --apply
 	python3 ci/examples.py --tested
 	python3 ci/cases.py --covered
+	python3 ci/schemas.py
 	sh ci/must_not_compile.sh
 	python3 ci/gate.py
 
