@@ -1,6 +1,6 @@
-ghost use Rattle.std.specs.Prelude.{◌≡◌, ◌++◌, ◌∷◌, [], OnOk, OnErr};
+ghost use Rattle.std.specs.Prelude.{◌≡◌, ◌++◌, ◌∷◌, [], IfOk, OnOk, OnErr};
 
-use std::alloc::{AllocFailed, Global};
+use std::alloc::{AllocError, AllocFailed, Global};
 use std::marker::Model;
 
 /// Items in their order. Contracts see them as a list.
@@ -25,6 +25,15 @@ impl<T: Drop> Listed<T> {
         Listed {
             items: Vec::new(alloc),
         }
+    }
+
+    /// No items, with room for so many, so that adding them takes no memory. The error is want of memory.
+    pub fn with_room(alloc: Global, count: usize) -> Result<Self, AllocError>
+        ensures { IfOk result (λ items. items ≡ []) }
+    {
+        Ok(Listed {
+            items: Vec::with_capacity(alloc, count)?,
+        })
     }
 
     /// Adds an item at the end. The one error is want of memory; then nothing changes, and the error gives the item back.

@@ -70,7 +70,7 @@ fn threads_given(
 ) -> Result<Listed<ThreadNo>, ScriptFault>
     ensures { Gives (λ threads. threads) result (threads_given cast.now item (map view values.now)) }
 {
-    let mut threads = Listed::new(alloc);
+    let mut threads = Listed::with_room(alloc, values.len())?;
     for value in values {
         let thread = thread_in(cast, item, value)?;
         threads.push(thread)?;

@@ -24,7 +24,7 @@ pub(crate) fn operations_in(
     requires { first + length values.now < 2 ^ 32 }
     ensures { Gives (λ events. events) result (operations_in cast.now thread first (map view values.now)) }
 {
-    let mut events = Listed::new(alloc);
+    let mut events = Listed::with_room(alloc, values.len())?;
     let mut item = first;
     for value in values {
         let event = operation_in(cast, item, thread, value)?;
@@ -45,7 +45,7 @@ pub(crate) fn calls_of_one(
     requires { first + length values.now < 2 ^ 32 }
     ensures { Gives (λ calls. calls) result (calls_of_one cast.now agent first (map view values.now)) }
 {
-    let mut calls = Listed::new(alloc);
+    let mut calls = Listed::with_room(alloc, values.len())?;
     let mut item = first;
     for value in values {
         let call = call_in(alloc, cast, item, agent, value)?;

@@ -57,7 +57,7 @@ fn walks_in(
     requires threads { length values.now ≤ 64 }
     ensures { Gives (λ walks. walks) result (walks_in cast.now 0 1 (map view values.now)) }
 {
-    let mut walks = Listed::new(alloc);
+    let mut walks = Listed::with_room(alloc, values.len())?;
     let mut number = 0u32;
     let mut item = 1u32;
     for value in values {
@@ -82,7 +82,7 @@ fn calls_in(
     requires agents { length values.now ≤ 64 }
     ensures { Gives (λ calls. calls) result (calls_in cast.now 0 first (map view values.now)) }
 {
-    let mut calls = Listed::new(alloc);
+    let mut calls = Listed::with_room(alloc, values.len())?;
     let mut number = 0u32;
     let mut item = first;
     for value in values {
@@ -106,6 +106,7 @@ fn are_lists(value: &Value, count: usize) -> bool
     values.len() == count && are_arrays(values)
 }
 
+/// Whether each of these values is an array.
 fn are_arrays(values: &[Value]) -> bool
     ensures { result ≡ list_all (λ value. is_some (array_in (view value))) values.now }
 {
@@ -113,6 +114,7 @@ fn are_arrays(values: &[Value]) -> bool
 }
 
 /// The arrays of a member that is an array of so many.
+#[tactic(auto, using(crate::proofs::TreeLaws::length_of_map))]
 fn lists_at<'a>(value: &'a Value, key: &str, count: usize) -> Result<&'a [Value], ScriptFault>
     ensures read { Reads (λ lists. map view lists.now) result (unless (are_lists count (at key.now (view value.now))) head_shape) (elements (at key.now (view value.now))) }
     ensures count { IfOk result (λ lists. length lists.now ≡ count) }
@@ -121,13 +123,7 @@ fn lists_at<'a>(value: &'a Value, key: &str, count: usize) -> Result<&'a [Value]
     if !are_lists(lists, count) {
         return Err(ScriptFault::Shape { item: 0 });
     }
-    let Some(lists) = array_in(lists) else {
-        return Err(ScriptFault::Shape { item: 0 });
-    };
-    if lists.len() != count {
-        return Err(ScriptFault::Shape { item: 0 });
-    }
-    Ok(lists)
+    Ok(elements(lists))
 }
 
 /// The two arrays of lists of a live script, and how many operations the first has in all.

@@ -16,6 +16,8 @@ mod lists;
 #[cfg(test)]
 mod memory;
 #[cfg(test)]
+mod reports;
+#[cfg(test)]
 mod scripts;
 #[cfg(test)]
 mod streams;
