@@ -58,8 +58,9 @@ impl FatePool {
         for _place in 0..PLACES {
             self.items.push_reserved(Fate::Gone);
         }
+        let number = self.count;
         self.count += 1;
-        self.count - 1
+        number
     }
 
     /// Puts a fate at a place of a chunk that is handed out.
