@@ -1,10 +1,10 @@
 //! Reports of live runs, from the script's bytes to the lines.
 use std::alloc::Global;
 use std::test::*;
-use ti_live::{Listed, LiveReport, Refusal, Reply, Script, StackInfo};
+use ti_live::{Listed, LiveReport, Refusal, Reply, Script};
 use ti_report::fits;
 use ti_script::{LimitName, Live, ScriptFault, agents_text, read_live, thread_text};
-use ti_types::{Answer, Call, Entry, EnvNo, ThreadNo, TiError, TraceBuf};
+use ti_types::{Answer, Call, Entry, EnvNo, StackInfo, ThreadNo, TiError, TraceBuf};
 
 /// The head of a live script, up to its lists.
 const HEAD: &str =
