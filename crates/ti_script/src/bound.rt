@@ -1,4 +1,4 @@
-ghost use Rattle.std.specs.Prelude.{◌≡◌, ◌≤◌, ◌+◌, ◌*◌, ℕ, List, length, IfSome};
+ghost use Rattle.std.specs.Prelude.{◌≡◌, ◌≤◌, ◌+◌, ◌*◌, ◌^◌, ℕ, List, length, IfSome, IfNone};
 ghost use Rattle.ti_script.specs.Texts.{line_text};
 ghost use Rattle.ti_script.specs.Bounds.{AreNamesWithin, frames_in_line};
 
@@ -24,16 +24,19 @@ fn frames_in_line(outcome: &Option<Outcome>) -> usize
 
 /// `count * each + more`, where that is a `usize`.
 fn sum_of(count: usize, each: usize, more: usize) -> Option<usize>
-    ensures { IfSome result (λ n. n ≡ count * each + more) }
+    ensures sum { IfSome result (λ n. n ≡ count * each + more) }
+    ensures large { IfNone result (2 ^ 64 ≤ count * each + more) }
 {
     count.checked_mul(each)?.checked_add(more)
 }
 
 /// A length that the line of an outcome does not exceed, whatever the line's index, where no method's name is longer than
-/// `longest_name`. It takes a constant time. None where that length is no `usize`.
+/// `longest_name`. It takes a constant time. None only where the texts of the frames that the line names, and of one more,
+/// might come to more bytes than a `usize` counts.
 #[tactic(auto, using(crate::proofs::BoundLaws::line_within))]
 pub fn line_bound(longest_name: usize, outcome: &Option<Outcome>) -> Option<usize>
-    ensures { IfSome result (λ n. (methods : List (List ℕ)) (index : ℕ) → AreNamesWithin longest_name methods → length (line_text methods index outcome.now) ≤ n) }
+    ensures bound { IfSome result (λ n. (methods : List (List ℕ)) (index : ℕ) → AreNamesWithin longest_name methods → length (line_text methods index outcome.now) ≤ n) }
+    ensures large { IfNone result (2 ^ 64 ≤ (frames_in_line outcome.now + 1) * (longest_name + 66) + 256) }
 {
     let frame = longest_name.checked_add(FRAME)?;
     sum_of(frames_in_line(outcome), frame, LINE)
