@@ -27,7 +27,7 @@ digits_within (suc k) base n acc =
     either_within (n / base == 0) (glyph ∷ acc) (digits_onto k base false (n / base) (glyph ∷ acc)) (suc k + length acc) (omega arith) (omega (arith, more))
 
 -- a number has at most 64 digits, whatever it is
-number_within : (base n : ℕ) → length (digits base false n) ≤ 64
+pub number_within : (base n : ℕ) → length (digits base false n) ≤ 64
 unfolding digits
 number_within base n = let all = digits_within 64 base n [] in omega (arith, all)
 
@@ -41,7 +41,7 @@ frame_within methods longest frame names =
     let place = place_text frame.place in
     omega (arith, length-append name (codes "@" ++ place), names frame.method.0, place_within frame.place)
 
-frames_within : (methods : List (List ℕ)) (longest : ℕ) (frames : List Frame) → AreNamesWithin longest methods → length (frames_text methods frames) ≤ length frames * (longest + 66)
+pub frames_within : (methods : List (List ℕ)) (longest : ℕ) (frames : List Frame) → AreNamesWithin longest methods → length (frames_text methods frames) ≤ length frames * (longest + 66)
 frames_within methods longest [] names = omega arith
 frames_within methods longest (frame ∷ frames) names =
     let text = frame_text methods frame in
@@ -62,7 +62,7 @@ caps_within held =
 error_within : (e : TiError) → length (error_text e) ≤ 160
 error_within e = let number = number_within 10 (number_of e) in omega (arith, number)
 
-answer_within : (methods : List (List ℕ)) (longest : ℕ) (a : Answer) → AreNamesWithin longest methods → length (answer_text methods a) ≤ frames_told a * (longest + 66) + 160
+pub answer_within : (methods : List (List ℕ)) (longest : ℕ) (a : Answer) → AreNamesWithin longest methods → length (answer_text methods a) ≤ frames_told a * (longest + 66) + 160
 answer_within methods longest answer.Done names = omega arith
 answer_within methods longest (answer.State bits) names = let number = number_within 16 bits in omega (arith, number)
 answer_within methods longest (answer.Count n) names = let number = number_within 10 n in omega (arith, number)

@@ -7,3 +7,4 @@ pub mod BoundLaws
 pub mod LiveLaws
 pub mod LiveTextLaws
 mod WorkedLives
+pub mod LiveBoundLaws

@@ -11,3 +11,4 @@ pub mod LimitNames
 pub mod Bounds
 pub mod Lives
 pub mod LiveTexts
+pub mod LiveBounds

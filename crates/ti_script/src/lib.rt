@@ -18,6 +18,7 @@ mod head;
 mod history;
 mod lists;
 mod live;
+mod live_bound;
 mod live_text;
 mod living;
 mod names;
@@ -34,6 +35,7 @@ pub use bound::line_bound;
 pub use fault::{LimitName, ScriptFault};
 pub use history::{EntryList, History};
 pub use live::Live;
+pub use live_bound::{reply_bound, thread_line_bound};
 pub use live_text::{
     agents_text, refusal_line, replies_text, reply_line, reply_text, thread_text, verdict_line,
 };
