@@ -5,7 +5,7 @@ use Rattle.std.proofs.lemmas.Grind.{take_at_read}
 use Rattle.std.proofs.lemmas.List.Sums.{sum_by-append}
 use Rattle.ti_live.specs.declared.reply.Reply.{Reply}
 use Rattle.ti_live.specs.declared.reply.Reply.TheVariants.{Plain, Codes, Stacks}
-use Rattle.ti_live.specs.declared.reply.StackInfo.{StackInfo}
+use Rattle.ti_types.specs.declared.stack.StackInfo.{StackInfo}
 use Rattle.ti_script.specs.Texts.{bits_text, frames_text}
 use Rattle.ti_script.specs.LiveTexts.{name_text, numbered_text, info_text, infos_text, codes_text, reply_text}
 use Rattle.ti_script.specs.Bounds.{AreNamesWithin}

@@ -3,7 +3,7 @@ use Rattle.std.specs.Prelude.{ℕ, ◌≤◌, List, length, Option}
 use Rattle.std.specs.List.{sum_by}
 use Rattle.ti_live.specs.declared.reply.Reply.{Reply}
 use Rattle.ti_live.specs.declared.reply.Reply.TheVariants.{Plain, Codes, Stacks}
-use Rattle.ti_live.specs.declared.reply.StackInfo.{StackInfo}
+use Rattle.ti_types.specs.declared.stack.StackInfo.{StackInfo}
 use Rattle.ti_live.specs.declared.report.Refusal.{Refusal}
 use Rattle.ti_script.specs.Bounds.{AreNamesWithin, frames_told}
 use Rattle.ti_script.specs.LiveTexts.{reply_line, refusal_line, verdict_line}
