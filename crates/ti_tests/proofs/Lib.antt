@@ -1,1 +1,3 @@
 pub mod HandOvers
+pub mod Stops
+pub mod AtCell

@@ -1,7 +1,7 @@
 ghost use Rattle.std.specs.Prelude.{◌≡◌, ◌+◌, ◌<◌, IfSome};
 ghost use Rattle.ti_cell.specs.View.{subject_of, newcomer};
 ghost use Rattle.ti_cell.specs.Seats.{env_seats};
-ghost use Rattle.ti_tests.specs.Agents.{IsNewSeat};
+ghost use Rattle.ti_tests.specs.Agents.{HasDeskAt, IsNewSeat};
 
 use std::alloc::Global;
 use std::sync::{Mutex, Wait};
@@ -16,13 +16,13 @@ use ti_types::{Caps, EnvNo, Limits, MethodNo, Place, Step, ThreadNo, TiError};
 use ti_vmop::VmTurn;
 
 /// How often a loop turns before it gives up.
-const TURNS: u32 = 1_000_000;
+pub(crate) const TURNS: u32 = 1_000_000;
 
 /// How often the second environment asks for the thread's state.
 const STATES: u32 = 100;
 
 /// The environment of a seat, under limits of one thread. `None` where memory is wanting.
-fn environment<'a>(
+pub(crate) fn environment<'a>(
     alloc: Global,
     limits: Limits,
     cell: &'a ThreadCell,
@@ -30,7 +30,8 @@ fn environment<'a>(
     seat: EnvSeat,
 ) -> Option<Env<'a>>
     requires one { limits.threads ≡ 1 }
-    requires seat { IsNewSeat cell.now limits env seat }
+    requires seat { IsNewSeat cell.now limits (record { 0 = 0 }) env seat }
+    ensures desk { IfSome result (λ e. HasDeskAt cell.now e) }
 {
     let state = EnvState::new(alloc, limits).ok()?;
     let mut desks = Vec::with_capacity(alloc, 1).ok()?;
@@ -38,19 +39,21 @@ fn environment<'a>(
     Some(Env::new(env, state, desks))
 }
 
-/// The seats of two environments.
+/// The seats of two environments at a thread's cell.
 pub(crate) fn both(
     cell: &ThreadCell,
     limits: Limits,
+    thread: ThreadNo,
     seats: Vec<EnvSeat>,
 ) -> Option<(EnvSeat, EnvSeat)>
-    requires seats { seats.items ≡ env_seats cell.now (subject_of limits (record { 0 = 0 })) 2 }
+    requires seats { seats.items ≡ env_seats cell.now (subject_of limits thread) 2 }
     requires envs { limits.envs ≡ 2 }
-    ensures first { IfSome result (λ s. IsNewSeat cell.now limits (record { 0 = 0 }) s.0) }
-    ensures second { IfSome result (λ s. IsNewSeat cell.now limits (record { 0 = 1 }) s.1) }
+    ensures first { IfSome result (λ s. IsNewSeat cell.now limits thread (record { 0 = 0 }) s.0) }
+    ensures second { IfSome result (λ s. IsNewSeat cell.now limits thread (record { 0 = 1 }) s.1) }
 {
     let _cell = cell;
     let _limits = limits;
+    let _thread = thread;
     let mut seats = seats;
     let two = seats.pop()?;
     let one = seats.pop()?;
@@ -58,17 +61,16 @@ pub(crate) fn both(
 }
 
 /// Polls until the thread is held. Where that does not come, the thread ends, so that nobody waits for it.
-fn await_held<'a, R: Wait>(rt: &R, running: Running<'a>) -> Option<AtSafe<'a>> {
+pub(crate) fn await_held<'a, R: Wait>(rt: &R, running: Running<'a>) -> Option<AtSafe<'a>> {
     let mut running = running;
     for _ in 0..TURNS {
-        if running.poll_clear() {
-            thread::yield_now();
-        } else {
+        if !running.poll_clear() {
             match running.poll(rt) {
                 Polled::Go(again) => running = again,
                 Polled::Held(safe) => return Some(safe),
             }
         }
+        thread::yield_now();
     }
     let _ended = running.end(rt);
     None
@@ -205,7 +207,7 @@ fn inspected<R: Threads + Wait + Sync + AllocGlobal>(
     let Ok((cell, own, seats)) = ThreadCell::make(rt.alloc(), limits, ThreadNo(0)) else {
         return None;
     };
-    let (one, two) = both(&cell, limits, seats)?;
+    let (one, two) = both(&cell, limits, ThreadNo(0), seats)?;
     let first = environment(rt.alloc(), limits, &cell, EnvNo(0), one)?;
     let second = environment(rt.alloc(), limits, &cell, EnvNo(1), two)?;
     let Ok(mut running) = Fresh::new(&cell, own).try_start(rt) else {

@@ -15,7 +15,7 @@ use ti_slot::{Asked, Slot};
 use ti_types::{Answer, Call, Limits, MethodNo, Step, ThreadNo, TiError, Ticket, TraceBuf};
 
 /// A failure where this does not hold.
-fn expect(holds: bool, what: &'static str) -> Result<(), Fail> {
+pub(crate) fn expect(holds: bool, what: &'static str) -> Result<(), Fail> {
     if holds { Ok(()) } else { Err(what.into()) }
 }
 
@@ -208,7 +208,7 @@ fn in_turn<R: Wait>(
 }
 
 /// The slot of a cell whose seats come back.
-fn close(cell: ThreadCell, own: OwnSeat, seat: EnvSeat) -> Option<Slot>
+pub(crate) fn close(cell: ThreadCell, own: OwnSeat, seat: EnvSeat) -> Option<Slot>
     requires own { (own.cell ≡ cell) × (own.view.number ≡ 0) }
     requires seat { seat.cell ≡ cell }
 {
@@ -240,7 +240,9 @@ fn another_environment_holds_in_between(rt: HostRuntime) -> Result<(), Fail> {
     let Ok((cell, own, seats)) = ThreadCell::make(rt.alloc(), limits, ThreadNo(0)) else {
         return Err("there is memory".into());
     };
-    let (seat, second) = both(&cell, limits, seats).ok_or("there are two environments")?;
+    let (seat, second) = both(&cell, limits, ThreadNo(0), seats).ok_or(
+        "there are two environments",
+    )?;
     let other = Desk::new(&cell, second);
     let (own, seat) = in_turn(&rt, &cell, own, seat, Some(other))?;
     let slot = close(cell, own, seat).ok_or("the thread's seat is back")?;

@@ -18,8 +18,14 @@ mod memory;
 #[cfg(test)]
 mod reports;
 #[cfg(test)]
+mod rounds;
+#[cfg(test)]
 mod scripts;
 #[cfg(test)]
 mod streams;
+#[cfg(test)]
+mod together;
+#[cfg(test)]
+mod traces;
 #[cfg(test)]
 mod walks;
