@@ -1,24 +1,21 @@
 //! What an agent has done so far, kept as a few numbers, and what it is told next.
-ghost use Rattle.std.specs.Prelude.{◌≡◌, ◌↔◌, ◌≤◌, ◌<◌, ◌+◌, ◌^◌, ℕ, nat_lt, true, false, Some, None, length, map, IfOk, IfSome, slice_get, slice_index, replicate, option_map};
+ghost use Rattle.std.specs.Prelude.{◌≡◌, ◌↔◌, ◌<◌, ◌+◌, ◌^◌, nat_lt, true, false, Some, None, length, IfOk, IfSome, slice_get, slice_index, option_map};
 ghost use Rattle.ti_types.specs.declared.numbers.EnvNo.{EnvNo};
 ghost use Rattle.ti_types.specs.declared.numbers.ThreadNo.{ThreadNo};
 ghost use Rattle.ti_types.specs.declared.limits.Limits.{Limits};
 ghost use Rattle.ti_types.specs.Answer.{said};
-ghost use Rattle.ti_types.specs.Caps.{no_caps};
 ghost use Rattle.ti_types.specs.Frames.{bare_trace};
 ghost use Rattle.ti_types.specs.Admitting.{admitting_refusal, asking_refusal, reaching_refusal};
 ghost use Rattle.ti_report.specs.Told.{thread_of, is_call, is_due, got_by};
 ghost use Rattle.ti_report.specs.Books.{rows_in, spent_in, page_in, said_row};
 ghost use Rattle.ti_report.specs.Accounts.{AccountValue, CanCount, why_now, accounted, own_answer, told_now, counted, can_pay_now, new_account};
-ghost use Rattle.ti_report.specs.Fits.{code_of, stack_of, said_info};
+ghost use Rattle.ti_report.specs.Fits.{code_of, stack_of};
 
 use crate::book::{Book, Row};
-use crate::same::{asks_same, same_answer, same_frames};
+use crate::same::{asks_same, same_answer};
 use std::alloc::{AllocError, Global};
 use std::marker::Model;
-use ti_types::{
-    Answer, Call, Caps, EnvNo, Event, Limits, StackInfo, ThreadNo, TiError, TraceBuf, needs,
-};
+use ti_types::{Answer, Call, Caps, EnvNo, Event, Limits, ThreadNo, TiError, TraceBuf, needs};
 
 /// What an agent has done so far: its capabilities, its word, and by thread how many of its calls it has spent and how many
 /// of its entries it has used.

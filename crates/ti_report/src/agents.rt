@@ -1,5 +1,5 @@
 //! One agent's calls with their replies.
-ghost use Rattle.std.specs.Prelude.{◌≡◌, ◌↔◌, ◌<◌, true, length, List, slice_get, IfOk};
+ghost use Rattle.std.specs.Prelude.{◌≡◌, ◌↔◌, ◌<◌, true, List, slice_get, IfOk};
 ghost use Rattle.ti_types.specs.declared.entry.Entry.{Entry};
 ghost use Rattle.ti_report.specs.Books.{page_in, AreBooks};
 ghost use Rattle.ti_report.specs.Fits.{AgentFits};

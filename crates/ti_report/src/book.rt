@@ -1,5 +1,5 @@
 //! What a history tells its agents, read off in one pass over its replies.
-ghost use Rattle.std.specs.Prelude.{◌≡◌, ◌++◌, ◌∷◌, ◌^◌, ◌≤◌, ◌<◌, ◌+◌, ℕ, [], true, false, length, IfOk, OnOk, OnErr, IfSome, IfNone, slice_index, slice_index_or, if◌then◌else◌, ◌==◌};
+ghost use Rattle.std.specs.Prelude.{◌≡◌, ◌++◌, ◌∷◌, ◌^◌, ◌≤◌, ◌<◌, ◌+◌, ℕ, [], true, false, length, IfOk, OnOk, IfSome, IfNone, slice_index, slice_index_or, if◌then◌else◌};
 ghost use Rattle.std.specs.Option.{option_map};
 ghost use Rattle.ti_types.specs.Answer.{said};
 ghost use Rattle.ti_types.specs.declared.numbers.EnvNo.{EnvNo};

@@ -6,7 +6,7 @@ ghost use Rattle.ti_live.specs.declared.reply.Reply.TheVariants.{Plain};
 ghost use Rattle.ti_report.specs.Doings.{wants, events_of};
 ghost use Rattle.ti_report.specs.Fits.{sort_of};
 ghost use Rattle.ti_report.specs.Books.{page_in};
-ghost use Rattle.ti_report.specs.Accounts.{told_one, accounted_all, whole_now, IsReplyNow, CallNow, called_now};
+ghost use Rattle.ti_report.specs.Accounts.{told_one, accounted_all, IsReplyNow, CallNow, called_now};
 
 use crate::account::Account;
 use crate::book::Book;

@@ -1,5 +1,5 @@
 //! The codes of a list call.
-ghost use Rattle.std.specs.Prelude.{◌≡◌, ◌↔◌, true, length, map, Some, slice_get};
+ghost use Rattle.std.specs.Prelude.{◌≡◌, ◌↔◌, true, map, Some, slice_get};
 ghost use Rattle.std.specs.List.{list_all};
 ghost use Rattle.ti_report.specs.Told.{is_call};
 ghost use Rattle.ti_report.specs.Books.{page_in};

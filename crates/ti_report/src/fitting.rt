@@ -1,5 +1,5 @@
 //! The whole report.
-ghost use Rattle.std.specs.Prelude.{◌≡◌, ◌↔◌, ◌<◌, ◌≤◌, ℕ, [], true, false, length, List, IfOk, IfSome, IfNone, slice_index_or};
+ghost use Rattle.std.specs.Prelude.{◌≡◌, ◌↔◌, ◌<◌, [], true, false, length, List, IfOk, IfSome, IfNone, slice_index_or};
 ghost use Rattle.ti_types.specs.declared.numbers.EnvNo.{EnvNo};
 ghost use Rattle.ti_types.specs.declared.numbers.ThreadNo.{ThreadNo};
 ghost use Rattle.ti_types.specs.declared.entry.Entry.{Entry};

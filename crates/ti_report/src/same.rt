@@ -1,5 +1,5 @@
 //! Whether calls, frames and answers are the same.
-ghost use Rattle.std.specs.Prelude.{◌≡◌, ◌↔◌, true, map, Some};
+ghost use Rattle.std.specs.Prelude.{◌≡◌, ◌↔◌, true};
 ghost use Rattle.ti_types.specs.Answer.{said};
 ghost use Rattle.ti_report.specs.Told.{same_call, asks_same};
 

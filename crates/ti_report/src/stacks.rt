@@ -1,5 +1,5 @@
 //! The stacks of a call for several threads.
-ghost use Rattle.std.specs.Prelude.{◌≡◌, ◌↔◌, ◌++◌, true, ◌∷◌, Some, length, drop, slice_get, IfSome, IfNone, List, Option};
+ghost use Rattle.std.specs.Prelude.{◌≡◌, ◌↔◌, ◌++◌, true, ◌∷◌, Some, drop, slice_get, IfSome, IfNone, List, Option};
 ghost use Rattle.ti_types.specs.declared.stack.StackInfo.{StackInfo};
 ghost use Rattle.ti_report.specs.Books.{page_in};
 ghost use Rattle.ti_report.specs.Fits.{stack_told, said_info};

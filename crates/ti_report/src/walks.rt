@@ -1,6 +1,5 @@
 //! A thread's own entries and the operations of its walk.
-ghost use Rattle.std.specs.Prelude.{◌≡◌, ◌↔◌, ◌<◌, ◌≤◌, ◌==◌, ◌++◌, ◌∷◌, [], ℕ, true, false, length, IfOk, OnOk, slice_index_or, if◌then◌else◌};
-ghost use Rattle.std.specs.List.{list_any};
+ghost use Rattle.std.specs.Prelude.{◌≡◌, ◌↔◌, ◌<◌, ◌==◌, ◌++◌, [], ℕ, true, false, length, IfOk, OnOk, slice_index_or, if◌then◌else◌};
 ghost use Rattle.ti_replay.specs.Events.{own_entry};
 ghost use Rattle.ti_report.specs.Walks.{is_walked, one_walked, is_refused, made_from, walked_in, Begins, WalkFits};
 

@@ -1,5 +1,5 @@
 //! The operations of one thread, and the calls of one agent.
-ghost use Rattle.std.specs.Prelude.{◌≡◌, ◌+◌, ◌<◌, ◌^◌, length, map};
+ghost use Rattle.std.specs.Prelude.{◌+◌, ◌<◌, ◌^◌, length, map};
 ghost use Rattle.serde_json.specs.View.{view};
 ghost use Rattle.ti_script.specs.Faults.{Gives};
 ghost use Rattle.ti_script.specs.Lives.{operations_in, calls_of_one};

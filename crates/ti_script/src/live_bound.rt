@@ -3,8 +3,8 @@ ghost use Rattle.std.specs.Prelude.{◌≡◌, ◌+◌, ◌*◌, length, IfSome}
 ghost use Rattle.ti_script.specs.Bounds.{frames_told};
 ghost use Rattle.ti_script.specs.LiveBounds.{frames_listed, frames_replied, parts_replied, AreRepliesWithin, AreRefusalsWithin, AreVerdictsWithin};
 
-use ti_live::{Reply, StackInfo};
-use ti_types::Answer;
+use ti_live::Reply;
+use ti_types::{Answer, StackInfo};
 
 /// No more bytes than these stand in the text of a code, or in that of a stack besides its names and frames.
 const PART: usize = 128;
