@@ -1,5 +1,5 @@
 -- An environment's one desk stays where it is.
-use Rattle.std.proofs.Common.{◌≡◌, [], ◌∷◌, ap, sym, ◌∙◌, subst, Some, None, Option, List}
+use Rattle.std.proofs.Common.{◌≡◌, ap, sym, ◌∙◌, subst, Some, None, Option, List}
 use Rattle.std.specs.Prelude.{slice_get, slice_set}
 use Rattle.atomic_table.specs.Seated.{TableId}
 use Rattle.ti_types.specs.declared.answer.Answer.{Answer}

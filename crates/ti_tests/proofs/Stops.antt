@@ -1,12 +1,12 @@
 -- Stops and reads of desks that nobody stopped before.
-use Rattle.std.proofs.Common.{◌≡◌, ℕ, ℤ, zero, suc, ◌+◌, ◌-◌, ◌<◌, ◌≤◌, List, [], ◌∷◌, ◌++◌, length, true, false, refl, ap, sym, ◌∙◌, arith, subst, Some, None, Option, Bool, eq-eqb, if◌then◌else◌}
+use Rattle.std.proofs.Common.{◌≡◌, ℕ, ℤ, zero, suc, ◌+◌, ◌<◌, ◌≤◌, List, [], ◌∷◌, length, true, refl, ap, sym, ◌∙◌, arith, subst, Some, None, Option, Bool, eq-eqb, if◌then◌else◌}
 use Rattle.std.specs.Prelude.{slice_get}
 use Rattle.std.proofs.lemmas.List.{length-replicate}
 use Rattle.std.proofs.lemmas.List.Sums.{sum_by-append}
 use Rattle.atomic_table.specs.Seated.{TableId}
 use Rattle.ti_types.specs.declared.answer.Answer.{Answer}
 use Rattle.ti_types.specs.declared.entry.Entry.{Entry}
-use Rattle.ti_types.specs.declared.entry.Entry.TheVariants.{Stop, Read}
+use Rattle.ti_types.specs.declared.entry.Entry.TheVariants.{Stop}
 use Rattle.ti_types.specs.declared.error.TiError.{TiError}
 use Rattle.ti_types.specs.declared.limits.Limits.{Limits}
 use Rattle.ti_types.specs.declared.numbers.EnvNo.{EnvNo}
@@ -24,9 +24,9 @@ use Rattle.ti_cell.specs.View.{newcomer, subject_of}
 use Rattle.ti_handshake.specs.Call.{Holds}
 use Rattle.ti_handshake.specs.Desk.{Place, IsSame}
 use Rattle.ti_vmop.specs.Stops.{stops_by}
-use Rattle.ti_vmop.specs.Turns.{Listed, is_listed, AreDistinct, AreThere, are_paid, spend_all, AtEach, AllStand, MayRead, IsRead}
+use Rattle.ti_vmop.specs.Turns.{Listed, is_listed, are_paid, spend_all, AtEach, AllStand, MayRead}
 use Rattle.ti_agent.specs.Env.{Environment, IsDesk, IsWhole, AreNewDesks}
-use Rattle.ti_agent.specs.Traces.{AreHeld, AreLeft, ReadsOne, Telling, each_once, are_there}
+use Rattle.ti_agent.specs.Traces.{AreHeld, AreLeft, ReadsOne, each_once, are_there}
 use Rattle.ti_agent.proofs.Tracing.{limits_all, left_in, left_one, left_then, distinct_in, there_in, held_after_stops, held_after_read, may_read}
 use Rattle.ti_tests.specs.HandOvers.{MayCall}
 

@@ -1,4 +1,4 @@
-use Rattle.std.proofs.Common.{rules, ◌≡◌, [], ◌∷◌, ◌++◌, ap, sym, ◌∙◌, subst, List}
+use Rattle.std.proofs.Common.{rules, ◌≡◌, [], ◌∷◌, sym, subst, List}
 use Rattle.ti_env.specs.Env.{new_env}
 use Rattle.ti_handshake.specs.Desk.{Place}
 use Rattle.ti_agent.specs.Env.{IsWhole}

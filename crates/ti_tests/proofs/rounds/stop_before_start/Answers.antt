@@ -1,4 +1,4 @@
-use Rattle.std.proofs.Common.{◌≡◌, ℕ, pos, ◌<◌, [], ◌∷◌, length, refl, sym, ap, ◌∙◌, arith, List}
+use Rattle.std.proofs.Common.{ℕ, pos, [], ◌∷◌, refl, sym, ap, ◌∙◌, arith, List}
 use Rattle.ti_types.specs.Answer.{said}
 use Rattle.ti_types.specs.declared.numbers.ThreadNo.{ThreadNo}
 use Rattle.ti_vmop.specs.Turns.{Listed}
