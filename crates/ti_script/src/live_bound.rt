@@ -1,5 +1,5 @@
 //! Lengths that the lines of a live run do not exceed, which are found without making the lines.
-ghost use Rattle.std.specs.Prelude.{◌≡◌, ◌+◌, ◌*◌, length, IfSome};
+ghost use Rattle.std.specs.Prelude.{◌≡◌, ◌≤◌, ◌+◌, ◌*◌, ◌^◌, IfSome, IfNone};
 ghost use Rattle.ti_script.specs.Bounds.{frames_told};
 ghost use Rattle.ti_script.specs.LiveBounds.{frames_listed, frames_replied, parts_replied, AreRepliesWithin, AreRefusalsWithin, AreVerdictsWithin};
 
@@ -88,6 +88,7 @@ pub fn reply_bound(longest_name: usize, longest_method: usize, reply: &Reply) ->
 pub fn thread_line_bound(longest_name: usize) -> Option<usize>
     ensures refusals { IfSome result (AreRefusalsWithin longest_name) }
     ensures verdicts { IfSome result (AreVerdictsWithin longest_name) }
+    ensures none { IfNone result (2 ^ 64 ≤ longest_name + 256) }
 {
     longest_name.checked_add(LINE)
 }
