@@ -132,8 +132,8 @@ fn calls_wait_in_order(rt: HostRuntime) -> Result<(), Fail> {
 fn frames_are_popped(rt: HostRuntime) -> Result<(), Fail> {
     expect_walk(
         &rt,
-        "{\"limits\":{\"depth\":4,\"own\":32,\"calls\":8},\"threads\":[\"t0\",\"t1\"],\"agents\":[\"e\",\"f\"],\"methods\":[\"a\",\"b\",\"c\",\"n\"],\"events\":[[\"e\",\"add\",[\"can_suspend\",\"can_pop_frame\"]],[\"t0\",\"start\"],[\"t0\",\"enter\",\"a\"],[\"t0\",\"at\",3],[\"t0\",\"enter\",\"b\"],[\"e\",\"pop\",\"t0\"],[\"e\",\"suspend\",\"t0\"],[\"e\",\"pop\",\"t0\"],[\"t0\",\"poll\"],[\"e\",\"trace\",\"t0\",0,4],[\"e\",\"pop\",\"t0\"],[\"f\",\"pop\",\"t0\"],[\"e\",\"resume\",\"t0\"],[\"t0\",\"back\"],[\"t0\",\"enter_native\",\"n\"],[\"t0\",\"native\"],[\"e\",\"suspend\",\"t0\"],[\"e\",\"pop\",\"t0\"],[\"f\",\"state\",\"t0\"],[\"e\",\"count\",\"t0\"]]}",
-        "0 ok\n1 ok\n2 ok\n3 ok\n4 ok\n5 error 13\n6 ok\n7 ok\n8 held\n9 trace a@3\n10 error 31\n11 error 99\n12 ok\n13 ok\n14 ok\n15 ok\n16 ok\n17 error 32\n18 state 0x500005\n19 error 209\n",
+        "{\"limits\":{\"depth\":4,\"own\":32,\"calls\":8},\"threads\":[\"t0\",\"t1\"],\"agents\":[\"e\",\"f\"],\"methods\":[\"a\",\"b\",\"c\",\"n\"],\"events\":[[\"e\",\"add\",[\"can_suspend\",\"can_pop_frame\"]],[\"t0\",\"start\"],[\"t0\",\"enter\",\"a\"],[\"t0\",\"at\",3],[\"t0\",\"enter\",\"b\"],[\"e\",\"pop\",\"t0\"],[\"e\",\"suspend\",\"t0\"],[\"e\",\"pop\",\"t0\"],[\"t0\",\"poll\"],[\"e\",\"trace\",\"t0\",0,4],[\"e\",\"pop\",\"t0\"],[\"f\",\"pop\",\"t0\"],[\"e\",\"resume\",\"t0\"],[\"t0\",\"back\"],[\"t0\",\"enter_native\",\"n\"],[\"t0\",\"native\"],[\"e\",\"suspend\",\"t0\"],[\"e\",\"pop\",\"t0\"],[\"f\",\"state\",\"t0\"],[\"f\",\"count\",\"t0\"]]}",
+        "0 ok\n1 ok\n2 ok\n3 ok\n4 ok\n5 error 13\n6 ok\n7 ok\n8 held\n9 trace a@3\n10 error 31\n11 error 99\n12 ok\n13 ok\n14 ok\n15 ok\n16 ok\n17 error 32\n18 state 0x500005\n19 count 2\n",
     )
 }
 
