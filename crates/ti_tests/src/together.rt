@@ -12,10 +12,10 @@ use std::sync::{Mutex, Wait};
 use std::test::*;
 use std::thread;
 use std::thread::{Threads, join};
-use ti_agent::{Env, StackInfo};
+use ti_agent::Env;
 use ti_cell::{EnvSeat, ThreadCell};
 use ti_handshake::{AtSafe, Fresh, Running};
-use ti_types::{Caps, EnvNo, Limits, ThreadNo, TiError};
+use ti_types::{Caps, EnvNo, Limits, StackInfo, ThreadNo, TiError};
 use ti_vmop::VmTurn;
 
 /// How often a thread tries to return while a stop stands.

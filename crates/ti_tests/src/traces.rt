@@ -8,9 +8,9 @@ use crate::rounds::{run_out, waiting_thread};
 use crate::{agents, together};
 use std::sync::{Mutex, Wait};
 use std::test::*;
-use ti_agent::{Env, StackInfo};
+use ti_agent::Env;
 use ti_cell::{EnvSeat, ThreadCell};
-use ti_types::{Call, Entry, EnvNo, Frame, Limits, MethodNo, Place, ThreadNo, TiError};
+use ti_types::{Call, Entry, EnvNo, Frame, Limits, MethodNo, Place, StackInfo, ThreadNo, TiError};
 use ti_vmop::VmTurn;
 
 /// Whether it tells of this thread with these bits and frames.
