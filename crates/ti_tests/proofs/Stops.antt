@@ -23,7 +23,7 @@ use Rattle.ti_cell.specs.Seats.{Sitting}
 use Rattle.ti_cell.specs.View.{newcomer, subject_of}
 use Rattle.ti_handshake.specs.Call.{Holds}
 use Rattle.ti_handshake.specs.Desk.{Place, IsSame}
-use Rattle.ti_vmop.specs.Stops.{stops_by}
+use Rattle.ti_replay.specs.Fronts.{stops_by}
 use Rattle.ti_vmop.specs.Turns.{Listed, is_listed, are_paid, spend_all, AtEach, AllStand, MayRead}
 use Rattle.ti_agent.specs.Env.{Environment, IsDesk, IsWhole, AreNewDesks}
 use Rattle.ti_agent.specs.Traces.{AreHeld, AreLeft, ReadsOne, each_once, are_there}
