@@ -4,3 +4,4 @@ pub mod Whole
 pub mod Listing
 pub mod Counts
 pub mod Tracing
+pub mod Cells

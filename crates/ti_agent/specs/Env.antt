@@ -1,5 +1,6 @@
 -- An environment, with a desk at each thread.
-use Rattle.std.specs.Prelude.{ℕ, ◌≡◌, ◌+◌, ◌-◌, ◌<◌, ◌≤◌, false, List, [], length, Some, slice_get}
+use Rattle.std.specs.Prelude.{ℕ, ◌≡◌, ◌+◌, ◌-◌, ◌<◌, ◌≤◌, false, List, [], length, map, Some, slice_get}
+use Rattle.atomic_table.specs.Seated.{TableId}
 use Rattle.ti_types.specs.declared.numbers.EnvNo.{EnvNo}
 use Rattle.ti_env.specs.Env.{EnvValue, spent_at}
 use Rattle.ti_replay.specs.Legal.{calls_spent}
@@ -31,3 +32,7 @@ pub record IsWhole (s : Environment) : Type 0 where
 abbrev pub AreNewDesks : EnvNo → EnvValue → List Place → Type 0
 AreNewDesks env state desks =
     (i : ℕ) (p : Place) → slice_get desks i ≡ Some p → (p.env ≡ env) × (p.view.subject ≡ subject_of state.limits (record { 0 = i })) × (p.view.mine ≡ [])
+
+-- the cells of the threads, in the order of their numbers
+abbrev pub cells_at : List Place → List TableId
+cells_at desks = map (λ p. p.cell) desks

@@ -42,6 +42,14 @@ impl<'a> Fresh<'a> {
         Fresh { cell, seat }
     }
 
+    /// What is always true of a thread that has not started: its seat is the owner's, and has made no entry.
+    pub fn facts(&self)
+        ensures owner { self.now.view.number ≡ 0 }
+        ensures none { self.now.view.mine ≡ [] }
+    {
+        let _ = &self.seat;
+    }
+
     /// Starts the thread by one hold (JVM TI 11, GetThreadState: alive from here on).
     ///
     /// Refused with `Barred` (206) where a stop stands, and only there (this profile).

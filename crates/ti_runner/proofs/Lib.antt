@@ -1,0 +1,3 @@
+pub mod Pairs
+pub mod Seats
+pub mod Owners

@@ -1,0 +1,107 @@
+-- Cells are made one after another, each with its seats, and desks are made of the seats.
+use Rattle.std.proofs.Common.{◌≡◌, ℕ, zero, suc, ◌+◌, ◌<◌, ◌++◌, List, [], ◌∷◌, length, map, refl, ap, sym, ◌∙◌, ◌≤◌, arith, subst, take, drop, Some, nat_lt, Bool, true, false, slice_index_or, slice_set}
+use Rattle.std.specs.Prelude.{slice_get, if◌then◌else◌}
+use Rattle.std.proofs.lemmas.Bool.Decides.{nat_tests}
+use Rattle.std.proofs.Math.ListN.{get_or-map}
+use Rattle.std.proofs.lemmas.List.{length-append, length-map, take-append-le, take_all}
+use Rattle.std.proofs.lemmas.Option.{slice_get_within, slice_get-get_or}
+use Rattle.atomic_table.specs.Seated.{TableId}
+use Rattle.ti_types.specs.declared.limits.Limits.{Limits}
+use Rattle.ti_cell.specs.View.{subject_of}
+use Rattle.ti_cell.specs.Seats.{Sitting, env_seats}
+use Rattle.ti_handshake.specs.Desk.{Place}
+use Rattle.ti_agent.specs.Env.{cells_at}
+use Rattle.ti_runner.specs.Cells.{AreSeats}
+use Rattle.ti_runner.proofs.Pairs.{pairs_push, pairs_set}
+
+pub seats_none : (limits : Limits) (envs : ℕ) (cells : List TableId) (seats : List (List Sitting)) → cells ≡ [] → seats ≡ [] → AreSeats limits envs cells seats
+seats_none limits envs cells seats none bare = subst (λ c. AreSeats limits envs c seats) (sym none) (subst (λ o. AreSeats limits envs [] o) (sym bare) (record { count = refl; each = λ k s c a b. cc }))
+
+pub seats_push : (limits : Limits) (envs : ℕ) (cells : List TableId) (seats : List (List Sitting)) (cell : TableId) (l : List Sitting) → AreSeats limits envs cells seats
+    → l ≡ env_seats cell (subject_of limits (record { 0 = length seats })) envs → AreSeats limits envs (cells ++ cell ∷ []) (seats ++ l ∷ [])
+seats_push limits envs cells seats cell l k one = record {
+  count = omega (arith, length-append seats (l ∷ []), length-append cells (cell ∷ []), k.count);
+  each = pairs_push (λ i a b. a ≡ env_seats b (subject_of limits (record { 0 = i })) envs) seats cells l cell k.count k.each one;
+}
+
+-- the last environment's seat is taken of the first threads
+pub record AreHalf (limits : Limits) (env threads : ℕ) (cells : List TableId) (seats : List (List Sitting)) : Type 0 where
+  pub count : length seats ≡ length cells
+  pub each : (k : ℕ) (l : List Sitting) (cell : TableId) → slice_get seats k ≡ Some l → slice_get cells k ≡ Some cell
+      → l ≡ env_seats cell (subject_of limits (record { 0 = k })) (if nat_lt k threads then env else env + 1)
+
+pub half_none : (limits : Limits) (env : ℕ) (cells : List TableId) (seats : List (List Sitting)) → AreSeats limits (env + 1) cells seats → AreHalf limits env 0 cells seats
+half_none limits env cells seats k = record {
+  count = k.count;
+  each = λ i l cell a b. subst (λ t. l ≡ env_seats cell (subject_of limits (record { 0 = i })) (if t then env else env + 1)) (sym (none_below i)) (k.each i l cell a b);
+}
+  where
+    none_below : (i : ℕ) → nat_lt i 0 ≡ false
+    none_below i = grind (arith, nat_tests)
+
+pub half_here : (limits : Limits) (env i : ℕ) (cells : List TableId) (seats : List (List Sitting)) (l : List Sitting) (cell : TableId) → AreHalf limits env i cells seats → slice_get seats i ≡ Some l → slice_get cells i ≡ Some cell
+    → l ≡ env_seats cell (subject_of limits (record { 0 = i })) (env + 1)
+half_here limits env i cells seats l cell k a b =
+    let no : nat_lt i i ≡ false = grind (arith, nat_tests) in
+    subst (λ t. l ≡ env_seats cell (subject_of limits (record { 0 = i })) (if t then env else env + 1)) no (k.each i l cell a b)
+
+pub half_more : (limits : Limits) (env i : ℕ) (cells : List TableId) (seats : List (List Sitting)) (l : List Sitting) → AreHalf limits env i cells seats
+    → ((cell : TableId) → slice_get cells i ≡ Some cell → l ≡ env_seats cell (subject_of limits (record { 0 = i })) env) → length (slice_set seats i l) ≡ length seats
+    → AreHalf limits env (i + 1) cells (slice_set seats i l)
+half_more limits env i cells seats l k one same = record {
+  count = same ∙ k.count;
+  each = pairs_set
+      (λ j a b. a ≡ env_seats b (subject_of limits (record { 0 = j })) (if nat_lt j i then env else env + 1))
+      (λ j a b. a ≡ env_seats b (subject_of limits (record { 0 = j })) (if nat_lt j (i + 1) then env else env + 1))
+      seats cells i l k.each
+      (λ j a b differ h. subst (λ t. a ≡ env_seats b (subject_of limits (record { 0 = j })) (if t then env else env + 1)) (apart j differ) h)
+      (λ b there. subst (λ t. l ≡ env_seats b (subject_of limits (record { 0 = i })) (if t then env else env + 1)) (sym here) (one b there));
+}
+  where
+    here : nat_lt i (i + 1) ≡ true
+    here = grind (arith, nat_tests)
+
+    apart : (j : ℕ) → (j ≡ i → ⊥) → nat_lt j i ≡ nat_lt j (i + 1)
+    apart j differ = cases (nat_lt j i) refl
+      where
+        cases : (b : Bool) → nat_lt j i ≡ b → nat_lt j i ≡ nat_lt j (i + 1)
+        cases true e = e ∙ sym (grind (arith, nat_tests, e))
+        cases false e = e ∙ sym (later e)
+          where
+            later : nat_lt j i ≡ false → nat_lt j (i + 1) ≡ false
+            later e = grind (arith, nat_tests, e, differ)
+
+pub half_all : (limits : Limits) (env n : ℕ) (cells : List TableId) (seats : List (List Sitting)) → AreHalf limits env n cells seats → length cells ≡ n → AreSeats limits env cells seats
+half_all limits env n cells seats k len = record {
+  count = k.count;
+  each = λ i l cell a b. subst (λ t. l ≡ env_seats cell (subject_of limits (record { 0 = i })) (if t then env else env + 1)) (within i cell b) (k.each i l cell a b);
+}
+  where
+    within : (i : ℕ) (cell : TableId) → slice_get cells i ≡ Some cell → nat_lt i n ≡ true
+    within i cell there = grind (arith, nat_tests, len, slice_get_within cells i cell there)
+
+-- desks at cells, one by one
+pub at_cells : (desks : List Place) (cells : List TableId) → length desks ≡ length cells → ((k : ℕ) (p : Place) (c : TableId) → slice_get desks k ≡ Some p → slice_get cells k ≡ Some c → p.cell ≡ c) → cells_at desks ≡ cells
+at_cells [] [] len each = refl
+at_cells [] (c ∷ cells) len each = cc
+at_cells (p ∷ desks) [] len each = cc
+at_cells (p ∷ desks) (c ∷ cells) len each =
+    let rest = at_cells desks cells (omega (arith, len)) (λ k. each (suc k)) in
+    ap (λ (z : TableId). z ∷ cells_at desks) (each 0 p c refl refl) ∙ ap (λ (l : List TableId). c ∷ l) rest
+
+-- an element of a list that is looked at through a function
+pub mapped_get : {A B : Type 0} (f : A → B) (xs : List A) (k : ℕ) (d : A) → k < length xs → slice_get (map f xs) k ≡ Some (f (slice_index_or xs k d))
+mapped_get f xs k d within = slice_get-get_or (map f xs) k (f d) (omega (arith, within, length-map xs f)) ∙ ap Some (get_or-map f xs k d)
+
+-- a place that is there has an element
+pub place_at : {A : Type 0} (xs : List A) (k : ℕ) → k < length xs → (x : A) × (slice_get xs k ≡ Some x)
+place_at [] k within = absurd (omega (arith, within))
+place_at (x ∷ xs) zero within = (x, refl)
+place_at (x ∷ xs) (suc k) within = place_at xs k (omega (arith, within))
+
+-- what is left of a vector that was lent whole
+pub restored : {X : Type 0} (n : ℕ) (xs new : List X) → length new ≡ length xs → n ≡ length xs → take n (new ++ drop (length new) xs) ≡ new
+restored n xs new same is =
+    let a : n ≤ length new = omega (arith, same, is) in
+    let b : length new ≤ n = omega (arith, same, is) in
+    take-append-le n new (drop (length new) xs) a ∙ take_all n new b

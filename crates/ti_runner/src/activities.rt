@@ -1,0 +1,246 @@
+//! All lists of a script, each gone through by a thread of its own.
+ghost use Rattle.std.specs.Prelude.{◌≡◌, ◌≤◌, IfOk, [], length, map, vec_capacity};
+ghost use Rattle.std.specs.List.{All};
+ghost use Rattle.ti_agent.specs.Env.{cells_at};
+ghost use Rattle.ti_runner.specs.Cells.{IsNewOwner, IsBack, AreOwners, AreBack, seats_at};
+
+use crate::calling::{Called, call_all};
+use crate::fault::RunFault;
+use crate::gate::Gate;
+use crate::walking::{Walked, walk};
+use std::alloc::{AllocError, Global};
+use std::sync::{Mutex, Wait};
+use std::thread;
+use std::thread::{Promise, PromisedHandle, Scope, Threads, join_promised};
+use ti_agent::Env;
+use ti_cell::{OwnSeat, ThreadCell};
+use ti_live::{AgentCall, Listed, Script};
+use ti_types::{EnvNo, Event, ThreadNo};
+use ti_vmop::VmTurn;
+
+/// What a walk leaves is the owner's seat of this cell.
+#[derive(Clone, Copy)]
+pub(crate) struct SeatOf<'a>(&'a ThreadCell);
+
+impl<'a> Promise<Walked> for SeatOf<'a> {
+    ghost use Rattle.ti_runner.specs.Cells.{IsBack};
+
+    ghost kept_by = { λ p w. IsBack p.0.now w.seat };
+}
+
+/// What an agent leaves is a seat at each of these cells.
+#[derive(Clone, Copy)]
+pub(crate) struct SeatsAt<'a>(&'a [ThreadCell]);
+
+impl<'a> Promise<Called> for SeatsAt<'a> {
+    ghost use Rattle.std.specs.Prelude.{◌≡◌};
+    ghost use Rattle.ti_runner.specs.Cells.{seats_at};
+
+    ghost kept_by = { λ p c. seats_at c.seats.items ≡ p.0.now };
+}
+
+/// What all threads and agents leave.
+type Left = (Vec<Walked>, Vec<Called>);
+
+/// Starts the thread of one walk. `refused` of its result has room for all operations.
+fn start_walk<'s, E, R: Wait + Sync, G: Gate>(
+    scope: &Scope<'s, E>,
+    rt: &'s R,
+    alloc: Global,
+    gate: &'s G,
+    cell: &'s ThreadCell,
+    seat: OwnSeat,
+    thread: ThreadNo,
+    operations: &'s [Event],
+) -> Result<PromisedHandle<Walked, SeatOf<'s>>, RunFault>
+    requires cell { seat.cell ≡ cell.now }
+    requires new { IsNewOwner seat }
+    ensures { IfOk result (λ h. h.promise.0.now ≡ cell.now) }
+{
+    let refused = Vec::with_capacity(alloc, operations.len())?;
+    let started = scope.spawn_with(
+        SeatOf(cell),
+        move || -> Walked
+            requires cell { seat.cell ≡ cell.now }
+            requires new { IsNewOwner seat }
+            ensures { IsBack cell.entry.now result.seat }
+        { walk(rt, gate, cell, seat, thread, operations, refused) },
+    );
+    match started {
+        Ok(handle) => Ok(handle),
+        Err(refused) => Err(AllocError::from(refused).into()),
+    }
+}
+
+/// Starts the thread of one agent.
+fn start_agent<'s, 'c: 's, E, R: Wait + Sync, G: Gate>(
+    scope: &Scope<'s, E>,
+    rt: &'s R,
+    alloc: Global,
+    gate: &'s G,
+    cells: &'s [ThreadCell],
+    turn: &'s Mutex<VmTurn>,
+    number: EnvNo,
+    env: Env<'c>,
+    calls: &'s [AgentCall],
+) -> Result<PromisedHandle<Called, SeatsAt<'s>>, RunFault>
+    requires { cells_at env.desks ≡ cells.now }
+    ensures { IfOk result (λ h. h.promise.0.now ≡ cells.now) }
+{
+    let replies = Vec::with_capacity(alloc, calls.len())?;
+    let seats = Vec::with_capacity(alloc, cells.len())?;
+    let started = scope.spawn_with(
+        SeatsAt(cells),
+        move || -> Called
+            requires empty { seats.items ≡ [] }
+            requires room { length env.desks ≤ vec_capacity seats }
+            ensures { seats_at result.seats.items ≡ cells_at env.entry.desks }
+        { call_all(rt, alloc, gate, turn, number, env, calls, replies, seats) },
+    );
+    match started {
+        Ok(handle) => Ok(handle),
+        Err(refused) => Err(AllocError::from(refused).into()),
+    }
+}
+
+/// Starts the threads of all walks, in their order.
+fn start_walks<'s, E, R: Wait + Sync, G: Gate>(
+    scope: &Scope<'s, E>,
+    rt: &'s R,
+    alloc: Global,
+    gate: &'s G,
+    cells: &'s [ThreadCell],
+    owners: Vec<OwnSeat>,
+    walks: &'s [Listed<Event>],
+) -> Result<Vec<PromisedHandle<Walked, SeatOf<'s>>>, RunFault>
+    requires owners { AreOwners cells.now owners.items }
+    requires count { length cells.now ≡ length walks.now }
+    ensures { IfOk result (λ hs. map (λ h. h.promise.0.now) hs.items ≡ cells.now) }
+{
+    let mut walkers = Vec::with_capacity(alloc, cells.len())?;
+    let mut number: u32 = 0;
+    for own in owners {
+        let k = walkers.len();
+        walkers.push_reserved(start_walk(
+            scope,
+            rt,
+            alloc,
+            gate,
+            &cells[k],
+            own,
+            ThreadNo(number),
+            walks[k].as_slice(),
+        )?);
+        number = number.wrapping_add(1);
+    }
+    Ok(walkers)
+}
+
+/// Starts the threads of all agents, in their order.
+fn start_agents<'s, 'c: 's, E, R: Wait + Sync, G: Gate>(
+    scope: &Scope<'s, E>,
+    rt: &'s R,
+    alloc: Global,
+    gate: &'s G,
+    cells: &'s [ThreadCell],
+    turn: &'s Mutex<VmTurn>,
+    envs: Vec<Env<'c>>,
+    calls: &'s [Listed<AgentCall>],
+) -> Result<Vec<PromisedHandle<Called, SeatsAt<'s>>>, RunFault>
+    requires desks { All (λ e. cells_at e.desks ≡ cells.now) envs.items }
+    requires count { length envs.items ≡ length calls.now }
+    ensures { IfOk result (λ hs. All (λ h. h.promise.0.now ≡ cells.now) hs.items) }
+{
+    let mut agents = Vec::with_capacity(alloc, calls.len())?;
+    let mut number: u32 = 0;
+    for env in envs {
+        let k = agents.len();
+        agents.push_reserved(start_agent(
+            scope,
+            rt,
+            alloc,
+            gate,
+            cells,
+            turn,
+            EnvNo(number),
+            env,
+            calls[k].as_slice(),
+        )?);
+        number = number.wrapping_add(1);
+    }
+    Ok(agents)
+}
+
+/// Starts all threads, and joins them.
+fn in_scope<'s, 'c: 's, E, R: Threads + Wait + Sync, G: Gate>(
+    scope: &Scope<'s, E>,
+    rt: &'s R,
+    alloc: Global,
+    gate: &'s G,
+    script: &'s Script,
+    cells: &'s [ThreadCell],
+    owners: Vec<OwnSeat>,
+    envs: Vec<Env<'c>>,
+    turn: &'s Mutex<VmTurn>,
+) -> Result<Left, RunFault>
+    requires owners { AreOwners cells.now owners.items }
+    requires desks { All (λ e. cells_at e.desks ≡ cells.now) envs.items }
+    requires walks { length cells.now ≡ length script.now.walks }
+    requires calls { length envs.items ≡ length script.now.calls }
+    ensures walked { IfOk result (λ left. AreBack cells.now left.0.items) }
+    ensures called { IfOk result (λ left. All (λ c. seats_at c.seats.items ≡ cells.now) left.1.items) }
+{
+    let walkers = start_walks(
+        scope,
+        rt,
+        alloc,
+        gate,
+        cells,
+        owners,
+        script.walks.as_slice(),
+    )?;
+    let agents = start_agents(
+        scope,
+        rt,
+        alloc,
+        gate,
+        cells,
+        turn,
+        envs,
+        script.calls.as_slice(),
+    )?;
+    Ok((join_promised(rt, walkers)?, join_promised(rt, agents)?))
+}
+
+/// Goes through all lists, each in a thread of its own. Where a thread cannot be started, those that were started go through
+/// their lists all the same, since the scope waits for them.
+pub(crate) fn activities<R: Threads + Wait + Sync, G: Gate>(
+    rt: &R,
+    alloc: Global,
+    gate: &G,
+    script: &Script,
+    cells: &[ThreadCell],
+    owners: Vec<OwnSeat>,
+    envs: Vec<Env<'_>>,
+    turn: &Mutex<VmTurn>,
+) -> Result<Left, RunFault>
+    requires owners { AreOwners cells.now owners.items }
+    requires desks { All (λ e. cells_at e.desks ≡ cells.now) envs.items }
+    requires walks { length cells.now ≡ length script.now.walks }
+    requires calls { length envs.items ≡ length script.now.calls }
+    ensures walked { IfOk result (λ left. AreBack cells.now left.0.items) }
+    ensures called { IfOk result (λ left. All (λ c. seats_at c.seats.items ≡ cells.now) left.1.items) }
+{
+    thread::scope(
+        thread::scope_env(),
+        rt,
+        move |scope| -> Result<Left, RunFault>
+            requires owners { AreOwners cells.now owners.items }
+            requires desks { All (λ e. cells_at e.desks ≡ cells.now) envs.items }
+            requires walks { length cells.now ≡ length script.now.walks }
+            requires calls { length envs.items ≡ length script.now.calls }
+            ensures walked { IfOk result (λ left. AreBack cells.entry.now left.0.items) }
+            ensures called { IfOk result (λ left. All (λ c. seats_at c.seats.items ≡ cells.entry.now) left.1.items) }
+        { in_scope(scope, rt, alloc, gate, script, cells, owners, envs, turn) },
+    )
+}

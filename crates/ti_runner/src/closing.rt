@@ -1,0 +1,142 @@
+//! All seats back, and the cells closed.
+ghost use Rattle.std.specs.Prelude.{◌≡◌, length};
+ghost use Rattle.std.specs.List.{All};
+ghost use Rattle.ti_runner.specs.Cells.{IsBack, AreBack, seats_at};
+
+use crate::calling::Called;
+use crate::fault::RunFault;
+use crate::walking::Walked;
+use std::alloc::Global;
+use ti_cell::{EnvSeat, ThreadCell};
+use ti_live::{Listed, LiveReport, Refusal, Reply};
+use ti_types::Entry;
+
+/// What is told so far.
+#[derive(Drop)]
+pub(crate) struct Told {
+    replies: Vec<Listed<Reply>>,
+    refused: Vec<Listed<Refusal>>,
+    histories: Vec<Listed<Entry>>,
+    spent: bool,
+}
+
+impl Told {
+    /// Nothing is told.
+    pub fn new(alloc: Global) -> Self {
+        Told {
+            replies: Vec::new(alloc),
+            refused: Vec::new(alloc),
+            histories: Vec::new(alloc),
+            spent: false,
+        }
+    }
+
+    /// The report of all that was told.
+    pub fn into_report(self) -> LiveReport {
+        let Told {
+            replies,
+            refused,
+            histories,
+            spent,
+        } = self;
+        LiveReport {
+            replies: Listed::from(replies),
+            refused: Listed::from(refused),
+            histories: Listed::from(histories),
+            spent,
+        }
+    }
+}
+
+/// A seat goes back to the owner's.
+fn rejoin(cell: &ThreadCell, done: &mut Walked, seat: EnvSeat)
+    requires back { IsBack cell.now done.old.seat }
+    requires seat { seat.cell ≡ cell.now }
+    ensures back { IsBack cell.now done.new.seat }
+{
+    cell.rejoin(&mut done.seat, seat);
+}
+
+/// The seats of an agent go back to the threads' own.
+fn rejoin_all(cells: &[ThreadCell], walked: &mut [Walked], seats: Vec<EnvSeat>)
+    requires back { AreBack cells.now walked.old }
+    requires seats { seats_at seats.items ≡ cells.now }
+    ensures { AreBack cells.now walked.new }
+{
+    let mut k = 0;
+    for seat in seats {
+        rejoin(&cells[k], &mut walked[k], seat);
+        k += 1;
+    }
+}
+
+/// The seats of all agents go back to the threads' own.
+pub(crate) fn give_back(
+    cells: &[ThreadCell],
+    walked: &mut [Walked],
+    called: Vec<Called>,
+    told: &mut Told,
+) -> Result<(), RunFault>
+    requires back { AreBack cells.now walked.old }
+    requires seats { All (λ c. seats_at c.seats.items ≡ cells.now) called.items }
+    ensures { AreBack cells.now walked.new }
+{
+    for done in called {
+        let Called {
+            seats,
+            replies,
+            spent,
+        } = done;
+        rejoin_all(cells, walked, seats);
+        told.spent = told.spent || spent;
+        told.replies.push(Listed::from(replies))?;
+    }
+    Ok(())
+}
+
+/// A copy of a history.
+fn copied(alloc: Global, history: &[Entry]) -> Result<Vec<Entry>, RunFault> {
+    let mut entries = Vec::with_capacity(alloc, history.len())?;
+    for entry in history {
+        entries.push(*entry)?;
+    }
+    Ok(entries)
+}
+
+/// Closes a cell, and tells what its thread left.
+fn close(alloc: Global, cell: ThreadCell, done: Walked, told: &mut Told) -> Result<(), RunFault>
+    requires { IsBack cell done.seat }
+{
+    let Walked {
+        seat,
+        refused,
+        spent,
+    } = done;
+    told.spent = told.spent || spent;
+    let Some(slot) = cell.close(seat) else {
+        return Err(RunFault::Cell);
+    };
+    told.refused.push(Listed::from(refused))?;
+    told.histories
+        .push(Listed::from(copied(alloc, slot.history())?))?;
+    Ok(())
+}
+
+/// Closes all cells, and tells what their threads left.
+pub(crate) fn close_all(
+    alloc: Global,
+    cells: Vec<ThreadCell>,
+    walked: Vec<Walked>,
+    told: &mut Told,
+) -> Result<(), RunFault>
+    requires { AreBack cells.items walked.items }
+{
+    let mut cells = cells.into_iter();
+    for done in walked {
+        let Some(cell) = cells.next() else {
+            return Err(RunFault::Cell);
+        };
+        close(alloc, cell, done, told)?;
+    }
+    Ok(())
+}

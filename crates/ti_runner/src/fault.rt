@@ -1,0 +1,31 @@
+//! Why a live run gives no report.
+use std::alloc::{AllocError, AllocFailed};
+use ti_types::TiError;
+
+/// Why a live run gives no report.
+#[derive(Clone, Copy, Debug, PartialEq, Eq)]
+pub enum RunFault {
+    /// Memory was wanting, or a thread could not be started.
+    Memory,
+    /// A cell was not there at its end, or the report does not fit the script. A script whose lists are not as many as its
+    /// limits say has no report that fits.
+    Cell,
+}
+
+impl From<AllocError> for RunFault {
+    fn from(_: AllocError) -> Self {
+        RunFault::Memory
+    }
+}
+
+impl<T: Drop> From<AllocFailed<T>> for RunFault {
+    fn from(_: AllocFailed<T>) -> Self {
+        RunFault::Memory
+    }
+}
+
+impl From<TiError> for RunFault {
+    fn from(_: TiError) -> Self {
+        RunFault::Memory
+    }
+}

@@ -1,0 +1,213 @@
+ghost use Rattle.std.specs.Prelude.{◌≡◌, []};
+ghost use Rattle.ti_runner.specs.Walks.{cell_of, cell_of_handed};
+
+use crate::gate::Gate;
+use std::sync::Wait;
+use ti_cell::{OwnSeat, ThreadCell};
+use ti_handshake::{AtSafe, Ended, Fresh, Polled, Running};
+use ti_live::Refusal;
+use ti_types::{Event, Kind, Step, ThreadNo, TiError};
+
+/// A thread between two operations of its walk.
+#[derive(Drop)]
+enum Phase<'a> {
+    New(Fresh<'a>),
+    Runs(Running<'a>),
+    Rests(AtSafe<'a>),
+    Over(Ended<'a>),
+}
+
+/// What an operation left: the thread, and why it was refused, if it was.
+type Took<'a> = (Phase<'a>, Option<TiError>);
+
+/// What a walk leaves.
+#[derive(Drop)]
+pub struct Walked {
+    pub seat: OwnSeat,
+    /// The refused operations, in their order.
+    pub refused: Vec<Refusal>,
+    /// Whether the gate ended it.
+    pub spent: bool,
+}
+
+/// Starts a new thread, and waits while a stop stands at it.
+fn start<'a, R: Wait>(rt: &R, phase: Phase<'a>) -> Took<'a>
+    ensures { cell_of result.0 ≡ cell_of phase.entry }
+{
+    match phase {
+        Phase::New(fresh) => (Phase::Runs(fresh.start(rt)), None),
+        other => (other, Some(TiError::NotNew)),
+    }
+}
+
+/// Lets a thread that handed over return, and waits while it is barred.
+fn back<'a, R: Wait>(rt: &R, phase: Phase<'a>) -> Took<'a>
+    ensures { cell_of result.0 ≡ cell_of phase.entry }
+{
+    match phase {
+        Phase::Rests(safe) => (Phase::Runs(safe.back(rt)), None),
+        other => (other, Some(TiError::NotSafe)),
+    }
+}
+
+/// A step of a running thread.
+fn step<'a>(phase: Phase<'a>, step: Step) -> Took<'a>
+    ensures { cell_of result.0 ≡ cell_of phase.entry }
+{
+    match phase {
+        Phase::Runs(running) => {
+            let mut running = running;
+            let refused = running.step(step).err();
+            (Phase::Runs(running), refused)
+        }
+        other => (other, Some(TiError::NotRunning)),
+    }
+}
+
+/// A poll of a running thread. Where it is held, it returns before anything else, and waits until it may.
+fn poll<'a, R: Wait>(rt: &R, phase: Phase<'a>) -> Took<'a>
+    ensures { cell_of result.0 ≡ cell_of phase.entry }
+{
+    match phase {
+        Phase::Runs(running) => {
+            let mut running = running;
+            if running.poll_clear() {
+                return (Phase::Runs(running), None);
+            }
+            match running.poll(rt) {
+                Polled::Go(again) => (Phase::Runs(again), None),
+                Polled::Held(safe) => (Phase::Runs(safe.back(rt)), None),
+            }
+        }
+        other => (other, Some(TiError::NotRunning)),
+    }
+}
+
+/// What a hand-over came to.
+fn handed<'a>(came: Result<AtSafe<'a>, (TiError, Running<'a>)>) -> Took<'a>
+    ensures { cell_of result.0 ≡ cell_of_handed came.entry }
+{
+    match came {
+        Ok(safe) => (Phase::Rests(safe), None),
+        Err((error, running)) => (Phase::Runs(running), Some(error)),
+    }
+}
+
+/// Goes into native code.
+fn native<'a, R: Wait>(rt: &R, phase: Phase<'a>) -> Took<'a>
+    ensures { cell_of result.0 ≡ cell_of phase.entry }
+{
+    match phase {
+        Phase::Runs(running) => handed(running.native(rt)),
+        other => (other, Some(TiError::NotRunning)),
+    }
+}
+
+/// Blocks.
+fn block<'a, R: Wait>(rt: &R, phase: Phase<'a>, kind: Kind) -> Took<'a>
+    ensures { cell_of result.0 ≡ cell_of phase.entry }
+{
+    match phase {
+        Phase::Runs(running) => handed(running.block(rt, kind)),
+        other => (other, Some(TiError::NotRunning)),
+    }
+}
+
+/// Ends a running thread.
+fn end<'a, R: Wait>(rt: &R, phase: Phase<'a>) -> Took<'a>
+    ensures { cell_of result.0 ≡ cell_of phase.entry }
+{
+    match phase {
+        Phase::Runs(running) => (Phase::Over(running.end(rt)), None),
+        other => (other, Some(TiError::NotRunning)),
+    }
+}
+
+/// One operation. One that does not fit the thread's state is not made: a start of a thread that is not new is refused with
+/// 210, a return of one that is not safe with 205, and any other of one that does not run with 204. An event that is no
+/// thread's own does nothing.
+fn take<'a, R: Wait>(rt: &R, phase: Phase<'a>, operation: Event) -> Took<'a>
+    ensures { cell_of result.0 ≡ cell_of phase.entry }
+{
+    match operation {
+        Event::Start(_) => start(rt, phase),
+        Event::Own(_, made) => step(phase, made),
+        Event::Poll(_) => poll(rt, phase),
+        Event::ToNative(_) => native(rt, phase),
+        Event::ToBlocked(_, kind) => block(rt, phase, kind),
+        Event::Back(_) => back(rt, phase),
+        Event::End(_) => end(rt, phase),
+        _ => (phase, None),
+    }
+}
+
+/// The seat of a thread whose walk is done. One that runs is ended.
+fn leave<R: Wait>(rt: &R, phase: Phase<'_>) -> OwnSeat
+    ensures cell { result.cell ≡ cell_of phase.entry }
+    ensures owner { result.view.number ≡ 0 }
+{
+    match phase {
+        Phase::New(fresh) => {
+            fresh.facts();
+            fresh.into_seat()
+        }
+        Phase::Runs(running) => {
+            let ended = running.end(rt);
+            ended.facts();
+            ended.into_seat()
+        }
+        Phase::Rests(safe) => {
+            safe.facts();
+            safe.into_seat()
+        }
+        Phase::Over(ended) => {
+            ended.facts();
+            ended.into_seat()
+        }
+    }
+}
+
+/// Walks a thread through its operations: each is made, or is noted in `refused`, which has room for all. A thread that runs
+/// at the end is ended; a new or a safe one stays as it is. Then the gate is told.
+pub(crate) fn walk<R: Wait, G: Gate>(
+    rt: &R,
+    gate: &G,
+    cell: &ThreadCell,
+    seat: OwnSeat,
+    thread: ThreadNo,
+    operations: &[Event],
+    refused: Vec<Refusal>,
+) -> Walked
+    requires cell { seat.cell ≡ cell.now }
+    requires owner { seat.view.number ≡ 0 }
+    requires none { seat.view.mine ≡ [] }
+    ensures cell { result.seat.cell ≡ cell.now }
+    ensures owner { result.seat.view.number ≡ 0 }
+{
+    let mut refused = refused;
+    let mut spent = false;
+    let mut phase = Phase::New(Fresh::new(cell, seat));
+    let mut number: u32 = 0;
+    for operation in operations {
+        if !gate.before_op(thread, number) {
+            spent = true;
+            break;
+        }
+        let (next, fault) = take(rt, phase, *operation);
+        phase = next;
+        if let Some(error) = fault {
+            let _full = refused.push(Refusal {
+                operation: number,
+                error: error.number(),
+            });
+        }
+        number = number.wrapping_add(1);
+    }
+    let seat = leave(rt, phase);
+    gate.walked(thread);
+    Walked {
+        seat,
+        refused,
+        spent,
+    }
+}
