@@ -1,3 +1,6 @@
+pub mod PutLaws
+pub mod ReportLaws
+pub mod ReportLineLaws
 pub mod StreamLaws
 pub mod TextLaws
 pub mod VerdictLaws

@@ -1,9 +1,7 @@
 -- A run of the program on a walk, and on a history.
-use Rattle.std.specs.Prelude.{◌≡◌, ◌⊎◌, ◌<◌, ℕ, Bool, true, ◌++◌, List, [], codes, decimal, length, map, Option, None, Some, IfSome, ⊤}
-use Rattle.std.specs.Io.KnownBytes.{Appends}
+use Rattle.std.specs.Prelude.{◌≡◌, ◌⊎◌, ◌<◌, ℕ, ◌++◌, List, codes, decimal, length, map, Option, None, Some, IfSome, ⊤}
 use Rattle.serde_json.specs.Data.{Data}
 use Rattle.ti_replay.specs.Admission.{Happening}
-use Rattle.ti_replay.specs.Legal.{first_illegal, is_legal}
 use Rattle.ti_replay.specs.Outcomes.{outs, was_for_memory}
 use Rattle.ti_script.specs.declared.fault.ScriptFault.{ScriptFault}
 use Rattle.ti_script.specs.declared.fault.ScriptFault.TheVariants.{Limit}
@@ -13,11 +11,9 @@ use Rattle.ti_script.specs.Walks.{IsDocument, IsWalk, IsRefusalBy, walk_fault}
 use Rattle.ti_script.specs.declared.history.History.{History}
 use Rattle.ti_script.specs.Histories.{history_fault, IsHistory}
 use Rattle.ti_script.specs.Texts.{lines_text}
-use Rattle.ti_driver.specs.declared.command.Command.{Command}
-use Rattle.ti_driver.specs.declared.command.Command.TheVariants as asked
 use Rattle.ti_driver.specs.declared.fault.Fault.{Fault}
 use Rattle.ti_driver.specs.declared.fault.Fault.TheVariants.{Script, Memory, Read, Write, Usage, Cell}
-use Rattle.ti_driver.specs.Streams.{IsAllOf, TakesFront}
+use Rattle.ti_driver.specs.Streams.{IsAllOf}
 
 -- the reader gave a document that says this walk
 pub record IsGiven (known : Option (List ℕ)) (w : Walk) : Type 0 where
@@ -76,24 +72,3 @@ IsEarlyFault fault_of known (Script f) = IsInputRefusal fault_of known f
 IsEarlyFault fault_of known Write = ⊥
 IsEarlyFault fault_of known Cell = ⊥
 IsEarlyFault fault_of known Usage = ⊥
-
--- ---- what a command comes to, given what the reader had and what the writer held before and after
-
--- done: true but where a history is illegal
-abbrev pub IsDone : Command → (known old new : Option (List ℕ)) → Bool → Type 0
-IsDone asked.Walk known old new legal =
-    (legal ≡ true) × (w : Walk) × (hs : List Happening) × IsGiven known w × IsRun w hs × Appends old new (text_of w hs)
-IsDone asked.Check known old new legal =
-    (h : History) × IsGivenHistory known h × (legal ≡ is_legal h.limits h.entries) × Appends old new (verdict_text (first_illegal h.limits [] h.entries))
-
--- cut short by the writer, which took a front of the text
-abbrev pub IsCutShort : Command → (known old new : Option (List ℕ)) → Type 0
-IsCutShort asked.Walk known old new =
-    (w : Walk) × (hs : List Happening) × IsGiven known w × IsRun w hs × TakesFront old new (text_of w hs)
-IsCutShort asked.Check known old new =
-    (h : History) × IsGivenHistory known h × TakesFront old new (verdict_text (first_illegal h.limits [] h.entries))
-
--- the faults of the documents that a command reads
-abbrev pub document_fault : Command → Data → Option ScriptFault
-document_fault asked.Walk = walk_fault
-document_fault asked.Check = history_fault

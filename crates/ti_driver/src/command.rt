@@ -11,6 +11,8 @@ use std::rt::Env;
 pub enum Command {
     /// Run the walk on standard input, and write what its events come to.
     Walk,
+    /// Run the live script on standard input, and write what its run has to tell.
+    Live,
     /// Say whether the history on standard input is legal.
     Check,
 }
@@ -20,13 +22,14 @@ fn command_named(word: &str) -> Result<Command, Fault>
 {
     match word {
         "walk" => Ok(Command::Walk),
+        "live" => Ok(Command::Live),
         "check" => Ok(Command::Check),
         _ => Err(Fault::Usage),
     }
 }
 
-/// The command of these arguments, the program's name left out: none and `walk` ask for a walk, `check` for the
-/// verdict on a history. `Usage` for every other word, and for more than one. Source: this profile.
+/// The command of these arguments, the program's name left out: none and `walk` ask for a walk, `live` for a live
+/// run, `check` for the verdict on a history. `Usage` for every other word, and for more than one. Source: this profile.
 pub fn command_of(words: &[String]) -> Result<Command, Fault>
     ensures { result ≡ command_of (map string_bytes words.now) }
 {

@@ -3,6 +3,7 @@ ghost use Rattle.ti_driver.specs.Faults.{status_of};
 
 use std::alloc::AllocError;
 use thiserror::Error;
+use ti_runner::RunFault;
 use ti_script::ScriptFault;
 
 /// Why a run came to nothing. `status` gives the status of each and `put_fault` its text. Source: this profile.
@@ -11,7 +12,7 @@ pub enum Fault {
     /// The input is too long, or no script. Its own `Memory` counts as `Memory`.
     #[error("{0}")]
     Script(ScriptFault),
-    /// Memory was wanting.
+    /// Memory was wanting, or a thread could not be started.
     #[error("no memory")]
     Memory,
     /// The reader answered an error, of whatever kind, or gave no end within 16,777,216 calls.
@@ -20,7 +21,7 @@ pub enum Fault {
     /// The writer answered an error, of whatever kind, or took no byte.
     #[error("the output was not written")]
     Write,
-    /// A thread's cell was still in use, or a report does not fit its script.
+    /// A thread's cell was still in use, or a live run's report does not fit its script.
     #[error("a cell was in use")]
     Cell,
     /// The arguments ask for nothing that is there.
@@ -47,6 +48,20 @@ impl From<AllocError> for Fault {
 
     fn from(_refused: AllocError) -> Fault {
         Fault::Memory
+    }
+}
+
+impl From<RunFault> for Fault {
+    ghost use Rattle.std.specs.Prelude.{◌≡◌};
+    ghost use Rattle.ti_driver.specs.Reports.{fault_of_run};
+
+    ghost from_gives = { λ f e. e ≡ fault_of_run f };
+
+    fn from(fault: RunFault) -> Fault {
+        match fault {
+            RunFault::Memory => Fault::Memory,
+            RunFault::Cell => Fault::Cell,
+        }
     }
 }
 

@@ -12,8 +12,10 @@ mod command;
 mod fault;
 mod input;
 mod lines;
+mod living;
 mod output;
 mod report;
+mod report_lines;
 mod walking;
 
 pub use carrying_out::carry_out;
@@ -21,5 +23,6 @@ pub use checking::check;
 pub use command::{Command, asked_command, command_of};
 pub use fault::{Fault, status};
 pub use input::read_input;
+pub use living::live;
 pub use report::put_fault;
 pub use walking::walk;

@@ -15,10 +15,10 @@ use ti_script::{Names, line_bound, line_text};
 use ti_types::Outcome;
 
 /// So many bytes are gathered before they are written.
-const CHUNK: usize = 65_536;
+pub(crate) const CHUNK: usize = 65_536;
 
 /// A line whose length is known to be at most this needs no measuring.
-const ESTIMATE: usize = 1_048_576;
+pub(crate) const ESTIMATE: usize = 1_048_576;
 
 /// A length that the line of an outcome does not exceed, where no method's name is longer than `longest_name`: an estimate
 /// where that is small, else the length itself, for which the line is made.
@@ -75,7 +75,7 @@ fn add_line(text: &mut String, methods: &Names, index: usize, outcome: &Option<O
 
 /// Writes the text out where it is a chunk.
 #[tactic(auto, using(crate::proofs::StreamLaws::parts))]
-fn send_chunk<W: Write>(writer: &mut W, text: &mut String) -> Result<(), Fault>
+pub(crate) fn send_chunk<W: Write>(writer: &mut W, text: &mut String) -> Result<(), Fault>
     ensures ok { OnOk result (Sends (W.contents writer.old) (W.contents writer.new) (string_bytes text.old) (string_bytes text.new)) }
     ensures short { OnOk result (string_len text.new < 65536) }
     ensures room { string_capacity text.old ≤ string_capacity text.new }

@@ -7,8 +7,11 @@ ghost use Rattle.std.specs.Io.KnownBytes.{Keeps};
 ghost use Rattle.ti_driver.specs.Faults.{end_status, fault_line};
 ghost use Rattle.ti_driver.specs.Streams.{TakesFront};
 
-use std::io::Write;
+use std::io::{Read, Write};
 use std::process::ExitCode;
+use std::rt::Env;
+use std::sync::Wait;
+use std::thread::Threads;
 use ti_driver::{Fault, asked_command, carry_out, put_fault, status};
 
 /// The status that a run ends with: 0, 1 where a history is illegal, and that of a fault.
@@ -34,13 +37,17 @@ fn finish<W: Write>(errors: &mut W, ended: &Result<bool, Fault>) -> ExitCode
     code_of(ended)
 }
 
-/// What the process was asked for, from standard input to standard output.
-fn run(rt: &HostRuntime) -> Result<bool, Fault> {
+/// Does what the process was asked for, from the reader to the writer.
+fn run<H: Env + Threads + Wait + Sync + AllocGlobal, R: Read, W: Write>(
+    rt: &H,
+    reader: &mut R,
+    writer: &mut W,
+) -> Result<bool, Fault> {
     let command = asked_command(rt)?;
-    carry_out(rt.alloc(), command, &mut rt.stdin(), &mut rt.stdout())
+    carry_out(rt, command, reader, writer)
 }
 
 fn main(rt: HostRuntime) -> ExitCode {
-    let ended = run(&rt);
+    let ended = run(&rt, &mut rt.stdin(), &mut rt.stdout());
     finish(&mut rt.stderr(), &ended)
 }
