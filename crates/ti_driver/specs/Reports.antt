@@ -10,8 +10,8 @@ use Rattle.ti_live.specs.declared.report.Refusal.{Refusal}
 use Rattle.ti_live.specs.declared.report.Script.{Script}
 use Rattle.ti_report.specs.Fits.{Fits}
 use Rattle.ti_report.specs.Told.{history_at}
-use Rattle.ti_runner.specs.declared.running.RunFault.{RunFault}
-use Rattle.ti_runner.specs.declared.running.RunFault.TheVariants as run
+use Rattle.ti_runner.specs.declared.fault.RunFault.{RunFault}
+use Rattle.ti_runner.specs.declared.fault.RunFault.TheVariants as run
 use Rattle.ti_script.specs.declared.names.Cast.{Cast}
 use Rattle.ti_script.specs.declared.live.Live.{Live}
 use Rattle.ti_script.specs.Walks.{IsDocument}
