@@ -149,11 +149,10 @@ fn lists_that_a_gate_ends_are_reported_so_far(rt: HostRuntime) -> Result<(), Fai
         AgentCall::Ask(A, Call::State),
     ]?;
     let calls = vec![in alloc; list]?;
-    let never = Moment::Answered(E, 9);
     let pairs = [
-        (Moment::BeforeOp(A, 2), never),
+        (Moment::BeforeOp(A, 2), Moment::Never),
         (Moment::BeforeCall(E, 0), Moment::Walked(A)),
-        (Moment::BeforeCall(E, 1), never),
+        (Moment::BeforeCall(E, 1), Moment::Never),
     ];
     let report = run(&rt, 32, 8, walks, calls, &pairs)?;
     let expected = Expected {

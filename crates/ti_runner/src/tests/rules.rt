@@ -7,7 +7,10 @@ use std::thread;
 use ti_types::{EnvNo, ThreadNo};
 
 /// How many turns a wait takes at most. A gate that waited in vain ends the list, so that no test waits for ever.
-const TURNS: u32 = 1_000_000;
+const TURNS: u32 = 50_000_000;
+
+/// How many turns a wait takes for what does not come.
+const FEW: u32 = 1_000;
 
 /// A moment of a run, as a gate learns of it.
 #[derive(Clone, Copy, PartialEq, Eq)]
@@ -16,6 +19,8 @@ pub(crate) enum Moment {
     BeforeCall(EnvNo, u32),
     Answered(EnvNo, u32),
     Walked(ThreadNo),
+    /// Does not come.
+    Never,
 }
 
 /// Who comes to the moment `at` waits there until `awaited` came.
@@ -29,7 +34,8 @@ struct Rule {
 impl Rule {
     /// Whether the awaited moment came before the turns were spent.
     fn wait(&self) -> bool {
-        for _ in 0..TURNS {
+        let turns = if self.awaited == Moment::Never { FEW } else { TURNS };
+        for _ in 0..turns {
             if self.came.load(Ordering::SeqCst) {
                 return true;
             }
