@@ -12,7 +12,7 @@ process that no document shows (`ci/process_ends.py`). What they want was worked
 Of a case NAME of `cases/`, NAME.in is the document and NAME.out what standard output gets, NAME.err what standard error
 gets, NAME.status the status, and NAME.args has the arguments, one a line. A file that is not there says: nothing,
 nothing, 0, `walk`. Of an example NAME.json is the document and NAME.out the text, with status 1 where it begins with
-`illegal`; one whose name has `history` in it is given to `check`.
+`illegal`; one whose name has `history` in it is given to `check`, one whose name begins with `live` to `live`.
 """
 
 import dataclasses
@@ -58,11 +58,17 @@ def stored_cases():
         yield Case(path.stem, arguments, path.read_bytes(), wanted)
 
 
+def command_of(example):
+    """The word that an example is given to."""
+    if "history" in example.stem:
+        return "check"
+    return "live" if example.stem.startswith("live") else "walk"
+
+
 def examples():
     for path in sorted(pathlib.Path("examples").glob("*.json")):
         text = path.with_suffix(".out").read_bytes()
-        arguments = ["check"] if "history" in path.stem else ["walk"]
-        yield Case(path.name, arguments, path.read_bytes(), (text, b"", 1 if text.startswith(b"illegal") else 0))
+        yield Case(path.name, [command_of(path)], path.read_bytes(), (text, b"", 1 if text.startswith(b"illegal") else 0))
 
 
 def made():

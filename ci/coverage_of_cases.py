@@ -11,6 +11,8 @@ SPECS = {
     "events": "crates/ti_script/specs/Events.antt",
     "entries": "crates/ti_script/specs/Entries.antt",
     "texts": "crates/ti_script/specs/Texts.antt",
+    "calls": "crates/ti_script/specs/Lives.antt",
+    "live texts": "crates/ti_script/specs/LiveTexts.antt",
     "limits": "crates/ti_script/specs/LimitNames.antt",
     "faults": "crates/ti_driver/specs/Faults.antt",
     "verdicts": "crates/ti_driver/specs/Runs.antt",
@@ -18,12 +20,12 @@ SPECS = {
     "errors": "crates/ti_types/specs/TiError.antt",
 }
 
-# what no document leads to: there are no live runs, a capability cannot be had, no event names an environment that is not
-# there, and where a trace alone is refused for memory depends on the machine
+# what no document leads to: no cell is in use where all its users are done, no live run gives an illegal history, a
+# capability cannot be had, no event names an environment that is not there, and where a trace alone is refused for memory
+# depends on the machine
 NOT_REACHED = {
     ("faults", "cell"),
-    ("limits", "walks"),
-    ("limits", "calls_list"),
+    ("live texts", " illegal "),
     ("texts", "can_tag_objects"),
     ("errors", "116"),
     ("errors", "110"),
@@ -56,6 +58,16 @@ def entries_run(document, out):
         yield from entry[3:4] if entry[0] == "asked" else ()
 
 
+def calls_made(document, out):
+    """The words of a live script's calls that were not refused as a whole, and its members."""
+    lines = iter(out.decode().splitlines())
+    for calls in document["calls"]:
+        for call, line in zip(calls, lines):
+            if " error " not in line:
+                yield call[0]
+    yield from document
+
+
 def found_in(cases):
     """The words that the cases have, by their table."""
     found = {table: set() for table in SPECS}
@@ -70,6 +82,9 @@ def found_in(cases):
         if command == "walk":
             texts += out
             found["events"].update(events_run(json.loads(case.document), out))
+        elif command == "live":
+            found["calls"].update(calls_made(json.loads(case.document), out))
+            found["live texts"].update(word for word in words_of("live texts") if word.encode() in out)
         else:
             found["verdicts"].update(word for word in words_of("verdicts") if word.encode() in out)
             found["entries"].update(entries_run(json.loads(case.document), out))

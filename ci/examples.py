@@ -1,9 +1,10 @@
 #!/usr/bin/env python3
-"""Looks whether each example, with its text, is a test of crates/ti_tests. The last line is 'N passed, M failed'.
+"""Looks whether each example of a walk or a history, with its text, is a test of crates/ti_tests. The last line is
+'N passed, M failed'.
 
     ci/examples.py --tested
 
-(`ci/cases.py --examples` runs them.)
+(`ci/cases.py --examples` runs them, and the live scripts.)
 """
 
 import json
@@ -25,7 +26,7 @@ def main():
     literals = [line.strip().rstrip(",") for line in TESTS.read_text().splitlines()]
     # a verdict may stand between the two
     literals = [line for line in literals if line not in ("true", "false")]
-    examples = sorted(pathlib.Path("examples").glob("*.json"))
+    examples = sorted(path for path in pathlib.Path("examples").glob("*.json") if not path.stem.startswith("live"))
     missing = [example for example in examples if not is_tested(literals, example)]
     for example in missing:
         print(f"{example} is no test of {TESTS}")

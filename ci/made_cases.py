@@ -9,6 +9,7 @@ import json
 MOST_BYTES = 8_388_608
 MOST_EVENTS = 65_536
 MOST_ENTRIES = 262_144
+MOST_LISTED = 1_024
 LARGE = {"depth": 4, "own": 65_536, "calls": 1_024}
 
 
@@ -18,6 +19,10 @@ def text_of(tree):
 
 def walk(events, methods=("a",)):
     return {"limits": LARGE, "threads": ["t0"], "agents": ["e"], "methods": list(methods), "events": events}
+
+
+def live(walks, calls):
+    return {"limits": LARGE, "threads": ["t0"], "agents": ["e"], "methods": ["a"], "walks": [walks], "calls": [calls]}
 
 
 def history(entries, agents=32):
@@ -67,5 +72,24 @@ CASES = (
     ("longest legal history", ["check"], lambda: text_of(history(longest_history())), lambda: b"legal\n", b"", 0),
     ("one stop more", ["check"], lambda: text_of(history(longest_history()[:-1] + [["stop", 0]])), lambda: b"illegal 196609\n", b"", 1),
     ("most entries", ["check"], lambda: text_of(history([["start"]] * MOST_ENTRIES, 1)), lambda: b"illegal 1\n", b"", 1),
+    (
+        "most operations and calls",
+        ["live"],
+        lambda: text_of(live([["leave"]] * MOST_EVENTS, [["getenv"]] * MOST_EVENTS)),
+        lambda: b"".join([*(b"e %d word 0\n" % n for n in range(MOST_EVENTS)), *(b"t0 %d error 204\n" % n for n in range(MOST_EVENTS)), b"t0 legal\n"]),
+        b"",
+        0,
+    ),
+    fault("one operation more", ["live"], lambda: text_of(live([5] * (MOST_EVENTS + 1), [5] * (MOST_EVENTS + 1))), "limit walks"),
+    fault("one call more", ["live"], lambda: text_of(live([5] * MOST_EVENTS, [5] * (MOST_EVENTS + 1))), "limit calls_list"),
+    (
+        "most threads of a list",
+        ["live"],
+        lambda: text_of(live([], [["add", ["can_suspend"]], ["suspend_list", [9] * MOST_LISTED]])),
+        lambda: b"e 0 ok\ne 1 codes" + b" 10" * MOST_LISTED + b"\nt0 legal\n",
+        b"",
+        0,
+    ),
+    fault("one thread of a list more", ["live"], lambda: text_of(live([], [["suspend_list", [9] * (MOST_LISTED + 1)]])), "shape at item 1"),
     fault("one entry more", ["check"], lambda: text_of(history([5] * (MOST_ENTRIES + 1), 1)), "limit entries"),
 )

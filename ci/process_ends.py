@@ -79,6 +79,7 @@ ENDS = (
     End("a reader that fails", reader_fails, (b"", b"tiwalk: read\n", 4)),
     End("a writer that fails in a walk", to_full("stdout", "walk", document=example("first.json")), (b"", b"tiwalk: write\n", 4)),
     End("a writer that fails in a check", to_full("stdout", "check", document=example("illegal-history.json")), (b"", b"tiwalk: write\n", 4)),
+    End("a writer that fails in a live run", to_full("stdout", "live", document=example("live-walks.json")), (b"", b"tiwalk: write\n", 4)),
     End("standard error that takes nothing", to_full("stderr", "walk", document=b"["), (b"", b"", 2)),
     End("standard error that takes nothing of usage", to_full("stderr", "run", document=b""), (b"", b"", 2)),
     End("a reader that gives byte by byte", byte_by_byte, (b"0 ok\n1 count 0\n2 went\n", b"", 0)),
