@@ -2,14 +2,15 @@
 """Runs `tiwalk` on each example with the first allocation refused, then with the second alone, and so on.
 
 Each run has to end with status 3, `tiwalk: memory` and nothing written, or with the example's status and text, where in
-a walk the line of at most one `trace` or `read` is `error 110` instead. The last line is 'N passed, M failed'. (A trace
+a walk the line of at most one `trace` or `read` is `error 110` instead, and in a live run that of at most one `trace` or
+call for a list of threads or for all stacks. The last line is 'N passed, M failed'. (A trace
 that is refused does not wait, so in each example something else waits too at the poll that would answer it: no other
 line depends on it.)
 
     ci/refused_memory.py [PROGRAM [DOCUMENT..]]        crates/tiwalk/out/tiwalk by default: `make run` builds it
 
 Documents in place of the examples are files NAME with the text beside them, in NAME with the last suffix `.out`. One
-with a member `entries` is given to `tiwalk check`.
+with a member `entries` is given to `tiwalk check`, one with a member `walks` to `tiwalk live`.
 
 It needs a C compiler, for a small library that stands between the program and the C library's allocator.
 """
@@ -30,7 +31,7 @@ SHIM = r"""
 static long refused = -1, count = 0;
 static int is_refused(void) {
     if (refused < 0) { const char *text = getenv("REFUSED"); refused = text ? atol(text) : 0; }
-    return ++count == refused;
+    return __atomic_add_fetch(&count, 1, __ATOMIC_SEQ_CST) == refused;
 }
 #define NEXT(name) dlsym(RTLD_NEXT, name)
 void *malloc(size_t n) { if (is_refused()) { errno = ENOMEM; return 0; } return ((void *(*)(size_t))NEXT("malloc"))(n); }
@@ -45,6 +46,10 @@ __attribute__((destructor)) static void tell(void) {
 """
 
 
+# the calls whose answers take memory
+TAKING_MEMORY = ("trace", "read", "suspend_list", "resume_list", "all", "list")
+
+
 def run(program, arguments, document, shim, refused, folder):
     count = folder / "count"
     env = dict(os.environ, LD_PRELOAD=str(shim), REFUSED=str(refused), COUNT=str(count))
@@ -52,9 +57,18 @@ def run(program, arguments, document, shim, refused, folder):
     return done, int(count.read_text())
 
 
-def takes_memory(document, index):
-    """Whether the event of that index is one whose answer takes memory."""
-    return document["events"][index][1] in ("trace", "read")
+def command_of(document):
+    """The word that a document is given to."""
+    return "check" if "entries" in document else "live" if "walks" in document else "walk"
+
+
+def wanting_memory(document):
+    """The lines, by their places, of answers that take memory, as they are where there was none for them."""
+    if "walks" in document:
+        made = [(f"{name} {index}", call[0]) for name, calls in zip(document["agents"], document["calls"]) for index, call in enumerate(calls)]
+    else:
+        made = [(str(index), event[1]) for index, event in enumerate(document.get("events", ()))]
+    return {place: f"{name} error 110".encode() for place, (name, word) in enumerate(made) if word in TAKING_MEMORY}
 
 
 def is_right(document, done, ample):
@@ -65,16 +79,14 @@ def is_right(document, done, ample):
     if (done.returncode, done.stderr, len(lines)) != (ample.returncode, ample.stderr, len(wanted)):
         return False
     changed = [n for n in range(len(lines)) if lines[n] != wanted[n]]
-    return len(changed) <= 1 and all(
-        lines[n] == b"%d error 110" % n and takes_memory(document, n) for n in changed
-    )
+    return len(changed) <= 1 and all(lines[n] == wanting_memory(document).get(n) for n in changed)
 
 
 def refuse_each(program, path, shim, folder):
     """The number of allocations of a run, and those of them that were refused with another end than they may have."""
     data = path.read_bytes()
     document = json.loads(data)
-    arguments = ["check"] if "entries" in document else []
+    arguments = [command_of(document)]
     ample, allocations = run(program, arguments, data, shim, 0, folder)
     wrong = []
     for refused in range(1, allocations + 1):
