@@ -1,9 +1,10 @@
 # `make run` builds the program and runs it on a first example. `make test` is the whole gate.
 # `make examples`, `make cases`, `make bench` and `make refused` run the program that `make run` has built: on the examples,
-# on all cases, on large documents (and programs that hold cells and run threads), and with each allocation refused in turn (and the
-# tests of a core so). `make edits` tries the edits that the gate leaves out.
+# on all cases, on large documents (and programs that hold cells and run threads), and with each allocation, each start of a
+# thread, each read and each write refused in turn (and the tests of a core so). `make stress` runs it on live documents that
+# are made up by chance. `make edits` tries the edits that the gate leaves out.
 # `make try` runs the program on a first example without proving anything.
-.PHONY: run try test examples cases bench refused edits
+.PHONY: run try test examples cases bench refused stress edits
 
 run:
 	cd crates/tiwalk && rt run < ../../examples/first.json
@@ -34,7 +35,11 @@ bench:
 
 refused:
 	python3 ci/refused_memory.py
+	python3 ci/refused_streams.py
 	python3 ci/refused_tests.py
+
+stress:
+	python3 ci/stress.py
 
 edits:
 	python3 ci/edits.py

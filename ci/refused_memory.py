@@ -1,20 +1,22 @@
 #!/usr/bin/env python3
-"""Runs `tiwalk` on each example with the first allocation refused, then with the second alone, and so on.
+"""Runs `tiwalk` on each example with the first allocation refused, then with the second alone, and so on, until a run
+meets no refusal; and so with each start of a thread of a live run.
 
-Each run has to end with status 3, `tiwalk: memory` and nothing written, or with the example's status and text, where in
-a walk the line of at most one `trace` or `read` is `error 110` instead, and in a live run that of at most one `trace` or
-call for a list of threads or for all stacks. The last line is 'N passed, M failed'. (A trace
-that is refused does not wait, so in each example something else waits too at the poll that would answer it: no other
-line depends on it.)
+Each run has to end with status 3, `tiwalk: memory` and nothing written, or with the example's status and text, where the
+line of at most one `trace` or `read` of a walk, or of one call for frames or of a list in a live run, is `error 110`
+instead. The last line is 'N passed, M failed'. (A trace that is refused does not wait, so in each example something else
+waits too at the poll that would answer it: no other line depends on it. In live examples no line depends on another.)
 
     ci/refused_memory.py [PROGRAM [DOCUMENT..]]        crates/tiwalk/out/tiwalk by default: `make run` builds it
 
 Documents in place of the examples are files NAME with the text beside them, in NAME with the last suffix `.out`. One
-with a member `entries` is given to `tiwalk check`, one with a member `walks` to `tiwalk live`.
+with a member `entries` is given to `tiwalk check`, one with `walks` to `tiwalk live`.
 
 It needs a C compiler, for a small library that stands between the program and the C library's allocator.
 """
 
+import dataclasses
+import itertools
 import json
 import os
 import pathlib
@@ -26,91 +28,134 @@ SHIM = r"""
 #define _GNU_SOURCE
 #include <dlfcn.h>
 #include <errno.h>
+#include <pthread.h>
+#include <stdatomic.h>
 #include <stdio.h>
 #include <stdlib.h>
-static long refused = -1, count = 0;
-static int is_refused(void) {
-    if (refused < 0) { const char *text = getenv("REFUSED"); refused = text ? atol(text) : 0; }
-    return __atomic_add_fetch(&count, 1, __ATOMIC_SEQ_CST) == refused;
+static atomic_long allocations = 0, threads = 0;
+static int is_refused(atomic_long *count, const char *which) {
+    const char *text = getenv(which);
+    return atomic_fetch_add(count, 1) + 1 == (text ? atol(text) : 0);
 }
 #define NEXT(name) dlsym(RTLD_NEXT, name)
-void *malloc(size_t n) { if (is_refused()) { errno = ENOMEM; return 0; } return ((void *(*)(size_t))NEXT("malloc"))(n); }
-void *realloc(void *p, size_t n) { if (is_refused()) { errno = ENOMEM; return 0; } return ((void *(*)(void *, size_t))NEXT("realloc"))(p, n); }
-void *aligned_alloc(size_t a, size_t n) { if (is_refused()) { errno = ENOMEM; return 0; } return ((void *(*)(size_t, size_t))NEXT("aligned_alloc"))(a, n); }
-int posix_memalign(void **p, size_t a, size_t n) { if (is_refused()) return ENOMEM; return ((int (*)(void **, size_t, size_t))NEXT("posix_memalign"))(p, a, n); }
+void *malloc(size_t n) { if (is_refused(&allocations, "ALLOCATION")) { errno = ENOMEM; return 0; } return ((void *(*)(size_t))NEXT("malloc"))(n); }
+void *realloc(void *p, size_t n) { if (is_refused(&allocations, "ALLOCATION")) { errno = ENOMEM; return 0; } return ((void *(*)(void *, size_t))NEXT("realloc"))(p, n); }
+void *aligned_alloc(size_t a, size_t n) { if (is_refused(&allocations, "ALLOCATION")) { errno = ENOMEM; return 0; } return ((void *(*)(size_t, size_t))NEXT("aligned_alloc"))(a, n); }
+int posix_memalign(void **p, size_t a, size_t n) { if (is_refused(&allocations, "ALLOCATION")) return ENOMEM; return ((int (*)(void **, size_t, size_t))NEXT("posix_memalign"))(p, a, n); }
+int pthread_create(pthread_t *t, const pthread_attr_t *a, void *(*f)(void *), void *x) { if (is_refused(&threads, "THREAD")) return EAGAIN; return ((int (*)(pthread_t *, const pthread_attr_t *, void *(*)(void *), void *))NEXT("pthread_create"))(t, a, f, x); }
 __attribute__((destructor)) static void tell(void) {
     const char *path = getenv("COUNT");
+    long allocated = atomic_load(&allocations), started = atomic_load(&threads);
     FILE *file = path ? fopen(path, "w") : 0;
-    if (file) { fprintf(file, "%ld\n", count); fclose(file); }
+    if (file) { fprintf(file, "%ld %ld\n", allocated, started); fclose(file); }
 }
+void _exit(int status) { tell(); ((void (*)(int))NEXT("_exit"))(status); __builtin_unreachable(); }
 """
 
 
-# the calls whose answers take memory
-TAKING_MEMORY = ("trace", "read", "suspend_list", "resume_list", "all", "list")
+SECONDS = 60
+# the calls of a live run whose answers take memory
+LIVE_CALLS = ("trace", "suspend_list", "resume_list", "all", "list")
 
 
-def run(program, arguments, document, shim, refused, folder):
+@dataclasses.dataclass
+class Run:
+    """A run with one allocation or one start of a thread refused: what it came to, and how many of either there were."""
+
+    out: bytes
+    err: bytes
+    status: int
+    allocations: int
+    threads: int
+
+
+def run(program, arguments, document, shim, folder, **refused):
     count = folder / "count"
-    env = dict(os.environ, LD_PRELOAD=str(shim), REFUSED=str(refused), COUNT=str(count))
-    done = subprocess.run([program, *arguments], input=document, capture_output=True, env=env)
-    return done, int(count.read_text())
+    env = dict(os.environ, LD_PRELOAD=str(shim), COUNT=str(count), **{name: str(n) for name, n in refused.items()})
+    done = subprocess.run([program, *arguments], input=document, capture_output=True, env=env, timeout=SECONDS)
+    return Run(done.stdout, done.stderr, done.returncode, *map(int, count.read_text().split()))
 
 
-def command_of(document):
-    """The word that a document is given to."""
+def argument(document):
     return "check" if "entries" in document else "live" if "walks" in document else "walk"
 
 
-def wanting_memory(document):
-    """The lines, by their places, of answers that take memory, as they are where there was none for them."""
-    if "walks" in document:
-        made = [(f"{name} {index}", call[0]) for name, calls in zip(document["agents"], document["calls"]) for index, call in enumerate(calls)]
-    else:
-        made = [(str(index), event[1]) for index, event in enumerate(document.get("events", ()))]
-    return {place: f"{name} error 110".encode() for place, (name, word) in enumerate(made) if word in TAKING_MEMORY}
+def takes_memory(document, line):
+    """Whether the line is of an event or call whose answer takes memory, as `error 110`."""
+    if "walks" not in document:
+        index, _, rest = line.partition(" ")
+        return rest == "error 110" and document["events"][int(index)][1] in ("trace", "read")
+    agent, number, *rest = line.split(" ")
+    calls = document["calls"][document["agents"].index(agent)]
+    return rest == ["error", "110"] and calls[int(number)][0] in LIVE_CALLS
 
 
-def is_right(document, done, ample):
-    """Whether a run with one allocation refused ended as it may, given the run with none refused."""
-    if done.returncode == 3:
-        return done.stdout == b"" and done.stderr == b"tiwalk: memory\n"
-    lines, wanted = done.stdout.split(b"\n"), ample.stdout.split(b"\n")
-    if (done.returncode, done.stderr, len(lines)) != (ample.returncode, ample.stderr, len(wanted)):
+def is_right(document, done, wanted, status):
+    """Whether a run with a refusal ended as it may, given the text and status of one with none."""
+    if done.status == 3:
+        return done.out == b"" and done.err == b"tiwalk: memory\n"
+    lines, wanted = done.out.decode().split("\n"), wanted.decode().split("\n")
+    if (done.status, done.err, len(lines)) != (status, b"", len(wanted)):
         return False
-    changed = [n for n in range(len(lines)) if lines[n] != wanted[n]]
-    return len(changed) <= 1 and all(lines[n] == wanting_memory(document).get(n) for n in changed)
+    changed = [one for one, other in zip(lines, wanted) if one != other]
+    return len(changed) <= 1 and all(takes_memory(document, line) for line in changed)
+
+
+def refuse_one(program, document, data, wanted, shim, folder, what, number):
+    """Whether there was anything to refuse, and what is wrong with how the run ended, or None."""
+    status = 1 if wanted.startswith(b"illegal") else 0
+    try:
+        done = run(program, [argument(document)], data, shim, folder, **{what: number})
+    except subprocess.TimeoutExpired:
+        return False, f"no end within {SECONDS} seconds"
+    met = number <= (done.allocations if what == "ALLOCATION" else done.threads)
+    # a live run has the lines of all its threads and agents: one that cannot be started is want of memory
+    well = done.status == 3 if met and what == "THREAD" else True
+    well = well and (is_right(document, done, wanted, status) if met else (done.out, done.status) == (wanted, status))
+    return met, None if well else f"status {done.status}, {done.out!r}"
 
 
 def refuse_each(program, path, shim, folder):
-    """The number of allocations of a run, and those of them that were refused with another end than they may have."""
-    data = path.read_bytes()
+    """How many runs ended as they may, and how many did not."""
+    data, wanted = path.read_bytes(), path.with_suffix(".out").read_bytes()
     document = json.loads(data)
-    arguments = [command_of(document)]
-    ample, allocations = run(program, arguments, data, shim, 0, folder)
-    wrong = []
-    for refused in range(1, allocations + 1):
-        done, _ = run(program, arguments, data, shim, refused, folder)
-        if ample.stdout != path.with_suffix(".out").read_bytes() or not is_right(document, done, ample):
-            wrong.append(refused)
-            print(f"{path.name}: allocation {refused} of {allocations}: status {done.returncode}, {done.stdout!r}")
-    return allocations, wrong
+    passed = failed = 0
+    for what in ("ALLOCATION", "THREAD"):
+        for number in itertools.count(1):
+            met, fault = refuse_one(program, document, data, wanted, shim, folder, what, number)
+            passed, failed = passed + (not fault), failed + bool(fault)
+            if fault:
+                print(f"{path.name}: {what} {number}: {fault}")
+            if not met:
+                break
+    return passed, failed
+
+
+def given(words):
+    """The program that the words name, and the documents, or the examples."""
+    program = os.path.abspath(words[0] if words else "crates/tiwalk/out/tiwalk")
+    if not os.path.isfile(program):
+        sys.exit(f"there is no {program}: `make run` builds it")
+    return program, [pathlib.Path(name) for name in words[1:]] or sorted(pathlib.Path("examples").glob("*.json"))
+
+
+def built(text, folder):
+    """The library of this text, in a folder."""
+    source, shim = folder / "shim.c", folder / "shim.so"
+    source.write_text(text)
+    subprocess.run(["cc", "-shared", "-fPIC", "-O1", "-o", shim, source, "-ldl"], check=True)
+    return shim
 
 
 def main():
-    program = os.path.abspath(sys.argv[1] if len(sys.argv) > 1 else "crates/tiwalk/out/tiwalk")
-    if not os.path.isfile(program):
-        sys.exit(f"there is no {program}: `make run` builds it")
-    documents = [pathlib.Path(name) for name in sys.argv[2:]] or sorted(pathlib.Path("examples").glob("*.json"))
+    program, documents = given(sys.argv[1:])
     passed = failed = 0
     with tempfile.TemporaryDirectory() as name:
         folder = pathlib.Path(name)
-        source, shim = folder / "shim.c", folder / "shim.so"
-        source.write_text(SHIM)
-        subprocess.run(["cc", "-shared", "-fPIC", "-O1", "-o", shim, source, "-ldl"], check=True)
+        shim = built(SHIM, folder)
         for path in documents:
-            allocations, wrong = refuse_each(program, path, shim, folder)
-            passed, failed = passed + allocations - len(wrong), failed + len(wrong)
+            well, ill = refuse_each(program, path, shim, folder)
+            passed, failed = passed + well, failed + ill
     print(f"{passed} passed, {failed} failed")
     return 1 if failed or not passed else 0
 
