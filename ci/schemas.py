@@ -20,7 +20,7 @@ KEYWORDS = {
     "$schema", "$defs", "$ref", "title", "description", "type", "properties", "required", "additionalProperties", "items",
     "prefixItems", "minItems", "maxItems", "uniqueItems", "enum", "const", "pattern", "minimum", "maximum", "oneOf",
 }
-# An agent with a word of a thread.
+# An agent with a word of a thread, and more or fewer lists than there are threads or agents.
 NOT_SAID = {"word-of-the-other-subject.in", "live-calls-too-many.in", "live-walks-too-few.in", "live-walks-too-many.in"}
 TYPES = {"object": dict, "array": list, "string": str}
 
