@@ -1,3 +1,4 @@
+//! A live script, from the bytes that a reader gives to the text of its run's report.
 ghost use Rattle.std.specs.Prelude.{◌≡◌, ◌≢◌, IfOk, OnOk, IfErr, Err};
 ghost use Rattle.std.specs.Io.KnownBytes.{Appends, Keeps};
 ghost use Rattle.ti_live.specs.declared.report.LiveReport.{LiveReport};

@@ -1,3 +1,6 @@
+//! The lines of a live run's report, in chunks, as `lines` has those of a walk.
+//!
+//! They are made for a report whose histories are all legal. That is so of each that fits its script.
 ghost use Rattle.std.specs.Prelude.{◌≡◌, ◌≢◌, ◌+◌, ◌++◌, ◌≤◌, ◌<◌, [], length, ℕ, None as NoPlace, IfOk, OnOk, IfErr, Err, string_bytes};
 ghost use Rattle.std.specs.Io.KnownBytes.{Appends, Keeps};
 ghost use Rattle.std.specs.String.{string_len, string_capacity};
