@@ -54,8 +54,8 @@ void _exit(int status) { tell(); ((void (*)(int))NEXT("_exit"))(status); __built
 
 
 SECONDS = 60
-# the calls of a live run whose answers take memory
-LIVE_CALLS = ("trace", "suspend_list", "resume_list", "all", "list")
+# the calls whose answers take memory
+TAKING_MEMORY = ("trace", "read", "suspend_list", "resume_list", "all", "list")
 
 
 @dataclasses.dataclass
@@ -80,25 +80,24 @@ def argument(document):
     return "check" if "entries" in document else "live" if "walks" in document else "walk"
 
 
-def takes_memory(document, line):
-    """Whether the line is of an event or call whose answer takes memory, as `error 110`."""
-    if "walks" not in document:
-        index, _, rest = line.partition(" ")
-        return rest == "error 110" and document["events"][int(index)][1] in ("trace", "read")
-    agent, number, *rest = line.split(" ")
-    calls = document["calls"][document["agents"].index(agent)]
-    return rest == ["error", "110"] and calls[int(number)][0] in LIVE_CALLS
+def wanting_memory(document):
+    """The lines, by their places, of answers that take memory, as they are where there was none for them."""
+    if "walks" in document:
+        made = [(f"{name} {n}", call[0]) for name, calls in zip(document["agents"], document["calls"]) for n, call in enumerate(calls)]
+    else:
+        made = [(str(n), event[1]) for n, event in enumerate(document.get("events", ()))]
+    return {place: f"{name} error 110".encode() for place, (name, word) in enumerate(made) if word in TAKING_MEMORY}
 
 
 def is_right(document, done, wanted, status):
     """Whether a run with a refusal ended as it may, given the text and status of one with none."""
     if done.status == 3:
         return done.out == b"" and done.err == b"tiwalk: memory\n"
-    lines, wanted = done.out.decode().split("\n"), wanted.decode().split("\n")
+    lines, wanted = done.out.split(b"\n"), wanted.split(b"\n")
     if (done.status, done.err, len(lines)) != (status, b"", len(wanted)):
         return False
-    changed = [one for one, other in zip(lines, wanted) if one != other]
-    return len(changed) <= 1 and all(takes_memory(document, line) for line in changed)
+    changed = [place for place, pair in enumerate(zip(lines, wanted)) if pair[0] != pair[1]]
+    return len(changed) <= 1 and all(lines[place] == wanting_memory(document).get(place) for place in changed)
 
 
 def refuse_one(program, document, data, wanted, shim, folder, what, number):
