@@ -9,6 +9,7 @@ capabilities and its own word, and for the refused operations of a thread of whi
 
     ci/stress.py [--runs N] [--seed TEXT] [--first K] [PROGRAM]      1,000 runs of crates/tiwalk/out/tiwalk by default
     ci/stress.py --seed TEXT --show K                                writes the document K of that seed, and runs nothing
+    ci/stress.py --spoil ..        also changes one line of each text, or leaves it out, and counts how often that is noticed
 
 The last line is 'N passed, M failed', and before it stand the processor time and what the documents had.
 """
@@ -16,6 +17,8 @@ The last line is 'N passed, M failed', and before it stand the processor time an
 import argparse
 import json
 import os
+import random
+import re
 import resource
 import subprocess
 import sys
@@ -45,23 +48,43 @@ def run_on(program, processors, document):
     return done.stdout, done.stderr, done.returncode
 
 
-def fault_of(program, processors, tree):
-    """What is wrong with a run, or None."""
+def text_of(program, processors, tree):
+    """What a run wrote, and what is wrong with that, or None."""
     try:
         out, err, status = run_on(program, processors, json.dumps(tree, separators=(",", ":")).encode())
     except subprocess.TimeoutExpired:
-        return f"no end within {SECONDS} seconds"
+        return "", f"no end within {SECONDS} seconds"
     if status or err:
-        return f"status {status}, {err!r}"
-    return stress_rules.fault_of(tree, out.decode())
+        return "", f"status {status}, {err!r}"
+    return out.decode(), stress_rules.fault_of(tree, out.decode())
+
+
+def spoilt(chance, text):
+    """The text with another reply in one line, or without it."""
+    lines = text.splitlines()
+    number = chance.randrange(len(lines))
+    for pattern, other in (
+        (r"error \d+$", lambda _: "ok"),
+        (r"ok$", lambda _: "error 15"),
+        (r"legal$", lambda _: "illegal 0"),
+        (r"0x[0-9a-f]+$", lambda found: hex(int(found[0], 16) ^ chance.choice((0x1, 0x4, 0x80, 0x100000)))),
+        (r"\d+$", lambda found: str(int(found[0]) + 1)),
+    ):
+        if re.search(pattern, lines[number]):
+            lines[number] = re.sub(pattern, other, lines[number])
+            break
+    else:
+        del lines[number]
+    return "".join(line + "\n" for line in lines)
 
 
 def parsed():
-    parser = argparse.ArgumentParser(usage="%(prog)s [--runs N] [--seed TEXT] [--first K] [--show K] [PROGRAM]")
+    parser = argparse.ArgumentParser(usage="%(prog)s [--runs N] [--seed TEXT] [--first K] [--show K] [--spoil] [PROGRAM]")
     parser.add_argument("--runs", type=int, default=1_000)
     parser.add_argument("--seed", default="1")
     parser.add_argument("--first", type=int, default=0)
     parser.add_argument("--show", type=int)
+    parser.add_argument("--spoil", action="store_true")
     parser.add_argument("program", nargs="?", default=PROGRAM)
     return parser.parse_args()
 
@@ -75,13 +98,15 @@ def main():
         print(f"there is no {words.program}: `make run` builds it")
         return 1
     program = os.path.abspath(words.program)
+    chance, noticed = random.Random(words.seed), 0
     passed = failed = threads = agents = operations = calls = 0
     begun = time.monotonic()
     for number in range(words.runs):
         index = words.first + number // len(PROCESSORS)
         processors = PROCESSORS[number % len(PROCESSORS)]
         tree = stress_documents.document(words.seed, index)
-        fault = fault_of(program, processors, tree)
+        text, fault = text_of(program, processors, tree)
+        noticed += words.spoil and not fault and stress_rules.fault_of(tree, spoilt(chance, text)) is not None
         passed, failed = passed + (not fault), failed + bool(fault)
         threads, agents = threads + len(tree["threads"]), agents + len(tree["agents"])
         operations, calls = operations + sum(map(len, tree["walks"])), calls + sum(map(len, tree["calls"]))
@@ -90,6 +115,8 @@ def main():
     spent = resource.getrusage(resource.RUSAGE_CHILDREN)
     print(f"{threads} threads, {operations} operations, {agents} agents, {calls} calls")
     print(f"{spent.ru_utime + spent.ru_stime:.1f} s of processors in the runs, {time.monotonic() - begun:.1f} s in all")
+    if words.spoil:
+        print(f"{noticed} of {passed} spoilt texts were noticed")
     print(f"{passed} passed, {failed} failed")
     return 1 if failed or not passed else 0
 

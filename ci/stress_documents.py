@@ -10,7 +10,7 @@ answered; and who stops threads lets them go once each stands.
 
 import random
 
-import stress_rules
+import stress_accounts
 
 KINDS = ("monitor", "wait", "timed_wait", "sleep", "park", "timed_park")
 METHODS = ("a", "<init>", "java/lang/Object.wait", "b$1")
@@ -22,7 +22,7 @@ TASTES = {
     "stacks": {"all": 4, "list": 4, "state": 1, "set": 1},
     "all": {
         word: 2
-        for word in (*stress_rules.ASKS, "suspend_list", "resume_list", "all", "list", "add", "relinquish", "caps", "setenv", "getenv")
+        for word in (*stress_accounts.ASKS, "suspend_list", "resume_list", "all", "list", "add", "relinquish", "caps", "setenv", "getenv")
     },
 }
 
@@ -89,7 +89,7 @@ class Agent:
 
     def __init__(self, chance, tree, targets, may_pop):
         self.chance, self.tree, self.targets, self.may_pop = chance, tree, targets, may_pop
-        self.account, self.calls, self.owed = stress_rules.Account(tree), [], set()
+        self.account, self.calls, self.owed = stress_accounts.Account(tree), [], set()
         self.taste = TASTES[chance.choice(tuple(TASTES))]
 
     def thread(self):
@@ -111,7 +111,7 @@ class Agent:
         if word in ("suspend_list", "resume_list"):
             return [word, self.threads()]
         if word in ("add", "relinquish"):
-            return [word, chance.sample(stress_rules.CAPABILITIES[: chance.choice((1, 2, 2, 2, 3))], chance.randrange(2))]
+            return [word, chance.sample(stress_accounts.CAPABILITIES[: chance.choice((1, 2, 2, 2, 3))], chance.randrange(2))]
         if word in ("caps", "getenv"):
             return [word]
         if word == "setenv":
