@@ -89,6 +89,31 @@ def parsed():
     return parser.parse_args()
 
 
+def run_all(words):
+    """How many runs passed and how many failed. It tells of each that failed, and of all at the end."""
+    program, chance = os.path.abspath(words.program), random.Random(words.seed)
+    passed = failed = noticed = threads = agents = operations = calls = 0
+    begun = time.monotonic()
+    for number in range(words.runs):
+        index, turn = words.first + number // len(PROCESSORS), number % len(PROCESSORS)
+        if turn == 0:
+            tree = stress_documents.document(words.seed, index)
+        text, fault = text_of(program, PROCESSORS[turn], tree)
+        passed, failed = passed + (not fault), failed + bool(fault)
+        threads, agents = threads + len(tree["threads"]), agents + len(tree["agents"])
+        operations, calls = operations + sum(map(len, tree["walks"])), calls + sum(map(len, tree["calls"]))
+        if fault:
+            print(f"--seed {words.seed} --show {index}, on {PROCESSORS[turn]} processors: {fault}", flush=True)
+        elif words.spoil:
+            noticed += stress_rules.fault_of(tree, spoilt(chance, text)) is not None
+    spent = resource.getrusage(resource.RUSAGE_CHILDREN)
+    print(f"{threads} threads, {operations} operations, {agents} agents, {calls} calls")
+    print(f"{spent.ru_utime + spent.ru_stime:.1f} s of processors in the runs, {time.monotonic() - begun:.1f} s in all")
+    if words.spoil:
+        print(f"{noticed} of {passed} spoilt texts were noticed")
+    return passed, failed
+
+
 def main():
     words = parsed()
     if words.show is not None:
@@ -97,26 +122,7 @@ def main():
     if not os.path.isfile(words.program):
         print(f"there is no {words.program}: `make run` builds it")
         return 1
-    program = os.path.abspath(words.program)
-    chance, noticed = random.Random(words.seed), 0
-    passed = failed = threads = agents = operations = calls = 0
-    begun = time.monotonic()
-    for number in range(words.runs):
-        index = words.first + number // len(PROCESSORS)
-        processors = PROCESSORS[number % len(PROCESSORS)]
-        tree = stress_documents.document(words.seed, index)
-        text, fault = text_of(program, processors, tree)
-        noticed += words.spoil and not fault and stress_rules.fault_of(tree, spoilt(chance, text)) is not None
-        passed, failed = passed + (not fault), failed + bool(fault)
-        threads, agents = threads + len(tree["threads"]), agents + len(tree["agents"])
-        operations, calls = operations + sum(map(len, tree["walks"])), calls + sum(map(len, tree["calls"]))
-        if fault:
-            print(f"--seed {words.seed} --show {index}, on {processors} processors: {fault}", flush=True)
-    spent = resource.getrusage(resource.RUSAGE_CHILDREN)
-    print(f"{threads} threads, {operations} operations, {agents} agents, {calls} calls")
-    print(f"{spent.ru_utime + spent.ru_stime:.1f} s of processors in the runs, {time.monotonic() - begun:.1f} s in all")
-    if words.spoil:
-        print(f"{noticed} of {passed} spoilt texts were noticed")
+    passed, failed = run_all(words)
     print(f"{passed} passed, {failed} failed")
     return 1 if failed or not passed else 0
 
