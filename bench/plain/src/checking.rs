@@ -86,15 +86,10 @@ fn fits(t: &mut Thread, limits: &Limits, spent: &mut [(u32, u32)], entry: &Entry
             t.waiting.clear();
         }
         Entry::Asked(e, n, call) => {
-            let well_formed = match call {
-                Call::Trace(_, most) => most >= 0,
-                Call::Location(depth) => depth >= 0,
-                _ => true,
-            };
             let Some((asked, calls)) = spent.get_mut(e as usize) else {
                 return false;
             };
-            if *calls >= limits.calls || *asked != n || !well_formed {
+            if *calls >= limits.calls || *asked != n || !call.is_well_formed() {
                 return false;
             }
             *asked += 1;

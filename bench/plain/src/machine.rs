@@ -1,6 +1,6 @@
 //! All threads and environments.
 use crate::thread::{waits, Thread};
-use crate::values::{Call, Event, Limits, Mode, Outcome, Safe};
+use crate::values::{Event, Limits, Mode, Outcome, Safe};
 
 pub struct Env {
     pub caps: u8,
@@ -14,22 +14,39 @@ pub struct Machine {
     pub envs: Vec<Env>,
 }
 
-impl Machine {
-    pub fn admit(&self, env: u32, thread: u32, needed: u8, well_formed: bool) -> Result<(), u32> {
-        let env = &self.envs[env as usize];
-        if env.caps & needed != needed {
+impl Env {
+    pub fn new(threads: usize) -> Self {
+        Env { caps: 0, spent: vec![0; threads], word: 0 }
+    }
+
+    pub fn admit(&self, thread: u32, needed: u8, well_formed: bool, limits: &Limits) -> Result<(), u32> {
+        if self.caps & needed != needed {
             return Err(99);
         }
-        if thread as usize >= self.threads.len() {
+        if thread as usize >= self.spent.len() {
             return Err(10);
         }
         if !well_formed {
             return Err(103);
         }
-        if env.spent[thread as usize] >= self.limits.calls {
+        if self.spent[thread as usize] >= limits.calls {
             return Err(209);
         }
         Ok(())
+    }
+
+    pub fn add(&mut self, caps: u8) -> Result<(), u32> {
+        if caps >= 4 {
+            return Err(98);
+        }
+        self.caps |= caps;
+        Ok(())
+    }
+}
+
+impl Machine {
+    fn admit(&self, env: u32, thread: u32, needed: u8, well_formed: bool) -> Result<(), u32> {
+        self.envs[env as usize].admit(thread, needed, well_formed, &self.limits)
     }
 
     pub fn event(&mut self, event: Event, at: usize, outcomes: &mut [Outcome]) -> Result<Outcome, u32> {
@@ -99,17 +116,7 @@ impl Machine {
                 Outcome::Done
             }
             Event::Ask(e, t, call) => {
-                let needed = match call {
-                    Call::Suspend | Call::Resume => 1,
-                    Call::Pop => 2,
-                    _ => 0,
-                };
-                let well_formed = match call {
-                    Call::Trace(_, most) => most >= 0,
-                    Call::Location(depth) => depth >= 0,
-                    _ => true,
-                };
-                self.admit(e, t, needed, well_formed)?;
+                self.admit(e, t, call.needs(), call.is_well_formed())?;
                 self.envs[e as usize].spent[t as usize] += 1;
                 let thread = &mut self.threads[t as usize];
                 if waits(call) && thread.mode == Mode::Running {
@@ -153,10 +160,7 @@ impl Machine {
                 Outcome::Done
             }
             Event::Add(e, caps) => {
-                if caps >= 4 {
-                    return Err(98);
-                }
-                self.envs[e as usize].caps |= caps;
+                self.envs[e as usize].add(caps)?;
                 Outcome::Done
             }
             Event::Relinquish(e, caps) => {

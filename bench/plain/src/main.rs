@@ -1,4 +1,4 @@
-//! `plain walk` and `plain check`: what `tiwalk` does, as one would write it in Rust with `serde_json` and no contracts.
+//! `plain walk`, `plain live` and `plain check`: what `tiwalk` does, as one would write it in Rust with `serde_json` and no contracts.
 //!
 //! It is what `bench/bench.py` counts instructions beside, and is built by
 //!
@@ -6,17 +6,23 @@
 //!     cd bench/plain && cargo build --release --offline
 //!
 //! Nothing of the repository stands on it.
+mod agent;
+mod cell;
 mod checking;
 mod elements;
 mod fault;
+mod living;
 mod machine;
+mod names;
 mod text;
 mod thread;
 mod values;
+mod walker;
 mod walking;
 
 use checking::check;
 use fault::Fault;
+use living::live;
 use std::io::Write;
 use std::process::ExitCode;
 use walking::walk;
@@ -26,6 +32,7 @@ fn main() -> ExitCode {
     let words: Vec<&str> = words.iter().map(String::as_str).collect();
     let ended = match words.as_slice() {
         [] | ["walk"] => walk().map(|()| true),
+        ["live"] => live().map(|()| true),
         ["check"] => check(),
         _ => Err(Fault::Usage),
     };

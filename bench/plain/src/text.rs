@@ -1,13 +1,12 @@
-//! The text of an outcome.
-use crate::values::{Frame, Outcome};
+//! The texts of outcomes and replies.
+use crate::values::{Frame, Outcome, Reply};
 use std::fmt::Write as _;
 
 fn put_frame(out: &mut String, methods: &[&str], frame: &Frame) {
     let _ = write!(out, " {}@{}", methods[frame.method as usize], frame.place);
 }
 
-pub fn put_line(out: &mut String, methods: &[&str], index: usize, outcome: &Outcome) {
-    let _ = write!(out, "{} ", index);
+fn put_outcome(out: &mut String, methods: &[&str], outcome: &Outcome) {
     match outcome {
         Outcome::Done => out.push_str("ok"),
         Outcome::Clear => out.push_str("clear"),
@@ -37,6 +36,32 @@ pub fn put_line(out: &mut String, methods: &[&str], index: usize, outcome: &Outc
                     out.push(' ');
                     out.push_str(name);
                 }
+            }
+        }
+    }
+}
+
+pub fn put_line(out: &mut String, methods: &[&str], index: usize, outcome: &Outcome) {
+    let _ = write!(out, "{} ", index);
+    put_outcome(out, methods, outcome);
+    out.push('\n');
+}
+
+pub fn put_reply(out: &mut String, threads: &[&str], methods: &[&str], agent: &str, number: usize, reply: &Reply) {
+    let _ = write!(out, "{} {} ", agent, number);
+    match reply {
+        Reply::Plain(outcome) => put_outcome(out, methods, outcome),
+        Reply::Codes(codes) => {
+            out.push_str("codes");
+            for code in codes {
+                let _ = write!(out, " {}", code);
+            }
+        }
+        Reply::Stacks(stacks) => {
+            out.push_str("stacks");
+            for stack in stacks {
+                let _ = write!(out, " | {} 0x{:x}", threads[stack.thread as usize], stack.bits);
+                stack.frames.iter().for_each(|f| put_frame(out, methods, f));
             }
         }
     }

@@ -56,49 +56,14 @@ impl Thread {
         if self.mode != Mode::Running {
             return Err(204);
         }
-        match step {
-            Step::Enter(_) | Step::EnterNative(_) => {
-                if self.frames.len() >= limits.depth {
-                    return Err(201);
-                }
-            }
-            Step::At(_) => match self.frames.last() {
-                None => return Err(202),
-                Some(f) if f.place < 0 => return Err(203),
-                _ => {}
-            },
-            Step::Leave => {
-                if self.frames.is_empty() {
-                    return Err(202);
-                }
-            }
-        }
-        if self.own >= limits.own {
-            return Err(208);
-        }
-        self.own += 1;
-        match step {
-            Step::Enter(method) => self.frames.push(Frame { method, place: 0 }),
-            Step::EnterNative(method) => self.frames.push(Frame { method, place: -1 }),
-            Step::At(place) => self.frames.last_mut().unwrap().place = place as i64,
-            Step::Leave => {
-                self.frames.pop();
-            }
-        }
-        Ok(())
+        take_step(&mut self.frames, &mut self.own, step, limits)
     }
 
     pub fn hand_refusal(&self, safe: Safe, limits: &Limits) -> Option<u32> {
         if self.mode != Mode::Running {
             return Some(204);
         }
-        if safe == Safe::Native && !self.frames.last().map_or(false, |f| f.place < 0) {
-            return Some(207);
-        }
-        if safe != Safe::Poll && self.own + 2 > limits.own {
-            return Some(208);
-        }
-        None
+        refused_hand(&self.frames, self.own, safe, limits)
     }
 
     pub fn pop_refusal(&self) -> Option<u32> {
@@ -179,4 +144,49 @@ impl Thread {
 
 pub fn waits(call: Call) -> bool {
     matches!(call, Call::Count | Call::Trace(..) | Call::Location(_) | Call::Suspend | Call::Pop)
+}
+
+/// A step of a running thread on its frames.
+pub fn take_step(frames: &mut Vec<Frame>, own: &mut u32, step: Step, limits: &Limits) -> Result<(), u32> {
+    match step {
+        Step::Enter(_) | Step::EnterNative(_) => {
+            if frames.len() >= limits.depth {
+                return Err(201);
+            }
+        }
+        Step::At(_) => match frames.last() {
+            None => return Err(202),
+            Some(f) if f.place < 0 => return Err(203),
+            _ => {}
+        },
+        Step::Leave => {
+            if frames.is_empty() {
+                return Err(202);
+            }
+        }
+    }
+    if *own >= limits.own {
+        return Err(208);
+    }
+    *own += 1;
+    match step {
+        Step::Enter(method) => frames.push(Frame { method, place: 0 }),
+        Step::EnterNative(method) => frames.push(Frame { method, place: -1 }),
+        Step::At(place) => frames.last_mut().unwrap().place = place as i64,
+        Step::Leave => {
+            frames.pop();
+        }
+    }
+    Ok(())
+}
+
+/// Why a running thread may not hand over.
+pub fn refused_hand(frames: &[Frame], own: u32, safe: Safe, limits: &Limits) -> Option<u32> {
+    if safe == Safe::Native && !frames.last().map_or(false, |f| f.place < 0) {
+        return Some(207);
+    }
+    if safe != Safe::Poll && own + 2 > limits.own {
+        return Some(208);
+    }
+    None
 }

@@ -49,6 +49,25 @@ pub enum Call {
     Pop,
 }
 
+impl Call {
+    /// The capabilities that it needs.
+    pub fn needs(self) -> u8 {
+        match self {
+            Call::Suspend | Call::Resume => 1,
+            Call::Pop => 2,
+            _ => 0,
+        }
+    }
+
+    pub fn is_well_formed(self) -> bool {
+        match self {
+            Call::Trace(_, most) => most >= 0,
+            Call::Location(depth) => depth >= 0,
+            _ => true,
+        }
+    }
+}
+
 #[derive(Clone, Copy)]
 pub enum Event {
     Start(u32),
@@ -94,4 +113,25 @@ pub enum Outcome {
     Stack(u32, Vec<Frame>),
     Caps(u8),
     Unanswered,
+}
+
+/// A call of an agent in a live run.
+pub enum Request {
+    One(Event),
+    SuspendList(Vec<u32>),
+    ResumeList(Vec<u32>),
+    AllStacks(i32),
+    ListStacks(Vec<u32>, i32),
+}
+
+pub struct Stack {
+    pub thread: u32,
+    pub bits: u32,
+    pub frames: Vec<Frame>,
+}
+
+pub enum Reply {
+    Plain(Outcome),
+    Codes(Vec<u32>),
+    Stacks(Vec<Stack>),
 }

@@ -1,129 +1,25 @@
 //! `walk`: a document of events, and a line for each.
-use crate::elements::{block, limits, members, place, read_input, signed};
+use crate::elements::{limits, members, read_input};
 use crate::fault::{Fault, Res};
 use crate::machine::{Env, Machine};
+use crate::names::{texts, Names};
 use crate::text::put_line;
 use crate::thread::Thread;
-use crate::values::{Call, Event, Outcome, Safe, Step};
+use crate::values::{Event, Outcome};
 use serde_json::Value;
 use std::collections::HashMap;
 use std::io::Write;
 
-fn is_name(text: &str) -> bool {
-    (1..=64).contains(&text.len())
-        && text.bytes().all(|b| b.is_ascii_alphanumeric() || b"_.$/<>".contains(&b))
-}
-
-fn texts<'a>(value: &'a Value, least: usize, most: usize, name: &'static str, seen: &mut HashMap<&'a str, u32>) -> Res<Vec<&'a str>> {
-    let array = value.as_array().ok_or(Fault::Shape(0))?;
-    let mut list = Vec::with_capacity(array.len());
-    for item in array {
-        list.push(item.as_str().ok_or(Fault::Shape(0))?);
-    }
-    if list.len() < least || list.len() > most {
-        return Err(Fault::Limit(name));
-    }
-    for (n, text) in list.iter().enumerate() {
-        if !is_name(text) || seen.insert(text, n as u32).is_some() {
-            return Err(Fault::Name(0));
-        }
-    }
-    Ok(list)
-}
-
-struct Names<'a> {
-    threads: usize,
-    subjects: HashMap<&'a str, u32>,
-    methods: HashMap<&'a str, u32>,
-}
-
-impl<'a> Names<'a> {
-    fn method(&self, value: &Value, item: usize) -> Res<u32> {
-        let text = value.as_str().ok_or(Fault::Shape(item))?;
-        self.methods.get(text).copied().ok_or(Fault::Name(item))
-    }
-
-    fn thread(&self, value: &Value, item: usize) -> Res<u32> {
-        match value {
-            Value::String(text) => match self.subjects.get(text.as_str()) {
-                Some(n) if *n < 1000 => Ok(*n),
-                _ => Err(Fault::Name(item)),
-            },
-            _ => place(value, item),
-        }
-    }
-
-    fn caps(&self, value: &Value, item: usize) -> Res<u8> {
-        let array = value.as_array().ok_or(Fault::Shape(item))?;
-        if array.iter().any(|v| !v.is_string()) {
-            return Err(Fault::Shape(item));
-        }
-        let mut caps = 0;
-        for v in array {
-            caps |= match v.as_str().unwrap() {
-                "can_suspend" => 1,
-                "can_pop_frame" => 2,
-                "can_tag_objects" => 4,
-                _ => return Err(Fault::Name(item)),
-            };
-        }
-        Ok(caps)
-    }
-
-    fn event(&self, value: &Value, item: usize) -> Res<Event> {
-        let array = value.as_array().ok_or(Fault::Shape(item))?;
-        let [Value::String(subject), Value::String(word), rest @ ..] = array.as_slice() else {
-            return Err(Fault::Shape(item));
-        };
-        let n = *self.subjects.get(subject.as_str()).ok_or(Fault::Name(item))?;
-        if n < 1000 {
-            return Ok(match (word.as_str(), rest) {
-                ("start", []) => Event::Start(n),
-                ("poll", []) => Event::Poll(n),
-                ("back", []) => Event::Back(n),
-                ("end", []) => Event::End(n),
-                ("leave", []) => Event::Own(n, Step::Leave),
-                ("enter", [m]) => Event::Own(n, Step::Enter(self.method(m, item)?)),
-                ("enter_native", [m]) => Event::Own(n, Step::EnterNative(self.method(m, item)?)),
-                ("at", [p]) => Event::Own(n, Step::At(place(p, item)?)),
-                ("native", []) => Event::Hand(n, Safe::Native),
-                ("block", [kind]) => Event::Hand(n, Safe::Blocked(block(kind, item)?)),
-                _ => return Err(Fault::Shape(item)),
-            });
-        }
-        let e = n - 1000;
-        Ok(match (word.as_str(), rest) {
-            ("state", [t]) => Event::Ask(e, self.thread(t, item)?, Call::State),
-            ("count", [t]) => Event::Ask(e, self.thread(t, item)?, Call::Count),
-            ("suspend", [t]) => Event::Ask(e, self.thread(t, item)?, Call::Suspend),
-            ("resume", [t]) => Event::Ask(e, self.thread(t, item)?, Call::Resume),
-            ("pop", [t]) => Event::Ask(e, self.thread(t, item)?, Call::Pop),
-            ("get", [t]) => Event::Ask(e, self.thread(t, item)?, Call::Get),
-            ("trace", [t, s, m]) => {
-                let t = self.thread(t, item)?;
-                Event::Ask(e, t, Call::Trace(signed(s, item)?, signed(m, item)?))
-            }
-            ("location", [t, d]) => {
-                let t = self.thread(t, item)?;
-                Event::Ask(e, t, Call::Location(signed(d, item)?))
-            }
-            ("set", [t, w]) => {
-                let t = self.thread(t, item)?;
-                Event::Ask(e, t, Call::Set(w.as_u64().ok_or(Fault::Shape(item))?))
-            }
-            ("stop", [t]) => Event::Stop(e, self.thread(t, item)?),
-            ("go", [t]) => Event::Go(e, self.thread(t, item)?),
-            ("read", [t, m]) => {
-                let t = self.thread(t, item)?;
-                Event::ReadUnder(e, t, signed(m, item)?)
-            }
-            ("add", [c]) => Event::Add(e, self.caps(c, item)?),
-            ("relinquish", [c]) => Event::Relinquish(e, self.caps(c, item)?),
-            ("caps", []) => Event::Caps(e),
-            ("getenv", []) => Event::GetEnv(e),
-            ("setenv", [w]) => Event::SetEnv(e, w.as_u64().ok_or(Fault::Shape(item))?),
-            _ => return Err(Fault::Shape(item)),
-        })
+fn event(names: &Names, value: &Value, item: usize) -> Res<Event> {
+    let array = value.as_array().ok_or(Fault::Shape(item))?;
+    let [Value::String(subject), Value::String(word), rest @ ..] = array.as_slice() else {
+        return Err(Fault::Shape(item));
+    };
+    let n = *names.subjects.get(subject.as_str()).ok_or(Fault::Name(item))?;
+    if n < 1000 {
+        names.operation(n, word, rest, item)
+    } else {
+        names.question(n - 1000, word, rest, item)
     }
 }
 
@@ -151,7 +47,7 @@ pub fn walk() -> Res<()> {
         }
         let mut events = Vec::with_capacity(array.len());
         for (n, item) in array.iter().enumerate() {
-            events.push(names.event(item, n + 1)?);
+            events.push(event(&names, item, n + 1)?);
         }
         let envs = agents.len();
         methods = list.into_iter().map(str::to_owned).collect::<Vec<String>>();
@@ -161,7 +57,7 @@ pub fn walk() -> Res<()> {
         let mut machine = Machine {
             limits,
             threads: (0..threads).map(|_| Thread::new(envs)).collect(),
-            envs: (0..envs).map(|_| Env { caps: 0, spent: vec![0; threads], word: 0 }).collect(),
+            envs: (0..envs).map(|_| Env::new(threads)).collect(),
         };
         let mut all: Vec<Outcome> = Vec::with_capacity(events.len());
         for (at, event) in events.iter().enumerate() {
