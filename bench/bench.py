@@ -5,11 +5,19 @@ For each document and size it prints how many items it has and how many bytes we
 millions of instructions, where they can be counted, the seconds of processor time and of wall time (the least of three
 runs), and the peak memory. Growth is to be linear: four times the size, four times the instructions.
 
-    bench/bench.py [--callgrind] [PROGRAM..]    crates/tiwalk/out/tiwalk by default: `make run` builds it
+Live scripts (`live_documents.py`) come last. Their threads wait for each other, so their instructions are not counted:
+the programs take turns for fifteen runs each, and the least counts. What a run writes depends on its schedule, and a run
+that wrote less than three quarters of the most is left out, since its agents came before the threads had begun.
+
+    bench/bench.py [--callgrind] [--live] [PROGRAM..]
+
+`make run` builds crates/tiwalk/out/tiwalk, the program by default. Where bench/plain/target/release/plain is there, too,
+it stands beside it (`plain/src/main.rs` says how it is built). `--live` leaves out all but the live scripts.
 
 Instructions are counted by `perf stat`, or by valgrind's callgrind where `--callgrind` asks for it (some minutes); `-`
 stands where nothing counts them. Of several programs the columns stand side by side, so that one tree is compared with
-another; `-` stands for a document that a program refuses.
+another; `-` stands for a document that a program refuses. Of two programs each line ends with the ratios of the first to
+the second, of processor time and of memory.
 """
 
 import dataclasses
@@ -23,7 +31,15 @@ import sys
 import tempfile
 import time
 
+sys.dont_write_bytecode = True
+
+import live_documents
+
 EVENTS = 65536
+RUNS = 3
+LIVE_RUNS = 15
+TIWALK = "crates/tiwalk/out/tiwalk"
+PLAIN = "bench/plain/target/release/plain"
 PARTS = (8, 4, 2, 1)
 AGENTS = [f"a{n}" for n in range(8)]
 
@@ -186,15 +202,38 @@ def millions(count, program, arguments, path):
     return int(re.search(pattern, done.stderr.decode(), re.M)[1].replace(",", "")) / 1e6
 
 
-def columns(count, program, arguments, path):
-    """The columns of one program, and how much it wrote."""
-    runs = [run(program, arguments, path) for _ in range(3)]
-    if None in runs:
-        return f"{'-':>10} {'-':>8} {'-':>8} {'-':>8}", None
-    seconds, wall, memory = (min(getattr(cost, name) for cost in runs) for name in ("seconds", "wall", "memory"))
-    counted = millions(count, program, arguments, path)
+def least(costs):
+    """The least seconds, wall time and memory of some runs; None where there is none."""
+    return Cost(*(min(getattr(cost, field.name) for cost in costs) for field in dataclasses.fields(Cost))) if costs else None
+
+
+def measured(programs, arguments, path):
+    """The least that each program took, and the most that was written."""
+    is_live = arguments == ["live"]
+    costs = [[] for _ in programs]
+    for _ in range(LIVE_RUNS if is_live else RUNS):
+        for program, its in zip(programs, costs):
+            its.append(run(program, arguments, path))
+    written = max((cost.written for its in costs for cost in its if cost), default="-")
+    return [least([cost for cost in its if cost and 4 * cost.written >= 3 * written]) for its in costs], written
+
+
+def columns(cost, counted):
+    """The columns of one program."""
+    if not cost:
+        return f"{'-':>10} {'-':>8} {'-':>8} {'-':>8}"
     first = "-" if counted is None else f"{counted:.1f}"
-    return f"{first:>10} {seconds:8.3f} {wall:8.3f} {memory:8}", runs[0].written
+    return f"{first:>10} {cost.seconds:8.3f} {cost.wall:8.3f} {cost.memory:8}"
+
+
+def ratios(costs):
+    """The columns of the ratios, where there are two programs."""
+    if len(costs) != 2:
+        return []
+    if None in costs:
+        return [f"{'-':>8} {'-':>8}"]
+    ours, others = costs
+    return [f"{ours.seconds / others.seconds:8.2f} {ours.memory / others.memory:8.2f}"]
 
 
 DOCUMENTS = (
@@ -208,6 +247,14 @@ DOCUMENTS = (
     ("asked history", asked, ["check"]),
     ("262,144 entries", greatest, ["check"]),
 )
+LIVE = tuple((f"live: {name}", make, ["live"]) for name, make in live_documents.DOCUMENTS)
+
+
+def items_of(document):
+    """The events of a walk, the entries of a history, the operations and calls of a live script."""
+    if "walks" in document:
+        return sum(map(len, document["walks"])) + sum(map(len, document["calls"]))
+    return len(document.get("events", document.get("entries")))
 
 
 def write(make, part, path):
@@ -215,29 +262,32 @@ def write(make, part, path):
     document = make(part)
     with open(path, "w") as file:
         json.dump(document, file, separators=(",", ":"))
-    return len(document.get("events", document.get("entries")))
+    return items_of(document)
 
 
 def main():
     words = sys.argv[1:]
     count = counter("--callgrind" in words)
-    programs = [os.path.abspath(word) for word in words if word != "--callgrind"] or [os.path.abspath("crates/tiwalk/out/tiwalk")]
+    programs = [os.path.abspath(word) for word in words if not word.startswith("--")]
+    programs = programs or [os.path.abspath(TIWALK), *filter(os.path.isfile, [os.path.abspath(PLAIN)])]
     for program in programs:
         if not os.path.isfile(program):
             sys.exit(f"there is no {program}: `make run` builds it")
         print(f"program: {program}")
-    heads = f"{'M instr.':>10} {'seconds':>8} {'wall':>8} {'peak KB':>8}"
-    print(f"{'document':16} {'part':>5} {'items':>8} {'written':>10}", *[heads] * len(programs), sep=" | ")
+    heads = [f"{'M instr.':>10} {'seconds':>8} {'wall':>8} {'peak KB':>8}"] * len(programs)
+    heads += [f"{'time':>8} {'memory':>8}"] if len(programs) == 2 else []
+    print(f"{'document':17} {'part':>5} {'items':>8} {'written':>10}", *heads, sep=" | ")
     # documents are made in a process of their own, since a run's peak is at least what this one has
     with multiprocessing.Pool(1) as maker, tempfile.TemporaryDirectory() as room:
         path = os.path.join(room, "document.json")
-        for name, make, arguments in DOCUMENTS:
+        for name, make, arguments in LIVE if "--live" in words else DOCUMENTS + LIVE:
             for part in PARTS:
                 items = maker.apply(write, (make, part, path))
-                found = [columns(count, program, arguments, path) for program in programs]
-                written = next((size for _, size in found if size is not None), "-")
-                line = f"{name:16} {'1/' + str(part):>5} {items:8} {written:>10}"
-                print(line, *[text for text, _ in found], sep=" | ", flush=True)
+                costs, written = measured(programs, arguments, path)
+                counts = [None if arguments == ["live"] or not cost else millions(count, program, arguments, path)
+                          for program, cost in zip(programs, costs)]
+                line = f"{name:17} {'1/' + str(part):>5} {items:8} {written:>10}"
+                print(line, *map(columns, costs, counts), *ratios(costs), sep=" | ", flush=True)
 
 
 if __name__ == "__main__":
