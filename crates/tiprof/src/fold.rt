@@ -1,0 +1,114 @@
+//! Stacks, and how often each was seen.
+ghost use Rattle.std.specs.Prelude.{◌≡◌, ◌+◌, OnOk, OnErr, IfOk};
+ghost use Rattle.tiprof.specs.Folds.{counts_of};
+
+use std::alloc::{AllocError, Global};
+use ti_types::{Frame, MethodNo};
+
+/// A stack that was seen, and how often.
+#[derive(Drop)]
+pub struct Folded {
+    /// Its methods, the newest first.
+    methods: Vec<MethodNo>,
+    count: u64,
+}
+
+impl Folded {
+    /// A stack that was seen once.
+    fn new(alloc: Global, frames: &[Frame]) -> Result<Self, AllocError>
+        ensures once { IfOk result (λ f. f.count ≡ 1) }
+    {
+        let mut methods = Vec::with_capacity(alloc, frames.len())?;
+        for frame in frames {
+            methods.push(frame.method)?;
+        }
+        Ok(Folded { methods, count: 1 })
+    }
+
+    /// Whether it has the methods of these frames.
+    fn is_of(&self, frames: &[Frame]) -> bool {
+        if self.methods.len() != frames.len() {
+            return false;
+        }
+        for (method, frame) in self.methods.iter().zip(frames.iter()) {
+            if *method != frame.method {
+                return false;
+            }
+        }
+        true
+    }
+
+    /// Its methods, the newest first.
+    pub fn methods(&self) -> &[MethodNo] {
+        &self.methods
+    }
+
+    /// How often it was seen.
+    pub fn count(&self) -> u64
+        ensures { result ≡ self.now.count }
+    {
+        self.count
+    }
+}
+
+/// All stacks that were seen.
+#[derive(Drop)]
+pub struct Fold {
+    stacks: Vec<Folded>,
+    /// How many were folded.
+    total: u64,
+    ghost sums: { counts_of stacks.items ≡ total },
+}
+
+impl Fold {
+    /// None yet.
+    pub fn new(alloc: Global) -> Self
+        ensures none { result.total ≡ 0 }
+    {
+        Fold {
+            stacks: Vec::new(alloc),
+            total: 0,
+        }
+    }
+
+    /// Where a stack of these frames is, if it was seen.
+    fn place_of(&self, frames: &[Frame]) -> Option<usize> {
+        self.stacks.iter().position(|folded| folded.is_of(frames))
+    }
+
+    #[tactic(auto, using(crate::proofs::FoldLaws::one_more))]
+    /// One more stack, its newest frame first. An error where there is no memory, and then nothing has changed.
+    pub fn add(&mut self, alloc: Global, frames: &[Frame]) -> Result<(), AllocError>
+        ensures more { OnOk result (self.new.total ≡ self.old.total + 1) }
+        ensures unchanged { OnErr result (self.new.total ≡ self.old.total) }
+        ensures same { OnErr result (self.new.stacks.items ≡ self.old.stacks.items) }
+    {
+        let Some(total) = self.total.checked_add(1) else {
+            return Err(AllocError);
+        };
+        for i in 0..self.stacks.len() {
+            if self.stacks[i].is_of(frames) {
+                self.stacks[i].count += 1;
+                self.total = total;
+                return Ok(());
+            }
+        }
+        self.stacks.push(Folded::new(alloc, frames)?)?;
+        self.total = total;
+        Ok(())
+    }
+
+    /// The stacks, in the order in which they were first seen.
+    pub fn stacks(&self) -> &[Folded]
+        ensures { counts_of result.now ≡ self.now.total }
+    {
+        &self.stacks
+    }
+
+    /// How many stacks were folded: the sum of the counts.
+    pub fn total(&self) -> u64
+        ensures { result ≡ self.now.total }
+    {
+        self.total
+    }
+}

@@ -1,0 +1,156 @@
+//! A worker's side of its own thread: which method it is in, and where it may be stopped.
+ghost use Rattle.std.specs.Prelude.{◌≡◌, IfOk, IfSome};
+
+use crate::method::Method;
+use std::marker::Model;
+use std::rt::Clock;
+use std::sync::Wait;
+use std::thread;
+use std::time::Duration;
+use ti_cell::{OwnSeat, ThreadCell};
+use ti_handshake::{AtSafe, Fresh, Polled, Running};
+use ti_types::{Kind, Step};
+
+/// The thread has no entries left (208), or is too deep (201): it computes no more.
+#[derive(Clone, Copy, Debug, PartialEq, Eq)]
+pub struct Spent;
+
+/// A thread that computes. Contracts see it as its cell.
+#[derive(Drop)]
+pub struct Worker<'a> {
+    cell: &'a ThreadCell,
+    /// `None` while it is in native code or blocked.
+    running: Option<Running<'a>>,
+}
+
+impl<'a> Model for Worker<'a> {
+    ghost use Rattle.atomic_table.specs.Seated.{TableId};
+    ghost use Rattle.tiprof.specs.Workers.{RunsAt};
+
+    ghost Value = { TableId };
+
+    ghost view = { λ w. w.cell.now };
+
+    ghost invariant = { λ w. RunsAt w.cell.now w.running };
+}
+
+impl<'a> Worker<'a> {
+    /// Starts the thread of a cell. It waits while a stop stands.
+    pub fn start<R: Wait>(rt: &R, cell: &'a ThreadCell, fresh: Fresh<'a>) -> Worker<'a>
+        requires cell { fresh.cell ≡ cell.now }
+        ensures cell { result ≡ cell.now }
+    {
+        Worker {
+            cell,
+            running: Some(fresh.start(rt)),
+        }
+    }
+
+    /// Makes a step. It never waits.
+    fn step(&mut self, step: Step) -> Result<(), Spent>
+        ensures same { self.new ≡ self.old }
+    {
+        let Some(running) = &mut self.running else {
+            return Err(Spent);
+        };
+        match running.step(step) {
+            Ok(()) => Ok(()),
+            Err(_) => Err(Spent),
+        }
+    }
+
+    /// Enters a method.
+    pub fn enter(&mut self, method: Method) -> Result<(), Spent>
+        ensures same { self.new ≡ self.old }
+    {
+        self.step(Step::Enter(method.number()))
+    }
+
+    /// Leaves the newest method.
+    pub fn leave(&mut self) -> Result<(), Spent>
+        ensures same { self.new ≡ self.old }
+    {
+        self.step(Step::Leave)
+    }
+
+    /// A place where the thread may be stopped: one load where nobody calls for it. Otherwise it hands its frames over,
+    /// and waits while it is held.
+    pub fn poll<R: Wait>(&mut self, rt: &R)
+        ensures same { self.new ≡ self.old }
+    {
+        if let Some(running) = &mut self.running {
+            if running.poll_clear() {
+                return;
+            }
+        }
+        self.hand_over(rt);
+    }
+
+    /// Hands the frames over, and goes on once it may.
+    fn hand_over<R: Wait>(&mut self, rt: &R)
+        ensures same { self.new ≡ self.old }
+    {
+        let Some(running) = self.running.take() else {
+            return;
+        };
+        self.running = match running.poll(rt) {
+            Polled::Go(running) => Some(running),
+            Polled::Held(held) => Some(held.back(rt)),
+        };
+    }
+
+    /// Enters a native method and goes into native code. The thread may be stopped and read from here on, until it
+    /// comes back.
+    pub fn native<R: Wait>(&mut self, rt: &R, method: Method) -> Result<AtSafe<'a>, Spent>
+        ensures same { self.new ≡ self.old }
+        ensures cell { IfOk result (λ away. away.cell ≡ self.old) }
+    {
+        self.step(Step::EnterNative(method.number()))?;
+        let Some(running) = self.running.take() else {
+            return Err(Spent);
+        };
+        match running.native(rt) {
+            Ok(away) => Ok(away),
+            Err((_error, running)) => {
+                self.running = Some(running);
+                Err(Spent)
+            }
+        }
+    }
+
+    /// Comes back out of native code, or from a block, once it may.
+    pub fn back<R: Wait>(&mut self, rt: &R, away: AtSafe<'a>)
+        requires cell { away.cell ≡ self.old }
+        ensures same { self.new ≡ self.old }
+    {
+        self.running = Some(away.back(rt));
+    }
+
+    /// Sleeps, blocked as Java's Thread.sleep is.
+    pub fn sleep<R: Wait + Clock>(&mut self, rt: &R, time: Duration) -> Result<(), Spent>
+        ensures same { self.new ≡ self.old }
+    {
+        let Some(running) = self.running.take() else {
+            return Err(Spent);
+        };
+        match running.block(rt, Kind::Sleep) {
+            Ok(away) => {
+                thread::sleep(rt, time);
+                self.running = Some(away.back(rt));
+                Ok(())
+            }
+            Err((_error, running)) => {
+                self.running = Some(running);
+                Err(Spent)
+            }
+        }
+    }
+
+    /// Ends the thread. Its seat, for the end of its cell.
+    pub fn end<R: Wait>(self, rt: &R) -> Option<OwnSeat>
+        ensures cell { IfSome result (λ s. s.cell ≡ self.entry) }
+    {
+        let Worker { cell: _, running } = self;
+        Some(running?.end(rt).into_seat())
+    }
+}

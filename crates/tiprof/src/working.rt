@@ -1,0 +1,123 @@
+//! What the workers do: one job after another, until the sampling is over or their entries are spent.
+ghost use Rattle.std.specs.Prelude.{◌≡◌};
+
+use crate::method::Method;
+use crate::sampling::Shared;
+use crate::search::search;
+use crate::worker::{Spent, Worker};
+use std::rt::Clock;
+use std::sync::Wait;
+use std::thread;
+use std::thread::Threads;
+use std::time::{CpuClock, Duration};
+use ti_cell::ThreadCell;
+use ti_handshake::Fresh;
+
+/// A worker that has not started.
+#[derive(Drop)]
+pub struct NewWorker<'a> {
+    pub cell: &'a ThreadCell,
+    pub fresh: Fresh<'a>,
+    pub number: u32,
+    pub ghost here: { fresh.cell ≡ cell.now },
+}
+
+/// What a worker did.
+#[derive(Clone, Copy, Drop)]
+pub struct Worked {
+    jobs: u64,
+    cpu: u64,
+}
+
+/// So many microseconds a worker sleeps between two rounds.
+const REST: u64 = 500;
+
+/// One job.
+fn job<R: Wait + Clock + AllocGlobal>(
+    rt: &R,
+    worker: &mut Worker<'_>,
+    turn: u32,
+    text: &[u8],
+) -> Result<(), Spent> {
+    match turn % 2 {
+        0 => {
+            let _ways = search(rt, worker)?;
+        }
+        _ => {
+            worker.enter(Method::Rest)?;
+            worker.sleep(rt, Duration::from_micros(REST))?;
+            worker.leave()?;
+        }
+    }
+    Ok(())
+}
+
+/// One job after another. How many were done.
+fn jobs<R: Wait + Clock + AllocGlobal>(
+    rt: &R,
+    shared: &Shared,
+    worker: &mut Worker<'_>,
+    number: u32,
+    text: &[u8],
+) -> u64 {
+    if worker.enter(Method::Worker).is_err() {
+        return 0;
+    }
+    let mut done: u64 = 0;
+    for turn in number..u32::MAX {
+        if shared.is_over() || job(rt, worker, turn, text).is_err() {
+            return done;
+        }
+        done = done.saturating_add(1);
+    }
+    done
+}
+
+/// A worker's life.
+fn work<R: Wait + Clock + CpuClock + AllocGlobal>(
+    rt: &R,
+    shared: &Shared,
+    work: NewWorker<'_>,
+    text: &[u8],
+) -> Worked {
+    let NewWorker {
+        cell,
+        fresh,
+        number,
+    } = work;
+    let began = rt.thread_cpu_time();
+    let mut worker = Worker::start(rt, cell, fresh);
+    let jobs = jobs(rt, shared, &mut worker, number, text);
+    let _seat = worker.end(rt);
+    let cpu = match (began, rt.thread_cpu_time()) {
+        (Ok(began), Ok(ended)) => ended.saturating_sub(began).as_nanos(),
+        _ => 0,
+    };
+    shared.note_done();
+    Worked {
+        jobs,
+        cpu: u64::try_from(cpu).unwrap_or(u64::MAX),
+    }
+}
+
+/// All workers, each on a thread of its own: how many jobs they did, and the nanoseconds of the processor that they spent.
+pub fn work_all<R: Threads + Wait + Sync + Clock + CpuClock + AllocGlobal>(
+    rt: &R,
+    shared: &Shared,
+    works: Vec<NewWorker<'_>>,
+    text: &[u8],
+) -> Option<(u64, u64)> {
+    let worked = thread::map_vec(
+        rt,
+        works,
+        &|one: NewWorker<'_>| -> Worked { work(rt, shared, one, text) },
+    )
+    .ok()?;
+    let mut jobs: u64 = 0;
+    let mut cpu: u64 = 0;
+    for one in worked.iter() {
+        jobs = jobs.saturating_add(one.jobs);
+        cpu = cpu.saturating_add(one.cpu);
+    }
+    Some((jobs, cpu))
+}
