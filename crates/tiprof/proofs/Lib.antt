@@ -1,2 +1,3 @@
 pub mod StationLaws
 pub mod FoldLaws
+pub mod AskedLaws

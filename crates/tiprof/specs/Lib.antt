@@ -1,3 +1,5 @@
 pub mod Workers
 pub mod Stations
 pub mod Folds
+pub mod Asked
+pub mod Flames

@@ -1,19 +1,33 @@
 //! `tiprof`: a sampling profiler of threads that compute, over `ti_agent`.
+//!
+//! So many workers, each on a thread of its own, parse a document, sort numbers, search and sleep in turn, with a frame for
+//! each method. Environments on one more thread take the stacks of all of them at an interval, until there are enough
+//! samples, or all workers are done: a worker has 65,536 entries of its own. Then it writes folded stacks to standard
+//! output, or with `--svg` a flame graph, and to standard error a line with what was done.
+//!
+//! At most 16,384 samples are taken: each of 32 environments has 1,024 calls at each thread, and a sample costs two of
+//! them. The status is 0, or 1 where memory is wanting or a line cannot be written, and 2, with a line of usage on standard
+//! error, for arguments that ask for nothing of this.
 #![tactic(auto)]
 
+mod flame;
 mod fold;
 mod folded;
 mod method;
 mod options;
+mod parse;
 mod sampling;
 mod search;
 mod session;
+mod sort;
 mod station;
 mod worker;
 mod working;
 
+use crate::flame::flame_of;
 use crate::folded::lines_of;
 use crate::options::{Options, options_of};
+use crate::parse::document;
 use crate::sampling::SAMPLES_EACH;
 use crate::session::{Ran, run};
 use std::env;
@@ -43,13 +57,19 @@ fn sampled<R: Threads + Wait + Sync + Clock + CpuClock + Eprint + AllocGlobal>(
     rt: &R,
     options: Options,
 ) -> Option<Ran> {
-    run(rt, limits_of(options)?, options, &[])
+    let text = document(rt.alloc()).ok()?;
+    run(rt, limits_of(options)?, options, text.as_bytes())
 }
 
 /// Writes what came of it.
 fn report<R: Print + Eprint + AllocGlobal>(rt: &R, options: Options, ran: &Ran) -> Option<()> {
-    for line in lines_of(rt.alloc(), &ran.sampled.fold).ok()? {
-        println!(rt; "{line}").ok()?;
+    if options.svg {
+        let picture = flame_of(rt.alloc(), &ran.sampled.fold).ok()?;
+        println!(rt; "{picture}").ok()?;
+    } else {
+        for line in lines_of(rt.alloc(), &ran.sampled.fold).ok()? {
+            println!(rt; "{line}").ok()?;
+        }
     }
     eprintln!(rt;
         "tiprof: {} samples of {} threads in {} ms; {} live threads seen, {} stacks folded; {} jobs, {} us of processor",

@@ -11,7 +11,7 @@ use ti_cell::{OwnSeat, ThreadCell};
 use ti_handshake::{AtSafe, Fresh, Polled, Running};
 use ti_types::{Kind, Step};
 
-/// The thread has no entries left (208), or is too deep (201): it computes no more.
+/// The thread has no entries left (208), is too deep (201), or has no memory: it computes no more.
 #[derive(Clone, Copy, Debug, PartialEq, Eq)]
 pub struct Spent;
 

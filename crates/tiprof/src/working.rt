@@ -2,8 +2,10 @@
 ghost use Rattle.std.specs.Prelude.{◌≡◌};
 
 use crate::method::Method;
+use crate::parse::parse;
 use crate::sampling::Shared;
-use crate::search::search;
+use crate::search::{WAYS, search};
+use crate::sort::sort;
 use crate::worker::{Spent, Worker};
 use std::rt::Clock;
 use std::sync::Wait;
@@ -32,40 +34,44 @@ pub struct Worked {
 /// So many microseconds a worker sleeps between two rounds.
 const REST: u64 = 500;
 
-/// One job.
+/// One job: whether it came to what it should.
 fn job<R: Wait + Clock + AllocGlobal>(
     rt: &R,
     worker: &mut Worker<'_>,
     turn: u32,
     text: &[u8],
-) -> Result<(), Spent> {
-    match turn % 2 {
-        0 => {
-            let _ways = search(rt, worker)?;
-        }
+) -> Result<bool, Spent>
+    ensures same { worker.new ≡ worker.old }
+{
+    match turn % 4 {
+        0 => Ok(parse(rt, worker, text)?.whole),
+        1 => sort(rt, rt.alloc(), worker, turn),
+        2 => Ok(search(rt, worker)? == WAYS),
         _ => {
             worker.enter(Method::Rest)?;
             worker.sleep(rt, Duration::from_micros(REST))?;
             worker.leave()?;
+            Ok(true)
         }
     }
-    Ok(())
 }
 
-/// One job after another. How many were done.
+/// One job after another, until the sampling is over, or one does not come to what it should. How many were done.
 fn jobs<R: Wait + Clock + AllocGlobal>(
     rt: &R,
     shared: &Shared,
     worker: &mut Worker<'_>,
     number: u32,
     text: &[u8],
-) -> u64 {
+) -> u64
+    ensures same { worker.new ≡ worker.old }
+{
     if worker.enter(Method::Worker).is_err() {
         return 0;
     }
     let mut done: u64 = 0;
     for turn in number..u32::MAX {
-        if shared.is_over() || job(rt, worker, turn, text).is_err() {
+        if shared.is_over() || job(rt, worker, turn, text) != Ok(true) {
             return done;
         }
         done = done.saturating_add(1);

@@ -13,8 +13,8 @@ loop-i-preserved c =
     let count = k.count in
     let fewer : length c.pop.new.self.items ≡ c.args.limits.threads - 1 - length c.loop-i.stations.items = omega (arith, one, few, count) in
     let all : AreStations c.args.limits c.push_reserved.new.self.items =
-        subst (λ l. AreStations c.args.limits l) (sym c.push_reserved.ensures.items)
-            (stations_more c.args.limits c.loop-i.stations.items _ k.stations (c.occupy-station.ensures.about ∙ last.2 ∙ ap (λ n. subject_of c.args.limits (record { 0 = n })) fewer)) in
+    subst (λ l. AreStations c.args.limits l) (sym c.push_reserved.ensures.items)
+    (stations_more c.args.limits c.loop-i.stations.items _ k.stations (c.occupy-station.ensures.about ∙ last.2 ∙ ap (λ n. subject_of c.args.limits (record { 0 = n })) fewer)) in
     record {
       room = search rules;
       also = search rules;

@@ -1,0 +1,274 @@
+//! A JSON parser, which keeps of a document how many numbers it has and what they sum up to.
+ghost use Rattle.std.specs.Prelude.{◌≡◌};
+
+use crate::method::Method;
+use crate::worker::{Spent, Worker};
+use std::alloc::{AllocError, Global};
+use std::fmt::Write;
+use std::sync::Wait;
+
+/// How deep arrays and objects may lie in one another.
+const DEPTH: u32 = 16;
+
+/// So many bytes lie between two polls.
+const STRIDE: usize = 64;
+
+/// What was found in a document.
+#[derive(Clone, Copy, Debug, PartialEq, Eq)]
+pub struct Found {
+    /// How many numbers, strings, arrays and objects there are.
+    pub values: u64,
+    /// The sum of the numbers, which wraps.
+    pub sum: u64,
+    /// Whether the text has a value, and nothing but white space behind it.
+    pub whole: bool,
+}
+
+/// A document, and how far it was read.
+#[derive(Drop)]
+struct Reader<'t> {
+    text: &'t [u8],
+    at: usize,
+    values: u64,
+    sum: u64,
+}
+
+impl<'t> Reader<'t> {
+    /// The byte that comes next: 0 at the end.
+    fn peek(&self) -> u8 {
+        match self.text.get(self.at) {
+            Some(byte) => *byte,
+            None => 0,
+        }
+    }
+
+    /// Goes past a byte.
+    fn advance(&mut self) {
+        self.at = self.at.saturating_add(1);
+    }
+
+    /// Goes past white space.
+    fn skip_space(&mut self) {
+        for _ in self.at..self.text.len() {
+            match self.peek() {
+                b' ' | b'\n' | b'\t' | b'\r' => self.advance(),
+                _ => return,
+            }
+        }
+    }
+
+    /// Goes past white space and this byte. Whether it was there.
+    fn eat(&mut self, byte: u8) -> bool {
+        self.skip_space();
+        let there = self.peek() == byte;
+        if there {
+            self.advance();
+        }
+        there
+    }
+
+    /// Goes past the digits of a number.
+    fn number(&mut self) {
+        let mut number: u64 = 0;
+        for _ in self.at..self.text.len() {
+            let byte = self.peek();
+            if !byte.is_ascii_digit() {
+                break;
+            }
+            number = number.wrapping_mul(10).wrapping_add(u64::from(byte - b'0'));
+            self.advance();
+        }
+        self.sum = self.sum.wrapping_add(number);
+    }
+
+    /// Goes past the key of a member, and the colon behind it. Whether both were there.
+    fn key(&mut self) -> bool {
+        if !self.eat(b'"') {
+            return false;
+        }
+        for _ in self.at..self.text.len() {
+            let byte = self.peek();
+            self.advance();
+            if byte == b'"' {
+                return self.eat(b':');
+            }
+        }
+        false
+    }
+}
+
+/// Goes past the rest of a string. Whether it ends.
+fn parse_string<R: Wait>(
+    rt: &R,
+    worker: &mut Worker<'_>,
+    reader: &mut Reader<'_>,
+) -> Result<bool, Spent>
+    ensures same { worker.new ≡ worker.old }
+{
+    worker.enter(Method::ParseString)?;
+    let mut ends = false;
+    for i in reader.at..reader.text.len() {
+        if i % STRIDE == 0 {
+            worker.poll(rt);
+        }
+        let byte = reader.peek();
+        reader.advance();
+        if byte == b'"' {
+            ends = true;
+            break;
+        }
+        if byte == b'\\' {
+            reader.advance();
+        }
+    }
+    worker.leave()?;
+    Ok(ends)
+}
+
+#[cycle(parsing)]
+/// Goes past the rest of an array. Whether it is well formed.
+fn parse_array<R: Wait>(
+    rt: &R,
+    worker: &mut Worker<'_>,
+    reader: &mut Reader<'_>,
+    depth: u32,
+) -> Result<bool, Spent>
+    ensures same { worker.new ≡ worker.old }
+{
+    worker.enter(Method::ParseArray)?;
+    let mut well = reader.eat(b']');
+    if !well {
+        for _ in reader.at..reader.text.len() {
+            worker.poll(rt);
+            if !parse_value(rt, worker, reader, depth)? {
+                break;
+            }
+            if !reader.eat(b',') {
+                well = reader.eat(b']');
+                break;
+            }
+        }
+    }
+    worker.leave()?;
+    Ok(well)
+}
+
+#[cycle(parsing)]
+/// Goes past the rest of an object. Whether it is well formed.
+fn parse_object<R: Wait>(
+    rt: &R,
+    worker: &mut Worker<'_>,
+    reader: &mut Reader<'_>,
+    depth: u32,
+) -> Result<bool, Spent>
+    ensures same { worker.new ≡ worker.old }
+{
+    worker.enter(Method::ParseObject)?;
+    let mut well = reader.eat(b'}');
+    if !well {
+        for _ in reader.at..reader.text.len() {
+            worker.poll(rt);
+            if !reader.key() || !parse_value(rt, worker, reader, depth)? {
+                break;
+            }
+            if !reader.eat(b',') {
+                well = reader.eat(b'}');
+                break;
+            }
+        }
+    }
+    worker.leave()?;
+    Ok(well)
+}
+
+#[cycle(parsing)]
+/// Goes past a value. Whether it is well formed, and no deeper than that.
+fn parse_value<R: Wait>(
+    rt: &R,
+    worker: &mut Worker<'_>,
+    reader: &mut Reader<'_>,
+    depth: u32,
+) -> Result<bool, Spent>
+    ensures same { worker.new ≡ worker.old }
+{
+    if depth == 0 {
+        return Ok(false);
+    }
+    reader.skip_space();
+    reader.values = reader.values.wrapping_add(1);
+    match reader.peek() {
+        b'{' => {
+            reader.advance();
+            parse_object(rt, worker, reader, depth - 1)
+        }
+        b'[' => {
+            reader.advance();
+            parse_array(rt, worker, reader, depth - 1)
+        }
+        b'"' => {
+            reader.advance();
+            parse_string(rt, worker, reader)
+        }
+        byte => {
+            reader.number();
+            Ok(byte.is_ascii_digit())
+        }
+    }
+}
+
+/// Parses a document.
+pub fn parse<R: Wait>(rt: &R, worker: &mut Worker<'_>, text: &[u8]) -> Result<Found, Spent>
+    ensures same { worker.new ≡ worker.old }
+{
+    worker.enter(Method::Parse)?;
+    let mut reader = Reader {
+        text,
+        at: 0,
+        values: 0,
+        sum: 0,
+    };
+    let well = parse_value(rt, worker, &mut reader, DEPTH)?;
+    reader.skip_space();
+    worker.leave()?;
+    Ok(Found {
+        values: reader.values,
+        sum: reader.sum,
+        whole: well && reader.at >= text.len(),
+    })
+}
+
+/// Writes an array of numbers.
+fn write_series(text: &mut String, count: u32) -> Result<(), AllocError> {
+    text.push_str("[0")?;
+    for i in 1..count {
+        let number = i.wrapping_mul(7919) % 100_000;
+        write!(text, ", {number}")?;
+    }
+    text.push_str("]")
+}
+
+/// Writes a string of so many letters.
+fn write_letters(text: &mut String, count: u32) -> Result<(), AllocError> {
+    text.push_str("\"")?;
+    for _ in 0..count / 8 {
+        text.push_str("a letter")?;
+    }
+    text.push_str("\"")
+}
+
+/// A document of some 1,200,000 bytes, which is an object of few, but long, arrays and strings.
+pub fn document(alloc: Global) -> Result<String, AllocError> {
+    let mut text = String::new(alloc);
+    text.push_str("{\"series\": ")?;
+    write_series(&mut text, 80_000)?;
+    text.push_str(", \"inner\": {\"letters\": ")?;
+    write_letters(&mut text, 200_000)?;
+    text.push_str(", \"rows\": [")?;
+    write_series(&mut text, 20_000)?;
+    text.push_str(", ")?;
+    write_series(&mut text, 20_000)?;
+    text.push_str("]}, \"more\": ")?;
+    write_letters(&mut text, 200_000)?;
+    text.push_str("}")?;
+    Ok(text)
+}

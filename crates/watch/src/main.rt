@@ -1,0 +1,129 @@
+//! `watch`: a thread that computes, and an environment that suspends it, reads it, and lets it go.
+//!
+//! The thread adds up numbers in method 1 of method 0, and polls at each turn. The environment, on a thread of its own,
+//! suspends it, writes its state and its methods, the newest first, and resumes it; then the thread computes on until it
+//! is told to end. The status is 0, or 1 where memory is wanting, something was refused, or the lines cannot be written.
+#![tactic(auto)]
+
+ghost use Rattle.std.specs.Prelude.{◌≡◌, IfSome};
+ghost use Rattle.ti_cell.specs.View.{subject_of};
+ghost use Rattle.ti_cell.specs.Seats.{env_seats};
+ghost use Rattle.watch.specs.Seats.{IsNewSeat};
+
+use std::alloc::Global;
+use std::process::ExitCode;
+use std::sync::Wait;
+use std::sync::atomic::{AtomicBool, Ordering};
+use std::thread::{Threads, join};
+use ti_agent::Env;
+use ti_cell::{EnvSeat, ThreadCell};
+use ti_env::EnvState;
+use ti_handshake::{Desk, Fresh, Polled, Running};
+use ti_types::{Caps, EnvNo, Limits, MethodNo, Step, ThreadNo};
+
+const THREAD: ThreadNo = ThreadNo(0);
+
+/// Computes until it is told to end, and polls at each turn: one load where nobody calls for the thread. Where it is held,
+/// it waits until it may go on.
+fn compute<R: Wait>(rt: &R, over: &AtomicBool, running: Running<'_>) -> u64 {
+    let mut running = running;
+    let mut sum: u64 = 0;
+    for turn in 0..u64::MAX {
+        if over.load(Ordering::SeqCst) {
+            break;
+        }
+        sum = sum.wrapping_add(turn);
+        if !running.poll_clear() {
+            running = hand_over(rt, running);
+        }
+    }
+    let _ended = running.end(rt);
+    sum
+}
+
+/// Hands the frames over, so that calls which wait take place, and comes back once the thread may run.
+fn hand_over<'a, R: Wait>(rt: &R, running: Running<'a>) -> Running<'a> {
+    match running.poll(rt) {
+        Polled::Go(running) => running,
+        Polled::Held(held) => held.back(rt),
+    }
+}
+
+/// The environment of a seat.
+fn environment<'a>(
+    alloc: Global,
+    limits: Limits,
+    cell: &'a ThreadCell,
+    seat: EnvSeat,
+) -> Option<Env<'a>>
+    requires threads { limits.threads ≡ 1 }
+    requires envs { limits.envs ≡ 1 }
+    requires seat { IsNewSeat cell.now limits seat }
+{
+    let state = EnvState::new(alloc, limits).ok()?;
+    let mut desks = Vec::with_capacity(alloc, 1).ok()?;
+    desks.push_reserved(Desk::new(cell, seat));
+    Some(Env::new(EnvNo(0), state, desks))
+}
+
+/// Suspends the thread, writes what is to be seen of it, and lets it go. That the thread is suspended comes at its next
+/// poll, for which the call waits.
+fn inspect<R: Wait + Print + AllocGlobal>(rt: &R, env: Env<'_>) -> Option<()> {
+    let mut env = env;
+    env.add_capabilities(Caps::CAN_SUSPEND).ok()?;
+    env.suspend_thread(rt, THREAD).ok()?;
+    println!(rt; "state {:#x}", env.get_thread_state(rt, THREAD).ok()?).ok()?;
+    for frame in env
+        .get_stack_trace(rt, rt.alloc(), THREAD, 0, 8)
+        .ok()?
+        .frames()
+    {
+        println!(rt; "method {}", frame.method.0).ok()?;
+    }
+    env.resume_thread(rt, THREAD).ok()?;
+    println!(rt; "state {:#x}", env.get_thread_state(rt, THREAD).ok()?).ok()
+}
+
+/// The same, and then tells the thread to end.
+fn watch<R: Wait + Print + AllocGlobal>(rt: &R, over: &AtomicBool, env: Env<'_>) -> Option<()> {
+    let done = inspect(rt, env);
+    over.store(true, Ordering::SeqCst);
+    done
+}
+
+/// The seat of the one environment.
+fn only(cell: &ThreadCell, limits: Limits, seats: Vec<EnvSeat>) -> Option<EnvSeat>
+    requires seats { seats.items ≡ env_seats cell.now (subject_of limits (record { 0 = 0 })) 1 }
+    ensures seat { IfSome result (λ s. IsNewSeat cell.now limits s) }
+{
+    let _cell = cell;
+    let _limits = limits;
+    let mut seats = seats;
+    seats.pop()
+}
+
+/// A thread and its environment, each on a thread of its own.
+fn run<R: Threads + Wait + Sync + Print + AllocGlobal>(rt: &R) -> Option<()> {
+    let limits = Limits::new(1, 1, 4, 16, 1024)?;
+    let (cell, own, seats) = ThreadCell::make(rt.alloc(), limits, THREAD).ok()?;
+    let seat = only(&cell, limits, seats)?;
+    let env = environment(rt.alloc(), limits, &cell, seat)?;
+    let mut running = Fresh::new(&cell, own).start(rt);
+    running.step(Step::Enter(MethodNo(0))).ok()?;
+    running.step(Step::Enter(MethodNo(1))).ok()?;
+    let over = AtomicBool::new(false);
+    let over = &over;
+    let (_sum, done) = join(
+        rt,
+        move || -> u64 { compute(rt, over, running) },
+        move || -> Option<()> { watch(rt, over, env) },
+    );
+    done
+}
+
+fn main(rt: HostRuntime) -> ExitCode {
+    match run(&rt) {
+        Some(()) => ExitCode::from(0),
+        None => ExitCode::from(1),
+    }
+}
