@@ -1,6 +1,6 @@
 //! `peek`: where is a thread? One trace that waits for the thread's next poll, asked through a core.
 //!
-//! It writes the methods of the thread's stack, the newest first. The status is 0, or 1 where memory is wanting, something
+//! It writes the methods of the thread's stack, the newest first. The status is 0, or 1 where memory runs out, something
 //! was refused, or the lines cannot be written.
 #![tactic(auto)]
 

@@ -119,7 +119,7 @@ stops_go env mine = fold-append (stops_after env) false mine (Go env ∷ []) ∙
 go_costs : (env : EnvNo) (mine : List Entry) → calls_spent env (mine ++ Go env ∷ []) ≡ calls_spent env mine
 go_costs env mine = sum_by-append (call_cost env) mine (Go env ∷ []) ∙ omega arith
 
--- Behind the stops
+-- After the stops
 
 abbrev pub with_desks : Environment → EnvValue → List Place → Environment
 with_desks s state desks = record { env = s.env; state = state; desks = desks }
@@ -175,7 +175,7 @@ held_after_stops s l z ds whole distinct there paid spends each stand = record {
           | inr is ↦ unlisted i w.0 q is w.1 e
         ]
 
--- what is left to each thread of a list, behind the stops
+-- what is left to each thread of a list, after the stops
 pub left_in : (s z : EnvValue) (l : List ThreadNo) (stopping : Listed) → stopping ≡ each_once (length s.spent) l → are_there (length s.spent) l ≡ true → are_paid s stopping ≡ true → z ≡ spend_all s stopping → AreLeft z l
 left_in s z l stopping is there paid spends i =
     elim (cases_eq (times i l) 0) [
@@ -362,7 +362,7 @@ roomy_last limits m all rest b roomy is =
       λ k d h. subst (HasRoomFor limits (or_zero m)) (before_last rest b d k h) (whole k d (omega (arith, count, h))),
     )
 
--- Behind the gos
+-- After the gos
 
 pub whole_after_go : (s : Environment) (l : Listed) (ds : List Place) → AreHeld s l → AtEach l s.desks ds (λ e. Go e ∷ []) → IsWhole (with_desks s s.state ds)
 whole_after_go s l ds held each = record {

@@ -76,7 +76,7 @@ set_same (x ∷ xs) (suc i) v h = set_same xs i v (omega (arith, h))
 stops_call : (env : EnvNo) (mine : List Entry) (n : ℕ) (c : Call) → stops_by env (mine ++ Asked env n c ∷ []) ≡ stops_by env mine
 stops_call env mine n c = fold-append (stops_after env) false mine (Asked env n c ∷ [])
 
--- the environment behind a call
+-- the environment after a call
 abbrev pub after_call : Environment → ThreadNo → EnvValue → Place → Environment
 after_call s thread state q = record { env = s.env; state = state; desks = slice_set s.desks thread.0 q }
 

@@ -24,7 +24,7 @@ use Rattle.ti_vmop.specs.declared.standing.Round.{Round}
 use Rattle.ti_agent.specs.Env.{Environment}
 use Rattle.ti_types.specs.declared.stack.StackInfo.{StackInfo}
 
--- so many threads, in the order of their numbers
+-- this many threads, in the order of their numbers
 abbrev pub each_thread : ℕ → List ThreadNo
 each_thread zero = []
 each_thread (suc n) = each_thread n ++ (record { 0 = n }) ∷ []
@@ -39,7 +39,7 @@ abbrev pub times : ℕ → List ThreadNo → ℕ
 times i [] = 0
 times i (x ∷ threads) = if x.0 == i then suc (times i threads) else times i threads
 
--- a thread with so many reads to come, where there is one
+-- a thread with this many reads to come, where there is one
 abbrev pub where_some : ℕ → ℕ → Listed
 where_some i reads = if reads == 0 then [] else (record { 0 = i }, reads) ∷ []
 
@@ -69,7 +69,7 @@ refusal_of_list state threads max_count =
 abbrev pub refusal_of_counted : EnvValue → List ThreadNo → Option TiError
 refusal_of_counted state threads = unless (are_paid state (each_once (length state.spent) threads)) CallsSpent
 
--- A list was refused. Memory was wanting where no other refusal comes first; those of the calls that are left come only
+-- A list was refused. Memory ran out where no other refusal comes first; those of the calls that are left come only
 -- where there was memory to count
 pub record IsListRefused (state : EnvValue) (threads : List ThreadNo) (max_count : ℤ) (e : TiError) : Type 0 where
   pub counted : Bool
@@ -186,7 +186,7 @@ pub record IsNotCounted (state : EnvValue) (threads : List ThreadNo) (e : TiErro
   pub counted : Bool
   pub is : Some e ≡ (if counted then refusal_of_counted state threads else Some OutOfMemory)
 
--- how often each of so many threads is in a list, by their numbers
+-- how often each of this many threads is in a list, by their numbers
 pub record AreCounts (count : ℕ) (threads : List ThreadNo) (counts : List ℕ) : Type 0 where
   pub length_is : length counts ≡ count
   pub each : (i : ℕ) → i < count → slice_index counts i ≡ times i threads

@@ -9,7 +9,7 @@ use std::alloc::Global;
 use ti_env::EnvState;
 use ti_types::{ThreadNo, TiError};
 
-/// So many threads, in the order of their numbers.
+/// This many threads, in the order of their numbers.
 pub(crate) fn all_threads(alloc: Global, count: u32) -> Result<Vec<ThreadNo>, TiError>
     ensures all { IfOk result (λ v. v.items ≡ each_thread count) }
     ensures memory { IfErr result (λ e. e ≡ OutOfMemory) }
@@ -33,14 +33,14 @@ pub(crate) fn all_with_one_read(alloc: Global, count: u32) -> Result<Vec<(Thread
     Ok(list)
 }
 
-/// Whether there are all threads of a list, where there are so many.
+/// Whether there are all threads of a list, where there are this many.
 pub(crate) fn are_all_there(threads: &[ThreadNo], count: u32) -> bool
     ensures { result ≡ are_there count threads.now }
 {
     threads.iter().all(|thread| thread.0 < count)
 }
 
-/// Whether each of so many threads has a call left for its stop and one for its read.
+/// Whether each of this many threads has a call left for its stop and one for its read.
 pub(crate) fn are_all_paid(state: &EnvState, count: u32) -> bool
     ensures { result ≡ are_paid state.now (all_once count) }
 {

@@ -1,3 +1,4 @@
+//! An environment, its desks, and its calls at one thread by JVM TI's names.
 ghost use Rattle.std.specs.Prelude.{◌≡◌, ◌↔◌, ◌<◌, length, true, false, None, Some, Ok, IfOk, IfErr, OnOk, OnErr, IsOk};
 ghost use Rattle.ti_types.specs.Answer.{said};
 ghost use Rattle.ti_types.specs.Caps.{caps_with, caps_without, can_be_had, holds_all};

@@ -1,3 +1,4 @@
+//! Calls for a list of threads: all are posted, and only then collected.
 ghost use Rattle.std.specs.Prelude.{◌≡◌, ◌≤◌, [], length, vec_capacity, true, false, None, Some, IfOk, IfErr, OnOk, if◌then◌else◌};
 ghost use Rattle.ti_types.specs.Answer.{said};
 ghost use Rattle.ti_types.specs.Call.{needed_by};

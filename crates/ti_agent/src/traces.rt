@@ -20,7 +20,7 @@ use ti_handshake::Desk;
 use ti_types::{Answer, EnvNo, StackInfo, ThreadNo, TiError, TraceBuf};
 use ti_vmop::{Round, Standing, VmTurn, stop_all};
 
-/// So many empty buffers.
+/// This many empty buffers.
 fn buffers(
     alloc: Global,
     count: usize,

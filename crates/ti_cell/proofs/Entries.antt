@@ -32,7 +32,7 @@ pub made_by-other : (n k : ℕ) (es : List Entry) → n ≢ k → AllBy k es →
 made_by-other n k [] ne h = refl
 made_by-other n k (e ∷ es) ne h = ap (λ (b : Bool). cond b (e ∷ made_by n es) (made_by n es)) (ne_eqb (maker e) n (λ q. ne (sym q ∙ h.0))) ∙ made_by-other n k es ne h.1
 
--- a seat's own entries behind a history
+-- a seat's own entries after a history
 pub made_more : (n : ℕ) (history added : List Entry) → AllBy n added → made_by n (history ++ added) ≡ made_by n history ++ added
 made_more n history added h = made_by-append n history added ∙ ap (λ (l : List Entry). made_by n history ++ l) (made_by-own n added h)
 

@@ -1,3 +1,4 @@
+//! The cell of a thread: how it is made, looked at and closed, and how seats come back to it.
 ghost use Rattle.std.specs.Prelude.{◌≡◌, ◌+◌, true, false, [], ◌∷◌, length, ◌≤◌, IfOk, IfErr, IfSome, None};
 ghost use Rattle.ti_types.specs.declared.error.TiError.TheVariants as TiError;
 ghost use Rattle.ti_replay.specs.Legal.{is_legal};

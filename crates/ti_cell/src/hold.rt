@@ -1,3 +1,4 @@
+//! A hold: the slot is out of its cell, and with the one who holds.
 ghost use Rattle.std.specs.Prelude.{◌≡◌, true};
 ghost use Rattle.ti_replay.specs.Legal.{is_legal};
 ghost use Rattle.ti_replay.specs.Makers.{made_by, Adds, StartsWith};

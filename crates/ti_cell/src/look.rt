@@ -1,3 +1,4 @@
+//! What a look at a cell's word shows.
 /// What a load of a cell's word shows.
 #[derive(Clone, Copy, PartialEq, Eq, Debug)]
 pub struct Look {

@@ -1,3 +1,4 @@
+//! A slot as it lies in its cell.
 ghost use Rattle.std.specs.Prelude.{◌≡◌, length, true, IfOk, IfErr};
 ghost use Rattle.ti_types.specs.declared.error.TiError.TheVariants as TiError;
 ghost use Rattle.ti_replay.specs.Legal.{is_legal, is_armed};

@@ -1,3 +1,4 @@
+//! The borrowing half of a parked slot.
 ghost use Rattle.std.specs.Prelude.{◌≡◌};
 ghost use Rattle.std.specs.Borrow.{sem, follows};
 ghost use Rattle.ti_slot.specs.contracts.slot.Slot as slot_contracts;

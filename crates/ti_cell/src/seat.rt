@@ -1,3 +1,4 @@
+//! The seats at a cell: the owner's, and one for each environment.
 ghost use Rattle.std.specs.Prelude.{◌≡◌, [], true, false, length};
 ghost use Rattle.ti_replay.specs.Legal.{is_legal};
 ghost use Rattle.ti_replay.specs.Makers.{made_by};

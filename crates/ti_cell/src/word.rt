@@ -1,3 +1,4 @@
+//! The one word of a cell, bit by bit.
 ghost use Rattle.std.specs.Prelude.{◌≡◌, ◌≢◌, ◌+◌, ◌^◌, ◌<◌, ◌≤◌, ◌%◌, ◌==◌, false, None};
 ghost use Rattle.ti_cell.specs.Word.{word_at, look_of};
 

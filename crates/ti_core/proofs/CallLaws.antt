@@ -229,7 +229,7 @@ same_asks u k h q = let z : k.env.0 ≡ u.env.0 = grind (arith, nat_tests, q) in
 same_no : (u k : Ticket) → same k u ≡ true → k.no ≡ u.no
 same_no u k q = grind (arith, nat_tests, q)
 
--- the tickets behind a call
+-- the tickets after a call
 ask_known : (s : ThreadState) (e : EnvNo) (call : Call) (r : Option Answer) → ((u : Ticket) → has u s.thread.uncollected ≡ true → u.no < asked_by u.env s.thread.history)
     → (u : Ticket) → has u (tickets_after s.thread e r) ≡ true → u.no < asked_by u.env (s.thread.history ++ next_asked s.thread e call ∷ [])
 ask_known s e call (Some a) k u h = omega (arith, k u h, asked_more u.env s.thread.history (next_asked s.thread e call ∷ []))

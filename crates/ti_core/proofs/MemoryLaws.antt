@@ -1,4 +1,4 @@
--- A thread's own answer never says that memory was wanting.
+-- A thread's own answer never says that memory ran out.
 use Rattle.std.proofs.Common.{◌≡◌, ℕ, Bool, true, false, ◌==◌, List, [], ◌∷◌, ◌++◌, length, refl, arith, Option, Some, None, cond, inl, inr, slice_get, ℤ}
 use Rattle.std.proofs.lemmas.Bool.{cases_Bool}
 use Rattle.ti_types.specs.declared.limits.Limits.{Limits}

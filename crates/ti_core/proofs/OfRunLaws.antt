@@ -60,7 +60,7 @@ happenings-append [] ys (o ∷ os) ps h = absurd (omega (arith, h))
 happenings-append (x ∷ xs) ys [] ps h = absurd (omega (arith, h))
 happenings-append (x ∷ xs) ys (o ∷ os) ps h = ap (λ r. happening x o ∷ r) (happenings-append xs ys os ps (omega (arith, h)))
 
--- the outcome at a place behind a front
+-- the outcome at a place after a front
 at_place : (limits : Limits) (all front : List Happening) (before after : List Event) (x : Event) (os ps : List (Option Outcome)) (o : Option Outcome)
     → length before ≡ length os → map told_later (os ++ o ∷ ps) ≡ outs_from limits all front (happenings (before ++ x ∷ after) (os ++ o ∷ ps))
     → told_later o ≡ out_of limits all (front ++ happenings before os) (happening x o)
@@ -108,7 +108,7 @@ pops_here limits thread all front (x ∷ more) after (p ∷ ps) qs h e =
     let rest = pops_here limits thread all (front ++ happening x p ∷ []) more after ps qs (omega (arith, h)) (ap rest_of e) in
     ap₂ (λ o n. pop_count thread x o + n) (sym one) rest
 
--- and behind a front
+-- and after a front
 pops_at : (limits : Limits) (thread : ThreadNo) (all front : List Happening) (before more after : List Event) (os ps qs : List (Option Outcome))
     → length before ≡ length os → length more ≡ length ps → map told_later (os ++ (ps ++ qs)) ≡ outs_from limits all front (happenings (before ++ (more ++ after)) (os ++ (ps ++ qs)))
     → pops_done limits thread all (front ++ happenings before os) (happenings more ps) ≡ pops_told thread more ps

@@ -22,7 +22,7 @@ use Rattle.ti_replay.proofs.LateStepLaws.{called_keeps}
 use Rattle.ti_core.specs.Thread.{ThreadState, entries, seen, entered, at_poll, refusal_at, own_next, own_said, poll_next, poll_said}
 use Rattle.ti_replay.proofs.LoggedLaws.{steps-snoc}
 
--- an entry of the thread's own comes behind what is there
+-- an entry of the thread's own comes after what is there
 pub entries-snoc : (s : ThreadState) (x : Entry) → entries (entered s x) ≡ entries s ++ x ∷ []
 entries-snoc s (Own step) = steps-snoc s.thread.history s.steps step
 entries-snoc s Start = append-nil (s.thread.history ++ (steps_of s.steps ++ Start ∷ [])) ∙ sym (append_assoc s.thread.history (steps_of s.steps) (Start ∷ []))

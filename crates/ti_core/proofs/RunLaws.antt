@@ -240,7 +240,7 @@ tickets-append (Some (outcome.Refused error) ∷ os) ps = tickets-append os ps
 tickets-append (Some (outcome.Gave a) ∷ os) ps = tickets-append os ps
 tickets-append (Some (outcome.Posted k) ∷ os) ps = ap (λ ks. k ∷ ks) (tickets-append os ps)
 
--- the tickets of a run behind one more event
+-- the tickets of a run after one more event
 record HasTickets (s : CoreState) (ks : List Ticket) : Type 0 where
   kept : are_uncollected s ks ≡ true
   once : AreOnce ks

@@ -34,7 +34,7 @@ use Rattle.ti_core.proofs.AdmitLaws.{Keeps, same_reach, where_known, moves}
 pub same_thread : (t u : ThreadNo) → u.0 ≡ t.0 → u ≡ t
 same_thread t u h = ap (λ (n : ℕ). record { 0 = n }) h
 
--- the history of a thread behind an own event
+-- the history of a thread after an own event
 own_history : (limits : Limits) (t u : ThreadNo) (n : ℕ) (history left : List Entry) (b : Bool) → n ≡ limits.threads
     → cond ((u.0 == t.0 && nat_lt t.0 limits.threads) || (false && b)) (history ++ left) history ≡ cond (u.0 == t.0 && nat_lt u.0 n) (history ++ left) history
 own_history limits t u n history left b h =
@@ -43,7 +43,7 @@ own_history limits t u n history left b h =
       | inr other ↦ grind (arith, nat_tests, other)
     ]
 
--- the history of a thread behind an agent's event
+-- the history of a thread after an agent's event
 agent_history : (limits : Limits) (t u : ThreadNo) (history left : List Entry) (why : Option TiError) (r : ThreadNo → Option TiError) → why ≡ r u
     → cond ((false && nat_lt t.0 limits.threads) || (u.0 == t.0 && is_none (r t))) (history ++ left) history ≡ cond (u.0 == t.0 && is_none why) (history ++ left) history
 agent_history limits t u history left why r h =
@@ -68,7 +68,7 @@ keeps events s e t k h =
 abbrev pub happened : Event → Bool → Happening
 happened event w = record { event = event; wanting = w }
 
--- the state of a thread behind an own event
+-- the state of a thread after an own event
 own_goes : (events : List Happening) (s : CoreState) (u : ThreadNo) (x : Entry) (t : ThreadNo) (history' : List Entry) → Stands events s → t.0 < s.limits.threads
     → history' ≡ cond (u.0 == t.0 && nat_lt u.0 (length s.threads)) (history_of s.limits t events ++ left_own s.limits (history_of s.limits t events) (Some x)) (history_of s.limits t events)
     → ThreadStands s.limits t history' (thread_at s.limits (stepped_own s.limits s.envs s.threads u x).threads t)

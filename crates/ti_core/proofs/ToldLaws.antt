@@ -46,7 +46,7 @@ own_told_goes events s u x k =
           rw (o, off) refl
     ]
 
--- the history behind a call that goes through
+-- the history after a call that goes through
 pub history_now : (events : List Happening) (limits : Limits) (u : ThreadNo) (h : Happening) → is_own_of u h.event ≡ false → is_aimed_at u h.event ≡ true
     → refusal limits (dealings_by limits (agent_of h.event) u events) h ≡ None → history_of limits u (events ++ h ∷ []) ≡ history_of limits u events ++ left_by limits (history_of limits u events) h.event
 history_now events limits u h o a r = history_of-snoc limits u events h ∙ rw (o, a, r) refl
@@ -207,7 +207,7 @@ new_env_stands limits e = record {
   word = refl;
 }
 
--- the core behind one more event
+-- the core after one more event
 pub stands_on : (events : List Happening) (s : CoreState) (h : Happening) → Stands events s → Stands (events ++ h ∷ []) (core_next s h)
 stands_on events s h k = record {
   thread_count = thread_length s h.wanting h.event ∙ k.thread_count;

@@ -58,7 +58,7 @@ finished_marks hs s (Some (outcome.Posted k)) r f u =
     let me : same k k ≡ true = grind (arith, nat_tests) in
     sym (later_memory r) ∙ ap was_for_memory (f (u k me)) ∙ reply_in_memory (new_thread s.limits) (map (λ p. p.1) (settled (history_of s.limits k.thread hs))) k
 
--- the tickets of an outcome and of those behind it
+-- the tickets of an outcome and of those after it
 head_kept : (s : CoreState) (o : Option Outcome) (os : List (Option Outcome)) (k : Ticket) → are_uncollected s (tickets (o ∷ os)) ≡ true → is_posted o k ≡ true → is_uncollected s k ≡ true
 head_kept s None os k h p = cc
 head_kept s (Some outcome.Done) os k h p = cc

@@ -117,7 +117,7 @@ whole_read t u f l env n (Some error) er k e legal = record {
       rw (el, eh) k.parts;
 }
 
--- whether a thread runs behind one more entry
+-- whether a thread runs after one more entry
 pub runs-snoc : (limits : Limits) (h : List Entry) (x : Entry) → is_running (view limits (h ++ x ∷ [])).mode ≡ runs_after (is_running (view limits h).mode) x
 runs-snoc limits h x =
     view_runs limits (h ++ x ∷ []) ∙ ap (runs_behind false) (placed-snoc h x)

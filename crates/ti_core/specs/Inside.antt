@@ -20,7 +20,7 @@ steps_in (Some l) = l.steps
 abbrev pub state_in : Thread → Option Steps → ThreadState
 state_in slot log = record { thread = slot; steps = steps_in log }
 
--- a thread that runs has its frames, which are those behind its logged steps, and each step may follow
+-- a thread that runs has its frames, which are those after its logged steps, and each step may follow
 pub record RunsWith (limits : Limits) (history : List Entry) (frames : Stack) (log : Steps) : Type 0 where
   pub runs : is_running (view limits history).mode ≡ true
   pub newest : frames.frames ≡ (view limits (history ++ steps_of log.steps)).frames

@@ -26,18 +26,18 @@ event_at env each.Stop t = event.Stop env t
 event_at env (each.Read max_count) t = event.Read env t max_count
 event_at env each.Go t = event.Go env t
 
--- the events for these threads, with the places where memory was wanting read off the outcomes
+-- the events for these threads, with the places where memory ran out read off the outcomes
 abbrev pub each_happened : (ThreadNo → Event) → List ThreadNo → List Outcome → List Happening
 each_happened event (t ∷ ts) (o ∷ os) = happening (event t) (told_now o) ∷ each_happened event ts os
 each_happened event [] os = []
 each_happened event (t ∷ ts) [] = []
 
--- an event behind those in front comes to this at once: what the definitions say, or its ticket
+-- an event after those in front comes to this at once: what the definitions say, or its ticket
 abbrev pub IsSaid : Limits → List Happening → Event → Outcome → Type 0
 IsSaid limits front x o =
     (told_now o ≡ out_of limits (front ++ happening x (told_now o) ∷ []) front (happening x (told_now o))) × IfPosted o (λ k. IsTicketBy limits front x k)
 
--- one outcome for each thread, each behind those before it
+-- one outcome for each thread, each after those before it
 abbrev pub AreSaid : Limits → List Happening → (ThreadNo → Event) → List ThreadNo → List Outcome → Type 0
 AreSaid limits front event [] [] = Unit {0}
 AreSaid limits front event [] (o ∷ os) = ⊥
@@ -62,7 +62,7 @@ abbrev pub AreFresh : CoreState → List Outcome → Type 0
 AreFresh s [] = Unit {0}
 AreFresh s (o ∷ os) = IfPosted o (λ k. is_uncollected s k ≡ false) × AreFresh s os
 
--- from one core to another by an event for each of these threads, each behind those before it
+-- from one core to another by an event for each of these threads, each after those before it
 pub record HappenedAtEach (event : ThreadNo → Event) (threads : List ThreadNo) (s new : CoreState) (os : List Outcome) : Type 0 where
   pub limits : new.limits ≡ s.limits
   pub stands : (events : List Happening) → Stands events s → Stands (events ++ each_happened event threads os) new

@@ -17,7 +17,7 @@ use Rattle.ti_env.specs.Env.{EnvValue}
 use Rattle.ti_core.specs.Thread.{ThreadState, entries, new_state}
 use Rattle.ti_core.specs.Core.{CoreState, thread_at, env_at, core_next, core_told}
 
--- a thread of a core whose history is this one: what lies in its slot, with the logged steps behind it, leaves the
+-- a thread of a core whose history is this one: what lies in its slot, with the logged steps after it, leaves the
 -- same state and replies the same to each ticket
 pub record ThreadStands (limits : Limits) (t : ThreadNo) (history : List Entry) (s : ThreadState) : Type 0 where
   pub limits_are : s.thread.limits ≡ limits
@@ -52,7 +52,7 @@ pub record IsNext (events : List Happening) (s : CoreState) (h : Happening) : Ty
   pub stands : Stands (events ++ h ∷ []) (core_next s h)
   pub told : core_told s h ≡ out_of s.limits (events ++ h ∷ []) events h
 
--- so many threads that have not started, each with its number
+-- this many threads that have not started, each with its number
 pub record AreNew (limits : Limits) (count : ℕ) (threads : List ThreadState) : Type 0 where
   pub count_is : length threads ≡ count
   pub each : (t : ThreadNo) → t.0 < count → thread_at limits threads t ≡ new_state limits t

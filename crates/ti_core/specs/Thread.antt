@@ -31,7 +31,7 @@ pub record ThreadState : Type 0 where
   pub thread : Thread
   pub steps : List Step
 
--- the history with the logged steps behind it
+-- the history with the logged steps after it
 abbrev pub entries : ThreadState → List Entry
 entries s = s.thread.history ++ steps_of s.steps
 

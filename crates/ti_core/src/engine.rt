@@ -1,3 +1,4 @@
+//! The core: how it is made, what each event comes to, and how answers are collected.
 ghost use Rattle.std.specs.Prelude.{◌≡◌, ◌<◌, ◌&&◌, ◌||◌, not, nat_lt, length, map, IfOk, IfErr, if◌then◌else◌, is_some, None, replicate, [], ◌∷◌, ◌++◌, List, true, false};
 ghost use Rattle.std.specs.Option.{option_map};
 ghost use Rattle.ti_types.specs.Answer.{said};
@@ -99,7 +100,7 @@ fn stands(limits: &Limits, threads: &[OneThread], env: EnvNo, thread: ThreadNo) 
 impl Core {
     /// A core in which nothing has happened, with all the room that it will need. No ticket of it is out.
     ///
-    /// 110 where memory is wanting; then nothing is made.
+    /// 110 where memory runs out; then nothing is made.
     #[tactic(auto, using(crate::proofs::NewLaws::new_stands, crate::proofs::NewLaws::none_out))]
     pub fn new(alloc: Global, limits: Limits) -> Result<Self, TiError>
         ensures limits { IfOk result (λ c. c.limits ≡ limits) }
@@ -158,7 +159,7 @@ impl Core {
     /// leaves every thread, what waits at it, all words and all capabilities as they were, and every history too, save
     /// the entry of an admitted call that the thread's own answer refuses. Such a call, and an admitted stop or read
     /// that is refused there, has cost 1 of the environment's calls at the thread; a call that is not admitted, and a
-    /// go, cost nothing. Memory is taken for a `Trace` and a `Read` alone; 110 where it is wanting, and the call then
+    /// go, cost nothing. Memory is taken for a `Trace` and a `Read` alone; 110 where it runs out, and the call then
     /// costs nothing.
     pub fn step(&mut self, alloc: Global, event: Event) -> Outcome
         ensures limits { self.new.limits ≡ self.old.limits }

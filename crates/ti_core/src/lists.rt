@@ -1,3 +1,4 @@
+//! Events for all threads and for lists of them, one after another.
 ghost use Rattle.std.specs.Prelude.{◌≡◌, IfOk, IfErr};
 ghost use Rattle.ti_types.specs.declared.call.Call.TheVariants as call;
 ghost use Rattle.ti_types.specs.declared.event.Event.TheVariants as event;
@@ -57,12 +58,12 @@ impl Core {
 
     /// SuspendThreadList (JVM TI 11): a `Suspend` at each thread of the list, in its order, each with its own outcome.
     ///
-    /// What comes of each is what `step` gives on that one event behind those before it: 116 where there is no such
+    /// What comes of each is what `step` gives on that one event after those before it: 116 where there is no such
     /// environment, 99 where it does not hold can_suspend, 10 where there is no such thread, 209 where no call is left
     /// there; then done, 15 at a thread that is not alive, 14 at one that is suspended, or its ticket where the thread
-    /// runs. An element that is refused stops none behind it, and a repeated thread is asked again.
+    /// runs. An element that is refused stops none after it, and a repeated thread is asked again.
     ///
-    /// 110 for the whole call where memory for the list of outcomes is wanting: then no event has happened, and the
+    /// 110 for the whole call where memory for the list of outcomes runs out: then no event has happened, and the
     /// core is as it was.
     pub fn suspend_list(
         &mut self,
@@ -110,11 +111,11 @@ impl Core {
         self.each(alloc, env, AtEach::Stop, threads)
     }
 
-    /// A read of at most so many of the newest frames under this environment's stop at each thread of the list, in its
+    /// A read of at most this many of the newest frames under this environment's stop at each thread of the list, in its
     /// order, each with its own outcome (this profile).
     ///
     /// As for `suspend_list`, with 116, 10, 103 where `max_count` is negative, 209, 110 where memory for the frames of
-    /// that read is wanting, 212 where the environment's stop does not stand, and 213 where the thread still runs.
+    /// that read runs out, 212 where the environment's stop does not stand, and 213 where the thread still runs.
     pub fn read_all(
         &mut self,
         alloc: Global,

@@ -1,3 +1,4 @@
+//! A whole list of events, with an outcome for each.
 ghost use Rattle.std.specs.Prelude.{◌≡◌, length, map, List, true, false, Some, None, IfOk, IfErr};
 ghost use Rattle.ti_replay.specs.Admission.{Happening};
 ghost use Rattle.ti_replay.specs.Outcomes.{told_later, was_for_memory, outs, happenings};
@@ -54,7 +55,7 @@ impl Core {
     /// Lets a whole list of events happen in a new core. There is one outcome for each event: what the definitions
     /// say of it among all of them, so a posted call has its answer, and none where it was left unanswered.
     ///
-    /// 110 where memory is wanting for the core or for the list of outcomes; then nothing is given.
+    /// 110 where memory runs out for the core or for the list of outcomes; then nothing is given.
     pub fn run(
         alloc: Global,
         limits: Limits,

@@ -1,3 +1,4 @@
+//! One event at the threads and environments of a core.
 ghost use Rattle.std.specs.Prelude.{◌≡◌, ◌<◌, length, IfOk, IfErr, true, [], Some, is_some};
 ghost use Rattle.ti_replay.specs.Admission.{takes_buffer};
 ghost use Rattle.ti_replay.specs.Answers.{or_zero as or_zero_of};

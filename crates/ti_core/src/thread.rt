@@ -1,3 +1,4 @@
+//! A thread of the core: its slot, and its frames and log while it runs.
 ghost use Rattle.std.specs.Prelude.{◌≡◌, ◌≢◌, ◌<◌, if◌then◌else◌, true, false, None, Some, MatchOption, IfOk, IfErr, is_some};
 ghost use Rattle.std.specs.Option.{option_map};
 ghost use Rattle.ti_types.specs.Answer.{said};

@@ -1,10 +1,10 @@
--- A text that is put behind another, part by part, and goes out in chunks.
+-- A text that is put after another, part by part, and goes out in chunks.
 use Rattle.std.proofs.Common.{◌∙◌, ℕ, ◌≤◌, List, [], ◌++◌, Option, refl, sym, ap, append-nil, append_assoc, subst, arith}
 use Rattle.ti_driver.specs.ReportLines.{HasRoomFor}
 use Rattle.ti_driver.specs.Streams.{Sends, TakesFront}
 use Rattle.ti_driver.proofs.StreamLaws.{appends_both, front_after, front_of_more, sends_line, sends_more, sends_front}
 
--- one part more went behind the text
+-- one part more went after the text
 pub puts_more : (a b c : Option (List ℕ)) (all text part rest left : List ℕ) → Sends a b all (text ++ (part ++ rest)) → Sends b c (text ++ part) left → Sends a c all (left ++ rest)
 puts_more a b c all text part rest left p q = sends_more a b c all (text ++ part) left rest (sends_line a b all text part rest (text ++ part) refl p) q
 
@@ -16,7 +16,7 @@ puts_front a b c all text part rest p q = sends_front a b c all (text ++ part) r
 pub puts_end : (a b : Option (List ℕ)) (all text : List ℕ) → Sends a b all (text ++ []) → Sends a b all text
 puts_end a b all text p = subst (λ l. Sends a b all l) (append-nil text) p
 
--- ---- two parts, one behind the other
+-- ---- two parts, one after the other
 
 pub sends_both : (a b c : Option (List ℕ)) (text first second left more : List ℕ) → Sends a b (text ++ first) left → Sends b c (left ++ second) more → Sends a c (text ++ (first ++ second)) more
 sends_both a b c text first second left more p q = record {

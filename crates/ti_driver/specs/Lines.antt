@@ -8,6 +8,6 @@ abbrev pub AreWithin : ℕ → List (List ℕ) → ℕ → List (Option Outcome)
 AreWithin most methods index [] = ⊤
 AreWithin most methods index (o ∷ os) = (length (line_text methods index o) ≤ most) × AreWithin most methods (index + 1) os
 
--- there is room for a chunk and each line behind it
+-- there is room for a chunk and each line after it
 abbrev pub HasRoom : ℕ → List (List ℕ) → ℕ → List (Option Outcome) → Type 0
 HasRoom capacity methods index outcomes = (most : ℕ) × AreWithin most methods index outcomes × (65536 + most ≤ capacity)

@@ -22,6 +22,6 @@ pub record AreThreadLinesWithin (most : ℕ) (thread : List ℕ) : Type 0 where
   pub refusals : (refusal : Refusal) → length (refusal_line thread refusal) ≤ most
   pub legal : length (verdict_line thread None) ≤ most
 
--- there is room for a chunk and each line behind it
+-- there is room for a chunk and each line after it
 abbrev pub HasRoomFor : ℕ → (ℕ → Type 0) → Type 0
 HasRoomFor capacity AreWithin = (most : ℕ) × AreWithin most × (65536 + most ≤ capacity)

@@ -69,7 +69,7 @@ abbrev pub fault_of_run : RunFault → Fault
 fault_of_run run.Memory = Memory
 fault_of_run run.Cell = Cell
 
--- why there is no report: memory was wanting or a thread could not be started, or a cell was in use or the report does not fit
+-- why there is no report: memory ran out or a thread could not be started, or a cell was in use or the report does not fit
 abbrev pub IsRunFault : Fault → Type 0
 IsRunFault e = (e ≡ Memory) ⊎ (e ≡ Cell)
 

@@ -24,7 +24,7 @@ pub record IsGiven (known : Option (List ℕ)) (w : Walk) : Type 0 where
   pub faultless : walk_fault tree ≡ None
   pub says : IsWalk tree w
 
--- The walk's events happen, each marked for want of memory exactly where what it comes to says so.
+-- The walk's events happen, each marked for lack of memory exactly where what it comes to says so.
 pub record IsRun (w : Walk) (hs : List Happening) : Type 0 where
   pub events : map (λ h. h.event) hs ≡ w.events
   pub marks : map (λ h. h.wanting) hs ≡ map was_for_memory (outs w.limits hs)

@@ -1,3 +1,4 @@
+//! A command, from the reader to the writer.
 ghost use Rattle.std.specs.Prelude.{◌≡◌, ◌≢◌, IfOk, IfErr, Err};
 ghost use Rattle.std.specs.Io.KnownBytes.{Keeps};
 ghost use Rattle.ti_driver.specs.declared.fault.Fault.TheVariants.{Write as NotWritten};

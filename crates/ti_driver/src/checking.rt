@@ -1,3 +1,4 @@
+//! A history read, replayed, and the verdict on it written.
 ghost use Rattle.std.specs.Prelude.{◌≡◌, ◌≢◌, [], Option, IfOk, OnOk, IfErr, Err};
 ghost use Rattle.std.specs.Io.KnownBytes.{Appends, Keeps};
 ghost use Rattle.ti_replay.specs.Legal.{first_illegal, is_legal};
@@ -69,8 +70,8 @@ fn put_verdict<W: Write>(writer: &mut W, verdict: Option<usize>) -> Result<(), F
 /// where it stands, counted from 0, and a line feed. The answer is true exactly where the history is legal.
 ///
 /// The document is at most 8,388,608 bytes, read in at most 16,777,216 calls of the reader. Faults: `Script` where the
-/// input is too long or is no history, `Read` where the reader fails, `Memory` where memory is wanting; in these cases
-/// nothing is written. `Write` where the writer fails or takes no byte; it then holds a prefix of the text. The writer is
+/// input is too long or is no history, `Read` where the reader fails, `Memory` where memory runs out; in these cases
+/// nothing is written. `Write` where the writer fails or takes no byte; it then holds a front of the text. The writer is
 /// not flushed: one that keeps bytes back is the caller's to flush. An illegal history is no fault. Source: this profile.
 pub fn check<R: Read, W: Write>(
     alloc: Global,

@@ -1,3 +1,4 @@
+//! What the arguments ask for.
 ghost use Rattle.std.specs.Prelude.{◌≡◌, map, string_bytes};
 ghost use Rattle.ti_driver.specs.Commands.{command_named, command_of};
 
@@ -40,7 +41,7 @@ pub fn command_of(words: &[String]) -> Result<Command, Fault>
     }
 }
 
-/// The arguments behind the program's name. One that is no text is none of the words.
+/// The arguments after the program's name. One that is no text is none of the words.
 fn arguments<R: Env + AllocGlobal>(rt: &R) -> Result<Vec<String>, Fault> {
     let mut words = match env::args(rt) {
         Ok(words) => words,
@@ -58,7 +59,7 @@ fn arguments<R: Env + AllocGlobal>(rt: &R) -> Result<Vec<String>, Fault> {
 }
 
 /// The command that the process was started with. `Usage` for arguments that ask for none, also where one of them is
-/// no text; `Memory` where memory is wanting for them. Nothing is read. Source: this profile.
+/// no text; `Memory` where memory runs out for them. Nothing is read. Source: this profile.
 pub fn asked_command<R: Env + AllocGlobal>(rt: &R) -> Result<Command, Fault> {
     command_of(&arguments(rt)?)
 }

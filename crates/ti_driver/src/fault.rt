@@ -1,3 +1,4 @@
+//! Why a run came to nothing, and the status that it ends with.
 ghost use Rattle.std.specs.Prelude.{◌≡◌};
 ghost use Rattle.ti_driver.specs.Faults.{status_of};
 
@@ -12,7 +13,7 @@ pub enum Fault {
     /// The input is too long, or no script. Its own `Memory` counts as `Memory`.
     #[error("{0}")]
     Script(ScriptFault),
-    /// Memory was wanting, or a thread could not be started.
+    /// Memory ran out, or a thread could not be started.
     #[error("no memory")]
     Memory,
     /// The reader answered an error, of whatever kind, or gave no end within 16,777,216 calls.
@@ -65,7 +66,7 @@ impl From<RunFault> for Fault {
     }
 }
 
-/// The status that the program ends with at a fault: 2 for a script's fault and for `Usage`, 3 where memory was wanting,
+/// The status that the program ends with at a fault: 2 for a script's fault and for `Usage`, 3 where memory ran out,
 /// 4 for `Read`, `Write` and `Cell`. Source: this profile.
 pub fn status(fault: &Fault) -> u8
     ensures { result ≡ status_of fault.now }

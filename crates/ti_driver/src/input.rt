@@ -1,3 +1,4 @@
+//! A reader's bytes, up to the greatest length of a document.
 ghost use Rattle.std.specs.Prelude.{◌≤◌, length, IfOk, IfErr};
 ghost use Rattle.ti_driver.specs.Runs.{IsReadFault};
 ghost use Rattle.ti_driver.specs.Streams.{IsAllOf};
@@ -16,7 +17,7 @@ const MAX_READS: u32 = 16_777_216;
 /// All the bytes that the reader has, at most 8,388,608 of them, in at most 16,777,216 calls.
 ///
 /// `Script` with the limit `input` where there are more bytes, `Read` at the reader's first error and where the calls do
-/// not suffice, `Memory` where memory is wanting. How far the reader was read is then left open. Source: this profile.
+/// not suffice, `Memory` where memory runs out. How far the reader was read is then left open. Source: this profile.
 pub fn read_input<R: Read>(alloc: Global, reader: &mut R) -> Result<Vec<u8>, Fault>
     ensures all { IfOk result (λ bytes. IsAllOf (R.remaining reader.old) bytes.items) }
     ensures short { IfOk result (λ bytes. length bytes.items ≤ 8388608) }

@@ -1,3 +1,4 @@
+//! The lines of a walk, written in chunks.
 ghost use Rattle.std.specs.Prelude.{◌≡◌, ◌≢◌, ◌+◌, ◌++◌, ◌≤◌, ◌<◌, [], length, IfOk, OnOk, IfErr, Err, string_bytes};
 ghost use Rattle.std.specs.Io.KnownBytes.{Appends, Keeps};
 ghost use Rattle.std.specs.String.{string_len, string_capacity};
@@ -14,7 +15,7 @@ use std::io::Write;
 use ti_script::{Names, line_bound, line_text};
 use ti_types::Outcome;
 
-/// So many bytes are gathered before they are written.
+/// This many bytes are gathered before they are written.
 pub(crate) const CHUNK: usize = 65_536;
 
 /// A line whose length is known to be at most this needs no measuring.
@@ -111,7 +112,7 @@ fn put_lines<W: Write>(
     write_whole(writer, text.as_bytes())
 }
 
-/// A text that is empty, with room for a chunk and the longest line of these outcomes behind it.
+/// A text that is empty, with room for a chunk and the longest line of these outcomes after it.
 fn room_for_lines(
     alloc: Global,
     methods: &Names,

@@ -87,10 +87,10 @@ fn write_live<H: Threads + Wait + Sync + AllocGlobal, W: Write>(
 /// thread's own history replies to it, each thread's own entries are its walk's, and each history is legal.
 ///
 /// The document is at most 8,388,608 bytes, read in at most 16,777,216 calls of the reader. Faults: `Script` where the
-/// input is too long or is no live script, `Read` where the reader fails, `Memory` where memory is wanting or a thread could
+/// input is too long or is no live script, `Read` where the reader fails, `Memory` where memory runs out or a thread could
 /// not be started, and then the threads and agents that were begun went through their lists, `Cell` where a cell was in use
 /// at its end or the report does not fit its script; in these cases nothing is written. `Write` where the writer fails or
-/// takes no byte; it then holds a prefix of the text. The writer is not flushed: one that keeps bytes back is the caller's
+/// takes no byte; it then holds a front of the text. The writer is not flushed: one that keeps bytes back is the caller's
 /// to flush.
 ///
 /// Nothing is promised of when a run ends, or that it does: a thread that is left suspended and wants to return waits for

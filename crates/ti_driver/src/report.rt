@@ -1,3 +1,4 @@
+//! The line that says why a run came to nothing.
 ghost use Rattle.std.specs.Prelude.{◌≡◌, ◌++◌, OnOk, IfErr, decimal};
 ghost use Rattle.std.specs.Io.KnownBytes.{Appends};
 ghost use Rattle.ti_driver.specs.declared.fault.Fault.TheVariants.{Write as NotWritten};
@@ -59,7 +60,7 @@ fn put_fault_text<W: Write>(writer: &mut W, fault: &Fault) -> Result<(), Fault>
 }
 
 /// Writes the line of a fault: `tiwalk: `, its text and a line feed. It takes no memory. `Write` where the writer fails
-/// or takes no byte; it then holds a prefix of the line. Source: this profile.
+/// or takes no byte; it then holds a front of the line. Source: this profile.
 #[tactic(auto, using(crate::proofs::StreamLaws::fronts))]
 pub fn put_fault<W: Write>(writer: &mut W, fault: &Fault) -> Result<(), Fault>
     ensures ok { OnOk result (Appends (W.contents writer.old) (W.contents writer.new) (fault_line fault.now)) }

@@ -127,7 +127,7 @@ fn longest_of_agents(
     Ok(longest)
 }
 
-/// A text that is empty, with room for a chunk and the longest line of this report behind it.
+/// A text that is empty, with room for a chunk and the longest line of this report after it.
 fn room_for_report(alloc: Global, names: &Cast, report: &LiveReport) -> Result<String, AllocError>
     requires few { length report.now.replies ≤ 65536 }
     ensures empty { IfOk result (λ text. string_bytes text ≡ []) }
@@ -182,7 +182,7 @@ fn add_legal(text: &mut String, thread: &str)
     }
 }
 
-/// Writes the lines of one agent's replies behind the text, in chunks; the last stays in it.
+/// Writes the lines of one agent's replies after the text, in chunks; the last stays in it.
 fn put_replies<W: Write>(
     writer: &mut W,
     text: &mut String,
@@ -205,7 +205,7 @@ fn put_replies<W: Write>(
     Ok(())
 }
 
-/// Writes the lines of the agents' replies behind the text, agent by agent.
+/// Writes the lines of the agents' replies after the text, agent by agent.
 fn put_agents<W: Write>(
     writer: &mut W,
     text: &mut String,
@@ -228,7 +228,7 @@ fn put_agents<W: Write>(
     Ok(())
 }
 
-/// Writes the lines of one thread's refused operations behind the text.
+/// Writes the lines of one thread's refused operations after the text.
 fn put_refusals<W: Write>(
     writer: &mut W,
     text: &mut String,
@@ -250,7 +250,7 @@ fn put_refusals<W: Write>(
     Ok(())
 }
 
-/// Writes the line behind the text that says that a thread's history is legal.
+/// Writes the line after the text that says that a thread's history is legal.
 fn put_legal<W: Write>(writer: &mut W, text: &mut String, thread: &str) -> Result<(), Fault>
     requires short { string_len text.old < 65536 }
     requires room { HasRoomFor (string_capacity text.old) (λ most. AreThreadLinesWithin most thread.now) }
@@ -264,7 +264,7 @@ fn put_legal<W: Write>(writer: &mut W, text: &mut String, thread: &str) -> Resul
     send_chunk(writer, text)
 }
 
-/// Writes the lines of one thread, whose history is legal, behind the text.
+/// Writes the lines of one thread, whose history is legal, after the text.
 fn put_thread<W: Write>(
     writer: &mut W,
     text: &mut String,
@@ -283,7 +283,7 @@ fn put_thread<W: Write>(
     put_legal(writer, text, thread)
 }
 
-/// Writes the lines of the threads, whose histories are legal, behind the text.
+/// Writes the lines of the threads, whose histories are legal, after the text.
 fn put_threads<W: Write>(
     writer: &mut W,
     text: &mut String,

@@ -1,3 +1,4 @@
+//! A walk read, run, and its outcomes written.
 ghost use Rattle.std.specs.Prelude.{◌≡◌, ◌≢◌, List, IfOk, OnOk, IfErr, Err};
 ghost use Rattle.std.specs.Io.KnownBytes.{Appends, Keeps};
 ghost use Rattle.ti_replay.specs.Admission.{Happening};
@@ -53,9 +54,9 @@ fn write_walk<W: Write>(alloc: Global, walk: &Walk, writer: &mut W) -> Result<()
 /// Reads the document of a walk, runs its events, and writes a line for each with what it came to.
 ///
 /// The document is at most 8,388,608 bytes, read in at most 16,777,216 calls of the reader. Faults: `Script` where the
-/// input is too long or is no walk, `Read` where the reader fails, `Memory` where memory is wanting; in these cases
-/// nothing is written. `Write` where the writer fails or takes no byte; it then holds a prefix of the text. The writer is
-/// not flushed: one that keeps bytes back is the caller's to flush. An event that was refused for want of memory alone
+/// input is too long or is no walk, `Read` where the reader fails, `Memory` where memory runs out; in these cases
+/// nothing is written. `Write` where the writer fails or takes no byte; it then holds a front of the text. The writer is
+/// not flushed: one that keeps bytes back is the caller's to flush. An event that was refused for lack of memory alone
 /// has the line `error 110`, and the text is that of the events so marked. Source: this profile.
 pub fn walk<R: Read, W: Write>(alloc: Global, reader: &mut R, writer: &mut W) -> Result<(), Fault>
     // The text of the definition's outcomes for the walk that the reader gave.

@@ -1,3 +1,4 @@
+//! What an environment keeps for itself, and which calls it refuses.
 ghost use Rattle.std.specs.Prelude.{◌≡◌, ◌<◌, ◌↔◌, true, None, Some, length, IfOk, IfErr, OnOk, OnErr, IsOk};
 ghost use Rattle.ti_types.specs.Caps.{caps_with, caps_without, can_be_had};
 ghost use Rattle.ti_types.specs.declared.error.TiError.TheVariants.{NotAvailable, OutOfMemory};

@@ -1,3 +1,4 @@
+//! A thread's frames, the oldest first.
 ghost use Rattle.std.specs.Prelude.{◌≡◌, ◌≤◌, ◌+◌, ◌-◌, ◌<◌, ◌++◌, [], ◌∷◌, length, IfOk, IfErr, MatchResult, Some, None, slice_get, take, drop, min};
 ghost use Rattle.ti_types.specs.Frames.{without_newest};
 ghost use Rattle.ti_frames.specs.Frames.{with_frames, frames_after, step_refusal};
@@ -157,7 +158,7 @@ impl Frames {
         let _ = self.items.pop();
     }
 
-    /// Copies the frames from depth `start` on, newest first and at most `count` of them, behind those of a buffer
+    /// Copies the frames from depth `start` on, newest first and at most `count` of them, after those of a buffer
     /// that has room for them (JVM TI 11, GetStackTrace). The buffer keeps its room.
     #[tactic(auto, using(crate::proofs::TraceLaws::take_more))]
     pub fn copy_into(&self, start: usize, count: u32, buf: &mut TraceBuf)

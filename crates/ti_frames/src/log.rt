@@ -1,3 +1,4 @@
+//! The steps that a thread made since it last handed over.
 ghost use Rattle.std.specs.Prelude.{◌≡◌, ◌<◌, ◌≤◌, ◌++◌, [], ◌∷◌, length, IfOk, IfErr, nat_le};
 ghost use Rattle.ti_frames.specs.Log.{with_steps};
 

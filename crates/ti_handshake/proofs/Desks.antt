@@ -72,7 +72,7 @@ store_is p env s h n w history left k store = store ∙ (λ i. stored (k.holds i
 taken_here : (p : Place) (env : EnvNo) (s : Sitting) (h : Holding) (n : Thread) → Took p env s h n → IsTaken s.view n
 taken_here p env s h n k = subst (λ (t : Thread). IsTaken s.view t) (sym k.lent) k.taken
 
--- what is stored is what was found, with more behind it, and other tickets of the desk
+-- what is stored is what was found, with more after it, and other tickets of the desk
 pub stores_with : (p : Place) (env : EnvNo) (s : Sitting) (h : Holding) (n m : Thread) (w : View) (more : List Entry) (tickets : List Ticket) → Took p env s h n
     → w ≡ stored h.view m.history m.uncollected → m.history ≡ n.history ++ more → is_legal w.subject.limits w.seen ≡ true → w.mine ≡ made_by w.number w.seen
     → tickets_of (env.0 + 1) m.uncollected ≡ tickets → HoldsWith p.view w more tickets
@@ -148,7 +148,7 @@ ticket_fresh n env known =
       | inr fresh ↦ fresh
     ]
 
--- the tickets of a slot behind a call
+-- the tickets of a slot after a call
 asked_tickets : (n m : Thread) (env : EnvNo) (call : Call) (r : asked.Asked) → IsAsked n m env call r → m.uncollected ≡ n.uncollected ++ ticket_told r
 asked_tickets n m env call (Answered a) is = ap (λ (t : Thread). t.uncollected) is.0 ∙ sym (append-nil n.uncollected)
 asked_tickets n m env call (Waiting t) is = ap (λ (t : Thread). t.uncollected) is.0

@@ -27,7 +27,7 @@ pub found_is : (old new : View) (f more : List Entry) → new.mine ≡ old.mine 
 found_is old new f more mine seen =
     (λ i. take (length (seen i) - length (added_is old new more mine i)) (seen i)) ∙ take_front f more (length more) refl
 
--- v is the seat's view before, t the slot that it took, and w the view after it stored t's history with more behind it
+-- v is the seat's view before, t the slot that it took, and w the view after it stored t's history with more after it
 pub held_with : (v w : View) (t : Thread) (history more : List Entry) (left tickets : List Ticket) → IsTaken v t → w ≡ stored (holding v t.history t.uncollected) history left → history ≡ t.history ++ more
     → is_legal w.subject.limits w.seen ≡ true → w.mine ≡ made_by w.number w.seen → tickets_of v.number left ≡ tickets → HoldsWith v w more tickets
 held_with v w t history more left tickets taken store longer legal whole posted =

@@ -130,7 +130,7 @@ leaves s w h n cell history left k here there stays store whole =
       whole = whole ∙ ap (λ (i : ℕ). made_by i w.view.seen) number;
     }
 
--- a thread that runs on behind what others did
+-- a thread that runs on after what others did
 pub runs_on : (cell : TableId) (s w : Sitting) (h : Holding) (n : Thread) (f g : Stack) (l m : Steps) (left : ℕ) → RunsWith cell s f l left → Owns s h n → Left s w n.history → g ≡ f → m ≡ l → RunsWith cell w g m left
 runs_on cell s w h n f g l m left r k at same_frames same_log =
     let a = alone s h n l.steps k r.thread.whole in

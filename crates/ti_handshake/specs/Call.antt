@@ -39,7 +39,7 @@ abbrev pub found : View → View → List Entry
 found old new = take (length new.seen - length (added old new)) new.seen
 
 -- Holds that added nothing, with looks between them, and then one hold that added these entries: what was seen is what
--- that hold found, with what was added behind it. The seat's tickets are these
+-- that hold found, with what was added after it. The seat's tickets are these
 pub record WaitsWith (old new : View) (more : List Entry) (tickets : List Ticket) : Type 0 where
   pub goes : GoesOn old new
   pub mine : new.mine ≡ old.mine ++ more
@@ -84,7 +84,7 @@ ticket_told (Waiting ticket) = ticket ∷ []
 abbrev pub next_call : View → EnvNo → Call → Entry
 next_call v env call = Asked env (asked_by env v.mine) call
 
--- a call stands in the history, behind what was seen before, and the answer is the reply at its place
+-- a call stands in the history, after what was seen before, and the answer is the reply at its place
 pub record IsAnswered (old new : View) (call : Entry) (answer : Answer) : Type 0 where
   pub front : List Entry
   pub rest : List Entry

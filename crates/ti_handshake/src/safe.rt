@@ -1,3 +1,4 @@
+//! A thread at a safe place, and one that has ended.
 ghost use Rattle.std.specs.Prelude.{◌≡◌, true, [], ◌∷◌, Some, None, IfOk, IfErr, MatchResult};
 ghost use Rattle.ti_types.specs.declared.entry.Entry.TheVariants as entry;
 ghost use Rattle.ti_types.specs.declared.error.TiError.TheVariants.{Barred};

@@ -1,3 +1,4 @@
+//! How a call waits for news of a cell without taking its lock.
 ghost use Rattle.std.specs.Prelude.{◌≡◌};
 ghost use Rattle.ti_handshake.specs.Call.{SawNews};
 

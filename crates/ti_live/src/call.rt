@@ -1,3 +1,4 @@
+//! An agent's calls.
 use crate::listed::Listed;
 use ti_types::{Call, Caps, ThreadNo};
 
@@ -21,8 +22,8 @@ pub enum AgentCall {
     SuspendList(Listed<ThreadNo>),
     /// ResumeThreadList: a code for each element, in the list's order.
     ResumeList(Listed<ThreadNo>),
-    /// GetAllStackTraces, at most so many of the newest frames of each thread that is alive.
+    /// GetAllStackTraces, at most this many of the newest frames of each thread that is alive.
     AllStacks(i32),
-    /// GetThreadListStackTraces, at most so many of the newest frames for each element, in the list's order.
+    /// GetThreadListStackTraces, at most this many of the newest frames for each element, in the list's order.
     ListStacks(Listed<ThreadNo>, i32),
 }

@@ -1,3 +1,4 @@
+//! A list that contracts compare by its elements.
 ghost use Rattle.std.specs.Prelude.{◌≡◌, ◌++◌, ◌∷◌, [], IfOk, OnOk, OnErr};
 
 use std::alloc::{AllocError, AllocFailed, Global};
@@ -27,7 +28,7 @@ impl<T: Drop> Listed<T> {
         }
     }
 
-    /// No items, with room for so many, so that adding them takes no memory. The error is want of memory.
+    /// No items, with room for this many, so that adding them takes no memory. The error is lack of memory.
     pub fn with_room(alloc: Global, count: usize) -> Result<Self, AllocError>
         ensures { IfOk result (λ items. items ≡ []) }
     {
@@ -36,7 +37,7 @@ impl<T: Drop> Listed<T> {
         })
     }
 
-    /// Adds an item at the end. The one error is want of memory; then nothing changes, and the error gives the item back.
+    /// Adds an item at the end. The only error is lack of memory; then nothing changes, and the error gives the item back.
     pub fn push(&mut self, item: T) -> Result<(), AllocFailed<T>>
         ensures ok { OnOk result (self.new ≡ self.old ++ item ∷ []) }
         ensures err { OnErr result (self.new ≡ self.old) }

@@ -1,3 +1,4 @@
+//! What an agent's call is told.
 use crate::listed::Listed;
 use ti_types::{Answer, StackInfo};
 

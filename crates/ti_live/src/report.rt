@@ -1,3 +1,4 @@
+//! What a live run goes by, and what it reports.
 use crate::call::AgentCall;
 use crate::listed::Listed;
 use crate::reply::Reply;

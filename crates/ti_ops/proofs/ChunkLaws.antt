@@ -23,7 +23,7 @@ parts n = (div-add-mod' n 64, mod_below n 64 (omega arith))
 pub has : (asked : List ℕ) (env n : ℕ) → env < length asked → n < get_or asked env 0 → HasChunk asked env (n / 64)
 has asked env n e h = (e, omega (arith, h, (parts n).0))
 
--- so many calls at most
+-- this many calls at most
 asked_few : (calls : ℕ) (asked : List ℕ) (env : ℕ) → All (λ n. n ≤ calls) asked → env < length asked → get_or asked env 0 ≤ calls
 asked_few calls asked env few e = All-get_or (λ n. n ≤ calls) asked env 0 e few
 

@@ -23,7 +23,7 @@ abbrev pub listed : {A : Type 0} → (ℕ → A) → ℕ → List A
 listed f zero = []
 listed f (suc n) = listed f n ++ f n ∷ []
 
--- the chunk of an environment, by its number among those of the environment, where each may have so many
+-- the chunk of an environment, by its number among those of the environment, where each may have this many
 abbrev pub chunk_of : ℕ → List ℕ → ℕ → ℕ → ℕ
 chunk_of per chunks env k = slice_index_or chunks (env * per + k) 0
 
@@ -31,7 +31,7 @@ chunk_of per chunks env k = slice_index_or chunks (env * per + k) 0
 abbrev pub place_of : ℕ → List ℕ → ℕ → ℕ → ℕ
 place_of per chunks env number = chunk_of per chunks env (number / 64) * 64 + number % 64
 
--- the fates of an environment that has asked so many calls
+-- the fates of an environment that has asked this many calls
 abbrev pub list_of : ℕ → List ℕ → List Fate → ℕ → ℕ → List Fate
 list_of per chunks items asked env = listed (λ number. slice_index_or items (place_of per chunks env number) Gone) asked
 
@@ -39,7 +39,7 @@ list_of per chunks items asked env = listed (λ number. slice_index_or items (pl
 abbrev pub lists_of : ℕ → List ℕ → List Fate → List ℕ → List (List Fate)
 lists_of per chunks items asked = listed (λ env. list_of per chunks items (slice_index_or asked env 0) env) (length asked)
 
--- an environment that has asked so many calls has this chunk
+-- an environment that has asked this many calls has this chunk
 abbrev pub HasChunk : List ℕ → ℕ → ℕ → Type 0
 HasChunk asked env k = (env < length asked) × (k * 64 < slice_index_or asked env 0)
 

@@ -1,3 +1,4 @@
+//! What became of a call.
 use ti_types::Answer;
 
 /// What has become of a call that an environment asked of a thread.

@@ -1,3 +1,4 @@
+//! The calls that wait at a thread, and the answers that are not collected yet.
 ghost use Rattle.std.specs.Prelude.{◌≡◌, ◌<◌, ◌*◌, [], ◌∷◌, length, replicate, IfOk, IfErr, MatchOption, is_some, if◌then◌else◌};
 ghost use Rattle.ti_ops.specs.Fates.{fates_by, fate_of, told_by, with_call, with_fate};
 ghost use Rattle.ti_ops.specs.Ops.{with_waiting, with_fates, with_posted};
@@ -70,7 +71,7 @@ impl PendingOps {
         self.waiting.len()
     }
 
-    /// Puts a call behind those that wait. It is its environment's next one, and there is room for it.
+    /// Puts a call after those that wait. It is its environment's next one, and there is room for it.
     pub fn post(&mut self, ticket: Ticket, call: Call, buf: TraceBuf)
         requires env { ticket.env.0 < length self.old.fates }
         requires next { ticket.no ≡ length (fates_by ticket.env self.old.fates) }

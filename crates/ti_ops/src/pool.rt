@@ -1,3 +1,4 @@
+//! A thread's block of fates, handed out in chunks.
 ghost use Rattle.std.specs.Prelude.{◌≡◌, ◌<◌, ◌+◌, ◌*◌, ◌^◌, [], IfOk, IfErr, slice_index_or, is_some, if◌then◌else◌};
 ghost use Rattle.ti_ops.specs.Fates.{told_by};
 ghost use Rattle.ti_ops.specs.Chunks.{with_chunk, with_place};
@@ -33,7 +34,7 @@ impl Model for FatePool {
 }
 
 impl FatePool {
-    /// No chunks, with room for so many.
+    /// No chunks, with room for this many.
     pub fn new(alloc: Global, room: usize) -> Result<Self, TiError>
         requires { room * 64 < 2 ^ 64 }
         ensures items { IfOk result (λ p. p.items ≡ []) }

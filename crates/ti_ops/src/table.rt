@@ -1,3 +1,4 @@
+//! Whose chunk of fates is which.
 ghost use Rattle.std.specs.Prelude.{◌≡◌, ◌<◌, ◌+◌, ◌*◌, ◌/◌, ◌%◌, length, replicate, [], IfOk, IfErr, slice_index_or, slice_set, is_some, if◌then◌else◌, nat_eq};
 ghost use Rattle.ti_ops.specs.Fates.{fates_by, fate_of, told_by, with_call, with_fate, with_lists};
 ghost use Rattle.ti_ops.specs.Chunks.{chunk_of, with_chunk};
@@ -35,7 +36,7 @@ impl Model for FateTable {
 }
 
 impl FateTable {
-    /// No calls of so many environments, with room for so many of each.
+    /// No calls of this many environments, with room for this many of each.
     pub fn new(alloc: Global, envs: u32, calls: u32) -> Result<Self, TiError>
         ensures lists { IfOk result (λ t. t.lists ≡ replicate envs []) }
         ensures calls { IfOk result (λ t. t.calls ≡ calls) }

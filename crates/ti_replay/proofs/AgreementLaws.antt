@@ -132,7 +132,7 @@ history_from-append limits thread front history (h ∷ xs) ys =
     history_from-append limits thread (front ++ h ∷ []) (history_behind limits thread front history h) xs ys
     ∙ ap (λ f. history_from limits thread f (history_from limits thread (front ++ h ∷ []) (history_behind limits thread front history h) xs) ys) (append_assoc front (h ∷ []) xs)
 
--- the history behind one more event
+-- the history after one more event
 pub history_of-snoc : (limits : Limits) (thread : ThreadNo) (front : List Happening) (h : Happening) → history_of limits thread (front ++ h ∷ []) ≡ history_behind limits thread front (history_of limits thread front) h
 history_of-snoc limits thread front h = history_from-append limits thread [] [] front (h ∷ [])
 

@@ -64,7 +64,7 @@ steps_mode : (s : HistoryState) (steps : List Step) → (fold next_state s (step
 steps_mode s [] = refl
 steps_mode s (x ∷ steps) = steps_mode (next_state s (Own x)) steps
 
--- behind a history, entries of others
+-- after a history, entries of others
 pub others_leave : (limits : Limits) (old more : List Entry) (steps : List Step) → made_by 0 more ≡ [] → LeavesIt limits old (old ++ more) steps
 others_leave limits old more steps none =
     let s = history_state limits old in

@@ -42,7 +42,7 @@ own_allowed limits s (GetCaps e') x e h = cc
 own_allowed limits s (SetEnvWord e' w) x e h = cc
 own_allowed limits s (GetEnvWord e') x e h = cc
 
--- the calls that take place behind a hand-over leave the mode
+-- the calls that take place after a hand-over leave the mode
 wait_mode : (v : ThreadView) (x : Entry) → is_waiting_call x ≡ true → (after v x).mode ≡ v.mode
 wait_mode v entry.Start h = cc
 wait_mode v (entry.Own step) h = cc

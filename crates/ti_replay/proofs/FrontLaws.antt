@@ -1,4 +1,4 @@
--- An environment's stop is a matter of its own entries, and what stays behind a front that stands for it.
+-- An environment's stop is a matter of its own entries, and what stays after a front that stands for it.
 use Rattle.std.proofs.Common.{◌≡◌, ◌+◌, ◌==◌, Bool, true, false, cond, List, [], ◌∷◌, ◌++◌, refl, ap, sym, ◌∙◌, arith, append-nil, append_assoc, subst}
 use Rattle.std.specs.Prelude.{ℕ, take, drop}
 use Rattle.ti_types.specs.Frames.{bare_trace}
@@ -78,7 +78,7 @@ stops_are_own limits env history legal =
     ap (λ (s : HistoryState). is_stopper s.view.stopper env) (history_state-append limits [] history)
     ∙ (stop_run limits (history_state limits []) history env refl all ∙ own_stops env false history)
 
--- Behind a front that stands
+-- After a front that stands
 
 own_is_made : (x : Entry) → is_own_entry x ≡ (maker x == 0)
 own_is_made Start = refl
@@ -119,7 +119,7 @@ stays_stopped env (x ∷ more) stays =
     one (Read other n) h = refl
     one (Go other) h = grind (arith, h)
 
--- what comes behind a legal front may come at its state
+-- what comes after a legal front may come at its state
 comes : (limits : Limits) (front more : List Entry) → is_legal limits (front ++ more) ≡ true → allows_all limits (history_state limits front) more ≡ true
 comes limits front more legal = sym (goes_on-allows limits front more) ∙ (and_parts _ _ (sym (goes_on-append limits [] front more) ∙ legal)).1
 
@@ -175,7 +175,7 @@ frames_behind limits front (x ∷ more) none rests =
     none_own_first x more none false is =
         (is, sym (ap (λ (b : Bool). cond b (x ∷ made_by 0 more) (made_by 0 more)) is) ∙ none, ap (λ (b : Bool). cond b (x ∷ []) []) is)
 
--- what is popped behind a front is what is popped in a first part, and behind that in the rest
+-- what is popped after a front is what is popped in a first part, and after that in the rest
 pops_add_up : (limits : Limits) (front more rest : List Entry) → popped_behind limits front (more ++ rest) ≡ popped_behind limits front more + popped_behind limits (front ++ more) rest
 pops_add_up limits front [] rest =
     let whole = ap (λ (h : List Entry). popped_behind limits h rest) (append-nil front) in

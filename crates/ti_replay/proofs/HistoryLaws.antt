@@ -103,7 +103,7 @@ view_now : (limits : Limits) (history : List Entry) (x : Entry) → is_hand_over
 view_now limits history x h k =
     ap (after_all (new_thread limits)) (settled_now history x h k) ∙ after_all-append (new_thread limits) (settled history) ((length history, x) ∷ [])
 
--- the view and the waiting calls behind one more entry
+-- the view and the waiting calls after one more entry
 pub view-snoc : (limits : Limits) (history : List Entry) (x : Entry) → view limits (history ++ x ∷ []) ≡ view_behind (view limits history) (unanswered history) x
 view-snoc limits history x =
     grind (arith, view_runs limits history, view_hand limits history x, view_wait limits history x, view_now limits history x)
@@ -112,7 +112,7 @@ pub unanswered-snoc : (limits : Limits) (history : List Entry) (x : Entry) → u
 unanswered-snoc limits history x =
     grind (arith, view_runs limits history, unanswered_hand history x, unanswered_wait history x, unanswered_now history x)
 
--- the state behind one more entry
+-- the state after one more entry
 pub placed_state-snoc : (limits : Limits) (history : List Entry) (x : Entry) → placed_state limits (history ++ x ∷ []) ≡ entered (placed_state limits history) x
 placed_state-snoc limits history x =
     grind (arith, view-snoc limits history x, unanswered-snoc limits history x, length-append history (x ∷ []), sum_by-append own_cost history (x ∷ []), fold-append charged (replicate limits.envs no_costs) history (x ∷ []))

@@ -32,7 +32,7 @@ length-bare (p ∷ s) = grind (arith, length-bare s)
 entered-bare : (s : PlacedState) (x : Entry) → bare (entered s x) ≡ next_state (bare s) x
 entered-bare s x = grind (arith, after_all-bare (after s.view x) s.waiting, map-snoc s.waiting (s.next, x))
 
--- the state behind one more entry
+-- the state after one more entry
 pub history_state-snoc : (limits : Limits) (history : List Entry) (x : Entry) → history_state limits (history ++ x ∷ []) ≡ next_state (history_state limits history) x
 history_state-snoc limits history x = ap bare (placed_state-snoc limits history x) ∙ entered-bare (placed_state limits history) x
 

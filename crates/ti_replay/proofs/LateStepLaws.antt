@@ -27,7 +27,7 @@ use Rattle.ti_replay.proofs.CostLaws.{goes_on-append}
 use Rattle.ti_replay.proofs.HistoryStateLaws.{goes_on-allows, history_state-append}
 use Rattle.ti_replay.proofs.Charging.{charged_free}
 
--- a call that does not wait does the same to the thread whether a step of the thread comes before it or behind it
+-- a call that does not wait does the same to the thread whether a step of the thread comes before it or after it
 pub called_late : (v : ThreadView) (step : Step) (env : EnvNo) (call : Call) → waits call ≡ false → called (after v (Own step)) env call ≡ after (called v env call) (Own step)
 called_late v step env State h = refl
 called_late v step env FrameCount h = cc
@@ -50,7 +50,7 @@ after_late v step (Stop env) h k = refl
 after_late v step (Read env max_count) h k = cc
 after_late v step (Go env) h k = refl
 
--- where the thread runs, the state behind the two is the same
+-- where the thread runs, the state after the two is the same
 pub state_late : (s : HistoryState) (step : Step) (x : Entry) → is_passed x ≡ true → is_running s.view.mode ≡ true → next_state (next_state s x) (Own step) ≡ next_state (next_state s (Own step)) x
 state_late s step Start h r = cc
 state_late s step (Own other) h r = cc
@@ -145,7 +145,7 @@ reply_from-move : (n : ℕ) (v : ThreadView) (s : List Placed) (place : ℕ) →
 reply_from-move n v [] place = refl
 reply_from-move n v (p ∷ s) place = rw (exchanged_same n p.0 place, reply_from-move n (after v p.1) s place) refl
 
--- places below the two, and those behind them, stay
+-- places below the two, and those after them, stay
 move_below : (n a : ℕ) (xs : List Entry) → a + length xs ≤ n → move n (enumerate_from a xs) ≡ enumerate_from a xs
 move_below n a [] h = refl
 move_below n a (x ∷ xs) h =
@@ -168,7 +168,7 @@ pub reply_from-append : (v : ThreadView) (s t : List Placed) (place : ℕ) → r
 reply_from-append v [] t place = refl
 reply_from-append v (p ∷ s) t place = grind (arith, reply_from-append (after v p.1) s t place)
 
--- a call that does not wait is answered alike before a step and behind it
+-- a call that does not wait is answered alike before a step and after it
 pub answered_late : (v : ThreadView) (step : Step) (env : EnvNo) (call : Call) → waits call ≡ false → answer_of (after v (Own step)) env call ≡ answer_of v env call
 answered_late v step env State h = refl
 answered_late v step env FrameCount h = cc
@@ -210,7 +210,7 @@ two_replies : (v : ThreadView) (i j : ℕ) (step : Step) (x : Entry) (q : List P
     → reply_from v ((j, x) ∷ (i, Own step) ∷ q) place ≡ reply_from v ((i, Own step) ∷ (j, x) ∷ q) place
 two_replies v i j step x q place h k = grind (arith, answer_late v step x h k, after_late v step x h k)
 
--- the two in either order, behind a front that runs, give the same replies
+-- the two in either order, after a front that runs, give the same replies
 replies_either : (v : ThreadView) (p rest : List Placed) (i j : ℕ) (step : Step) (x : Entry) (place : ℕ) → is_passed x ≡ true → runs_behind false p ≡ true
     → reply_from v (settle false (p ++ (j, x) ∷ (i, Own step) ∷ rest)) place ≡ reply_from v (settle false (p ++ (i, Own step) ∷ (j, x) ∷ rest)) place
 replies_either v p rest i j step x place h r =

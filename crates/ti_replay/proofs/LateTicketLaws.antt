@@ -42,7 +42,7 @@ alike-append limits early late (x ∷ more) a =
     subst (λ e. AreAlike limits e (late ++ x ∷ more)) (append_assoc early (x ∷ []) more)
     (subst (λ l. AreAlike limits ((early ++ x ∷ []) ++ more) l) (append_assoc late (x ∷ []) more) (alike-append limits (early ++ x ∷ []) (late ++ x ∷ []) more (alike-snoc limits early late x a)))
 
--- at a running thread, a call that is passed is told the same before a step and behind it
+-- at a running thread, a call that is passed is told the same before a step and after it
 told_late : (s : HistoryState) (step : Step) (x : Entry) (t : Ticket) → is_passed x ≡ true → is_running s.view.mode ≡ true
     → reply_in (next_state s (Own step)).view (settling (next_state s (Own step)) x) t ≡ reply_in s.view (settling s x) t
 told_late s step Start t h r = cc

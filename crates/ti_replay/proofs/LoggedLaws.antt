@@ -1,4 +1,4 @@
--- What a running thread has logged: what the steps behind a history leave as it was.
+-- What a running thread has logged: what the steps after a history leave as it was.
 use Rattle.std.proofs.Common.{◌≡◌, ◌+◌, false, List, [], ◌∷◌, ◌++◌, length, map, refl, ap, sym, ◌∙◌, arith, Option, Some, None, append_assoc, append-nil, add-zero}
 use Rattle.std.proofs.lemmas.List.{map-append}
 use Rattle.std.proofs.lemmas.List.Sums.{sum_by-append, sum_by-cons}
@@ -59,7 +59,7 @@ all_logged s (x ∷ steps) =
       costs = k.costs ∙ o.costs;
     }
 
--- behind a history, its logged steps change nothing but frames and own costs
+-- after a history, its logged steps change nothing but frames and own costs
 pub logged : (limits : Limits) (h : List Entry) (steps : List Step) → SameButFrames (history_state limits (h ++ steps_of steps)) (history_state limits h)
 logged limits h steps = rw (history_state-append limits h (steps_of steps)) (all_logged (history_state limits h) steps)
 

@@ -51,7 +51,7 @@ mode_run s (x ∷ history) h =
 mode_is : (limits : Limits) (history : List Entry) → (view limits history).mode ≡ fold mode_after (view limits []).mode history
 mode_is limits history = ap (λ (s : HistoryState). s.view.mode) (history_state-append limits [] history) ∙ mode_run (history_state limits []) history refl
 
--- the mode behind one more entry
+-- the mode after one more entry
 pub mode-snoc : (limits : Limits) (history : List Entry) (x : Entry) → (view limits (history ++ x ∷ [])).mode ≡ mode_after (view limits history).mode x
 mode-snoc limits history x =
     mode_is limits (history ++ x ∷ []) ∙ (fold-append mode_after (view limits []).mode history (x ∷ []) ∙ ap (λ (m : Mode). mode_after m x) (sym (mode_is limits history)))

@@ -33,7 +33,7 @@ none_past : (v : ThreadView) (n place : ℕ) (s : List Placed) → are_below n s
 none_past v n place [] k h = refl
 none_past v n place (p ∷ s) k h = grind (arith, nat_tests, none_past (after v p.1) n place s)
 
--- no place behind a history has a reply
+-- no place after a history has a reply
 pub reply_past : (limits : Limits) (history : List Entry) (place : ℕ) → length history ≤ place → reply limits history place ≡ None
 reply_past limits history place h =
     none_past (new_thread limits) (length history) place (settled history) (below_settle (length history) false (placed history) (below_placed (length history) 0 history (omega arith))) h

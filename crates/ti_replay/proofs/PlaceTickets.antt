@@ -66,7 +66,7 @@ is_next limits f t (Stop env) m h = cc
 is_next limits f t (Read env n) m h = cc
 is_next limits f t (Go env) m h = cc
 
--- behind the call no other has its number
+-- after the call no other has its number
 none_behind : (limits : Limits) (f rest : List Entry) (t : Ticket) → goes_on limits f rest ≡ true → t.no < asked_by t.env f → has_none t rest ≡ true
 none_behind limits f [] t g h = refl
 none_behind limits f (x ∷ rest) t g h =

@@ -34,7 +34,7 @@ use Rattle.ti_replay.proofs.HistoryLaws.{view-snoc, unanswered-snoc}
 use Rattle.ti_replay.proofs.PlaceLaws.{reply_at_once, reply_later, reply_past}
 use Rattle.ti_replay.specs.Refused.{is_refusal, asked_entry, asked_there, cost_there, RefusalsKeep}
 
--- what is left behind a history is the entry of a call, which changes nothing and does not wait
+-- what is leftbehind a history is the entry of a call, which changes nothing and does not wait
 record LeavesAll (limits : Limits) (history : List Entry) (event : Event) : Type 0 where
   entries : left_by limits history event ≡ asked_entry history event
   view : view limits (history ++ left_by limits history event) ≡ view limits history
@@ -131,7 +131,7 @@ reached_out limits t events h on =
     let there = out_there limits t (events ++ h ∷ []) events h.wanting h.event in
     grind (arith, on, whole, there)
 
--- one thread behind a refused event
+-- one thread after a refused event
 record ThreadUnchanged (limits : Limits) (t : ThreadNo) (events : List Happening) (h : Happening) : Type 0 where
   view : view limits (history_of limits t (events ++ h ∷ [])) ≡ view limits (history_of limits t events)
   waiting : unanswered (history_of limits t (events ++ h ∷ [])) ≡ unanswered (history_of limits t events)

@@ -6,7 +6,7 @@ use Rattle.ti_types.specs.declared.entry.Entry.{Entry}
 use Rattle.ti_types.specs.declared.entry.Entry.TheVariants.{Start, Own, Hand, Back, End, Asked, Stop, Read, Go}
 use Rattle.ti_replay.specs.Settling.{Placed, hands_over, is_waiting_call, is_hand_over, runs_after, runs_behind, put_behind, settle, left_out}
 
--- a call goes behind the first hand-over of two parts
+-- a call goes after the first hand-over of two parts
 pub put_behind-append : (c : Placed) (s t : List Placed) → put_behind c (s ++ t) ≡ cond (list_any hands_over s) (put_behind c s ++ t) (s ++ put_behind c t)
 put_behind-append c [] t = refl
 put_behind-append c (p ∷ s) t = grind (arith, put_behind-append c s t)
@@ -51,12 +51,12 @@ hands-settle r [] = refl
 hands-settle r (p ∷ s) =
     grind (arith, hands-settle (runs_after r p.1) s, hands-put_behind p (settle (runs_after r p.1) s), waiting_hands p.1)
 
--- calls put behind the first hand-over, the earliest first
+-- calls put after the first hand-over, the earliest first
 abbrev pub all_behind : List Placed → List Placed → List Placed
 all_behind [] s = s
 all_behind (c ∷ calls) s = put_behind c (all_behind calls s)
 
--- what is left out of a front is put behind the first hand-over of the rest
+-- what is left out of a front is put after the first hand-over of the rest
 pub settle-append : (r : Bool) (s t : List Placed) → settle r (s ++ t) ≡ settle r s ++ all_behind (left_out r s) (settle (runs_behind r s) t)
 settle-append r [] t = refl
 settle-append r (p ∷ s) t =

@@ -46,7 +46,7 @@ use Rattle.ti_replay.proofs.PlaceLaws.{reply_past, reply_at_once}
 use Rattle.ti_replay.proofs.ReplyLaws.{reply_stays}
 use Rattle.ti_replay.proofs.WordAnswers.{history_grows}
 
--- the stop stands in a later view, which has the mode and the frames of an earlier one, but so many of the newest
+-- the stop stands in a later view, which has the mode and the frames of an earlier one, but this many of the newest
 record IsKept (env : EnvNo) (n : ℕ) (v w : ThreadView) : Type 0 where
   stands : stands_for env w ≡ true
   mode : w.mode ≡ v.mode
@@ -88,7 +88,7 @@ kept_by_own limits history x env k h =
     kept_by_nothing limits history (left_own limits history (Some x)) env k
     (none_left (own_refusal limits (view limits history) (own_spent history) x) (x ∷ []) (own_refused limits (view limits history) (own_spent history) x env k h))
 
--- the view behind one more entry
+-- the view after one more entry
 view_next : (limits : Limits) (history : List Entry) (x : Entry) → view limits (history ++ x ∷ []) ≡ (next_state (history_state limits history) x).view
 view_next limits history x = ap (λ (s : HistoryState). s.view) (history_state-snoc limits history x)
 
@@ -162,7 +162,7 @@ own_or_aimed true b c d h = inl refl
 own_or_aimed false b true d h = inr refl
 own_or_aimed false b false d h = cc
 
--- how many frames an event takes away, behind a front
+-- how many frames an event takes away, after a front
 abbrev gone_by : Limits → ThreadNo → List Happening → Happening → ℕ
 gone_by limits thread front h = cond (reaches limits thread front h) (taken_by (view limits (history_of limits thread front)) h.event) 0
 

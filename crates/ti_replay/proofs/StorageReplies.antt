@@ -93,7 +93,7 @@ with_same : (b : Bool) (p q : Option Answer) (rest : List (Option Answer)) → (
 with_same true p q rest h = ap (λ a. a ∷ rest) (h refl)
 with_same false p q rest h = refl
 
--- the replies behind a front are what the entries that count come to
+-- the replies after a front are what the entries that count come to
 replies_run : (limits : Limits) (env : EnvNo) (front rest : List Entry) → WaitsWell (history_state limits front)
     → allows_all limits (history_state limits front) rest ≡ true → env.0 < length (view limits front).words
     → word_replies_from limits env (front ++ rest) (length front) rest ≡ word_told (is_alive (view limits front).mode) (word_in (history_state limits front) env) (word_events env rest)

@@ -1,4 +1,4 @@
--- Numbers that are out of range, ended threads, the ends of the integers, want of memory, and what a refused stop costs.
+-- Numbers that are out of range, ended threads, the ends of the integers, lack of memory, and what a refused stop costs.
 use Rattle.std.proofs.Common.{◌≡◌, true, false, [], ◌∷◌, refl, pos, negsuc}
 use Rattle.ti_types.specs.declared.numbers.EnvNo.{EnvNo}
 use Rattle.ti_types.specs.declared.step.Step.TheVariants.{Enter}
@@ -45,14 +45,14 @@ extremes :
     ≡ ok ∷ ok ∷ ok ∷ error IllegalArgument ∷ error IllegalArgument ∷ trace ((java a 0) ∷ []) ∷ error NoMoreFrames ∷ error IllegalArgument ∷ error IllegalArgument ∷ []
 extremes = refl
 
--- an event where memory is wanting, and one where it is not
+-- an event where memory runs out, and one where it is not
 abbrev wanting : Event → Happening
 wanting x = record { event = x; wanting = true }
 
 abbrev plain : Event → Happening
 plain x = record { event = x; wanting = false }
 
--- a call that is refused for want of memory costs nothing, and only a trace and a read take memory
+-- a call that is refused for lack of memory costs nothing, and only a trace and a read take memory
 wants :
     outs least (wanting (Ask e t (call.Trace (pos 0) (pos 1))) ∷ wanting (Read e t (pos 1)) ∷ wanting (Ask e t (call.Trace (pos 0) (negsuc 0)))
     ∷ wanting (Ask e t call.FrameCount) ∷ wanting (Ask e t (call.Trace (pos 0) (pos 1))) ∷ wanting (Start t) ∷ [])

@@ -37,7 +37,7 @@ popped_under_a_stop :
     ∷ done ∷ gave (answer.Stack 0x100005 (bare_trace (record { method = a; place = place.Java 0 } ∷ []))) ∷ []
 popped_under_a_stop = refl
 
--- the return of a thread that is suspended still is illegal behind a pop
+-- the return of a thread that is suspended still is illegal after a pop
 no_return_behind_a_pop :
     first_illegal small [] (entry.Start ∷ entry.Own (Enter a) ∷ entry.Asked f 0 call.Suspend ∷ entry.Own (Enter b) ∷ entry.Asked f 1 call.Pop ∷ entry.Hand AtPoll ∷ entry.Back ∷ [])
     ≡ Some 6

@@ -14,7 +14,7 @@ use Rattle.ti_types.specs.Admitting.{admitting_refusal, asking_refusal, stopping
 use Rattle.ti_types.specs.Caps.{no_caps, caps_with, caps_without}
 pub use Rattle.ti_types.specs.Caps.{holds_all, can_be_had}
 
--- an event, and whether memory was wanting for the buffer of its answer
+-- an event, and whether memory ran out for the buffer of its answer
 pub record Happening : Type 0 where
   pub event : Event
   pub wanting : Bool

@@ -10,7 +10,7 @@ use Rattle.ti_types.specs.declared.event.Outcome.{Outcome}
 use Rattle.ti_replay.specs.Admission.{Happening, Dealings, dealings, dealings_by, refusal, agent_of, is_aimed_at, is_own_of, is_about_caps, is_by}
 use Rattle.ti_replay.specs.Outcomes.{out_of}
 
--- whether a refusal is for want of memory
+-- whether a refusal is for lack of memory
 abbrev pub is_for_want : Option TiError → Bool
 is_for_want (Some OutOfMemory) = true
 is_for_want _ = false
@@ -20,7 +20,7 @@ abbrev pub marked : Limits → Dealings → Happening → Happening
 marked limits d h = record { event = h.event; wanting = h.wanting && is_for_want (refusal limits d h) }
 
 -- an event that is kept: one of the thread's own or an admitted call of another environment; or one of the
--- environment's own calls, with whether it was refused for want of memory
+-- environment's own calls, with whether it was refused for lack of memory
 pub data Kept : Type 0 where
   Taken : (event : Event) → Kept
   Called : (happening : Happening) → Kept

@@ -10,7 +10,7 @@ use Rattle.ti_replay.specs.LateTickets.{steps_of}
 use Rattle.ti_replay.specs.Makers.{made_by, StartsWith}
 
 -- A history that went on by others' entries, beside what it was: the mode, what the thread has spent, and whether the steps
--- that it has logged may come, are the same. So are its frames behind those steps where it runs, since a pop waits there
+-- that it has logged may come, are the same. So are its frames after those steps where it runs, since a pop waits there
 pub record LeavesIt (limits : Limits) (old new : List Entry) (steps : List Step) : Type 0 where
   pub mode : (view limits new).mode ≡ (view limits old).mode
   pub frames : is_running (view limits old).mode ≡ true → (view limits (new ++ steps_of steps)).frames ≡ (view limits (old ++ steps_of steps)).frames

@@ -54,7 +54,7 @@ abbrev pub left_own : Limits → List Entry → Option Entry → List Entry
 left_own limits history (Some x) = if_none (own_refusal limits (view limits history) (own_spent history) x) (x ∷ [])
 left_own limits history None = []
 
--- the entries that an event leaves behind a history of its thread, where it is the thread's own or an admitted call
+-- the entries that an event leaves after a history of its thread, where it is the thread's own or an admitted call
 abbrev pub left_by : Limits → List Entry → Event → List Entry
 left_by limits history (Poll t) = left_by_poll limits history
 left_by limits history (Ask e t call) = entry.Asked e (asked_by e history) call ∷ []
@@ -63,7 +63,7 @@ left_by limits history (Read e t max_count) = if_none (hold_refusal (view limits
 left_by limits history (Go e t) = if_none (hold_refusal (view limits history) (Go e t)) (entry.Go e ∷ [])
 left_by limits history event = left_own limits history (own_entry event)
 
--- whether an event, behind these, is the thread's own or an admitted call at it
+-- whether an event, after these, is the thread's own or an admitted call at it
 abbrev pub reaches : Limits → ThreadNo → List Happening → Happening → Bool
 reaches limits thread front h =
     (is_own_of thread h.event && nat_lt thread.0 limits.threads)
@@ -128,7 +128,7 @@ abbrev pub refused_or : Option TiError → Option Outcome → Option Outcome
 refused_or (Some error) other = Some (outcome.Gave (answer.Refused error))
 refused_or None other = other
 
--- what an event at a thread, or about capabilities, comes to among all events, behind a front of them
+-- what an event at a thread, or about capabilities, comes to among all events, after a front of them
 abbrev pub outcome_of : Limits → ThreadNo → List Happening → List Happening → Happening → Option Outcome
 outcome_of limits thread all front h =
     let d = dealings_by limits (agent_of h.event) thread front in

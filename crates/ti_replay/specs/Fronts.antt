@@ -42,12 +42,12 @@ abbrev pub frames_popped : Limits → List Entry → Entry → ℕ
 frames_popped limits history (Asked env number Pop) = if is_done (answer_of (view limits history) env Pop) then 1 else 0
 frames_popped limits history _ = 0
 
--- how many the entries behind a front take away
+-- how many the entries after a front take away
 abbrev pub popped_behind : Limits → List Entry → List Entry → ℕ
 popped_behind limits front [] = 0
 popped_behind limits front (x ∷ more) = frames_popped limits front x + popped_behind limits (front ++ x ∷ []) more
 
--- Behind a front that stands for an environment, up to its go: no entry of the thread's own, one mode, and the frames of
+-- After a front that stands for an environment, up to its go: no entry of the thread's own, one mode, and the frames of
 -- the front, but for those that were popped, the newest first
 pub record IsStill (limits : Limits) (env : EnvNo) (front more : List Entry) : Type 0 where
   pub none : made_by 0 more ≡ []
@@ -60,20 +60,20 @@ FrontsStay =
     (limits : Limits) (env : EnvNo) (front more : List Entry) → is_legal limits (front ++ more) ≡ true → is_standing limits front env ≡ true → lets_go env more ≡ false
     → IsStill limits env front more
 
--- An answer tells of the mode and the frames of a front, after the pops of the entries behind it. The suspended flag may
+-- An answer tells of the mode and the frames of a front, after the pops of the entries after it. The suspended flag may
 -- have changed since
 abbrev pub TellsOf : Limits → List Entry → List Entry → ℤ → Answer → Type 0
 TellsOf limits front more max_count a =
     (suspended : Bool)
     × (a ≡ answer.Stack (bits_of (view limits front).mode suspended) (bare_trace (take (or_zero max_count) (drop (popped_behind limits front more) (view limits front).frames))))
 
--- what tells of a later front tells of the first: its mode, and its frames after all pops behind it
+-- what tells of a later front tells of the first: its mode, and its frames after all pops after it
 abbrev pub FrontsTell : Type 0
 FrontsTell =
     (limits : Limits) (env : EnvNo) (front more rest : List Entry) (max_count : ℤ) (a : Answer) → IsStill limits env front more → TellsOf limits (front ++ more) rest max_count a
     → TellsOf limits front (more ++ rest) max_count a
 
--- The same of whoever knows the entries of the environment alone: of a history that goes on behind a front that stands, no
+-- The same of whoever knows the entries of the environment alone: of a history that goes on after a front that stands, no
 -- more has to be known than that the environment let nobody go by an entry of its own
 abbrev pub FrontsStayByOwn : Type 0
 FrontsStayByOwn =

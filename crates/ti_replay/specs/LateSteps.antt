@@ -1,4 +1,4 @@
--- A thread's own step may come into the history late: behind a call, a stop or a go that came after it.
+-- A thread's own step may come into the history late: after a call, a stop or a go that came after it.
 use Rattle.std.specs.Prelude.{ℕ, ◌+◌, ◌≡◌, Bool, true, false, if◌then◌else◌, ◌==◌, List, ◌∷◌, ◌++◌, length}
 use Rattle.ti_types.specs.declared.limits.Limits.{Limits}
 use Rattle.ti_types.specs.declared.step.Step.{Step}
@@ -8,7 +8,7 @@ use Rattle.ti_replay.specs.View.{view}
 use Rattle.ti_replay.specs.Legal.{is_legal}
 use Rattle.ti_replay.specs.Replies.{reply}
 
--- the entries that a step may come behind
+-- the entries that a step may come after
 abbrev pub is_passed : Entry → Bool
 is_passed (Asked env number call) = true
 is_passed (Stop env) = true

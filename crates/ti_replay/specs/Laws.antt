@@ -19,7 +19,7 @@ use Rattle.ti_replay.specs.Legal.{is_legal}
 use Rattle.ti_replay.specs.Admission.{Happening}
 use Rattle.ti_replay.specs.Events.{history_of}
 
--- what has taken place in a history stays, whatever comes behind it
+-- what has taken place in a history stays, whatever comes after it
 abbrev pub SettledStays : Type 0
 SettledStays = (history more : List Entry) → (rest : List Placed) × (settled (history ++ more) ≡ settled history ++ rest)
 

@@ -111,11 +111,11 @@ situation limits history env =
       asked = counted env (λ e. asked_by e history);
     }
 
--- whether an entry may come behind a history
+-- whether an entry may come after a history
 abbrev pub may_follow : Limits → List Entry → Entry → Bool
 may_follow limits history x = fits limits (situation limits history (env_of x)) x
 
--- the first entry that may not come where it stands, behind a front of the history
+-- the first entry that may not come where it stands, after a front of the history
 abbrev pub first_illegal : Limits → List Entry → List Entry → Option ℕ
 first_illegal limits front [] = None
 first_illegal limits front (x ∷ rest) =

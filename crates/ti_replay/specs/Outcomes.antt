@@ -48,11 +48,11 @@ out_by limits all front h (GetCaps e) = caps_outcome limits (caps_of e front) h.
 out_by limits all front h (SetEnvWord e w) = word_outcome limits e answer.Done
 out_by limits all front h (GetEnvWord e) = word_outcome limits e (answer.Word (env_word e front))
 
--- what an event comes to among all events, behind a front of them. None: it is not answered
+-- what an event comes to among all events, after a front of them. None: it is not answered
 abbrev pub out_of : Limits → List Happening → List Happening → Happening → Option Outcome
 out_of limits all front h = out_by limits all front h h.event
 
--- what each of these comes to among all events, behind a front of them
+-- what each of these comes to among all events, after a front of them
 abbrev pub outs_from : Limits → List Happening → List Happening → List Happening → List (Option Outcome)
 outs_from limits all front [] = []
 outs_from limits all front (h ∷ hs) = out_of limits all front h ∷ outs_from limits all (front ++ h ∷ []) hs
@@ -61,7 +61,7 @@ outs_from limits all front (h ∷ hs) = out_of limits all front h ∷ outs_from 
 abbrev pub outs : Limits → List Happening → List (Option Outcome)
 outs limits events = outs_from limits events [] events
 
--- whether an outcome says that memory was wanting
+-- whether an outcome says that memory ran out
 abbrev pub is_for_memory : Outcome → Bool
 is_for_memory (outcome.Gave (answer.Refused OutOfMemory)) = true
 is_for_memory _ = false
@@ -70,11 +70,11 @@ abbrev pub was_for_memory : Option Outcome → Bool
 was_for_memory (Some o) = is_for_memory o
 was_for_memory None = false
 
--- an event with this outcome: where memory was wanting is read off the outcome
+-- an event with this outcome: where memory ran out is read off the outcome
 abbrev pub happening : Event → Option Outcome → Happening
 happening event o = record { event = event; wanting = was_for_memory o }
 
--- the events, with the places where memory was wanting read off the outcomes
+-- the events, with the places where memory ran out read off the outcomes
 abbrev pub happenings : List Event → List (Option Outcome) → List Happening
 happenings (x ∷ xs) (o ∷ os) = happening x o ∷ happenings xs os
 happenings [] os = []

@@ -26,6 +26,6 @@ reply_from v (p ∷ entries) place = option_or (if p.0 == place then answer_to v
 abbrev pub reply : Limits → List Entry → ℕ → Option Answer
 reply limits history place = reply_from (new_thread limits) (settled history) place
 
--- what a list with an answer or none for each place says at a place. None behind its end
+-- what a list with an answer or none for each place says at a place. None after its end
 abbrev pub told_at : List (Option Answer) → ℕ → Option Answer
 told_at answers place = option_and_then (option_map said) (slice_get answers place)

@@ -46,7 +46,7 @@ abbrev pub is_still : EnvNo → List Entry → Bool
 is_still env [] = true
 is_still env (x ∷ history) = if is_go_of env x then true else not (is_own_entry x) && is_still env history
 
--- what comes behind a history that stands for an environment
+-- what comes after a history that stands for an environment
 abbrev pub StandsStill : Type 0
 StandsStill =
     (limits : Limits) (history more : List Entry) (env : EnvNo) →
@@ -80,13 +80,13 @@ was_done _ = false
 abbrev pub pop_count : ThreadNo → Event → Option Outcome → ℕ
 pop_count thread event o = if is_pop_at thread event && was_done o then 1 else 0
 
--- how many pops at the thread are done, among events behind a front of all events
+-- how many pops at the thread are done, among events after a front of all events
 abbrev pub pops_done : Limits → ThreadNo → List Happening → List Happening → List Happening → ℕ
 pops_done limits thread all front [] = 0
 pops_done limits thread all front (h ∷ more) =
     pop_count thread h.event (out_of limits all front h) + pops_done limits thread all (front ++ h ∷ []) more
 
--- a thread is as it was at an earlier front of the events, and stays so behind more of them: the environment's stop
+-- a thread is as it was at an earlier front of the events, and stays so after more of them: the environment's stop
 -- stands, each own event is refused and leaves nothing, and an admitted read tells of the earlier mode and frames. Of
 -- the frames only those are gone that were popped since, the newest first. The suspended flag may change
 pub record IsHeld (limits : Limits) (env : EnvNo) (thread : ThreadNo) (front more now : List Happening) : Type 0 where

@@ -11,7 +11,7 @@ use std::alloc::{AllocError, Global};
 use ti_types::{Answer, Call, Entry, EnvNo, FrameList, ThreadView, TiError, TraceBuf, state_bits};
 
 #[tactic(auto, using(crate::proofs::TraceLaws::take_more))]
-/// At most so many frames from the one at a depth on, and none where the number is negative.
+/// At most this many frames from the one at a depth on, and none where the number is negative.
 fn trace(
     alloc: Global,
     frames: &FrameList,
@@ -129,7 +129,7 @@ fn answer(alloc: Global, view: &ThreadView, env: EnvNo, call: Call) -> Result<An
 
 /// What is answered where an entry takes place at a thread of this view: a call's answer (JVM TI 11, the function
 /// named at each `Call`), with 15, 103, 31, 14 or 13 where the thread refuses it; the state and the newest frames at
-/// a read; and None at every other entry. The error is want of memory for the frames of a trace or a read.
+/// a read; and None at every other entry. The error is lack of memory for the frames of a trace or a read.
 pub fn answer_entry(
     alloc: Global,
     view: &ThreadView,

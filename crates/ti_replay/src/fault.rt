@@ -1,3 +1,4 @@
+//! Why a history is not replayed.
 use std::alloc::AllocError;
 
 /// Why a history has no view and no replies.
@@ -15,7 +16,7 @@ impl From<AllocError> for ReplayFault {
 
     ghost from_gives = { λ _ e. e ≡ Memory };
 
-    /// Want of memory is `Memory`.
+    /// Lack of memory is `Memory`.
     fn from(_: AllocError) -> Self {
         ReplayFault::Memory
     }

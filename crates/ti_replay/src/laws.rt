@@ -23,7 +23,7 @@ pub fn runs_agree()
     ensures { TellsTheKept }
 {}
 
-/// A thread's own step directly before a call, a stop or a go may come directly behind it instead.
+/// A thread's own step directly before a call, a stop or a go may come directly after it instead.
 pub fn steps_may_be_late()
     ensures { StepsMayBeLate }
 {}
@@ -134,15 +134,15 @@ pub fn stops_are_own()
     ensures { StopsAreOwn }
 {}
 
-/// Behind a front that stands for an environment, up to its go: no entry of the thread's own, one mode, and the frames of
-/// the front after the pops behind it. That the environment let nobody go, its own entries say.
+/// After a front that stands for an environment, up to its go: no entry of the thread's own, one mode, and the frames of
+/// the front after the pops after it. That the environment let nobody go, its own entries say.
 pub fn fronts_stay()
     ensures fronts { FrontsStay }
     ensures own { FrontsStayByOwn }
 {}
 
 /// What a read tells of a later front, it tells of the one that stood first: its mode, and its frames after all pops
-/// behind it. So all reads of an environment between its stop and its go tell of one front.
+/// after it. So all reads of an environment between its stop and its go tell of one front.
 pub fn fronts_tell()
     ensures { FrontsTell }
 {}

@@ -1,3 +1,4 @@
+//! How far a replay has come.
 ghost use Rattle.std.specs.Prelude.{◌≡◌, ℕ, ◌+◌, ◌<◌, ◌^◌, ◌∷◌, [], ◌++◌, true, length, IfOk, OnOk, replicate};
 ghost use Rattle.ti_replay.specs.Costs.{no_costs, charged};
 ghost use Rattle.ti_replay.specs.View.{new_thread};
@@ -39,7 +40,7 @@ impl Model for Progress {
 }
 
 impl Progress {
-    /// Of a history with no entry. The error is want of memory for a word and a row of costs per environment.
+    /// Of a history with no entry. The error is lack of memory for a word and a row of costs per environment.
     pub fn new(alloc: Global, limits: &Limits) -> Result<Self, AllocError>
         ensures { IfOk result (λ p. p ≡ placed_state limits.now []) }
     {
@@ -73,7 +74,7 @@ impl Progress {
         fits(limits, &self.view, armed, self.own, costs, entry)
     }
 
-    /// Adds an entry that may come next: it takes place, or waits. The error is want of memory.
+    /// Adds an entry that may come next: it takes place, or waits. The error is lack of memory.
     #[tactic(auto, using(crate::proofs::CostLaws::due))]
     pub fn enter(&mut self, limits: &Limits, entry: Entry) -> Result<(), AllocError>
         requires may { may_enter limits.now self.old entry ≡ true }
@@ -167,7 +168,7 @@ impl Progress {
         fits
     }
 
-    /// Adds an entry, where it may come next, and says whether it may; else nothing changes. The error is want of memory.
+    /// Adds an entry, where it may come next, and says whether it may; else nothing changes. The error is lack of memory.
     pub fn advance(&mut self, limits: &Limits, entry: Entry) -> Result<bool, AllocError>
         requires room { self.old.next + 1 < 2 ^ 64 }
         ensures may { IfOk result (λ may. may ≡ may_enter limits.now self.old entry) }
@@ -191,7 +192,7 @@ impl Progress {
     }
 
     /// Adds an entry that may come next, and says what is answered to the one of a place, where none was answered
-    /// before. The error is want of memory.
+    /// before. The error is lack of memory.
     #[tactic(auto, using(crate::proofs::CostLaws::due))]
     pub fn enter_asking(
         &mut self,
@@ -225,7 +226,7 @@ impl Progress {
     }
 
     /// Adds an entry that may come next, and writes what is answered to each entry that takes place then at its place.
-    /// There is a place for each earlier entry, and one more is added. The error is want of memory.
+    /// There is a place for each earlier entry, and one more is added. The error is lack of memory.
     #[tactic(auto, using(crate::proofs::CostLaws::due))]
     pub fn enter_telling(
         &mut self,

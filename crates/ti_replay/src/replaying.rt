@@ -1,3 +1,4 @@
+//! Replays: whether a history is legal, and what its calls were told.
 ghost use Rattle.std.specs.Prelude.{◌≡◌, ℕ, true, IfOk, IfErr, OnOk, length};
 ghost use Rattle.ti_replay.specs.View.{view};
 ghost use Rattle.ti_replay.specs.Legal.{is_legal};

@@ -1,3 +1,4 @@
+//! Entries one after another, with the answers to all calls.
 ghost use Rattle.std.specs.Prelude.{◌≡◌, ◌<◌, ◌^◌, ℕ, true, length, OnOk, ◌==◌, if◌then◌else◌, None};
 ghost use Rattle.std.specs.Option.{option_map, option_or};
 ghost use Rattle.ti_types.specs.Answer.{said};

@@ -188,7 +188,7 @@ fit_of_e = (refl, (refl, (refl, (refl, tt))))
 fit_of_f : CallsFit one_thread histories_of_both f [] (call.AllStacks (pos 2) ∷ []) (Stacks (info t 0x1000e1 [] ∷ []) ∷ [])
 fit_of_f = (refl, tt)
 
--- ---- calls are spent, and want of memory is told
+-- ---- calls are spent, and lack of memory is told
 
 abbrev two_calls : Limits
 two_calls = record { threads = 1; envs = 1; depth = 4; own = 32; calls = 2; in_range = ((lit≤ tt, lit≤ tt), (lit≤ tt, lit≤ tt), (lit≤ tt, lit≤ tt), (lit≤ tt, lit≤ tt), (lit≤ tt, lit≤ tt)) }
@@ -284,7 +284,7 @@ fit_nothing = (refl, (refl, (refl, tt)))
 
 -- ---- the order of a list call's own refusals
 
--- no thread, then a negative count, then want of memory, then too few calls left
+-- no thread, then a negative count, then lack of memory, then too few calls left
 fit_refused : CallsFit two_calls ([] ∷ []) e []
     (call.ListStacks (ninth ∷ []) (negsuc 0) ∷ call.ListStacks (t ∷ t ∷ []) (negsuc 0) ∷ call.ListStacks (t ∷ t ∷ []) (pos 1) ∷ call.ListStacks (t ∷ t ∷ []) (pos 1) ∷ call.SuspendList (ninth ∷ []) ∷ [])
     (Plain (answer.Refused InvalidThread) ∷ Plain (answer.Refused IllegalArgument) ∷ Plain (answer.Refused OutOfMemory) ∷ Plain (answer.Refused CallsSpent) ∷ Plain (answer.Refused MustPossessCapability) ∷ [])
@@ -294,7 +294,7 @@ fit_refused = (refl, (refl, (refl, (refl, (refl, tt)))))
 all_for_memory : CallsFit least_calls ([] ∷ []) e [] (call.AllStacks (pos 1) ∷ []) (Plain (answer.Refused OutOfMemory) ∷ []) → ⊥
 all_for_memory h = cc h.0
 
--- ---- a frame is popped, and a stack is read behind it
+-- ---- a frame is popped, and a stack is read after it
 
 abbrev calls_popping : List AgentCall
 calls_popping = call.AddCaps both_caps ∷ call.Ask t Suspend ∷ call.Ask t Pop ∷ call.Ask t Pop ∷ call.ListStacks (t ∷ []) (pos 4) ∷ []

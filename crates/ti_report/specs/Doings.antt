@@ -19,7 +19,7 @@ use Rattle.ti_live.specs.declared.call.AgentCall.TheVariants as call
 use Rattle.ti_live.specs.declared.reply.Reply.{Reply}
 use Rattle.ti_live.specs.declared.reply.Reply.TheVariants.{Plain}
 
--- so many threads, by number from this one on
+-- this many threads, by number from this one on
 abbrev pub threads_from : ℕ → ℕ → List ThreadNo
 threads_from first zero = []
 threads_from first (suc n) = record { 0 = first } ∷ threads_from (first + 1) n
@@ -53,14 +53,14 @@ events_of limits e (call.ResumeList threads) = map (λ t. Ask e t Resume) thread
 events_of limits e (call.AllStacks max_count) = looks limits e (every_thread limits) max_count
 events_of limits e (call.ListStacks threads max_count) = looks limits e threads max_count
 
--- whether the agent can pay for a stop and so many reads, behind what it has done
+-- whether the agent can pay for a stop and this many reads, after what it has done
 abbrev pub can_pay : Limits → EnvNo → List Happening → ThreadNo → ℕ → Bool
 can_pay limits e done t reads = nat_le ((dealings limits e t done).spent + (1 + reads)) limits.calls
 
 abbrev pub may_suspend : Limits → EnvNo → List Happening → Bool
 may_suspend limits e done = holds_all (dealings limits e (record { 0 = 0 }) done).caps (needed_by Suspend)
 
--- why a call is refused as a whole, behind what its agent has done. One with an answer of its own never is
+-- why a call is refused as a whole, after what its agent has done. One with an answer of its own never is
 abbrev pub refused_whole : Limits → EnvNo → List Happening → (wanting : Bool) → AgentCall → Option TiError
 refused_whole limits e done wanting (call.SuspendList threads) = or_else (unless (may_suspend limits e done) MustPossessCapability) (unless (not wanting) OutOfMemory)
 refused_whole limits e done wanting (call.ResumeList threads) = or_else (unless (may_suspend limits e done) MustPossessCapability) (unless (not wanting) OutOfMemory)
@@ -75,12 +75,12 @@ refused_whole limits e done wanting (call.ListStacks threads max_count) =
     (unless (list_all (λ t. can_pay limits e done t (times t threads)) threads) CallsSpent)))
 refused_whole limits e done wanting _ = None
 
--- whether the reply says that memory was wanting
+-- whether the reply says that memory ran out
 abbrev pub wants : Reply → Bool
 wants (Plain (Refused OutOfMemory)) = true
 wants _ = false
 
--- what the agent has done by a call that got this reply, behind what it did before: nothing where the call was refused
+-- what the agent has done by a call that got this reply, after what it did before: nothing where the call was refused
 -- as a whole
 abbrev pub done_by : Limits → EnvNo → List Happening → AgentCall → Reply → List Happening
 done_by limits e done call reply =

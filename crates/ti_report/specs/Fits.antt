@@ -73,7 +73,7 @@ sort_of (ListStacks threads max_count) = stacks
 sort_of _ = single
 
 module _ (limits : Limits) (histories : List (List Entry)) (e : EnvNo) where
-  -- the code of each of these, behind what was done
+  -- the code of each of these, after what was done
   abbrev pub codes_from : List Happening → List Happening → List (Option ℕ)
   codes_from done [] = []
   codes_from done (h ∷ hs) = code_of (told limits histories e done h) ∷ codes_from (done ++ h ∷ []) hs
@@ -104,7 +104,7 @@ module _ (limits : Limits) (histories : List (List Entry)) (e : EnvNo) where
   RefusedOr (Some error) reply other = reply ≡ Plain (Refused error)
   RefusedOr None reply other = other
 
-  -- a call's reply, behind what its agent has done
+  -- a call's reply, after what its agent has done
   abbrev pub CallFits : List Happening → AgentCall → Reply → Type 0
   CallFits done call reply =
       RefusedOr (refused_whole limits e done (wants reply) call) reply (IsReply done (sort_of call) (done_by limits e done call reply) reply)

@@ -89,7 +89,7 @@ is_about_env (SetEnvWord e word) = true
 is_about_env (GetEnvWord e) = true
 is_about_env _ = false
 
--- why an event does not reach its thread, behind what its agent has done
+-- why an event does not reach its thread, after what its agent has done
 abbrev pub why : Limits → EnvNo → List Happening → Happening → Option TiError
 why limits e done h = refusal limits (dealings limits e (thread_of h.event) done) h
 
@@ -97,7 +97,7 @@ why limits e done h = refusal limits (dealings limits e (thread_of h.event) done
 abbrev pub uses : Limits → EnvNo → ThreadNo → List Happening → Happening → ℕ
 uses limits e t done h = if is_call h.event && is_aimed_at t h.event && is_none (why limits e done h) then 1 else 0
 
--- how many calls of these reach this thread, behind what was done
+-- how many calls of these reach this thread, after what was done
 abbrev pub uses_from : Limits → EnvNo → ThreadNo → List Happening → List Happening → ℕ
 uses_from limits e t done [] = 0
 uses_from limits e t done (h ∷ hs) = uses limits e t done h + uses_from limits e t (done ++ h ∷ []) hs
@@ -127,7 +127,7 @@ given_by _ = None
 abbrev pub history_at : List (List Entry) → ThreadNo → List Entry
 history_at histories t = slice_index_or histories t.0 []
 
--- What an event is told, behind what its agent has done. A call at a thread is refused before it, with 209 only where the
+-- What an event is told, after what its agent has done. A call at a thread is refused before it, with 209 only where the
 -- agent's calls, stops and reads in the thread's history are as many as it may spend; or it uses the next entry that the
 -- agent left there, which is the call's own, and is told what that entry got. A call about the environment is told what it
 -- comes to among the agent's own doings

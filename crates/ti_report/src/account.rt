@@ -78,7 +78,7 @@ impl Account {
         self.caps
     }
 
-    /// Whether a stop and so many reads can be paid for at a thread.
+    /// Whether a stop and this many reads can be paid for at a thread.
     pub fn can_pay(&self, limits: Limits, thread: ThreadNo, reads: usize) -> bool
         ensures { result ≡ can_pay_now limits self.now thread reads }
     {
@@ -135,7 +135,7 @@ impl Account {
         self.why_reaching(limits, thread, call.is_well_formed())
     }
 
-    /// Why an event does not reach its thread, where memory was wanting for its answer or not (this profile's order).
+    /// Why an event does not reach its thread, where memory ran out for its answer or not (this profile's order).
     pub fn why(&self, limits: Limits, wanting: bool, event: Event) -> Option<TiError>
         ensures { result ≡ why_now limits self.now wanting event }
     {
@@ -394,7 +394,7 @@ fn is_call(event: Event) -> bool
     )
 }
 
-/// Why a call of an environment is not admitted: 116, then its own refusal, and 110 where memory is wanting for its
+/// Why a call of an environment is not admitted: 116, then its own refusal, and 110 where memory runs out for its
 /// answer.
 fn why_admitting(
     limits: Limits,

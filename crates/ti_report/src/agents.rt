@@ -47,7 +47,7 @@ fn used_up(account: &Account, limits: Limits, books: &[Book]) -> bool
     true
 }
 
-/// Whether an agent's calls with their replies use up the entries that it left. The error is want of memory.
+/// Whether an agent's calls with their replies use up the entries that it left. The error is lack of memory.
 pub fn agent_fits(
     alloc: Global,
     limits: Limits,

@@ -95,7 +95,7 @@ fn add_row(rows: &mut Vec<Listed<Row>>, index: usize, row: Row) -> Result<(), Al
     Ok(())
 }
 
-/// So many agents without rows.
+/// This many agents without rows.
 #[tactic(auto, using(crate::proofs::BookLaws::none_more))]
 fn no_rows(alloc: Global, count: u32) -> Result<Vec<Listed<Row>>, AllocError>
     ensures length { IfOk result (λ r. length r.items ≡ count) }
@@ -150,7 +150,7 @@ fn rows(
     Ok(rows)
 }
 
-/// Counts an entry for the agent that pays for it, where none has paid for more than so many.
+/// Counts an entry for the agent that pays for it, where none has paid for more than this many.
 fn pay(spent: &mut Vec<usize>, entry: Entry, most: usize)
     requires few { (k : ℕ) → slice_index spent.old.items k ≤ most }
     requires room { most + 1 < 2 ^ 64 }
@@ -178,7 +178,7 @@ fn spent(alloc: Global, limits: Limits, entries: &[Entry]) -> Result<Vec<usize>,
     Ok(spent)
 }
 
-/// What a history tells its agents, and None where the history is not legal. The error is want of memory.
+/// What a history tells its agents, and None where the history is not legal. The error is lack of memory.
 pub fn read_book(
     alloc: Global,
     limits: Limits,

@@ -18,7 +18,7 @@ use std::alloc::{AllocError, Global};
 use ti_live::{AgentCall, Reply};
 use ti_types::{Answer, Event, Limits, TiError};
 
-/// Whether the reply says that memory was wanting.
+/// Whether the reply says that memory ran out.
 fn wants(reply: &Reply) -> bool
     ensures { result ≡ wants reply.now }
 {
@@ -112,7 +112,7 @@ fn reply_fits(
     }
 }
 
-/// Whether a call is replied so. The error is want of memory.
+/// Whether a call is replied so. The error is lack of memory.
 pub fn call_fits(
     alloc: Global,
     account: &mut Account,

@@ -37,7 +37,7 @@ pub fn every_thread(alloc: Global, limits: Limits) -> Result<Vec<ThreadNo>, Allo
     Ok(threads)
 }
 
-/// One more at a thread, where there is such a thread, and at no thread more than so many.
+/// One more at a thread, where there is such a thread, and at no thread more than this many.
 fn count_one(counts: &mut Vec<usize>, thread: ThreadNo, most: usize)
     requires few { (k : ℕ) → slice_index counts.old.items k ≤ most }
     requires room { most + 1 < 2 ^ 64 }

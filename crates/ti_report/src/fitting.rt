@@ -103,7 +103,7 @@ fn has_shape(script: &Script, report: &LiveReport) -> bool
 /// history is legal; each agent's calls with their replies use up, in order, the entries that it left in the histories, each
 /// with the reply of its own entry; and each thread's starts, steps and hand-overs to native code or blocked are its walk's
 /// operations, without the refused ones. Where `spent` is true, an agent's last calls may have no reply, and a walk's last
-/// operations no entry. Neither argument need come from a run. The one error is want of memory for the test.
+/// operations no entry. Neither argument need come from a run. The only error is lack of memory for the test.
 pub fn fits(alloc: Global, script: &Script, report: &LiveReport) -> Result<bool, AllocError>
     ensures { IfOk result (λ yes. (yes ≡ true) ↔ Fits script.now report.now) }
 {

@@ -20,7 +20,7 @@ fn same_info(info: &StackInfo, thread: ThreadNo, state: u32, frames: &TraceBuf) 
         && same_frames(info.frames.frames(), frames.frames())
 }
 
-/// The place behind a stack, where the stack at a place is that one, or is left out since the thread is not alive. None
+/// The place after a stack, where the stack at a place is that one, or is left out since the thread is not alive. None
 /// where it is another.
 fn behind_stack(
     thread: ThreadNo,
@@ -45,7 +45,7 @@ fn behind_stack(
     Some(next + 1)
 }
 
-/// The place behind the stack that a call is told, where the stack at a place is that one, and the place itself for a stop
+/// The place after the stack that a call is told, where the stack at a place is that one, and the place itself for a stop
 /// or a go that is done. None where it is not so.
 fn next_stack(
     account: &Account,

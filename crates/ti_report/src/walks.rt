@@ -55,7 +55,7 @@ fn mark(flags: &mut Vec<bool>, refusal: Refusal)
     }
 }
 
-/// Which of so many operations are refused.
+/// Which of this many operations are refused.
 #[tactic(auto, using(crate::proofs::WalkLaws::refused_take))]
 fn flags(alloc: Global, refused: &[Refusal], count: usize) -> Result<Vec<bool>, AllocError>
     ensures length { IfOk result (λ f. length f.items ≡ count) }
@@ -124,7 +124,7 @@ fn begins(one: &[Entry], other: &[Entry]) -> bool
     true
 }
 
-/// Whether a thread's entries are its walk's operations. The error is want of memory.
+/// Whether a thread's entries are its walk's operations. The error is lack of memory.
 pub fn walk_fits(
     alloc: Global,
     spent: bool,

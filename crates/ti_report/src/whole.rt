@@ -35,7 +35,7 @@ fn can_pay_everywhere(account: &Account, limits: Limits) -> bool
     true
 }
 
-/// Whether a stop and so many reads can be paid for at each of these threads.
+/// Whether a stop and this many reads can be paid for at each of these threads.
 fn can_pay(account: &Account, limits: Limits, threads: &[ThreadNo], counts: &[usize]) -> bool
     requires { list_all (λ t. nat_lt t.0 (length counts.now)) threads.now ≡ true }
     ensures { result ≡ list_all (λ t. can_pay_now limits account.now t (slice_index counts.now t.0)) threads.now }
@@ -61,9 +61,9 @@ fn why_list(account: &Account, wanting: bool) -> Option<TiError>
     }
 }
 
-/// Why a call is refused as a whole, where memory was wanting for it or not. Of `ListStacks` this is 10, 103, 110 and 209 in
+/// Why a call is refused as a whole, where memory ran out for it or not. Of `ListStacks` this is 10, 103, 110 and 209 in
 /// this order, of `AllStacks` 103, 209 and 110, of a list of suspensions or resumptions 99 and 110 (JVM TI 11's errors; the
-/// order is this profile's). The error is want of memory for this test.
+/// order is this profile's). The error is lack of memory for this test.
 pub fn why_whole(
     alloc: Global,
     account: &Account,

@@ -16,7 +16,7 @@ use Rattle.ti_runner.specs.declared.walking.Walked.{Walked}
 use Rattle.ti_runner.specs.declared.activities.SeatOf.{SeatOf}
 use Rattle.ti_runner.specs.Cells.{IsNewOwner, IsBack, AreOwners, AreBack, seats_at}
 
--- what stands behind a front
+-- what stands after a front
 pub seam : {A : Type 0} (pre : List A) (x : A) (rest all : List A) (d : A) → pre ++ x ∷ rest ≡ all → slice_index_or all (length pre) d ≡ x
 seam pre x rest all d h = subst (λ l. slice_index_or l (length pre) d ≡ x) h (get_or-append_seam pre x rest d)
 

@@ -38,7 +38,7 @@ pub record AreBack (cells : List TableId) (walked : List Walked) : Type 0 where
   pub here : walked_at walked ≡ cells
   pub owners : All (λ w. w.seat.view.number ≡ 0) walked
 
--- the seats of so many first environments at each cell, cell k that of thread k
+-- the seats of this many first environments at each cell, cell k that of thread k
 pub record AreSeats (limits : Limits) (envs : ℕ) (cells : List TableId) (seats : List (List Sitting)) : Type 0 where
   pub count : length seats ≡ length cells
   pub each : (k : ℕ) (l : List Sitting) (cell : TableId) → slice_get seats k ≡ Some l → slice_get cells k ≡ Some cell → l ≡ env_seats cell (subject_of limits (record { 0 = k })) envs

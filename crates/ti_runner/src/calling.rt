@@ -1,3 +1,4 @@
+//! An agent's calls, one after another.
 ghost use Rattle.std.specs.Prelude.{◌≡◌, ◌≤◌, [], length, vec_capacity};
 ghost use Rattle.ti_types.specs.Answer.{said};
 ghost use Rattle.ti_agent.specs.Asks.{IsCalled, in_state, in_count, in_word, in_location, in_trace, in_done};

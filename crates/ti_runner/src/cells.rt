@@ -1,3 +1,4 @@
+//! The cells of a run, their seats, and the environments at them.
 ghost use Rattle.std.specs.Prelude.{ℕ, ◌≡◌, ◌+◌, ◌<◌, IfOk, length, map};
 ghost use Rattle.std.specs.List.{All};
 ghost use Rattle.ti_cell.specs.View.{subject_of};
@@ -22,7 +23,7 @@ pub(crate) struct Cells {
     pub seats: Vec<Vec<EnvSeat>>,
 }
 
-/// A cell for each thread. The one error is want of memory.
+/// A cell for each thread. The only error is lack of memory.
 pub(crate) fn make_cells(alloc: Global, limits: Limits) -> Result<Cells, TiError>
     ensures count { IfOk result (λ m. length m.cells.items ≡ limits.threads) }
     ensures owners { IfOk result (λ m. AreOwners m.cells.items m.owners.items) }
@@ -67,7 +68,7 @@ fn take_desk<'a>(
     }
 }
 
-/// The last of these environments, with a desk at each cell. The one error is want of memory.
+/// The last of these environments, with a desk at each cell. The only error is lack of memory.
 fn environment<'a>(
     alloc: Global,
     limits: Limits,
@@ -90,7 +91,7 @@ fn environment<'a>(
     Ok(Env::new(env, state, desks))
 }
 
-/// All environments, in the order of their numbers. The one error is want of memory.
+/// All environments, in the order of their numbers. The only error is lack of memory.
 pub(crate) fn environments<'a>(
     alloc: Global,
     limits: Limits,

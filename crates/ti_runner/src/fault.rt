@@ -5,7 +5,7 @@ use ti_types::TiError;
 /// Why a live run gives no report.
 #[derive(Clone, Copy, Debug, PartialEq, Eq)]
 pub enum RunFault {
-    /// Memory was wanting, or a thread could not be started.
+    /// Memory ran out, or a thread could not be started.
     Memory,
     /// A cell was not there at its end, or the report does not fit the script. A script whose lists are not as many as its
     /// limits say has no report that fits.

@@ -1,3 +1,4 @@
+//! What a run asks before each operation and call.
 use ti_types::{EnvNo, ThreadNo};
 
 /// What a live run asks before each operation and call, and tells after (this profile). The threads and agents of a run call

@@ -16,7 +16,7 @@ use ti_vmop::VmTurn;
 /// Runs a script: each thread of it is walked by a thread of the operating system, and each agent's calls are made by one.
 /// The gate is asked before each operation and call.
 ///
-/// The report fits its script, for every schedule. The errors: `Memory`, where memory was wanting, or a thread could not be
+/// The report fits its script, for every schedule. The errors: `Memory`, where memory ran out, or a thread could not be
 /// started, and then the activities that were begun went through their lists; `Cell`, where a cell was not there at its end
 /// or the report does not fit (this profile).
 pub fn run_live<R: Threads + Wait + Sync + AllocGlobal, G: Gate>(

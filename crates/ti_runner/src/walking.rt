@@ -1,3 +1,4 @@
+//! A thread's walk, one operation after another.
 ghost use Rattle.std.specs.Prelude.{◌≡◌, []};
 ghost use Rattle.ti_runner.specs.Walks.{cell_of, cell_of_handed};
 

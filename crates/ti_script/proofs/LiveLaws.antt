@@ -15,7 +15,7 @@ last_fails e x (inl memory) = inl memory
 last_fails e (Some f) (inr is) = inr is
 last_fails e None (inr is) = cc is
 
--- the fault of a last test, behind three that hold
+-- the fault of a last test, after three that hold
 fourth_fails : (e : ScriptFault) (a b c x : Option ScriptFault) → a ≡ None → b ≡ None → c ≡ None → Faults e x → Faults e (first_of (a ∷ b ∷ c ∷ x ∷ []))
 fourth_fails e a b c x p q s f = rw (p, q, s) (last_fails e x f)
 

@@ -43,7 +43,7 @@ front_of_part old now new part rest left all g e f = front_left old.bytes now.by
 pub goes_first : (old : Written) (all : List ℕ) → Goes old old all all
 goes_first old all = record { text = refl; len = refl; front = leaves_all old.bytes all; room = omega arith }
 
--- behind the last one nothing is left
+-- after the last one nothing is left
 pub done_text : (old new : Written) (left all : List ℕ) → Goes old new left all → left ≡ [] → new.bytes ≡ old.bytes ++ all
 done_text old new left all g e = sym (append-nil new.bytes) ∙ ap (λ l. new.bytes ++ l) (sym e) ∙ g.text
 

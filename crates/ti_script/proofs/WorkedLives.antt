@@ -159,7 +159,7 @@ no_call_of_a_thread = refl
 one_more_element : live_fault (calling (list (text (codes "all") ∷ whole 1 ∷ whole 1 ∷ []) ∷ [])) ≡ Some (Shape 1)
 one_more_element = refl
 
--- a list's kinds before its names, and its names before the count behind it
+-- a list's kinds before its names, and its names before the count after it
 kinds_first : live_fault (calling (list (text (codes "list") ∷ list (text (codes "zz") ∷ null ∷ []) ∷ whole 1 ∷ []) ∷ [])) ≡ Some (Shape 1)
 kinds_first = refl
 

@@ -1,4 +1,4 @@
--- The entries of a history: a table of words, and what stands behind each.
+-- The entries of a history: a table of words, and what stands after each.
 use Rattle.std.specs.Prelude.{ℕ, List, [], ◌∷◌, ◌+◌, ◌==◌, codes, Option, None, Some, Result, Ok, option_and_then, if◌then◌else◌}
 use Rattle.std.specs.Option.{option_map, option_or, ok_or}
 use Rattle.std.specs.Str.{bytes_eq}
@@ -19,7 +19,7 @@ use Rattle.ti_script.specs.declared.fault.ScriptFault.TheVariants.{Shape}
 use Rattle.ti_script.specs.Tree.{array_in, whole_in}
 use Rattle.ti_script.specs.Events.{◌>>=◌, u32_in, i32_in, kind_named}
 
--- ---- what stands behind a word: nothing, one element or two, read from left to right
+-- ---- what stands after a word: nothing, one element or two, read from left to right
 
 abbrev pub Behind : Type 0 → Type 0
 Behind A = List Data → Option A
@@ -39,7 +39,7 @@ two first second make (d ∷ []) = None
 two first second make (d ∷ e ∷ []) = option_and_then (λ x. option_map (make x) (second e)) (first d)
 two first second make (d ∷ e ∷ f ∷ ds) = None
 
--- what a table says of a word and of what stands behind it
+-- what a table says of a word and of what stands after it
 abbrev pub by_table : {A : Type 0} → List (List ℕ × Behind A) → List ℕ → Behind A
 by_table table text ds = option_and_then (λ behind. behind ds) (lookup (bytes_eq text) table)
 
@@ -111,7 +111,7 @@ abbrev pub listed_entry : (format : ℕ) → List Data → Option Entry
 listed_entry format [] = None
 listed_entry format (d ∷ ds) = option_and_then (λ text. option_or (by_table own_table text ds) (by_table (environment_table format) text ds)) (as_str d)
 
--- an entry: a word and what stands behind it
+-- an entry: a word and what stands after it
 abbrev pub entry_in : (format : ℕ) → Data → Option Entry
 entry_in format d = option_and_then (listed_entry format) (array_in d)
 

@@ -29,7 +29,7 @@ use Rattle.ti_script.specs.Walks.{cast_of}
 abbrev pub live_members : List (List ℕ)
 live_members = codes "limits" ∷ codes "threads" ∷ codes "agents" ∷ codes "methods" ∷ codes "walks" ∷ codes "calls" ∷ []
 
--- an array of so many arrays
+-- an array of this many arrays
 abbrev pub are_lists : ℕ → Data → Bool
 are_lists count d = is_some (array_in d) && (length (elements d) == count && list_all (λ x. is_some (array_in x)) (elements d))
 
@@ -102,7 +102,7 @@ module _ (cast : Cast) (item : ℕ) where
   abbrev pub word_call : EnvNo → List ℕ → List Data → Result AgentCall ScriptFault
   word_call e text ds = listed_or (lookup (bytes_eq text) list_table) ds (word_event cast item (one_table e) text ds >>= λ x. Ok (as_call x))
 
-  -- a word and what stands behind it
+  -- a word and what stands after it
   abbrev pub worded : {A : Type 0} → (List ℕ → List Data → Result A ScriptFault) → List Data → Result A ScriptFault
   worded read [] = Err (Shape item)
   worded read (b ∷ ds) = ok_or (as_str b) (Shape item) >>= λ text. read text ds
@@ -133,14 +133,14 @@ calls_in cast agent item [] = Ok []
 calls_in cast agent item (d ∷ ds) =
     calls_of_one cast (record { 0 = agent }) item (elements d) >>= λ c. calls_in cast (agent + 1) (item + length (elements d)) ds >>= λ cs. Ok (c ∷ cs)
 
--- walks, and then calls, whose items are numbered on behind those of the walks
+-- walks, and then calls, whose items are numbered on after those of the walks
 abbrev pub items_in : Cast → (walks calls : List Data) → Result (List (List Event) × List (List AgentCall)) ScriptFault
 items_in cast walks calls = walks_in cast 0 1 walks >>= λ ws. calls_in cast 0 (1 + count_in_all walks) calls >>= λ cs. Ok (ws, cs)
 
 abbrev pub items_of : Cast → Data → Result (List (List Event) × List (List AgentCall)) ScriptFault
 items_of cast d = items_in cast (elements (at (codes "walks") d)) (elements (at (codes "calls") d))
 
--- the tests behind those of the names: of the two arrays of lists, and then of the items
+-- the tests after those of the names: of the two arrays of lists, and then of the items
 abbrev pub body_fault : Cast → Data → Option ScriptFault
 body_fault cast d = first_of (lists_fault cast d ∷ result_err (items_of cast d) ∷ [])
 

@@ -22,11 +22,11 @@ module _ (methods : List (List ℕ)) where
   abbrev pub frame_text : Frame → List ℕ
   frame_text frame = unwrap_or (slice_get methods frame.method.0) [] ++ (codes "@" ++ place_text frame.place)
 
-  -- each behind a space
+  -- each after a space
   abbrev pub frames_text : List Frame → List ℕ
   frames_text frames = flat_map (λ frame. codes " " ++ frame_text frame) frames
 
--- the name behind a space, where the capability of that bit is held
+-- the name after a space, where the capability of that bit is held
 unfoldable pub held_text : Caps → ℕ → List ℕ → List ℕ
 held_text held bit name = if holds_all held (record { bits = bit }) then codes " " ++ name else []
 

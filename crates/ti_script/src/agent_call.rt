@@ -1,4 +1,4 @@
-//! A call of an agent in a live script: a word and what stands behind it.
+//! A call of an agent in a live script: a word and what stands after it.
 ghost use Rattle.std.specs.Prelude.{◌≡◌, map};
 ghost use Rattle.std.specs.List.{list_all};
 ghost use Rattle.serde_json.specs.View.{view};
@@ -179,7 +179,7 @@ fn word_call(
     }
 }
 
-/// A call of an agent: a word and what stands behind it.
+/// A call of an agent: a word and what stands after it.
 pub(crate) fn call_in(
     alloc: Global,
     cast: &Cast,

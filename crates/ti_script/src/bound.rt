@@ -1,3 +1,4 @@
+//! How long a line can become at most.
 ghost use Rattle.std.specs.Prelude.{◌≡◌, ◌≤◌, ◌+◌, ◌*◌, ◌^◌, ℕ, List, length, IfSome, IfNone};
 ghost use Rattle.ti_script.specs.Texts.{line_text};
 ghost use Rattle.ti_script.specs.Bounds.{AreNamesWithin, frames_in_line};

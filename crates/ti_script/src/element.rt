@@ -1,3 +1,4 @@
+//! Single elements of a document: numbers, names and words.
 ghost use Rattle.std.specs.Prelude.{◌≡◌, map};
 ghost use Rattle.serde_json.specs.View.{view};
 ghost use Rattle.ti_types.specs.Caps.{no_caps};

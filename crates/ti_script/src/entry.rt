@@ -1,3 +1,4 @@
+//! An entry of a history as a document writes it.
 ghost use Rattle.std.specs.Prelude.{◌≡◌, map};
 ghost use Rattle.serde_json.specs.View.{view};
 ghost use Rattle.ti_types.specs.declared.step.Step.TheVariants.{Enter, EnterNative, At};
@@ -40,7 +41,7 @@ fn safe_in(value: &Value) -> Option<Safe>
     safe_named(value.as_str()?)
 }
 
-/// An entry with nothing behind its word.
+/// An entry with nothing after its word.
 fn plain_entry(entry: Entry, rest: &[Value]) -> Option<Entry>
     ensures { result ≡ none entry (map view rest.now) }
 {
@@ -103,7 +104,7 @@ fn own_entry(text: &str, rest: &[Value]) -> Option<Entry>
     }
 }
 
-/// A call with nothing behind its word.
+/// A call with nothing after its word.
 fn plain_call(call: Call, rest: &[Value]) -> Option<Call>
     ensures { result ≡ none call (map view rest.now) }
 {

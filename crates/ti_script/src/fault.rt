@@ -1,3 +1,4 @@
+//! What is wrong with a document.
 ghost use Rattle.std.specs.Prelude.{◌≡◌};
 ghost use Rattle.ti_script.specs.LimitNames.{limit_text};
 
@@ -72,7 +73,7 @@ pub enum ScriptFault {
     /// A number or a count outside its limit.
     #[error("the limit {which} is passed")]
     Limit { which: LimitName },
-    /// Memory was wanting for the tree, the names or the items.
+    /// Memory ran out for the tree, the names or the items.
     #[error("no memory")]
     Memory,
 }

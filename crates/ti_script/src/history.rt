@@ -1,3 +1,4 @@
+//! A history that was read.
 ghost use Rattle.std.specs.Prelude.{◌≡◌, ◌++◌, ◌∷◌, [], IfOk, OnOk, OnErr};
 
 use std::alloc::{AllocError, Global};
@@ -29,7 +30,7 @@ impl EntryList {
         }
     }
 
-    /// No entries, with room for so many, so that adding them takes no memory. The error is want of memory.
+    /// No entries, with room for this many, so that adding them takes no memory. The error is lack of memory.
     pub fn with_room(alloc: Global, count: usize) -> Result<Self, AllocError>
         ensures { IfOk result (λ entries. entries ≡ []) }
     {
@@ -38,7 +39,7 @@ impl EntryList {
         })
     }
 
-    /// Adds an entry at the end. Where memory is wanting, the entries stay as they were.
+    /// Adds an entry at the end. Where memory runs out, the entries stay as they were.
     pub fn push(&mut self, entry: Entry) -> Result<(), AllocError>
         ensures ok { OnOk result (self.new ≡ self.old ++ entry ∷ []) }
         ensures err { OnErr result (self.new ≡ self.old) }

@@ -1,7 +1,7 @@
 //! The texts of a live run's replies, refused operations and verdicts.
 //!
 //! A function here adds its text to the end of `out`. It takes no memory where `out` has room for the text; an error says
-//! that it had not, and that memory was wanting, and then a front of the text has been added to what was there.
+//! that it had not, and that memory ran out, and then a front of the text has been added to what was there.
 ghost use Rattle.std.specs.Prelude.{◌≡◌, ◌++◌, ◌+◌, ◌≤◌, ◌<◌, codes, length, decimal, string_bytes, OnOk, OnErr};
 ghost use Rattle.std.specs.String.{string_len, string_capacity};
 ghost use Rattle.ti_script.specs.Texts.{bits_text, frames_text, AddsFront};

@@ -95,7 +95,7 @@ fn calls_in(
     Ok(calls)
 }
 
-/// Whether a value is an array of so many arrays.
+/// Whether a value is an array of this many arrays.
 #[tactic(auto, using(crate::proofs::TreeLaws::list_all_views, crate::proofs::TreeLaws::length_of_map))]
 fn are_lists(value: &Value, count: usize) -> bool
     ensures { result ≡ are_lists count (view value.now) }
@@ -113,7 +113,7 @@ fn are_arrays(values: &[Value]) -> bool
     values.iter().all(|value| array_in(value).is_some())
 }
 
-/// The arrays of a member that is an array of so many.
+/// The arrays of a member that is an array of this many.
 #[tactic(auto, using(crate::proofs::TreeLaws::length_of_map))]
 fn lists_at<'a>(value: &'a Value, key: &str, count: usize) -> Result<&'a [Value], ScriptFault>
     ensures read { Reads (λ lists. map view lists.now) result (unless (are_lists count (at key.now (view value.now))) head_shape) (elements (at key.now (view value.now))) }
@@ -134,7 +134,7 @@ struct Lists<'a> {
     operations: u32,
 }
 
-/// The walks and the calls, as arrays of so many arrays, with few items in all.
+/// The walks and the calls, as arrays of this many arrays, with few items in all.
 fn lists_in<'a>(cast: &Cast, value: &'a Value) -> Result<Lists<'a>, ScriptFault>
     ensures read { Reads {Y = List Data × List Data} (λ l. (map view l.walks.now, map view l.calls.now)) result (lists_fault cast.now (view value.now)) (elements (at (codes "walks") (view value.now)), elements (at (codes "calls") (view value.now))) }
     ensures counts { IfOk result (λ l. (length l.walks.now ≡ length cast.now.threads) × (length l.calls.now ≡ length cast.now.agents)) }
@@ -224,7 +224,7 @@ fn live_in(alloc: Global, value: &Value) -> Result<Live, ScriptFault>
 /// The live script that the bytes of a document say, or its first fault.
 ///
 /// The bytes are read as one JSON tree; the tree is given up before the script is handed out. `Json` where they are no
-/// JSON text, `Memory` where memory is wanting, and otherwise the first fault of the tree in the order of
+/// JSON text, `Memory` where memory runs out, and otherwise the first fault of the tree in the order of
 /// `specs/Lives.antt`: of the members, the limits and the names, as `read_walk` looks for them; then `Shape` of item 0 where
 /// `walks` is no array of an array for each thread, or `calls` none of an array for each agent; then `Limit` `walks` and
 /// `calls_list`, where there are more than 65,536 operations or calls in all; then of the items, which are numbered from 1

@@ -1,3 +1,4 @@
+//! The names of a document, by their numbers.
 ghost use Rattle.std.specs.Prelude.{◌≡◌, ◌<◌, ◌≤◌, ◌++◌, ◌∷◌, [], length, IfOk, OnErr, not, slice_get, option_copied, if◌then◌else◌};
 ghost use Rattle.ti_script.specs.Names.{number_in, is_among};
 ghost use Rattle.ti_script.specs.Bounds.{AreNamesWithin};
@@ -80,7 +81,7 @@ impl Names {
         longest
     }
 
-    /// Adds a name at the end, where it is not here yet, and says whether it did. Where memory is wanting, the names
+    /// Adds a name at the end, where it is not here yet, and says whether it did. Where memory runs out, the names
     /// stay as they were.
     #[tactic(auto, using(crate::proofs::NameLaws::is_among_texts))]
     pub fn add(&mut self, alloc: Global, name: &str) -> Result<bool, AllocError>

@@ -1,3 +1,4 @@
+//! A thread's own events as a document writes them.
 ghost use Rattle.std.specs.Prelude.{◌≡◌, [], ◌∷◌, map};
 ghost use Rattle.serde_json.specs.View.{view};
 ghost use Rattle.ti_types.specs.declared.event.Event.TheVariants.{Own, ToBlocked};
@@ -10,7 +11,7 @@ use crate::names::Cast;
 use serde_json::Value;
 use ti_types::{Event, Step, ThreadNo};
 
-/// An event with nothing behind its word.
+/// An event with nothing after its word.
 pub(crate) fn plain_event(
     cast: &Cast,
     item: u32,

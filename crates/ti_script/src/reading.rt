@@ -1,3 +1,4 @@
+//! A document as a walk.
 ghost use Rattle.std.specs.Prelude.{◌≡◌, ◌≤◌, ◌++◌, ◌∷◌, [], length, map, None, IfOk, IfErr, MatchResult};
 ghost use Rattle.serde_json.specs.View.{view};
 ghost use Rattle.serde_json.specs.Data.{Data, null};
@@ -68,7 +69,7 @@ pub(crate) fn cast_in(alloc: Global, value: &Value) -> Result<Cast, ScriptFault>
     })
 }
 
-/// The items of an array, at most so many.
+/// The items of an array, at most this many.
 pub(crate) fn items_at<'a>(
     value: &'a Value,
     key: &str,
@@ -138,7 +139,7 @@ fn walk_in(alloc: Global, value: &Value) -> Result<Walk, ScriptFault>
 /// The walk that the bytes of a document say, or its first fault.
 ///
 /// The bytes are read as one JSON tree; the tree is given up before the walk is handed out. `Json` where they are no
-/// JSON text, `Memory` where memory is wanting, and otherwise the first fault of the tree in the order of
+/// JSON text, `Memory` where memory runs out, and otherwise the first fault of the tree in the order of
 /// `specs/Head.antt`, then of `specs/Events.antt` from the first item on. Source: this profile.
 pub fn read_walk(alloc: Global, bytes: &[u8]) -> Result<Walk, ScriptFault>
     ensures ok { IfOk result (λ w. (d : Data) × IsDocument bytes.now d × (walk_fault d ≡ None) × IsWalk d w) }

@@ -1,3 +1,4 @@
+//! A document as a history.
 ghost use Rattle.std.specs.Prelude.{◌≡◌, ◌≤◌, length, map, unwrap_or, None, IfOk, IfErr};
 ghost use Rattle.serde_json.specs.View.{view};
 ghost use Rattle.serde_json.specs.Data.{Data};
@@ -109,7 +110,7 @@ fn history_in(alloc: Global, value: &Value) -> Result<History, ScriptFault>
 /// The history that the bytes of a document say, or its first fault.
 ///
 /// The bytes are read as one JSON tree; the tree is given up before the history is handed out. `Json` where they are no
-/// JSON text, `Memory` where memory is wanting, and otherwise the first fault of the tree in the order of
+/// JSON text, `Memory` where memory runs out, and otherwise the first fault of the tree in the order of
 /// `specs/Histories.antt`. Whether the history is legal is not asked. Source: this profile.
 pub fn read_history(alloc: Global, bytes: &[u8]) -> Result<History, ScriptFault>
     ensures ok { IfOk result (λ h. (d : Data) × IsDocument bytes.now d × (history_fault d ≡ None) × IsHistory d h) }

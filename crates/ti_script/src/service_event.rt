@@ -1,3 +1,4 @@
+//! Global operations, capabilities and environments' words as a document writes them.
 ghost use Rattle.std.specs.Prelude.{◌≡◌, [], ◌∷◌, map};
 ghost use Rattle.serde_json.specs.View.{view};
 ghost use Rattle.ti_types.specs.declared.event.Event.TheVariants.{Stop, Read, Go, AddCaps, Relinquish, SetEnvWord};

@@ -1,3 +1,4 @@
+//! The texts of answers and outcomes.
 ghost use Rattle.std.specs.Prelude.{◌≡◌, ◌++◌, ◌+◌, ◌<◌, ◌≤◌, ◌∷◌, [], false, codes, length, decimal, OnOk, OnErr, string_bytes};
 ghost use Rattle.std.specs.String.{string_len, string_capacity};
 ghost use Rattle.std.specs.Fmt.{digits, digit_glyph};
@@ -284,7 +285,7 @@ pub fn outcome_text(
 /// Adds the line of an outcome to the end of `out`: the event's index from 0, a space, the outcome's text and a line
 /// feed.
 ///
-/// It takes no memory where `out` has room for the line; an error says that it had not, and that memory was wanting, and
+/// It takes no memory where `out` has room for the line; an error says that it had not, and that memory ran out, and
 /// then a front of the line has been added to what was there. Source: this profile.
 #[tactic(auto, using(crate::proofs::RoomLaws::lengths, crate::proofs::FrontLaws::fronts))]
 pub fn line_text(

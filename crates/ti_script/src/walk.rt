@@ -1,3 +1,4 @@
+//! A walk that was read.
 ghost use Rattle.std.specs.Prelude.{◌≡◌, ◌++◌, ◌∷◌, [], IfOk, OnOk, OnErr};
 
 use crate::names::Names;
@@ -30,7 +31,7 @@ impl EventList {
         }
     }
 
-    /// No events, with room for so many, so that adding them takes no memory. The error is want of memory.
+    /// No events, with room for this many, so that adding them takes no memory. The error is lack of memory.
     pub fn with_room(alloc: Global, count: usize) -> Result<Self, AllocError>
         ensures { IfOk result (λ events. events ≡ []) }
     {
@@ -39,7 +40,7 @@ impl EventList {
         })
     }
 
-    /// Adds an event at the end. Where memory is wanting, the events stay as they were.
+    /// Adds an event at the end. Where memory runs out, the events stay as they were.
     pub fn push(&mut self, event: Event) -> Result<(), AllocError>
         ensures ok { OnOk result (self.new ≡ self.old ++ event ∷ []) }
         ensures err { OnErr result (self.new ≡ self.old) }

@@ -9,6 +9,6 @@ use Rattle.ti_replay.specs.View.{view}
 use Rattle.ti_replay.specs.Legal.{own_spent}
 use Rattle.ti_replay.specs.Refusals.{own_refusal}
 
--- behind a history
+-- after a history
 abbrev pub hand_refusal : Limits → List Entry → Safe → Option TiError
 hand_refusal limits history safe = own_refusal limits (view limits history) (own_spent history) (Hand safe)

@@ -1,3 +1,4 @@
+//! What a call is answered in a given state of its thread.
 ghost use Rattle.std.specs.Prelude.{◌≡◌, ◌≤◌, ◌+◌, ◌++◌, [], length, List, Some, None, IfSome, MatchOption, false, true, min};
 ghost use Rattle.std.specs.List.{fold, list_all};
 ghost use Rattle.ti_types.specs.declared.numbers.EnvNo.{EnvNo};
@@ -17,7 +18,7 @@ use ti_replay::answers::{done_or, or_zero, trace_start};
 use ti_replay::rules::{is_alive, waits};
 use ti_types::{Answer, Call, EnvNo, Limits, TiError, TraceBuf, state_bits};
 
-/// At most so many frames from a start on.
+/// At most this many frames from a start on.
 fn trace(frames: &Frames, start: i32, most: u32, buf: TraceBuf) -> Answer
     requires empty { buf.frames ≡ [] }
     requires room { min most frames.now.depth ≤ buf.room }

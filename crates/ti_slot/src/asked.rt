@@ -1,3 +1,4 @@
+//! What asking comes to: an answer, or a ticket.
 use ti_types::{Answer, Ticket};
 
 /// What a call comes to at once.

@@ -1,3 +1,4 @@
+//! A thread's state but for its frames, and what calls change in it.
 ghost use Rattle.std.specs.Prelude.{◌≡◌, List, false, MatchOption};
 ghost use Rattle.ti_types.specs.declared.numbers.EnvNo.{EnvNo};
 ghost use Rattle.ti_types.specs.declared.call.Call.TheVariants as call;

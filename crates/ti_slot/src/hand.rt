@@ -1,3 +1,4 @@
+//! When a thread may not hand over.
 ghost use Rattle.std.specs.Prelude.{◌≡◌, ◌≤◌, true};
 ghost use Rattle.ti_types.specs.declared.entry.Entry.TheVariants as entry;
 ghost use Rattle.ti_types.specs.declared.view.ThreadView.{ThreadView};

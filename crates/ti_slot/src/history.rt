@@ -1,3 +1,4 @@
+//! More entries of a history, and what they cost.
 ghost use Rattle.std.specs.Prelude.{◌≡◌, ◌≤◌, ◌<◌, ◌+◌, ◌++◌, ◌∷◌, [], length, vec_capacity};
 ghost use Rattle.ti_replay.specs.Costs.{charged, IsDue};
 ghost use Rattle.ti_replay.specs.LateTickets.{steps_of};

@@ -1,3 +1,4 @@
+//! The slot of a thread: its history, its state, and the calls that wait.
 ghost use Rattle.std.specs.Prelude.{◌≡◌, ◌<◌, ◌≤◌, ◌+◌, ◌-◌, ◌*◌, ◌++◌, ◌∷◌, [], true, false, length, Some, None, IfOk, IfErr, MatchResult, MatchOption, if◌then◌else◌, is_some};
 ghost use Rattle.ti_types.specs.Answer.{said};
 ghost use Rattle.ti_types.specs.declared.entry.Entry.TheVariants as entry;

@@ -48,7 +48,7 @@ new_whole env state desks count some are = record { count = count; some = some; 
 some_same : (x y : Place) → Some x ≡ Some y → x ≡ y
 some_same x y e = cc
 
--- a desk behind a new seat of environment 0
+-- a desk after a new seat of environment 0
 pub record IsNewDesk (limits : Limits) (thread : ThreadNo) (seat : Sitting) (p : Place) : Type 0 where
   pub seat_is : seat.view ≡ newcomer (subject_of limits thread) 1 0
   pub number : p.env.0 + 1 ≡ seat.view.number
@@ -110,7 +110,7 @@ stop_tried old new refusal cell left is hold may =
     let room = may.left in
     record { here = is.cell ∙ may.here; left = omega (arith, sum, limits, room, costs_one old.env refusal) }
 
--- Behind the stops of an environment: the threads of a list stand, and there are calls left for these reads
+-- After the stops of an environment: the threads of a list stand, and there are calls left for these reads
 pub record Stand (old now : Environment) (stopped : Listed) (reads : List ThreadNo) : Type 0 where
   pub held : AreHeld now stopped
   pub left : AreLeft now.state reads

@@ -8,7 +8,7 @@ use Rattle.ti_types.specs.declared.entry.Entry.TheVariants.{Asked}
 use Rattle.ti_replay.specs.Legal.{calls_spent}
 use Rattle.ti_cell.specs.Seats.{Sitting}
 
--- the seat of an environment at a cell, which may make so many calls more
+-- the seat of an environment at a cell, which may make this many calls more
 pub record IsReady (cell : TableId) (env : EnvNo) (calls : ℕ) (s : Sitting) : Type 0 where
   pub here : s.cell ≡ cell
   pub number : s.view.number ≡ env.0 + 1
@@ -21,7 +21,7 @@ pub record HasSet (cell : TableId) (env : EnvNo) (entries : List Entry) (s : Sit
   pub number : s.view.number ≡ env.0 + 1
   pub mine : s.view.mine ≡ entries
 
--- the owner's seat at a cell with so many seats, of which none came back
+-- the owner's seat at a cell with this many seats, of which none came back
 pub record IsOwner (cell : TableId) (seats : ℕ) (s : Sitting) : Type 0 where
   pub here : s.cell ≡ cell
   pub number : s.view.number ≡ 0

@@ -1,3 +1,4 @@
+//! Environments at running threads: calls, suspensions, traces.
 ghost use Rattle.std.specs.Prelude.{◌≡◌, ◌+◌, ◌<◌, IfSome};
 ghost use Rattle.ti_cell.specs.View.{subject_of, newcomer};
 ghost use Rattle.ti_cell.specs.Seats.{env_seats};
@@ -21,7 +22,7 @@ pub(crate) const TURNS: u32 = 1_000_000;
 /// How often the second environment asks for the thread's state.
 const STATES: u32 = 100;
 
-/// The environment of a seat, under limits of one thread. `None` where memory is wanting.
+/// The environment of a seat, under limits of one thread. `None` where memory runs out.
 pub(crate) fn environment<'a>(
     alloc: Global,
     limits: Limits,
@@ -196,7 +197,7 @@ fn watch<R: Wait>(rt: &R, env: Env<'_>) -> bool {
 }
 
 /// A thread runs with two frames, one environment inspects it, and another holds the cell in between: what each came to.
-/// `None` where memory is wanting.
+/// `None` where memory runs out.
 fn inspected<R: Threads + Wait + Sync + AllocGlobal>(
     rt: &R,
     limits: Limits,

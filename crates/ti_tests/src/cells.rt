@@ -1,3 +1,4 @@
+//! Cells that two threads share.
 ghost use Rattle.std.specs.Prelude.{ℕ, ◌≡◌, ◌+◌, ◌-◌, ◌<◌, ◌≤◌, ◌^◌, IfSome, true, if◌then◌else◌, [], ◌∷◌, ◌++◌};
 ghost use Rattle.ti_types.specs.declared.call.Call.TheVariants.{SetWord};
 ghost use Rattle.ti_types.specs.declared.entry.Entry.TheVariants.{Asked, Start};
@@ -122,7 +123,7 @@ fn finish(cell: ThreadCell, own: OwnSeat, one: EnvSeat, two: EnvSeat) -> Slot
 
 /// A cell's owner starts the thread and two environments hold the cell a hundred times each, and all seats come back:
 /// whether the thread started, and the slot, which has the calls of each in their order, for every schedule. `None`
-/// where memory is wanting.
+/// where memory runs out.
 fn shared_by_two<R: Threads + Wait + Sync>(
     rt: &R,
     alloc: Global,

@@ -1,3 +1,4 @@
+//! A core by its calls: posted calls, stops, answers.
 use std::test::*;
 use ti_core::Core;
 use ti_replay::{ReplayFault, replay, reply_at};

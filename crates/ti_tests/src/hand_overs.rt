@@ -1,3 +1,4 @@
+//! Typed hand-overs with calls and holds in between.
 ghost use Rattle.std.specs.Prelude.{ℕ, ◌≡◌, ◌+◌, ◌≤◌, true, [], IfOk};
 ghost use Rattle.atomic_table.specs.Seated.{TableId};
 ghost use Rattle.ti_types.specs.Frames.{Trace};

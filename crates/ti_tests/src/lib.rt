@@ -1,4 +1,4 @@
-//! Tests of what no clause says: that calls succeed where memory is ample, and what failing streams leave behind.
+//! Tests of what no clause says: that calls succeed where memory is ample, and what failing streams leavebehind.
 //!
 //! It stands above all other crates, and nothing stands on it.
 #![tactic(auto)]

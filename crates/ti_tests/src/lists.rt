@@ -1,3 +1,4 @@
+//! Events for all threads and for lists, at a core.
 use std::alloc::Global;
 use std::test::*;
 use ti_core::Core;

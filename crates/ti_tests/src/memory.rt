@@ -33,7 +33,7 @@ fn limits() -> Result<Limits, Fail> {
 }
 
 /// A core whose thread 0 is in native code with one frame and has the word 7 of environment 0, which may suspend. None
-/// where memory was wanting for it.
+/// where memory ran out for it.
 fn prepared(alloc: Global) -> Result<Option<Core>, Fail> {
     let mut core = match Core::new(alloc, limits()?) {
         Ok(core) => core,
@@ -203,7 +203,7 @@ fn a_refused_run_gives_nothing(rt: HostRuntime) -> Result<(), Fail> {
     Ok(())
 }
 
-/// Traces all threads: the environment's seat where memory was wanting, and else `None`.
+/// Traces all threads: the environment's seat where memory ran out, and else `None`.
 fn trace_all<R: Wait + AllocGlobal>(
     rt: &R,
     cell: &ThreadCell,
@@ -230,7 +230,7 @@ fn trace_all<R: Wait + AllocGlobal>(
     }
 }
 
-/// Traces the thread twice: the environment's seat where memory was wanting, and else `None`.
+/// Traces the thread twice: the environment's seat where memory ran out, and else `None`.
 fn trace_twice<R: Wait + AllocGlobal>(
     rt: &R,
     cell: &ThreadCell,

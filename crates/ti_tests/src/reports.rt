@@ -74,7 +74,7 @@ fn report(alloc: Global, code: u32, looks: u32) -> Result<LiveReport, Fail> {
     })
 }
 
-/// Whether the report with this code and so many looks fits the script.
+/// Whether the report with this code and this many looks fits the script.
 fn is_fit(alloc: Global, code: u32, looks: u32) -> Result<bool, Fail> {
     let live = live(alloc)?;
     let script = Script {
@@ -136,7 +136,7 @@ fn a_report_has_its_lines(rt: HostRuntime) -> Result<(), Fail> {
     Ok(())
 }
 
-/// A script of so many operations of the second thread, and so many calls.
+/// A script of this many operations of the second thread, and this many calls.
 fn fault_of(
     rt: &HostRuntime,
     operations: usize,

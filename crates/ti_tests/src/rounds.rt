@@ -112,7 +112,7 @@ fn stop_and_read<'c, R: Wait>(
     Ok(waiting)
 }
 
-/// What an environment keeps for itself, and its desk at each of two threads. `None` where memory is wanting.
+/// What an environment keeps for itself, and its desk at each of two threads. `None` where memory runs out.
 pub(crate) fn at_two<'a>(
     alloc: Global,
     limits: Limits,
@@ -136,7 +136,7 @@ pub(crate) fn at_two<'a>(
     Some((state, desks))
 }
 
-/// What an environment keeps for itself, and its desk at the one thread. `None` where memory is wanting.
+/// What an environment keeps for itself, and its desk at the one thread. `None` where memory runs out.
 fn at_one<'a>(
     alloc: Global,
     limits: Limits,

@@ -1,3 +1,4 @@
+//! Documents that are read, and texts that are made.
 use std::alloc::Global;
 use std::test::*;
 use ti_script::{Names, ScriptFault, line_text, read_history, read_walk};

@@ -1,3 +1,4 @@
+//! Readers that are slow, and writers that fail.
 use std::alloc::Global;
 use std::io;
 use std::io::{Read, Write};
@@ -41,7 +42,7 @@ fn make_bytewise(text: &'static [u8], cut: Option<usize>) -> Bytewise<'static> {
     Bytewise { text, at: 0, cut }
 }
 
-/// Takes at most so many bytes, one a call, and then fails, or takes none.
+/// Takes at most this many bytes, one a call, and then fails, or takes none.
 #[derive(Drop)]
 struct Short {
     got: Vec<u8>,

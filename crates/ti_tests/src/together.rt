@@ -86,7 +86,7 @@ enum Which {
     Listed,
 }
 
-/// An environment with a desk at each of two threads. `None` where memory is wanting.
+/// An environment with a desk at each of two threads. `None` where memory runs out.
 pub(crate) fn environment<'a>(
     alloc: Global,
     limits: Limits,
@@ -156,7 +156,7 @@ fn try_often<'a, R: Wait>(rt: &R, held: AtSafe<'a>) -> Option<AtSafe<'a>> {
     Some(held)
 }
 
-/// What the threads do while they are stopped: the first, which is held already, tries to return behind its stop, and only
+/// What the threads do while they are stopped: the first, which is held already, tries to return after its stop, and only
 /// then the second polls until it is held. Where one of it does not come, the second ends.
 fn stand_in_turn<'a, R: Wait>(rt: &R, threads: OneHeld<'a>) -> Option<BothHeld<'a>> {
     let OneHeld {

@@ -1,4 +1,4 @@
--- Why a call does not reach its thread: what an environment refuses by itself, and what is refused before and behind that.
+-- Why a call does not reach its thread: what an environment refuses by itself, and what is refused before and after that.
 -- The tests stand in their order.
 use Rattle.std.specs.Prelude.{ℕ, Bool, true, not, nat_lt, Option, ℤ}
 use Rattle.ti_types.specs.declared.call.Call.{Call}
@@ -10,7 +10,7 @@ use Rattle.ti_types.specs.Caps.{holds_all}
 use Rattle.ti_types.specs.Numbers.{is_not_negative}
 use Rattle.ti_types.specs.Refusing.{or_else, unless}
 
--- at a thread that is there or not, where so many calls are spent of those that may be
+-- at a thread that is there or not, where this many calls are spent of those that may be
 abbrev pub reaching_refusal : (there well_formed : Bool) → (spent calls : ℕ) → Option TiError
 reaching_refusal there well_formed spent calls =
     or_else (unless there InvalidThread)
@@ -34,7 +34,7 @@ reading_refusal there spent calls max_count = reaching_refusal there (is_not_neg
 abbrev pub going_refusal : (there : Bool) → Option TiError
 going_refusal there = unless there InvalidThread
 
--- of an environment that is known or not, which refuses so by itself, where memory is wanting for the answer or not
+-- of an environment that is known or not, which refuses so by itself, where memory runs out for the answer or not
 abbrev pub admitting_refusal : (known : Bool) → (by_itself : Option TiError) → (wanting : Bool) → Option TiError
 admitting_refusal known by_itself wanting =
     or_else (unless known InvalidEnvironment) (or_else by_itself (unless (not wanting) OutOfMemory))

@@ -1,3 +1,4 @@
+//! What a call is told.
 use crate::caps::Caps;
 use crate::error::TiError;
 use crate::place::Frame;

@@ -1,3 +1,4 @@
+//! The calls at one thread, and the capability that each needs.
 ghost use Rattle.std.specs.Prelude.{◌≡◌};
 ghost use Rattle.ti_types.specs.Call.{needed_by, is_well_formed as well_formed_is};
 

@@ -1,3 +1,4 @@
+//! Capabilities.
 ghost use Rattle.std.specs.Prelude.{◌≡◌};
 ghost use Rattle.ti_types.specs.Caps.{no_caps, caps_with, caps_without, holds_all, can_be_had as can_be_had_of};
 

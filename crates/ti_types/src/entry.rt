@@ -1,3 +1,4 @@
+//! The entries of a thread's history.
 use crate::call::Call;
 use crate::numbers::EnvNo;
 use crate::state::Safe;
@@ -12,17 +13,17 @@ pub enum Entry {
     /// The running thread makes a step on its frames.
     Own(Step),
     /// The running thread hands over: it goes into native code, blocks, or stops at a poll. The calls that wait take
-    /// place just behind (JEP 312: an operation runs while its thread is safe).
+    /// place just after (JEP 312: an operation runs while its thread is safe).
     Hand(Safe),
     /// The safe thread runs again.
     Back,
-    /// The running thread ends. The calls that wait take place just behind.
+    /// The running thread ends. The calls that wait take place just after.
     End,
     /// A call of an environment at the thread, and how many calls of it were asked there before.
     Asked(EnvNo, u32, Call),
     /// An environment stops the thread: it does not return until it is let go (after GetAllStackTraces).
     Stop(EnvNo),
-    /// An environment reads at most so many of the newest frames under its stop.
+    /// An environment reads at most this many of the newest frames under its stop.
     Read(EnvNo, i32),
     /// An environment lets the thread go.
     Go(EnvNo),

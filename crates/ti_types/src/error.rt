@@ -1,3 +1,4 @@
+//! The errors, by their numbers.
 ghost use Rattle.std.specs.Prelude.{◌≡◌};
 ghost use Rattle.ti_types.specs.TiError.{number_of};
 
@@ -97,7 +98,7 @@ impl From<AllocError> for TiError {
 
     ghost from_gives = { λ _ e. e ≡ OutOfMemory };
 
-    /// Want of memory is OUT_OF_MEMORY, 110 (JVM TI 11).
+    /// Lack of memory is OUT_OF_MEMORY, 110 (JVM TI 11).
     fn from(_: AllocError) -> Self {
         TiError::OutOfMemory
     }

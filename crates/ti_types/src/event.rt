@@ -1,3 +1,4 @@
+//! The events of a walk, and what they come to.
 use crate::answer::Answer;
 use crate::call::Call;
 use crate::caps::Caps;
@@ -28,7 +29,7 @@ pub enum Event {
     Ask(EnvNo, ThreadNo, Call),
     /// Stops a thread: 116, 10, 209, 211.
     Stop(EnvNo, ThreadNo),
-    /// Reads at most so many of the newest frames under a stop: 116, 10, 103, 209, 110, 212, 213.
+    /// Reads at most this many of the newest frames under a stop: 116, 10, 103, 209, 110, 212, 213.
     Read(EnvNo, ThreadNo, i32),
     /// Lets a thread go: 116, 10, 212.
     Go(EnvNo, ThreadNo),

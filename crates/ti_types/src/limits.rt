@@ -1,3 +1,4 @@
+//! The limits that all else keeps within.
 ghost use Rattle.std.specs.Prelude.{◌≡◌, ◌≤◌, ◌↔◌, IsSome, IfSome};
 ghost use Rattle.ti_types.specs.Limits.{InRange};
 

@@ -1,3 +1,4 @@
+//! Lists of frames and of words.
 ghost use Rattle.std.specs.Prelude.{◌≡◌, ◌<◌, [], ◌∷◌, length, IfOk, OnOk, OnErr, slice_get, slice_index, slice_set, replicate};
 ghost use Rattle.ti_types.specs.Frames.{without_newest};
 
@@ -64,7 +65,7 @@ impl FrameList {
         self.items[self.items.len() - 1 - depth]
     }
 
-    /// Puts a newest frame on the stack. The error is want of memory; then nothing changes.
+    /// Puts a newest frame on the stack. The error is lack of memory; then nothing changes.
     pub fn push(&mut self, frame: Frame) -> Result<(), AllocError>
         ensures ok { OnOk result (self.new ≡ frame ∷ self.old) }
         ensures err { OnErr result (self.new ≡ self.old) }
@@ -103,7 +104,7 @@ impl Model for WordList {
 }
 
 impl WordList {
-    /// So many words, each 0. The error is want of memory.
+    /// This many words, each 0. The error is lack of memory.
     pub fn zeros(alloc: Global, count: usize) -> Result<Self, AllocError>
         ensures { IfOk result (λ w. w ≡ replicate count 0) }
     {

@@ -1,3 +1,4 @@
+//! The numbers of threads, environments and methods.
 /// A thread, by its number from 0 on.
 #[derive(Clone, Copy, Debug, PartialEq, Eq)]
 pub struct ThreadNo(pub u32);

@@ -1,3 +1,4 @@
+//! Frames, and where in a method they are.
 use crate::numbers::MethodNo;
 
 /// Where a frame stands in its method.

@@ -1,3 +1,4 @@
+//! When a frame may not be popped.
 ghost use Rattle.std.specs.Prelude.{◌≡◌};
 ghost use Rattle.ti_types.specs.Pops.{popping_refusal as popping_refusal_of};
 

@@ -1,3 +1,4 @@
+//! The stack of one thread among several.
 use crate::numbers::ThreadNo;
 use crate::trace::TraceBuf;
 

@@ -1,3 +1,4 @@
+//! The modes of a thread, and its state in JVM TI's bits.
 ghost use Rattle.std.specs.Prelude.{◌≡◌};
 ghost use Rattle.ti_types.specs.State.{bits_of, java_state_of};
 

@@ -1,3 +1,4 @@
+//! The steps of a running thread.
 use crate::numbers::MethodNo;
 
 /// A step that a running thread makes on its own frames.

@@ -1,3 +1,4 @@
+//! A buffer for frames.
 ghost use Rattle.std.specs.Prelude.{◌≡◌, ◌≤◌, ◌<◌, true, ◌++◌, ◌∷◌, [], length, IfOk, IfErr, min};
 ghost use Rattle.ti_types.specs.Numbers.{is_not_negative, or_zero};
 ghost use Rattle.ti_types.specs.declared.error.TiError.TheVariants.{OutOfMemory};

@@ -1,3 +1,4 @@
+//! A thread as a history leaves it.
 use crate::lists::{FrameList, WordList};
 use crate::numbers::EnvNo;
 use crate::state::Mode;

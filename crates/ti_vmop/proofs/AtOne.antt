@@ -100,7 +100,7 @@ tells_still : (limits : Limits) (front more now : List Entry) (n : ℤ) → (vie
 tells_still limits front more now n mode frames =
     ((view limits now).suspended, λ i. answer.Stack (bits_of (mode i) (view limits now).suspended) (bare_trace (take (or_zero n) (frames i))))
 
--- what is standing where it is found: behind what the desk had seen come these
+-- what is standing where it is found: after what the desk had seen come these
 pub record Finds (p : Place) (w : View) (more : List Entry) : Type 0 where
   pub stands : stands_for p.env (view p.view.subject.limits (found p.view w)) ≡ true
   pub mode : (view p.view.subject.limits (found p.view w)).mode ≡ (view p.view.subject.limits p.view.seen).mode

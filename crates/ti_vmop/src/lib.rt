@@ -5,7 +5,7 @@
 //!
 //! - `stop_all` answers when each listed thread has been seen to stand, and stops none where a budget does not do.
 //! - Until the environment lets a thread go, what its desk sees begins with that front, and has no entry of the thread's
-//!   own behind it (`desks_stay`); a read tells of the mode of the front, and of its frames after the pops behind it
+//!   own after it (`desks_stay`); a read tells of the mode of the front, and of its frames after the pops after it
 //!   (`fronts_tell` of `ti_replay`).
 //! - Only `Standing::go` makes a `Round`, and a `Standing` has to be spent by it.
 //! - No call takes memory.

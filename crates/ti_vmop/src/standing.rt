@@ -1,3 +1,4 @@
+//! Global operations: threads are stopped, read and let go.
 ghost use Rattle.std.specs.Prelude.{◌≡◌, ◌<◌, ℕ, true, false, [], ◌∷◌, length, Some, slice_get, IfOk, IfErr, MatchResult};
 ghost use Rattle.ti_types.specs.Answer.{said};
 ghost use Rattle.ti_types.specs.declared.entry.Entry.TheVariants as entry;

@@ -1,6 +1,6 @@
 //! `tiholds HOW`: environments hold a thread's cell, each 1,024 times in each of 256 rounds, and set their word by each
-//! hold. HOW is `one`, `two` or `four`, for so many threads at one cell, or `apart`, for four threads at a cell each.
-//! It writes nothing. The status is 0, or 1 where memory is wanting, and 2 for other arguments. `bench/cells.py` times it.
+//! hold. HOW is `one`, `two` or `four`, for this many threads at one cell, or `apart`, for four threads at a cell each.
+//! It writes nothing. The status is 0, or 1 where memory runs out, and 2 for other arguments. `bench/cells.py` times it.
 //!
 //! It stands on `ti_cell`, and nothing stands on it.
 #![tactic(auto)]
@@ -126,7 +126,7 @@ fn pairs(
     Some(((one, two), (three, four)))
 }
 
-/// One thread at a new cell. `None` where memory is wanting, here and below.
+/// One thread at a new cell. `None` where memory runs out, here and below.
 fn one<R: Wait>(rt: &R, alloc: Global, limits: Limits) -> Option<()>
     requires envs { limits.envs ≡ 4 }
     requires calls { limits.calls ≡ 1024 }

@@ -22,7 +22,7 @@ with_svg o = record { samples = o.samples; interval = o.interval; threads = o.th
 abbrev pub is_digit : ℕ → Bool
 is_digit c = nat_lt 47 c && nat_lt c 58
 
--- the number of digits behind those of n, where it stays below 100,000,000
+-- the number of digits after those of n, where it stays below 100,000,000
 abbrev pub digits_behind : ℕ → List ℕ → Option ℕ
 digits_behind n [] = Some n
 digits_behind n (c ∷ cs) = if is_digit c && nat_lt (n * 10 + (c - 48)) 100000000 then digits_behind (n * 10 + (c - 48)) cs else None

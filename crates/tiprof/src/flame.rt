@@ -106,7 +106,7 @@ fn write_name(text: &mut String, name: &str) -> Result<(), AllocError> {
     Ok(())
 }
 
-/// Hundredths of the picture's width that so many of all stacks take.
+/// Hundredths of the picture's width that this many of all stacks take.
 fn width_of(count: u64, total: u64) -> u64 {
     if total == 0 {
         return 0;

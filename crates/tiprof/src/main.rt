@@ -1,12 +1,12 @@
 //! `tiprof`: a sampling profiler of threads that compute, over `ti_agent`.
 //!
-//! So many workers, each on a thread of its own, parse a document, sort numbers, search and sleep in turn, with a frame for
+//! This many workers, each on a thread of its own, parse a document, sort numbers, search and sleep in turn, with a frame for
 //! each method. Environments on one more thread take the stacks of all of them at an interval, until there are enough
 //! samples, or all workers are done: a worker has 65,536 entries of its own. Then it writes folded stacks to standard
 //! output, or with `--svg` a flame graph, and to standard error a line with what was done.
 //!
 //! At most 16,384 samples are taken: each of 32 environments has 1,024 calls at each thread, and a sample costs two of
-//! them. The status is 0, or 1 where memory is wanting or a line cannot be written, and 2, with a line of usage on standard
+//! them. The status is 0, or 1 where memory runs out or a line cannot be written, and 2, with a line of usage on standard
 //! error, for arguments that ask for nothing of this.
 #![tactic(auto)]
 

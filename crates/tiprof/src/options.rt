@@ -15,7 +15,7 @@ pub struct Options {
     pub svg: bool,
 }
 
-/// The number of digits behind those of a number, where it stays below 100,000,000.
+/// The number of digits after those of a number, where it stays below 100,000,000.
 fn digits_behind(front: u32, digits: &[u8]) -> Option<u32>
     ensures { result ≡ digits_behind front digits.now }
 {
@@ -102,7 +102,7 @@ impl Options {
 }
 
 /// What the arguments ask for, the program's name left out. `None` where one of them is no option, or has no number
-/// within its bounds behind it.
+/// within its bounds after it.
 pub fn options_of(words: &[String]) -> Option<Options>
     ensures { result ≡ options_by (map string_bytes words.now) }
 {

@@ -10,7 +10,7 @@ use std::sync::Wait;
 /// How deep arrays and objects may lie in one another.
 const DEPTH: u32 = 16;
 
-/// So many bytes lie between two polls.
+/// This many bytes lie between two polls.
 const STRIDE: usize = 64;
 
 /// What was found in a document.
@@ -20,7 +20,7 @@ pub struct Found {
     pub values: u64,
     /// The sum of the numbers, which wraps.
     pub sum: u64,
-    /// Whether the text has a value, and nothing but white space behind it.
+    /// Whether the text has a value, and nothing but white space after it.
     pub whole: bool,
 }
 
@@ -81,7 +81,7 @@ impl<'t> Reader<'t> {
         self.sum = self.sum.wrapping_add(number);
     }
 
-    /// Goes past the key of a member, and the colon behind it. Whether both were there.
+    /// Goes past the key of a member, and the colon after it. Whether both were there.
     fn key(&mut self) -> bool {
         if !self.eat(b'"') {
             return false;
@@ -247,7 +247,7 @@ fn write_series(text: &mut String, count: u32) -> Result<(), AllocError> {
     text.push_str("]")
 }
 
-/// Writes a string of so many letters.
+/// Writes a string of this many letters.
 fn write_letters(text: &mut String, count: u32) -> Result<(), AllocError> {
     text.push_str("\"")?;
     for _ in 0..count / 8 {

@@ -10,13 +10,13 @@ use ti_agent::Env;
 use ti_types::StackInfo;
 use ti_vmop::VmTurn;
 
-/// So many samples an environment takes: each costs it two calls at each thread, and it has 1,024.
+/// This many samples an environment takes: each costs it two calls at each thread, and it has 1,024.
 pub const SAMPLES_EACH: u32 = 512;
 
 /// The frames of a thread that are read.
 const FRAMES: i32 = 128;
 
-/// So many milliseconds lie between two lines that say how far the sampling is.
+/// This many milliseconds lie between two lines that say how far the sampling is.
 const PROGRESS: u64 = 500;
 
 /// What the workers and the environments share.
@@ -85,7 +85,7 @@ impl Pace {
         })
     }
 
-    /// Sleeps until the next sample is due, and sets when the one behind it is. What has passed since the beginning.
+    /// Sleeps until the next sample is due, and sets when the one after it is. What has passed since the beginning.
     fn wait<R: Clock>(&mut self, rt: &R) -> Option<Duration> {
         let passed = self.began.elapsed(rt).ok()?;
         thread::sleep(rt, self.due.saturating_sub(passed));

@@ -11,7 +11,7 @@ const WIDTH: u32 = 11;
 /// How many ways there are on that board.
 pub const WAYS: u32 = 2680;
 
-/// So many of the first rows have a frame each; the recursion below is inlined.
+/// This many of the first rows have a frame each; the recursion below is inlined.
 const FRAMED: u32 = 2;
 
 /// The columns and diagonals that are attacked in a row, as bits.

@@ -66,7 +66,7 @@ fn desks_of<'a>(
     Some(desks)
 }
 
-/// One more environment, with a desk at each thread. `None` where memory is wanting, or no seat is left.
+/// One more environment, with a desk at each thread. `None` where memory runs out, or no seat is left.
 fn environment<'a>(
     alloc: Global,
     limits: Limits,
@@ -172,7 +172,7 @@ fn run_at<R: Threads + Wait + Sync + Clock + CpuClock + Eprint + AllocGlobal>(
     })
 }
 
-/// Runs new workers, and samples them. `None` where memory is wanting, or a line cannot be written.
+/// Runs new workers, and samples them. `None` where memory runs out, or a line cannot be written.
 pub fn run<R: Threads + Wait + Sync + Clock + CpuClock + Eprint + AllocGlobal>(
     rt: &R,
     limits: Limits,

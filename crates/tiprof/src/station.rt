@@ -87,7 +87,7 @@ impl Model for Post {
 }
 
 impl Post {
-    /// A new cell of a thread, and the seats at it. `None` where memory is wanting.
+    /// A new cell of a thread, and the seats at it. `None` where memory runs out.
     pub fn make(alloc: Global, limits: Limits, thread: ThreadNo) -> Option<(ThreadCell, Post)>
         ensures here { IfSome result (λ m. m.1.cell ≡ m.0) }
         ensures about { IfSome result (λ m. m.1.subject ≡ subject_of limits thread) }

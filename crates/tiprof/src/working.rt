@@ -31,7 +31,7 @@ pub struct Worked {
     cpu: u64,
 }
 
-/// So many microseconds a worker sleeps between two rounds.
+/// This many microseconds a worker sleeps between two rounds.
 const REST: u64 = 500;
 
 /// One job: whether it came to what it should.

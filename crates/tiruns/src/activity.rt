@@ -1,3 +1,4 @@
+//! What a measured thread does.
 use crate::asking::{Shared, Work};
 use crate::spent::{Began, Spent};
 use std::rt::Clock;
@@ -15,7 +16,7 @@ pub enum Task {
     Beside,
     /// Counts of a running thread's frames.
     Running,
-    /// What is asked of parked threads of so many frames.
+    /// What is asked of parked threads of this many frames.
     Parked(Work, u32),
 }
 
@@ -30,7 +31,7 @@ const TURNS: u32 = u32::MAX;
 /// How many polls lie between two looks at who is done.
 const LOOK: u32 = 4096;
 
-/// Enters so many methods.
+/// Enters this many methods.
 pub fn enter(running: &mut Running<'_>, frames: u32) -> Option<()> {
     for method in 0..frames {
         running.step(Step::Enter(MethodNo(method))).ok()?;
@@ -38,7 +39,7 @@ pub fn enter(running: &mut Running<'_>, frames: u32) -> Option<()> {
     Some(())
 }
 
-/// Starts a thread, which enters so many methods.
+/// Starts a thread, which enters this many methods.
 pub fn start<'a, R: Wait>(rt: &R, fresh: Fresh<'a>, frames: u32) -> Option<Running<'a>> {
     let mut running = fresh.try_start(rt).ok()?;
     enter(&mut running, frames)?;
@@ -73,7 +74,7 @@ pub fn take_polls<R: Clock + CpuClock>(rt: &R, running: Running<'_>) -> Option<S
     began.spent(rt, u64::from(POLLS))
 }
 
-/// Enters and leaves a method, again and again, and polls behind each step.
+/// Enters and leaves a method, again and again, and polls after each step.
 pub fn work_beside<R: Clock + CpuClock>(rt: &R, running: Running<'_>) -> Option<Spent> {
     let mut running = running;
     let began = Began::now(rt)?;
@@ -90,7 +91,7 @@ pub fn work_beside<R: Clock + CpuClock>(rt: &R, running: Running<'_>) -> Option<
     began.spent(rt, u64::from(STEPS))
 }
 
-/// Polls until so many others are done, or it was held.
+/// Polls until this many others are done, or it was held.
 pub fn poll_until_done<R: Wait>(
     rt: &R,
     shared: &Shared,

@@ -1,3 +1,4 @@
+//! What environments ask, by how many at once.
 use crate::spent::{Began, Spent};
 use std::rt::Clock;
 use std::sync::{Mutex, Wait};
@@ -153,7 +154,7 @@ fn ask_two<R: Threads + Wait + Sync + Clock + CpuClock + AllocGlobal>(
     both(one, two)
 }
 
-/// So many environments ask at once.
+/// This many environments ask at once.
 pub fn ask_all<R: Threads + Wait + Sync + Clock + CpuClock + AllocGlobal>(
     rt: &R,
     shared: &Shared,

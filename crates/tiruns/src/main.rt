@@ -7,7 +7,7 @@
 //! `4`; for `steps` and `polls` it means nothing.
 //!
 //! It writes a line to standard error: how often it was done by all, and how many nanoseconds all of them spent on it, of
-//! the processor and of the clock. The status is 0, or 1 where memory is wanting or something was
+//! the processor and of the clock. The status is 0, or 1 where memory runs out or something was
 //! refused, and 2 for other arguments. `bench/running.py` makes a table of it.
 //!
 //! It stands on `ti_agent`, and nothing stands on it.
@@ -31,7 +31,7 @@ use std::time::CpuClock;
 
 const ROUNDS: u32 = 32;
 
-/// All rounds of a task. `None` where memory is wanting or something was refused, here and below.
+/// All rounds of a task. `None` where memory runs out or something was refused, here and below.
 fn rounds<R: Threads + Wait + Sync + Clock + CpuClock + AllocGlobal>(
     rt: &R,
     task: Task,

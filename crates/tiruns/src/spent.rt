@@ -1,3 +1,4 @@
+//! How much time was spent, of the processor and of the clock.
 use std::rt::Clock;
 use std::time::{CpuClock, Duration, Instant};
 

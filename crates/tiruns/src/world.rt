@@ -1,3 +1,4 @@
+//! Threads, cells and environments for one measurement.
 ghost use Rattle.std.specs.Prelude.{◌≡◌, IfSome, []};
 ghost use Rattle.ti_cell.specs.View.{subject_of};
 ghost use Rattle.ti_cell.specs.Seats.{env_seats};
@@ -121,7 +122,7 @@ fn environment_at<'a>(
 /// The threads of the four cells, by pairs.
 type Fours<'a> = ((Fresh<'a>, Fresh<'a>), (Fresh<'a>, Fresh<'a>));
 
-/// Asks of four parked threads, each of so many frames.
+/// Asks of four parked threads, each of this many frames.
 fn ask_parked<R: Threads + Wait + Sync + Clock + CpuClock + AllocGlobal>(
     rt: &R,
     threads: Fours<'_>,

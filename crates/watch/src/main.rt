@@ -2,7 +2,7 @@
 //!
 //! The thread adds up numbers in method 1 of method 0, and polls at each turn. The environment, on a thread of its own,
 //! suspends it, writes its state and its methods, the newest first, and resumes it; then the thread computes on until it
-//! is told to end. The status is 0, or 1 where memory is wanting, something was refused, or the lines cannot be written.
+//! is told to end. The status is 0, or 1 where memory runs out, something was refused, or the lines cannot be written.
 #![tactic(auto)]
 
 ghost use Rattle.std.specs.Prelude.{◌≡◌, IfSome};

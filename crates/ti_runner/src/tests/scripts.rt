@@ -18,7 +18,7 @@ fn listed<T: Drop>(alloc: Global, lists: Vec<Vec<T>>) -> Result<Listed<Listed<T>
 }
 
 /// The report of a run in which each thread goes through its walk and each agent through its calls, and who comes to the
-/// first moment of a pair waits there for the second. So many own entries and calls are paid for, and four frames.
+/// first moment of a pair waits there for the second. This many own entries and calls are paid for, and four frames.
 pub(crate) fn run<R: Threads + Wait + Sync + AllocGlobal>(
     rt: &R,
     own: u32,

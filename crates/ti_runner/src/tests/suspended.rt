@@ -19,7 +19,7 @@ const ASLEEP: Stack<'static> = Stack {
     frames: &[],
 };
 
-/// The history in which the first and the second trace, each of its agent and so many frames, come in this order.
+/// The history in which the first and the second trace, each of its agent and this many frames, come in this order.
 fn history(first: (EnvNo, i32), second: (EnvNo, i32)) -> [Entry; 10] {
     [
         Entry::Start,

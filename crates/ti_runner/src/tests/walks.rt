@@ -50,7 +50,7 @@ fn an_agent_is_answered_while_a_thread_is_in_the_middle_of_its_walk(
     Ok(())
 }
 
-/// A word that is set at a running thread is read back at once. The poll behind it is clear, and the thread's step comes into
+/// A word that is set at a running thread is read back at once. The poll after it is clear, and the thread's step comes into
 /// the history when it ends.
 #[test]
 fn a_word_is_read_back_at_a_thread_that_runs(rt: HostRuntime) -> Result<(), Fail> {
