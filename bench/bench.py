@@ -3,11 +3,11 @@
 
 For each document and size it prints how many items it has and how many bytes were written, and of each program the
 millions of instructions, where they can be counted, the seconds of processor time and of wall time (the least of three
-runs), and the peak memory. Growth is to be linear: four times the size, four times the instructions.
+runs), and the peak memory (the greatest). Growth is to be linear: four times the size, four times the instructions.
 
 Live scripts (`live_documents.py`) come last. Their threads wait for each other, so their instructions are not counted:
-the programs take turns for fifteen runs each, and the least counts. What a run writes depends on its schedule, and a run
-that wrote less than three quarters of the most is left out, since its agents came before the threads had begun.
+the programs take turns for fifteen runs each. What a run writes depends on its schedule, and a run that wrote less than
+nine tenths of the most is left out, since its agents came before the threads had begun.
 
     bench/bench.py [--callgrind] [--live] [PROGRAM..]
 
@@ -202,20 +202,23 @@ def millions(count, program, arguments, path):
     return int(re.search(pattern, done.stderr.decode(), re.M)[1].replace(",", "")) / 1e6
 
 
-def least(costs):
-    """The least seconds, wall time and memory of some runs; None where there is none."""
-    return Cost(*(min(getattr(cost, field.name) for cost in costs) for field in dataclasses.fields(Cost))) if costs else None
+def summed_up(costs):
+    """The least times and the greatest memory of some runs; None where there is none."""
+    if not costs:
+        return None
+    seconds, wall = (min(getattr(cost, name) for cost in costs) for name in ("seconds", "wall"))
+    return Cost(seconds, wall, max(cost.memory for cost in costs), max(cost.written for cost in costs))
 
 
 def measured(programs, arguments, path):
-    """The least that each program took, and the most that was written."""
+    """What each program took, and the most that was written."""
     is_live = arguments == ["live"]
     costs = [[] for _ in programs]
     for _ in range(LIVE_RUNS if is_live else RUNS):
         for program, its in zip(programs, costs):
             its.append(run(program, arguments, path))
     written = max((cost.written for its in costs for cost in its if cost), default="-")
-    return [least([cost for cost in its if cost and 4 * cost.written >= 3 * written]) for its in costs], written
+    return [summed_up([cost for cost in its if cost and 10 * cost.written >= 9 * written]) for its in costs], written
 
 
 def columns(cost, counted):
