@@ -171,7 +171,7 @@ def document(seed, index):
     chance = random.Random(f"{seed}/{index}")
     threads, agents = count(chance, 64), count(chance, 32)
     # agents that all ask at one or two threads contend for their cells; these threads have long walks, so that they still
-    # run when they are asked, and low numbers, since those begin last
+    # run when they are asked, and the last numbers, since those begin last
     asked = min(threads, chance.choice((1, 1, 2, 3, 64)))
     most = max(10, chance.choice((100, 2_000, 8_000, 16_000)) // asked)
     limits = {
@@ -184,12 +184,12 @@ def document(seed, index):
         "threads": [f"t{n}" for n in range(threads)],
         "agents": [f"a{n}" for n in range(agents)],
         "methods": list(METHODS),
-        "walks": [walk(chance, most if number < asked else 10) for number in range(threads)],
+        "walks": [walk(chance, most if number >= threads - asked else 10) for number in range(threads)],
     }
     may_pop = chance.random() < 0.2
     tree["calls"] = []
     for _ in range(agents):
-        targets = range(threads) if chance.random() < 0.1 else range(asked)
+        targets = range(threads) if chance.random() < 0.1 else range(threads - asked, threads)
         length = chance.choice((3, 10, 30, 60))
         tree["calls"].append(Agent(chance, tree, targets, may_pop).make(length))
     return tree
