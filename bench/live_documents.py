@@ -95,10 +95,39 @@ def held(part):
     return script(64, 1, [walking(OPERATIONS // 8 // part, 16)] * 8, [suspensions + traces + [["resume_list", threads]]])
 
 
+PARKED = [["start"], *[["enter", "m0"]] * 16, ["block", "park"]]
+
+
+def asked(part):
+    """64 parked threads, and 4 agents with 240 calls at each: its state, its word set and got, its frames counted."""
+    calls = [
+        call
+        for n in range(60 // part)
+        for thread in range(64)
+        for call in (["state", thread], ["set", thread, n], ["get", thread], ["count", thread])
+    ]
+    return script(64, 1, [PARKED] * 64, [calls] * 4)
+
+
+def parked(part):
+    """64 parked threads, and 4 agents with 512 times all stacks each."""
+    return script(64, 1, [PARKED] * 64, [[["all", 16]] * (CALLS // 2 // part)] * 4)
+
+
+def lists(part):
+    """64 parked threads, and 8 agents with 128 lists each of 512 suspensions or resumptions."""
+    threads = list(range(64)) * 8
+    calls = [["suspend_list", threads], ["resume_list", threads]] * (64 // part)
+    return script(64, 1, [PARKED] * 64, [[["add", ["can_suspend"]], *calls]] * 8)
+
+
 DOCUMENTS = (
     ("polls", polls),
     ("mixed calls", mixed),
     ("deep traces", deep),
     ("all stacks", stacks),
     ("held threads", held),
+    ("single calls", asked),
+    ("parked stacks", parked),
+    ("list calls", lists),
 )
