@@ -122,7 +122,7 @@ fn write_bar(text: &mut String, bar: Bar, top: u64, total: u64) -> Result<(), Al
     let hue = 5 + bar.method % 12 * 5;
     write!(
         text,
-        "<g><rect x=\"{}.{:02}\" y=\"{}\" width=\"{}.{:02}\" height=\"19\" fill=\"hsl({},85%,62%)\"/>",
+        "<g><rect x=\"{}.{:02}\" y=\"{}\" width=\"{}.{:02}\" height=\"19\" fill=\"hsl({},85%,62%)\" stroke=\"#fffaf0\"/>",
         x / 100,
         x % 100,
         top,

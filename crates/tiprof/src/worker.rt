@@ -1,5 +1,6 @@
 //! A worker's side of its own thread: which method it is in, and where it may be stopped.
-ghost use Rattle.std.specs.Prelude.{◌≡◌, IfOk, IfSome};
+ghost use Rattle.std.specs.Prelude.{◌≡◌, true, IfOk, IfSome};
+ghost use Rattle.ti_replay.specs.Legal.{is_legal};
 
 use crate::method::Method;
 use std::marker::Model;
@@ -146,11 +147,14 @@ impl<'a> Worker<'a> {
         }
     }
 
-    /// Ends the thread. Its seat, for the end of its cell.
+    /// Ends the thread. Its seat, which has seen the thread's history up to the end: that is legal.
     pub fn end<R: Wait>(self, rt: &R) -> Option<OwnSeat>
         ensures cell { IfSome result (λ s. s.cell ≡ self.entry) }
+        ensures legal { IfSome result (λ s. is_legal s.view.subject.limits s.view.seen ≡ true) }
     {
         let Worker { cell: _, running } = self;
-        Some(running?.end(rt).into_seat())
+        let seat = running?.end(rt).into_seat();
+        seat.facts();
+        Some(seat)
     }
 }
