@@ -6,8 +6,9 @@ millions of instructions, where they can be counted, the seconds of processor ti
 runs), and the peak memory (the greatest). Growth is to be linear: four times the size, four times the instructions.
 
 Live scripts (`live_documents.py`) come last. Their threads wait for each other, so their instructions are not counted:
-the programs take turns for fifteen runs each. What a run writes depends on its schedule, and a run that wrote less than
-nine tenths of the most is left out, since its agents came before the threads had begun.
+the programs take turns. What a run writes depends on its schedule, and a run that wrote less than nine tenths of the most
+is left out, since its agents came before the threads had begun; there are runs until ten of each program count, but no
+more than eighty.
 
     bench/bench.py [--callgrind] [--live] [PROGRAM..]
 
@@ -37,7 +38,8 @@ import live_documents
 
 EVENTS = 65536
 RUNS = 3
-LIVE_RUNS = 15
+LIVE_RUNS = 10
+MOST_RUNS = 80
 TIWALK = "crates/tiwalk/out/tiwalk"
 PLAIN = "bench/plain/target/release/plain"
 PARTS = (8, 4, 2, 1)
@@ -210,22 +212,29 @@ def summed_up(costs):
     return Cost(seconds, wall, max(cost.memory for cost in costs), max(cost.written for cost in costs))
 
 
+def counted(costs, written):
+    """The runs that count: not those that wrote much less than the most that was written."""
+    return [cost for cost in costs if cost and 10 * cost.written >= 9 * written]
+
+
 def measured(programs, arguments, path):
     """What each program took, and the most that was written."""
-    is_live = arguments == ["live"]
-    costs = [[] for _ in programs]
-    for _ in range(LIVE_RUNS if is_live else RUNS):
+    least, most = (LIVE_RUNS, MOST_RUNS) if arguments == ["live"] else (RUNS, RUNS)
+    costs, written = [[] for _ in programs], 0
+    for turn in range(most):
+        if turn >= least and all(len(counted(its, written)) >= least for its in costs):
+            break
         for program, its in zip(programs, costs):
             its.append(run(program, arguments, path))
-    written = max((cost.written for its in costs for cost in its if cost), default="-")
-    return [summed_up([cost for cost in its if cost and 10 * cost.written >= 9 * written]) for its in costs], written
+        written = max([written, *(its[-1].written for its in costs if its[-1])])
+    return [summed_up(counted(its, written)) for its in costs], written
 
 
-def columns(cost, counted):
+def columns(cost, instructions):
     """The columns of one program."""
     if not cost:
         return f"{'-':>10} {'-':>8} {'-':>8} {'-':>8}"
-    first = "-" if counted is None else f"{counted:.1f}"
+    first = "-" if instructions is None else f"{instructions:.1f}"
     return f"{first:>10} {cost.seconds:8.3f} {cost.wall:8.3f} {cost.memory:8}"
 
 

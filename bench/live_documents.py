@@ -47,7 +47,7 @@ def mixed(part):
 
 
 def some_steps(chance):
-    """Seven to nine operations, which leave a running thread as deep as it was."""
+    """Eight or nine operations, which leave a running thread as deep as it was."""
     method, place = f"m{chance.randrange(50)}", chance.randrange(1000)
     steps = [["enter", method], ["at", place], ["poll"]]
     if chance.random() < 0.25:
