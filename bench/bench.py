@@ -183,7 +183,7 @@ def run(program, arguments, path):
 
 
 def counter(asks_callgrind):
-    """The words that count the instructions of the command behind them, with the pattern of the count; or None."""
+    """The words that count the instructions of the command after them, with the pattern of the count; or None."""
     if asks_callgrind:
         return ["valgrind", "--tool=callgrind", "--callgrind-out-file=/dev/null"], r"refs:\s+([\d,]+)"
     perf = ["perf", "stat", "-x", ";", "-e", "instructions:u"], r"^(\d+);"

@@ -1,8 +1,8 @@
 """Large live scripts, at any part of their size. Each comes to its end on every schedule.
 
-A thread that is suspended waits for a resumption, and each agent resumes what it suspends: whatever the others do, behind
+A thread that is suspended waits for a resumption, and each agent resumes what it suspends: whatever the others do, after
 the last suspension of a thread there is a resumption. No call is refused for want of calls, so no resumption is either.
-Each thread parks behind its last operation, so that calls that come late are answered with its frames, too.
+Each thread parks after its last operation, so that calls that come late are answered with its frames, too.
 """
 
 import itertools
@@ -24,7 +24,7 @@ def script(depth, methods, walks, calls):
 
 
 def walking(count, depth):
-    """A walk of so many operations: to that depth, then steps with a poll behind each second one, then it parks."""
+    """A walk of so many operations: to that depth, then steps with a poll after each second one, then it parks."""
     turn = (["enter", "m0"], ["at", 7], ["poll"], ["leave"], ["at", 8], ["poll"])
     steps = itertools.islice(itertools.cycle(turn), count - depth - 2)
     return [["start"], *[["enter", "m0"]] * depth, *steps, ["block", "park"]]

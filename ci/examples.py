@@ -15,7 +15,7 @@ TESTS = pathlib.Path("crates/ti_tests/src/walks.rt")
 
 
 def is_tested(literals, example):
-    """Whether document and text stand one behind the other among the tests' literals."""
+    """Whether document and text stand one after the other among the tests' literals."""
     pair = [json.dumps(path.read_text()) for path in (example, example.with_suffix(".out"))]
     return pair in (literals[n : n + 2] for n in range(len(literals)))
 

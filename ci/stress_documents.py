@@ -53,7 +53,7 @@ def step(chance):
 
 
 def turn(chance, taste):
-    """Some operations of a running thread, behind which it mostly runs."""
+    """Some operations of a running thread, after which it mostly runs."""
     if taste == "polls":
         return [["poll"]] * chance.randrange(1, 20)
     if taste == "blocks":
@@ -128,7 +128,7 @@ class Agent:
         return [word, self.thread(), *further.get(word, list)()]
 
     def suspended_by(self, reached):
-        """The threads that it owes a resumption, behind these calls."""
+        """The threads that it owes a resumption, after these calls."""
         owed = set(self.owed)
         for word, thread in reached:
             if word == "suspend":

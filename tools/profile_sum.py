@@ -13,7 +13,7 @@ import sys
 
 
 def folded_sum(text):
-    """The sum of the counts, each of which stands behind the last space of a line."""
+    """The sum of the counts, each of which stands after the last space of a line."""
     return sum(int(line.rpartition(" ")[2]) for line in text.splitlines())
 
 

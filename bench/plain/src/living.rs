@@ -31,7 +31,7 @@ struct Report {
     histories: Vec<Vec<Entry>>,
 }
 
-/// The word of an item, and what stands behind it.
+/// The word of an item, and what stands after it.
 fn words(value: &Value, item: usize) -> Res<(&str, &[Value])> {
     match value.as_array().map(Vec::as_slice) {
         Some([Value::String(word), rest @ ..]) => Ok((word, rest)),

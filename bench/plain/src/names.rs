@@ -66,7 +66,7 @@ impl<'a> Names<'a> {
         Ok(caps)
     }
 
-    /// An event of a thread, by its word and what stands behind it.
+    /// An event of a thread, by its word and what stands after it.
     pub fn operation(&self, n: u32, word: &str, rest: &[Value], item: usize) -> Res<Event> {
         Ok(match (word, rest) {
             ("start", []) => Event::Start(n),
@@ -83,7 +83,7 @@ impl<'a> Names<'a> {
         })
     }
 
-    /// An event of an agent, by its word and what stands behind it.
+    /// An event of an agent, by its word and what stands after it.
     pub fn question(&self, e: u32, word: &str, rest: &[Value], item: usize) -> Res<Event> {
         Ok(match (word, rest) {
             ("state", [t]) => Event::Ask(e, self.thread(t, item)?, Call::State),
