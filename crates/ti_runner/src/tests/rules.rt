@@ -34,7 +34,11 @@ struct Rule {
 impl Rule {
     /// Whether the awaited moment came before the turns were spent.
     fn wait(&self) -> bool {
-        let turns = if self.awaited == Moment::Never { FEW } else { TURNS };
+        let turns = if self.awaited == Moment::Never {
+            FEW
+        } else {
+            TURNS
+        };
         for _ in 0..turns {
             if self.came.load(Ordering::SeqCst) {
                 return true;
