@@ -1,5 +1,5 @@
 -- Tables of rows, and how they grow with a history.
-use Rattle.std.proofs.Common.{◌≡◌, ℕ, append-nil, length-take, zero, suc, ◌+◌, ◌<◌, ◌≤◌, ◌==◌, List, [], ◌∷◌, ◌++◌, length, map, refl, ap, ◌∙◌, arith, Option, Some, slice_get, slice_index_or, slice_set, get_or, take, if◌then◌else◌, inl, inr}
+use Rattle.std.proofs.Common.{◌≡◌, ℕ, append-nil, append_assoc, length-take, zero, suc, ◌+◌, ◌<◌, ◌≤◌, ◌==◌, List, [], ◌∷◌, ◌++◌, length, map, refl, ap, ◌∙◌, arith, Option, Some, slice_get, slice_index_or, slice_set, get_or, take, if◌then◌else◌, inl, inr}
 use Rattle.std.specs.Option.{option_map}
 use Rattle.std.specs.List.{filter, enumerate_from}
 use Rattle.std.proofs.lemmas.Bool.{cases_Bool}
@@ -10,6 +10,7 @@ use Rattle.ti_types.specs.declared.numbers.EnvNo.{EnvNo}
 use Rattle.ti_types.specs.declared.entry.Entry.{Entry}
 use Rattle.ti_types.specs.declared.entry.Entry.TheVariants.{Start}
 use Rattle.ti_types.specs.declared.answer.Answer.{Answer}
+use Rattle.ti_types.specs.declared.place.Frame.{Frame}
 use Rattle.ti_replay.specs.Legal.{call_cost, calls_spent}
 use Rattle.ti_types.specs.Answer.{said}
 use Rattle.ti_replay.specs.Replies.{reply, told_at}
@@ -17,10 +18,10 @@ use Rattle.ti_replay.specs.Settling.{Placed, placed}
 use Rattle.ti_replay.proofs.HistoryLaws.{enumerate_from-append}
 use Rattle.ti_replay.proofs.StepLaws.{entry_at}
 use Rattle.ti_report.specs.Told.{is_left_by, granted}
-use Rattle.ti_report.specs.Books.{Row, said_row, rows_of, rows_at, with_row}
+use Rattle.ti_report.specs.Books.{Row, Noted, said_row, rows_of, rows_at, with_row}
 
 -- one more agent without rows
-pub none_more : (rows : List (List Row)) (k : ℕ) → ((k : ℕ) → slice_index_or rows k [] ≡ []) → slice_index_or (rows ++ [] ∷ []) k [] ≡ []
+pub none_more : (rows : List (List Noted)) (k : ℕ) → ((k : ℕ) → slice_index_or rows k [] ≡ []) → slice_index_or (rows ++ [] ∷ []) k [] ≡ []
 none_more [] zero h = refl
 none_more [] (suc k) h = refl
 none_more (r ∷ rows) zero h = h 0
@@ -59,46 +60,45 @@ pub spent_take : (e : EnvNo) (whole : List Entry) (i : ℕ) → i < length whole
 spent_take e whole i h =
     ap (calls_spent e) (take_at_read whole i Start h).1 ∙ (sum_by-append (call_cost e) (take i whole) (entry_at whole i ∷ []) ∙ grind arith)
 
--- a place that is taken leaves the later ones
-pub told_others : (told : List (Option Answer)) (at place : ℕ) (a : Option Answer) → at + 1 ≤ place → told_at (slice_set told at a) place ≡ told_at told place
-told_others [] at place a h = refl
-told_others (t ∷ told) zero zero a h = grind arith
-told_others (t ∷ told) zero (suc place) a h = refl
-told_others (t ∷ told) (suc at) zero a h = refl
-told_others (t ∷ told) (suc at) (suc place) a h = told_others told at place a (omega arith)
-
+-- what a list of replies says at a place that is there
 pub told_here : (told : List (Option Answer)) (at : ℕ) (d : Option Answer) → at < length told → told_at told at ≡ option_map said (get_or told at d)
 told_here [] at d h = grind arith
 told_here (t ∷ told) zero d h = refl
 told_here (t ∷ told) (suc at) d h = told_here told at d (omega arith)
 
-map_rows : (xs ys : List Row) → map said_row (xs ++ ys) ≡ map said_row xs ++ map said_row ys
-map_rows [] ys = refl
-map_rows (x ∷ xs) ys = ap (λ l. said_row x ∷ l) (map_rows xs ys)
+map_rows : (frames : List Frame) (xs ys : List Noted) → map (said_row frames) (xs ++ ys) ≡ map (said_row frames) xs ++ map (said_row frames) ys
+map_rows frames [] ys = refl
+map_rows frames (x ∷ xs) ys = ap (λ l. said_row frames x ∷ l) (map_rows frames xs ys)
 
 -- a row that is added to one agent's rows
-pub row_added : (rows : List (List Row)) (index : ℕ) (row : Row) (e : EnvNo)
-    → map said_row (with_row rows index row e.0) ≡ rows_at rows e ++ (if index == e.0 then said_row row ∷ [] else [])
-row_added rows index row e =
+pub row_added : (frames : List Frame) (rows : List (List Noted)) (index : ℕ) (row : Noted) (e : EnvNo)
+    → map (said_row frames) (with_row rows index row e.0) ≡ rows_at frames rows e ++ (if index == e.0 then said_row frames row ∷ [] else [])
+row_added frames rows index row e =
     elim (cases_Bool (index == e.0)) [
-      | inl yes' ↦ rw (yes') (map_rows (slice_index_or rows e.0 []) (row ∷ []))
+      | inl yes' ↦ rw (yes') (map_rows frames (slice_index_or rows e.0 []) (row ∷ []))
       | inr no' ↦ rw (no', append-nil) refl
     ]
 
-row_at : (l : List Row) (n : ℕ) (r : Row) → slice_get l n ≡ Some r → slice_get (map said_row l) n ≡ Some (said_row r)
-row_at [] n r h = cc
-row_at (x ∷ l) zero r h = grind (arith, h)
-row_at (x ∷ l) (suc n) r h = row_at l n r h
+row_at : (frames : List Frame) (l : List Noted) (n : ℕ) (r : Noted) → slice_get l n ≡ Some r → slice_get (map (said_row frames) l) n ≡ Some (said_row frames r)
+row_at frames [] n r h = cc
+row_at frames (x ∷ l) zero r h = grind (arith, h)
+row_at frames (x ∷ l) (suc n) r h = row_at frames l n r h
 
 -- a row that is there
-pub row_get : (rows : List (List Row)) (e n : ℕ) (l : List Row) (r : Row) → slice_get rows e ≡ Some l → slice_get l n ≡ Some r → slice_get (rows_at rows (record { 0 = e })) n ≡ Some (said_row r)
-row_get [] e n l r h k = cc
-row_get (x ∷ rows) zero n l r h k = grind (arith, h, row_at l n r k)
-row_get (x ∷ rows) (suc e) n l r h k = row_get rows e n l r h k
+pub row_get : (frames : List Frame) (rows : List (List Noted)) (e n : ℕ) (l : List Noted) (r : Noted) → slice_get rows e ≡ Some l → slice_get l n ≡ Some r
+    → slice_get (rows_at frames rows (record { 0 = e })) n ≡ Some (said_row frames r)
+row_get frames [] e n l r h k = cc
+row_get frames (x ∷ rows) zero n l r h k = grind (arith, h, row_at frames l n r k)
+row_get frames (x ∷ rows) (suc e) n l r h k = row_get frames rows e n l r h k
 
-said_long : (rows : List Row) → length (map said_row rows) ≡ length rows
-said_long [] = refl
-said_long (r ∷ rows) = ap suc (said_long rows)
+said_long : (frames : List Frame) (rows : List Noted) → length (map (said_row frames) rows) ≡ length rows
+said_long frames [] = refl
+said_long frames (r ∷ rows) = ap suc (said_long frames rows)
 
-pub rows_long : (rows : List (List Row)) (e : EnvNo) → length (rows_at rows e) ≡ length (slice_index_or rows e.0 [])
-rows_long rows e = said_long (slice_index_or rows e.0 [])
+pub rows_long : (frames : List Frame) (rows : List (List Noted)) (e : EnvNo) → length (rows_at frames rows e) ≡ length (slice_index_or rows e.0 [])
+rows_long frames rows e = said_long frames (slice_index_or rows e.0 [])
+
+-- known rows stay known where frames are added
+pub still_known : (frames new more : List Frame) (rows : List (List Noted)) (e : EnvNo) (known : List Row)
+    → ((more : List Frame) → rows_at (frames ++ more) rows e ≡ known) → rows_at ((frames ++ new) ++ more) rows e ≡ known
+still_known frames new more rows e known h = ap (λ l. rows_at l rows e) (append_assoc frames new more) ∙ h (new ++ more)

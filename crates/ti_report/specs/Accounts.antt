@@ -46,17 +46,21 @@ why_now limits a wanting event = refusal_of limits (record { caps = a.caps; spen
 abbrev pub counted : Bool → List ℕ → ℕ → List ℕ
 counted yes' numbers index = if yes' then slice_set numbers index (slice_index numbers index + 1) else numbers
 
--- the account after an event
-abbrev pub accounted : Limits → AccountValue → Bool → Event → AccountValue
-accounted limits a wanting event =
-    let goes = is_none (why_now limits a wanting event) in
+-- the account after an event, where this is why it does not reach its thread
+abbrev pub accounted_with : AccountValue → Option TiError → Event → AccountValue
+accounted_with a why event =
+    let goes = is_none why in
     record {
       env = a.env;
       caps = caps_after a.env a.caps event;
-      word = env_word_after a.env a.word (record { event = event; wanting = wanting });
+      word = env_word_after a.env a.word (record { event = event; wanting = false });
       spent = counted (is_paid event && goes) a.spent (thread_of event).0;
       used = counted (is_call event && goes) a.used (thread_of event).0;
     }
+
+-- the account after an event
+abbrev pub accounted : Limits → AccountValue → Bool → Event → AccountValue
+accounted limits a wanting event = accounted_with a (why_now limits a wanting event) event
 
 abbrev pub done_unless : Option TiError → Answer
 done_unless None = answer.Done
@@ -71,13 +75,18 @@ own_answer a (SetEnvWord e word) = Some answer.Done
 own_answer a (GetEnvWord e) = Some (answer.Word a.word)
 own_answer a event = None
 
--- what an event is told, where these are by thread the agent's rows and what it has spent in all
-abbrev pub told_now : Limits → (ℕ → List Row × ℕ) → AccountValue → Bool → Event → Option Answer
-told_now limits pages a wanting event =
+-- what an event is told, where these are by thread the agent's rows and what it has spent in all, and this is why the event
+-- does not reach its thread
+abbrev pub told_with : Limits → (ℕ → List Row × ℕ) → AccountValue → Option TiError → Event → Option Answer
+told_with limits pages a why event =
     let t = (thread_of event).0 in
     if is_call event
-    then refused_or_got (why_now limits a wanting event) (is_due limits.calls (pages t).1) (got_by event (slice_get (pages t).0 (slice_index a.used t)))
+    then refused_or_got why (is_due limits.calls (pages t).1) (got_by event (slice_get (pages t).0 (slice_index a.used t)))
     else own_answer a event
+
+-- what an event is told
+abbrev pub told_now : Limits → (ℕ → List Row × ℕ) → AccountValue → Bool → Event → Option Answer
+told_now limits pages a wanting event = told_with limits pages a (why_now limits a wanting event) event
 
 -- the account is that of an agent that has done these
 pub record Accounts (limits : Limits) (e : EnvNo) (done : List Happening) (a : AccountValue) : Type 0 where
@@ -115,8 +124,12 @@ pub record IsWithin (used spent : List ℕ) : Type 0 where
   pub few : (k : ℕ) → slice_index spent k ≤ 1024
 
 -- one more used entry can be counted, where the event uses one
-abbrev pub CanCount : Limits → AccountValue → Bool → Event → Type 0
-CanCount limits a wanting event = (is_call event && is_none (why_now limits a wanting event)) ≡ true → slice_index a.used (thread_of event).0 + 1 < 2 ^ 64
+abbrev pub CanCount : AccountValue → Option TiError → Event → Type 0
+CanCount a why event = (is_call event && is_none why) ≡ true → slice_index a.used (thread_of event).0 + 1 < 2 ^ 64
+
+-- one more call can be paid, where the event is paid
+abbrev pub IsFew : AccountValue → Option TiError → Event → Type 0
+IsFew a why event = (is_paid event && is_none why) ≡ true → slice_index a.spent (thread_of event).0 < 1024
 
 -- all stacks, or those of threads that are alive
 abbrev pub kept : (live : Bool) → List (Option StackInfo) → List (Option StackInfo)

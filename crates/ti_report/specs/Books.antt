@@ -1,36 +1,42 @@
 -- What a history tells its agents, by agent: a table of the entries that each left and of what these got, and of what each
 -- has spent.
 use Rattle.std.specs.Prelude.{ℕ, ◌≡◌, ◌<◌, ◌==◌, Bool, false, List, [], ◌∷◌, ◌++◌, map, if◌then◌else◌, Option, Some, None, slice_get, slice_index, slice_index_or}
-use Rattle.std.specs.Option.{option_map, option_map_or}
+use Rattle.std.specs.Option.{option_map_or}
 use Rattle.std.specs.List.{filter}
 use Rattle.ti_types.specs.declared.limits.Limits.{Limits}
 use Rattle.ti_types.specs.declared.numbers.EnvNo.{EnvNo}
 use Rattle.ti_types.specs.declared.numbers.ThreadNo.{ThreadNo}
 use Rattle.ti_types.specs.declared.entry.Entry.{Entry}
 use Rattle.ti_types.specs.declared.answer.Answer.{Answer}
-use Rattle.ti_types.specs.Answer.{said}
+use Rattle.ti_types.specs.declared.place.Frame.{Frame}
 use Rattle.ti_replay.specs.Legal.{calls_spent}
 use Rattle.ti_replay.specs.Replies.{reply}
 use Rattle.ti_replay.specs.Settling.{placed}
 use Rattle.ti_report.specs.Told.{got, granted, is_left_by, history_at}
 use Rattle.ti_report.specs.declared.book.Book.{Book}
+use Rattle.ti_report.specs.declared.got.Got.{Got}
+use Rattle.ti_report.specs.Gots.{told_in}
 
 abbrev pub Row : Type 0
 Row = Entry × Option Answer
 
-abbrev pub said_row : Row → Row
-said_row r = (r.0, option_map said r.1)
+-- a row as a book has it, and what it says with the frames of the book
+abbrev pub Noted : Type 0
+Noted = Entry × Got
+
+abbrev pub said_row : List Frame → Noted → Row
+said_row frames r = (r.0, told_in frames r.1)
 
 -- what an agent left among some first entries of a whole history, and got by it
 abbrev pub rows_of : Limits → List Entry → EnvNo → List Entry → List Row
 rows_of limits whole e front = map (λ p. (p.1, granted p.1 (reply limits whole p.0))) (filter (λ p. is_left_by e p.1) (placed front))
 
--- the rows of one agent in a table
-abbrev pub rows_at : List (List Row) → EnvNo → List Row
-rows_at rows e = map said_row (slice_index_or rows e.0 [])
+-- the rows of one agent in a table, with these frames
+abbrev pub rows_at : List Frame → List (List Noted) → EnvNo → List Row
+rows_at frames rows e = map (said_row frames) (slice_index_or rows e.0 [])
 
 -- a table with one more row at a place
-abbrev pub with_row : List (List Row) → ℕ → Row → ℕ → List Row
+abbrev pub with_row : List (List Noted) → ℕ → Noted → ℕ → List Noted
 with_row rows index row k = if index == k then slice_index_or rows k [] ++ row ∷ [] else slice_index_or rows k []
 
 abbrev pub is_number : Option ℕ → ℕ → Bool
@@ -38,12 +44,12 @@ is_number number e = option_map_or (λ n. n == e) number false
 
 -- the book tells what this history does
 pub record IsBook (limits : Limits) (history : List Entry) (b : Book) : Type 0 where
-  pub rows : (e : EnvNo) → e.0 < limits.envs → rows_at b.rows.items e ≡ got limits e history
+  pub rows : (e : EnvNo) → e.0 < limits.envs → rows_at b.frames.items b.rows.items e ≡ got limits e history
   pub spent : (e : EnvNo) → e.0 < limits.envs → slice_index b.spent.items e.0 ≡ calls_spent e history
 
 -- the rows of an agent in the book of a thread, and none where there is no such thread
 abbrev pub rows_in : Option Book → EnvNo → List Row
-rows_in (Some b) e = rows_at b.rows.items e
+rows_in (Some b) e = rows_at b.frames.items b.rows.items e
 rows_in None e = []
 
 abbrev pub spent_in : Option Book → EnvNo → ℕ

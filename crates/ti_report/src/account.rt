@@ -1,5 +1,5 @@
 //! What an agent has done so far, kept as a few numbers, and what it is told next.
-ghost use Rattle.std.specs.Prelude.{◌≡◌, ◌↔◌, ◌<◌, ◌+◌, ◌^◌, nat_lt, true, false, Some, None, length, IfOk, IfSome, slice_get, slice_index, option_map};
+ghost use Rattle.std.specs.Prelude.{◌≡◌, ◌↔◌, ◌<◌, ◌+◌, ◌^◌, nat_lt, true, false, Some, None, length, IfOk, IfSome, slice_get, slice_index, option_map, option_and_then};
 ghost use Rattle.ti_types.specs.declared.numbers.EnvNo.{EnvNo};
 ghost use Rattle.ti_types.specs.declared.numbers.ThreadNo.{ThreadNo};
 ghost use Rattle.ti_types.specs.declared.limits.Limits.{Limits};
@@ -7,15 +7,17 @@ ghost use Rattle.ti_types.specs.Answer.{said};
 ghost use Rattle.ti_types.specs.Frames.{bare_trace};
 ghost use Rattle.ti_types.specs.Admitting.{admitting_refusal, asking_refusal, reaching_refusal};
 ghost use Rattle.ti_report.specs.Told.{thread_of, is_call, is_due, got_by};
+ghost use Rattle.ti_report.specs.Gots.{told_in};
 ghost use Rattle.ti_report.specs.Books.{rows_in, spent_in, page_in, said_row};
-ghost use Rattle.ti_report.specs.Accounts.{AccountValue, CanCount, why_now, accounted, own_answer, told_now, counted, can_pay_now, new_account};
+ghost use Rattle.ti_report.specs.Accounts.{AccountValue, CanCount, IsFew, why_now, accounted_with, own_answer, told_with, counted, can_pay_now, new_account};
 ghost use Rattle.ti_report.specs.Fits.{code_of, stack_of};
 
 use crate::book::{Book, Row};
+use crate::got::{Got, part, same_got};
 use crate::same::{asks_same, same_answer};
 use std::alloc::{AllocError, Global};
 use std::marker::Model;
-use ti_types::{Answer, Call, Caps, EnvNo, Event, Limits, ThreadNo, TiError, TraceBuf, needs};
+use ti_types::{Answer, Call, Caps, EnvNo, Event, Frame, Limits, ThreadNo, TiError, needs};
 
 /// What an agent has done so far: its capabilities, its word, and by thread how many of its calls it has spent and how many
 /// of its entries it has used.
@@ -137,7 +139,8 @@ impl Account {
 
     /// Why an event does not reach its thread, where memory ran out for its answer or not (this profile's order).
     pub fn why(&self, limits: Limits, wanting: bool, event: Event) -> Option<TiError>
-        ensures { result ≡ why_now limits self.now wanting event }
+        ensures why { result ≡ why_now limits self.now wanting event }
+        ensures few { IsFew self.now result event }
     {
         match event {
             Event::Ask(env, thread, call) => {
@@ -188,10 +191,10 @@ impl Account {
         self.used_at(thread) == self.rows_there(books, thread)
     }
 
-    /// The next entry that the agent left at a thread, with what it got.
+    /// The next entry that the agent left at a thread, with what it got and the frames of its book.
     #[tactic(auto, using(crate::proofs::BookLaws::row_get))]
-    fn next<'a>(&self, books: &'a [Book], thread: ThreadNo) -> Option<&'a Row>
-        ensures next { option_map (λ r. said_row r.now) result ≡ slice_get (rows_in (slice_get books.now thread.0) self.now.env) (slice_index self.now.used thread.0) }
+    fn next<'a>(&self, books: &'a [Book], thread: ThreadNo) -> Option<(&'a Row, &'a [Frame])>
+        ensures next { option_map (λ r. said_row r.1.now r.0.now) result ≡ slice_get (rows_in (slice_get books.now thread.0) self.now.env) (slice_index self.now.used thread.0) }
         ensures room { IfSome result (λ r. slice_index self.now.used thread.0 + 1 < 2 ^ 64) }
     {
         let book = books.get(thread.0 as usize)?;
@@ -201,23 +204,20 @@ impl Account {
         if at >= rows.len() {
             return None;
         }
-        Some(&rows[at])
+        let row = &rows[at];
+        Some((row, &book.frames))
     }
 
-    /// What the next entry at an event's thread got, where it is what the event leaves.
-    fn found<'a>(&self, books: &'a [Book], event: Event) -> Option<&'a Answer>
-        ensures found { option_map (λ a. said a.now) result ≡ got_by event (slice_get (rows_in (slice_get books.now (thread_of event).0) self.now.env) (slice_index self.now.used (thread_of event).0)) }
-        ensures room { IfSome result (λ a. slice_index self.now.used (thread_of event).0 + 1 < 2 ^ 64) }
+    /// What the next entry at an event's thread got, with the frames of its book, where it is what the event leaves.
+    fn found<'a>(&self, books: &'a [Book], event: Event) -> Option<(Got, &'a [Frame])>
+        ensures found { option_and_then (λ g. told_in g.1.now g.0) result ≡ got_by event (slice_get (rows_in (slice_get books.now (thread_of event).0) self.now.env) (slice_index self.now.used (thread_of event).0)) }
+        ensures room { IfSome result (λ g. slice_index self.now.used (thread_of event).0 + 1 < 2 ^ 64) }
     {
-        match self.next(books, thread_of(event)) {
-            Some(row) => {
-                if asks_same(event, row.0) {
-                    row.1.as_ref()
-                } else {
-                    None
-                }
-            }
-            None => None,
+        let (row, frames) = self.next(books, thread_of(event))?;
+        if asks_same(event, row.0) {
+            Some((row.1, frames))
+        } else {
+            None
         }
     }
 
@@ -250,17 +250,17 @@ impl Account {
         }
     }
 
-    /// Whether an event is told this answer.
+    /// Whether an event is told this answer, where this is why it does not reach its thread.
     pub fn says(
         &self,
         limits: Limits,
         books: &[Book],
-        wanting: bool,
+        why: Option<TiError>,
         event: Event,
         answer: &Answer,
     ) -> bool
-        ensures says { (result ≡ true) ↔ (told_now limits (λ t. page_in (slice_get books.now t) self.now.env) self.now wanting event ≡ Some (said answer.now)) }
-        ensures room { result ≡ true → CanCount limits self.now wanting event }
+        ensures says { (result ≡ true) ↔ (told_with limits (λ t. page_in (slice_get books.now t) self.now.env) self.now why event ≡ Some (said answer.now)) }
+        ensures room { result ≡ true → CanCount self.now why event }
     {
         if !is_call(event) {
             let Some(own) = self.own_answer(event) else {
@@ -268,25 +268,32 @@ impl Account {
             };
             return same_answer(&own, answer);
         }
-        match self.why(limits, wanting, event) {
+        match why {
             Some(error) => {
                 self.is_due(limits, books, event, error)
                     && same_answer(&Answer::Refused(error), answer)
             }
             None => match self.found(books, event) {
-                Some(got) => same_answer(got, answer),
+                Some((got, frames)) => same_got(frames, got, answer),
                 None => false,
             },
         }
     }
 
-    /// The code of a call at a thread: 0 where it is done, and the number of its refusal. None where it is told neither.
-    pub fn code(&self, limits: Limits, books: &[Book], wanting: bool, event: Event) -> Option<u32>
+    /// The code of a call at a thread, where this is why it does not reach it: 0 where it is done, and the number of its
+    /// refusal. None where it is told neither.
+    pub fn code(
+        &self,
+        limits: Limits,
+        books: &[Book],
+        why: Option<TiError>,
+        event: Event,
+    ) -> Option<u32>
         requires { is_call event ≡ true }
-        ensures code { result ≡ code_of (told_now limits (λ t. page_in (slice_get books.now t) self.now.env) self.now wanting event) }
-        ensures room { IfSome result (λ c. CanCount limits self.now wanting event) }
+        ensures code { result ≡ code_of (told_with limits (λ t. page_in (slice_get books.now t) self.now.env) self.now why event) }
+        ensures room { IfSome result (λ c. CanCount self.now why event) }
     {
-        match self.why(limits, wanting, event) {
+        match why {
             Some(error) => {
                 if self.is_due(limits, books, event, error) {
                     Some(error.number())
@@ -295,30 +302,32 @@ impl Account {
                 }
             }
             None => match self.found(books, event) {
-                Some(Answer::Done) => Some(0),
-                Some(Answer::Refused(error)) => Some(error.number()),
+                Some((Got::Done, _)) => Some(0),
+                Some((Got::Refused(error), _)) => Some(error.number()),
                 _ => None,
             },
         }
     }
 
-    /// The state and the frames that a call at a thread is told, where it is told a stack.
+    /// The state and the frames that a call at a thread is told, where it is told a stack and this is why it does not reach
+    /// its thread.
     pub fn stack<'a>(
         &self,
         limits: Limits,
         books: &'a [Book],
-        wanting: bool,
+        why: Option<TiError>,
         event: Event,
-    ) -> Option<(u32, &'a TraceBuf)>
+    ) -> Option<(u32, &'a [Frame])>
         requires { is_call event ≡ true }
-        ensures stack { (t : ThreadNo) → option_map (λ s. record { thread = t; state = s.0; frames = bare_trace s.1.now.frames }) result ≡ stack_of t (told_now limits (λ t. page_in (slice_get books.now t) self.now.env) self.now wanting event) }
-        ensures room { IfSome result (λ s. CanCount limits self.now wanting event) }
+        ensures stack { (t : ThreadNo) → option_map (λ s. record { thread = t; state = s.0; frames = bare_trace s.1.now }) result ≡ stack_of t (told_with limits (λ t. page_in (slice_get books.now t) self.now.env) self.now why event) }
+        ensures room { IfSome result (λ s. CanCount self.now why event) }
     {
-        if self.why(limits, wanting, event).is_some() {
+        let _limits = limits;
+        if why.is_some() {
             return None;
         }
         match self.found(books, event) {
-            Some(Answer::Stack { state, frames }) => Some((*state, frames)),
+            Some((Got::Stack(state, span), frames)) => Some((state, part(frames, span))),
             _ => None,
         }
     }
@@ -347,20 +356,21 @@ impl Account {
         }
     }
 
-    /// Goes on by an event.
-    pub fn account(&mut self, limits: Limits, wanting: bool, event: Event)
-        requires room { CanCount limits self.old wanting event }
-        ensures { self.new ≡ accounted limits self.old wanting event }
+    /// Goes on by an event, where this is why it does not reach its thread.
+    pub fn account(&mut self, why: Option<TiError>, event: Event)
+        requires few { IsFew self.old why event }
+        requires room { CanCount self.old why event }
+        ensures { self.new ≡ accounted_with self.old why event }
     {
         match event {
             Event::Ask(_, thread, _) | Event::Stop(_, thread) | Event::Read(_, thread, _) => {
-                if self.why(limits, wanting, event).is_none() {
+                if why.is_none() {
                     self.spend(thread);
                     self.use_up(thread);
                 }
             }
             Event::Go(_, thread) => {
-                if self.why(limits, wanting, event).is_none() {
+                if why.is_none() {
                     self.use_up(thread);
                 }
             }

@@ -1,27 +1,32 @@
 //! What a history tells its agents, read off in one pass over its replies.
-ghost use Rattle.std.specs.Prelude.{◌≡◌, ◌++◌, ◌∷◌, ◌^◌, ◌≤◌, ◌<◌, ◌+◌, ℕ, [], true, false, length, IfOk, OnOk, IfSome, IfNone, slice_index, slice_index_or, if◌then◌else◌};
+ghost use Rattle.std.specs.Prelude.{◌≡◌, List, Option, ◌++◌, ◌∷◌, ◌^◌, ◌≤◌, ◌<◌, ◌+◌, ℕ, [], true, false, length, IfOk, OnOk, IfSome, IfNone, slice_index, slice_index_or, if◌then◌else◌};
 ghost use Rattle.std.specs.Option.{option_map};
 ghost use Rattle.ti_types.specs.Answer.{said};
+ghost use Rattle.ti_types.specs.declared.place.Frame.{Frame};
+ghost use Rattle.ti_types.specs.declared.entry.Entry.{Entry};
+ghost use Rattle.ti_types.specs.declared.answer.Answer.{Answer};
+ghost use Rattle.ti_report.specs.Gots.{told_in};
 ghost use Rattle.ti_types.specs.declared.numbers.EnvNo.{EnvNo};
 ghost use Rattle.ti_replay.specs.Legal.{is_legal, call_cost, calls_spent};
 ghost use Rattle.ti_replay.specs.Replies.{reply, told_at};
 ghost use Rattle.ti_report.specs.Told.{got, granted, is_left_by};
 ghost use Rattle.ti_report.specs.Books.{rows_at, with_row, is_number, IsBook};
 
+use crate::got::{Got, got_of};
 use std::alloc::{AllocError, Global};
-use std::mem;
 use ti_live::Listed;
 use ti_replay::{ReplayFault, replies};
-use ti_types::{Answer, Entry, EnvNo, Limits};
+use ti_types::{Answer, Entry, EnvNo, Frame, Limits};
 
 /// An entry that an agent left, and what it got.
-pub type Row = (Entry, Option<Answer>);
+pub type Row = (Entry, Got);
 
 /// What a history tells its agents: for each agent the entries that it left with what they got, and how many of its calls
-/// it has spent.
+/// it has spent. The frames of all answers stand in one list, those of a thread that stands still once.
 #[derive(Drop)]
 pub struct Book {
     pub rows: Vec<Listed<Row>>,
+    pub frames: Vec<Frame>,
     pub spent: Vec<usize>,
 }
 
@@ -29,7 +34,7 @@ impl Book {
     /// How many entries an agent left.
     #[tactic(auto, using(crate::proofs::BookLaws::rows_long))]
     pub fn rows_by(&self, env: EnvNo) -> usize
-        ensures { result ≡ length (rows_at self.now.rows.items env) }
+        ensures { result ≡ length (rows_at self.now.frames.items self.now.rows.items env) }
     {
         let index = env.0 as usize;
         if index < self.rows.len() {
@@ -65,12 +70,13 @@ fn maker(entry: Entry) -> Option<u32>
 }
 
 /// What an entry of an agent got, where this is its reply.
-fn grant(entry: Entry, reply: Option<Answer>) -> Option<Answer>
-    ensures { option_map said result ≡ granted entry (option_map said reply) }
+fn grant(frames: &mut Vec<Frame>, entry: Entry, reply: &Option<Answer>) -> Result<Got, AllocError>
+    ensures grows { OnOk result ((more : List Frame) × (frames.new.items ≡ frames.old.items ++ more)) }
+    ensures got { IfOk result (λ g. (more : List Frame) → told_in (frames.new.items ++ more) g ≡ granted entry (option_map said reply.now)) }
 {
     match entry {
-        Entry::Stop(_) | Entry::Go(_) => Some(Answer::Done),
-        _ => reply,
+        Entry::Stop(_) | Entry::Go(_) => Ok(Got::Done),
+        _ => got_of(frames, reply),
     }
 }
 
@@ -95,59 +101,86 @@ fn add_row(rows: &mut Vec<Listed<Row>>, index: usize, row: Row) -> Result<(), Al
     Ok(())
 }
 
-/// This many agents without rows.
+/// As many agents as there are counts, without rows, but with room for so many each.
 #[tactic(auto, using(crate::proofs::BookLaws::none_more))]
-fn no_rows(alloc: Global, count: u32) -> Result<Vec<Listed<Row>>, AllocError>
-    ensures length { IfOk result (λ r. length r.items ≡ count) }
+fn no_rows(alloc: Global, counts: &[usize]) -> Result<Vec<Listed<Row>>, AllocError>
+    ensures length { IfOk result (λ r. length r.items ≡ length counts.now) }
     ensures rows { IfOk result (λ r. (k : ℕ) → slice_index_or r.items k [] ≡ []) }
 {
-    let mut rows = Vec::new(alloc);
-    for _ in 0..count {
-        rows.push(Listed::new(alloc))?;
+    let mut rows = Vec::with_capacity(alloc, counts.len())?;
+    for i in 0..counts.len() {
+        rows.push(Listed::with_room(alloc, counts[i])?)?;
     }
     Ok(rows)
 }
 
+/// Counts an entry for the agent that left it.
+fn count(counts: &mut Vec<usize>, entry: Entry)
+    ensures { length counts.new.items ≡ length counts.old.items }
+{
+    if let Some(env) = maker(entry) {
+        let index = env as usize;
+        if index < counts.len() {
+            counts[index] = counts[index].saturating_add(1);
+        }
+    }
+}
+
+/// How many entries each agent left in this history.
+fn made(alloc: Global, limits: Limits, entries: &[Entry]) -> Result<Vec<usize>, AllocError>
+    ensures { IfOk result (λ c. length c.items ≡ limits.envs) }
+{
+    let mut counts = vec![in alloc; 0; limits.envs as usize]?;
+    for at in 0..entries.len() {
+        count(&mut counts, entries[at]);
+    }
+    Ok(counts)
+}
+
 /// Adds an entry, and what it got, to the rows of the agent that left it.
-#[tactic(auto, using(crate::proofs::BookLaws::told_others))]
 fn take_row(
     rows: &mut Vec<Listed<Row>>,
-    answers: &mut Vec<Option<Answer>>,
-    at: usize,
+    frames: &mut Vec<Frame>,
     entry: Entry,
+    reply: &Option<Answer>,
 ) -> Result<(), AllocError>
-    requires { at < length answers.old.items }
     ensures agents { OnOk result (length rows.new.items ≡ length rows.old.items) }
-    ensures places { length answers.new.items ≡ length answers.old.items }
-    ensures rows { OnOk result ((e : EnvNo) → e.0 < length rows.old.items → rows_at rows.new.items e ≡ rows_at rows.old.items e ++ (if is_left_by e entry then (entry, granted entry (told_at answers.old.items at)) ∷ [] else [])) }
-    ensures others { (place : ℕ) → at + 1 ≤ place → told_at answers.new.items place ≡ told_at answers.old.items place }
+    ensures rows { OnOk result ((e : EnvNo) → e.0 < length rows.old.items → (known : List (Entry × Option Answer)) → ((more : List Frame) → rows_at (frames.old.items ++ more) rows.old.items e ≡ known) → (more : List Frame) → rows_at (frames.new.items ++ more) rows.new.items e ≡ known ++ (if is_left_by e entry then (entry, granted entry (option_map said reply.now)) ∷ [] else [])) }
 {
     let Some(env) = maker(entry) else {
         return Ok(());
     };
-    let answer = mem::replace(&mut answers[at], None);
-    add_row(rows, env as usize, (entry, grant(entry, answer)))?;
+    let got = grant(frames, entry, reply)?;
+    add_row(rows, env as usize, (entry, got))?;
     Ok(())
+}
+
+/// The rows of all agents, and the frames in them.
+#[derive(Drop)]
+struct Table {
+    rows: Vec<Listed<Row>>,
+    frames: Vec<Frame>,
 }
 
 /// What each agent left in this history, and got, where these are the replies of all places.
 #[tactic(auto, using(crate::proofs::BookLaws::rows_of_take))]
-fn rows(
+fn noted(
     alloc: Global,
     limits: Limits,
     entries: &[Entry],
-    answers: Vec<Option<Answer>>,
-) -> Result<Vec<Listed<Row>>, AllocError>
-    requires places { length answers.items ≡ length entries.now }
-    requires answers { (place : ℕ) → told_at answers.items place ≡ reply limits entries.now place }
-    ensures { IfOk result (λ r. (e : EnvNo) → e.0 < limits.envs → rows_at r.items e ≡ got limits e entries.now) }
+    replies: &[Option<Answer>],
+) -> Result<Table, AllocError>
+    requires places { length replies.now ≡ length entries.now }
+    requires replies { (place : ℕ) → told_at replies.now place ≡ reply limits entries.now place }
+    ensures { IfOk result (λ r. (e : EnvNo) → e.0 < limits.envs → rows_at r.frames.items r.rows.items e ≡ got limits e entries.now) }
 {
-    let mut answers = answers;
-    let mut rows = no_rows(alloc, limits.envs)?;
+    let counts = made(alloc, limits, entries)?;
+    let mut rows = no_rows(alloc, &counts)?;
+    let mut frames = Vec::new(alloc);
     for at in 0..entries.len() {
-        take_row(&mut rows, &mut answers, at, entries[at])?;
+        take_row(&mut rows, &mut frames, entries[at], &replies[at])?;
     }
-    Ok(rows)
+    Ok(Table { rows, frames })
 }
 
 /// Counts an entry for the agent that pays for it, where none has paid for more than this many.
@@ -189,10 +222,14 @@ pub fn read_book(
     ensures book { IfOk result (λ b. IfSome b (IsBook limits entries.now)) }
 {
     match replies(alloc, limits, entries) {
-        Ok(answers) => {
-            let rows = rows(alloc, limits, entries, answers)?;
+        Ok(replies) => {
+            let Table { rows, frames } = noted(alloc, limits, entries, &replies)?;
             let spent = spent(alloc, limits, entries)?;
-            Ok(Some(Book { rows, spent }))
+            Ok(Some(Book {
+                rows,
+                frames,
+                spent,
+            }))
         }
         Err(ReplayFault::Illegal { .. }) => Ok(None),
         Err(ReplayFault::Memory) => Err(AllocError),

@@ -49,10 +49,11 @@ fn one_fits(
 {
     match events {
         [event] => {
-            if !account.says(limits, books, wanting, *event, answer) {
+            let why = account.why(limits, wanting, *event);
+            if !account.says(limits, books, why, *event, answer) {
                 return false;
             }
-            account.account(limits, wanting, *event);
+            account.account(why, *event);
             true
         }
         _ => false,

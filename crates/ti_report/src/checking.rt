@@ -26,14 +26,14 @@ pub fn codes_fit(
         return false;
     }
     for i in 0..events.len() {
-        let code = account.code(limits, books, wanting, events[i]);
-        let Some(code) = code else {
+        let why = account.why(limits, wanting, events[i]);
+        let Some(code) = account.code(limits, books, why, events[i]) else {
             return false;
         };
         if code != codes[i] {
             return false;
         }
-        account.account(limits, wanting, events[i]);
+        account.account(why, events[i]);
     }
     true
 }

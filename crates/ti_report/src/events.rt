@@ -18,7 +18,7 @@ fn asks(
 ) -> Result<Vec<Event>, AllocError>
     ensures { IfOk result (λ v. v.items ≡ map (λ t. Ask env t call) threads.now) }
 {
-    let mut events = Vec::new(alloc);
+    let mut events = Vec::with_capacity(alloc, threads.len())?;
     for thread in threads {
         events.push(Event::Ask(env, *thread, call))?;
     }
@@ -143,7 +143,7 @@ fn looks(
     ensures { IfOk result (λ v. v.items ≡ looks limits env threads.now max_count) }
 {
     let listed = once(alloc, limits, threads)?;
-    let mut events = Vec::new(alloc);
+    let mut events = Vec::with_capacity(alloc, listed.len())?;
     push_stops(&mut events, env, &listed)?;
     push_reads(&mut events, env, threads, &max_count)?;
     push_gos(&mut events, env, &listed)?;

@@ -17,6 +17,7 @@ mod calling;
 mod checking;
 mod events;
 mod fitting;
+mod got;
 mod same;
 mod stacks;
 mod walks;

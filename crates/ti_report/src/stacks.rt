@@ -3,21 +3,19 @@ ghost use Rattle.std.specs.Prelude.{◌≡◌, ◌↔◌, ◌++◌, true, ◌∷
 ghost use Rattle.ti_types.specs.declared.stack.StackInfo.{StackInfo};
 ghost use Rattle.ti_report.specs.Books.{page_in};
 ghost use Rattle.ti_report.specs.Fits.{stack_told, said_info};
-ghost use Rattle.ti_report.specs.Accounts.{CanCount, told_now, stacks_now, accounted_all, kept, said_infos};
+ghost use Rattle.ti_report.specs.Accounts.{CanCount, told_with, stacks_now, accounted_all, kept, said_infos};
 ghost use Rattle.ti_types.specs.Frames.{bare_trace};
 
 use crate::account::Account;
 use crate::book::Book;
 use crate::same::same_frames;
-use ti_types::{Answer, Event, Limits, StackInfo, ThreadNo, TraceBuf};
+use ti_types::{Answer, Event, Frame, Limits, StackInfo, ThreadNo, TiError};
 
 /// Whether a stack says this of a thread.
-fn same_info(info: &StackInfo, thread: ThreadNo, state: u32, frames: &TraceBuf) -> bool
-    ensures { (result ≡ true) ↔ (said_info info.now ≡ record { thread = thread; state = state; frames = bare_trace frames.now.frames }) }
+fn same_info(info: &StackInfo, thread: ThreadNo, state: u32, frames: &[Frame]) -> bool
+    ensures { (result ≡ true) ↔ (said_info info.now ≡ record { thread = thread; state = state; frames = bare_trace frames.now }) }
 {
-    info.thread == thread
-        && info.state == state
-        && same_frames(info.frames.frames(), frames.frames())
+    info.thread == thread && info.state == state && same_frames(info.frames.frames(), frames)
 }
 
 /// The place after a stack, where the stack at a place is that one, or is left out since the thread is not alive. None
@@ -25,13 +23,13 @@ fn same_info(info: &StackInfo, thread: ThreadNo, state: u32, frames: &TraceBuf) 
 fn behind_stack(
     thread: ThreadNo,
     state: u32,
-    frames: &TraceBuf,
+    frames: &[Frame],
     live: bool,
     infos: &[StackInfo],
     next: usize,
 ) -> Option<usize>
-    ensures some { IfSome result (λ n. (rest : List (Option StackInfo)) → (said_infos (drop next infos.now) ≡ kept live (Some (record { thread = thread; state = state; frames = bare_trace frames.now.frames }) ∷ rest)) ↔ (said_infos (drop n infos.now) ≡ kept live rest)) }
-    ensures none { IfNone result ((rest : List (Option StackInfo)) → said_infos (drop next infos.now) ≡ kept live (Some (record { thread = thread; state = state; frames = bare_trace frames.now.frames }) ∷ rest) → ⊥) }
+    ensures some { IfSome result (λ n. (rest : List (Option StackInfo)) → (said_infos (drop next infos.now) ≡ kept live (Some (record { thread = thread; state = state; frames = bare_trace frames.now }) ∷ rest)) ↔ (said_infos (drop n infos.now) ≡ kept live rest)) }
+    ensures none { IfNone result ((rest : List (Option StackInfo)) → said_infos (drop next infos.now) ≡ kept live (Some (record { thread = thread; state = state; frames = bare_trace frames.now }) ∷ rest) → ⊥) }
 {
     if live && state & 1 != 1 {
         return Some(next);
@@ -45,29 +43,29 @@ fn behind_stack(
     Some(next + 1)
 }
 
-/// The place after the stack that a call is told, where the stack at a place is that one, and the place itself for a stop
-/// or a go that is done. None where it is not so.
+/// The place after the stack that a call is told, where the stack at a place is that one and this is why the call does not
+/// reach its thread, and the place itself for a stop or a go that is done. None where it is not so.
 fn next_stack(
     account: &Account,
     limits: Limits,
     books: &[Book],
-    wanting: bool,
+    why: Option<TiError>,
     event: Event,
     live: bool,
     infos: &[StackInfo],
     next: usize,
 ) -> Option<usize>
-    ensures some { IfSome result (λ n. (rest : List (Option StackInfo)) → (said_infos (drop next infos.now) ≡ kept live (stack_told event (told_now limits (λ t. page_in (slice_get books.now t) account.now.env) account.now wanting event) ++ rest)) ↔ (said_infos (drop n infos.now) ≡ kept live rest)) }
-    ensures none { IfNone result ((rest : List (Option StackInfo)) → said_infos (drop next infos.now) ≡ kept live (stack_told event (told_now limits (λ t. page_in (slice_get books.now t) account.now.env) account.now wanting event) ++ rest) → ⊥) }
-    ensures room { IfSome result (λ n. CanCount limits account.now wanting event) }
+    ensures some { IfSome result (λ n. (rest : List (Option StackInfo)) → (said_infos (drop next infos.now) ≡ kept live (stack_told event (told_with limits (λ t. page_in (slice_get books.now t) account.now.env) account.now why event) ++ rest)) ↔ (said_infos (drop n infos.now) ≡ kept live rest)) }
+    ensures none { IfNone result ((rest : List (Option StackInfo)) → said_infos (drop next infos.now) ≡ kept live (stack_told event (told_with limits (λ t. page_in (slice_get books.now t) account.now.env) account.now why event) ++ rest) → ⊥) }
+    ensures room { IfSome result (λ n. CanCount account.now why event) }
 {
     let Event::Read(_, thread, _) = event else {
-        if !account.says(limits, books, wanting, event, &Answer::Done) {
+        if !account.says(limits, books, why, event, &Answer::Done) {
             return None;
         }
         return Some(next);
     };
-    match account.stack(limits, books, wanting, event) {
+    match account.stack(limits, books, why, event) {
         Some((state, frames)) => behind_stack(thread, state, frames, live, infos, next),
         None => None,
     }
@@ -89,13 +87,13 @@ pub fn stacks_fit(
 {
     let mut next = 0;
     for i in 0..events.len() {
-        let Some(place) = next_stack(
-            account, limits, books, wanting, events[i], live, infos, next,
-        ) else {
+        let why = account.why(limits, wanting, events[i]);
+        let Some(place) = next_stack(account, limits, books, why, events[i], live, infos, next)
+        else {
             return false;
         };
         next = place;
-        account.account(limits, wanting, events[i]);
+        account.account(why, events[i]);
     }
     next >= infos.len()
 }
