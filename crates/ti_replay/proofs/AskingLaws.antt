@@ -14,7 +14,7 @@ use Rattle.ti_types.specs.declared.call.Call.TheVariants.{State, FrameCount, Tra
 use Rattle.ti_types.specs.declared.entry.Entry.{Entry}
 use Rattle.ti_types.specs.declared.entry.Entry.TheVariants.{Start, Own, Hand, Back, End, Asked, Stop, Read, Go}
 use Rattle.ti_types.specs.declared.view.ThreadView.{ThreadView}
-use Rattle.ti_replay.specs.Settling.{Placed, is_waiting_call, settled}
+use Rattle.ti_replay.specs.Settling.{Placed, is_hand_over, is_waiting_call, settled}
 use Rattle.ti_replay.specs.View.{view, after, after_all, called, frames_after, new_thread}
 use Rattle.ti_replay.specs.Legal.{step_fits}
 use Rattle.ti_replay.specs.Replies.{reply, reply_from}
@@ -38,6 +38,18 @@ called_fewer v env Resume = grind arith
 called_fewer v env GetWord = omega arith
 called_fewer v env (SetWord word) = grind arith
 called_fewer v env Pop = grind (arith, leave_fewer v.frames)
+
+-- a hand-over leaves the frames
+pub hand_frames : (v : ThreadView) (x : Entry) → is_hand_over x ≡ true → length (after v x).frames ≤ length v.frames
+hand_frames v Start h = cc
+hand_frames v (Own step) h = cc
+hand_frames v (Hand safe) h = omega arith
+hand_frames v Back h = cc
+hand_frames v End h = omega arith
+hand_frames v (Asked e n call) h = cc
+hand_frames v (Stop e) h = cc
+hand_frames v (Read e n) h = cc
+hand_frames v (Go e) h = cc
 
 -- a waiting call leaves no more frames
 pub wait_frames : (v : ThreadView) (x : Entry) → is_waiting_call x ≡ true → length (after v x).frames ≤ length v.frames

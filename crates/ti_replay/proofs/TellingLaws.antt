@@ -41,6 +41,13 @@ told_more [] (suc place) = refl
 told_more (t ∷ told) zero = refl
 told_more (t ∷ told) (suc place) = told_more told place
 
+-- a new place says what is put there
+pub told_push : (told : List (Option Answer)) (a : Option Answer) (place : ℕ) → told_at (told ++ a ∷ []) place ≡ option_or (told_at told place) (if length told == place then option_map said a else None)
+told_push [] a zero = grind (arith, nat_tests)
+told_push [] a (suc place) = grind (arith, nat_tests)
+told_push (t ∷ told) a zero = grind (arith, nat_tests, or_none (told_at (t ∷ told) zero))
+told_push (t ∷ told) a (suc place) = grind (arith, nat_tests, told_push told a place)
+
 pub below_all : (n : ℕ) (waiting : List Placed) → are_below n waiting ≡ true → are_below (n + 1) waiting ≡ true
 below_all n [] h = refl
 below_all n (p ∷ waiting) h = grind (arith, nat_tests, below_all n waiting)

@@ -68,6 +68,7 @@ pub fn done_or(refusal: Option<TiError>) -> Answer
     }
 }
 
+#[inline(always)]
 fn answer_alive(
     alloc: Global,
     view: &ThreadView,
@@ -116,6 +117,7 @@ pub fn or_zero(n: i32) -> u32
 }
 
 /// What a thread of this view answers.
+#[inline(always)]
 fn answer(alloc: Global, view: &ThreadView, env: EnvNo, call: Call) -> Result<Answer, AllocError>
     requires { length view.now.frames < 2 ^ 32 }
     ensures { IfOk result (λ a. said a ≡ answer_of view.now env call) }
@@ -130,6 +132,7 @@ fn answer(alloc: Global, view: &ThreadView, env: EnvNo, call: Call) -> Result<An
 /// What is answered where an entry takes place at a thread of this view: a call's answer (JVM TI 11, the function
 /// named at each `Call`), with 15, 103, 31, 14 or 13 where the thread refuses it; the state and the newest frames at
 /// a read; and None at every other entry. The error is lack of memory for the frames of a trace or a read.
+#[inline(always)]
 pub fn answer_entry(
     alloc: Global,
     view: &ThreadView,

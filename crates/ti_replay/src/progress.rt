@@ -1,8 +1,9 @@
 //! How far a replay has come.
 ghost use Rattle.std.specs.Prelude.{◌≡◌, ℕ, ◌+◌, ◌<◌, ◌^◌, ◌∷◌, [], ◌++◌, true, length, IfOk, OnOk, replicate};
 ghost use Rattle.ti_replay.specs.Costs.{no_costs, charged};
-ghost use Rattle.ti_replay.specs.View.{new_thread};
+ghost use Rattle.ti_replay.specs.View.{new_thread, after, after_all};
 ghost use Rattle.ti_replay.specs.PlacedState.{placed_state, may_enter, entered, view_behind, waiting_behind, settled_by, settling_of, all_calls, are_below};
+ghost use Rattle.ti_replay.specs.Settling.{is_hand_over as hand_over_is};
 ghost use Rattle.ti_replay.specs.Replies.{reply_from, told_at};
 ghost use Rattle.std.specs.Option.{option_map, option_or};
 ghost use Rattle.ti_types.specs.Answer.{said};
@@ -14,7 +15,7 @@ use crate::rules::{
     fits, is_hand_over, is_running, is_safe, is_stopper, is_waiting_call, newest_is_native,
     step_fits,
 };
-use crate::telling::{tell_entries, tell_entry};
+use crate::telling::{tell_entries, tell_next};
 use crate::view::{take_entries, take_entry, take_step};
 use std::alloc::{AllocError, Global};
 use std::marker::Model;
@@ -63,6 +64,7 @@ impl Progress {
     }
 
     /// Whether an entry may come next (this profile, `specs/Legal`).
+    #[inline(always)]
     pub fn may_enter(&self, limits: &Limits, entry: Entry) -> bool
         ensures { result ≡ may_enter limits.now self.now entry }
     {
@@ -228,6 +230,7 @@ impl Progress {
     /// Adds an entry that may come next, and writes what is answered to each entry that takes place then at its place.
     /// There is a place for each earlier entry, and one more is added. The error is lack of memory.
     #[tactic(auto, using(crate::proofs::CostLaws::due))]
+    #[inline(always)]
     pub fn enter_telling(
         &mut self,
         alloc: Global,
@@ -246,14 +249,13 @@ impl Progress {
         ensures told { OnOk result ((place : ℕ) → told_at told.new.items place ≡ option_or (told_at told.old.items place) (reply_from self.old.view (settled_by self.old entry) place)) }
     {
         let _limits = *limits;
-        told.push(None)?;
         settle_telling(
             alloc,
             &mut self.view,
             &mut self.waiting,
             self.next,
             entry,
-            told.as_mut_slice(),
+            told,
         )?;
         charge(&mut self.costs, entry);
         self.own += own_cost(entry);
@@ -327,33 +329,56 @@ fn settle_asking(
     }
 }
 
-/// Lets an entry take place, or wait, and writes what is answered to each that takes place.
-#[tactic(auto, using(crate::proofs::TellingLaws::below_all))]
+/// Lets a hand-over take place and then what waits, and writes what is answered to each call that waited at its place.
+#[tactic(auto, using(crate::proofs::TellingLaws::below_all, crate::proofs::AskingLaws::hand_frames))]
+fn hand_telling(
+    alloc: Global,
+    view: &mut ThreadView,
+    waiting: &[(usize, Entry)],
+    entry: Entry,
+    told: &mut Vec<Option<Answer>>,
+) -> Result<(), AllocError>
+    requires hand { hand_over_is entry ≡ true }
+    requires few { length view.old.frames < 2 ^ 32 }
+    requires calls { all_calls waiting.now ≡ true }
+    requires below { are_below (length told.old.items) waiting.now ≡ true }
+    ensures view { OnOk result (view.new ≡ after_all (after view.old entry) waiting.now) }
+    ensures length { OnOk result (length told.new.items ≡ length told.old.items + 1) }
+    ensures told { OnOk result ((place : ℕ) → told_at told.new.items place ≡ option_or (told_at told.old.items place) (reply_from view.old ((length told.old.items, entry) ∷ waiting.now) place)) }
+{
+    tell_next(alloc, view, told, entry)?;
+    tell_entries(alloc, view, told.as_mut_slice(), waiting)?;
+    Ok(())
+}
+
+/// Lets an entry take place, or wait, and writes what is answered to each that takes place. One place is added.
+#[inline(always)]
+#[tactic(auto, using(crate::proofs::TellingLaws::told_more))]
 fn settle_telling(
     alloc: Global,
     view: &mut ThreadView,
     waiting: &mut Vec<(usize, Entry)>,
     next: usize,
     entry: Entry,
-    told: &mut [Option<Answer>],
+    told: &mut Vec<Option<Answer>>,
 ) -> Result<(), AllocError>
     requires few { length view.old.frames < 2 ^ 32 }
     requires calls { all_calls waiting.old.items ≡ true }
     requires below { are_below next waiting.old.items ≡ true }
-    requires places { length told.old ≡ next + 1 }
+    requires places { length told.old.items ≡ next }
     ensures view { OnOk result (view.new ≡ view_behind view.old waiting.old.items entry) }
     ensures waiting { OnOk result (waiting.new.items ≡ waiting_behind view.old waiting.old.items next entry) }
-    ensures length { length told.new ≡ length told.old }
-    ensures told { OnOk result ((place : ℕ) → told_at told.new place ≡ option_or (told_at told.old place) (reply_from view.old (settling_of view.old waiting.old.items next entry) place)) }
+    ensures length { OnOk result (length told.new.items ≡ next + 1) }
+    ensures told { OnOk result ((place : ℕ) → told_at told.new.items place ≡ option_or (told_at told.old.items place) (reply_from view.old (settling_of view.old waiting.old.items next entry) place)) }
 {
     if is_hand_over(entry) {
-        tell_entry(alloc, view, told, next, entry)?;
-        tell_entries(alloc, view, told, waiting)?;
+        hand_telling(alloc, view, waiting, entry, told)?;
         waiting.clear();
     } else if is_waiting_call(entry) && is_running(view.mode) {
+        told.push(None)?;
         waiting.push((next, entry))?;
     } else {
-        tell_entry(alloc, view, told, next, entry)?;
+        tell_next(alloc, view, told, entry)?;
     }
     Ok(())
 }

@@ -68,7 +68,7 @@ pub fn replies(
     ensures fault { IfErr result (IsFaultOf limits entries.now) }
 {
     let mut progress = Progress::new(alloc, &limits)?;
-    let mut told = Vec::new(alloc);
+    let mut told = Vec::with_capacity(alloc, entries.len())?;
     for (at, entry) in entries.iter().enumerate() {
         if !progress.may_enter(&limits, *entry) {
             return Err(ReplayFault::Illegal { at });

@@ -116,6 +116,7 @@ pub fn is_stopper(stopper: Option<EnvNo>, env: EnvNo) -> bool
 /// Whether an entry may come where the history has left this view, whether the thread is called for, what the thread has
 /// spent, and what the entry's environment has asked and spent. It is the table of legal entries (this profile,
 /// `specs/Legal`).
+#[inline(always)]
 pub fn fits(
     limits: &Limits,
     view: &ThreadView,

@@ -1,5 +1,5 @@
 //! Entries one after another, with the answers to all calls.
-ghost use Rattle.std.specs.Prelude.{◌≡◌, ◌<◌, ◌^◌, ℕ, true, length, OnOk, ◌==◌, if◌then◌else◌, None};
+ghost use Rattle.std.specs.Prelude.{◌≡◌, ◌<◌, ◌+◌, ◌^◌, ℕ, true, length, OnOk, ◌==◌, if◌then◌else◌, None};
 ghost use Rattle.std.specs.Option.{option_map, option_or};
 ghost use Rattle.ti_types.specs.Answer.{said};
 ghost use Rattle.ti_replay.specs.View.{after, after_all};
@@ -14,6 +14,7 @@ use ti_types::{Answer, Entry, ThreadView};
 
 /// Writes an answer at a place that is there, where nothing was answered before.
 #[tactic(auto, using(crate::proofs::TellingLaws::told_put))]
+#[inline(always)]
 fn put(told: &mut [Option<Answer>], at: usize, answer: Option<Answer>)
     requires there { at < length told.old }
     ensures length { length told.new ≡ length told.old }
@@ -25,7 +26,8 @@ fn put(told: &mut [Option<Answer>], at: usize, answer: Option<Answer>)
 }
 
 /// Lets an entry take place, and writes what is answered to it at its place, where nothing was answered before.
-pub fn tell_entry(
+#[inline(always)]
+fn tell_entry(
     alloc: Global,
     view: &mut ThreadView,
     told: &mut [Option<Answer>],
@@ -40,6 +42,26 @@ pub fn tell_entry(
 {
     let answer = answer_entry(alloc, view, entry)?;
     put(told, at, answer);
+    take_entry(view, entry)?;
+    Ok(())
+}
+
+/// Lets the next entry take place, and adds what is answered to it at the end.
+#[inline(always)]
+#[tactic(auto, using(crate::proofs::TellingLaws::told_push))]
+pub fn tell_next(
+    alloc: Global,
+    view: &mut ThreadView,
+    told: &mut Vec<Option<Answer>>,
+    entry: Entry,
+) -> Result<(), AllocError>
+    requires few { length view.old.frames < 2 ^ 32 }
+    ensures view { OnOk result (view.new ≡ after view.old entry) }
+    ensures length { OnOk result (length told.new.items ≡ length told.old.items + 1) }
+    ensures told { OnOk result ((place : ℕ) → told_at told.new.items place ≡ option_or (told_at told.old.items place) (if length told.old.items == place then answer_to view.old entry else None)) }
+{
+    let answer = answer_entry(alloc, view, entry)?;
+    told.push(answer)?;
     take_entry(view, entry)?;
     Ok(())
 }

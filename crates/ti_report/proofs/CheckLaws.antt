@@ -189,24 +189,6 @@ none_left infos next b is =
           (λ h. cc (sym h ∙ is ∙ no'), λ h. absurd (left_over infos next l h))
     ]
 
--- ---- codes are of questions
-
-asks_calls : (e : EnvNo) (call : Call) (ts : List ThreadNo) → list_all is_call (map (λ t. Ask e t call) ts) ≡ true
-asks_calls e call [] = refl
-asks_calls e call (t ∷ ts) = asks_calls e call ts
-
-pub coded_calls : (limits : Limits) (e : EnvNo) (call : AgentCall) (xs : List Event) → xs ≡ events_of limits e call → sort_of call ≡ coded → list_all is_call xs ≡ true
-coded_calls limits e (call.SuspendList ts) xs h k = ap (list_all is_call) h ∙ asks_calls e Suspend ts
-coded_calls limits e (call.ResumeList ts) xs h k = ap (list_all is_call) h ∙ asks_calls e Resume ts
-coded_calls limits e (call.Ask t c) xs h k = cc
-coded_calls limits e (call.AddCaps c) xs h k = cc
-coded_calls limits e (call.Relinquish c) xs h k = cc
-coded_calls limits e call.GetCaps xs h k = cc
-coded_calls limits e (call.SetEnvWord n) xs h k = cc
-coded_calls limits e call.GetEnvWord xs h k = cc
-coded_calls limits e (call.AllStacks n) xs h k = cc
-coded_calls limits e (call.ListStacks ts n) xs h k = cc
-
 pub kept_none : (live : Bool) → kept live [] ≡ []
 kept_none true = refl
 kept_none false = refl

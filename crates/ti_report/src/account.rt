@@ -88,6 +88,7 @@ impl Account {
     }
 
     /// How many calls have been spent at a thread.
+    #[inline(always)]
     fn spent_at(&self, thread: ThreadNo) -> u32
         ensures { result ≡ slice_index self.now.spent thread.0 }
     {
@@ -100,6 +101,7 @@ impl Account {
     }
 
     /// How many entries have been used at a thread.
+    #[inline(always)]
     fn used_at(&self, thread: ThreadNo) -> usize
         ensures { result ≡ slice_index self.now.used thread.0 }
     {
@@ -113,6 +115,7 @@ impl Account {
 
     /// Why a call, well formed or not, does not reach a thread: 10 where there is none, 103 where it is not well formed,
     /// 209 where no call is left there, in this order.
+    #[inline(always)]
     fn why_reaching(&self, limits: Limits, thread: ThreadNo, well_formed: bool) -> Option<TiError>
         ensures { result ≡ reaching_refusal (nat_lt thread.0 limits.threads) well_formed (slice_index self.now.spent thread.0) limits.calls }
     {
@@ -128,6 +131,7 @@ impl Account {
     }
 
     /// Why a call does not reach a thread: 99, and then as `why_reaching`.
+    #[inline(always)]
     fn why_asking(&self, limits: Limits, thread: ThreadNo, call: Call) -> Option<TiError>
         ensures { result ≡ asking_refusal self.now.caps (nat_lt thread.0 limits.threads) (slice_index self.now.spent thread.0) limits.calls call }
     {
@@ -138,6 +142,7 @@ impl Account {
     }
 
     /// Why an event does not reach its thread, where memory ran out for its answer or not (this profile's order).
+    #[inline(always)]
     pub fn why(&self, limits: Limits, wanting: bool, event: Event) -> Option<TiError>
         ensures why { result ≡ why_now limits self.now wanting event }
         ensures few { IsFew self.now result event }
@@ -193,6 +198,7 @@ impl Account {
 
     /// The next entry that the agent left at a thread, with what it got and the frames of its book.
     #[tactic(auto, using(crate::proofs::BookLaws::row_get))]
+    #[inline(always)]
     fn next<'a>(&self, books: &'a [Book], thread: ThreadNo) -> Option<(&'a Row, &'a [Frame])>
         ensures next { option_map (λ r. said_row r.1.now r.0.now) result ≡ slice_get (rows_in (slice_get books.now thread.0) self.now.env) (slice_index self.now.used thread.0) }
         ensures room { IfSome result (λ r. slice_index self.now.used thread.0 + 1 < 2 ^ 64) }
@@ -209,6 +215,7 @@ impl Account {
     }
 
     /// What the next entry at an event's thread got, with the frames of its book, where it is what the event leaves.
+    #[inline(always)]
     fn found<'a>(&self, books: &'a [Book], event: Event) -> Option<(Got, &'a [Frame])>
         ensures found { option_and_then (λ g. told_in g.1.now g.0) result ≡ got_by event (slice_get (rows_in (slice_get books.now (thread_of event).0) self.now.env) (slice_index self.now.used (thread_of event).0)) }
         ensures room { IfSome result (λ g. slice_index self.now.used (thread_of event).0 + 1 < 2 ^ 64) }
@@ -282,6 +289,7 @@ impl Account {
 
     /// The code of a call at a thread, where this is why it does not reach it: 0 where it is done, and the number of its
     /// refusal. None where it is told neither.
+    #[inline(always)]
     pub fn code(
         &self,
         limits: Limits,
@@ -334,6 +342,7 @@ impl Account {
 
     /// Counts a spent call at a thread.
     #[tactic(auto, using(crate::proofs::AccountLaws::within_spent))]
+    #[inline(always)]
     fn spend(&mut self, thread: ThreadNo)
         requires { slice_index self.old.spent thread.0 < 1024 }
         ensures { self.new ≡ record self.old { spent = counted true self.old.spent thread.0 } }
@@ -346,6 +355,7 @@ impl Account {
 
     /// Counts a used entry at a thread.
     #[tactic(auto, using(crate::proofs::AccountLaws::within_used))]
+    #[inline(always)]
     fn use_up(&mut self, thread: ThreadNo)
         requires { slice_index self.old.used thread.0 + 1 < 2 ^ 64 }
         ensures { self.new ≡ record self.old { used = counted true self.old.used thread.0 } }
@@ -357,6 +367,7 @@ impl Account {
     }
 
     /// Goes on by an event, where this is why it does not reach its thread.
+    #[inline(always)]
     pub fn account(&mut self, why: Option<TiError>, event: Event)
         requires few { IsFew self.old why event }
         requires room { CanCount self.old why event }

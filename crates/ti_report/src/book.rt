@@ -58,6 +58,7 @@ impl Book {
 }
 
 /// The number of the agent that left an entry.
+#[inline(always)]
 fn maker(entry: Entry) -> Option<u32>
     ensures { (e : EnvNo) → is_left_by e entry ≡ is_number result e.0 }
 {
@@ -70,6 +71,7 @@ fn maker(entry: Entry) -> Option<u32>
 }
 
 /// What an entry of an agent got, where this is its reply.
+#[inline(always)]
 fn grant(frames: &mut Vec<Frame>, entry: Entry, reply: &Option<Answer>) -> Result<Got, AllocError>
     ensures grows { OnOk result ((more : List Frame) × (frames.new.items ≡ frames.old.items ++ more)) }
     ensures got { IfOk result (λ g. (more : List Frame) → told_in (frames.new.items ++ more) g ≡ granted entry (option_map said reply.now)) }
@@ -91,6 +93,7 @@ fn payer(entry: Entry) -> Option<u32>
 }
 
 /// Adds a row to an agent's rows, where there is such an agent.
+#[inline(always)]
 fn add_row(rows: &mut Vec<Listed<Row>>, index: usize, row: Row) -> Result<(), AllocError>
     ensures length { length rows.new.items ≡ length rows.old.items }
     ensures rows { OnOk result ((k : ℕ) → k < length rows.old.items → slice_index_or rows.new.items k [] ≡ with_row rows.old.items index row k) }
@@ -138,6 +141,7 @@ fn made(alloc: Global, limits: Limits, entries: &[Entry]) -> Result<Vec<usize>, 
 }
 
 /// Adds an entry, and what it got, to the rows of the agent that left it.
+#[inline(always)]
 fn take_row(
     rows: &mut Vec<Listed<Row>>,
     frames: &mut Vec<Frame>,

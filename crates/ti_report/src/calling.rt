@@ -4,7 +4,7 @@ ghost use Rattle.ti_types.specs.Answer.{said};
 ghost use Rattle.ti_types.specs.declared.answer.Answer.TheVariants.{Refused};
 ghost use Rattle.ti_live.specs.declared.reply.Reply.TheVariants.{Plain};
 ghost use Rattle.ti_report.specs.Doings.{wants, events_of};
-ghost use Rattle.ti_report.specs.Fits.{sort_of};
+ghost use Rattle.ti_report.specs.Fits.{coded, sort_of};
 ghost use Rattle.ti_report.specs.Books.{page_in};
 ghost use Rattle.ti_report.specs.Accounts.{told_one, accounted_all, IsReplyNow, CallNow, called_now};
 
@@ -16,7 +16,7 @@ use crate::stacks::stacks_fit;
 use crate::whole::why_whole;
 use std::alloc::{AllocError, Global};
 use ti_live::{AgentCall, Reply};
-use ti_types::{Answer, Event, Limits, TiError};
+use ti_types::{Answer, Call, EnvNo, Event, Limits, TiError};
 
 /// Whether the reply says that memory ran out.
 fn wants(reply: &Reply) -> bool
@@ -60,8 +60,22 @@ fn one_fits(
     }
 }
 
-/// Whether a call that has done these is replied so.
-#[tactic(auto, using(crate::proofs::CheckLaws::coded_calls))]
+/// The events that a call stands for, but none for a list of suspensions or resumptions, whose threads say it all.
+fn events_to_check(
+    alloc: Global,
+    limits: Limits,
+    env: EnvNo,
+    call: &AgentCall,
+) -> Result<Vec<Event>, AllocError>
+    ensures { IfOk result (λ v. (sort_of call.now ≡ coded → ⊥) → v.items ≡ events_of limits env call.now) }
+{
+    match call {
+        AgentCall::SuspendList(_) | AgentCall::ResumeList(_) => Ok(Vec::new(alloc)),
+        _ => events_of(alloc, limits, env, call),
+    }
+}
+
+/// Whether a call is replied so, where these are its events if it is no list of suspensions or resumptions.
 fn reply_fits(
     account: &mut Account,
     limits: Limits,
@@ -71,13 +85,32 @@ fn reply_fits(
     events: &[Event],
     reply: &Reply,
 ) -> bool
-    requires { events.now ≡ events_of limits account.old.env call.now }
-    ensures fits { (result ≡ true) ↔ IsReplyNow limits (λ t. page_in (slice_get books.now t) account.old.env) account.old wanting (sort_of call.now) events.now reply.now }
-    ensures account { result ≡ true → account.new ≡ accounted_all limits account.old wanting events.now }
+    requires { (sort_of call.now ≡ coded → ⊥) → events.now ≡ events_of limits account.old.env call.now }
+    ensures fits { (result ≡ true) ↔ IsReplyNow limits (λ t. page_in (slice_get books.now t) account.old.env) account.old wanting (sort_of call.now) (events_of limits account.old.env call.now) reply.now }
+    ensures account { result ≡ true → account.new ≡ accounted_all limits account.old wanting (events_of limits account.old.env call.now) }
 {
     match (call, reply) {
-        (AgentCall::SuspendList(_) | AgentCall::ResumeList(_), Reply::Codes(codes)) => {
-            codes_fit(account, limits, books, wanting, events, codes.as_slice())
+        (AgentCall::SuspendList(threads), Reply::Codes(codes)) => {
+            codes_fit(
+                account,
+                limits,
+                books,
+                wanting,
+                threads.as_slice(),
+                Call::Suspend,
+                codes.as_slice(),
+            )
+        }
+        (AgentCall::ResumeList(threads), Reply::Codes(codes)) => {
+            codes_fit(
+                account,
+                limits,
+                books,
+                wanting,
+                threads.as_slice(),
+                Call::Resume,
+                codes.as_slice(),
+            )
         }
         (AgentCall::AllStacks(_), Reply::Stacks(infos)) => {
             stacks_fit(
@@ -130,7 +163,7 @@ pub fn call_fits(
         return Ok(is_refusal(reply, error));
     }
     let env = account.env();
-    let events = events_of(alloc, limits, env, call)?;
+    let events = events_to_check(alloc, limits, env, call)?;
     let fits = reply_fits(account, limits, books, wanting, call, &events, reply);
     Ok(fits)
 }

@@ -63,6 +63,7 @@ fn keep(frames: &mut Vec<Frame>, these: &[Frame]) -> Result<Span, AllocError>
 }
 
 /// What an entry got that has this reply. The error is that of `keep`.
+#[inline(always)]
 pub fn got_of(frames: &mut Vec<Frame>, reply: &Option<Answer>) -> Result<Got, AllocError>
     ensures grows { OnOk result ((more : List Frame) × (frames.new.items ≡ frames.old.items ++ more)) }
     ensures got { IfOk result (λ g. (more : List Frame) → told_in (frames.new.items ++ more) g ≡ option_map said reply.now) }

@@ -36,6 +36,7 @@ pub fn same_call(one: Call, other: Call) -> bool
 }
 
 /// Whether an entry is what an event leaves.
+#[inline(always)]
 pub fn asks_same(event: Event, entry: Entry) -> bool
     ensures { result ≡ asks_same event entry }
 {

@@ -18,8 +18,8 @@ loop-at-preserved c =
     grind (arith, told_here c.args.replies.now i c.index-replies-at.result (omega (arith, c.requires.places, c.loop-at-test.true)), c.index-replies-at.is, c.requires.replies i) in
     record {
       rows = λ e within more.
-      c.in_ok-take_row.ensures.rows e (omega (arith, within, c.loop-at.invariant.agents)) (rows_of limits whole e (take i whole)) (c.loop-at.invariant.rows e within) more
-      ∙ grind (arith, told, rows_of_take limits whole e i c.loop-at-test.true);
+          c.in_ok-take_row.ensures.rows e (omega (arith, within, c.loop-at.invariant.agents)) (rows_of limits whole e (take i whole)) (c.loop-at.invariant.rows e within) more
+          ∙ grind (arith, told, rows_of_take limits whole e i c.loop-at-test.true);
       agents = c.in_ok-take_row.ensures.agents ∙ c.loop-at.invariant.agents;
     }
 

@@ -1,4 +1,4 @@
-use Rattle.std.proofs.Common.{◌≡◌, ℕ, None, slice_get, ap, ◌∙◌, List, rules}
+use Rattle.std.proofs.Common.{◌≡◌, ℕ, None, slice_get, refl, List, rules}
 use Rattle.ti_report.specs.Doings.{events_of}
 use Rattle.ti_report.specs.Books.{Row, page_in}
 use Rattle.ti_report.specs.Accounts.{whole_now}
@@ -13,5 +13,4 @@ returns-clause-fits c =
     let pages : ℕ → List Row × ℕ = λ t. page_in (slice_get c.args.books.now t) a.env in
     let w = c.wants-wanting.result in
     let none : whole_now limits a w call ≡ None = search (rules, c.in_ok-error.ensures, c.in_default.is) in
-    let events : c.deref.result.now ≡ events_of limits a.env call = c.deref.ensures.value ∙ c.in_ok-events.ensures ∙ ap (λ e. events_of limits e call) c.env-env.ensures in
-    call_none limits pages a call c.args.reply.now w c.deref.result.now c.reply_fits-fits.result c.wants-wanting.ensures none events c.reply_fits-fits.ensures.fits
+    call_none limits pages a call c.args.reply.now w (events_of limits a.env call) c.reply_fits-fits.result c.wants-wanting.ensures none refl c.reply_fits-fits.ensures.fits
