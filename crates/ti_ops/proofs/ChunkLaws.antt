@@ -1,5 +1,5 @@
 -- Where a call's fate stands, and what one more call or another fate leaves of all others.
-use Rattle.std.proofs.Common.{◌≡◌, ℕ, ◌<◌, ◌≤◌, ◌+◌, ◌*◌, ◌/◌, ◌%◌, Bool, true, false, if◌then◌else◌, List, [], ◌∷◌, ◌++◌, length, get_or, set, replicate, refl, arith, suc, ap, sym, subst, ◌∙◌, inl, inr, ◌⊎◌, nat_eq}
+use Rattle.std.proofs.Common.{◌≡◌, ℕ, ◌<◌, ◌≤◌, ◌+◌, ◌*◌, ◌/◌, ◌%◌, ◌^◌, Bool, true, false, if◌then◌else◌, List, [], ◌∷◌, ◌++◌, length, get_or, set, replicate, refl, arith, suc, ap, sym, subst, ◌∙◌, inl, inr, ◌⊎◌, nat_eq}
 use Rattle.std.specs.List.{All, sum_by}
 use Rattle.std.proofs.lemmas.Bool.{cases_lt, cases_eq, eqb-true, eqb-false}
 use Rattle.std.proofs.lemmas.List.{length-append, length-set, length-replicate, get_or-replicate, get_or_append_left, get_or-set_same, get_or-set_other}
@@ -40,6 +40,21 @@ chunk_within calls per asked chunks p env k a h = in_table calls per asked chunk
 
 pub place_within : (calls per : ℕ) (asked chunks : List ℕ) (p : Chunks) (env n : ℕ) → AreApart calls per asked chunks p → HasChunk asked env (n / 64) → place_of per chunks env n < p.count * 64
 place_within calls per asked chunks p env n a h = omega (arith, a.below env (n / 64) h, (parts n).1)
+
+-- where the table has the chunk of a call that was asked, and that the chunk is handed out
+pub record Found (per : ℕ) (chunks : List ℕ) (p : Chunks) (env n place : ℕ) : Type 0 where
+  pub fits : env * per + n / 64 < 2 ^ 64
+  pub within : place < length chunks
+  pub below : get_or chunks place 0 < p.count
+
+pub found : (calls per : ℕ) (asked chunks : List ℕ) (p : Chunks) (env n place : ℕ) → AreApart calls per asked chunks p → env < length asked → n < get_or asked env 0 → place ≡ env * per + n / 64 → Found per chunks p env n place
+found calls per asked chunks p env n place a e h r =
+    let there = chunk_within calls per asked chunks p env (n / 64) a (has asked env n e h) in
+    record {
+      fits = omega (arith, there, a.fits);
+      within = omega (arith, there, r);
+      below = subst (λ z. get_or chunks z 0 < p.count) (sym r) (a.below env (n / 64) (has asked env n e h));
+    }
 
 -- two places that are one are of one chunk, at one place there
 same_place : (c d n m : ℕ) → c * 64 + n % 64 ≡ d * 64 + m % 64 → (c ≡ d) × (n % 64 ≡ m % 64)
@@ -154,6 +169,7 @@ apart_more calls per asked chunks p env n then' q x a e r h t =
       few = All-set (λ m. m ≤ calls) asked env (n + 1) (omega (arith, h)) a.few;
       wide = a.wide;
       table = t.table ∙ a.table ∙ ap (λ m. m * per) (sym (length-set asked env (n + 1)));
+      fits = omega (arith, t.table, a.fits);
       room = t.room ∙ a.room ∙ ap (λ m. m * per) (sym (length-set asked env (n + 1)));
       size = length-set q.items (place_of per then' env n) x ∙ t.size;
       handed = t.handed;
@@ -264,6 +280,7 @@ apart_told calls per asked chunks p place x a =
       few = a.few;
       wide = a.wide;
       table = a.table;
+      fits = a.fits;
       room = a.room;
       size = length-set p.items place x ∙ a.size;
       handed = a.handed;
@@ -305,6 +322,13 @@ waits_not e = cc
 -- a call that waits was asked
 pub awaited : (per : ℕ) (asked chunks : List ℕ) (items : List Fate) (t : Ticket) → fate_of t (lists_of per chunks items asked) ≡ Waiting → (t.env.0 < length asked) × (t.no < get_or asked t.env.0 0)
 awaited per asked chunks items t w = asked_there per asked chunks items t.env.0 t.no (λ gone. waits_not (sym w ∙ gone))
+
+-- a call that waits by what is seen of it was asked, and the table has its chunk
+pub found_waiting : (f : Fates) (calls per : ℕ) (asked chunks : List ℕ) (p : Chunks) (t : Ticket) (place : ℕ) → record { lists = lists_of per chunks p.items asked; calls = calls } ≡ f → AreApart calls per asked chunks p
+    → fate_of t f.lists ≡ Waiting → place ≡ t.env.0 * per + t.no / 64 → Found per chunks p t.env.0 t.no place
+found_waiting f calls per asked chunks p t place v a w r =
+    let h = awaited per asked chunks p.items t (subst (λ (f : Fates). fate_of t f.lists ≡ Waiting) (sym v) w) in
+    found calls per asked chunks p t.env.0 t.no place a h.0 h.1 r
 
 -- an answer that was taken out, or was not there
 pub lists_taken : (b : Bool) (calls per : ℕ) (asked chunks : List ℕ) (p : Chunks) (t : Ticket) → AreApart calls per asked chunks p → t.env.0 < length asked → t.no < get_or asked t.env.0 0

@@ -1,5 +1,5 @@
 -- Fates in chunks of 64 places, which are handed out as they are needed, and lists of fates that stand in such chunks.
-use Rattle.std.specs.Prelude.{ℕ, zero, suc, ◌≡◌, ◌<◌, ◌≤◌, ◌+◌, ◌*◌, ◌/◌, ◌%◌, List, [], ◌∷◌, ◌++◌, length, replicate, slice_index_or, slice_set}
+use Rattle.std.specs.Prelude.{ℕ, zero, suc, ◌≡◌, ◌<◌, ◌≤◌, ◌+◌, ◌*◌, ◌/◌, ◌%◌, ◌^◌, List, [], ◌∷◌, ◌++◌, length, replicate, slice_index_or, slice_set}
 use Rattle.std.specs.List.{All, sum_by}
 use Rattle.ti_ops.specs.declared.fate.Fate.{Fate}
 use Rattle.ti_ops.specs.declared.fate.Fate.TheVariants.{Gone}
@@ -52,6 +52,7 @@ pub record AreApart (calls per : ℕ) (asked chunks : List ℕ) (p : Chunks) : T
   pub few : All (λ n. n ≤ calls) asked
   pub wide : calls ≤ per * 64
   pub table : length chunks ≡ length asked * per
+  pub fits : length chunks < 2 ^ 64
   pub room : p.room ≡ length asked * per
   pub size : length p.items ≡ p.count * 64
   pub handed : p.count ≤ sum_by chunks_for asked

@@ -1,3 +1,4 @@
 pub mod Ops
 pub mod Fates
 pub mod Chunks
+pub mod Numbers

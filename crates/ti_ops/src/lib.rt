@@ -9,6 +9,7 @@
 //! - Only `PendingOps::new` takes memory, and its only error is want of it. The room for calls is not filled in advance.
 #![tactic(auto)]
 
+mod chunks;
 mod fate;
 mod pending;
 mod pool;

@@ -1,9 +1,10 @@
 //! Whose chunk of fates is which.
-ghost use Rattle.std.specs.Prelude.{◌≡◌, ◌<◌, ◌+◌, ◌*◌, ◌/◌, ◌%◌, length, replicate, [], IfOk, IfErr, slice_index_or, slice_set, is_some, if◌then◌else◌, nat_eq};
+ghost use Rattle.std.specs.Prelude.{◌≡◌, ◌<◌, ◌+◌, ◌*◌, ◌/◌, ◌%◌, ◌^◌, length, replicate, [], IfOk, IfErr, slice_index_or, slice_set, is_some, if◌then◌else◌, nat_eq};
 ghost use Rattle.ti_ops.specs.Fates.{fates_by, fate_of, told_by, with_call, with_fate, with_lists};
 ghost use Rattle.ti_ops.specs.Chunks.{chunk_of, with_chunk};
 ghost use Rattle.ti_ops.specs.declared.fate.Fate.TheVariants as fate;
 
+use crate::chunks::ChunkTable;
 use crate::fate::Fate;
 use crate::pool::{FatePool, PLACES};
 use std::alloc::Global;
@@ -18,7 +19,7 @@ pub struct FateTable {
     /// How many calls each environment has asked.
     asked: Vec<u32>,
     /// The numbers of the chunks of each environment, `per` places for each.
-    chunks: Vec<usize>,
+    chunks: ChunkTable,
     per: usize,
     pool: FatePool,
     calls: u32,
@@ -30,9 +31,9 @@ impl Model for FateTable {
 
     ghost Value = { Fates };
 
-    ghost view = { λ s. record { lists = lists_of s.per s.chunks.items s.pool.items s.asked.items; calls = s.calls } };
+    ghost view = { λ s. record { lists = lists_of s.per s.chunks s.pool.items s.asked.items; calls = s.calls } };
 
-    ghost invariant = { λ s. AreApart s.calls s.per s.asked.items s.chunks.items s.pool };
+    ghost invariant = { λ s. AreApart s.calls s.per s.asked.items s.chunks s.pool };
 }
 
 impl FateTable {
@@ -46,7 +47,7 @@ impl FateTable {
         let room = envs as usize * per;
         let pool = FatePool::new(alloc, room)?;
         let asked = vec![in alloc; 0u32; envs as usize]?;
-        let chunks = vec![in alloc; 0usize; room]?;
+        let chunks = ChunkTable::new(alloc, room)?;
         Ok(FateTable {
             asked,
             chunks,
@@ -65,8 +66,8 @@ impl FateTable {
     {
         let at = env.0 as usize;
         let number = self.asked[at];
-        reach(&mut self.chunks, self.per, &mut self.pool, at, number);
-        let chunk = chunk(&self.chunks, self.per, at, number);
+        let place = table_place(self.per, at, number);
+        let chunk = reach(&mut self.chunks, &mut self.pool, place, number);
         self.pool.put(chunk, number as usize % PLACES, fate);
         self.asked[at] = number + 1;
     }
@@ -76,7 +77,8 @@ impl FateTable {
         requires { fate_of ticket self.old.lists ≡ fate.Waiting }
         ensures { self.new ≡ with_lists self.old (with_fate ticket (fate.Told answer) self.old.lists) }
     {
-        let chunk = chunk(&self.chunks, self.per, ticket.env.0 as usize, ticket.no);
+        let place = table_place(self.per, ticket.env.0 as usize, ticket.no);
+        let chunk = self.chunks.at(place);
         self.pool
             .put(chunk, ticket.no as usize % PLACES, Fate::Told(answer));
     }
@@ -90,27 +92,33 @@ impl FateTable {
         if at >= self.asked.len() || ticket.no >= self.asked[at] {
             return None;
         }
-        let chunk = chunk(&self.chunks, self.per, at, ticket.no);
+        let place = table_place(self.per, at, ticket.no);
+        let chunk = self.chunks.at(place);
         self.pool.take(chunk, ticket.no as usize % PLACES)
     }
 }
 
-/// Hands the environment a chunk where the call of this number, its next one, is the first that needs it.
-fn reach(chunks: &mut Vec<usize>, per: usize, pool: &mut FatePool, env: usize, number: u32)
-    requires index { env * per + number / 64 < length chunks.old.items }
-    requires room { number % 64 ≡ 0 → pool.old.count < pool.old.room }
-    ensures chunks { chunks.new.items ≡ (if nat_eq (number % 64) 0 then slice_set chunks.old.items (env * per + number / 64) pool.old.count else chunks.old.items) }
-    ensures pool { pool.new ≡ (if nat_eq (number % 64) 0 then with_chunk pool.old else pool.old) }
+/// Where the table has the chunk of an environment's call, with this many places for each environment.
+fn table_place(per: usize, env: usize, number: u32) -> usize
+    requires { env * per + number / 64 < 2 ^ 64 }
+    ensures { result ≡ env * per + number / 64 }
 {
-    if number as usize % PLACES == 0 {
-        chunks[env * per + number as usize / PLACES] = pool.hand_out();
-    }
+    env * per + number as usize / PLACES
 }
 
-/// The chunk of an environment's call.
-fn chunk(chunks: &[usize], per: usize, env: usize, number: u32) -> usize
-    requires { env * per + number / 64 < length chunks.now }
-    ensures { result ≡ chunk_of per chunks.now env (number / 64) }
+/// The chunk of an environment's next call. A new one is handed out where the call is the first that needs it.
+fn reach(chunks: &mut ChunkTable, pool: &mut FatePool, place: usize, number: u32) -> usize
+    requires place { place < length chunks.old }
+    requires room { number % 64 ≡ 0 → pool.old.count < pool.old.room }
+    requires places { pool.old.room ≡ length chunks.old }
+    ensures chunks { chunks.new ≡ (if nat_eq (number % 64) 0 then slice_set chunks.old place pool.old.count else chunks.old) }
+    ensures pool { pool.new ≡ (if nat_eq (number % 64) 0 then with_chunk pool.old else pool.old) }
+    ensures chunk { result ≡ slice_index_or chunks.new place 0 }
 {
-    chunks[env * per + number as usize / PLACES]
+    if number as usize % PLACES > 0 {
+        return chunks.at(place);
+    }
+    let chunk = pool.hand_out();
+    chunks.put(place, chunk);
+    chunk
 }
