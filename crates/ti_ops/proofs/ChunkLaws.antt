@@ -10,7 +10,7 @@ use Rattle.std.proofs.lemmas.Grind.{get_or_default_zero}
 use Rattle.std.proofs.Math.Nat.{mul_comm}
 use Rattle.ti_ops.specs.declared.fate.Fate.{Fate}
 use Rattle.ti_ops.specs.declared.fate.Fate.TheVariants.{Waiting, Gone}
-use Rattle.ti_ops.specs.Fates.{Fates, fates_by, fate_of, with_fate}
+use Rattle.ti_ops.specs.Fates.{Fates, fates_by, fate_of, with_fate, with_lists}
 use Rattle.ti_types.specs.declared.numbers.EnvNo.{EnvNo}
 use Rattle.ti_types.specs.declared.event.Ticket.{Ticket}
 use Rattle.ti_ops.specs.Chunks.{Chunks, with_chunk, with_place, listed, chunk_of, place_of, list_of, lists_of, HasChunk, chunks_for, AreApart}
@@ -69,6 +69,8 @@ pub record Reached (calls per : ℕ) (asked chunks : List ℕ) (p : Chunks) (env
   pub table : length then' ≡ length chunks
   pub room : q.room ≡ p.room
   pub grown : p.count ≤ q.count
+  pub waiting : q.waiting ≡ p.waiting
+  pub most : q.calls ≡ p.calls
   pub size : length q.items ≡ q.count * 64
   pub items : (i : ℕ) → i < p.count * 64 → get_or q.items i Gone ≡ get_or p.items i Gone
   pub handed : q.count ≤ sum_by chunks_for (set asked env (n + 1))
@@ -106,6 +108,8 @@ reached_new calls per asked chunks p env n a e r h z =
       table = length-set chunks at p.count;
       room = refl;
       grown = omega arith;
+      waiting = refl;
+      most = refl;
       size = omega (arith, length-append p.items (replicate 64 Gone), length-replicate 64 Gone, a.size);
       items = λ i b. get_or_append_left p.items (replicate 64 Gone) Gone i (omega (arith, b, a.size));
       handed = omega (arith, more_chunks asked env n e r, a.handed, (parts n).0, z, (parts (n + 63)).0, (parts (n + 63)).1, (parts (n + 1 + 63)).0, (parts (n + 1 + 63)).1);
@@ -129,6 +133,8 @@ reached_old calls per asked chunks p env n a e r z =
       table = refl;
       room = refl;
       grown = omega arith;
+      waiting = refl;
+      most = refl;
       size = a.size;
       items = λ i b. refl;
       handed = omega (arith, more_chunks asked env n e r, a.handed, (parts (n + 63)).0, (parts (n + 63)).1, (parts (n + 1 + 63)).0, (parts (n + 1 + 63)).1);
@@ -323,18 +329,23 @@ waits_not e = cc
 pub awaited : (per : ℕ) (asked chunks : List ℕ) (items : List Fate) (t : Ticket) → fate_of t (lists_of per chunks items asked) ≡ Waiting → (t.env.0 < length asked) × (t.no < get_or asked t.env.0 0)
 awaited per asked chunks items t w = asked_there per asked chunks items t.env.0 t.no (λ gone. waits_not (sym w ∙ gone))
 
+-- what is seen of a table and its block
+abbrev pub table_fates : ℕ → ℕ → List ℕ → List ℕ → Chunks → Fates
+table_fates calls per asked chunks p = record { lists = lists_of per chunks p.items asked; calls = calls; waiting = p.waiting; room = p.calls }
+
 -- a call that waits by what is seen of it was asked, and the table has its chunk
-pub found_waiting : (f : Fates) (calls per : ℕ) (asked chunks : List ℕ) (p : Chunks) (t : Ticket) (place : ℕ) → record { lists = lists_of per chunks p.items asked; calls = calls } ≡ f → AreApart calls per asked chunks p
+pub found_waiting : (f : Fates) (calls per : ℕ) (asked chunks : List ℕ) (p : Chunks) (t : Ticket) (place : ℕ) → table_fates calls per asked chunks p ≡ f → AreApart calls per asked chunks p
     → fate_of t f.lists ≡ Waiting → place ≡ t.env.0 * per + t.no / 64 → Found per chunks p t.env.0 t.no place
 found_waiting f calls per asked chunks p t place v a w r =
     let h = awaited per asked chunks p.items t (subst (λ (f : Fates). fate_of t f.lists ≡ Waiting) (sym v) w) in
     found calls per asked chunks p t.env.0 t.no place a h.0 h.1 r
 
 -- an answer that was taken out, or was not there
-pub lists_taken : (b : Bool) (calls per : ℕ) (asked chunks : List ℕ) (p : Chunks) (t : Ticket) → AreApart calls per asked chunks p → t.env.0 < length asked → t.no < get_or asked t.env.0 0
-    → lists_of per chunks (if b then with_place p (place_of per chunks t.env.0 t.no) Gone else p).items asked ≡ (if b then with_fate t Gone (lists_of per chunks p.items asked) else lists_of per chunks p.items asked)
-lists_taken true calls per asked chunks p t a e h = lists_told calls per asked chunks p t.env.0 t.no Gone a e h
-lists_taken false calls per asked chunks p t a e h = refl
+pub fates_taken : (b : Bool) (calls per : ℕ) (asked chunks : List ℕ) (p : Chunks) (t : Ticket) → AreApart calls per asked chunks p → t.env.0 < length asked → t.no < get_or asked t.env.0 0
+    → table_fates calls per asked chunks (if b then with_place p (place_of per chunks t.env.0 t.no) Gone else p)
+    ≡ with_lists (table_fates calls per asked chunks p) (if b then with_fate t Gone (lists_of per chunks p.items asked) else lists_of per chunks p.items asked)
+fates_taken true calls per asked chunks p t a e h = ap (λ lists. with_lists (table_fates calls per asked chunks p) lists) (lists_told calls per asked chunks p t.env.0 t.no Gone a e h)
+fates_taken false calls per asked chunks p t a e h = refl
 
 -- what an environment's next call finds
 pub record Next (calls per : ℕ) (asked chunks : List ℕ) (p : Chunks) (env n : ℕ) : Type 0 where
@@ -343,7 +354,7 @@ pub record Next (calls per : ℕ) (asked chunks : List ℕ) (p : Chunks) (env n 
   pub few : n < calls
   pub reached : Reached calls per asked chunks p env n (if nat_eq (n % 64) 0 then set chunks (env * per + n / 64) p.count else chunks) (if nat_eq (n % 64) 0 then with_chunk p else p)
 
-pub next : (f : Fates) (calls per : ℕ) (asked chunks : List ℕ) (p : Chunks) (env : EnvNo) (n : ℕ) → record { lists = lists_of per chunks p.items asked; calls = calls } ≡ f → AreApart calls per asked chunks p
+pub next : (f : Fates) (calls per : ℕ) (asked chunks : List ℕ) (p : Chunks) (env : EnvNo) (n : ℕ) → table_fates calls per asked chunks p ≡ f → AreApart calls per asked chunks p
     → env.0 < length f.lists → length (fates_by env f.lists) < f.calls → n ≡ get_or asked env.0 n → Next calls per asked chunks p env.0 n
 next f calls per asked chunks p env n v a e h r =
     let within : env.0 < length asked = seen_within per asked chunks p.items env.0 (subst (λ (f : Fates). env.0 < length f.lists) (sym v) e) in

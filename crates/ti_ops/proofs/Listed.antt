@@ -54,3 +54,8 @@ listed_set f g (suc n) k x h e same =
           ∙ ap (λ j. listed f n ++ set (f n ∷ []) j x) z
           ∙ sym (set-append_right (listed f n) (f n ∷ []) n k x (length-listed f n) last)
     ]
+
+-- the first apart
+pub listed_first : {A : Type 0} → (f : ℕ → A) (n : ℕ) → listed f (suc n) ≡ f 0 ∷ listed (λ i. f (suc i)) n
+listed_first f zero = refl
+listed_first f (suc n) = ap (λ xs. xs ++ f (suc n) ∷ []) (listed_first f n)

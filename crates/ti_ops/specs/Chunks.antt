@@ -1,22 +1,30 @@
 -- Fates in chunks of 64 places, which are handed out as they are needed, and lists of fates that stand in such chunks.
 use Rattle.std.specs.Prelude.{ℕ, zero, suc, ◌≡◌, ◌<◌, ◌≤◌, ◌+◌, ◌*◌, ◌/◌, ◌%◌, ◌^◌, List, [], ◌∷◌, ◌++◌, length, replicate, slice_index_or, slice_set}
 use Rattle.std.specs.List.{All, sum_by}
+use Rattle.ti_ops.specs.declared.pending.Pending.{Pending}
 use Rattle.ti_ops.specs.declared.fate.Fate.{Fate}
 use Rattle.ti_ops.specs.declared.fate.Fate.TheVariants.{Gone}
 
--- the places of all chunks that are handed out, how many chunks these are, and how many there may be
+-- the fates of all chunks that are handed out, how many chunks these are, and how many there may be; the calls that
+-- wait, the earliest posted first, and how many these may be
 pub record Chunks : Type 0 where
   pub items : List Fate
   pub count : ℕ
   pub room : ℕ
+  pub waiting : List Pending
+  pub calls : ℕ
 
 -- one more chunk is handed out
 abbrev pub with_chunk : Chunks → Chunks
-with_chunk p = record { items = p.items ++ replicate 64 Gone; count = p.count + 1; room = p.room }
+with_chunk p = record { items = p.items ++ replicate 64 Gone; count = p.count + 1; room = p.room; waiting = p.waiting; calls = p.calls }
 
 -- another fate at a place
 abbrev pub with_place : Chunks → ℕ → Fate → Chunks
-with_place p place fate = record { items = slice_set p.items place fate; count = p.count; room = p.room }
+with_place p place fate = record { items = slice_set p.items place fate; count = p.count; room = p.room; waiting = p.waiting; calls = p.calls }
+
+-- other calls wait
+abbrev pub with_calls : Chunks → List Pending → Chunks
+with_calls p waiting = record { items = p.items; count = p.count; room = p.room; waiting = waiting; calls = p.calls }
 
 -- what a function gives for each number below a bound
 abbrev pub listed : {A : Type 0} → (ℕ → A) → ℕ → List A

@@ -3,16 +3,23 @@ use Rattle.std.specs.Prelude.{ℕ, Bool, true, false, List, [], ◌∷◌, ◌++
 use Rattle.ti_types.specs.declared.numbers.EnvNo.{EnvNo}
 use Rattle.ti_types.specs.declared.event.Ticket.{Ticket}
 use Rattle.ti_types.specs.declared.answer.Answer.{Answer}
+use Rattle.ti_ops.specs.declared.pending.Pending.{Pending}
 use Rattle.ti_ops.specs.declared.fate.Fate.{Fate}
 use Rattle.ti_ops.specs.declared.fate.Fate.TheVariants.{Waiting, Told, Gone}
 
--- the fates of each environment's calls, by number, and how many calls an environment may ask
+-- the fates of each environment's calls, by number, and how many calls an environment may ask; the calls that wait,
+-- the earliest posted first, and how many may wait
 pub record Fates : Type 0 where
   pub lists : List (List Fate)
   pub calls : ℕ
+  pub waiting : List Pending
+  pub room : ℕ
 
 abbrev pub with_lists : Fates → List (List Fate) → Fates
-with_lists f lists = record { lists = lists; calls = f.calls }
+with_lists f lists = record { lists = lists; calls = f.calls; waiting = f.waiting; room = f.room }
+
+abbrev pub with_queue : Fates → List Pending → Fates
+with_queue f waiting = record { lists = f.lists; calls = f.calls; waiting = waiting; room = f.room }
 
 -- the answer that is there to be collected
 abbrev pub told_by : Fate → Option Answer

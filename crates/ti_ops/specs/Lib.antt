@@ -2,3 +2,5 @@ pub mod Ops
 pub mod Fates
 pub mod Chunks
 pub mod Numbers
+pub mod Rings
+pub mod Pools

@@ -1,7 +1,7 @@
 //! What became of a call.
 use ti_types::Answer;
 
-/// What has become of a call that an environment asked of a thread.
+/// What has become of a call that an environment asked of a thread. Contracts speak of it: what is kept of it is a place.
 #[derive(Drop, Debug)]
 pub enum Fate {
     /// The call is not answered yet.

@@ -4,10 +4,9 @@ ghost use Rattle.ti_ops.specs.Fates.{fates_by, fate_of, told_by, with_call, with
 ghost use Rattle.ti_ops.specs.Ops.{with_waiting, with_fates, with_posted};
 ghost use Rattle.ti_ops.specs.declared.fate.Fate.TheVariants as fate;
 
-use crate::fate::Fate;
+use crate::place::Place;
 use crate::table::FateTable;
 use std::alloc::Global;
-use std::collections::VecDeque;
 use std::marker::Model;
 use ti_types::{Answer, Call, EnvNo, TiError, Ticket, TraceBuf};
 
@@ -25,22 +24,15 @@ pub struct Pending {
 /// environment asks of the thread is told here by `post` or by `pass`, in the order of the numbers.
 #[derive(Drop, Debug)]
 pub struct PendingOps {
-    /// The earliest posted first.
-    waiting: VecDeque<Pending>,
     fates: FateTable,
-    room: usize,
 }
 
 impl Model for PendingOps {
-    ghost use Rattle.std.specs.Prelude.{◌≤◌, length};
-    ghost use Rattle.std.specs.VecDeque.{deque_capacity};
     ghost use Rattle.ti_ops.specs.Ops.{Ops};
 
     ghost Value = { Ops };
 
-    ghost view = { λ s. record { waiting = s.waiting.items; fates = s.fates.lists; room = s.room; calls = s.fates.calls } };
-
-    ghost invariant = { λ s. (length s.waiting.items ≤ s.room) × (s.room ≤ deque_capacity s.waiting) };
+    ghost view = { λ s. record { waiting = s.fates.waiting; fates = s.fates.lists; room = s.fates.room; calls = s.fates.calls } };
 }
 
 impl PendingOps {
@@ -54,21 +46,15 @@ impl PendingOps {
         ensures calls { IfOk result (λ o. o.calls ≡ calls) }
         ensures memory { IfErr result (λ e. e ≡ TiError.OutOfMemory) }
     {
-        let room = envs as usize * calls as usize;
-        let waiting = VecDeque::with_capacity(alloc, room)?;
         let fates = FateTable::new(alloc, envs, calls)?;
-        Ok(PendingOps {
-            waiting,
-            fates,
-            room,
-        })
+        Ok(PendingOps { fates })
     }
 
     /// How many calls wait.
     pub fn waiting(&self) -> usize
         ensures { result ≡ length self.now.waiting }
     {
-        self.waiting.len()
+        self.fates.waiting()
     }
 
     /// Puts a call after those that wait. It is its environment's next one, and there is room for it.
@@ -79,9 +65,8 @@ impl PendingOps {
         requires room { length self.old.waiting < self.old.room }
         ensures { self.new ≡ with_posted self.old (record { ticket = ticket; call = call; buf = buf }) }
     {
-        self.fates.push(ticket.env, Fate::Waiting);
-        self.waiting
-            .push_back_reserved(Pending { ticket, call, buf });
+        self.fates.push(ticket.env, Place::Waiting);
+        self.fates.wait(Pending { ticket, call, buf });
     }
 
     /// Notes that an environment's next call was answered at once. There is room for it.
@@ -90,7 +75,7 @@ impl PendingOps {
         requires calls { length (fates_by env self.old.fates) < self.old.calls }
         ensures { self.new ≡ with_fates self.old (with_call env fate.Gone self.old.fates) }
     {
-        self.fates.push(env, Fate::Gone);
+        self.fates.push(env, Place::Gone);
     }
 
     /// Takes the call that has waited longest, with its buffer, or `None` where none waits.
@@ -98,7 +83,7 @@ impl PendingOps {
         ensures first { MatchOption result ((self.old.waiting ≡ []) × (self.new.waiting ≡ [])) (λ p. self.old.waiting ≡ p ∷ self.new.waiting) }
         ensures rest { self.new ≡ with_waiting self.old self.new.waiting }
     {
-        self.waiting.pop_front()
+        self.fates.take_first()
     }
 
     /// Keeps the answer to a call that was posted and has no answer yet, until it is collected.

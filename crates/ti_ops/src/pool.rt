@@ -1,11 +1,16 @@
-//! A thread's block of fates, handed out in chunks.
-ghost use Rattle.std.specs.Prelude.{◌≡◌, ◌<◌, ◌+◌, ◌*◌, ◌^◌, [], IfOk, IfErr, slice_index_or, is_some, if◌then◌else◌};
+//! A thread's block: chunks of fates, and the calls that wait.
+ghost use Rattle.std.specs.Prelude.{◌≡◌, ◌<◌, ◌+◌, ◌*◌, ◌^◌, ◌∷◌, ◌++◌, [], length, IfOk, IfErr, IfSome, MatchOption, slice_index_or, is_some, if◌then◌else◌};
 ghost use Rattle.ti_ops.specs.Fates.{told_by};
-ghost use Rattle.ti_ops.specs.Chunks.{with_chunk, with_place};
+ghost use Rattle.ti_ops.specs.Chunks.{with_chunk, with_place, with_calls};
+ghost use Rattle.ti_ops.specs.Rings.{fate_in};
 ghost use Rattle.ti_ops.specs.declared.fate.Fate.TheVariants as fate;
 
-use crate::fate::Fate;
+use crate::pairs::{add_pair, put_pair, take_pair};
+use crate::pending::Pending;
+use crate::place::Place;
+use crate::ring::Ring;
 use std::alloc::Global;
+use std::collections::VecDeque;
 use std::marker::Model;
 use std::mem;
 use ti_types::{Answer, TiError};
@@ -13,38 +18,52 @@ use ti_types::{Answer, TiError};
 /// How many places a chunk has.
 pub const PLACES: usize = 64;
 
-/// Places for fates, handed out in chunks of 64. The room for all of them is taken at once, and a chunk is not touched
-/// before it is handed out.
+/// Places for fates, handed out in chunks of 64, and pairs of places for the calls that wait. The room for all of them
+/// is taken at once, as one block, which is not touched before: it is filled from both ends, with the chunks from one
+/// and the pairs from the other.
 #[derive(Drop, Debug)]
 pub struct FatePool {
-    items: Vec<Fate>,
+    /// The pairs, the last one first, and then the chunks.
+    places: VecDeque<Place>,
+    ring: Ring,
     count: usize,
     room: usize,
 }
 
 impl Model for FatePool {
-    ghost use Rattle.std.specs.Prelude.{◌≡◌, ◌≤◌, ◌*◌, length, vec_capacity};
     ghost use Rattle.ti_ops.specs.Chunks.{Chunks};
+    ghost use Rattle.ti_ops.specs.Pools.{pool_in, IsPool};
 
     ghost Value = { Chunks };
 
-    ghost view = { λ s. record { items = s.items.items; count = s.count; room = s.room } };
+    ghost view = { pool_in };
 
-    ghost invariant = { λ s. (length s.items.items ≡ s.count * 64) × (s.count ≤ s.room) × (s.room * 64 ≤ vec_capacity s.items) };
+    ghost invariant = { IsPool };
 }
 
 impl FatePool {
-    /// No chunks, with room for this many.
-    pub fn new(alloc: Global, room: usize) -> Result<Self, TiError>
-        requires { room * 64 < 2 ^ 64 }
+    /// No chunks and no calls, with room for this many of each.
+    pub fn new(alloc: Global, room: usize, calls: usize) -> Result<Self, TiError>
         ensures items { IfOk result (λ p. p.items ≡ []) }
         ensures count { IfOk result (λ p. p.count ≡ 0) }
         ensures room { IfOk result (λ p. p.room ≡ room) }
+        ensures waiting { IfOk result (λ p. p.waiting ≡ []) }
+        ensures calls { IfOk result (λ p. p.calls ≡ calls) }
         ensures memory { IfErr result (λ e. e ≡ TiError.OutOfMemory) }
     {
-        let items = Vec::with_capacity(alloc, room * PLACES)?;
+        let Some(most) = places_for(room, calls) else {
+            return Err(TiError::OutOfMemory);
+        };
+        let places = VecDeque::with_capacity(alloc, most)?;
+        let ring = Ring {
+            first: 0,
+            len: 0,
+            filled: 0,
+            room: calls,
+        };
         Ok(FatePool {
-            items,
+            places,
+            ring,
             count: 0,
             room,
         })
@@ -57,7 +76,7 @@ impl FatePool {
         ensures chunk { self.new ≡ with_chunk self.old }
     {
         for _place in 0..PLACES {
-            self.items.push_reserved(Fate::Gone);
+            self.places.push_back_reserved(Place::Gone);
         }
         let number = self.count;
         self.count += 1;
@@ -65,12 +84,12 @@ impl FatePool {
     }
 
     /// Puts a fate at a place of a chunk that is handed out.
-    pub fn put(&mut self, chunk: usize, at: usize, fate: Fate)
+    pub fn put(&mut self, chunk: usize, at: usize, place: Place)
         requires chunk { chunk < self.old.count }
         requires at { at < 64 }
-        ensures { self.new ≡ with_place self.old (chunk * 64 + at) fate }
+        ensures { self.new ≡ with_place self.old (chunk * 64 + at) (fate_in place) }
     {
-        self.items[chunk * PLACES + at] = fate;
+        self.places[self.ring.filled * 2 + (chunk * PLACES + at)] = place;
     }
 
     /// Takes the answer at a place of a chunk out, where there is one.
@@ -80,13 +99,57 @@ impl FatePool {
         ensures answer { result ≡ told_by (slice_index_or self.old.items (chunk * 64 + at) fate.Gone) }
         ensures chunks { self.new ≡ (if is_some result then with_place self.old (chunk * 64 + at) fate.Gone else self.old) }
     {
-        let item = &mut self.items[chunk * PLACES + at];
-        if !matches!(item, Fate::Told(_)) {
+        let place = &mut self.places[self.ring.filled * 2 + (chunk * PLACES + at)];
+        if !matches!(place, Place::Told(_)) {
             return None;
         }
-        match mem::replace(item, Fate::Gone) {
-            Fate::Told(answer) => Some(answer),
+        match mem::replace(place, Place::Gone) {
+            Place::Told(answer) => Some(answer),
             _ => unreachable!(),
         }
     }
+
+    /// How many calls wait.
+    pub fn waiting(&self) -> usize
+        ensures { result ≡ length self.now.waiting }
+    {
+        self.ring.len
+    }
+
+    /// Puts a call after those that wait. There is room for it.
+    pub fn post(&mut self, pending: Pending)
+        requires { length self.old.waiting < self.old.calls }
+        ensures { self.new ≡ with_calls self.old (self.old.waiting ++ pending ∷ []) }
+    {
+        let pair = self.ring.pair_at(self.ring.len);
+        if pair < self.ring.filled {
+            put_pair(&mut self.places, self.ring.place_of(pair), pending);
+        } else {
+            add_pair(&mut self.places, pending);
+        }
+        self.ring.lengthen();
+    }
+
+    /// Takes the call that has waited longest, or `None` where none waits.
+    pub fn take_first(&mut self) -> Option<Pending>
+        ensures first { MatchOption result ((self.old.waiting ≡ []) × (self.new.waiting ≡ [])) (λ p. self.old.waiting ≡ p ∷ self.new.waiting) }
+        ensures rest { self.new ≡ with_calls self.old self.new.waiting }
+    {
+        if self.ring.len == 0 {
+            return None;
+        }
+        let first = self.ring.pair_at(0);
+        let pending = take_pair(&mut self.places, self.ring.place_of(first));
+        self.ring.shorten();
+        Some(pending)
+    }
+}
+
+/// How many places this many chunks and calls take, or `None` where that is more than fit into memory.
+fn places_for(chunks: usize, calls: usize) -> Option<usize>
+    ensures { IfSome result (λ n. n ≡ chunks * 64 + calls * 2) }
+{
+    chunks
+        .checked_mul(PLACES)?
+        .checked_add(calls.checked_mul(2)?)
 }

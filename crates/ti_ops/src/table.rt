@@ -1,19 +1,21 @@
 //! Whose chunk of fates is which.
-ghost use Rattle.std.specs.Prelude.{◌≡◌, ◌<◌, ◌+◌, ◌*◌, ◌/◌, ◌%◌, ◌^◌, length, replicate, [], IfOk, IfErr, slice_index_or, slice_set, is_some, if◌then◌else◌, nat_eq};
-ghost use Rattle.ti_ops.specs.Fates.{fates_by, fate_of, told_by, with_call, with_fate, with_lists};
+ghost use Rattle.std.specs.Prelude.{◌≡◌, ◌<◌, ◌+◌, ◌*◌, ◌/◌, ◌%◌, ◌^◌, ◌∷◌, ◌++◌, length, replicate, [], IfOk, IfErr, MatchOption, slice_index_or, slice_set, is_some, if◌then◌else◌, nat_eq};
+ghost use Rattle.ti_ops.specs.Fates.{fates_by, fate_of, told_by, with_call, with_fate, with_lists, with_queue};
 ghost use Rattle.ti_ops.specs.Chunks.{chunk_of, with_chunk};
+ghost use Rattle.ti_ops.specs.Rings.{fate_in};
 ghost use Rattle.ti_ops.specs.declared.fate.Fate.TheVariants as fate;
 
 use crate::chunks::ChunkTable;
-use crate::fate::Fate;
+use crate::pending::Pending;
+use crate::place::Place;
 use crate::pool::{FatePool, PLACES};
 use std::alloc::Global;
 use std::marker::Model;
 use ti_types::{Answer, EnvNo, TiError, Ticket};
 
-/// The fates of the calls that environments asked of one thread, by environment and number.
+/// The fates of the calls that environments asked of one thread, by environment and number, and those that wait.
 ///
-/// They stand in chunks of 64 places. An environment's first call takes a chunk, and each 64th call another.
+/// The fates stand in chunks of 64 places. An environment's first call takes a chunk, and each 64th call another.
 #[derive(Drop, Debug)]
 pub struct FateTable {
     /// How many calls each environment has asked.
@@ -31,7 +33,7 @@ impl Model for FateTable {
 
     ghost Value = { Fates };
 
-    ghost view = { λ s. record { lists = lists_of s.per s.chunks s.pool.items s.asked.items; calls = s.calls } };
+    ghost view = { λ s. record { lists = lists_of s.per s.chunks s.pool.items s.asked.items; calls = s.calls; waiting = s.pool.waiting; room = s.pool.calls } };
 
     ghost invariant = { λ s. AreApart s.calls s.per s.asked.items s.chunks s.pool };
 }
@@ -41,11 +43,13 @@ impl FateTable {
     pub fn new(alloc: Global, envs: u32, calls: u32) -> Result<Self, TiError>
         ensures lists { IfOk result (λ t. t.lists ≡ replicate envs []) }
         ensures calls { IfOk result (λ t. t.calls ≡ calls) }
+        ensures waiting { IfOk result (λ t. t.waiting ≡ []) }
+        ensures room { IfOk result (λ t. t.room ≡ envs * calls) }
         ensures memory { IfErr result (λ e. e ≡ TiError.OutOfMemory) }
     {
         let per = (calls as usize).div_ceil(PLACES);
         let room = envs as usize * per;
-        let pool = FatePool::new(alloc, room)?;
+        let pool = FatePool::new(alloc, room, envs as usize * calls as usize)?;
         let asked = vec![in alloc; 0u32; envs as usize]?;
         let chunks = ChunkTable::new(alloc, room)?;
         Ok(FateTable {
@@ -59,10 +63,10 @@ impl FateTable {
 
     /// Adds an environment's next call, for which there is room.
     #[inline]
-    pub fn push(&mut self, env: EnvNo, fate: Fate)
+    pub fn push(&mut self, env: EnvNo, fate: Place)
         requires env { env.0 < length self.old.lists }
         requires calls { length (fates_by env self.old.lists) < self.old.calls }
-        ensures { self.new ≡ with_lists self.old (with_call env fate self.old.lists) }
+        ensures { self.new ≡ with_lists self.old (with_call env (fate_in fate) self.old.lists) }
     {
         let at = env.0 as usize;
         let number = self.asked[at];
@@ -80,7 +84,7 @@ impl FateTable {
         let place = table_place(self.per, ticket.env.0 as usize, ticket.no);
         let chunk = self.chunks.at(place);
         self.pool
-            .put(chunk, ticket.no as usize % PLACES, Fate::Told(answer));
+            .put(chunk, ticket.no as usize % PLACES, Place::Told(answer));
     }
 
     /// Takes the answer to a call out, where it is there.
@@ -95,6 +99,29 @@ impl FateTable {
         let place = table_place(self.per, at, ticket.no);
         let chunk = self.chunks.at(place);
         self.pool.take(chunk, ticket.no as usize % PLACES)
+    }
+
+    /// How many calls wait.
+    pub fn waiting(&self) -> usize
+        ensures { result ≡ length self.now.waiting }
+    {
+        self.pool.waiting()
+    }
+
+    /// Puts a call after those that wait. There is room for it.
+    pub fn wait(&mut self, pending: Pending)
+        requires { length self.old.waiting < self.old.room }
+        ensures { self.new ≡ with_queue self.old (self.old.waiting ++ pending ∷ []) }
+    {
+        self.pool.post(pending);
+    }
+
+    /// Takes the call that has waited longest, or `None` where none waits.
+    pub fn take_first(&mut self) -> Option<Pending>
+        ensures first { MatchOption result ((self.old.waiting ≡ []) × (self.new.waiting ≡ [])) (λ p. self.old.waiting ≡ p ∷ self.new.waiting) }
+        ensures rest { self.new ≡ with_queue self.old self.new.waiting }
+    {
+        self.pool.take_first()
     }
 }
 

@@ -1,7 +1,9 @@
 use Rattle.std.proofs.Common.{◌≡◌, ◌<◌, ◌+◌, ◌*◌, ◌/◌, ◌%◌, List, ℕ, if◌then◌else◌, nat_eq, length, get_or, set, ap, sym, subst, ◌∙◌, rules, arith}
 use Rattle.ti_ops.specs.Fates.{Fates, with_call, with_lists}
+use Rattle.ti_ops.specs.Rings.{fate_in}
+use Rattle.ti_ops.specs.declared.pending.Pending.{Pending}
 use Rattle.ti_ops.specs.declared.fate.Fate.{Fate}
-use Rattle.ti_ops.specs.Chunks.{Chunks, AreApart, lists_of, with_chunk, with_place}
+use Rattle.ti_ops.specs.Chunks.{Chunks, AreApart, lists_of, place_of, with_chunk, with_place}
 use Rattle.ti_ops.proofs.ChunkLaws.{Next, next, Reached, seen_within, left, apart_more, lists_more}
 use Rattle.ti_ops.proofs.table.FateTable.push.Goals as goal
 
@@ -68,19 +70,24 @@ invariant_of-self c =
     let t = at_chunks i.calls i.per i.asked.items i.chunks i.pool env n c.table_place-place.result c.reach-chunk.new.chunks c.reach-chunk.new.pool k c.table_place-place.ensures c.reach-chunk.ensures.chunks c.reach-chunk.ensures.pool in
     let there = c.reach-chunk.ensures.chunk ∙ ap (λ z. get_or c.reach-chunk.new.chunks z 0) c.table_place-place.ensures in
     subst (λ (q : Chunks). AreApart i.calls i.per (set i.asked.items env (n + 1)) c.reach-chunk.new.chunks q)
-    (sym (c.put.ensures ∙ ap (λ (z : ℕ). with_place c.reach-chunk.new.pool (z * 64 + n % 64) c.args.fate) there))
-    (apart_more i.calls i.per i.asked.items i.chunks i.pool env n c.reach-chunk.new.chunks c.reach-chunk.new.pool c.args.fate c.self.invariant k.within k.number k.few t)
+    (sym (c.put.ensures ∙ ap (λ (z : ℕ). with_place c.reach-chunk.new.pool (z * 64 + n % 64) (fate_in c.args.fate)) there))
+    (apart_more i.calls i.per i.asked.items i.chunks i.pool env n c.reach-chunk.new.chunks c.reach-chunk.new.pool (fate_in c.args.fate) c.self.invariant k.within k.number k.few t)
 
 pub returns : goal.returns
 returns c =
     let i = c.self.inside in
     let n = c.index-number.result.now in
     let env = c.args.env.0 in
-    let x = c.args.fate in
+    let x = fate_in c.args.fate in
     let k = next c.args.self.now i.calls i.per i.asked.items i.chunks i.pool c.args.env n c.self.view_is c.self.invariant c.requires.env c.requires.calls c.index-number.ensures in
     let t = at_chunks i.calls i.per i.asked.items i.chunks i.pool env n c.table_place-place.result c.reach-chunk.new.chunks c.reach-chunk.new.pool k c.table_place-place.ensures c.reach-chunk.ensures.chunks c.reach-chunk.ensures.pool in
     let there = c.reach-chunk.ensures.chunk ∙ ap (λ z. get_or c.reach-chunk.new.chunks z 0) c.table_place-place.ensures in
-    let f : List (List Fate) → Fates = λ lists. record { lists = lists; calls = i.calls } in
-    ap (λ (q : Chunks). f (lists_of i.per c.reach-chunk.new.chunks q.items (set i.asked.items env (n + 1)))) (c.put.ensures ∙ ap (λ (z : ℕ). with_place c.reach-chunk.new.pool (z * 64 + n % 64) x) there)
-    ∙ ap f (lists_more i.calls i.per i.asked.items i.chunks i.pool env n c.reach-chunk.new.chunks c.reach-chunk.new.pool x c.self.invariant k.within k.number t)
+    let q = c.reach-chunk.new.pool in
+    let counts = set i.asked.items env (n + 1) in
+    let f : List (List Fate) → List Pending → ℕ → Fates = λ lists waiting room. record { lists = lists; calls = i.calls; waiting = waiting; room = room } in
+    let now = lists_of i.per c.reach-chunk.new.chunks (with_place q (place_of i.per c.reach-chunk.new.chunks env n) x).items counts in
+    ap (λ (q : Chunks). f (lists_of i.per c.reach-chunk.new.chunks q.items counts) q.waiting q.calls) (c.put.ensures ∙ ap (λ (z : ℕ). with_place q (z * 64 + n % 64) x) there)
+    ∙ ap (λ waiting. f now waiting q.calls) t.waiting
+    ∙ ap (λ room. f now i.pool.waiting room) t.most
+    ∙ ap (λ lists. f lists i.pool.waiting i.pool.calls) (lists_more i.calls i.per i.asked.items i.chunks i.pool env n c.reach-chunk.new.chunks q x c.self.invariant k.within k.number t)
     ∙ ap (λ (o : Fates). with_lists o (with_call c.args.env x o.lists)) c.self.view_is

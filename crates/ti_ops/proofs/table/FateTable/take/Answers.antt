@@ -1,10 +1,9 @@
-use Rattle.std.proofs.Common.{◌≡◌, ◌<◌, ◌+◌, ◌*◌, ◌%◌, List, ℕ, if◌then◌else◌, is_some, length, get_or, ap, sym, ◌∙◌, inl, inr, arith}
+use Rattle.std.proofs.Common.{◌≡◌, ◌<◌, ◌+◌, ◌*◌, ◌%◌, ℕ, if◌then◌else◌, is_some, length, get_or, ap, sym, ◌∙◌, inl, inr, arith}
 use Rattle.ti_ops.specs.declared.fate.Fate.TheVariants as fate
 use Rattle.ti_ops.specs.Fates.{Fates, fate_of, told_by, with_fate, with_lists}
-use Rattle.ti_ops.specs.declared.fate.Fate.{Fate}
 use Rattle.ti_ops.specs.Chunks.{Chunks, with_place, lists_of}
 use Rattle.std.proofs.lemmas.Grind.{get_or_default_zero}
-use Rattle.ti_ops.proofs.ChunkLaws.{fate_at, fate_past, lists_taken}
+use Rattle.ti_ops.proofs.ChunkLaws.{fate_at, fate_past, table_fates, fates_taken}
 use Rattle.ti_ops.proofs.table.FateTable.take.Goals as goal
 use Rattle.ti_ops.proofs.table.FateTable.take.Goals.{then-at-len-via-then-at-len, then-at-len-via-else-at-len+then-ticket-index}
 
@@ -35,8 +34,7 @@ returns-clause-lists c =
     let b = is_some c.take.result in
     let e : t.env.0 < length i.asked.items = omega (arith, c.if-at-len.false, c.len.ensures) in
     let h : t.no < get_or i.asked.items t.env.0 0 = omega (arith, c.if-ticket-index.false, c.index.ensures, get_or_default_zero i.asked.items t.env.0 c.index.result.now e) in
-    let f : List (List Fate) → Fates = λ lists. record { lists = lists; calls = i.calls } in
-    ap (λ (p : Chunks). f (lists_of i.per i.chunks p.items i.asked.items)) c.take.ensures.chunks
-    ∙ ap (λ (k : ℕ). f (lists_of i.per i.chunks (if b then with_place i.pool (k * 64 + t.no % 64) fate.Gone else i.pool).items i.asked.items)) (c.at-chunk.ensures ∙ ap (λ z. get_or i.chunks z 0) c.table_place-place.ensures)
-    ∙ ap f (lists_taken b i.calls i.per i.asked.items i.chunks i.pool t c.self.invariant e h)
+    let there = c.at-chunk.ensures ∙ ap (λ z. get_or i.chunks z 0) c.table_place-place.ensures in
+    ap (λ (p : Chunks). table_fates i.calls i.per i.asked.items i.chunks p) (c.take.ensures.chunks ∙ ap (λ (k : ℕ). if b then with_place i.pool (k * 64 + t.no % 64) fate.Gone else i.pool) there)
+    ∙ fates_taken b i.calls i.per i.asked.items i.chunks i.pool t c.self.invariant e h
     ∙ ap (λ (o : Fates). with_lists o (if b then with_fate t fate.Gone o.lists else o.lists)) c.self.view_is

@@ -1,4 +1,5 @@
 use Rattle.std.proofs.Common.{◌≡◌, ◌<◌, ◌+◌, ◌*◌, ◌/◌, ◌%◌, List, ℕ, get_or, set, refl, ap, sym, subst, ◌∙◌}
+use Rattle.ti_ops.specs.declared.pending.Pending.{Pending}
 use Rattle.ti_ops.specs.declared.fate.Fate.TheVariants as fate
 use Rattle.ti_ops.specs.Fates.{Fates, fate_of, with_fate, with_lists}
 use Rattle.ti_ops.specs.declared.fate.Fate.{Fate}
@@ -27,8 +28,9 @@ returns c =
     let t = c.args.ticket in
     let x : Fate = fate.Told c.args.answer in
     let w = awaited i.per i.asked.items i.chunks i.pool.items t (subst (λ (f : Fates). fate_of t f.lists ≡ fate.Waiting) (sym c.self.view_is) c.requires) in
-    let f : List (List Fate) → Fates = λ lists. record { lists = lists; calls = i.calls } in
-    ap (λ (p : Chunks). f (lists_of i.per i.chunks p.items i.asked.items)) c.put.ensures
+    let g : List (List Fate) → List Pending → ℕ → Fates = λ lists waiting room. record { lists = lists; calls = i.calls; waiting = waiting; room = room } in
+    let f : List (List Fate) → Fates = λ lists. record { lists = lists; calls = i.calls; waiting = i.pool.waiting; room = i.pool.calls } in
+    ap (λ (p : Chunks). g (lists_of i.per i.chunks p.items i.asked.items) p.waiting p.calls) c.put.ensures
     ∙ ap (λ (k : ℕ). f (lists_of i.per i.chunks (set i.pool.items (k * 64 + t.no % 64) x) i.asked.items)) (c.at-chunk.ensures ∙ ap (λ z. get_or i.chunks z 0) c.table_place-place.ensures)
     ∙ ap f (lists_told i.calls i.per i.asked.items i.chunks i.pool t.env.0 t.no x c.self.invariant w.0 w.1)
     ∙ ap (λ (o : Fates). with_lists o (with_fate t x o.lists)) c.self.view_is
