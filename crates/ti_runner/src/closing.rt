@@ -94,17 +94,8 @@ pub(crate) fn give_back(
     Ok(())
 }
 
-/// A copy of a history.
-fn copied(alloc: Global, history: &[Entry]) -> Result<Vec<Entry>, RunFault> {
-    let mut entries = Vec::with_capacity(alloc, history.len())?;
-    for entry in history {
-        entries.push(*entry)?;
-    }
-    Ok(entries)
-}
-
 /// Closes a cell, and tells what its thread left.
-fn close(alloc: Global, cell: ThreadCell, done: Walked, told: &mut Told) -> Result<(), RunFault>
+fn close(cell: ThreadCell, done: Walked, told: &mut Told) -> Result<(), RunFault>
     requires { IsBack cell done.seat }
 {
     let Walked {
@@ -117,14 +108,12 @@ fn close(alloc: Global, cell: ThreadCell, done: Walked, told: &mut Told) -> Resu
         return Err(RunFault::Cell);
     };
     told.refused.push(Listed::from(refused))?;
-    told.histories
-        .push(Listed::from(copied(alloc, slot.history())?))?;
+    told.histories.push(Listed::from(slot.into_history()))?;
     Ok(())
 }
 
 /// Closes all cells, and tells what their threads left.
 pub(crate) fn close_all(
-    alloc: Global,
     cells: Vec<ThreadCell>,
     walked: Vec<Walked>,
     told: &mut Told,
@@ -136,7 +125,7 @@ pub(crate) fn close_all(
         let Some(cell) = cells.next() else {
             return Err(RunFault::Cell);
         };
-        close(alloc, cell, done, told)?;
+        close(cell, done, told)?;
     }
     Ok(())
 }

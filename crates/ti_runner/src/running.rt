@@ -44,7 +44,7 @@ pub fn run_live<R: Threads + Wait + Sync + AllocGlobal, G: Gate>(
     let mut walked = walked;
     let mut told = Told::new(alloc);
     give_back(&cells, &mut walked, called, &mut told)?;
-    close_all(alloc, cells, walked, &mut told)?;
+    close_all(cells, walked, &mut told)?;
     let report = told.into_report();
     if !fits(alloc, script, &report)? {
         return Err(RunFault::Cell);

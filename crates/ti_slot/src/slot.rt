@@ -405,4 +405,23 @@ impl Slot {
     {
         self.history.as_slice()
     }
+
+    /// The entries so far, the earliest first, and the rest of the slot is given up.
+    pub fn into_history(self) -> Vec<Entry>
+        ensures entries { result.items ≡ self.history }
+        ensures legal { is_legal self.limits self.history ≡ true }
+    {
+        let Slot {
+            limits: _,
+            number: _,
+            condition: _,
+            frames: _,
+            log: _,
+            own: _,
+            costs: _,
+            ops: _,
+            history,
+        } = self;
+        history
+    }
 }
