@@ -1,5 +1,5 @@
 //! Stacks, and how often each was seen.
-ghost use Rattle.std.specs.Prelude.{◌≡◌, ◌+◌, OnOk, OnErr, IfOk};
+ghost use Rattle.std.specs.Prelude.{◌≡◌, ◌+◌, true, map, OnOk, OnErr, IfOk};
 ghost use Rattle.tiprof.specs.Folds.{counts_of};
 
 use std::alloc::{AllocError, Global};
@@ -17,6 +17,7 @@ impl Folded {
     /// A stack that was seen once.
     fn new(alloc: Global, frames: &[Frame]) -> Result<Self, AllocError>
         ensures once { IfOk result (λ f. f.count ≡ 1) }
+        ensures methods { IfOk result (λ f. f.methods.items ≡ map (λ x. x.method) frames.now) }
     {
         let mut methods = Vec::with_capacity(alloc, frames.len())?;
         for frame in frames {
@@ -26,12 +27,14 @@ impl Folded {
     }
 
     /// Whether it has the methods of these frames.
-    fn is_of(&self, frames: &[Frame]) -> bool {
+    fn is_of(&self, frames: &[Frame]) -> bool
+        ensures { result ≡ true → self.now.methods.items ≡ map (λ x. x.method) frames.now }
+    {
         if self.methods.len() != frames.len() {
             return false;
         }
-        for (method, frame) in self.methods.iter().zip(frames.iter()) {
-            if *method != frame.method {
+        for i in 0..frames.len() {
+            if self.methods[i] != frames[i].method {
                 return false;
             }
         }
