@@ -1,14 +1,19 @@
 -- Faults of live scripts in their order.
-use Rattle.std.proofs.Common.{◌≡◌, [], ◌∷◌, true, Option, None, Some, Result, Ok, Err, inl, inr, codes, ap, subst}
+use Rattle.std.proofs.Common.{ℕ, ◌≡◌, ◌||◌, List, [], ◌∷◌, Bool, true, false, is_some, if◌then◌else◌, Option, None, Some, Result, Ok, Err, inl, inr, codes, refl, ap, subst}
+use Rattle.std.specs.List.{list_all}
+use Rattle.std.specs.Option.{ok_or, option_map}
 use Rattle.std.specs.Result.{IfErr, IsErrAnd}
 use Rattle.serde_json.specs.Data.{Data}
+use Rattle.ti_types.specs.declared.numbers.ThreadNo.{ThreadNo}
 use Rattle.ti_script.specs.declared.fault.ScriptFault.{ScriptFault}
+use Rattle.ti_script.specs.declared.fault.ScriptFault.TheVariants.{Shape, Name}
 use Rattle.ti_script.specs.declared.names.Cast.{Cast}
 use Rattle.ti_script.specs.Faults.{Faults, first_of, unless, head_shape}
 use Rattle.ti_script.specs.Tree.{at, has_exactly}
-use Rattle.ti_script.specs.Head.{limits_fault, cast_fault}
+use Rattle.ti_script.specs.Head.{is_text, limits_fault, cast_fault}
 use Rattle.ti_script.specs.Walks.{cast_of}
-use Rattle.ti_script.specs.Lives.{live_members, body_fault, live_fault}
+use Rattle.ti_script.specs.Events.{◌>>=◌, thread, thread_named, named, given, u32_in}
+use Rattle.ti_script.specs.Lives.{live_members, body_fault, live_fault, is_thread_element, threads_given}
 
 last_fails : (e : ScriptFault) (x : Option ScriptFault) → Faults e x → Faults e (first_of (x ∷ []))
 last_fails e x (inl memory) = inl memory
@@ -30,3 +35,29 @@ body_fails d cast e members limits names same f =
 pub err_is : {X E : Type 0} (r : Result X E) {Q : E → Type 0} (P : E → Type 0) → IsErrAnd r Q → ((e : E) → Q e → P e) → IfErr r P
 err_is (Ok x) P h k = tt
 err_is (Err e) P h k = k e h
+
+-- what stands for a thread may stand for one
+
+element_is : (b : Bool) (o : Option ℕ) (r : Result ThreadNo ScriptFault) (f : ScriptFault) (t : ThreadNo) → (if b then r else ok_or (option_map (λ n. record { 0 = n }) o) f) ≡ Ok t → (b || is_some o) ≡ true
+element_is true o r f t e = refl
+element_is false (Some n) r f t e = refl
+element_is false None r f t e = cc e
+
+first_given : (r : Result ThreadNo ScriptFault) (more : Result (List ThreadNo) ScriptFault) (ts : List ThreadNo) → (r >>= λ t. more >>= λ us. Ok (t ∷ us)) ≡ Ok ts → (t : ThreadNo) × (r ≡ Ok t)
+first_given (Ok t) more ts e = (t, refl)
+first_given (Err f) more ts e = cc e
+
+rest_given : (r : Result ThreadNo ScriptFault) (more : Result (List ThreadNo) ScriptFault) (ts : List ThreadNo) → (r >>= λ t. more >>= λ us. Ok (t ∷ us)) ≡ Ok ts → (us : List ThreadNo) × (more ≡ Ok us)
+rest_given (Ok t) (Ok us) ts e = (us, refl)
+rest_given (Ok t) (Err f) ts e = cc e
+rest_given (Err f) more ts e = cc e
+
+pub all_elements : (cast : Cast) (item : ℕ) (ds : List Data) (ts : List ThreadNo) → threads_given cast item ds ≡ Ok ts → list_all is_thread_element ds ≡ true
+all_elements cast item [] ts e = refl
+all_elements cast item (d ∷ ds) ts e =
+    let g = given cast item thread d in
+    let m = threads_given cast item ds in
+    let a = first_given g m ts e in
+    let b = rest_given g m ts e in
+    let first : is_thread_element d ≡ true = element_is (is_text d) (u32_in d) (named cast item (thread_named cast item) (Name item) d) (Shape item) a.0 a.1 in
+    rw (first, all_elements cast item ds b.0 b.1) refl

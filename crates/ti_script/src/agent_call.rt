@@ -78,8 +78,9 @@ fn threads_given(
     Ok(threads)
 }
 
-/// A list of threads: at most 1,024, each a number or a name.
-#[tactic(auto, using(crate::proofs::TreeLaws::list_all_views, crate::proofs::TreeLaws::length_of_map))]
+/// A list of threads: at most 1,024, each a number or a name. Whether each value may stand for a thread is looked at only
+/// where one stands for none: the first of them need not be the first fault.
+#[tactic(auto, using(crate::proofs::TreeLaws::list_all_views, crate::proofs::TreeLaws::length_of_map, crate::proofs::LiveLaws::all_elements))]
 fn threads_in(
     alloc: Global,
     cast: &Cast,
@@ -91,10 +92,17 @@ fn threads_in(
     let Some(values) = array_in(value) else {
         return Err(ScriptFault::Shape { item });
     };
-    if values.len() > 1024 || !are_thread_elements(values) {
+    if values.len() > 1024 {
         return Err(ScriptFault::Shape { item });
     }
-    threads_given(alloc, cast, item, values)
+    match threads_given(alloc, cast, item, values) {
+        Ok(threads) => Ok(threads),
+        Err(fault) => if are_thread_elements(values) {
+            Err(fault)
+        } else {
+            Err(ScriptFault::Shape { item })
+        },
+    }
 }
 
 /// SuspendThreadList of a list of threads.
