@@ -15,7 +15,7 @@ use crate::lists::{calls_of_one, operations_in};
 use crate::live::Live;
 use crate::names::Cast;
 use crate::reading::{bounds_at, cast_in, member};
-use crate::tree::{array_in, give_up, has_exactly};
+use crate::tree::{array_in, give_up_live, has_exactly};
 use serde_json::Value;
 use std::alloc::Global;
 use ti_live::{AgentCall, Listed};
@@ -236,7 +236,7 @@ pub fn read_live(alloc: Global, bytes: &[u8]) -> Result<Live, ScriptFault>
     match Value::from_slice(alloc, bytes) {
         Ok(document) => {
             let live = live_in(alloc, &document);
-            give_up(document);
+            give_up_live(document);
             live
         }
         Err(e) => if e.is_memory() {
