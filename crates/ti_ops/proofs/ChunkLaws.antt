@@ -1,8 +1,8 @@
 -- Where a call's fate stands, and what one more call or another fate leaves of all others.
-use Rattle.std.proofs.Common.{◌≡◌, ℕ, ◌<◌, ◌≤◌, ◌+◌, ◌*◌, ◌/◌, ◌%◌, ◌^◌, Bool, true, false, if◌then◌else◌, List, [], ◌∷◌, ◌++◌, length, get_or, set, replicate, refl, arith, suc, ap, sym, subst, ◌∙◌, inl, inr, ◌⊎◌, nat_eq}
+use Rattle.std.proofs.Common.{◌≡◌, ℕ, ◌<◌, ◌≤◌, ◌+◌, ◌-◌, ◌*◌, ◌/◌, ◌%◌, ◌^◌, Bool, true, false, if◌then◌else◌, List, [], ◌∷◌, ◌++◌, length, get_or, set, replicate, refl, arith, suc, ap, sym, subst, ◌∙◌, inl, inr, ◌⊎◌, nat_eq}
 use Rattle.std.specs.List.{All, sum_by}
 use Rattle.std.proofs.lemmas.Bool.{cases_lt, cases_eq, eqb-true, eqb-false}
-use Rattle.std.proofs.lemmas.List.{length-append, length-set, length-replicate, get_or-replicate, get_or_append_left, get_or-set_same, get_or-set_other}
+use Rattle.std.proofs.lemmas.List.{length-append, length-set, length-replicate, get_or-replicate, get_or_append_left, get_or-append_right, set-get_or, get_or-set_same, get_or-set_other}
 use Rattle.std.proofs.lemmas.List.Elements.{All-get_or, All-set, All-weaker}
 use Rattle.std.proofs.lemmas.List.Sums.{sum_by-set, sum_by-le}
 use Rattle.std.proofs.lemmas.Nat.{div-add-mod', mod_below, mul-add-lt, same_from_place}
@@ -77,6 +77,7 @@ pub record Reached (calls per : ℕ) (asked chunks : List ℕ) (p : Chunks) (env
   pub below : chunk_of per then' env (n / 64) < q.count
   pub same : (e k : ℕ) → HasChunk asked e k → chunk_of per then' e k ≡ chunk_of per chunks e k
   pub apart : (e k : ℕ) → HasChunk asked e k → chunk_of per then' e k ≡ chunk_of per then' env (n / 64) → (e ≡ env) × (k ≡ n / 64)
+  pub fresh : (m : ℕ) → m / 64 ≡ n / 64 → n ≤ m → get_or q.items (place_of per then' env m) Gone ≡ Gone
 
 more_chunks : (asked : List ℕ) (env n : ℕ) → env < length asked → n ≡ get_or asked env 0 → sum_by chunks_for (set asked env (n + 1)) + chunks_for n ≡ sum_by chunks_for asked + chunks_for (n + 1)
 more_chunks asked env n e r = subst (λ m. sum_by chunks_for (set asked env (n + 1)) + chunks_for m ≡ sum_by chunks_for asked + chunks_for (n + 1)) (sym r) (sum_by-set chunks_for asked env (n + 1) 0 e)
@@ -116,6 +117,11 @@ reached_new calls per asked chunks p env n a e r h z =
       below = omega (arith, here);
       same = same;
       apart = λ d k c s. absurd (omega (arith, a.below d k c, same d k c, s, here));
+      fresh = λ m q h.
+          let there : place_of per (set chunks at p.count) env m ≡ p.count * 64 + m % 64 = ap (λ k. chunk_of per (set chunks at p.count) env k * 64 + m % 64) q ∙ ap (λ z. z * 64 + m % 64) here in
+          ap (λ i. get_or (p.items ++ replicate 64 Gone) i Gone) there
+          ∙ get_or-append_right p.items (replicate 64 Gone) (p.count * 64) (p.count * 64 + m % 64) Gone a.size (omega arith)
+          ∙ get_or-replicate 64 (p.count * 64 + m % 64 - p.count * 64) Gone Gone (omega (arith, (parts m).1));
     }
 
 reached_old : (calls per : ℕ) (asked chunks : List ℕ) (p : Chunks) (env n : ℕ) → AreApart calls per asked chunks p → env < length asked → n ≡ get_or asked env 0 → (n % 64 ≡ 0 → ⊥)
@@ -141,6 +147,7 @@ reached_old calls per asked chunks p env n a e r z =
       below = a.below env (n / 64) some;
       same = λ d k c. refl;
       apart = λ d k c s. a.apart d k env (n / 64) c some s;
+      fresh = λ m q h. a.rest env m (subst (λ k. HasChunk asked env k) (sym q) some) (omega (arith, h, r));
     }
 
 reached_by : (b : Bool) (calls per : ℕ) (asked chunks : List ℕ) (p : Chunks) (env n : ℕ) → nat_eq (n % 64) 0 ≡ b → AreApart calls per asked chunks p → env < length asked → n ≡ get_or asked env 0 → n < calls
@@ -197,7 +204,38 @@ apart_more calls per asked chunks p env n then' q x a e r h t =
           | inr new ↦ (here.0 ∙ sym new.0, here.1 ∙ sym new.1)
         ]
       ];
+      rest = λ d m c h.
+          let differs : (d ≡ env → m ≡ n → ⊥) = λ z y. omega (arith, h, ap (λ x. get_or (set asked env (n + 1)) x 0) z, get_or-set_same asked env (n + 1) 0 e, y) in
+          elim (split asked env n d (m / 64) e r c) [
+            | inl old ↦
+                let few : get_or asked d 0 ≤ m = elim (cases_eq d env) [
+                  | inl z ↦ omega (arith, h, ap (λ x. get_or (set asked env (n + 1)) x 0) z, get_or-set_same asked env (n + 1) 0 e, ap (λ x. get_or asked x 0) z, r)
+                  | inr z ↦ omega (arith, h, get_or-set_other asked env d (n + 1) 0 z)
+                ] in
+                let place : place_of per then' d m ≡ place_of per chunks d m = ap (λ z. z * 64 + m % 64) (t.same d (m / 64) old) in
+                get_or-set_other q.items (place_of per then' env n) (place_of per then' d m) x Gone (λ s.
+                let o = same_place (chunk_of per then' d (m / 64)) (chunk_of per then' env (n / 64)) m n s in
+                let f = t.apart d (m / 64) old o.0 in
+                differs f.0 (same_number m n f.1 o.1))
+                ∙ ap (λ z. get_or q.items z Gone) place
+                ∙ t.items (place_of per chunks d m) (place_within calls per asked chunks p d m a old)
+                ∙ a.rest d m old few
+            | inr new ↦
+                let after : n ≤ m = omega (arith, h, ap (λ x. get_or (set asked env (n + 1)) x 0) new.0, get_or-set_same asked env (n + 1) 0 e) in
+                let place : place_of per then' d m ≡ place_of per then' env m = ap (λ z. place_of per then' z m) new.0 in
+                ap (λ z. get_or (set q.items (place_of per then' env n) x) z Gone) place
+                ∙ get_or-set_other q.items (place_of per then' env n) (place_of per then' env m) x Gone (λ s.
+                differs new.0 (same_number m n new.1 (same_place (chunk_of per then' env (m / 64)) (chunk_of per then' env (n / 64)) m n s).1))
+                ∙ t.fresh m new.1 after
+          ];
     }
+
+-- a call that leaves nothing has its fate already
+pub passed : (calls per : ℕ) (asked chunks : List ℕ) (p : Chunks) (env n : ℕ) (then' : List ℕ) (q : Chunks) → Reached calls per asked chunks p env n then' q → with_place q (place_of per then' env n) Gone ≡ q
+passed calls per asked chunks p env n then' q t =
+    let at = place_of per then' env n in
+    ap (λ x. with_place q at x) (sym (t.fresh n refl (omega arith)))
+    ∙ ap (λ items. record { items = items; count = q.count; room = q.room; waiting = q.waiting; calls = q.calls }) (set-get_or q.items at Gone)
 
 -- one more call leaves the fates of those before it
 fate_stays : (calls per : ℕ) (asked chunks : List ℕ) (p : Chunks) (env n : ℕ) (then' : List ℕ) (q : Chunks) (x : Fate) (d m : ℕ) → AreApart calls per asked chunks p → n ≡ get_or asked env 0
@@ -279,19 +317,23 @@ fate_past per asked chunks items env n (inr past) =
       | inr none ↦ ap (λ xs. get_or xs n Gone) (listed_past (λ d. list_of per chunks items (get_or asked d 0) d) (length asked) env [] none)
     ]
 
--- another fate keeps the chunks apart
-pub apart_told : (calls per : ℕ) (asked chunks : List ℕ) (p : Chunks) (place : ℕ) (x : Fate) → AreApart calls per asked chunks p → AreApart calls per asked chunks (with_place p place x)
-apart_told calls per asked chunks p place x a =
+-- another fate of a call that was asked keeps the chunks apart
+pub apart_told : (calls per : ℕ) (asked chunks : List ℕ) (p : Chunks) (env n : ℕ) (x : Fate) → AreApart calls per asked chunks p → env < length asked → n < get_or asked env 0 → AreApart calls per asked chunks (with_place p (place_of per chunks env n) x)
+apart_told calls per asked chunks p env n x a e h =
     record {
       few = a.few;
       wide = a.wide;
       table = a.table;
       fits = a.fits;
       room = a.room;
-      size = length-set p.items place x ∙ a.size;
+      size = length-set p.items (place_of per chunks env n) x ∙ a.size;
       handed = a.handed;
       below = a.below;
       apart = a.apart;
+      rest = λ d m c g. get_or-set_other p.items (place_of per chunks env n) (place_of per chunks d m) x Gone (λ s.
+          let o = same_place (chunk_of per chunks d (m / 64)) (chunk_of per chunks env (n / 64)) m n s in
+          let f = a.apart d (m / 64) env (n / 64) c (has asked env n e h) o.0 in
+          omega (arith, g, h, same_number m n f.1 o.1, ap (λ z. get_or asked z 0) f.0)) ∙ a.rest d m c g;
     }
 
 -- an environment that has not asked has no fates

@@ -55,7 +55,8 @@ HasChunk asked env k = (env < length asked) × (k * 64 < slice_index_or asked en
 abbrev pub chunks_for : ℕ → ℕ
 chunks_for asked = (asked + 63) / 64
 
--- No chunk belongs to two lists, and the chunks that are left suffice for the calls that may still be asked.
+-- No chunk belongs to two lists, the places of calls that are still to be asked have no fate, and the chunks that are
+-- left suffice for these.
 pub record AreApart (calls per : ℕ) (asked chunks : List ℕ) (p : Chunks) : Type 0 where
   pub few : All (λ n. n ≤ calls) asked
   pub wide : calls ≤ per * 64
@@ -66,3 +67,4 @@ pub record AreApart (calls per : ℕ) (asked chunks : List ℕ) (p : Chunks) : T
   pub handed : p.count ≤ sum_by chunks_for asked
   pub below : (env k : ℕ) → HasChunk asked env k → chunk_of per chunks env k < p.count
   pub apart : (env k other j : ℕ) → HasChunk asked env k → HasChunk asked other j → chunk_of per chunks env k ≡ chunk_of per chunks other j → (env ≡ other) × (k ≡ j)
+  pub rest : (env n : ℕ) → HasChunk asked env (n / 64) → slice_index_or asked env 0 ≤ n → slice_index_or p.items (place_of per chunks env n) Gone ≡ Gone

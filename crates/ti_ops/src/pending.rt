@@ -75,7 +75,7 @@ impl PendingOps {
         requires calls { length (fates_by env self.old.fates) < self.old.calls }
         ensures { self.new ≡ with_fates self.old (with_call env fate.Gone self.old.fates) }
     {
-        self.fates.push(env, Place::Gone);
+        self.fates.pass(env);
     }
 
     /// Takes the call that has waited longest, with its buffer, or `None` where none waits.

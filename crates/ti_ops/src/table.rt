@@ -76,6 +76,20 @@ impl FateTable {
         self.asked[at] = number + 1;
     }
 
+    /// Adds an environment's next call, of which nothing is left, and for which there is room.
+    #[inline]
+    pub fn pass(&mut self, env: EnvNo)
+        requires env { env.0 < length self.old.lists }
+        requires calls { length (fates_by env self.old.lists) < self.old.calls }
+        ensures { self.new ≡ with_lists self.old (with_call env fate.Gone self.old.lists) }
+    {
+        let at = env.0 as usize;
+        let number = self.asked[at];
+        let place = table_place(self.per, at, number);
+        reach(&mut self.chunks, &mut self.pool, place, number);
+        self.asked[at] = number + 1;
+    }
+
     /// Puts the answer to a call that waits.
     pub fn tell(&mut self, ticket: Ticket, answer: Answer)
         requires { fate_of ticket self.old.lists ≡ fate.Waiting }

@@ -3,8 +3,8 @@ use Rattle.ti_ops.specs.declared.pending.Pending.{Pending}
 use Rattle.ti_ops.specs.declared.fate.Fate.TheVariants as fate
 use Rattle.ti_ops.specs.Fates.{Fates, fate_of, with_fate, with_lists}
 use Rattle.ti_ops.specs.declared.fate.Fate.{Fate}
-use Rattle.ti_ops.specs.Chunks.{Chunks, lists_of}
-use Rattle.ti_ops.proofs.ChunkLaws.{found_waiting, lists_told, awaited}
+use Rattle.ti_ops.specs.Chunks.{Chunks, AreApart, with_place, lists_of}
+use Rattle.ti_ops.proofs.ChunkLaws.{apart_told, found_waiting, lists_told, awaited}
 use Rattle.ti_ops.proofs.table.FateTable.tell.Goals as goal
 
 pub table_place-place-requires : goal.table_place-place-requires
@@ -21,6 +21,16 @@ pub put-requires-clause-chunk : goal.put-requires-clause-chunk
 put-requires-clause-chunk c =
     let i = c.self.inside in
     subst (λ r. r < i.pool.count) (sym c.at-chunk.ensures) (found_waiting c.args.self.now i.calls i.per i.asked.items i.chunks i.pool c.args.ticket c.table_place-place.result c.self.view_is c.self.invariant c.requires c.table_place-place.ensures).below
+
+pub invariant_of-self : goal.invariant_of-self
+invariant_of-self c =
+    let i = c.self.inside in
+    let t = c.args.ticket in
+    let x : Fate = fate.Told c.args.answer in
+    let w = awaited i.per i.asked.items i.chunks i.pool.items t (subst (λ (f : Fates). fate_of t f.lists ≡ fate.Waiting) (sym c.self.view_is) c.requires) in
+    subst (λ (p : Chunks). AreApart i.calls i.per i.asked.items i.chunks p)
+    (sym (c.put.ensures ∙ ap (λ (k : ℕ). with_place i.pool (k * 64 + t.no % 64) x) (c.at-chunk.ensures ∙ ap (λ z. get_or i.chunks z 0) c.table_place-place.ensures)))
+    (apart_told i.calls i.per i.asked.items i.chunks i.pool t.env.0 t.no x c.self.invariant w.0 w.1)
 
 pub returns : goal.returns
 returns c =
