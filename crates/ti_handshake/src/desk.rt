@@ -100,6 +100,7 @@ impl<'a> Desk<'a> {
     /// The answer is the thread's own, a refusal included, as `Slot::ask` says of each call (JVM TI 11): 13, 14, 15, 31,
     /// 32, and 103 for a trace's start. A call that is refused changes nothing but the history. The buffer is empty and
     /// has room for a trace's frames.
+    #[inline(always)]
     pub fn post<R: Wait>(&mut self, rt: &R, call: Call, buf: TraceBuf) -> Asked
         requires well_formed { is_well_formed call ≡ true }
         requires calls { calls_spent self.old.env self.old.view.mine < self.old.view.subject.limits.calls }

@@ -36,6 +36,7 @@ fn trace(frames: &Frames, start: i32, most: u32, buf: TraceBuf) -> Answer
 }
 
 /// What a thread with these frames answers to a call that waits for them, whoever asks.
+#[inline(always)]
 fn answer_by_frames(
     condition: &Condition,
     frames: &Frames,
@@ -71,6 +72,7 @@ fn answer_by_frames(
 }
 
 /// What a thread answers to a call that takes place at once, whatever its frames are.
+#[inline(always)]
 fn answer_at_once(condition: &Condition, env: EnvNo, call: Call) -> Answer
     requires { waits_is call ≡ false }
     ensures { (frames : List Frame) → said result ≡ answer_of (view_of condition.now frames) env call }
@@ -96,6 +98,7 @@ fn answer_at_once(condition: &Condition, env: EnvNo, call: Call) -> Answer
 }
 
 /// What a thread answers. Its frames are here, or the call does not wait.
+#[inline(always)]
 pub fn answer(
     condition: &Condition,
     frames: &Option<Frames>,

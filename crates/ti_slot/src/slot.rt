@@ -242,6 +242,7 @@ impl Slot {
     /// start, `NoMoreFrames` (31), `ThreadSuspended` (14), `ThreadNotSuspended` (13), `OpaqueFrame` (32), as JVM TI 11
     /// says of each call. A call that is refused changes nothing but the history. A pop takes the newest of the frames
     /// that lie here. The buffer is empty and has room for a trace's frames.
+    #[inline(always)]
     pub fn ask(&mut self, env: EnvNo, call: Call, buf: TraceBuf) -> Asked
         requires env { env.0 < self.old.limits.envs }
         requires well_formed { is_well_formed call ≡ true }
