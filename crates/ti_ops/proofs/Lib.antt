@@ -1,3 +1,4 @@
 pub mod Listed
 pub mod ChunkLaws
 pub mod RingLaws
+pub mod LateLaws

@@ -1,5 +1,5 @@
 -- Fates in chunks of 64 places, which are handed out as they are needed, and lists of fates that stand in such chunks.
-use Rattle.std.specs.Prelude.{ℕ, zero, suc, ◌≡◌, ◌<◌, ◌≤◌, ◌+◌, ◌*◌, ◌/◌, ◌%◌, ◌^◌, List, [], ◌∷◌, ◌++◌, length, replicate, slice_index_or, slice_set}
+use Rattle.std.specs.Prelude.{ℕ, zero, suc, ◌≡◌, ◌<◌, ◌≤◌, ◌+◌, ◌-◌, ◌*◌, ◌/◌, ◌%◌, ◌^◌, List, [], ◌∷◌, ◌++◌, length, replicate, slice_index_or, slice_set}
 use Rattle.std.specs.List.{All, sum_by}
 use Rattle.ti_ops.specs.declared.pending.Pending.{Pending}
 use Rattle.ti_ops.specs.declared.fate.Fate.{Fate}
@@ -25,6 +25,17 @@ with_place p place fate = record { items = slice_set p.items place fate; count =
 -- other calls wait
 abbrev pub with_calls : Chunks → List Pending → Chunks
 with_calls p waiting = record { items = p.items; count = p.count; room = p.room; waiting = waiting; calls = p.calls }
+
+-- a block of which this many chunks are handed out, but perhaps fewer are filled: the fates of the others are gone
+abbrev pub padded : ℕ → Chunks → Chunks
+padded count p = record { items = p.items ++ replicate ((count - p.count) * 64) Gone; count = count; room = p.room; waiting = p.waiting; calls = p.calls }
+
+pub record IsPadded (filled count : ℕ) (p : Chunks) : Type 0 where
+  pub here : filled ≡ p.count
+  pub handed : p.count ≤ count
+  pub room : count ≤ p.room
+  pub fits : p.room < 2 ^ 64
+  pub whole : length p.items ≡ p.count * 64
 
 -- what a function gives for each number below a bound
 abbrev pub listed : {A : Type 0} → (ℕ → A) → ℕ → List A

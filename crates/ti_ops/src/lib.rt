@@ -12,6 +12,7 @@
 
 mod chunks;
 mod fate;
+mod late;
 mod pairs;
 mod pending;
 mod place;

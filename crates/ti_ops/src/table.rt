@@ -6,9 +6,10 @@ ghost use Rattle.ti_ops.specs.Rings.{fate_in};
 ghost use Rattle.ti_ops.specs.declared.fate.Fate.TheVariants as fate;
 
 use crate::chunks::ChunkTable;
+use crate::late::LatePool;
 use crate::pending::Pending;
 use crate::place::Place;
-use crate::pool::{FatePool, PLACES};
+use crate::pool::PLACES;
 use std::alloc::Global;
 use std::marker::Model;
 use ti_types::{Answer, EnvNo, TiError, Ticket};
@@ -23,7 +24,7 @@ pub struct FateTable {
     /// The numbers of the chunks of each environment, `per` places for each.
     chunks: ChunkTable,
     per: usize,
-    pool: FatePool,
+    pool: LatePool,
     calls: u32,
 }
 
@@ -49,7 +50,7 @@ impl FateTable {
     {
         let per = (calls as usize).div_ceil(PLACES);
         let room = envs as usize * per;
-        let pool = FatePool::new(alloc, room, envs as usize * calls as usize)?;
+        let pool = LatePool::new(alloc, room, envs as usize * calls as usize)?;
         let asked = vec![in alloc; 0u32; envs as usize]?;
         let chunks = ChunkTable::new(alloc, room)?;
         Ok(FateTable {
@@ -148,7 +149,7 @@ fn table_place(per: usize, env: usize, number: u32) -> usize
 }
 
 /// The chunk of an environment's next call. A new one is handed out where the call is the first that needs it.
-fn reach(chunks: &mut ChunkTable, pool: &mut FatePool, place: usize, number: u32) -> usize
+fn reach(chunks: &mut ChunkTable, pool: &mut LatePool, place: usize, number: u32) -> usize
     requires place { place < length chunks.old }
     requires room { number % 64 ≡ 0 → pool.old.count < pool.old.room }
     requires places { pool.old.room ≡ length chunks.old }
