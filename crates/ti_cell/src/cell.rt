@@ -14,10 +14,10 @@ use crate::seat::{CellSeat, EnvSeat, OwnSeat, Pass};
 use crate::view::{CellRule, Frees, Glances, Locks, Returns, Seats, Subject, View};
 use crate::word::Word;
 use atomic_table::Table;
-use crossbeam_utils::Backoff;
 use std::alloc::{AllocError, Global};
 use std::marker::{Model, PhantomData};
 use std::sync::Wait;
+use std::thread;
 use ti_slot::Slot;
 use ti_types::{Limits, ThreadNo, TiError};
 
@@ -82,8 +82,9 @@ impl ThreadCell {
             limits,
             thread: number,
         };
+        let parked = Parked::new(alloc, limits, number)?;
         let mut slots = Vec::with_capacity(alloc, 1)?;
-        match slots.push(Some(Parked::new(alloc, limits, number)?)) {
+        match slots.push(Some(parked)) {
             Ok(()) => (),
             Err(refused) => return Err(AllocError::from(refused).into()),
         }
@@ -110,7 +111,7 @@ impl ThreadCell {
         }
     }
 
-    /// Sets the lock bit and moves the slot out, once nobody holds the cell. Between its tries it pauses.
+    /// Sets the lock bit and moves the slot out, once nobody holds the cell. Between its looks it gives its processor up.
     ///
     /// The slot has one legal history, which begins with all that the seat has seen and has of its number just the
     /// entries that were made from it. What the seat looked at was that history, when it had the length of the look.
@@ -137,13 +138,13 @@ impl ThreadCell {
         }
     }
 
-    /// Takes the lock bit and the slot.
+    /// Takes the lock bit and the slot. Where another has it, the processor is given up between the looks: a hold is short,
+    /// and who only paused would follow its holder from cell to cell.
     fn take<R: Wait>(&self, rt: &R, seat: &mut Pass) -> Parked
         requires { (seat.old.table_id ≡ self.now) × (seat.old.me.1 ≡ []) × (seat.old.me.0.gone ≡ false) }
         ensures seat { (seat.new.table_id ≡ seat.old.table_id) × (seat.new.me ≡ (holding seat.old.me.0 result.history result.uncollected, (0, None) ∷ [])) }
         ensures taken { IsTaken seat.old.me.0 result }
     {
-        let backoff = Backoff::new();
         for _ in rt.forever() {
             let word = Word {
                 bits: self.table.shared.peek(0),
@@ -160,7 +161,7 @@ impl ThreadCell {
                     return slot;
                 }
             }
-            backoff.snooze();
+            thread::yield_now();
         }
         unreachable!()
     }

@@ -5,8 +5,8 @@
 //! stores it moves the slot in and clears the bit. Each user has a seat, in which it carries what it knows, and the
 //! calls take the seat: the owner has the number 0, and environment `e` the number `e + 1`.
 //!
-//! Below stand `ti_slot`, whose calls are made while the slot is held, `atomic_table`, which has the word and the place,
-//! and `Backoff` of `crossbeam_utils`, by which a hold pauses between its tries. Upward this crate promises:
+//! Below stand `ti_slot`, whose calls are made while the slot is held, and `atomic_table`, which has the word and the
+//! place. Upward this crate promises:
 //!
 //! - There is one legal history, whatever the threads do. It begins with all that a seat has seen, and has of its
 //!   entries exactly those that it added (`specs/Rule`).

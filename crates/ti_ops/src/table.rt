@@ -51,8 +51,8 @@ impl FateTable {
         let per = (calls as usize).div_ceil(PLACES);
         let room = envs as usize * per;
         let pool = LatePool::new(alloc, room, envs as usize * calls as usize)?;
-        let asked = vec![in alloc; 0u32; envs as usize]?;
         let chunks = ChunkTable::new(alloc, room)?;
+        let asked = vec![in alloc; 0u32; envs as usize]?;
         Ok(FateTable {
             asked,
             chunks,

@@ -18,10 +18,11 @@ use Rattle.ti_replay.specs.Settling.{Placed, placed}
 use Rattle.ti_replay.proofs.HistoryLaws.{enumerate_from-append}
 use Rattle.ti_replay.proofs.StepLaws.{entry_at}
 use Rattle.ti_report.specs.Told.{is_left_by, granted}
-use Rattle.ti_report.specs.Books.{Row, Noted, said_row, rows_of, rows_at, with_row}
+use Rattle.ti_report.specs.declared.book.Note.{Note}
+use Rattle.ti_report.specs.Books.{Row, said_row, rows_of, rows_at, with_row}
 
 -- one more agent without rows
-pub none_more : (rows : List (List Noted)) (k : ℕ) → ((k : ℕ) → slice_index_or rows k [] ≡ []) → slice_index_or (rows ++ [] ∷ []) k [] ≡ []
+pub none_more : (rows : List (List Note)) (k : ℕ) → ((k : ℕ) → slice_index_or rows k [] ≡ []) → slice_index_or (rows ++ [] ∷ []) k [] ≡ []
 none_more [] zero h = refl
 none_more [] (suc k) h = refl
 none_more (r ∷ rows) zero h = h 0
@@ -66,39 +67,39 @@ told_here [] at d h = grind arith
 told_here (t ∷ told) zero d h = refl
 told_here (t ∷ told) (suc at) d h = told_here told at d (omega arith)
 
-map_rows : (frames : List Frame) (xs ys : List Noted) → map (said_row frames) (xs ++ ys) ≡ map (said_row frames) xs ++ map (said_row frames) ys
-map_rows frames [] ys = refl
-map_rows frames (x ∷ xs) ys = ap (λ l. said_row frames x ∷ l) (map_rows frames xs ys)
+map_rows : (entries : List Entry) (frames : List Frame) (xs ys : List Note) → map (said_row entries frames) (xs ++ ys) ≡ map (said_row entries frames) xs ++ map (said_row entries frames) ys
+map_rows entries frames [] ys = refl
+map_rows entries frames (x ∷ xs) ys = ap (λ l. said_row entries frames x ∷ l) (map_rows entries frames xs ys)
 
 -- a row that is added to one agent's rows
-pub row_added : (frames : List Frame) (rows : List (List Noted)) (index : ℕ) (row : Noted) (e : EnvNo)
-    → map (said_row frames) (with_row rows index row e.0) ≡ rows_at frames rows e ++ (if index == e.0 then said_row frames row ∷ [] else [])
-row_added frames rows index row e =
+pub row_added : (entries : List Entry) (frames : List Frame) (rows : List (List Note)) (index : ℕ) (row : Note) (e : EnvNo)
+    → map (said_row entries frames) (with_row rows index row e.0) ≡ rows_at entries frames rows e ++ (if index == e.0 then said_row entries frames row ∷ [] else [])
+row_added entries frames rows index row e =
     elim (cases_Bool (index == e.0)) [
-      | inl yes' ↦ rw (yes') (map_rows frames (slice_index_or rows e.0 []) (row ∷ []))
+      | inl yes' ↦ rw (yes') (map_rows entries frames (slice_index_or rows e.0 []) (row ∷ []))
       | inr no' ↦ rw (no', append-nil) refl
     ]
 
-row_at : (frames : List Frame) (l : List Noted) (n : ℕ) (r : Noted) → slice_get l n ≡ Some r → slice_get (map (said_row frames) l) n ≡ Some (said_row frames r)
-row_at frames [] n r h = cc
-row_at frames (x ∷ l) zero r h = grind (arith, h)
-row_at frames (x ∷ l) (suc n) r h = row_at frames l n r h
+row_at : (entries : List Entry) (frames : List Frame) (l : List Note) (n : ℕ) (r : Note) → slice_get l n ≡ Some r → slice_get (map (said_row entries frames) l) n ≡ Some (said_row entries frames r)
+row_at entries frames [] n r h = cc
+row_at entries frames (x ∷ l) zero r h = grind (arith, h)
+row_at entries frames (x ∷ l) (suc n) r h = row_at entries frames l n r h
 
 -- a row that is there
-pub row_get : (frames : List Frame) (rows : List (List Noted)) (e n : ℕ) (l : List Noted) (r : Noted) → slice_get rows e ≡ Some l → slice_get l n ≡ Some r
-    → slice_get (rows_at frames rows (record { 0 = e })) n ≡ Some (said_row frames r)
-row_get frames [] e n l r h k = cc
-row_get frames (x ∷ rows) zero n l r h k = grind (arith, h, row_at frames l n r k)
-row_get frames (x ∷ rows) (suc e) n l r h k = row_get frames rows e n l r h k
+pub row_get : (entries : List Entry) (frames : List Frame) (rows : List (List Note)) (e n : ℕ) (l : List Note) (r : Note) → slice_get rows e ≡ Some l → slice_get l n ≡ Some r
+    → slice_get (rows_at entries frames rows (record { 0 = e })) n ≡ Some (said_row entries frames r)
+row_get entries frames [] e n l r h k = cc
+row_get entries frames (x ∷ rows) zero n l r h k = grind (arith, h, row_at entries frames l n r k)
+row_get entries frames (x ∷ rows) (suc e) n l r h k = row_get entries frames rows e n l r h k
 
-said_long : (frames : List Frame) (rows : List Noted) → length (map (said_row frames) rows) ≡ length rows
-said_long frames [] = refl
-said_long frames (r ∷ rows) = ap suc (said_long frames rows)
+said_long : (entries : List Entry) (frames : List Frame) (rows : List Note) → length (map (said_row entries frames) rows) ≡ length rows
+said_long entries frames [] = refl
+said_long entries frames (r ∷ rows) = ap suc (said_long entries frames rows)
 
-pub rows_long : (frames : List Frame) (rows : List (List Noted)) (e : EnvNo) → length (rows_at frames rows e) ≡ length (slice_index_or rows e.0 [])
-rows_long frames rows e = said_long frames (slice_index_or rows e.0 [])
+pub rows_long : (entries : List Entry) (frames : List Frame) (rows : List (List Note)) (e : EnvNo) → length (rows_at entries frames rows e) ≡ length (slice_index_or rows e.0 [])
+rows_long entries frames rows e = said_long entries frames (slice_index_or rows e.0 [])
 
 -- known rows stay known where frames are added
-pub still_known : (frames new more : List Frame) (rows : List (List Noted)) (e : EnvNo) (known : List Row)
-    → ((more : List Frame) → rows_at (frames ++ more) rows e ≡ known) → rows_at ((frames ++ new) ++ more) rows e ≡ known
-still_known frames new more rows e known h = ap (λ l. rows_at l rows e) (append_assoc frames new more) ∙ h (new ++ more)
+pub still_known : (entries : List Entry) (frames new more : List Frame) (rows : List (List Note)) (e : EnvNo) (known : List Row)
+    → ((more : List Frame) → rows_at entries (frames ++ more) rows e ≡ known) → rows_at entries ((frames ++ new) ++ more) rows e ≡ known
+still_known entries frames new more rows e known h = ap (λ l. rows_at entries l rows e) (append_assoc frames new more) ∙ h (new ++ more)

@@ -1,12 +1,13 @@
 -- What a history tells its agents, by agent: a table of the entries that each left and of what these got, and of what each
 -- has spent.
-use Rattle.std.specs.Prelude.{ℕ, ◌≡◌, ◌<◌, ◌==◌, Bool, false, List, [], ◌∷◌, ◌++◌, map, if◌then◌else◌, Option, Some, None, slice_get, slice_index, slice_index_or}
+use Rattle.std.specs.Prelude.{ℕ, ◌≡◌, ◌<◌, ◌==◌, Bool, false, List, [], ◌∷◌, ◌++◌, map, get_or, if◌then◌else◌, Option, Some, None, slice_get, slice_index, slice_index_or}
 use Rattle.std.specs.Option.{option_map_or}
 use Rattle.std.specs.List.{filter}
 use Rattle.ti_types.specs.declared.limits.Limits.{Limits}
 use Rattle.ti_types.specs.declared.numbers.EnvNo.{EnvNo}
 use Rattle.ti_types.specs.declared.numbers.ThreadNo.{ThreadNo}
 use Rattle.ti_types.specs.declared.entry.Entry.{Entry}
+use Rattle.ti_types.specs.declared.entry.Entry.TheVariants.{Start}
 use Rattle.ti_types.specs.declared.answer.Answer.{Answer}
 use Rattle.ti_types.specs.declared.place.Frame.{Frame}
 use Rattle.ti_replay.specs.Legal.{calls_spent}
@@ -14,29 +15,26 @@ use Rattle.ti_replay.specs.Replies.{reply}
 use Rattle.ti_replay.specs.Settling.{placed}
 use Rattle.ti_report.specs.Told.{got, granted, is_left_by, history_at}
 use Rattle.ti_report.specs.declared.book.Book.{Book}
-use Rattle.ti_report.specs.declared.got.Got.{Got}
+use Rattle.ti_report.specs.declared.book.Note.{Note}
 use Rattle.ti_report.specs.Gots.{told_in}
 
 abbrev pub Row : Type 0
 Row = Entry × Option Answer
 
--- a row as a book has it, and what it says with the frames of the book
-abbrev pub Noted : Type 0
-Noted = Entry × Got
-
-abbrev pub said_row : List Frame → Noted → Row
-said_row frames r = (r.0, told_in frames r.1)
+-- what a row says, as a book has it, with the history and the frames of the book
+abbrev pub said_row : List Entry → List Frame → Note → Row
+said_row entries frames r = (get_or entries r.place Start, told_in frames r.got)
 
 -- what an agent left among some first entries of a whole history, and got by it
 abbrev pub rows_of : Limits → List Entry → EnvNo → List Entry → List Row
 rows_of limits whole e front = map (λ p. (p.1, granted p.1 (reply limits whole p.0))) (filter (λ p. is_left_by e p.1) (placed front))
 
--- the rows of one agent in a table, with these frames
-abbrev pub rows_at : List Frame → List (List Noted) → EnvNo → List Row
-rows_at frames rows e = map (said_row frames) (slice_index_or rows e.0 [])
+-- the rows of one agent in a table, with this history and these frames
+abbrev pub rows_at : List Entry → List Frame → List (List Note) → EnvNo → List Row
+rows_at entries frames rows e = map (said_row entries frames) (slice_index_or rows e.0 [])
 
 -- a table with one more row at a place
-abbrev pub with_row : List (List Noted) → ℕ → Noted → ℕ → List Noted
+abbrev pub with_row : List (List Note) → ℕ → Note → ℕ → List Note
 with_row rows index row k = if index == k then slice_index_or rows k [] ++ row ∷ [] else slice_index_or rows k []
 
 abbrev pub is_number : Option ℕ → ℕ → Bool
@@ -44,12 +42,12 @@ is_number number e = option_map_or (λ n. n == e) number false
 
 -- the book tells what this history does
 pub record IsBook (limits : Limits) (history : List Entry) (b : Book) : Type 0 where
-  pub rows : (e : EnvNo) → e.0 < limits.envs → rows_at b.frames.items b.rows.items e ≡ got limits e history
+  pub rows : (e : EnvNo) → e.0 < limits.envs → rows_at b.entries.now b.frames.items b.rows.items e ≡ got limits e history
   pub spent : (e : EnvNo) → e.0 < limits.envs → slice_index b.spent.items e.0 ≡ calls_spent e history
 
 -- the rows of an agent in the book of a thread, and none where there is no such thread
 abbrev pub rows_in : Option Book → EnvNo → List Row
-rows_in (Some b) e = rows_at b.frames.items b.rows.items e
+rows_in (Some b) e = rows_at b.entries.now b.frames.items b.rows.items e
 rows_in None e = []
 
 abbrev pub spent_in : Option Book → EnvNo → ℕ

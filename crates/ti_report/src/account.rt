@@ -1,23 +1,24 @@
 //! What an agent has done so far, kept as a few numbers, and what it is told next.
-ghost use Rattle.std.specs.Prelude.{◌≡◌, ◌↔◌, ◌<◌, ◌+◌, ◌^◌, nat_lt, true, false, Some, None, length, IfOk, IfSome, slice_get, slice_index, option_map, option_and_then};
+ghost use Rattle.std.specs.Prelude.{◌≡◌, get_or, ◌↔◌, ◌<◌, ◌+◌, ◌^◌, nat_lt, true, false, Some, None, length, IfOk, IfSome, slice_get, slice_index, option_map, option_and_then};
 ghost use Rattle.ti_types.specs.declared.numbers.EnvNo.{EnvNo};
 ghost use Rattle.ti_types.specs.declared.numbers.ThreadNo.{ThreadNo};
 ghost use Rattle.ti_types.specs.declared.limits.Limits.{Limits};
+ghost use Rattle.ti_types.specs.declared.entry.Entry.TheVariants.{Start};
 ghost use Rattle.ti_types.specs.Answer.{said};
 ghost use Rattle.ti_types.specs.Frames.{bare_trace};
 ghost use Rattle.ti_types.specs.Admitting.{admitting_refusal, asking_refusal, reaching_refusal};
 ghost use Rattle.ti_report.specs.Told.{thread_of, is_call, is_due, got_by};
 ghost use Rattle.ti_report.specs.Gots.{told_in};
-ghost use Rattle.ti_report.specs.Books.{rows_in, spent_in, page_in, said_row};
+ghost use Rattle.ti_report.specs.Books.{rows_in, spent_in, page_in};
 ghost use Rattle.ti_report.specs.Accounts.{AccountValue, CanCount, IsFew, why_now, accounted_with, own_answer, told_with, counted, can_pay_now, new_account};
 ghost use Rattle.ti_report.specs.Fits.{code_of, stack_of};
 
-use crate::book::{Book, Row};
+use crate::book::Book;
 use crate::got::{Got, part, same_got};
 use crate::same::{asks_same, same_answer};
 use std::alloc::{AllocError, Global};
 use std::marker::Model;
-use ti_types::{Answer, Call, Caps, EnvNo, Event, Frame, Limits, ThreadNo, TiError, needs};
+use ti_types::{Answer, Call, Caps, Entry, EnvNo, Event, Frame, Limits, ThreadNo, TiError, needs};
 
 /// What an agent has done so far: its capabilities, its word, and by thread how many of its calls it has spent and how many
 /// of its entries it has used.
@@ -47,6 +48,19 @@ fn thread_of(event: Event) -> ThreadNo
     match event {
         Event::Ask(_, t, _) | Event::Stop(_, t) | Event::Read(_, t, _) | Event::Go(_, t) => t,
         _ => ThreadNo(0),
+    }
+}
+
+/// The entry at a place of a history, and a start where there is none.
+#[inline(always)]
+fn entry_in(entries: &[Entry], place: u32) -> Entry
+    ensures { result ≡ get_or entries.now place Start }
+{
+    let at = place as usize;
+    if at < entries.len() {
+        entries[at]
+    } else {
+        Entry::Start
     }
 }
 
@@ -169,7 +183,7 @@ impl Account {
 
     /// How many calls the agent has spent in the whole history of a thread.
     #[tactic(auto, using(std::proofs::lemmas::Option::slice_get_past))]
-    fn spent_in_all(&self, books: &[Book], thread: ThreadNo) -> usize
+    fn spent_in_all(&self, books: &[Book<'_>], thread: ThreadNo) -> usize
         ensures { result ≡ spent_in (slice_get books.now thread.0) self.now.env }
     {
         match books.get(thread.0 as usize) {
@@ -180,7 +194,7 @@ impl Account {
 
     /// How many entries the agent left at a thread.
     #[tactic(auto, using(std::proofs::lemmas::Option::slice_get_past))]
-    fn rows_there(&self, books: &[Book], thread: ThreadNo) -> usize
+    fn rows_there(&self, books: &[Book<'_>], thread: ThreadNo) -> usize
         ensures { result ≡ length (rows_in (slice_get books.now thread.0) self.now.env) }
     {
         match books.get(thread.0 as usize) {
@@ -190,17 +204,17 @@ impl Account {
     }
 
     /// Whether all entries that the agent left at a thread are used.
-    pub fn is_used_up(&self, books: &[Book], thread: ThreadNo) -> bool
+    pub fn is_used_up(&self, books: &[Book<'_>], thread: ThreadNo) -> bool
         ensures { (result ≡ true) ↔ (slice_index self.now.used thread.0 ≡ length (rows_in (slice_get books.now thread.0) self.now.env)) }
     {
         self.used_at(thread) == self.rows_there(books, thread)
     }
 
-    /// The next entry that the agent left at a thread, with what it got and the frames of its book.
+    /// The next entry that the agent left at a thread, what it got, and the frames of its book.
     #[tactic(auto, using(crate::proofs::BookLaws::row_get))]
     #[inline(always)]
-    fn next<'a>(&self, books: &'a [Book], thread: ThreadNo) -> Option<(&'a Row, &'a [Frame])>
-        ensures next { option_map (λ r. said_row r.1.now r.0.now) result ≡ slice_get (rows_in (slice_get books.now thread.0) self.now.env) (slice_index self.now.used thread.0) }
+    fn next<'a>(&self, books: &'a [Book<'_>], thread: ThreadNo) -> Option<(Entry, Got, &'a [Frame])>
+        ensures next { option_map (λ r. (r.0, told_in r.2.now r.1)) result ≡ slice_get (rows_in (slice_get books.now thread.0) self.now.env) (slice_index self.now.used thread.0) }
         ensures room { IfSome result (λ r. slice_index self.now.used thread.0 + 1 < 2 ^ 64) }
     {
         let book = books.get(thread.0 as usize)?;
@@ -210,26 +224,26 @@ impl Account {
         if at >= rows.len() {
             return None;
         }
-        let row = &rows[at];
-        Some((row, &book.frames))
+        let row = rows[at];
+        Some((entry_in(book.entries, row.place), row.got, &book.frames))
     }
 
     /// What the next entry at an event's thread got, with the frames of its book, where it is what the event leaves.
     #[inline(always)]
-    fn found<'a>(&self, books: &'a [Book], event: Event) -> Option<(Got, &'a [Frame])>
+    fn found<'a>(&self, books: &'a [Book<'_>], event: Event) -> Option<(Got, &'a [Frame])>
         ensures found { option_and_then (λ g. told_in g.1.now g.0) result ≡ got_by event (slice_get (rows_in (slice_get books.now (thread_of event).0) self.now.env) (slice_index self.now.used (thread_of event).0)) }
         ensures room { IfSome result (λ g. slice_index self.now.used (thread_of event).0 + 1 < 2 ^ 64) }
     {
-        let (row, frames) = self.next(books, thread_of(event))?;
-        if asks_same(event, row.0) {
-            Some((row.1, frames))
+        let (entry, got, frames) = self.next(books, thread_of(event))?;
+        if asks_same(event, entry) {
+            Some((got, frames))
         } else {
             None
         }
     }
 
     /// Whether a refusal is due: 209 only where the agent has spent all its calls at the thread.
-    fn is_due(&self, limits: Limits, books: &[Book], event: Event, error: TiError) -> bool
+    fn is_due(&self, limits: Limits, books: &[Book<'_>], event: Event, error: TiError) -> bool
         ensures { result ≡ is_due limits.calls (spent_in (slice_get books.now (thread_of event).0) self.now.env) error }
     {
         if !matches!(error, TiError::CallsSpent) {
@@ -261,7 +275,7 @@ impl Account {
     pub fn says(
         &self,
         limits: Limits,
-        books: &[Book],
+        books: &[Book<'_>],
         why: Option<TiError>,
         event: Event,
         answer: &Answer,
@@ -293,7 +307,7 @@ impl Account {
     pub fn code(
         &self,
         limits: Limits,
-        books: &[Book],
+        books: &[Book<'_>],
         why: Option<TiError>,
         event: Event,
     ) -> Option<u32>
@@ -322,7 +336,7 @@ impl Account {
     pub fn stack<'a>(
         &self,
         limits: Limits,
-        books: &'a [Book],
+        books: &'a [Book<'_>],
         why: Option<TiError>,
         event: Event,
     ) -> Option<(u32, &'a [Frame])>

@@ -17,7 +17,7 @@ fn calls_fit(
     alloc: Global,
     account: &mut Account,
     limits: Limits,
-    books: &[Book],
+    books: &[Book<'_>],
     calls: &[AgentCall],
     replies: &[Reply],
 ) -> Result<bool, AllocError>
@@ -36,7 +36,7 @@ fn calls_fit(
 }
 
 /// Whether all entries that the agent left are used.
-fn used_up(account: &Account, limits: Limits, books: &[Book]) -> bool
+fn used_up(account: &Account, limits: Limits, books: &[Book<'_>]) -> bool
     ensures { (result ≡ true) ↔ UsedUp limits (λ t. page_in (slice_get books.now t) account.now.env) account.now }
 {
     for n in 0..limits.threads {
@@ -51,7 +51,7 @@ fn used_up(account: &Account, limits: Limits, books: &[Book]) -> bool
 pub fn agent_fits(
     alloc: Global,
     limits: Limits,
-    books: &[Book],
+    books: &[Book<'_>],
     env: EnvNo,
     spent: bool,
     calls: &[AgentCall],

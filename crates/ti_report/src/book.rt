@@ -1,9 +1,10 @@
 //! What a history tells its agents, read off in one pass over its replies.
-ghost use Rattle.std.specs.Prelude.{◌≡◌, List, Option, ◌++◌, ◌∷◌, ◌^◌, ◌≤◌, ◌<◌, ◌+◌, ℕ, [], true, false, length, IfOk, OnOk, IfSome, IfNone, slice_index, slice_index_or, if◌then◌else◌};
+ghost use Rattle.std.specs.Prelude.{◌≡◌, get_or, List, Option, ◌++◌, ◌∷◌, ◌^◌, ◌≤◌, ◌<◌, ◌+◌, ℕ, [], true, false, length, IfOk, OnOk, IfSome, IfNone, slice_index, slice_index_or, if◌then◌else◌};
 ghost use Rattle.std.specs.Option.{option_map};
 ghost use Rattle.ti_types.specs.Answer.{said};
 ghost use Rattle.ti_types.specs.declared.place.Frame.{Frame};
 ghost use Rattle.ti_types.specs.declared.entry.Entry.{Entry};
+ghost use Rattle.ti_types.specs.declared.entry.Entry.TheVariants.{Start};
 ghost use Rattle.ti_types.specs.declared.answer.Answer.{Answer};
 ghost use Rattle.ti_report.specs.Gots.{told_in};
 ghost use Rattle.ti_types.specs.declared.numbers.EnvNo.{EnvNo};
@@ -19,22 +20,29 @@ use ti_replay::{ReplayFault, replies};
 use ti_types::{Answer, Entry, EnvNo, Frame, Limits};
 
 /// An entry that an agent left, and what it got.
-pub type Row = (Entry, Got);
+#[derive(Clone, Copy)]
+pub struct Note {
+    /// The place of the entry in the history.
+    pub place: u32,
+    pub got: Got,
+}
 
 /// What a history tells its agents: for each agent the entries that it left with what they got, and how many of its calls
 /// it has spent. The frames of all answers stand in one list, those of a thread that stands still once.
 #[derive(Drop)]
-pub struct Book {
-    pub rows: Vec<Listed<Row>>,
+pub struct Book<'a> {
+    /// The history.
+    pub entries: &'a [Entry],
+    pub rows: Vec<Listed<Note>>,
     pub frames: Vec<Frame>,
     pub spent: Vec<usize>,
 }
 
-impl Book {
+impl Book<'_> {
     /// How many entries an agent left.
     #[tactic(auto, using(crate::proofs::BookLaws::rows_long))]
     pub fn rows_by(&self, env: EnvNo) -> usize
-        ensures { result ≡ length (rows_at self.now.frames.items self.now.rows.items env) }
+        ensures { result ≡ length (rows_at self.now.entries.now self.now.frames.items self.now.rows.items env) }
     {
         let index = env.0 as usize;
         if index < self.rows.len() {
@@ -94,7 +102,7 @@ fn payer(entry: Entry) -> Option<u32>
 
 /// Adds a row to an agent's rows, where there is such an agent.
 #[inline(always)]
-fn add_row(rows: &mut Vec<Listed<Row>>, index: usize, row: Row) -> Result<(), AllocError>
+fn add_row(rows: &mut Vec<Listed<Note>>, index: usize, row: Note) -> Result<(), AllocError>
     ensures length { length rows.new.items ≡ length rows.old.items }
     ensures rows { OnOk result ((k : ℕ) → k < length rows.old.items → slice_index_or rows.new.items k [] ≡ with_row rows.old.items index row k) }
 {
@@ -106,7 +114,7 @@ fn add_row(rows: &mut Vec<Listed<Row>>, index: usize, row: Row) -> Result<(), Al
 
 /// As many agents as there are counts, without rows, but with room for so many each.
 #[tactic(auto, using(crate::proofs::BookLaws::none_more))]
-fn no_rows(alloc: Global, counts: &[usize]) -> Result<Vec<Listed<Row>>, AllocError>
+fn no_rows(alloc: Global, counts: &[usize]) -> Result<Vec<Listed<Note>>, AllocError>
     ensures length { IfOk result (λ r. length r.items ≡ length counts.now) }
     ensures rows { IfOk result (λ r. (k : ℕ) → slice_index_or r.items k [] ≡ []) }
 {
@@ -140,33 +148,39 @@ fn made(alloc: Global, limits: Limits, entries: &[Entry]) -> Result<Vec<usize>, 
     Ok(counts)
 }
 
-/// Adds an entry, and what it got, to the rows of the agent that left it.
+/// Adds the entry at a place of a history, and what it got, to the rows of the agent that left it.
 #[inline(always)]
 fn take_row(
-    rows: &mut Vec<Listed<Row>>,
+    rows: &mut Vec<Listed<Note>>,
     frames: &mut Vec<Frame>,
-    entry: Entry,
+    entries: &[Entry],
+    at: usize,
     reply: &Option<Answer>,
 ) -> Result<(), AllocError>
+    requires place { at < length entries.now }
+    requires few { at < 2 ^ 32 }
     ensures agents { OnOk result (length rows.new.items ≡ length rows.old.items) }
-    ensures rows { OnOk result ((e : EnvNo) → e.0 < length rows.old.items → (known : List (Entry × Option Answer)) → ((more : List Frame) → rows_at (frames.old.items ++ more) rows.old.items e ≡ known) → (more : List Frame) → rows_at (frames.new.items ++ more) rows.new.items e ≡ known ++ (if is_left_by e entry then (entry, granted entry (option_map said reply.now)) ∷ [] else [])) }
+    ensures rows { OnOk result ((e : EnvNo) → e.0 < length rows.old.items → (known : List (Entry × Option Answer)) → ((more : List Frame) → rows_at entries.now (frames.old.items ++ more) rows.old.items e ≡ known) → (more : List Frame) → rows_at entries.now (frames.new.items ++ more) rows.new.items e ≡ known ++ (if is_left_by e (get_or entries.now at Start) then (get_or entries.now at Start, granted (get_or entries.now at Start) (option_map said reply.now)) ∷ [] else [])) }
 {
+    let entry = entries[at];
     let Some(env) = maker(entry) else {
         return Ok(());
     };
     let got = grant(frames, entry, reply)?;
-    add_row(rows, env as usize, (entry, got))?;
+    let place = at as u32;
+    add_row(rows, env as usize, Note { place, got })?;
     Ok(())
 }
 
 /// The rows of all agents, and the frames in them.
 #[derive(Drop)]
 struct Table {
-    rows: Vec<Listed<Row>>,
+    rows: Vec<Listed<Note>>,
     frames: Vec<Frame>,
 }
 
-/// What each agent left in this history, and got, where these are the replies of all places.
+/// What each agent left in this history, and got, where these are the replies of all places. The error is lack of memory,
+/// and a history of more than 2^32 - 1 entries.
 #[tactic(auto, using(crate::proofs::BookLaws::rows_of_take))]
 fn noted(
     alloc: Global,
@@ -176,13 +190,16 @@ fn noted(
 ) -> Result<Table, AllocError>
     requires places { length replies.now ≡ length entries.now }
     requires replies { (place : ℕ) → told_at replies.now place ≡ reply limits entries.now place }
-    ensures { IfOk result (λ r. (e : EnvNo) → e.0 < limits.envs → rows_at r.frames.items r.rows.items e ≡ got limits e entries.now) }
+    ensures { IfOk result (λ r. (e : EnvNo) → e.0 < limits.envs → rows_at entries.now r.frames.items r.rows.items e ≡ got limits e entries.now) }
 {
+    if entries.len() > u32::MAX as usize {
+        return Err(AllocError);
+    }
     let counts = made(alloc, limits, entries)?;
     let mut rows = no_rows(alloc, &counts)?;
     let mut frames = Vec::new(alloc);
     for at in 0..entries.len() {
-        take_row(&mut rows, &mut frames, entries[at], &replies[at])?;
+        take_row(&mut rows, &mut frames, entries, at, &replies[at])?;
     }
     Ok(Table { rows, frames })
 }
@@ -216,11 +233,11 @@ fn spent(alloc: Global, limits: Limits, entries: &[Entry]) -> Result<Vec<usize>,
 }
 
 /// What a history tells its agents, and None where the history is not legal. The error is lack of memory.
-pub fn read_book(
+pub fn read_book<'a>(
     alloc: Global,
     limits: Limits,
-    entries: &[Entry],
-) -> Result<Option<Book>, AllocError>
+    entries: &'a [Entry],
+) -> Result<Option<Book<'a>>, AllocError>
     ensures legal { IfOk result (λ b. IfSome b (λ b. is_legal limits entries.now ≡ true)) }
     ensures illegal { IfOk result (λ b. IfNone b (is_legal limits entries.now ≡ false)) }
     ensures book { IfOk result (λ b. IfSome b (IsBook limits entries.now)) }
@@ -230,6 +247,7 @@ pub fn read_book(
             let Table { rows, frames } = noted(alloc, limits, entries, &replies)?;
             let spent = spent(alloc, limits, entries)?;
             Ok(Some(Book {
+                entries,
                 rows,
                 frames,
                 spent,

@@ -39,7 +39,7 @@ fn is_refusal(reply: &Reply, error: TiError) -> bool
 fn one_fits(
     account: &mut Account,
     limits: Limits,
-    books: &[Book],
+    books: &[Book<'_>],
     wanting: bool,
     events: &[Event],
     answer: &Answer,
@@ -79,7 +79,7 @@ fn events_to_check(
 fn reply_fits(
     account: &mut Account,
     limits: Limits,
-    books: &[Book],
+    books: &[Book<'_>],
     wanting: bool,
     call: &AgentCall,
     events: &[Event],
@@ -151,7 +151,7 @@ pub fn call_fits(
     alloc: Global,
     account: &mut Account,
     limits: Limits,
-    books: &[Book],
+    books: &[Book<'_>],
     call: &AgentCall,
     reply: &Reply,
 ) -> Result<bool, AllocError>

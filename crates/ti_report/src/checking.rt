@@ -12,7 +12,7 @@ use ti_types::{Call, Event, Limits, ThreadNo};
 pub fn codes_fit(
     account: &mut Account,
     limits: Limits,
-    books: &[Book],
+    books: &[Book<'_>],
     wanting: bool,
     threads: &[ThreadNo],
     call: Call,

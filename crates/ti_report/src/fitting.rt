@@ -17,11 +17,11 @@ use ti_live::{AgentCall, Listed, LiveReport, Refusal, Reply, Script};
 use ti_types::{Entry, EnvNo, Event, Limits};
 
 /// What the histories of all threads tell their agents, and None where one of them is not legal.
-fn read_books(
+fn read_books<'a>(
     alloc: Global,
     limits: Limits,
-    histories: &[Listed<Entry>],
-) -> Result<Option<Vec<Book>>, AllocError>
+    histories: &'a [Listed<Entry>],
+) -> Result<Option<Vec<Book<'a>>>, AllocError>
     requires { length histories.now ≡ limits.threads }
     ensures some { IfOk result (λ r. IfSome r (λ books. AreBooks limits histories.now books.items)) }
     ensures legal { IfOk result (λ r. IfSome r (λ books. (t : ThreadNo) → t.0 < limits.threads → is_legal limits (history_at histories.now t) ≡ true)) }
@@ -41,7 +41,7 @@ fn read_books(
 fn agents_fit(
     alloc: Global,
     limits: Limits,
-    books: &[Book],
+    books: &[Book<'_>],
     spent: bool,
     calls: &[Listed<AgentCall>],
     replies: &[Listed<Reply>],

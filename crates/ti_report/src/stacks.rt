@@ -48,7 +48,7 @@ fn behind_stack(
 fn next_stack(
     account: &Account,
     limits: Limits,
-    books: &[Book],
+    books: &[Book<'_>],
     why: Option<TiError>,
     event: Event,
     live: bool,
@@ -76,7 +76,7 @@ fn next_stack(
 pub fn stacks_fit(
     account: &mut Account,
     limits: Limits,
-    books: &[Book],
+    books: &[Book<'_>],
     wanting: bool,
     events: &[Event],
     live: bool,

@@ -34,6 +34,14 @@ impl Names {
         }
     }
 
+    /// No names, with room for this many. The error is lack of memory for it.
+    pub fn with_room(alloc: Global, room: usize) -> Result<Self, AllocError>
+        ensures { IfOk result (λ names. names ≡ []) }
+    {
+        let set = IndexSet::with_capacity(alloc, room)?;
+        Ok(Names { set })
+    }
+
     /// How many names there are, at most 65,536.
     pub fn len(&self) -> usize
         ensures length { result ≡ length self.now }

@@ -48,17 +48,18 @@ use ti_types::{
 pub struct Slot {
     limits: Limits,
     number: ThreadNo,
+    // What calls change stands together, so that little memory goes from one processor to another with the slot.
     condition: Condition,
+    history: Vec<Entry>,
+    /// What each environment has asked and spent.
+    costs: Vec<Costs>,
+    /// What the thread has spent of its own entries.
+    own: u32,
+    ops: PendingOps,
     /// None exactly while the thread runs, which has them then.
     frames: Option<Frames>,
     /// None from the start on: the thread has it then.
     log: Option<Log>,
-    /// What the thread has spent of its own entries.
-    own: u32,
-    /// What each environment has asked and spent.
-    costs: Vec<Costs>,
-    ops: PendingOps,
-    history: Vec<Entry>,
 }
 
 impl Model for Slot {
@@ -83,8 +84,8 @@ impl Slot {
     {
         let frames = Frames::new(alloc, limits.depth)?;
         let log = Log::new(alloc, limits.own)?;
-        let ops = PendingOps::new(alloc, limits.envs, limits.calls)?;
         let words = WordList::zeros(alloc, limits.envs as usize)?;
+        let ops = PendingOps::new(alloc, limits.envs, limits.calls)?;
         let costs = vec![in alloc; Costs { asked: 0, calls: 0 }; limits.envs as usize]?;
         let all_calls = limits.envs as usize * limits.calls as usize;
         let history = Vec::with_capacity(alloc, limits.own as usize + 4 * all_calls + 2)?;

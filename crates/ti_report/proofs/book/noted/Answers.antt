@@ -25,6 +25,6 @@ loop-at-preserved c =
 
 pub returns : goal.returns
 returns c e within =
-    ap (λ l. rows_at l c.loop-at.rows.items e) (sym (append-nil c.loop-at.frames.items))
+    ap (λ l. rows_at c.args.entries.now l c.loop-at.rows.items e) (sym (append-nil c.loop-at.frames.items))
     ∙ c.loop-at.invariant.rows e within []
     ∙ ap (rows_of c.args.limits c.args.entries.now e) (take_all c.loop-at.at c.args.entries.now c.loop-at-test.false)
