@@ -1,5 +1,5 @@
 -- No call of an environment moves a desk to another cell.
-use Rattle.std.proofs.Common.{◌≡◌, ℕ, zero, suc, Bool, true, false, List, [], ◌∷◌, length, map, refl, ap, sym, ◌∙◌, arith, Option, Some, None, slice_set}
+use Rattle.std.proofs.Common.{◌≡◌, ℕ, zero, suc, Bool, true, false, List, [], ◌∷◌, length, refl, ap, sym, ◌∙◌, arith, Option, Some, None, slice_set}
 use Rattle.std.specs.Prelude.{slice_get, ℤ, Result, Ok, Err, IfOk, IfErr, OnErr}
 use Rattle.atomic_table.specs.Seated.{TableId}
 use Rattle.ti_types.specs.declared.answer.Answer.{Answer}
@@ -15,8 +15,8 @@ use Rattle.ti_handshake.specs.Desk.{Place}
 use Rattle.ti_vmop.specs.Turns.{Listed, AtDesk, AtEach, is_listed}
 use Rattle.ti_vmop.specs.declared.standing.Round.{Round}
 use Rattle.ti_agent.specs.Env.{Environment, cells_at}
-use Rattle.ti_agent.specs.Asks.{Went, IsCalled, IsCalledBy, refusal_of}
-use Rattle.ti_agent.specs.Lists.{Posts, Collects, IsPosted, IsPostedBy, PostsEach, IsCollected, CollectsEach, WentEach}
+use Rattle.ti_agent.specs.Asks.{IsCalled, IsCalledBy, refusal_of}
+use Rattle.ti_agent.specs.Lists.{IsPosted, IsPostedBy, PostsEach, IsCollected, CollectsEach, WentEach}
 use Rattle.ti_agent.specs.declared.lists.Posted.{Posted}
 use Rattle.ti_agent.specs.declared.lists.Posted.TheVariants.{Code, Waits}
 use Rattle.ti_agent.specs.Traces.{Telling, ReadsEach, IsTraced, TracesAlive}

@@ -1,5 +1,5 @@
 -- Tables of rows, and how they grow with a history.
-use Rattle.std.proofs.Common.{◌≡◌, ℕ, append-nil, append_assoc, length-take, zero, suc, ◌+◌, ◌<◌, ◌≤◌, ◌==◌, List, [], ◌∷◌, ◌++◌, length, map, refl, ap, ◌∙◌, arith, Option, Some, slice_get, slice_index_or, slice_set, get_or, take, if◌then◌else◌, inl, inr}
+use Rattle.std.proofs.Common.{◌≡◌, ℕ, append-nil, append_assoc, length-take, zero, suc, ◌+◌, ◌<◌, ◌==◌, List, [], ◌∷◌, ◌++◌, length, map, refl, ap, ◌∙◌, arith, Option, Some, slice_get, slice_index_or, get_or, take, if◌then◌else◌, inl, inr}
 use Rattle.std.specs.Option.{option_map}
 use Rattle.std.specs.List.{filter, enumerate_from}
 use Rattle.std.proofs.lemmas.Bool.{cases_Bool}

@@ -7,7 +7,6 @@ use Rattle.ti_types.specs.declared.numbers.ThreadNo.{ThreadNo}
 use Rattle.ti_types.specs.declared.entry.Entry.{Entry}
 use Rattle.ti_types.specs.declared.event.Event.{Event}
 use Rattle.ti_types.specs.declared.event.Event.TheVariants.{Start, Own, Poll, ToNative, ToBlocked, Back, End, Ask, Stop, Read, Go, AddCaps, Relinquish, GetCaps, SetEnvWord, GetEnvWord}
-use Rattle.ti_types.specs.declared.call.Call.{Call}
 use Rattle.ti_types.specs.declared.call.Call.TheVariants.{Suspend, Resume}
 use Rattle.ti_types.specs.declared.answer.Answer.{Answer}
 use Rattle.ti_types.specs.declared.answer.Answer.TheVariants.{Done, State, Count, Trace, Location, Word, Caps, Stack, Refused}
@@ -25,7 +24,7 @@ use Rattle.ti_types.specs.Numbers.{is_not_negative}
 use Rattle.ti_types.specs.Refusing.{or_else, unless}
 use Rattle.ti_report.proofs.EventLaws.{all_from, all_alike}
 use Rattle.ti_report.specs.Doings.{events_of, wants, refused_whole, can_pay, times, once, looks, every_thread, done_by, all_done}
-use Rattle.ti_report.specs.Told.{is_call, used, got, history_at}
+use Rattle.ti_report.specs.Told.{used, got, history_at}
 use Rattle.ti_replay.specs.Admission.{Happening}
 use Rattle.ti_types.specs.declared.stack.StackInfo.{StackInfo}
 use Rattle.std.proofs.lemmas.List.{get_or-replicate, length-replicate}

@@ -265,11 +265,11 @@ impl Slot {
             push(&mut self.history, entry);
             Asked::Waiting(ticket)
         } else {
+            push(&mut self.history, entry);
             let told = answer(&self.condition, &self.frames, &self.limits, env, call, buf);
             take_at_once(&mut self.condition, &mut self.frames, env, call);
             self.ops.pass(env);
             charge(&mut self.costs, entry);
-            push(&mut self.history, entry);
             Asked::Answered(told)
         }
     }

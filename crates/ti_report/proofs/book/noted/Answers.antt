@@ -1,10 +1,8 @@
-use Rattle.std.proofs.Common.{◌≡◌, ap, sym, ◌∙◌, arith, rules, append-nil, take, []}
+use Rattle.std.proofs.Common.{◌≡◌, ap, sym, ◌∙◌, arith, append-nil, take, []}
 use Rattle.std.proofs.lemmas.List.{take_all}
 use Rattle.std.specs.Option.{option_map}
 use Rattle.ti_types.specs.Answer.{said}
-use Rattle.ti_types.specs.declared.answer.Answer.{Answer}
 use Rattle.ti_replay.specs.Replies.{reply}
-use Rattle.ti_report.specs.Told.{is_left_by, granted}
 use Rattle.ti_report.specs.Books.{rows_at, rows_of}
 use Rattle.ti_report.proofs.BookLaws.{told_here, rows_of_take}
 use Rattle.ti_report.proofs.book.noted.Goals as goal

@@ -1,5 +1,4 @@
-use Rattle.std.proofs.Common.{◌≡◌, get_or, ◌++◌, List, map, ap, ◌∙◌, arith, ◌==◌, subst, sym}
-use Rattle.ti_types.specs.declared.place.Frame.{Frame}
+use Rattle.std.proofs.Common.{◌≡◌, get_or, ◌++◌, map, ap, ◌∙◌, arith, ◌==◌}
 use Rattle.ti_types.specs.declared.entry.Entry.TheVariants.{Start}
 use Rattle.ti_report.specs.Told.{is_left_by}
 use Rattle.ti_report.specs.declared.book.Note.{Note}

@@ -1,6 +1,5 @@
-use Rattle.std.proofs.Common.{◌≡◌, Some, length, slice_get, slice_index, get_or, refl, sym, ap, ◌∙◌, arith, ltb-true}
+use Rattle.std.proofs.Common.{◌≡◌, Some, slice_get, slice_index, get_or, refl, sym, ap, ◌∙◌, arith, ltb-true}
 use Rattle.std.proofs.lemmas.Option.{slice_get_read, slice_get-get_or}
-use Rattle.ti_types.specs.declared.entry.Entry.TheVariants.{Start}
 use Rattle.ti_report.specs.declared.got.Got.TheVariants.{Nothing}
 use Rattle.ti_report.specs.declared.book.Note.{Note}
 use Rattle.ti_report.specs.Books.{rows_in}

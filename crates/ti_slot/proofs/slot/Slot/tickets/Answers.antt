@@ -1,7 +1,6 @@
-use Rattle.std.proofs.Common.{◌≡◌, ◌==◌, ◌&&◌, true, nat_lt, ap, subst, sym, ◌∙◌, arith}
+use Rattle.std.proofs.Common.{◌≡◌, ◌==◌, ◌&&◌, true, nat_lt, subst, sym, ◌∙◌, arith}
 use Rattle.ti_types.specs.declared.event.Ticket.{Ticket}
 use Rattle.ti_replay.specs.Legal.{asked_by}
-use Rattle.ti_ops.specs.Fates.{fate_of, is_open}
 use Rattle.ti_slot.specs.Thread.{Thread}
 use Rattle.ti_slot.specs.Waiting.{said_in}
 use Rattle.ti_slot.specs.Tickets.{has, asked_in, AreOnce}
