@@ -364,6 +364,10 @@ pub seen_few : (per : ℕ) (asked chunks : List ℕ) (items : List Fate) (env ca
 seen_few per asked chunks items env calls e h =
     omega (arith, h, ap length (listed_at (λ d. list_of per chunks items (get_or asked d 0) d) (length asked) env [] e), length-listed (λ m. get_or items (place_of per chunks env m) Gone) (get_or asked env 0))
 
+pub seen_long : (per : ℕ) (asked chunks : List ℕ) (items : List Fate) (env : ℕ) → env < length asked → length (get_or (lists_of per chunks items asked) env []) ≡ get_or asked env 0
+seen_long per asked chunks items env e =
+    ap length (listed_at (λ d. list_of per chunks items (get_or asked d 0) d) (length asked) env [] e) ∙ length-listed (λ m. get_or items (place_of per chunks env m) Gone) (get_or asked env 0)
+
 waits_not : Waiting ≡ Gone → ⊥
 waits_not e = cc
 

@@ -57,6 +57,14 @@ impl PendingOps {
         self.fates.waiting()
     }
 
+    /// How many calls an environment has asked, which is the number of its next one.
+    pub fn asked(&self, env: EnvNo) -> u32
+        requires { env.0 < length self.now.fates }
+        ensures { result ≡ length (fates_by env self.now.fates) }
+    {
+        self.fates.asked(env)
+    }
+
     /// Puts a call after those that wait. It is its environment's next one, and there is room for it.
     pub fn post(&mut self, ticket: Ticket, call: Call, buf: TraceBuf)
         requires env { ticket.env.0 < length self.old.fates }

@@ -62,6 +62,15 @@ impl FateTable {
         })
     }
 
+    /// How many calls an environment has asked.
+    #[inline]
+    pub fn asked(&self, env: EnvNo) -> u32
+        requires { env.0 < length self.now.lists }
+        ensures { result ≡ length (fates_by env self.now.lists) }
+    {
+        self.asked[env.0 as usize]
+    }
+
     /// Adds an environment's next call, for which there is room.
     #[inline]
     pub fn push(&mut self, env: EnvNo, fate: Place)

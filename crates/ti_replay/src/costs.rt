@@ -1,7 +1,7 @@
 //! What entries cost, and a table of it with a row for each environment.
-ghost use Rattle.std.specs.Prelude.{◌≡◌, ◌<◌, ◌^◌};
+ghost use Rattle.std.specs.Prelude.{◌≡◌, ◌<◌};
 ghost use Rattle.ti_replay.specs.Legal.{env_of as env_of_entry, own_cost as own_cost_of};
-ghost use Rattle.ti_replay.specs.Costs.{charged, costs_at, IsDue};
+ghost use Rattle.ti_replay.specs.Costs.{charged, IsDue};
 
 use ti_types::{Entry, EnvNo, Safe};
 
@@ -69,19 +69,5 @@ pub fn charge(costs: &mut [Costs], entry: Entry)
         }
         Entry::Start | Entry::Own(_) | Entry::Hand(_) | Entry::Back | Entry::End | Entry::Go(_) =>
             (),
-    }
-}
-
-/// How many calls an environment has asked, which is the number of its next call. It is 0 for one that the table does
-/// not have (this profile).
-pub fn asked(costs: &[Costs], env: EnvNo) -> u32
-    requires { (costs_at costs.now env).asked < 2 ^ 32 }
-    ensures { result ≡ (costs_at costs.now env).asked }
-{
-    let index = env.0 as usize;
-    if index < costs.len() {
-        costs[index].asked as u32
-    } else {
-        0
     }
 }

@@ -22,16 +22,14 @@ use Rattle.ti_frames.specs.Frames.{Stack}
 use Rattle.ti_ops.specs.Ops.{Ops, with_posted, with_fates}
 use Rattle.ti_ops.specs.declared.fate.Fate.{Fate}
 use Rattle.ti_ops.specs.declared.pending.Pending.{Pending}
-use Rattle.ti_replay.specs.declared.costs.Costs.{Costs}
 use Rattle.ti_replay.specs.Answers.{is_running, answer_of, stack_of}
 use Rattle.ti_replay.specs.Settling.{waits}
-use Rattle.ti_replay.specs.Legal.{Situation, is_legal, is_stopper, is_well_formed, is_not_negative, calls_spent, asked_by, ask_count, call_cost, call_cost_of}
+use Rattle.ti_replay.specs.Legal.{is_legal, is_stopper, is_well_formed, is_not_negative, calls_spent, asked_by, ask_count, call_cost, call_cost_of}
 use Rattle.ti_replay.specs.View.{view, called}
 use Rattle.ti_replay.specs.Replies.{reply}
-use Rattle.ti_replay.specs.Costs.{charged, costs_at}
-use Rattle.ti_replay.specs.HistoryState.{HistoryState}
-use Rattle.ti_replay.specs.PlacedState.{placed_state}
-use Rattle.ti_replay.proofs.CostLaws.{is_legal-snoc, situation_is}
+use Rattle.ti_replay.specs.Costs.{charged}
+use Rattle.ti_replay.specs.HistoryState.{history_state}
+use Rattle.ti_replay.proofs.CostLaws.{is_legal-snoc}
 use Rattle.ti_replay.proofs.LateStepLaws.{called_keeps}
 use Rattle.ti_replay.proofs.PlaceLaws.{reply_at_once, reply_later, reply_past}
 use Rattle.ti_replay.proofs.AskingLaws.{reply-snoc}
@@ -39,7 +37,7 @@ use Rattle.ti_slot.specs.declared.condition.Condition.{Condition}
 use Rattle.ti_slot.specs.declared.slot.Slot.TheInside.{Inside}
 use Rattle.ti_slot.specs.Condition.{view_of, frames_or, AreWhereTheyWere}
 use Rattle.ti_slot.specs.Waiting.{entry_of, entries_of, calls_of, AreReady, IsBufferOf}
-use Rattle.ti_slot.specs.Inside.{IsSlot, thread_in}
+use Rattle.ti_slot.specs.Inside.{IsSlot, costs_in, thread_in}
 use Rattle.ti_slot.specs.Thread.{Thread, IsAsked, read_answer}
 use Rattle.ti_types.specs.declared.event.Event.TheVariants as event
 use Rattle.ti_replay.specs.Events.{hold_refusal}
@@ -65,17 +63,6 @@ asked_le : (env : EnvNo) (history : List Entry) → asked_by env history ≤ cal
 asked_le env [] = omega arith
 asked_le env (x ∷ history) = omega (arith, asked_le env history, asked_one env x, sum_by-cons (ask_count env) x history, sum_by-cons (call_cost env) x history)
 
--- the table has the number of the next call
-pub asked_here : (a : Inside) (env : EnvNo) → IsSlot a → env.0 < a.limits.envs → (costs_at a.costs.items env).asked ≡ asked_by env a.history.items
-asked_here a env s he =
-    let e : (placed_state a.limits a.history.items).costs ≡ a.costs.items = ap (λ (t : HistoryState). t.costs) s.state in
-    ap (λ t. (costs_at t env).asked) (sym e) ∙ ap (λ (t : Situation). t.asked) (situation_is a.limits a.history.items env he)
-
-pub asked_few : (a : Inside) (t : Thread) (env : EnvNo) → IsSlot a → thread_in a ≡ t → env.0 < t.limits.envs → calls_spent env t.history < t.limits.calls → (costs_at a.costs.items env).asked < 1024
-asked_few a t env s e he hc =
-    let h = may_call a t env e he hc in
-    omega (arith, h.1, asked_here a env s h.0, asked_le env a.history.items, a.limits.in_range)
-
 -- there is a number left for the next call
 pub asked_less : (a : Inside) (env : EnvNo) → IsSlot a → calls_spent env a.history.items < a.limits.calls → asked_by env a.history.items < a.ops.calls
 asked_less a env s hc = omega (arith, asked_le env a.history.items, s.ops_calls)
@@ -97,20 +84,20 @@ pub put_off_is : (a : Inside) (call : Call) → IsSlot a → (waits call && is_r
 put_off_is a call s = ap (λ (v : ThreadView). waits call && is_running v.mode) (view_is a s)
 
 -- the slot after a call that waits
-pub asked_waits : (a : Inside) (env : EnvNo) (n : ℕ) (call : Call) (thread : ThreadNo) (buf : buffer.Trace) (h : Vec Entry) (costs : List Costs) (ops : Ops)
-    → IsSlot a → May a (Asked env n call) → (waits call && is_running a.condition.mode) ≡ true → h.items ≡ a.history.items ++ Asked env n call ∷ [] → vec_capacity a.history ≤ vec_capacity h → costs ≡ charged a.costs.items (Asked env n call)
+pub asked_waits : (a : Inside) (env : EnvNo) (n : ℕ) (call : Call) (thread : ThreadNo) (buf : buffer.Trace) (h : Vec Entry) (ops : Ops)
+    → IsSlot a → May a (Asked env n call) → (waits call && is_running a.condition.mode) ≡ true → h.items ≡ a.history.items ++ Asked env n call ∷ [] → vec_capacity a.history ≤ vec_capacity h
     → ops ≡ with_posted a.ops (record { ticket = record { env = env; thread = thread; no = n }; call = call; buf = buf }) → IsBufferOf a.limits call buf
-    → Stands a.limits h.items (vec_capacity h) a.condition a.frames a.log a.own costs ops
-asked_waits a env n call thread buf h costs ops s may off e le ec eo b =
+    → Stands a.limits h.items (vec_capacity h) a.condition a.frames a.log a.own (history_state a.limits h.items).costs ops
+asked_waits a env n call thread buf h ops s may off e le eo b =
     let x = Asked env n call in
     let p : Pending = record { ticket = record { env = env; thread = thread; no = n }; call = call; buf = buf } in
     let w : waits call ≡ true = grind arith in
     let more : entries_of (a.ops.waiting ++ p ∷ []) ≡ entries_of a.ops.waiting ++ x ∷ [] = map-append entry_of a.ops.waiting (p ∷ []) in
     let count = length-append a.ops.waiting (p ∷ []) in
     let calls : list_all waits (calls_of (a.ops.waiting ++ p ∷ [])) ≡ true = grind (arith, s.calls, w, map-append (λ (q : Pending). q.call) a.ops.waiting (p ∷ []), list_all-append waits (calls_of a.ops.waiting) (call ∷ [])) in
-    rw eo (laws.goes a.limits a.history.items (vec_capacity a.history) a.condition a.frames a.log a.own a.costs.items a.ops x h.items (vec_capacity h) a.condition a.frames a.log a.own costs (with_posted a.ops p)
+    rw eo (laws.own_costs a.limits h.items (vec_capacity h) a.condition a.frames a.log a.own (charged (costs_in a) x) (with_posted a.ops p) (laws.goes a.limits a.history.items (vec_capacity a.history) a.condition a.frames a.log a.own (costs_in a) a.ops x h.items (vec_capacity h) a.condition a.frames a.log a.own (charged (costs_in a) x) (with_posted a.ops p)
     (frames_or a.frames (view a.limits a.history.items).frames) s may e le
-    (grind (arith, ec, off, more)) (laws.home a.frames (view a.limits a.history.items).frames) s.frames_home s.log_home refl refl (omega (arith, count)) (ready_more a.limits a.ops.waiting p s.ready b) calls)
+    (grind (arith, off, more)) (laws.home a.frames (view a.limits a.history.items).frames) s.frames_home s.log_home refl refl (omega (arith, count)) (ready_more a.limits a.ops.waiting p s.ready b) calls))
 
 -- frames that are where they were are at home there
 frames_stay : (limits : Limits) (m : Mode) (f g : Option Stack) → AreWhereTheyWere f g → FramesAreHome limits m f → FramesAreHome limits m g
@@ -120,17 +107,17 @@ frames_stay limits m (Some s) None same k = absurd same
 frames_stay limits m None (Some t) same k = absurd same
 
 -- the slot after a call that is answered at once
-pub answered : (a : Inside) (env : EnvNo) (n : ℕ) (call : Call) (h : Vec Entry) (costs : List Costs) (c : Condition) (g : Option Stack) (ops : Ops)
-    → IsSlot a → May a (Asked env n call) → (waits call && is_running a.condition.mode) ≡ false → h.items ≡ a.history.items ++ Asked env n call ∷ [] → vec_capacity a.history ≤ vec_capacity h → costs ≡ charged a.costs.items (Asked env n call)
+pub answered : (a : Inside) (env : EnvNo) (n : ℕ) (call : Call) (h : Vec Entry) (c : Condition) (g : Option Stack) (ops : Ops)
+    → IsSlot a → May a (Asked env n call) → (waits call && is_running a.condition.mode) ≡ false → h.items ≡ a.history.items ++ Asked env n call ∷ [] → vec_capacity a.history ≤ vec_capacity h
     → ((others : List Frame) → view_of c (frames_or g others) ≡ called (view_of a.condition (frames_or a.frames others)) env call) → AreWhereTheyWere a.frames g
     → (fates : List (List Fate)) → ops ≡ with_fates a.ops fates
-    → Stands a.limits h.items (vec_capacity h) c g a.log a.own costs ops
-answered a env n call h costs c g ops s may off e le ec vc stay fates eo =
+    → Stands a.limits h.items (vec_capacity h) c g a.log a.own (history_state a.limits h.items).costs ops
+answered a env n call h c g ops s may off e le vc stay fates eo =
     let x = Asked env n call in
     let f = (view a.limits a.history.items).frames in
     let same : c.mode ≡ a.condition.mode = ap (λ (v : ThreadView). v.mode) (vc []) ∙ (called_keeps (view_of a.condition (frames_or a.frames [])) env call).0 in
-    rw eo (laws.goes a.limits a.history.items (vec_capacity a.history) a.condition a.frames a.log a.own a.costs.items a.ops x h.items (vec_capacity h) c g a.log a.own costs (with_fates a.ops fates) (frames_or g f) s may e le
-    (grind (arith, ec, off, vc f)) (laws.home g f) (subst (λ m. FramesAreHome a.limits m g) (sym same) (frames_stay a.limits a.condition.mode a.frames g stay s.frames_home)) (subst (λ m. LogIsHome a.limits m a.log) (sym same) s.log_home) refl refl (omega arith) s.ready s.calls)
+    rw eo (laws.own_costs a.limits h.items (vec_capacity h) c g a.log a.own (charged (costs_in a) x) (with_fates a.ops fates) (laws.goes a.limits a.history.items (vec_capacity a.history) a.condition a.frames a.log a.own (costs_in a) a.ops x h.items (vec_capacity h) c g a.log a.own (charged (costs_in a) x) (with_fates a.ops fates) (frames_or g f) s may e le
+    (grind (arith, off, vc f)) (laws.home g f) (subst (λ m. FramesAreHome a.limits m g) (sym same) (frames_stay a.limits a.condition.mode a.frames g stay s.frames_home)) (subst (λ m. LogIsHome a.limits m a.log) (sym same) s.log_home) refl refl (omega arith) s.ready s.calls))
 
 pub replied : (a : Inside) (env : EnvNo) (n : ℕ) (call : Call) (h : List Entry) (told : Answer) → IsSlot a → (waits call && is_running a.condition.mode) ≡ false → h ≡ a.history.items ++ Asked env n call ∷ []
     → ((others : List Frame) → said told ≡ answer_of (view_of a.condition (frames_or a.frames others)) env call) → reply a.limits h (length a.history.items) ≡ Some (said told)
@@ -154,12 +141,12 @@ reads_here a t env n f s e he hc hn hs is =
     let hr : is_running a.condition.mode ≡ false = (subst (FramesAreHome a.limits a.condition.mode) is s.frames_home).0 in
     record { free = grind (arith, view_is a s, hs, hr); comes = comes a (Read env n) s (grind (arith, nat_tests, view_is a s, h.0, h.1)) }
 
-pub was_read : (a : Inside) (env : EnvNo) (n : ℤ) (h : Vec Entry) (costs : List Costs) → IsSlot a → May a (Read env n) → h.items ≡ a.history.items ++ Read env n ∷ [] → vec_capacity a.history ≤ vec_capacity h → costs ≡ charged a.costs.items (Read env n)
-    → Stands a.limits h.items (vec_capacity h) a.condition a.frames a.log a.own costs a.ops
-was_read a env n h costs s may e le ec =
-    laws.goes a.limits a.history.items (vec_capacity a.history) a.condition a.frames a.log a.own a.costs.items a.ops (Read env n) h.items (vec_capacity h) a.condition a.frames a.log a.own costs a.ops
+pub was_read : (a : Inside) (env : EnvNo) (n : ℤ) (h : Vec Entry) → IsSlot a → May a (Read env n) → h.items ≡ a.history.items ++ Read env n ∷ [] → vec_capacity a.history ≤ vec_capacity h
+    → Stands a.limits h.items (vec_capacity h) a.condition a.frames a.log a.own (history_state a.limits h.items).costs a.ops
+was_read a env n h s may e le =
+    laws.own_costs a.limits h.items (vec_capacity h) a.condition a.frames a.log a.own (charged (costs_in a) (Read env n)) a.ops (laws.goes a.limits a.history.items (vec_capacity a.history) a.condition a.frames a.log a.own (costs_in a) a.ops (Read env n) h.items (vec_capacity h) a.condition a.frames a.log a.own (charged (costs_in a) (Read env n)) a.ops
     (frames_or a.frames (view a.limits a.history.items).frames) s may e le
-    (grind (arith, ec)) (laws.home a.frames (view a.limits a.history.items).frames) s.frames_home s.log_home refl refl (omega arith) s.ready s.calls
+    (grind arith) (laws.home a.frames (view a.limits a.history.items).frames) s.frames_home s.log_home refl refl (omega arith) s.ready s.calls)
 
 pub reply_read : (limits : Limits) (history : List Entry) (env : EnvNo) (n : ℤ) → reply limits (history ++ Read env n ∷ []) (length history) ≡ Some (stack_of (view limits history) n)
 reply_read limits history env n =

@@ -12,22 +12,19 @@ use Rattle.ti_types.specs.declared.error.TiError.{TiError}
 use Rattle.ti_types.specs.declared.view.ThreadView.{ThreadView}
 use Rattle.ti_types.specs.declared.entry.Entry.{Entry}
 use Rattle.ti_types.specs.declared.entry.Entry.TheVariants.{Start, Hand, Back, End, Stop, Go}
-use Rattle.ti_replay.specs.declared.costs.Costs.{Costs}
 use Rattle.ti_replay.specs.Answers.{is_running}
 use Rattle.ti_replay.specs.Legal.{may_follow, is_new, is_safe, is_stopper, calls_spent, own_spent, goes_on, is_armed}
 use Rattle.ti_replay.specs.View.{view}
-use Rattle.ti_replay.specs.Costs.{charged, IsDue}
+use Rattle.ti_replay.specs.Costs.{charged}
 use Rattle.ti_types.specs.declared.limits.Limits.{Limits}
 use Rattle.ti_replay.specs.HistoryState.{HistoryState, history_state}
-use Rattle.ti_replay.specs.PlacedState.{placed_state}
-use Rattle.ti_replay.proofs.CostLaws.{due, may_follow_is}
 use Rattle.ti_frames.specs.Frames.{Stack}
 use Rattle.ti_replay.proofs.HistoryStateLaws.{history_state-snoc, may_follow-allows}
 use Rattle.ti_replay.proofs.Charging.{charged_free}
 use Rattle.ti_slot.specs.declared.condition.Condition.{Condition}
 use Rattle.ti_slot.specs.declared.slot.Slot.TheInside.{Inside}
 use Rattle.ti_slot.specs.Condition.{view_of, frames_or}
-use Rattle.ti_slot.specs.Inside.{IsSlot, thread_in}
+use Rattle.ti_slot.specs.Inside.{IsSlot, costs_in, thread_in}
 use Rattle.ti_slot.specs.Thread.{Thread}
 use Rattle.ti_slot.specs.Refusal.{hand_refusal}
 use Rattle.ti_replay.specs.LateTickets.{steps_of}
@@ -44,20 +41,16 @@ May a x = may_follow a.limits a.history.items x ≡ true
 pub view_is : (a : Inside) → IsSlot a → view a.limits a.history.items ≡ view_of a.condition (frames_or a.frames (view a.limits a.history.items).frames)
 view_is a s = ap (λ (t : HistoryState). t.view) s.state
 
--- what such an entry finds: there is room for it, and its costs are not at their bound
+-- what such an entry finds: there is room for it
 pub record Comes (a : Inside) (x : Entry) : Type 0 where
   pub may : May a x
   pub room : length a.history.items < vec_capacity a.history
-  pub due : IsDue a.costs.items x
 
 pub comes : (a : Inside) (x : Entry) → IsSlot a → May a x → Comes a x
-comes a x s may =
-    let e : (placed_state a.limits a.history.items).costs ≡ a.costs.items = ap (λ (t : HistoryState). t.costs) s.state in
-    record {
-      may = may;
-      room = laws.room_for a.limits a.history.items (vec_capacity a.history) a.condition a.frames a.log a.own a.costs.items a.ops x s may;
-      due = subst (λ t. IsDue t x) e (due a.limits (placed_state a.limits a.history.items) x (sym (may_follow_is a.limits a.history.items x) ∙ may));
-    }
+comes a x s may = record {
+  may = may;
+  room = laws.room_for a.limits a.history.items (vec_capacity a.history) a.condition a.frames a.log a.own (costs_in a) a.ops x s may;
+}
 
 -- an environment that may call the thread, by the fields
 pub may_call : (a : Inside) (t : Thread) (env : EnvNo) → thread_in a ≡ t → env.0 < t.limits.envs → calls_spent env t.history < t.limits.calls → (env.0 < a.limits.envs) × (calls_spent env a.history.items < a.limits.calls)
@@ -85,38 +78,38 @@ pub back_comes : (a : Inside) → IsSlot a → is_safe a.condition.mode ≡ true
 back_comes a s hm hu hs = comes a Back s (grind (arith, view_is a s))
 
 -- the fields after a stop
-pub stopped : (a : Inside) (env : EnvNo) (h : Vec Entry) (costs : List Costs) → IsSlot a → May a (Stop env) → h.items ≡ a.history.items ++ Stop env ∷ [] → vec_capacity a.history ≤ vec_capacity h → costs ≡ charged a.costs.items (Stop env)
-    → Stands a.limits h.items (vec_capacity h) (record { mode = a.condition.mode; suspended = a.condition.suspended; stopper = Some env; words = a.condition.words }) a.frames a.log a.own costs a.ops
-stopped a env h costs s may e le ec =
-    laws.goes a.limits a.history.items (vec_capacity a.history) a.condition a.frames a.log a.own a.costs.items a.ops (Stop env) h.items (vec_capacity h) _ a.frames a.log a.own costs a.ops
+pub stopped : (a : Inside) (env : EnvNo) (h : Vec Entry) → IsSlot a → May a (Stop env) → h.items ≡ a.history.items ++ Stop env ∷ [] → vec_capacity a.history ≤ vec_capacity h
+    → Stands a.limits h.items (vec_capacity h) (record { mode = a.condition.mode; suspended = a.condition.suspended; stopper = Some env; words = a.condition.words }) a.frames a.log a.own (history_state a.limits h.items).costs a.ops
+stopped a env h s may e le =
+    laws.own_costs a.limits h.items (vec_capacity h) _ a.frames a.log a.own (charged (costs_in a) (Stop env)) a.ops (laws.goes a.limits a.history.items (vec_capacity a.history) a.condition a.frames a.log a.own (costs_in a) a.ops (Stop env) h.items (vec_capacity h) _ a.frames a.log a.own (charged (costs_in a) (Stop env)) a.ops
     (frames_or a.frames (view a.limits a.history.items).frames) s may e le
-    (grind (arith, ec)) (laws.home a.frames (view a.limits a.history.items).frames) s.frames_home s.log_home refl refl (omega arith) s.ready s.calls
+    (grind arith) (laws.home a.frames (view a.limits a.history.items).frames) s.frames_home s.log_home refl refl (omega arith) s.ready s.calls)
 
 pub let_go : (a : Inside) (env : EnvNo) (h : Vec Entry) → IsSlot a → May a (Go env) → h.items ≡ a.history.items ++ Go env ∷ [] → vec_capacity a.history ≤ vec_capacity h
-    → Stands a.limits h.items (vec_capacity h) (record { mode = a.condition.mode; suspended = a.condition.suspended; stopper = None; words = a.condition.words }) a.frames a.log a.own a.costs.items a.ops
+    → Stands a.limits h.items (vec_capacity h) (record { mode = a.condition.mode; suspended = a.condition.suspended; stopper = None; words = a.condition.words }) a.frames a.log a.own (history_state a.limits h.items).costs a.ops
 let_go a env h s may e le =
-    laws.goes a.limits a.history.items (vec_capacity a.history) a.condition a.frames a.log a.own a.costs.items a.ops (Go env) h.items (vec_capacity h) _ a.frames a.log a.own a.costs.items a.ops
+    laws.own_costs a.limits h.items (vec_capacity h) _ a.frames a.log a.own (costs_in a) a.ops (laws.goes a.limits a.history.items (vec_capacity a.history) a.condition a.frames a.log a.own (costs_in a) a.ops (Go env) h.items (vec_capacity h) _ a.frames a.log a.own (costs_in a) a.ops
     (frames_or a.frames (view a.limits a.history.items).frames) s may e le
-    (grind (arith, charged_free a.costs.items (Go env))) (laws.home a.frames (view a.limits a.history.items).frames) s.frames_home s.log_home refl refl (omega arith) s.ready s.calls
+    (grind (arith, charged_free (costs_in a) (Go env))) (laws.home a.frames (view a.limits a.history.items).frames) s.frames_home s.log_home refl refl (omega arith) s.ready s.calls)
 
 -- the thread runs, and its frames are away
 pub started : (a : Inside) (h : Vec Entry) → IsSlot a → May a Start → h.items ≡ a.history.items ++ Start ∷ [] → vec_capacity a.history ≤ vec_capacity h
-    → Stands a.limits h.items (vec_capacity h) (record { mode = mode.Running; suspended = a.condition.suspended; stopper = a.condition.stopper; words = a.condition.words }) None None a.own a.costs.items a.ops
+    → Stands a.limits h.items (vec_capacity h) (record { mode = mode.Running; suspended = a.condition.suspended; stopper = a.condition.stopper; words = a.condition.words }) None None a.own (history_state a.limits h.items).costs a.ops
 started a h s may e le =
-    laws.goes a.limits a.history.items (vec_capacity a.history) a.condition a.frames a.log a.own a.costs.items a.ops Start h.items (vec_capacity h) _ None None a.own a.costs.items a.ops
+    laws.own_costs a.limits h.items (vec_capacity h) _ None None a.own (costs_in a) a.ops (laws.goes a.limits a.history.items (vec_capacity a.history) a.condition a.frames a.log a.own (costs_in a) a.ops Start h.items (vec_capacity h) _ None None a.own (costs_in a) a.ops
     (frames_or a.frames (view a.limits a.history.items).frames) s may e le
-    (grind (arith, charged_free a.costs.items Start)) refl refl refl refl refl (omega arith) s.ready s.calls
+    (grind (arith, charged_free (costs_in a) Start)) refl refl refl refl refl (omega arith) s.ready s.calls)
 
 pub returned : (a : Inside) (h : Vec Entry) → IsSlot a → May a Back → is_safe a.condition.mode ≡ true → h.items ≡ a.history.items ++ Back ∷ [] → vec_capacity a.history ≤ vec_capacity h
-    → Stands a.limits h.items (vec_capacity h) (record { mode = mode.Running; suspended = a.condition.suspended; stopper = a.condition.stopper; words = a.condition.words }) None a.log a.own a.costs.items a.ops
+    → Stands a.limits h.items (vec_capacity h) (record { mode = mode.Running; suspended = a.condition.suspended; stopper = a.condition.stopper; words = a.condition.words }) None a.log a.own (history_state a.limits h.items).costs a.ops
 returned a h s may safe e le =
-    laws.goes a.limits a.history.items (vec_capacity a.history) a.condition a.frames a.log a.own a.costs.items a.ops Back h.items (vec_capacity h) _ None a.log a.own a.costs.items a.ops
+    laws.own_costs a.limits h.items (vec_capacity h) _ None a.log a.own (costs_in a) a.ops (laws.goes a.limits a.history.items (vec_capacity a.history) a.condition a.frames a.log a.own (costs_in a) a.ops Back h.items (vec_capacity h) _ None a.log a.own (costs_in a) a.ops
     (frames_or a.frames (view a.limits a.history.items).frames) s may e le
-    (grind (arith, charged_free a.costs.items Back)) refl refl (laws.log_away a.limits a.condition.mode mode.Running a.log s.log_home safe refl) refl refl (omega arith) s.ready s.calls
+    (grind (arith, charged_free (costs_in a) Back)) refl refl (laws.log_away a.limits a.condition.mode mode.Running a.log s.log_home safe refl) refl refl (omega arith) s.ready s.calls)
 
 -- the frames that go out are those of the view
 pub frames_go : (a : Inside) (t : Thread) (x : Entry) (h : List Entry) (f : Stack) → IsSlot a → thread_in a ≡ t → a.frames ≡ Some f → h ≡ a.history.items ++ x ∷ []
-    → (next_state (state_of a.condition (frames_or a.frames (view a.limits a.history.items).frames) a.ops.waiting a.own a.costs.items) x).view.frames ≡ frames_or a.frames (view a.limits a.history.items).frames
+    → (next_state (state_of a.condition (frames_or a.frames (view a.limits a.history.items).frames) a.ops.waiting a.own (costs_in a)) x).view.frames ≡ frames_or a.frames (view a.limits a.history.items).frames
     → (f.frames ≡ (view a.limits h).frames) × (f.depth ≡ t.limits.depth)
 frames_go a t x h f s et is e keeps =
     let state = history_state-snoc a.limits a.history.items x ∙ ap (λ t. next_state t x) s.state in
@@ -129,15 +122,15 @@ at_mode c m = record { mode = m; suspended = c.suspended; stopper = c.stopper; w
 
 -- the logged steps enter the history of a running thread
 abbrev pub Ran : Inside → List Step → Type 0
-Ran a steps = Stands a.limits (a.history.items ++ steps_of steps) (vec_capacity a.history) a.condition None a.log (a.own + length steps) a.costs.items a.ops
+Ran a steps = Stands a.limits (a.history.items ++ steps_of steps) (vec_capacity a.history) a.condition None a.log (a.own + length steps) (costs_in a) a.ops
 
 pub runs_here : (a : Inside) → IsSlot a → is_running (view a.limits a.history.items).mode ≡ true → is_running a.condition.mode ≡ true
 runs_here a s r = sym (ap (λ (v : ThreadView). is_running v.mode) (view_is a s)) ∙ r
 
 pub ran : (a : Inside) (steps : List Step) → IsSlot a → is_running (view a.limits a.history.items).mode ≡ true → goes_on a.limits a.history.items (steps_of steps) ≡ true → Ran a steps
 ran a steps s r g =
-    let here = subst (λ f. Stands a.limits a.history.items (vec_capacity a.history) a.condition f a.log a.own a.costs.items a.ops) (laws.away a.limits a.condition.mode a.frames s.frames_home (runs_here a s r)) s in
-    laws.steps_stand a.limits a.history.items (vec_capacity a.history) a.condition a.log a.own a.costs.items a.ops steps here g
+    let here = subst (λ f. Stands a.limits a.history.items (vec_capacity a.history) a.condition f a.log a.own (costs_in a) a.ops) (laws.away a.limits a.condition.mode a.frames s.frames_home (runs_here a s r)) s in
+    laws.steps_stand a.limits a.history.items (vec_capacity a.history) a.condition a.log a.own (costs_in a) a.ops steps here g
 
 pub ran_own : (a : Inside) (steps : List Step) → Ran a steps → (own_spent (a.history.items ++ steps_of steps) ≡ a.own + length steps) × (a.own + length steps ≤ a.limits.own)
 ran_own a steps s =
@@ -164,7 +157,7 @@ length-steps (x ∷ steps) = grind (arith, length-steps steps)
 
 pub ran_room : (a : Inside) (steps : List Step) (x : Entry) → Ran a steps → may_follow a.limits (a.history.items ++ steps_of steps) x ≡ true → length a.history.items + length steps < vec_capacity a.history
 ran_room a steps x s may =
-    let r = laws.room_for a.limits (a.history.items ++ steps_of steps) (vec_capacity a.history) a.condition None a.log (a.own + length steps) a.costs.items a.ops x s may in
+    let r = laws.room_for a.limits (a.history.items ++ steps_of steps) (vec_capacity a.history) a.condition None a.log (a.own + length steps) (costs_in a) a.ops x s may in
     omega (arith, r, length-append a.history.items (steps_of steps), length-steps steps)
 
 -- the steps enter the history, and there is room for one entry more

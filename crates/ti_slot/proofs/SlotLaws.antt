@@ -85,6 +85,10 @@ module _ (limits : Limits) (h : List Entry) (cap : ℕ) (c : Condition) (f : Opt
         calls = calls;
       })
 
+  -- the costs are those that the history has
+  pub own_costs : Stands limits h cap c f l own costs ops → Stands limits h cap c f l own (history_state limits h).costs ops
+  own_costs s = subst (λ z. Stands limits h cap c f l own z ops) (sym (ap (λ (t : HistoryState). t.costs) s.state)) s
+
 -- calls that wait are waiting calls
 pub calls_wait : (waiting : List Pending) → list_all waits (calls_of waiting) ≡ true → list_all is_waiting_call (entries_of waiting) ≡ true
 calls_wait [] k = refl
@@ -138,13 +142,13 @@ serve_stands limits h cap cap' c c' l own own' costs ops ops' x m fr fr' h' s ma
     (let z : length ops'.waiting ≡ 0 = ap length none in omega (arith, z)) (rw none tt) (rw none refl)
 
 -- a thread that has not started
-pub new_stands : (limits : Limits) (h : List Entry) (cap : ℕ) (words : List ℕ) (f : Stack) (l : Steps) (costs : List Costs) (ops : Ops) → h ≡ [] → room_of limits ≤ cap → words ≡ replicate limits.envs 0
-    → f.frames ≡ [] → f.depth ≡ limits.depth → l.steps ≡ [] → l.room ≡ limits.own → costs ≡ replicate limits.envs no_costs → ops.waiting ≡ [] → ops.room ≡ limits.envs * limits.calls → ops.calls ≡ limits.calls
-    → Stands limits h cap (record { mode = mode.New; suspended = false; stopper = None; words = words }) (Some f) (Some l) 0 costs ops
-new_stands limits h cap words f l costs ops eh le ew ff fd ls lr ec none room few =
-    rw eh (record {
+pub new_stands : (limits : Limits) (h : List Entry) (cap : ℕ) (words : List ℕ) (f : Stack) (l : Steps) (ops : Ops) → h ≡ [] → room_of limits ≤ cap → words ≡ replicate limits.envs 0
+    → f.frames ≡ [] → f.depth ≡ limits.depth → l.steps ≡ [] → l.room ≡ limits.own → ops.waiting ≡ [] → ops.room ≡ limits.envs * limits.calls → ops.calls ≡ limits.calls
+    → Stands limits h cap (record { mode = mode.New; suspended = false; stopper = None; words = words }) (Some f) (Some l) 0 (history_state limits h).costs ops
+new_stands limits h cap words f l ops eh le ew ff fd ls lr none room few =
+    own_costs limits h cap (record { mode = mode.New; suspended = false; stopper = None; words = words }) (Some f) (Some l) 0 (replicate limits.envs no_costs) ops (rw eh (record {
       legal = refl;
-      state = grind (arith, ew, ff, ec, none);
+      state = grind (arith, ew, ff, none);
       frames_home = (refl, fd);
       log_home = (refl, ls, lr);
       room = le;
@@ -153,4 +157,4 @@ new_stands limits h cap words f l costs ops eh le ew ff fd ls lr ec none room fe
       paid = let z : length ops.waiting ≡ 0 = ap length none in omega (arith, z);
       ready = rw none tt;
       calls = rw none refl;
-    })
+    }))

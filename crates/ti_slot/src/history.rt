@@ -1,9 +1,7 @@
-//! More entries of a history, and what they cost.
+//! More entries of a history.
 ghost use Rattle.std.specs.Prelude.{◌≡◌, ◌≤◌, ◌<◌, ◌+◌, ◌++◌, ◌∷◌, [], length, vec_capacity};
-ghost use Rattle.ti_replay.specs.Costs.{charged, IsDue};
 ghost use Rattle.ti_replay.specs.LateTickets.{steps_of};
 
-use ti_replay::Costs;
 use ti_types::{Entry, Step};
 
 /// Adds an entry, for which there is room.
@@ -28,12 +26,4 @@ pub fn push_steps(history: &mut Vec<Entry>, steps: &[Step])
     for step in steps {
         push(history, Entry::Own(*step));
     }
-}
-
-/// Charges an entry to its environment in the table of costs.
-pub fn charge(costs: &mut Vec<Costs>, entry: Entry)
-    requires { IsDue costs.old.items entry }
-    ensures { costs.new.items ≡ charged costs.old.items entry }
-{
-    ti_replay::costs::charge(costs.as_mut_slice(), entry);
 }

@@ -27,13 +27,12 @@ use crate::answering::{answer, serve, stack};
 use crate::asked::Asked;
 use crate::condition::{Condition, take_at_once};
 use crate::hand::refusal_of_hand;
-use crate::history::{charge, push, push_steps};
+use crate::history::{push, push_steps};
 use std::alloc::Global;
 use std::marker::Model;
 use ti_frames::{Frames, Log};
 use ti_ops::PendingOps;
-use ti_replay::Costs;
-use ti_replay::costs::{asked, own_cost};
+use ti_replay::costs::own_cost;
 use ti_replay::rules::{is_new, is_put_off, is_running, is_safe, is_stopper};
 use ti_types::{
     Answer, Call, Entry, EnvNo, Limits, Mode, Safe, ThreadNo, TiError, Ticket, TraceBuf, WordList,
@@ -51,8 +50,6 @@ pub struct Slot {
     // What calls change stands together, so that little memory goes from one processor to another with the slot.
     condition: Condition,
     history: Vec<Entry>,
-    /// What each environment has asked and spent.
-    costs: Vec<Costs>,
     /// What the thread has spent of its own entries.
     own: u32,
     ops: PendingOps,
@@ -86,7 +83,6 @@ impl Slot {
         let log = Log::new(alloc, limits.own)?;
         let words = WordList::zeros(alloc, limits.envs as usize)?;
         let ops = PendingOps::new(alloc, limits.envs, limits.calls)?;
-        let costs = vec![in alloc; Costs { asked: 0, calls: 0 }; limits.envs as usize]?;
         let all_calls = limits.envs as usize * limits.calls as usize;
         let history = Vec::with_capacity(alloc, limits.own as usize + 4 * all_calls + 2)?;
         Ok(Slot {
@@ -101,7 +97,6 @@ impl Slot {
             frames: Some(frames),
             log: Some(log),
             own: 0,
-            costs,
             ops,
             history,
         })
@@ -252,7 +247,7 @@ impl Slot {
         ensures asked { IsAsked self.old self.new env call result }
         ensures legal { is_legal self.new.limits self.new.history ≡ true }
     {
-        let no = asked(&self.costs, env);
+        let no = self.ops.asked(env);
         let entry = Entry::Asked(env, no, call);
         if is_put_off(self.condition.mode, call) {
             let ticket = Ticket {
@@ -261,7 +256,6 @@ impl Slot {
                 no,
             };
             self.ops.post(ticket, call, buf);
-            charge(&mut self.costs, entry);
             push(&mut self.history, entry);
             Asked::Waiting(ticket)
         } else {
@@ -269,7 +263,6 @@ impl Slot {
             let told = answer(&self.condition, &self.frames, &self.limits, env, call, buf);
             take_at_once(&mut self.condition, &mut self.frames, env, call);
             self.ops.pass(env);
-            charge(&mut self.costs, entry);
             Asked::Answered(told)
         }
     }
@@ -307,7 +300,6 @@ impl Slot {
             return Answer::Refused(TiError::StillRunning);
         };
         let told = stack(&self.condition, frames, max_count, buf);
-        charge(&mut self.costs, Entry::Read(env, max_count));
         push(&mut self.history, Entry::Read(env, max_count));
         told
     }
@@ -326,7 +318,6 @@ impl Slot {
             return Answer::Refused(TiError::AlreadyStopped);
         }
         self.condition.stopper = Some(env);
-        charge(&mut self.costs, Entry::Stop(env));
         push(&mut self.history, Entry::Stop(env));
         Answer::Done
     }
@@ -420,7 +411,6 @@ impl Slot {
             frames: _,
             log: _,
             own: _,
-            costs: _,
             ops: _,
             history,
         } = self;

@@ -1,4 +1,4 @@
-use Rattle.std.proofs.Common.{◌≡◌, ◌+◌, ◌*◌, length, ap, ◌∙◌, sym, arith, replicate, ◌++◌}
+use Rattle.std.proofs.Common.{◌≡◌, ◌+◌, length, ap, ◌∙◌, arith, replicate}
 use Rattle.std.proofs.lemmas.List.{length-append, length-replicate}
 use Rattle.ti_ops.specs.declared.fate.Fate.TheVariants.{Gone}
 use Rattle.ti_ops.specs.Chunks.{Chunks, padded}

@@ -1,4 +1,4 @@
-use Rattle.std.proofs.Common.{◌≡◌, ◌<◌, ◌≤◌, ◌+◌, ◌*◌, length, ap, ◌∙◌, subst, sym, arith}
+use Rattle.std.proofs.Common.{◌<◌, ◌≤◌, ◌+◌, ◌*◌, length, ap, ◌∙◌, subst, sym, arith}
 use Rattle.ti_ops.specs.Chunks.{Chunks, with_place, padded}
 use Rattle.ti_ops.specs.Rings.{fate_in}
 use Rattle.ti_ops.proofs.LateLaws.{put_in}

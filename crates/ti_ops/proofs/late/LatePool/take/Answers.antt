@@ -1,4 +1,4 @@
-use Rattle.std.proofs.Common.{◌≡◌, ◌<◌, ◌+◌, ◌*◌, length, ap, ◌∙◌, is_some, if◌then◌else◌, arith}
+use Rattle.std.proofs.Common.{◌<◌, ◌+◌, ◌*◌, length, ap, ◌∙◌, is_some, if◌then◌else◌, arith}
 use Rattle.ti_ops.specs.declared.fate.Fate.TheVariants as fate
 use Rattle.ti_ops.specs.Chunks.{Chunks, with_place, padded}
 use Rattle.ti_ops.proofs.LateLaws.{taken}

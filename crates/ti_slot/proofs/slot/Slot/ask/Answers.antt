@@ -1,31 +1,28 @@
 use Rattle.std.proofs.Common.{arith, sym, ◌∙◌}
-use Rattle.ti_slot.proofs.AskLaws.{asked_few}
-use Rattle.ti_slot.proofs.WholeLaws.{Asks, asks_here, now_whole, now_told, later_whole, later_told}
+use Rattle.ti_slot.proofs.CallLaws.{may_call}
+use Rattle.ti_slot.proofs.WholeLaws.{Asks, asks_here, lists_here, now_whole, now_told, later_whole, later_told}
 use Rattle.ti_slot.proofs.slot.Slot.ask.Goals.{After-asked-no}
 use Rattle.ti_slot.proofs.slot.Slot.ask.Goals as goal
 
 pub asked-no-requires : goal.asked-no-requires
-asked-no-requires c = rw c.deref.ensures.value (omega (arith, asked_few c.self.inside _ c.args.env c.self.invariant.0 c.self.view_is c.requires.env c.requires.calls))
+asked-no-requires c = omega (arith, lists_here c.self.inside c.self.invariant, (may_call c.self.inside _ c.args.env c.self.view_is c.requires.env c.requires.calls).0)
 
--- the call may be asked, with the number that the table has
+-- the call may be asked, with the number of fates that are there
 asks : (c : After-asked-no) → Asks c.self.inside c.args.env c.asked-no.result c.args.call
-asks c = asks_here c.self.inside _ c.args.env c.asked-no.result c.args.call _ c.self.invariant c.self.view_is c.requires.env c.requires.calls c.requires.well_formed c.deref.ensures.value c.asked-no.ensures
+asks c = asks_here c.self.inside _ c.args.env c.asked-no.result c.args.call c.self.invariant c.self.view_is c.requires.env c.requires.calls c.requires.well_formed c.asked-no.ensures
 
 pub post-requires : goal.post-requires
 post-requires c =
     let a = asks (goal.at.post-requires c).After-asked-no in
     record { env = a.listed; next = a.next; calls = a.left; room = a.room }
 
-pub charge-requires : goal.charge-requires
-charge-requires c = (asks (goal.at.charge-requires c).After-asked-no).comes.due
-
 pub push-requires : goal.push-requires
 push-requires c = (asks (goal.at.push-requires c).After-asked-no).comes.room
 
 pub invariant_of-self : goal.invariant_of-self
 invariant_of-self c =
-    later_whole c.self.inside _ c.args.env c.asked-no.result c.args.call c.args.buf c.push.new.history c.charge.new.costs.items c.post.new.self c.self.invariant c.self.view_is (asks (goal.at.invariant_of-self c).After-asked-no)
-    (sym c.is_put_off.ensures ∙ c.if-is_put_off.true) c.push.ensures.items c.push.ensures.capacity c.charge.ensures c.post.ensures c.requires.buf
+    later_whole c.self.inside _ c.args.env c.asked-no.result c.args.call c.args.buf c.push.new.history c.post.new.self c.self.invariant c.self.view_is (asks (goal.at.invariant_of-self c).After-asked-no)
+    (sym c.is_put_off.ensures ∙ c.if-is_put_off.true) c.push.ensures.items c.push.ensures.capacity c.post.ensures c.requires.buf
 
 pub returns-then-is_put_off-clause-asked : goal.returns-then-is_put_off-clause-asked
 returns-then-is_put_off-clause-asked c =
@@ -40,17 +37,14 @@ pass-requires c =
     let a = asks (goal.at.pass-requires c).After-asked-no in
     record { env = a.listed; calls = omega (arith, a.next, a.left) }
 
-pub charge-requires-else-is_put_off : goal.charge-requires-else-is_put_off
-charge-requires-else-is_put_off c = (asks (goal.at.charge-requires-else-is_put_off c).After-asked-no).comes.due
-
 pub push-requires-else-is_put_off : goal.push-requires-else-is_put_off
 push-requires-else-is_put_off c = (asks (goal.at.push-requires-else-is_put_off c).After-asked-no).comes.room
 
 pub invariant_of-self-else-is_put_off : goal.invariant_of-self-else-is_put_off
 invariant_of-self-else-is_put_off c =
     let push = c.push-else-is_put_off in
-    now_whole c.self.inside c.args.env c.asked-no.result c.args.call push.new.history c.charge-else-is_put_off.new.costs.items c.take_at_once.new.condition c.take_at_once.new.frames c.pass.new.self c.self.invariant (asks (goal.at.invariant_of-self-else-is_put_off c).After-asked-no)
-    (sym c.is_put_off.ensures ∙ c.if-is_put_off.false) push.ensures.items push.ensures.capacity c.charge-else-is_put_off.ensures c.take_at_once.ensures.view c.take_at_once.ensures.home c.pass.ensures
+    now_whole c.self.inside c.args.env c.asked-no.result c.args.call push.new.history c.take_at_once.new.condition c.take_at_once.new.frames c.pass.new.self c.self.invariant (asks (goal.at.invariant_of-self-else-is_put_off c).After-asked-no)
+    (sym c.is_put_off.ensures ∙ c.if-is_put_off.false) push.ensures.items push.ensures.capacity c.take_at_once.ensures.view c.take_at_once.ensures.home c.pass.ensures
 
 pub returns-else-is_put_off-clause-asked : goal.returns-else-is_put_off-clause-asked
 returns-else-is_put_off-clause-asked c =

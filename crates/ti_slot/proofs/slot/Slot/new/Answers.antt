@@ -1,4 +1,4 @@
-use Rattle.std.proofs.Common.{arith, rules}
+use Rattle.std.proofs.Common.{arith}
 use Rattle.ti_slot.proofs.SlotLaws.{new_stands}
 use Rattle.ti_slot.proofs.WholeLaws.{tells_nothing}
 use Rattle.ti_slot.proofs.slot.Slot.new.Goals as goal
@@ -9,8 +9,8 @@ invariant_of-result c =
     let h = c.in_ok-history.history in
     let ops = c.in_ok-ops.ops in
     let o = c.in_ok-ops.ensures in (
-      new_stands limits h.items _ c.in_ok-words.words c.in_ok-frames.frames c.in_ok-log.log c.in_ok-costs.costs.items ops c.in_ok-history.ensures.items
+      new_stands limits h.items _ c.in_ok-words.words c.in_ok-frames.frames c.in_ok-log.log ops c.in_ok-history.ensures.items
           (omega (arith, c.in_ok-history.ensures.exact)) c.in_ok-words.ensures c.in_ok-frames.ensures.frames c.in_ok-frames.ensures.depth c.in_ok-log.ensures.steps c.in_ok-log.ensures.room
-          (search rules) o.waiting o.room o.calls,
+          o.waiting o.room o.calls,
       rw (c.in_ok-history.ensures.items, o.waiting, o.fates) (tells_nothing limits c.args.number),
     )

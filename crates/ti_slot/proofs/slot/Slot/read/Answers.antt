@@ -3,7 +3,6 @@ use Rattle.std.proofs.lemmas.Int.{to_z-of_z}
 use Rattle.ti_types.specs.declared.entry.Entry.TheVariants.{Read}
 use Rattle.ti_types.specs.declared.event.Event.TheVariants as event
 use Rattle.ti_replay.specs.Answers.{stack_of}
-use Rattle.ti_replay.specs.Costs.{charged}
 use Rattle.ti_slot.specs.Condition.{view_of}
 use Rattle.ti_slot.proofs.AskLaws.{Reads, reads_here, was_read, read_told}
 use Rattle.ti_slot.proofs.WholeLaws.{plain_after, held_thread}
@@ -20,9 +19,6 @@ same c = to_z-of_z w32 c.args.max_count c.ranges.max_count
 pushed : (c : After-push) → c.push.new.history.items ≡ c.self.inside.history.items ++ Read c.args.env c.args.max_count ∷ []
 pushed c = c.push.ensures.items ∙ ap (λ m. c.self.inside.history.items ++ Read c.args.env m ∷ []) (same (goal.at.After-push c).In-Some)
 
-pub charge-requires : goal.charge-requires
-charge-requires c = (reads (goal.at.charge-requires c).In-Some).comes.due
-
 pub push-requires : goal.push-requires
 push-requires c = (reads (goal.at.push-requires c).In-Some).comes.room
 
@@ -30,7 +26,7 @@ pub invariant_of-self : goal.invariant_of-self
 invariant_of-self c =
     let i = c.self.inside in
     let p = (goal.at.invariant_of-self c).In-Some in (
-      was_read i c.args.env c.args.max_count c.push.new.history c.charge.new.costs.items c.self.invariant.0 (reads p).comes.may (pushed c) c.push.ensures.capacity (c.charge.ensures ∙ ap (λ m. charged i.costs.items (Read c.args.env m)) (same p)),
+      was_read i c.args.env c.args.max_count c.push.new.history c.self.invariant.0 (reads p).comes.may (pushed c) c.push.ensures.capacity,
       plain_after i (Read c.args.env c.args.max_count) c.push.new.history.items c.self.invariant refl (pushed c),
     )
 

@@ -9,15 +9,12 @@ use Rattle.ti_slot.proofs.slot.Slot.stop.Goals as goal
 stops : (c : Else-is_some) → Comes c.self.inside (Stop c.args.env)
 stops c = stop_comes c.self.inside _ c.args.env c.self.invariant.0 c.self.view_is c.requires.env c.requires.calls (sym c.is_some.ensures ∙ c.if-is_some.false)
 
-pub charge-requires : goal.charge-requires
-charge-requires c = (stops (goal.at.charge-requires c).Else-is_some).due
-
 pub push-requires : goal.push-requires
 push-requires c = (stops (goal.at.push-requires c).Else-is_some).room
 
 pub invariant_of-self : goal.invariant_of-self
 invariant_of-self c = (
-  stopped c.self.inside c.args.env c.push.new.history c.charge.new.costs.items c.self.invariant.0 (stops (goal.at.invariant_of-self c).Else-is_some).may c.push.ensures.items c.push.ensures.capacity c.charge.ensures,
+  stopped c.self.inside c.args.env c.push.new.history c.self.invariant.0 (stops (goal.at.invariant_of-self c).Else-is_some).may c.push.ensures.items c.push.ensures.capacity,
   plain_after c.self.inside (Stop c.args.env) c.push.new.history.items c.self.invariant refl c.push.ensures.items,
 )
 
