@@ -24,7 +24,7 @@ pub fn read_input<R: Read>(alloc: Global, reader: &mut R) -> Result<Vec<u8>, Fau
     ensures err { IfErr result (λ e. IsReadFault (R.remaining reader.old) e) }
 {
     let mut bytes = Vec::new(alloc);
-    let mut chunk = [0u8; 16384];
+    let mut chunk = [0u8; 4096];
     for _ in 0..MAX_READS {
         match reader.read(&mut chunk) {
             Ok(0) => return Ok(bytes),

@@ -6,7 +6,6 @@ use Rattle.std.proofs.lemmas.List.{length-append, length-set, length-replicate, 
 use Rattle.std.proofs.lemmas.List.Elements.{All-get_or, All-set, All-weaker}
 use Rattle.std.proofs.lemmas.List.Sums.{sum_by-set, sum_by-le}
 use Rattle.std.proofs.lemmas.Nat.{div-add-mod', mod_below, mul-add-lt, same_from_place}
-use Rattle.std.proofs.lemmas.Grind.{get_or_default_zero}
 use Rattle.std.proofs.Math.Nat.{mul_comm}
 use Rattle.ti_ops.specs.declared.fate.Fate.{Fate}
 use Rattle.ti_ops.specs.declared.fate.Fate.TheVariants.{Waiting, Gone}
@@ -24,7 +23,7 @@ pub has : (asked : List ℕ) (env n : ℕ) → env < length asked → n < get_or
 has asked env n e h = (e, omega (arith, h, (parts n).0))
 
 -- this many calls at most
-asked_few : (calls : ℕ) (asked : List ℕ) (env : ℕ) → All (λ n. n ≤ calls) asked → env < length asked → get_or asked env 0 ≤ calls
+pub asked_few : (calls : ℕ) (asked : List ℕ) (env : ℕ) → All (λ n. n ≤ calls) asked → env < length asked → get_or asked env 0 ≤ calls
 asked_few calls asked env few e = All-get_or (λ n. n ≤ calls) asked env 0 e few
 
 -- a row has the chunk
@@ -401,14 +400,13 @@ pub record Next (calls per : ℕ) (asked chunks : List ℕ) (p : Chunks) (env n 
   pub reached : Reached calls per asked chunks p env n (if nat_eq (n % 64) 0 then set chunks (env * per + n / 64) p.count else chunks) (if nat_eq (n % 64) 0 then with_chunk p else p)
 
 pub next : (f : Fates) (calls per : ℕ) (asked chunks : List ℕ) (p : Chunks) (env : EnvNo) (n : ℕ) → table_fates calls per asked chunks p ≡ f → AreApart calls per asked chunks p
-    → env.0 < length f.lists → length (fates_by env f.lists) < f.calls → n ≡ get_or asked env.0 n → Next calls per asked chunks p env.0 n
+    → env.0 < length f.lists → length (fates_by env f.lists) < f.calls → n ≡ get_or asked env.0 0 → Next calls per asked chunks p env.0 n
 next f calls per asked chunks p env n v a e h r =
     let within : env.0 < length asked = seen_within per asked chunks p.items env.0 (subst (λ (f : Fates). env.0 < length f.lists) (sym v) e) in
-    let number : n ≡ get_or asked env.0 0 = r ∙ get_or_default_zero asked env.0 n within in
-    let few : n < calls = subst (λ m. m < calls) (sym number) (seen_few per asked chunks p.items env.0 calls within (subst (λ (f : Fates). length (fates_by env f.lists) < f.calls) (sym v) h)) in
+    let few : n < calls = subst (λ m. m < calls) (sym r) (seen_few per asked chunks p.items env.0 calls within (subst (λ (f : Fates). length (fates_by env f.lists) < f.calls) (sym v) h)) in
     record {
       within = within;
-      number = number;
+      number = r;
       few = few;
-      reached = reached calls per asked chunks p env.0 n a within number few;
+      reached = reached calls per asked chunks p env.0 n a within r few;
     }

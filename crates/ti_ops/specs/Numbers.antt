@@ -1,18 +1,16 @@
--- What a table of chunks stands for.
-use Rattle.std.specs.Prelude.{ℕ, ◌≤◌, ◌^◌, List, [], length}
-use Rattle.ti_ops.specs.declared.chunks.Numbers.{Numbers}
-use Rattle.ti_ops.specs.declared.chunks.Numbers.TheVariants.{Short, Long}
+-- What a table of numbers stands for.
+use Rattle.std.specs.Prelude.{ℕ, ◌-◌, ◌^◌, List}
+use Rattle.ti_ops.specs.declared.numbers.Numbers.{Numbers}
+use Rattle.ti_ops.specs.declared.numbers.Numbers.TheVariants.{Short, Long}
 
--- the numbers, at their places
-abbrev pub numbers_in : Numbers → List ℕ
-numbers_in (Short v) = v.items
-numbers_in (Long v) = v.items
+-- the numbers, at their places, and the greatest that there may be
+pub record Table : Type 0 where
+  pub items : List ℕ
+  pub most : ℕ
 
--- the numbers of a table of short numbers
-abbrev pub short_in : Numbers → List ℕ
-short_in (Short v) = v.items
-short_in (Long v) = []
+abbrev pub with_items : Table → List ℕ → Table
+with_items t items = record { items = items; most = t.most }
 
--- a table of short numbers has so few places that their numbers are short
-abbrev pub AreShort : Numbers → Type 0
-AreShort n = length (short_in n) ≤ 2 ^ 16
+abbrev pub table_in : Numbers → Table
+table_in (Short v) = record { items = v.items; most = 2 ^ 16 - 1 }
+table_in (Long v) = record { items = v.items; most = 2 ^ 64 - 1 }

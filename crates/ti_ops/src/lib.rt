@@ -11,9 +11,10 @@
 //! - Only `PendingOps::new` takes memory, and its only error is want of it. The room for calls is not filled in advance.
 #![tactic(auto)]
 
-mod chunks;
+mod directory;
 mod fate;
 mod late;
+mod numbers;
 mod pairs;
 mod pending;
 mod place;

@@ -2,10 +2,11 @@
 ghost use Rattle.std.specs.Prelude.{◌≡◌, ◌<◌, ◌+◌, ◌*◌, ◌/◌, ◌%◌, ◌^◌, ◌∷◌, ◌++◌, length, replicate, [], IfOk, IfErr, MatchOption, slice_index_or, slice_set, is_some, if◌then◌else◌, nat_eq};
 ghost use Rattle.ti_ops.specs.Fates.{fates_by, fate_of, told_by, with_call, with_fate, with_lists, with_queue};
 ghost use Rattle.ti_ops.specs.Chunks.{chunk_of, with_chunk};
+ghost use Rattle.ti_ops.specs.Directories.{with_chunks};
 ghost use Rattle.ti_ops.specs.Rings.{fate_in};
 ghost use Rattle.ti_ops.specs.declared.fate.Fate.TheVariants as fate;
 
-use crate::chunks::ChunkTable;
+use crate::directory::Directory;
 use crate::late::LatePool;
 use crate::pending::Pending;
 use crate::place::Place;
@@ -19,10 +20,8 @@ use ti_types::{Answer, EnvNo, TiError, Ticket};
 /// The fates stand in chunks of 64 places. An environment's first call takes a chunk, and each 64th call another.
 #[derive(Drop, Debug)]
 pub struct FateTable {
-    /// How many calls each environment has asked.
-    asked: Vec<u32>,
-    /// The numbers of the chunks of each environment, `per` places for each.
-    chunks: ChunkTable,
+    /// How many calls each environment has asked, and the numbers of its chunks, `per` places for each environment.
+    directory: Directory,
     per: usize,
     pool: LatePool,
     calls: u32,
@@ -30,13 +29,14 @@ pub struct FateTable {
 
 impl Model for FateTable {
     ghost use Rattle.ti_ops.specs.Fates.{Fates};
-    ghost use Rattle.ti_ops.specs.Chunks.{lists_of, AreApart};
+    ghost use Rattle.ti_ops.specs.Chunks.{lists_of};
+    ghost use Rattle.ti_ops.specs.Directories.{AreListed};
 
     ghost Value = { Fates };
 
-    ghost view = { λ s. record { lists = lists_of s.per s.chunks s.pool.items s.asked.items; calls = s.calls; waiting = s.pool.waiting; room = s.pool.calls } };
+    ghost view = { λ s. record { lists = lists_of s.per s.directory.chunks s.pool.items s.directory.asked; calls = s.calls; waiting = s.pool.waiting; room = s.pool.calls } };
 
-    ghost invariant = { λ s. AreApart s.calls s.per s.asked.items s.chunks s.pool };
+    ghost invariant = { λ s. AreListed s.calls s.per s.directory s.pool };
 }
 
 impl FateTable {
@@ -51,11 +51,9 @@ impl FateTable {
         let per = (calls as usize).div_ceil(PLACES);
         let room = envs as usize * per;
         let pool = LatePool::new(alloc, room, envs as usize * calls as usize)?;
-        let chunks = ChunkTable::new(alloc, room)?;
-        let asked = vec![in alloc; 0u32; envs as usize]?;
+        let directory = Directory::new(alloc, envs, calls, room)?;
         Ok(FateTable {
-            asked,
-            chunks,
+            directory,
             per,
             pool,
             calls,
@@ -68,7 +66,7 @@ impl FateTable {
         requires { env.0 < length self.now.lists }
         ensures { result ≡ length (fates_by env self.now.lists) }
     {
-        self.asked[env.0 as usize]
+        self.directory.asked(env.0 as usize) as u32
     }
 
     /// Adds an environment's next call, for which there is room.
@@ -79,11 +77,11 @@ impl FateTable {
         ensures { self.new ≡ with_lists self.old (with_call env (fate_in fate) self.old.lists) }
     {
         let at = env.0 as usize;
-        let number = self.asked[at];
+        let number = self.directory.asked(at);
         let place = table_place(self.per, at, number);
-        let chunk = reach(&mut self.chunks, &mut self.pool, place, number);
-        self.pool.put(chunk, number as usize % PLACES, fate);
-        self.asked[at] = number + 1;
+        let chunk = reach(&mut self.directory, &mut self.pool, place, number);
+        self.pool.put(chunk, number % PLACES, fate);
+        self.directory.count(at, number + 1);
     }
 
     /// Adds an environment's next call, of which nothing is left, and for which there is room.
@@ -94,10 +92,10 @@ impl FateTable {
         ensures { self.new ≡ with_lists self.old (with_call env fate.Gone self.old.lists) }
     {
         let at = env.0 as usize;
-        let number = self.asked[at];
+        let number = self.directory.asked(at);
         let place = table_place(self.per, at, number);
-        reach(&mut self.chunks, &mut self.pool, place, number);
-        self.asked[at] = number + 1;
+        reach(&mut self.directory, &mut self.pool, place, number);
+        self.directory.count(at, number + 1);
     }
 
     /// Puts the answer to a call that waits.
@@ -105,8 +103,8 @@ impl FateTable {
         requires { fate_of ticket self.old.lists ≡ fate.Waiting }
         ensures { self.new ≡ with_lists self.old (with_fate ticket (fate.Told answer) self.old.lists) }
     {
-        let place = table_place(self.per, ticket.env.0 as usize, ticket.no);
-        let chunk = self.chunks.at(place);
+        let place = table_place(self.per, ticket.env.0 as usize, ticket.no as usize);
+        let chunk = self.directory.chunk(place);
         self.pool
             .put(chunk, ticket.no as usize % PLACES, Place::Told(answer));
     }
@@ -117,11 +115,11 @@ impl FateTable {
         ensures lists { self.new ≡ with_lists self.old (if is_some result then with_fate ticket fate.Gone self.old.lists else self.old.lists) }
     {
         let at = ticket.env.0 as usize;
-        if at >= self.asked.len() || ticket.no >= self.asked[at] {
+        if at >= self.directory.envs() || ticket.no as usize >= self.directory.asked(at) {
             return None;
         }
-        let place = table_place(self.per, at, ticket.no);
-        let chunk = self.chunks.at(place);
+        let place = table_place(self.per, at, ticket.no as usize);
+        let chunk = self.directory.chunk(place);
         self.pool.take(chunk, ticket.no as usize % PLACES)
     }
 
@@ -150,26 +148,26 @@ impl FateTable {
 }
 
 /// Where the table has the chunk of an environment's call, with this many places for each environment.
-fn table_place(per: usize, env: usize, number: u32) -> usize
+fn table_place(per: usize, env: usize, number: usize) -> usize
     requires { env * per + number / 64 < 2 ^ 64 }
     ensures { result ≡ env * per + number / 64 }
 {
-    env * per + number as usize / PLACES
+    env * per + number / PLACES
 }
 
 /// The chunk of an environment's next call. A new one is handed out where the call is the first that needs it.
-fn reach(chunks: &mut ChunkTable, pool: &mut LatePool, place: usize, number: u32) -> usize
-    requires place { place < length chunks.old }
+fn reach(directory: &mut Directory, pool: &mut LatePool, place: usize, number: usize) -> usize
+    requires place { place < length directory.old.chunks }
     requires room { number % 64 ≡ 0 → pool.old.count < pool.old.room }
-    requires places { pool.old.room ≡ length chunks.old }
-    ensures chunks { chunks.new ≡ (if nat_eq (number % 64) 0 then slice_set chunks.old place pool.old.count else chunks.old) }
+    requires places { pool.old.room ≡ length directory.old.chunks }
+    ensures directory { directory.new ≡ with_chunks directory.old (if nat_eq (number % 64) 0 then slice_set directory.old.chunks place pool.old.count else directory.old.chunks) }
     ensures pool { pool.new ≡ (if nat_eq (number % 64) 0 then with_chunk pool.old else pool.old) }
-    ensures chunk { result ≡ slice_index_or chunks.new place 0 }
+    ensures chunk { result ≡ slice_index_or directory.new.chunks place 0 }
 {
-    if number as usize % PLACES > 0 {
-        return chunks.at(place);
+    if number % PLACES > 0 {
+        return directory.chunk(place);
     }
     let chunk = pool.hand_out();
-    chunks.put(place, chunk);
+    directory.put(place, chunk);
     chunk
 }
