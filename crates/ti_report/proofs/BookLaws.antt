@@ -67,37 +67,41 @@ told_here [] at d h = grind arith
 told_here (t ∷ told) zero d h = refl
 told_here (t ∷ told) (suc at) d h = told_here told at d (omega arith)
 
-map_rows : (entries : List Entry) (frames : List Frame) (xs ys : List Note) → map (said_row entries frames) (xs ++ ys) ≡ map (said_row entries frames) xs ++ map (said_row entries frames) ys
-map_rows entries frames [] ys = refl
-map_rows entries frames (x ∷ xs) ys = ap (λ l. said_row entries frames x ∷ l) (map_rows entries frames xs ys)
+map_rows : (e : EnvNo) (entries : List Entry) (frames : List Frame) (xs ys : List Note) → map (said_row e entries frames) (xs ++ ys) ≡ map (said_row e entries frames) xs ++ map (said_row e entries frames) ys
+map_rows e entries frames [] ys = refl
+map_rows e entries frames (x ∷ xs) ys = ap (λ l. said_row e entries frames x ∷ l) (map_rows e entries frames xs ys)
 
 -- a row that is added to one agent's rows
 pub row_added : (entries : List Entry) (frames : List Frame) (rows : List (List Note)) (index : ℕ) (row : Note) (e : EnvNo)
-    → map (said_row entries frames) (with_row rows index row e.0) ≡ rows_at entries frames rows e ++ (if index == e.0 then said_row entries frames row ∷ [] else [])
+    → map (said_row e entries frames) (with_row rows index row e.0) ≡ rows_at entries frames rows e ++ (if index == e.0 then said_row e entries frames row ∷ [] else [])
 row_added entries frames rows index row e =
     elim (cases_Bool (index == e.0)) [
-      | inl yes' ↦ rw (yes') (map_rows entries frames (slice_index_or rows e.0 []) (row ∷ []))
+      | inl yes' ↦ rw (yes') (map_rows e entries frames (slice_index_or rows e.0 []) (row ∷ []))
       | inr no' ↦ rw (no', append-nil) refl
     ]
 
-row_at : (entries : List Entry) (frames : List Frame) (l : List Note) (n : ℕ) (r : Note) → slice_get l n ≡ Some r → slice_get (map (said_row entries frames) l) n ≡ Some (said_row entries frames r)
-row_at entries frames [] n r h = cc
-row_at entries frames (x ∷ l) zero r h = grind (arith, h)
-row_at entries frames (x ∷ l) (suc n) r h = row_at entries frames l n r h
+row_at : (e : EnvNo) (entries : List Entry) (frames : List Frame) (l : List Note) (n : ℕ) (r : Note) → slice_get l n ≡ Some r → slice_get (map (said_row e entries frames) l) n ≡ Some (said_row e entries frames r)
+row_at e entries frames [] n r h = cc
+row_at e entries frames (x ∷ l) zero r h = grind (arith, h)
+row_at e entries frames (x ∷ l) (suc n) r h = row_at e entries frames l n r h
+
+row_get_from : (env : EnvNo) (entries : List Entry) (frames : List Frame) (rows : List (List Note)) (e n : ℕ) (l : List Note) (r : Note) → slice_get rows e ≡ Some l → slice_get l n ≡ Some r
+    → slice_get (map (said_row env entries frames) (slice_index_or rows e [])) n ≡ Some (said_row env entries frames r)
+row_get_from env entries frames [] e n l r h k = cc
+row_get_from env entries frames (x ∷ rows) zero n l r h k = grind (arith, h, row_at env entries frames l n r k)
+row_get_from env entries frames (x ∷ rows) (suc e) n l r h k = row_get_from env entries frames rows e n l r h k
 
 -- a row that is there
-pub row_get : (entries : List Entry) (frames : List Frame) (rows : List (List Note)) (e n : ℕ) (l : List Note) (r : Note) → slice_get rows e ≡ Some l → slice_get l n ≡ Some r
-    → slice_get (rows_at entries frames rows (record { 0 = e })) n ≡ Some (said_row entries frames r)
-row_get entries frames [] e n l r h k = cc
-row_get entries frames (x ∷ rows) zero n l r h k = grind (arith, h, row_at entries frames l n r k)
-row_get entries frames (x ∷ rows) (suc e) n l r h k = row_get entries frames rows e n l r h k
+pub row_get : (entries : List Entry) (frames : List Frame) (rows : List (List Note)) (e : EnvNo) (n : ℕ) (l : List Note) (r : Note) → slice_get rows e.0 ≡ Some l → slice_get l n ≡ Some r
+    → slice_get (rows_at entries frames rows e) n ≡ Some (said_row e entries frames r)
+row_get entries frames rows e n l r h k = row_get_from e entries frames rows e.0 n l r h k
 
-said_long : (entries : List Entry) (frames : List Frame) (rows : List Note) → length (map (said_row entries frames) rows) ≡ length rows
-said_long entries frames [] = refl
-said_long entries frames (r ∷ rows) = ap suc (said_long entries frames rows)
+said_long : (e : EnvNo) (entries : List Entry) (frames : List Frame) (rows : List Note) → length (map (said_row e entries frames) rows) ≡ length rows
+said_long e entries frames [] = refl
+said_long e entries frames (r ∷ rows) = ap suc (said_long e entries frames rows)
 
 pub rows_long : (entries : List Entry) (frames : List Frame) (rows : List (List Note)) (e : EnvNo) → length (rows_at entries frames rows e) ≡ length (slice_index_or rows e.0 [])
-rows_long entries frames rows e = said_long entries frames (slice_index_or rows e.0 [])
+rows_long entries frames rows e = said_long e entries frames (slice_index_or rows e.0 [])
 
 -- known rows stay known where frames are added
 pub still_known : (entries : List Entry) (frames new more : List Frame) (rows : List (List Note)) (e : EnvNo) (known : List Row)

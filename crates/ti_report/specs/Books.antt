@@ -1,13 +1,12 @@
 -- What a history tells its agents, by agent: a table of the entries that each left and of what these got, and of what each
 -- has spent.
-use Rattle.std.specs.Prelude.{ℕ, ◌≡◌, ◌<◌, ◌==◌, Bool, false, List, [], ◌∷◌, ◌++◌, map, get_or, if◌then◌else◌, Option, Some, None, slice_get, slice_index, slice_index_or}
+use Rattle.std.specs.Prelude.{ℕ, ◌≡◌, ◌<◌, ◌==◌, Bool, false, List, [], ◌∷◌, ◌++◌, map, if◌then◌else◌, Option, Some, None, slice_get, slice_index, slice_index_or}
 use Rattle.std.specs.Option.{option_map_or}
 use Rattle.std.specs.List.{filter}
 use Rattle.ti_types.specs.declared.limits.Limits.{Limits}
 use Rattle.ti_types.specs.declared.numbers.EnvNo.{EnvNo}
 use Rattle.ti_types.specs.declared.numbers.ThreadNo.{ThreadNo}
 use Rattle.ti_types.specs.declared.entry.Entry.{Entry}
-use Rattle.ti_types.specs.declared.entry.Entry.TheVariants.{Start}
 use Rattle.ti_types.specs.declared.answer.Answer.{Answer}
 use Rattle.ti_types.specs.declared.place.Frame.{Frame}
 use Rattle.ti_replay.specs.Legal.{calls_spent}
@@ -17,13 +16,14 @@ use Rattle.ti_report.specs.Told.{got, granted, is_left_by, history_at}
 use Rattle.ti_report.specs.declared.book.Book.{Book}
 use Rattle.ti_report.specs.declared.book.Note.{Note}
 use Rattle.ti_report.specs.Gots.{told_in}
+use Rattle.ti_report.specs.Lefts.{left_in}
 
 abbrev pub Row : Type 0
 Row = Entry × Option Answer
 
--- what a row says, as a book has it, with the history and the frames of the book
-abbrev pub said_row : List Entry → List Frame → Note → Row
-said_row entries frames r = (get_or entries r.place Start, told_in frames r.got)
+-- what a row of an agent says, as a book has it, with the history and the frames of the book
+abbrev pub said_row : EnvNo → List Entry → List Frame → Note → Row
+said_row e entries frames r = (left_in e entries r.left, told_in frames r.got)
 
 -- what an agent left among some first entries of a whole history, and got by it
 abbrev pub rows_of : Limits → List Entry → EnvNo → List Entry → List Row
@@ -31,7 +31,7 @@ rows_of limits whole e front = map (λ p. (p.1, granted p.1 (reply limits whole 
 
 -- the rows of one agent in a table, with this history and these frames
 abbrev pub rows_at : List Entry → List Frame → List (List Note) → EnvNo → List Row
-rows_at entries frames rows e = map (said_row entries frames) (slice_index_or rows e.0 [])
+rows_at entries frames rows e = map (said_row e entries frames) (slice_index_or rows e.0 [])
 
 -- a table with one more row at a place
 abbrev pub with_row : List (List Note) → ℕ → Note → ℕ → List Note

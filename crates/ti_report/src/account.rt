@@ -1,9 +1,8 @@
 //! What an agent has done so far, kept as a few numbers, and what it is told next.
-ghost use Rattle.std.specs.Prelude.{◌≡◌, get_or, ◌↔◌, ◌<◌, ◌+◌, ◌^◌, nat_lt, true, false, Some, None, length, IfOk, IfSome, slice_get, slice_index, option_map, option_and_then};
+ghost use Rattle.std.specs.Prelude.{◌≡◌, ◌↔◌, ◌<◌, ◌+◌, ◌^◌, nat_lt, true, false, Some, None, length, IfOk, IfSome, slice_get, slice_index, option_map, option_and_then};
 ghost use Rattle.ti_types.specs.declared.numbers.EnvNo.{EnvNo};
 ghost use Rattle.ti_types.specs.declared.numbers.ThreadNo.{ThreadNo};
 ghost use Rattle.ti_types.specs.declared.limits.Limits.{Limits};
-ghost use Rattle.ti_types.specs.declared.entry.Entry.TheVariants.{Start};
 ghost use Rattle.ti_types.specs.Answer.{said};
 ghost use Rattle.ti_types.specs.Frames.{bare_trace};
 ghost use Rattle.ti_types.specs.Admitting.{admitting_refusal, asking_refusal, reaching_refusal};
@@ -48,19 +47,6 @@ fn thread_of(event: Event) -> ThreadNo
     match event {
         Event::Ask(_, t, _) | Event::Stop(_, t) | Event::Read(_, t, _) | Event::Go(_, t) => t,
         _ => ThreadNo(0),
-    }
-}
-
-/// The entry at a place of a history, and a start where there is none.
-#[inline(always)]
-fn entry_in(entries: &[Entry], place: u32) -> Entry
-    ensures { result ≡ get_or entries.now place Start }
-{
-    let at = place as usize;
-    if at < entries.len() {
-        entries[at]
-    } else {
-        Entry::Start
     }
 }
 
@@ -225,7 +211,8 @@ impl Account {
             return None;
         }
         let row = rows[at];
-        Some((entry_in(book.entries, row.place), row.got, &book.frames))
+        let entry = row.left.entry(self.env, book.entries);
+        Some((entry, row.got, &book.frames))
     }
 
     /// What the next entry at an event's thread got, with the frames of its book, where it is what the event leaves.

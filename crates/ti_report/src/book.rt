@@ -14,6 +14,7 @@ ghost use Rattle.ti_report.specs.Told.{got, granted, is_left_by};
 ghost use Rattle.ti_report.specs.Books.{rows_at, with_row, is_number, IsBook};
 
 use crate::got::{Got, got_of};
+use crate::left::Left;
 use std::alloc::{AllocError, Global};
 use ti_live::Listed;
 use ti_replay::{ReplayFault, replies};
@@ -22,8 +23,7 @@ use ti_types::{Answer, Entry, EnvNo, Frame, Limits};
 /// An entry that an agent left, and what it got.
 #[derive(Clone, Copy)]
 pub struct Note {
-    /// The place of the entry in the history.
-    pub place: u32,
+    pub left: Left,
     pub got: Got,
 }
 
@@ -167,8 +167,8 @@ fn take_row(
         return Ok(());
     };
     let got = grant(frames, entry, reply)?;
-    let place = at as u32;
-    add_row(rows, env as usize, Note { place, got })?;
+    let left = Left::of(entry, at as u32);
+    add_row(rows, env as usize, Note { left, got })?;
     Ok(())
 }
 

@@ -18,6 +18,7 @@ mod checking;
 mod events;
 mod fitting;
 mod got;
+mod left;
 mod same;
 mod stacks;
 mod walks;

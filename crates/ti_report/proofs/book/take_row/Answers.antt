@@ -13,9 +13,9 @@ returns-clause-rows c e within known h more =
     let rows = c.args.rows.now.items in
     let entries = c.args.entries.now in
     let x = get_or entries c.args.at Start in
-    let row : Note = record { place = c.args.at; got = c.in_ok-got.got } in
+    let row : Note = record { left = c.of-left.result; got = c.in_ok-got.got } in
     let asked : is_left_by e x ≡ (c.in-Some.env == e.0) = grind (arith, c.maker.ensures e, c.in-Some.is) in
     let g = c.in_ok-got.ensures.grows in
     let before : rows_at entries (new ++ more) rows e ≡ known = ap (λ l. rows_at entries (l ++ more) rows e) g.1 ∙ still_known entries old g.0 more rows e known h in
     let got = c.in_ok-got.ensures.got more in
-    ap (λ l. map (said_row entries (new ++ more)) l) (c.in_ok-add_row.ensures.rows e.0 within) ∙ row_added entries (new ++ more) rows c.in-Some.env row e ∙ grind (arith, asked, before, got)
+    ap (λ l. map (said_row e entries (new ++ more)) l) (c.in_ok-add_row.ensures.rows e.0 within) ∙ row_added entries (new ++ more) rows c.in-Some.env row e ∙ grind (arith, asked, before, got)

@@ -1,0 +1,83 @@
+//! What an agent left, in few bytes.
+ghost use Rattle.std.specs.Prelude.{◌≡◌, get_or, true, List};
+ghost use Rattle.ti_types.specs.declared.entry.Entry.{Entry};
+ghost use Rattle.ti_types.specs.declared.entry.Entry.TheVariants.{Start};
+ghost use Rattle.ti_types.specs.declared.numbers.EnvNo.{EnvNo};
+ghost use Rattle.ti_report.specs.Told.{is_left_by};
+ghost use Rattle.ti_report.specs.Lefts.{left_in};
+
+use ti_types::{Call, Entry, EnvNo};
+
+/// An entry that an agent left, without the agent's number: the entry itself where it has but one number besides, and else
+/// its place in the history. So most entries are not looked up, of which each agent's lie far apart.
+#[derive(Clone, Copy)]
+pub enum Left {
+    State(u32),
+    FrameCount(u32),
+    Suspend(u32),
+    Resume(u32),
+    GetWord(u32),
+    Pop(u32),
+    Stop,
+    Read(i32),
+    Go,
+    /// The entry at this place of the history.
+    At(u32),
+}
+
+impl Left {
+    /// An agent's entry, which stands at this place.
+    #[inline(always)]
+    pub fn of(entry: Entry, place: u32) -> Left
+        ensures { (e : EnvNo) (entries : List Entry) → is_left_by e entry ≡ true → get_or entries place Start ≡ entry → left_in e entries result ≡ entry }
+    {
+        match entry {
+            Entry::Asked(_, no, call) => match call {
+                Call::State => Left::State(no),
+                Call::FrameCount => Left::FrameCount(no),
+                Call::Suspend => Left::Suspend(no),
+                Call::Resume => Left::Resume(no),
+                Call::GetWord => Left::GetWord(no),
+                Call::Pop => Left::Pop(no),
+                Call::Trace { .. } | Call::Location { .. } | Call::SetWord(_) => Left::At(place),
+            },
+            Entry::Stop(_) => Left::Stop,
+            Entry::Read(_, max_count) => Left::Read(max_count),
+            Entry::Go(_) => Left::Go,
+            _ => Left::At(place),
+        }
+    }
+
+    /// The entry, of this agent's environment, where these are all entries of the history. It is a start where none stands
+    /// at the place.
+    #[inline(always)]
+    pub fn entry(self, env: EnvNo, entries: &[Entry]) -> Entry
+        ensures { result ≡ left_in env entries.now self }
+    {
+        match self {
+            Left::State(no) => Entry::Asked(env, no, Call::State),
+            Left::FrameCount(no) => Entry::Asked(env, no, Call::FrameCount),
+            Left::Suspend(no) => Entry::Asked(env, no, Call::Suspend),
+            Left::Resume(no) => Entry::Asked(env, no, Call::Resume),
+            Left::GetWord(no) => Entry::Asked(env, no, Call::GetWord),
+            Left::Pop(no) => Entry::Asked(env, no, Call::Pop),
+            Left::Stop => Entry::Stop(env),
+            Left::Read(max_count) => Entry::Read(env, max_count),
+            Left::Go => Entry::Go(env),
+            Left::At(place) => entry_in(entries, place),
+        }
+    }
+}
+
+/// The entry at a place of a history, and a start where there is none.
+#[inline(always)]
+fn entry_in(entries: &[Entry], place: u32) -> Entry
+    ensures { result ≡ get_or entries.now place Start }
+{
+    let at = place as usize;
+    if at < entries.len() {
+        entries[at]
+    } else {
+        Entry::Start
+    }
+}
