@@ -8,7 +8,7 @@ ghost use Rattle.ti_report.specs.Lefts.{left_in};
 
 use ti_types::{Call, Entry, EnvNo};
 
-/// An entry that an agent left, without the agent's number: the entry itself where it has but one number besides, and else
+/// An entry that an agent left, without the agent's number: the entry itself where it has at most one number besides, and else
 /// its place in the history. So most entries are not looked up, of which each agent's lie far apart.
 #[derive(Clone, Copy)]
 pub enum Left {
