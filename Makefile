@@ -3,14 +3,14 @@
 # on all cases, on large documents (and programs that hold cells and run threads), and with each allocation, each start of a
 # thread, each read and each write refused in turn (and the tests of a core so). `make stress` runs it on live documents that
 # are made up by chance. `make edits` tries the edits that the gate leaves out.
-# `make try` runs the program on a first example without proving anything.
+# `make try` runs the program on all examples without proving anything.
 .PHONY: run try test examples cases bench refused stress edits
 
 run:
 	cd crates/tiwalk && rt run < ../../examples/first.json
 
 try:
-	cd crates/tiwalk && rt try < ../../examples/first.json
+	python3 ci/try_examples.py
 
 test:
 	python3 ci/edits.py --apply

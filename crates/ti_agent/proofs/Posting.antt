@@ -19,7 +19,15 @@ use Rattle.ti_vmop.proofs.Each.{at_index}
 use Rattle.ti_agent.specs.Env.{Environment}
 use Rattle.ti_agent.specs.declared.lists.Posted.{Posted}
 use Rattle.ti_agent.specs.declared.lists.Posted.TheVariants.{Code, Waits}
-use Rattle.ti_agent.specs.Lists.{Posts, Collects, IsPosted, IsPostedBy, PostsEach, IsCollected, CollectsEach, IsOut, IsOpen, AreOthers, NoneTwice, AreOpen}
+use Rattle.ti_agent.specs.Posts.{Posts, Collects, LooksFor, IsOut, IsOutIfWaiting}
+use Rattle.ti_agent.proofs.Whole.{seen_call}
+use Rattle.std.specs.Prelude.{is_some, IfSome, if◌then◌else◌}
+use Rattle.std.specs.Option.{option_map}
+use Rattle.ti_types.specs.Answer.{said}
+use Rattle.ti_replay.specs.Tickets.{reply_to}
+use Rattle.ti_handshake.specs.Call.{HoldsWith}
+use Rattle.ti_handshake.specs.Desk.{IsSame, ReplyAtPlace}
+use Rattle.ti_agent.specs.Lists.{IsPosted, IsPostedBy, PostsEach, IsCollected, CollectsEach, IsOpen, AreOthers, NoneTwice, AreOpen}
 
 -- a desk that is there
 
@@ -123,6 +131,10 @@ out_new s s' t c k w =
     let is : has k w.after.view.posted ≡ true = ap (has k) w.hold.waits.posted ∙ has_last k w.before.view.posted in
     out_here s s' t.0 w.before w.after k desks w.there at is
 
+pub out_if_waiting : (s s' : Environment) (t : ThreadNo) (c : Call) (r : AskedOf) → Posts s s' t c r → IsOutIfWaiting s' r
+out_if_waiting s s' t c (Answered a) w = tt
+out_if_waiting s s' t c (Waiting k) w = out_new s s' t c k w
+
 -- a new ticket is none of those that are out
 apart_new : (s s' : Environment) (t : ThreadNo) (c : Call) (k j : Ticket) → Posts s s' t c (Waiting k) → IsOut s j → same k j ≡ false
 apart_new s s' t c k j w o =
@@ -224,6 +236,14 @@ collects_more s m m' [] [] x code h k = (m', subst (λ (z : Environment). IsColl
 collects_more s m m' (y ∷ xs) (n ∷ codes) x code h k = (h.0, h.1, collects_more h.0 m m' xs codes x code h.2 k)
 collects_more s m m' [] (n ∷ codes) x code h k = absurd h
 collects_more s m m' (y ∷ xs) [] x code h k = absurd h
+
+-- a desk looked for an answer
+pub looked_for : (s : Environment) (k : Ticket) (p q : Place) (r : Option Answer) → slice_get s.desks k.thread.0 ≡ Some p → IsSame p q
+    → HoldsWith p.view q.view [] (if is_some r then without_ticket k p.view.posted else p.view.posted)
+    → IfSome r (λ a. has k q.view.posted ≡ false) → option_map said r ≡ (if has k p.view.posted then reply_to p.view.subject.limits q.view.seen k else None)
+    → IfSome r (λ a. ReplyAtPlace p.view.subject.limits q.view.seen k (said a)) → LooksFor s (seen_call s k.thread.0 q) k (option_map said r)
+looked_for s k p q None at same hold once is place = record { before = p; after = q; there = at; same = same; hold = hold; once = tt; answer = is; place = tt; new_is = refl }
+looked_for s k p q (Some a) at same hold once is place = record { before = p; after = q; there = at; same = same; hold = hold; once = once; answer = is; place = place; new_is = refl }
 
 -- the list at one place
 

@@ -24,12 +24,13 @@ use Rattle.ti_vmop.specs.Turns.{Listed, is_listed, AreDistinct, AreThere, are_pa
 use Rattle.ti_vmop.proofs.Each.{in_range, untouched}
 use Rattle.ti_vmop.proofs.Uses.{was_there, has_added, unlisted_stays, spent_then, more_spent}
 use Rattle.ti_agent.specs.Env.{Environment, IsDesk, IsWhole}
-use Rattle.ti_agent.specs.Traces.{Telling, ReadsOne, ReadsEach, told_stack, told_each, Told, IsHeld, AreHeld, times, are_there, is_stack, each_once, AreLeft, AreListed, AreRoomy, HasRead, told_info}
+use Rattle.ti_agent.specs.Traces.{Telling, ReadsOne, ReadsEach, told_stack, told_each, Told, IsHeld, AreHeld, times, are_there, is_stack, each_once, AreLeft, AreListed, HasRead, told_info}
+use Rattle.ti_agent.specs.Buffers.{AreRoomy, HasJustRoomFor}
 use Rattle.std.proofs.lemmas.List.{map-append}
 use Rattle.ti_vmop.specs.Turns.{Stood, with_reads, one_read_more}
 use Rattle.std.specs.Prelude.{◌^◌}
 use Rattle.ti_types.specs.declared.stack.StackInfo.{StackInfo}
-use Rattle.ti_agent.proofs.Whole.{set_other}
+use Rattle.ti_agent.proofs.Whole.{set_other, just_room}
 use Rattle.ti_agent.proofs.Listing.{times_high, times_here, listed_once, distinct_once, there_once, paid_for, are_listed}
 
 -- Before the stops
@@ -358,8 +359,8 @@ pub roomy_last : (limits : Limits) (m : ℤ) (all rest : List buffer.Trace) (b :
 roomy_last limits m all rest b roomy is =
     let whole : AreRoomy limits m (rest ++ b ∷ []) = subst (AreRoomy limits m) is roomy in
     let count : length (rest ++ b ∷ []) ≡ length rest + 1 = length-append rest (b ∷ []) in (
-      subst (HasRoomFor limits (or_zero m)) (last_is rest b b) (whole (length rest) b (omega (arith, count))),
-      λ k d h. subst (HasRoomFor limits (or_zero m)) (before_last rest b d k h) (whole k d (omega (arith, count, h))),
+      just_room limits m b (subst (HasJustRoomFor limits m) (last_is rest b b) (whole (length rest) b (omega (arith, count)))),
+      λ k d h. subst (HasJustRoomFor limits m) (before_last rest b d k h) (whole k d (omega (arith, count, h))),
     )
 
 -- After the gos

@@ -14,13 +14,14 @@ use Rattle.ti_types.specs.declared.numbers.ThreadNo.{ThreadNo}
 use Rattle.ti_types.specs.Frames as buffer
 use Rattle.ti_env.specs.Env.{EnvValue, call_refusal, spent_at, with_spent, with_caps}
 use Rattle.ti_replay.specs.Legal.{calls_spent}
-use Rattle.ti_slot.specs.Waiting.{IsBufferOf}
+use Rattle.ti_slot.specs.Waiting.{HasRoomFor, IsBufferOf}
+use Rattle.ti_agent.specs.Buffers.{HasJustRoomFor, IsJustBufferOf}
 use Rattle.ti_cell.specs.View.{subject_of}
 use Rattle.ti_cell.proofs.Goes.{spent_more}
 use Rattle.ti_handshake.specs.Call.{GoesOn, HoldsWith, WaitsWith, IsTold, next_call, ticket_told}
 use Rattle.ti_types.specs.declared.event.Ticket.{Ticket}
 use Rattle.ti_slot.specs.declared.asked.Asked.{Asked as AskedOf}
-use Rattle.ti_agent.specs.Lists.{Posts}
+use Rattle.ti_agent.specs.Posts.{Posts}
 use Rattle.ti_handshake.specs.Desk.{Place, IsSame}
 use Rattle.ti_replay.specs.Fronts.{stops_by, stops_after}
 use Rattle.ti_vmop.proofs.Each.{at_index, set_here}
@@ -30,6 +31,8 @@ use Rattle.ti_agent.specs.Asks.{Asks, Went, IsCalled, IsCalledBy, refusal_of, is
 use Rattle.std.proofs.Common.{ℤ, Option, Ok, Err, OnOk, OnErr, Result}
 use Rattle.ti_types.specs.declared.caps.Caps.{Caps}
 use Rattle.ti_types.specs.declared.call.Call.TheVariants.{Trace}
+use Rattle.ti_types.specs.declared.call.Call.TheVariants as call
+use Rattle.ti_types.specs.Numbers.{or_zero}
 use Rattle.ti_types.specs.declared.error.TiError.{TiError}
 
 pub there : (s : EnvValue) (thread : ThreadNo) (c : Call) → call_refusal s thread c ≡ None → (thread.0 < length s.spent) × (spent_at s thread < s.limits.calls)
@@ -47,11 +50,26 @@ may_call s thread c p whole h e =
     let same : p.view.subject.limits.calls ≡ s.state.limits.calls = ap (λ x. x.limits.calls) k.about in
     omega (arith, k.paid, left, same)
 
+-- a buffer with just the room has the room
+pub just_room : (limits : Limits) (m : ℤ) (b : buffer.Trace) → HasJustRoomFor limits m b → HasRoomFor limits (or_zero m) b
+just_room limits m b h = let e = h.1 in (h.0, omega (arith, e))
+
+just_buffer : (limits : Limits) (c : Call) (b : buffer.Trace) → IsJustBufferOf limits c b → IsBufferOf limits c b
+just_buffer limits (call.Trace start m) b h = just_room limits m b h
+just_buffer limits call.State b h = tt
+just_buffer limits call.FrameCount b h = tt
+just_buffer limits (call.Location depth) b h = tt
+just_buffer limits call.Suspend b h = tt
+just_buffer limits call.Resume b h = tt
+just_buffer limits call.GetWord b h = tt
+just_buffer limits (call.SetWord word) b h = tt
+just_buffer limits call.Pop b h = tt
+
 pub has_buffer : (s : Environment) (thread : ThreadNo) (c : Call) (p : Place) (b : buffer.Trace) → IsWhole s → call_refusal s.state thread c ≡ None → p ≡ slice_index_or s.desks thread.0 p
-    → IsBufferOf s.state.limits c b → IsBufferOf p.view.subject.limits c b
+    → IsJustBufferOf s.state.limits c b → IsBufferOf p.view.subject.limits c b
 has_buffer s thread c p b whole h e has =
     let k = whole.desks thread.0 p (desk_at s thread c p whole h e) in
-    subst (λ (x : Limits). IsBufferOf x c b) (sym (ap (λ x. x.limits) k.about)) has
+    subst (λ (x : Limits). IsBufferOf x c b) (sym (ap (λ x. x.limits) k.about)) (just_buffer s.state.limits c b has)
 
 pub set_there : (l : List Place) (t i : ℕ) (x w : Place) → t ≢ i → slice_get (slice_set l t x) i ≡ Some w → slice_get l i ≡ Some w
 set_there [] t i x w n e = e

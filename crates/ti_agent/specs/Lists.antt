@@ -1,6 +1,6 @@
 -- What a call at each thread of a list comes to: it is posted at one thread after another, and then each that waits is
 -- collected, in the same order.
-use Rattle.std.specs.Prelude.{ℕ, ◌≡◌, true, false, List, [], ◌∷◌, ◌++◌, Option, Some, None, slice_get, slice_set}
+use Rattle.std.specs.Prelude.{ℕ, ◌≡◌, false, List, [], ◌∷◌, Option, Some, None}
 use Rattle.ti_types.specs.Answer.{said}
 use Rattle.ti_types.specs.declared.answer.Answer.{Answer}
 use Rattle.ti_types.specs.declared.answer.Answer.TheVariants as answer
@@ -9,14 +9,11 @@ use Rattle.ti_types.specs.declared.error.TiError.{TiError}
 use Rattle.ti_types.specs.declared.event.Ticket.{Ticket}
 use Rattle.ti_types.specs.declared.numbers.ThreadNo.{ThreadNo}
 use Rattle.ti_types.specs.TiError.{number_of}
-use Rattle.ti_env.specs.Env.{call_refusal, with_spent}
-use Rattle.ti_replay.specs.Tickets.{reply_to}
-use Rattle.ti_slot.specs.declared.asked.Asked.{Asked as AskedOf}
+use Rattle.ti_env.specs.Env.{call_refusal}
 use Rattle.ti_slot.specs.declared.asked.Asked.TheVariants.{Answered, Waiting}
-use Rattle.ti_slot.specs.Tickets.{same, has, without_ticket}
-use Rattle.ti_handshake.specs.Call.{HoldsWith, WaitsWith, IsTold, next_call, ticket_told}
-use Rattle.ti_handshake.specs.Desk.{Place, IsSame}
+use Rattle.ti_slot.specs.Tickets.{same}
 use Rattle.ti_agent.specs.Env.{Environment}
+use Rattle.ti_agent.specs.Posts.{Posts, Collects, IsOut}
 use Rattle.ti_agent.specs.declared.lists.Posted.{Posted}
 use Rattle.ti_agent.specs.declared.lists.Posted.TheVariants.{Code, Waits}
 
@@ -24,27 +21,6 @@ use Rattle.ti_agent.specs.declared.lists.Posted.TheVariants.{Code, Waits}
 abbrev pub code_of : Answer → ℕ
 code_of (answer.Refused e) = number_of e
 code_of _ = 0
-
--- one call is spent at the thread, its desk posted it by one hold, and nothing else changed
-pub record Posts (old new : Environment) (thread : ThreadNo) (c : Call) (r : AskedOf) : Type 0 where
-  pub before : Place
-  pub after : Place
-  pub there : slice_get old.desks thread.0 ≡ Some before
-  pub about : before.view.subject.thread ≡ thread
-  pub same : IsSame before after
-  pub hold : HoldsWith before.view after.view (next_call before.view before.env c ∷ []) (before.view.posted ++ ticket_told r)
-  pub told : IsTold before.view after.view before.env c r
-  pub new_is : new ≡ record { env = old.env; state = with_spent old.state thread; desks = slice_set old.desks thread.0 after }
-
--- the desk at the ticket's thread collected it: the answer is the reply to it, it is out no more, and nothing else changed
-pub record Collects (old new : Environment) (ticket : Ticket) (a : Answer) : Type 0 where
-  pub before : Place
-  pub after : Place
-  pub there : slice_get old.desks ticket.thread.0 ≡ Some before
-  pub same : IsSame before after
-  pub hold : WaitsWith before.view after.view [] (without_ticket ticket before.view.posted)
-  pub answer : reply_to before.view.subject.limits after.view.seen ticket ≡ Some a
-  pub new_is : new ≡ record { env = old.env; state = old.state; desks = slice_set old.desks ticket.thread.0 after }
 
 -- a call at one thread: refused by the environment itself, with nothing changed; or posted, and answered or waiting
 abbrev pub IsPostedBy : Option TiError → Environment → Environment → Call → ThreadNo → Posted → Type 0
@@ -79,12 +55,6 @@ pub record WentEach (old new : Environment) (c : Call) (threads : List ThreadNo)
   pub posted : List Posted
   pub posts : PostsEach old between c threads posted
   pub collects : CollectsEach between new posted codes
-
--- the ticket is out at the desk of its thread
-pub record IsOut (s : Environment) (k : Ticket) : Type 0 where
-  pub desk : Place
-  pub there : slice_get s.desks k.thread.0 ≡ Some desk
-  pub out : has k desk.view.posted ≡ true
 
 abbrev pub IsOpen : Environment → Posted → Type 0
 IsOpen s (Code n) = Unit {0}

@@ -1,22 +1,19 @@
 -- Stack traces of several threads at once.
 use Rattle.std.specs.Prelude.{ℕ, ℤ, zero, suc, ◌≡◌, ◌+◌, ◌-◌, ◌≤◌, ◌<◌, Bool, true, false, ◌==◌, bit_and, nat_lt, if◌then◌else◌, List, [], ◌∷◌, ◌++◌, length, map, Option, Some, None, slice_get, slice_index}
-use Rattle.std.specs.List.{All, filter, list_all}
+use Rattle.std.specs.List.{filter, list_all}
 use Rattle.ti_types.specs.declared.answer.Answer.{Answer}
 use Rattle.ti_types.specs.declared.answer.Answer.TheVariants as answer
 use Rattle.ti_types.specs.declared.error.TiError.{TiError}
 use Rattle.ti_types.specs.declared.error.TiError.TheVariants.{InvalidThread, IllegalArgument, CallsSpent, OutOfMemory}
 use Rattle.ti_types.specs.declared.entry.Entry.TheVariants.{Stop, Read, Go}
-use Rattle.ti_types.specs.declared.limits.Limits.{Limits}
 use Rattle.ti_types.specs.declared.numbers.ThreadNo.{ThreadNo}
 use Rattle.ti_types.specs.declared.place.Frame.{Frame}
-use Rattle.ti_types.specs.Frames as buffer
-use Rattle.ti_types.specs.Numbers.{is_not_negative, or_zero}
+use Rattle.ti_types.specs.Numbers.{is_not_negative}
 use Rattle.ti_types.specs.Refusing.{or_else, unless}
 use Rattle.ti_env.specs.Env.{EnvValue, spent_at, left_at, with_spent}
 use Rattle.ti_replay.specs.Legal.{calls_spent}
 use Rattle.ti_replay.specs.Standing.{is_standing}
 use Rattle.ti_cell.specs.View.{subject_of}
-use Rattle.ti_slot.specs.Waiting.{HasRoomFor}
 use Rattle.ti_handshake.specs.Desk.{Place}
 use Rattle.ti_replay.specs.Fronts.{stops_by}
 use Rattle.ti_vmop.specs.Turns.{Listed, is_listed, are_paid, spend_all, AtEach, AllStand, IsRead}
@@ -190,7 +187,3 @@ pub record IsNotCounted (state : EnvValue) (threads : List ThreadNo) (e : TiErro
 pub record AreCounts (count : ℕ) (threads : List ThreadNo) (counts : List ℕ) : Type 0 where
   pub length_is : length counts ≡ count
   pub each : (i : ℕ) → i < count → slice_index counts i ≡ times i threads
-
--- empty buffers with room for the frames
-abbrev pub AreRoomy : Limits → ℤ → List buffer.Trace → Type 0
-AreRoomy limits max_count bufs = All (HasRoomFor limits (or_zero max_count)) bufs

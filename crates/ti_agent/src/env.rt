@@ -6,9 +6,9 @@ ghost use Rattle.ti_types.specs.declared.call.Call.TheVariants as call;
 ghost use Rattle.ti_types.specs.declared.error.TiError.TheVariants.{NotAvailable};
 ghost use Rattle.ti_env.specs.Env.{call_refusal, with_caps, with_word};
 ghost use Rattle.ti_replay.specs.Admission.{takes_buffer};
-ghost use Rattle.ti_slot.specs.Waiting.{IsBufferOf};
+ghost use Rattle.ti_agent.specs.Buffers.{IsJustBufferOf};
 ghost use Rattle.ti_agent.specs.Env.{Environment, AreNewDesks};
-ghost use Rattle.ti_agent.specs.Lists.{Posts, Collects, IsOut};
+ghost use Rattle.ti_agent.specs.Posts.{Posts};
 ghost use Rattle.ti_agent.specs.Asks.{Went, IsCalled, IsKind, is_for_memory, in_state, in_count, in_word, in_location, in_trace, in_done};
 
 use crate::answers::{count_in, done_in, location_in, state_in, trace_in, word_in};
@@ -18,7 +18,7 @@ use std::sync::Wait;
 use ti_env::EnvState;
 use ti_handshake::Desk;
 use ti_slot::Asked;
-use ti_types::{Answer, Call, Caps, EnvNo, Frame, ThreadNo, TiError, Ticket, TraceBuf};
+use ti_types::{Answer, Call, Caps, EnvNo, Frame, ThreadNo, TiError, TraceBuf};
 
 /// An agent's environment, with a desk at each thread.
 #[derive(Drop)]
@@ -64,10 +64,11 @@ impl<'a> Env<'a> {
         desks
     }
 
-    /// Asks the thread a call that was admitted, and waits for its answer where it has to.
+    /// Asks the thread a call that was admitted, and waits for its answer if it has to. The buffer has no more room than the
+    /// call takes.
     fn ask_one<R: Wait>(&mut self, rt: &R, thread: ThreadNo, call: Call, buf: TraceBuf) -> Answer
         requires admitted { call_refusal self.old.state thread call ≡ None }
-        requires buf { IsBufferOf self.old.state.limits call buf }
+        requires buf { IsJustBufferOf self.old.state.limits call buf }
         ensures went { Went self.old self.new thread call (said result) }
         ensures kind { IsKind call (said result) }
         ensures room { is_for_memory (said result) ≡ false }
@@ -91,22 +92,20 @@ impl<'a> Env<'a> {
         self.state.caps().has(caps)
     }
 
-    /// Posts a call that was admitted and takes no buffer.
-    pub(crate) fn post_one<R: Wait>(&mut self, rt: &R, thread: ThreadNo, call: Call) -> Asked
+    /// Posts a call that was admitted. The buffer has no more room than the call takes.
+    pub(crate) fn post_one<R: Wait>(
+        &mut self,
+        rt: &R,
+        thread: ThreadNo,
+        call: Call,
+        buf: TraceBuf,
+    ) -> Asked
         requires admitted { call_refusal self.old.state thread call ≡ None }
-        requires bare { takes_buffer call ≡ false }
+        requires buf { IsJustBufferOf self.old.state.limits call buf }
         ensures posts { Posts self.old self.new thread call result }
     {
         self.state.spend(thread);
-        self.desks[thread.0 as usize].post(rt, call, TraceBuf::none())
-    }
-
-    /// The answer to a call that waited, and was not collected.
-    pub(crate) fn collect_one<R: Wait>(&mut self, rt: &R, ticket: Ticket) -> Answer
-        requires out { IsOut self.old ticket }
-        ensures collects { Collects self.old self.new ticket (said result) }
-    {
-        self.desks[ticket.thread.0 as usize].collect(rt, ticket)
+        self.desks[thread.0 as usize].post(rt, call, buf)
     }
 
     /// Asks the thread a call that takes no buffer.

@@ -13,6 +13,7 @@ mod answers;
 mod counting;
 mod env;
 mod lists;
+mod posts;
 mod traces;
 
 pub use env::Env;

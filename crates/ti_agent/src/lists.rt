@@ -12,7 +12,7 @@ use crate::env::Env;
 use std::alloc::Global;
 use std::sync::Wait;
 use ti_slot::Asked;
-use ti_types::{Answer, Call, ThreadNo, TiError, Ticket, needs};
+use ti_types::{Answer, Call, ThreadNo, TiError, Ticket, TraceBuf, needs};
 
 /// What came of a call at one thread when it was posted.
 #[derive(Clone, Copy)]
@@ -42,7 +42,7 @@ impl<'a> Env<'a> {
         if let Err(error) = self.admit(thread, call) {
             return Posted::Code(error.number());
         }
-        match self.post_one(rt, thread, call) {
+        match self.post_one(rt, thread, call, TraceBuf::none()) {
             Asked::Answered(answer) => Posted::Code(code_in(&answer)),
             Asked::Waiting(ticket) => Posted::Waits(ticket),
         }
@@ -75,7 +75,7 @@ impl<'a> Env<'a> {
     {
         match posted {
             Posted::Code(code) => code,
-            Posted::Waits(ticket) => code_in(&self.collect_one(rt, ticket)),
+            Posted::Waits(ticket) => code_in(&self.collect(rt, ticket)),
         }
     }
 

@@ -6,8 +6,9 @@ ghost use Rattle.ti_types.specs.declared.error.TiError.TheVariants.{OutOfMemory}
 ghost use Rattle.ti_types.specs.Refusing.{or_else};
 ghost use Rattle.ti_types.specs.declared.limits.Limits.{Limits};
 ghost use Rattle.ti_vmop.specs.Turns.{AreThere, are_paid, with_reads};
+ghost use Rattle.ti_agent.specs.Buffers.{AreRoomy};
 ghost use Rattle.ti_agent.specs.Env.{IsWhole};
-ghost use Rattle.ti_agent.specs.Traces.{are_there, each_once, is_stack, told_info, told_stack, refusal_of_all, refusal_of_list, refusal_of_counted, AreHeld, AreLeft, AreListed, AreRoomy, HasRead, IsListRefused, IsTraced, TracesAlive};
+ghost use Rattle.ti_agent.specs.Traces.{are_there, each_once, is_stack, told_info, told_stack, refusal_of_all, refusal_of_list, refusal_of_counted, AreHeld, AreLeft, AreListed, HasRead, IsListRefused, IsTraced, TracesAlive};
 
 use crate::counting::{
     all_threads, all_with_one_read, are_all_paid, are_all_there, count_each, counted_threads,
@@ -20,7 +21,7 @@ use ti_handshake::Desk;
 use ti_types::{Answer, EnvNo, StackInfo, ThreadNo, TiError, TraceBuf};
 use ti_vmop::{Round, Standing, VmTurn, stop_all};
 
-/// This many empty buffers.
+/// This many empty buffers, with just the room for `max_count` frames or, if that is less, for the depth.
 fn buffers(
     alloc: Global,
     count: usize,
@@ -58,7 +59,7 @@ fn told_of(thread: ThreadNo, answer: Answer) -> StackInfo
 /// Reads each thread of a list of those that stand, in the list's order, and keeps what it tells.
 fn read_each<R: Wait>(
     rt: &R,
-    standing: &mut Standing<'_>,
+    standing: &mut Standing<'_, '_>,
     desks: &mut [Desk<'_>],
     state: &mut EnvState,
     threads: &[ThreadNo],

@@ -58,7 +58,7 @@ each_push P [] x h p = (p, tt)
 each_push P (y ∷ ys) x h p = (h.0, each_push P ys x h.1 p)
 
 -- a legal history is short enough to be counted in the word
-pub short : (limits : Limits) (history : List Entry) → is_legal limits history ≡ true → length history ≤ 2 ^ 32
+pub short : (limits : Limits) (history : List Entry) → is_legal limits history ≡ true → length history ≤ 2 ^ 60
 short limits history legal =
     let r = limits.in_range in
     let calls : limits.envs * limits.calls ≤ 32 * 1024 = mul-le limits.envs limits.calls 32 1024 r.1.1 r.4.1 in

@@ -28,26 +28,26 @@ tickets_but n tickets = filter (λ t. not (suc t.env.0 == n)) tickets
 
 -- the view of a new seat
 abbrev pub newcomer : Subject → ℕ → ℕ → View
-newcomer subject number made = record { number = number; seen = []; mine = []; looked = []; posted = []; found = []; holds = false; made = made; back = []; gone = false; subject = subject }
+newcomer subject number made = record { number = number; seen = []; mine = []; looked = []; posted = []; found = []; taken = 0; holds = false; made = made; back = []; gone = false; subject = subject }
 
 -- the owner's view, with one more seat made
 abbrev pub splitter : View → View
-splitter v = record { number = v.number; seen = v.seen; mine = v.mine; looked = v.looked; posted = v.posted; found = v.found; holds = v.holds; made = v.made + 1; back = v.back; gone = v.gone; subject = v.subject }
+splitter v = record { number = v.number; seen = v.seen; mine = v.mine; looked = v.looked; posted = v.posted; found = v.found; taken = v.taken; holds = v.holds; made = v.made + 1; back = v.back; gone = v.gone; subject = v.subject }
 
 abbrev pub split_off : View → View
 split_off v = newcomer v.subject v.made 0
 
 -- the view with a history seen whole, which it holds
 abbrev pub holding : View → List Entry → List Ticket → View
-holding v history tickets = record { number = v.number; seen = history; mine = v.mine; looked = v.looked; posted = v.posted; found = tickets; holds = true; made = v.made; back = v.back; gone = v.gone; subject = v.subject }
+holding v history tickets = record { number = v.number; seen = history; mine = v.mine; looked = v.looked; posted = v.posted; found = tickets; taken = v.taken + 1; holds = true; made = v.made; back = v.back; gone = v.gone; subject = v.subject }
 
 -- the view with the history that it stored, whose further entries are its own
 abbrev pub stored : View → List Entry → List Ticket → View
-stored v history tickets = record { number = v.number; seen = history; mine = v.mine ++ drop (length v.seen) history; looked = v.looked; posted = tickets_of v.number tickets; found = []; holds = false; made = v.made; back = v.back; gone = v.gone; subject = v.subject }
+stored v history tickets = record { number = v.number; seen = history; mine = v.mine ++ drop (length v.seen) history; looked = v.looked; posted = tickets_of v.number tickets; found = []; taken = v.taken; holds = false; made = v.made; back = v.back; gone = v.gone; subject = v.subject }
 
 -- the view with one more load
 abbrev pub glanced : View → Look → View
-glanced v look = record { number = v.number; seen = v.seen; mine = v.mine; looked = v.looked ++ look ∷ []; posted = v.posted; found = v.found; holds = v.holds; made = v.made; back = v.back; gone = v.gone; subject = v.subject }
+glanced v look = record { number = v.number; seen = v.seen; mine = v.mine; looked = v.looked ++ look ∷ []; posted = v.posted; found = v.found; taken = v.taken; holds = v.holds; made = v.made; back = v.back; gone = v.gone; subject = v.subject }
 
 -- what a seat knows, as one user of the slot
 abbrev pub as_user : View → User
@@ -55,7 +55,7 @@ as_user v = record { number = v.number; seen = v.seen; mine = v.mine; looked = v
 
 -- the owner's view, to which the seat with the view w came back
 abbrev pub rejoined : View → View → View
-rejoined v w = record { number = v.number; seen = v.seen; mine = v.mine; looked = v.looked; posted = v.posted; found = v.found; holds = v.holds; made = v.made; back = v.back ++ as_user w ∷ []; gone = v.gone; subject = v.subject }
+rejoined v w = record { number = v.number; seen = v.seen; mine = v.mine; looked = v.looked; posted = v.posted; found = v.found; taken = v.taken; holds = v.holds; made = v.made; back = v.back ++ as_user w ∷ []; gone = v.gone; subject = v.subject }
 
 -- some subject
 abbrev nothing : Subject
@@ -63,7 +63,7 @@ nothing = record { limits = least; thread = record { 0 = 0 } }
 
 -- the view of a seat that came back
 abbrev pub nobody : View
-nobody = record { number = 0; seen = []; mine = []; looked = []; posted = []; found = []; holds = false; made = 0; back = []; gone = true; subject = nothing }
+nobody = record { number = 0; seen = []; mine = []; looked = []; posted = []; found = []; taken = 0; holds = false; made = 0; back = []; gone = true; subject = nothing }
 
 -- the users of the slot that a seat knows: itself, and those that came back to it
 abbrev pub users : View → List User

@@ -1,5 +1,5 @@
 //! The cell of a thread: how it is made, looked at and closed, and how seats come back to it.
-ghost use Rattle.std.specs.Prelude.{◌≡◌, ◌+◌, true, false, [], ◌∷◌, length, ◌≤◌, IfOk, IfErr, IfSome, None};
+ghost use Rattle.std.specs.Prelude.{◌≡◌, ◌+◌, true, false, [], ◌∷◌, length, ◌≤◌, IfOk, IfErr, IfSome, IfNone, None};
 ghost use Rattle.ti_types.specs.declared.error.TiError.TheVariants as TiError;
 ghost use Rattle.ti_replay.specs.Legal.{is_legal};
 ghost use Rattle.ti_replay.specs.Makers.{made_by, Adds, StartsWith};
@@ -11,13 +11,14 @@ use crate::hold::Hold;
 use crate::look::Look;
 use crate::parked::{Parked, unpark};
 use crate::seat::{CellSeat, EnvSeat, OwnSeat, Pass};
+use crate::sleepers::{Sleepers, Wish};
 use crate::view::{CellRule, Frees, Glances, Locks, Returns, Seats, Subject, View};
 use crate::word::Word;
 use atomic_table::Table;
+use crossbeam_utils::Backoff;
 use std::alloc::{AllocError, Global};
 use std::marker::{Model, PhantomData};
 use std::sync::Wait;
-use std::thread;
 use ti_slot::Slot;
 use ti_types::{Limits, ThreadNo, TiError};
 
@@ -27,6 +28,7 @@ use ti_types::{Limits, ThreadNo, TiError};
 #[derive(Drop)]
 pub struct ThreadCell {
     table: Table<Option<Parked>, View, Subject, CellRule, Global>,
+    sleepers: Sleepers,
 }
 
 impl Model for ThreadCell {
@@ -89,7 +91,10 @@ impl ThreadCell {
             Err(refused) => return Err(AllocError::from(refused).into()),
         }
         match Table::new(alloc, &[0], slots, &subject) {
-            Ok((table, pass)) => Ok((ThreadCell { table }, pass)),
+            Ok((table, pass)) => {
+                let sleepers = Sleepers::nobody();
+                Ok((ThreadCell { table, sleepers }, pass))
+            }
             Err(_) => Err(TiError::OutOfMemory),
         }
     }
@@ -111,7 +116,8 @@ impl ThreadCell {
         }
     }
 
-    /// Sets the lock bit and moves the slot out, once nobody holds the cell. Between its looks it gives its processor up.
+    /// Sets the lock bit and moves the slot out, once nobody holds the cell. Between its looks it pauses, then yields its
+    /// processor, and then it sleeps.
     ///
     /// The slot has one legal history, which begins with all that the seat has seen and has of its number just the
     /// entries that were made from it. What the seat looked at was that history, when it had the length of the look.
@@ -138,35 +144,119 @@ impl ThreadCell {
         }
     }
 
-    /// Takes the lock bit and the slot. Where another has it, the processor is given up between the looks: a hold is short,
-    /// and who only paused would follow its holder from cell to cell.
+    /// Takes the lock bit and the slot. While another has it, `Backoff` paces the looks: first pauses, since a hold is
+    /// short, then yields. When it has had enough, the holder does not run, and whoever looks goes to sleep.
     fn take<R: Wait>(&self, rt: &R, seat: &mut Pass) -> Parked
         requires { (seat.old.table_id ≡ self.now) × (seat.old.me.1 ≡ []) × (seat.old.me.0.gone ≡ false) }
         ensures seat { (seat.new.table_id ≡ seat.old.table_id) × (seat.new.me ≡ (holding seat.old.me.0 result.history result.uncollected, (0, None) ∷ [])) }
         ensures taken { IsTaken seat.old.me.0 result }
     {
+        let backoff = Backoff::new();
         for _ in rt.forever() {
-            let word = Word {
-                bits: self.table.shared.peek(0),
-            };
-            if word.is_free() {
-                let found = self
-                    .table
-                    .shared
-                    .compare_exchange::<Locks>(seat, 0, word.bits, word.locked().bits);
-                if found == word.bits {
-                    let Some(slot) = self.table.shared.exchange(seat, 0, None) else {
-                        unreachable!()
-                    };
-                    return slot;
-                }
+            if let Some(slot) = self.try_take(seat) {
+                return slot;
             }
-            thread::yield_now();
+            if backoff.is_completed() {
+                self.sleep(rt, Wish::Free);
+                backoff.reset();
+            } else {
+                backoff.snooze();
+            }
         }
         unreachable!()
     }
 
-    /// Puts the slot back and clears the lock bit.
+    /// The same by one try, which never waits: the seat comes back as it was when another holds the cell, or came first.
+    pub fn try_hold<'a, K>(&'a self, seat: CellSeat<K>) -> Result<Hold<'a, K>, CellSeat<K>>
+        requires cell { seat.cell ≡ self.now }
+        ensures cell { IfOk result (λ h. h.cell ≡ self.now) }
+        ensures view { IfOk result (λ h. h.view ≡ holding seat.view h.slot.history h.slot.uncollected) }
+        ensures taken { IfOk result (λ h. IsTaken seat.view h.slot) }
+        ensures busy { IfErr result (λ s. s ≡ seat) }
+    {
+        let CellSeat {
+            mut seat,
+            number,
+            count,
+            role,
+        } = seat;
+        match self.try_take(&mut seat) {
+            Some(slot) => Ok(Hold {
+                cell: self,
+                seat,
+                number,
+                slot,
+                role,
+            }),
+            None => Err(CellSeat {
+                seat,
+                number,
+                count,
+                role,
+            }),
+        }
+    }
+
+    /// Takes the lock bit and the slot by one load and one exchange of the word, unless another has them.
+    #[inline]
+    fn try_take(&self, seat: &mut Pass) -> Option<Parked>
+        requires { (seat.old.table_id ≡ self.now) × (seat.old.me.1 ≡ []) × (seat.old.me.0.gone ≡ false) }
+        ensures table { seat.new.table_id ≡ seat.old.table_id }
+        ensures seat { IfSome result (λ p. seat.new.me ≡ (holding seat.old.me.0 p.history p.uncollected, (0, None) ∷ [])) }
+        ensures taken { IfSome result (λ p. IsTaken seat.old.me.0 p) }
+        ensures busy { IfNone result (seat.new.me ≡ seat.old.me) }
+    {
+        let word = Word {
+            bits: self.table.shared.peek(0),
+        };
+        if !word.is_free() {
+            return None;
+        }
+        let found = self
+            .table
+            .shared
+            .compare_exchange::<Locks>(seat, 0, word.bits, word.locked().bits);
+        if found != word.bits {
+            return None;
+        }
+        let Some(slot) = self.table.shared.exchange(seat, 0, None) else {
+            unreachable!()
+        };
+        Some(slot)
+    }
+
+    /// Sleeps where the thread's history has no more entries than the seat has seen, until somebody stores. It may return
+    /// sooner.
+    pub fn sleep_without_news<K, R: Wait>(&self, rt: &R, seat: &CellSeat<K>) {
+        self.sleep(rt, Wish::More(seat.count as u64));
+    }
+
+    /// Sleeps where the thread is barred, until a store leaves it not barred. Other stores do not wake it. It may return
+    /// sooner.
+    pub fn sleep_while_barred<R: Wait>(&self, rt: &R) {
+        self.sleep(rt, Wish::Unbarred);
+    }
+
+    /// Sleeps on the word where it does not show what is waited for, until somebody is called for it (`Sleepers`).
+    #[inline(never)]
+    fn sleep<R: Wait>(&self, rt: &R, wish: Wish) {
+        self.sleepers.add(wish);
+        let word = Word {
+            bits: self.table.shared.peek(0),
+        };
+        if !wish.is_met(word) {
+            self.table.shared.park(rt, 0, word.low_half());
+        }
+        self.sleepers.remove(wish);
+    }
+
+    /// Wakes all who sleep on the word.
+    #[inline(never)]
+    fn wake(&self) {
+        self.table.shared.wake_all(0);
+    }
+
+    /// Puts the slot back, clears the lock bit, and wakes who sleeps, if there is one for whom the store is.
     pub(crate) fn give(&self, seat: &mut Pass, slot: Parked)
         requires seat { (seat.old.table_id ≡ self.now) × (seat.old.me.1 ≡ (0, None) ∷ []) × (seat.old.me.0.holds ≡ true) × (seat.old.me.0.gone ≡ false) }
         requires adds { Adds seat.old.me.0.number seat.old.me.0.seen slot.history }
@@ -179,6 +269,9 @@ impl ThreadCell {
         let word = Word::free(slot.len(), slot.armed(), slot.barred());
         drop(self.table.shared.exchange(seat, 0, Some(slot)));
         self.table.shared.store::<Frees>(seat, 0, word.bits);
+        if self.sleepers.are_called(word) {
+            self.wake();
+        }
     }
 
     /// What the word shows, by one load: the bits of the history as it stands, and its length, which is not below the
@@ -231,7 +324,7 @@ impl ThreadCell {
         ensures last { IsAlone seat.view → IfSome result (λ s. WasSeen s.history (users seat.view)) }
         ensures about { IfSome result (λ s. IsAbout seat.view.subject s) }
     {
-        let ThreadCell { table } = self;
+        let ThreadCell { table, sleepers: _ } = self;
         let CellSeat {
             seat,
             number: _,

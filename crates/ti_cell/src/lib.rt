@@ -17,7 +17,8 @@
 //! - A hold is stored: one that is let go of is a compile error. So is a seat that is used twice.
 //! - Only `ThreadCell::make` takes memory, and its only error is want of it.
 //!
-//! That a hold comes to an end is not promised: it waits as long as others hold the cell, so it takes `Wait`.
+//! That a hold comes to an end is not promised: it waits as long as others hold the cell, so it takes `Wait`. Who waits
+//! sleeps after some looks, and a store wakes it; no contract says either.
 #![tactic(auto)]
 
 mod cell;
@@ -27,6 +28,7 @@ mod look;
 mod parked;
 mod parked_lends;
 mod seat;
+mod sleepers;
 mod view;
 mod word;
 

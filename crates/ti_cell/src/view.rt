@@ -26,6 +26,8 @@ pub struct View {
     pub posted: LinkedList<Ticket>,
     /// While the seat holds the cell: all such tickets, of whatever seat, as it found them.
     pub found: LinkedList<Ticket>,
+    /// How often the seat took the cell.
+    pub taken: u64,
     /// Whether the seat holds the cell.
     pub holds: bool,
     /// At the owner's seat, how many seats were made, itself among them.

@@ -14,7 +14,7 @@ pub struct Word {
 impl Word {
     /// The word of a cell that nobody holds.
     pub fn free(count: usize, armed: bool, barred: bool) -> Word
-        requires count { count ≤ 2 ^ 32 }
+        requires count { count ≤ 2 ^ 60 }
         ensures bits { result.bits ≡ word_at count barred armed false }
     {
         Word {
@@ -37,6 +37,12 @@ impl Word {
         Word {
             bits: self.bits + 1,
         }
+    }
+
+    /// The half of the word on which who waits sleeps: a change of the other half alone is no change for them. Its count
+    /// comes round after 2^29 entries.
+    pub fn low_half(self) -> u32 {
+        (self.bits & 0xffff_ffff) as u32
     }
 
     /// What lies in the cell's place, where the lock bit is clear; else nothing, since the place is the holder's.

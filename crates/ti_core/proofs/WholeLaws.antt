@@ -66,6 +66,7 @@ parts_passed limits h (Some f) (Some l) x p k = record {
   depth = k.depth;
   goes = steps_stay limits h l.steps x p ∙ k.goes;
   room = k.room;
+  kept = k.kept;
 }
 
 -- a call, a stop or a go
@@ -126,7 +127,7 @@ runs-snoc limits h x =
 
 -- the thread gets its frames, and a log with nothing in it
 pub whole_away : (t u : Thread) (x : Entry) (f : Stack) (l : Steps) → ((r : Bool) → runs_after r x ≡ true) → u ≡ with_more t (x ∷ []) → f.frames ≡ (view u.limits u.history).frames → f.depth ≡ t.limits.depth
-    → l.steps ≡ [] → l.room ≡ t.limits.own → is_legal u.limits u.history ≡ true → IsWhole u (Some f) (Some l)
+    → l.steps ≡ [] → (l.room ≡ t.limits.own) × (l.kept ≡ t.limits.kept) → is_legal u.limits u.history ≡ true → IsWhole u (Some f) (Some l)
 whole_away t u x f l a e newest depth none room legal =
     let el : u.limits ≡ t.limits = ap (λ (z : Thread). z.limits) e in
     let eh : u.history ≡ t.history ++ x ∷ [] = ap (λ (z : Thread). z.history) e in
@@ -137,7 +138,8 @@ whole_away t u x f l a e newest depth none room legal =
         newest = newest ∙ rw (none, append-nil) refl;
         depth = depth ∙ ap (λ (z : Limits). z.depth) (sym el);
         goes = rw none refl;
-        room = room ∙ ap (λ (z : Limits). z.own) (sym el);
+        room = room.0 ∙ ap (λ (z : Limits). z.own) (sym el);
+        kept = room.1 ∙ ap (λ (z : Limits). z.kept) (sym el);
       };
     }
 
@@ -150,7 +152,7 @@ whole_back t u (Some g) f None k free e newest depth legal = absurd k.parts
 whole_back t u (Some g) f (Some l) k free e newest depth legal = let n : is_running (view t.limits t.history).mode ≡ true = k.parts.runs in absurd (grind (arith, n, free))
 
 -- a thread that hands over or ends
-pub whole_home : (t u : Thread) (x : Entry) (steps : List Step) (l : Steps) → is_hand_over x ≡ true → u ≡ with_more t (steps_of steps ++ x ∷ []) → l.steps ≡ [] → l.room ≡ t.limits.own → is_legal u.limits u.history ≡ true
+pub whole_home : (t u : Thread) (x : Entry) (steps : List Step) (l : Steps) → is_hand_over x ≡ true → u ≡ with_more t (steps_of steps ++ x ∷ []) → l.steps ≡ [] → (l.room ≡ t.limits.own) × (l.kept ≡ t.limits.kept) → is_legal u.limits u.history ≡ true
     → IsWhole u None (Some l)
 whole_home t u x steps l hand e none room legal =
     let el : u.limits ≡ t.limits = ap (λ (z : Thread). z.limits) e in
@@ -158,7 +160,7 @@ whole_home t u x steps l hand e none room legal =
     let off : runs_after (is_running (view t.limits (t.history ++ steps_of steps)).mode) x ≡ false = hand_stops (is_running (view t.limits (t.history ++ steps_of steps)).mode) x hand in
     record {
       legal = legal;
-      parts = (record { rests = rw (el, eh) (runs-snoc t.limits (t.history ++ steps_of steps) x ∙ off); none = none }, room ∙ ap (λ (z : Limits). z.own) (sym el));
+      parts = (record { rests = rw (el, eh) (runs-snoc t.limits (t.history ++ steps_of steps) x ∙ off); none = none }, (room.0 ∙ ap (λ (z : Limits). z.own) (sym el), room.1 ∙ ap (λ (z : Limits). z.kept) (sym el)));
     }
   where
     hand_stops : (r : Bool) (x : Entry) → is_hand_over x ≡ true → runs_after r x ≡ false
@@ -231,6 +233,7 @@ whole_stepped t f g l m step k free eg em =
             ∙ goes_on-append t.limits t.history (steps_of l.steps) (Own step ∷ [])
             ∙ grind (arith, k.parts.goes, step_may t l.steps step free);
         room = ap (λ (z : Steps). z.room) em ∙ k.parts.room;
+        kept = ap (λ (z : Steps). z.kept) em ∙ k.parts.kept;
       };
     }
 

@@ -27,6 +27,7 @@ pub record RunsWith (limits : Limits) (history : List Entry) (frames : Stack) (l
   pub depth : frames.depth ≡ limits.depth
   pub goes : goes_on limits history (steps_of log.steps) ≡ true
   pub room : log.room ≡ limits.own
+  pub kept : log.kept ≡ limits.kept
 
 -- a thread that does not run has none, and nothing is logged
 pub record RestsWith (limits : Limits) (history : List Entry) (steps : List Step) : Type 0 where
@@ -36,7 +37,7 @@ pub record RestsWith (limits : Limits) (history : List Entry) (steps : List Step
 -- the log is made with the thread's start
 abbrev pub HasLog : Limits → Mode → Option Steps → Type 0
 HasLog limits mode None = is_new mode ≡ true
-HasLog limits mode (Some l) = l.room ≡ limits.own
+HasLog limits mode (Some l) = (l.room ≡ limits.own) × (l.kept ≡ limits.kept)
 
 abbrev pub AreWith : Limits → List Entry → Option Stack → Option Steps → Type 0
 AreWith limits history None log = RestsWith limits history (steps_in log) × HasLog limits (view limits history).mode log

@@ -1,6 +1,6 @@
 //! What the arguments ask for.
-ghost use Rattle.std.specs.Prelude.{◌≡◌, map, string_bytes};
-ghost use Rattle.ti_driver.specs.Commands.{command_named, command_of};
+ghost use Rattle.std.specs.Prelude.{◌≡◌, map, string_bytes, IfErr};
+ghost use Rattle.ti_driver.specs.Commands.{command_named, command_of, IsUsageOrMemory};
 
 use crate::fault::Fault;
 use std::env;
@@ -42,7 +42,9 @@ pub fn command_of(words: &[String]) -> Result<Command, Fault>
 }
 
 /// The arguments after the program's name. One that is no text is none of the words.
-fn arguments<R: Env + AllocGlobal>(rt: &R) -> Result<Vec<String>, Fault> {
+fn arguments<R: Env + AllocGlobal>(rt: &R) -> Result<Vec<String>, Fault>
+    ensures { IfErr result (λ e. IsUsageOrMemory e) }
+{
     let mut words = match env::args(rt) {
         Ok(words) => words,
         Err(e) => {
@@ -60,6 +62,9 @@ fn arguments<R: Env + AllocGlobal>(rt: &R) -> Result<Vec<String>, Fault> {
 
 /// The command that the process was started with. `Usage` for arguments that ask for none, also where one of them is
 /// no text; `Memory` where memory runs out for them. Nothing is read. Source: this profile.
-pub fn asked_command<R: Env + AllocGlobal>(rt: &R) -> Result<Command, Fault> {
-    command_of(&arguments(rt)?)
+pub fn asked_command<R: Env + AllocGlobal>(rt: &R) -> Result<Command, Fault>
+    ensures { IfErr result (λ e. IsUsageOrMemory e) }
+{
+    let words = arguments(rt)?;
+    command_of(&words)
 }

@@ -2,7 +2,11 @@
 ghost use Rattle.std.specs.Prelude.{◌≡◌, ◌≤◌, ◌+◌, ◌-◌, ◌<◌, ◌++◌, [], ◌∷◌, length, IfOk, IfErr, MatchResult, Some, None, slice_get, take, drop, min};
 ghost use Rattle.ti_types.specs.Frames.{without_newest};
 ghost use Rattle.ti_frames.specs.Frames.{with_frames, frames_after, step_refusal};
+ghost use Rattle.ti_frames.specs.Changes.{shared as shared_of, leaves, steps_keeping, frames_keeping};
+ghost use Rattle.ti_frames.specs.Log.{with_steps};
 
+use crate::changes::{entries_len, log_entries, shared_frames};
+use crate::log::Log;
 use std::alloc::Global;
 use std::marker::Model;
 use ti_types::{Frame, Place, Step, TiError, TraceBuf};
@@ -137,6 +141,90 @@ impl Frames {
             }
             Step::Leave => self.pop(),
         }
+    }
+
+    /// How many of the oldest frames are also the oldest of these, which are listed newest first.
+    pub fn shared(&self, frames: &[Frame]) -> usize
+        ensures shared { result ≡ shared_of self.now.frames frames.now }
+        ensures old { result ≤ length self.now.frames }
+        ensures new { result ≤ length frames.now }
+    {
+        shared_frames(self.items.as_slice(), frames)
+    }
+
+    /// How many steps it takes to leave all but the oldest `keep` frames, and to enter others, listed newest first.
+    pub fn steps_over(&self, keep: usize, newest: &[Frame]) -> usize
+        requires keep { keep ≤ length self.now.frames }
+        requires depth { keep + length newest.now ≤ self.now.depth }
+        ensures { result ≡ length (steps_keeping keep self.now.frames newest.now) }
+    {
+        let _depth = self.depth();
+        self.len() - keep + entries_len(newest)
+    }
+
+    /// Logs the steps that leave all but the oldest `keep` frames, and enter others, listed newest first.
+    pub fn log_over(&self, keep: usize, newest: &[Frame], log: &mut Log)
+        requires keep { keep ≤ length self.now.frames }
+        requires room { length log.old.steps + length (steps_keeping keep self.now.frames newest.now) ≤ log.old.room }
+        ensures { log.new ≡ with_steps log.old (log.old.steps ++ steps_keeping keep self.now.frames newest.now) }
+    {
+        self.log_leaves(self.len() - keep, log);
+        log_entries(newest, log);
+    }
+
+    /// Logs that the newest `count` frames are left.
+    fn log_leaves(&self, count: usize, log: &mut Log)
+        requires count { count ≤ length self.now.frames }
+        requires room { length log.old.steps + count ≤ log.old.room }
+        ensures { log.new ≡ with_steps log.old (log.old.steps ++ leaves (take count self.now.frames)) }
+    {
+        for i in 0..count {
+            log.push(Step::Leave);
+        }
+    }
+
+    /// Takes all but the oldest `keep` frames away, and puts others over those, listed newest first.
+    pub fn put_over(&mut self, keep: usize, newest: &[Frame])
+        requires keep { keep ≤ length self.old.frames }
+        requires depth { keep + length newest.now ≤ self.old.depth }
+        ensures { self.new ≡ with_frames self.old (frames_keeping keep self.old.frames newest.now) }
+    {
+        self.keep(keep);
+        self.push_all(newest);
+    }
+
+    /// Takes all but the oldest `keep` frames away.
+    fn keep(&mut self, keep: usize)
+        requires { keep ≤ length self.old.frames }
+        ensures { self.new ≡ with_frames self.old (drop (length self.old.frames - keep) self.old.frames) }
+    {
+        self.items.truncate(keep);
+    }
+
+    /// Puts frames over those that are there, listed newest first.
+    fn push_all(&mut self, newest: &[Frame])
+        requires { length newest.now + length self.old.frames ≤ self.old.depth }
+        ensures { self.new ≡ with_frames self.old (newest.now ++ self.old.frames) }
+    {
+        for i in 0..newest.len() {
+            self.push(newest[newest.len() - 1 - i]);
+        }
+    }
+
+    /// Puts these frames in place of all, listed newest first. The oldest frames that are the same stay as they are, and
+    /// only the others are written.
+    ///
+    /// Refused with `Overflow` (201) where these are more than the depth. Then nothing changes.
+    pub fn replace(&mut self, frames: &[Frame]) -> Result<(), TiError>
+        ensures when { MatchResult result (λ _. length frames.now ≤ self.old.depth) (λ e. (self.old.depth < length frames.now) × (e ≡ TiError.Overflow)) }
+        ensures frames { MatchResult result (λ _. self.new ≡ with_frames self.old frames.now) (λ _. self.new ≡ self.old) }
+    {
+        if (self.depth as usize) < frames.len() {
+            return Err(TiError::Overflow);
+        }
+        let keep = self.shared(frames);
+        self.put_over(keep, &frames[..frames.len() - keep]);
+        Ok(())
     }
 
     /// Puts a newest frame.

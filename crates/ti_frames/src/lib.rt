@@ -13,8 +13,10 @@
 //! - Only `Frames::new` and `Log::new` take memory, and their only error is want of it.
 #![tactic(auto)]
 
+mod changes;
 mod frames;
 mod log;
 
+pub use changes::{kept_frames_stay, steps_lead_between};
 pub use frames::Frames;
 pub use log::Log;

@@ -1,40 +1,49 @@
 //! The steps that a thread made since it last handed over.
 ghost use Rattle.std.specs.Prelude.{◌≡◌, ◌<◌, ◌≤◌, ◌++◌, [], ◌∷◌, length, IfOk, IfErr, nat_le};
 ghost use Rattle.ti_frames.specs.Log.{with_steps};
+ghost use Rattle.ti_trail.specs.Record.{is_kept};
 
 use std::alloc::Global;
+use std::fmt;
 use std::marker::Model;
+use ti_trail::{Record, Recording};
 use ti_types::{Step, TiError};
 
 /// The steps that a thread has made since it last handed over, in order, with room for as many as it may make at all.
-#[derive(Drop, Debug)]
+/// They are counted, and take memory only where they are to be read again.
+#[derive(Drop)]
 pub struct Log {
-    items: Vec<Step>,
-    room: u32,
+    steps: Record<Step>,
 }
 
 impl Model for Log {
-    ghost use Rattle.std.specs.Prelude.{◌≤◌, length, vec_capacity};
     ghost use Rattle.ti_frames.specs.Log.{Steps};
 
     ghost Value = { Steps };
 
-    ghost view = { λ s. record { steps = s.items.items; room = s.room } };
+    ghost view = { λ s. record { steps = s.steps.items; room = s.steps.room; kept = s.steps.kept } };
+}
 
-    ghost invariant = { λ s. (length s.items.items ≤ s.room) × (s.room ≤ vec_capacity s.items) };
+impl fmt::Debug for Log {
+    fn fmt<W: fmt::Write>(&self, f: &mut fmt::Formatter<W>) -> fmt::Result {
+        let len = self.len();
+        write!(f, "{len} steps")
+    }
 }
 
 impl Log {
     /// An empty log, with room for `own` steps.
     ///
-    /// Fails with `OutOfMemory` (110) where there is no memory for the room, and in no other case (this profile).
-    pub fn new(alloc: Global, own: u32) -> Result<Self, TiError>
+    /// Fails with `OutOfMemory` (110) where the steps are to be kept and there is no memory for the room, and in no
+    /// other case (this profile).
+    pub fn new(alloc: Global, own: u64, recording: Recording) -> Result<Self, TiError>
         ensures steps { IfOk result (λ l. l.steps ≡ []) }
         ensures room { IfOk result (λ l. l.room ≡ own) }
+        ensures kept { IfOk result (λ l. l.kept ≡ is_kept recording) }
         ensures memory { IfErr result (λ e. e ≡ TiError.OutOfMemory) }
     {
-        let items = Vec::with_capacity(alloc, own as usize)?;
-        Ok(Log { items, room: own })
+        let steps = Record::new(alloc, own, recording)?;
+        Ok(Log { steps })
     }
 
     /// How many steps there are, at most the room.
@@ -42,21 +51,22 @@ impl Log {
         ensures len { result ≡ length self.now.steps }
         ensures fits { result ≤ self.now.room }
     {
-        self.items.len()
+        self.steps.len() as usize
     }
 
     /// Whether there is no room for another step.
     pub fn is_full(&self) -> bool
         ensures { result ≡ nat_le self.now.room (length self.now.steps) }
     {
-        self.room as usize <= self.items.len()
+        self.steps.is_full()
     }
 
-    /// The steps in order.
-    pub fn steps(&self) -> &[Step]
-        ensures { result.now ≡ self.now.steps }
+    /// The steps in order, for a record to take in.
+    pub fn steps(&self) -> &Record<Step>
+        ensures items { result.now.items ≡ self.now.steps }
+        ensures kept { result.now.kept ≡ self.now.kept }
     {
-        self.items.as_slice()
+        &self.steps
     }
 
     /// Adds a step at the end, for which there is room: `is_full` is the test.
@@ -64,16 +74,13 @@ impl Log {
         requires { length self.old.steps < self.old.room }
         ensures { self.new ≡ with_steps self.old (self.old.steps ++ step ∷ []) }
     {
-        match self.items.push(step) {
-            Ok(()) => (),
-            Err(_) => unreachable!(),
-        }
+        self.steps.push(step);
     }
 
     /// Takes all steps away. The room stays.
     pub fn clear(&mut self)
         ensures { self.new ≡ with_steps self.old [] }
     {
-        self.items.clear();
+        self.steps.clear();
     }
 }

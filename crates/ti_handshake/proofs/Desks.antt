@@ -1,5 +1,5 @@
 -- A desk's call: what was taken, what was stored, and what the call tells.
-use Rattle.std.proofs.Common.{◌≡◌, ℕ, suc, ◌+◌, ◌<◌, ◌==◌, Bool, cond, true, false, inl, inr, eq-eqb, append-nil, refl, List, [], ◌∷◌, ◌++◌, length, append_assoc, sym, ap, ◌∙◌, subst, arith, Option, Some, None}
+use Rattle.std.proofs.Common.{◌≡◌, ℕ, suc, ◌+◌, ◌<◌, ◌==◌, Bool, cond, true, false, inl, inr, eq-eqb, ne_eqb, append-nil, refl, List, [], ◌∷◌, ◌++◌, length, append_assoc, sym, ap, ◌∙◌, subst, arith, Option, Some, None}
 use Rattle.atomic_table.specs.Seated.{TableId}
 use Rattle.ti_types.specs.declared.answer.Answer.{Answer}
 use Rattle.ti_types.specs.declared.call.Call.{Call}
@@ -12,7 +12,9 @@ use Rattle.ti_types.specs.declared.numbers.ThreadNo.{ThreadNo}
 use Rattle.ti_replay.specs.Legal.{is_legal, asked_by, calls_spent}
 use Rattle.ti_replay.specs.Makers.{made_by, maker, AllBy, Adds}
 use Rattle.std.specs.Prelude.{is_some, IfSome, nat_lt, ◌&&◌, if◌then◌else◌}
-use Rattle.std.proofs.lemmas.Bool.{cases_Bool, eqb-true}
+use Rattle.std.proofs.lemmas.Bool.{cases_Bool, cases_eq, eqb-true}
+use Rattle.std.specs.Option.{option_map}
+use Rattle.ti_types.specs.Answer.{said}
 use Rattle.std.proofs.lemmas.Bool.Decides.{nat_tests}
 use Rattle.std.proofs.lemmas.List.Elements.{filter-append}
 use Rattle.ti_replay.specs.Events.{if_none}
@@ -244,21 +246,47 @@ of_number n t (u ∷ tickets) h =
       | inr not_own ↦ of_number n t tickets (grind (arith, h, not_own))
     ]
 
-own_number : (p : Place) (env : EnvNo) (s : Sitting) (h : Holding) (n : Thread) (t : Ticket) → Took p env s h n → has t p.view.posted ≡ true → suc t.env.0 ≡ env.0 + 1
-own_number p env s h n t k out = of_number (env.0 + 1) t n.uncollected (ap (has t) (sym (posted_is p env s h n k)) ∙ out)
+-- a ticket is among those of its environment's seat alone
+own_has : (env : EnvNo) (t : Ticket) (tickets : List Ticket) → has t (tickets_of (env.0 + 1) tickets) ≡ (t.env.0 == env.0 && has t tickets)
+own_has env t tickets =
+    elim (cases_eq t.env.0 env.0) [
+      | inl e ↦ let is = has_of (env.0 + 1) t (omega (arith, e)) tickets in grind (arith, nat_tests, e, is)
+      | inr n ↦
+          let none : has t (tickets_of (env.0 + 1) tickets) ≡ false = elim (cases_Bool (has t (tickets_of (env.0 + 1) tickets))) [
+            | inl h ↦ absurd (let e = of_number (env.0 + 1) t tickets h in n (omega (arith, e)))
+            | inr h ↦ h
+          ] in
+          let other : (t.env.0 == env.0) ≡ false = ne_eqb t.env.0 env.0 n in
+          none ∙ sym (ap (λ (b : Bool). b && has t tickets) other)
+    ]
+
+-- who is answered asked by a ticket of its own
+pub own_answered : (env : EnvNo) (t : Ticket) (there : Bool) (told : Option Answer) (r : Option Answer) → option_map said r ≡ (if t.env.0 == env.0 && there then told else None)
+    → IfSome r (λ a. suc t.env.0 ≡ env.0 + 1)
+own_answered env t there told None e = tt
+own_answered env t there told (Some a) e =
+    elim (cases_Bool (t.env.0 == env.0)) [
+      | inl own ↦ let q = eqb-true t.env.0 env.0 own in omega (arith, q)
+      | inr other ↦
+          let never : Some (said a) ≡ None = e ∙ ap (λ (b : Bool). if b && there then told else None) other in
+          absurd (let z : ⊥ = some_none never in z)
+    ]
+  where
+    some_none : Some (said a) ≡ None → ⊥
+    some_none h = cc
 
 -- a collection by one hold
-pub collects : (p : Place) (env : EnvNo) (s : Sitting) (h : Holding) (n m : Thread) (w : View) (t : Ticket) (r : Option Answer) → Took p env s h n → has t p.view.posted ≡ true
+pub collects : (p : Place) (env : EnvNo) (s : Sitting) (h : Holding) (n m : Thread) (w : View) (t : Ticket) (r : Option Answer) → Took p env s h n → IfSome r (λ a. suc t.env.0 ≡ env.0 + 1)
     → m ≡ with_tickets n (if is_some r then without_ticket t n.uncollected else n.uncollected)
     → w ≡ stored h.view m.history m.uncollected → is_legal w.subject.limits w.seen ≡ true → w.mine ≡ made_by w.number w.seen
     → HoldsWith p.view w [] (if is_some r then without_ticket t p.view.posted else p.view.posted)
-collects p env s h n m w t r k out is store legal whole =
+collects p env s h n m w t r k own is store legal whole =
     stores_with p env s h n m w [] (if is_some r then without_ticket t p.view.posted else p.view.posted) k store
-    (ap (λ (x : Thread). x.history) is ∙ sym (append-nil n.history)) legal whole (ap (λ (x : Thread). tickets_of (env.0 + 1) x.uncollected) is ∙ left r)
+    (ap (λ (x : Thread). x.history) is ∙ sym (append-nil n.history)) legal whole (ap (λ (x : Thread). tickets_of (env.0 + 1) x.uncollected) is ∙ left r own)
   where
-    left : (r : Option Answer) → tickets_of (env.0 + 1) (if is_some r then without_ticket t n.uncollected else n.uncollected) ≡ if is_some r then without_ticket t p.view.posted else p.view.posted
-    left None = sym (posted_is p env s h n k)
-    left (Some a) = left_of (env.0 + 1) t (own_number p env s h n t k out) n.uncollected ∙ ap (without_ticket t) (sym (posted_is p env s h n k))
+    left : (r : Option Answer) → IfSome r (λ a. suc t.env.0 ≡ env.0 + 1) → tickets_of (env.0 + 1) (if is_some r then without_ticket t n.uncollected else n.uncollected) ≡ if is_some r then without_ticket t p.view.posted else p.view.posted
+    left None o = sym (posted_is p env s h n k)
+    left (Some a) o = left_of (env.0 + 1) t o n.uncollected ∙ ap (without_ticket t) (sym (posted_is p env s h n k))
 
 -- it adds nothing, and leaves the tickets of others
 pub collect_adds : (p : Place) (env : EnvNo) (s : Sitting) (h : Holding) (n m : Thread) (tickets : List Ticket) → Took p env s h n → m ≡ with_tickets n tickets → Adds h.view.number h.view.seen m.history
@@ -266,24 +294,28 @@ collect_adds p env s h n m tickets k is =
     let seen : h.view.seen ≡ m.history = ap (λ (v : View). v.seen) k.holds ∙ (ap (λ (t : Thread). t.history) (sym k.lent) ∙ sym (ap (λ (t : Thread). t.history) is)) in
     ([], sym seen ∙ sym (append-nil h.view.seen), tt)
 
-pub collect_may_keep : (p : Place) (env : EnvNo) (s : Sitting) (h : Holding) (n m : Thread) (t : Ticket) (r : Option Answer) → Took p env s h n → has t p.view.posted ≡ true
+pub collect_may_keep : (p : Place) (env : EnvNo) (s : Sitting) (h : Holding) (n m : Thread) (t : Ticket) (r : Option Answer) → Took p env s h n → IfSome r (λ a. suc t.env.0 ≡ env.0 + 1)
     → m ≡ with_tickets n (if is_some r then without_ticket t n.uncollected else n.uncollected) → Keeps h.view.number h.view.found m.uncollected
-collect_may_keep p env s h n m t r k out is =
-    may_keep p env s h n m k (ap (λ (x : Thread). tickets_but (env.0 + 1) x.uncollected) is ∙ all r)
+collect_may_keep p env s h n m t r k own is =
+    may_keep p env s h n m k (ap (λ (x : Thread). tickets_but (env.0 + 1) x.uncollected) is ∙ all r own)
   where
-    all : (r : Option Answer) → tickets_but (env.0 + 1) (if is_some r then without_ticket t n.uncollected else n.uncollected) ≡ tickets_but (env.0 + 1) n.uncollected
-    all None = refl
-    all (Some a) = collect_keeps (env.0 + 1) t (own_number p env s h n t k out) n.uncollected
+    all : (r : Option Answer) → IfSome r (λ a. suc t.env.0 ≡ env.0 + 1) → tickets_but (env.0 + 1) (if is_some r then without_ticket t n.uncollected else n.uncollected) ≡ tickets_but (env.0 + 1) n.uncollected
+    all None o = refl
+    all (Some a) o = collect_keeps (env.0 + 1) t o n.uncollected
 
--- what is collected is the reply to the ticket
-pub collected : (p : Place) (env : EnvNo) (s : Sitting) (h : Holding) (n m : Thread) (w : View) (t : Ticket) (a : Option Answer) (tickets : List Ticket) → Took p env s h n → has t p.view.posted ≡ true
+-- what is collected is the reply to the ticket, where that is one of the desk's
+pub collected : (p : Place) (env : EnvNo) (s : Sitting) (h : Holding) (n m : Thread) (w : View) (t : Ticket) (a : Option Answer) (tickets : List Ticket) → Took p env s h n
     → w ≡ stored h.view m.history m.uncollected → m ≡ with_tickets n tickets
-    → a ≡ (if has t n.uncollected then reply_to n.limits n.history t else None) → a ≡ reply_to p.view.subject.limits w.seen t
-collected p env s h n m w t a tickets k out store same is =
-    let there : has t n.uncollected ≡ true = sym (has_of (env.0 + 1) t (own_number p env s h n t k out) n.uncollected) ∙ (ap (has t) (sym (posted_is p env s h n k)) ∙ out) in
+    → a ≡ (if t.env.0 == env.0 && has t n.uncollected then reply_to n.limits n.history t else None) → a ≡ (if has t p.view.posted then reply_to p.view.subject.limits w.seen t else None)
+collected p env s h n m w t a tickets k store same is =
+    let there : (t.env.0 == env.0 && has t n.uncollected) ≡ has t p.view.posted = sym (own_has env t n.uncollected) ∙ ap (has t) (sym (posted_is p env s h n k)) in
     let limits : n.limits ≡ p.view.subject.limits = (taken_here p env s h n k).about.0 ∙ ap (λ (v : View). v.subject.limits) (sym k.view) in
     let seen : n.history ≡ w.seen = sym (ap (λ (v : View). v.seen) store ∙ ap (λ (x : Thread). x.history) same) in
-    is ∙ (ap (λ (b : Bool). if b then reply_to n.limits n.history t else None) there ∙ (λ i. reply_to (limits i) (seen i) t))
+    is ∙ (λ i. if there i then reply_to (limits i) (seen i) t else None)
+
+-- the reply to a ticket that is out
+pub told_out : (t : Ticket) (out : Bool) (x : Option Answer) (a : Answer) → out ≡ true → Some a ≡ (if out then x else None) → x ≡ Some a
+told_out t out x a there is = sym (is ∙ ap (λ (b : Bool). if b then x else None) there)
 
 -- and it is none of the desk's tickets any more
 pub gone_then : (p : Place) (env : EnvNo) (s : Sitting) (h : Holding) (n : Thread) (w : View) (t : Ticket) (r : Option Answer) → Took p env s h n → AreOnce n.uncollected
@@ -315,6 +347,16 @@ at_place limits history t a legal is front rest call stands =
     (λ i. reply limits (stands i) (length front))
     ∙ (reply_by_ticket limits front rest t call (subst (λ (h : List Entry). is_legal limits h ≡ true) stands legal)
     ∙ ((λ i. reply_to limits (sym stands i) t) ∙ is))
+
+-- so is what is collected where it is there
+pub at_place_if : (limits : Limits) (history : List Entry) (t : Ticket) (out : Bool) (r : Option Answer) → is_legal limits history ≡ true → option_map said r ≡ (if out then reply_to limits history t else None)
+    → IfSome r (λ a. ReplyAtPlace limits history t (said a))
+at_place_if limits history t out None legal is = tt
+at_place_if limits history t true (Some a) legal is = at_place limits history t (said a) legal (sym is)
+at_place_if limits history t false (Some a) legal is = absurd (never is)
+  where
+    never : Some (said a) ≡ None → ⊥
+    never h = cc
 
 -- a call that waited, and was collected
 pub answered_later : (p m q : Place) (call : Call) (t : Ticket) (a : Answer) (tickets left : List Ticket) → WaitsWith p.view m.view (next_call p.view p.env call ∷ []) tickets → IsTold p.view m.view p.env call (Waiting t)

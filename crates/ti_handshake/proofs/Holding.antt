@@ -57,6 +57,7 @@ held_with v w t history more left tickets taken store longer legal whole posted 
         here = subst (λ (l : List Entry). StartsWith l v.seen) (sym f) taken.begins;
       };
       looked = looked;
+      once = ap (λ (x : View). x.taken) store;
     }
 
 -- where the slot's tickets are as they were, the seat's are

@@ -147,6 +147,7 @@ runs_on cell s w h n f g l m left r k at same_frames same_log =
       };
       depth = r.depth ∙ ap (λ (x : Limits). x.depth) limits;
       room = r.room ∙ ap (λ (x : Limits). x.own) limits;
+      kept = r.kept ∙ ap (λ (x : Limits). x.kept) limits;
       budget = subst (λ (x : Limits × List Entry). left + own_spent x.1 ≡ x.0.own) (λ i. (limits i, seen i)) (ap (λ (c : ℕ). left + c) a.own ∙ r.budget);
     })
 
@@ -163,6 +164,7 @@ rests cell s w h n m f l l' left safe r k at is emptied =
       safe = ap (λ (x : List Entry). is_safe (view w.view.subject.limits x).mode) longer ∙ ap is_safe (mode-snoc w.view.subject.limits (n.history ++ steps_of l.steps) (Hand safe));
       none = ap (λ (z : Steps). z.steps) emptied;
       room = ap (λ (z : Steps). z.room) emptied ∙ (r.room ∙ ap (λ x. x.limits.own) (sym at.subject));
+      kept = ap (λ (z : Steps). z.kept) emptied ∙ (r.kept ∙ ap (λ x. x.limits.kept) (sym at.subject));
     }
 
 -- a thread that has ended
@@ -189,6 +191,7 @@ still_safe cell s w h n l r k at =
       safe = subst (λ (x : Limits × List Entry). is_safe (view x.0 x.1).mode ≡ true) (λ i. (limits i, seen i)) (ap is_safe a.mode ∙ r.safe);
       none = r.none;
       room = r.room ∙ ap (λ (x : Limits). x.own) limits;
+      kept = r.kept ∙ ap (λ (x : Limits). x.kept) limits;
     }
 
 -- looks change nothing of it
@@ -203,6 +206,7 @@ looks_safe cell s w l r here n =
       safe = subst (λ (x : Limits × List Entry). is_safe (view x.0 x.1).mode ≡ true) (λ i. (limits i, seen i)) r.safe;
       none = r.none;
       room = r.room ∙ ap (λ (x : Limits). x.own) limits;
+      kept = r.kept ∙ ap (λ (x : Limits). x.kept) limits;
     }
 
 -- a thread in native, blocked or at a poll may not return for one reason

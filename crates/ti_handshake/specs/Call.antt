@@ -1,5 +1,5 @@
 -- What a call through a cell tells a seat.
-use Rattle.std.specs.Prelude.{◌≡◌, ◌-◌, ◌<◌, true, false, List, [], ◌∷◌, ◌++◌, length, take, drop, Some, None}
+use Rattle.std.specs.Prelude.{◌≡◌, ◌+◌, ◌-◌, ◌<◌, true, false, List, [], ◌∷◌, ◌++◌, length, take, drop, Some, None}
 use Rattle.ti_types.specs.Answer.{said}
 use Rattle.ti_types.specs.declared.answer.Answer.{Answer}
 use Rattle.ti_types.specs.declared.call.Call.{Call}
@@ -47,10 +47,11 @@ pub record WaitsWith (old new : View) (more : List Entry) (tickets : List Ticket
   pub last : new.seen ≡ found old new ++ more
   pub here : StartsWith (found old new) old.seen
 
--- One hold: nothing was looked at
+-- One hold: nothing was looked at, and the cell was taken once
 pub record HoldsWith (old new : View) (more : List Entry) (tickets : List Ticket) : Type 0 where
   pub waits : WaitsWith old new more tickets
   pub looked : new.looked ≡ old.looked
+  pub once : new.taken ≡ old.taken + 1
 
 -- the same of a call that leaves the seat's tickets as they were
 abbrev pub Waits : View → View → List Entry → Type 0

@@ -1,5 +1,5 @@
 //! A desk: an environment's calls at one thread.
-ghost use Rattle.std.specs.Prelude.{◌≡◌, ◌<◌, ◌≤◌, ◌+◌, ◌++◌, true, false, if◌then◌else◌, is_some, [], ◌∷◌, length, Some, None, IfSome, MatchOption};
+ghost use Rattle.std.specs.Prelude.{◌≡◌, ◌==◌, ◌&&◌, ◌<◌, ◌≤◌, ◌+◌, ◌++◌, true, false, if◌then◌else◌, is_some, [], ◌∷◌, length, Some, None, IfSome, MatchOption};
 ghost use Rattle.std.specs.Option.{option_map};
 ghost use Rattle.ti_types.specs.Answer.{said};
 ghost use Rattle.ti_types.specs.declared.entry.Entry.TheVariants as entry;
@@ -10,7 +10,7 @@ ghost use Rattle.ti_replay.specs.Legal.{is_legal, calls_spent, is_well_formed, i
 ghost use Rattle.ti_replay.specs.Replies.{reply};
 ghost use Rattle.ti_replay.specs.Standing.{is_standing};
 ghost use Rattle.ti_replay.specs.Tickets.{reply_to};
-ghost use Rattle.ti_slot.specs.Thread.{read_answer};
+ghost use Rattle.ti_slot.specs.Thread.{read_answer, with_tickets};
 ghost use Rattle.ti_slot.specs.Tickets.{has, without_ticket};
 ghost use Rattle.ti_slot.specs.Waiting.{IsBufferOf, HasRoomFor};
 ghost use Rattle.ti_handshake.specs.Call.{GoesOn, Waits, WaitsWith, Holds, HoldsWith, found, IsTold, IsAnswered, SawNews, next_call, ticket_told};
@@ -20,7 +20,7 @@ use crate::waiting::await_news;
 use std::marker::Model;
 use std::sync::Wait;
 use ti_cell::{EnvSeat, ThreadCell};
-use ti_slot::Asked;
+use ti_slot::{Asked, Slot};
 use ti_types::{Answer, Call, EnvNo, Ticket, TraceBuf};
 
 /// One environment at one thread. Contracts see it as its cell, its environment, and its seat's view.
@@ -133,7 +133,7 @@ impl<'a> Desk<'a> {
     {
         self.facts();
         for _ in rt.forever() {
-            if let Some(answer) = self.look_for(rt, ticket) {
+            if let Some(answer) = self.try_collect(rt, ticket) {
                 return answer;
             }
             self.await_news(rt);
@@ -141,13 +141,16 @@ impl<'a> Desk<'a> {
         unreachable!()
     }
 
-    /// The answer to a call of this desk that waited, by one hold, if it is there.
-    fn look_for<R: Wait>(&mut self, rt: &R, ticket: Ticket) -> Option<Answer>
-        requires posted { has ticket self.old.view.posted ≡ true }
+    /// The answer to a call of this desk that waited, by one hold, if it is there: the reply of the history to the ticket.
+    /// The ticket is none of the desk's from then on, so that it is answered once; the others stay.
+    ///
+    /// `None` while the answer is not there, and for a ticket that is none of the desk's. Then nothing changes.
+    pub fn try_collect<R: Wait>(&mut self, rt: &R, ticket: Ticket) -> Option<Answer>
         ensures same { IsSame self.old self.new }
         ensures hold { HoldsWith self.old.view self.new.view [] (if is_some result then without_ticket ticket self.old.view.posted else self.old.view.posted) }
         ensures once { IfSome result (λ _. has ticket self.new.view.posted ≡ false) }
-        ensures answer { option_map said result ≡ reply_to self.old.view.subject.limits self.new.view.seen ticket }
+        ensures answer { option_map said result ≡ (if has ticket self.old.view.posted then reply_to self.old.view.subject.limits self.new.view.seen ticket else None) }
+        ensures place { IfSome result (λ a. ReplyAtPlace self.old.view.subject.limits self.new.view.seen ticket (said a)) }
     {
         let Some(seat) = self.seat.take() else {
             unreachable!()
@@ -155,7 +158,7 @@ impl<'a> Desk<'a> {
         let mut hold = self.cell.hold(rt, seat);
         let slot = hold.slot();
         slot.tickets();
-        let answer = slot.collect(ticket);
+        let answer = collect_own(slot, self.env, ticket);
         self.seat = Some(hold.store());
         answer
     }
@@ -333,4 +336,15 @@ fn is_others(stopper: Option<EnvNo>, env: EnvNo) -> bool
         Some(other) => other.0 != env.0,
         None => false,
     }
+}
+
+/// Collects the answer to a ticket of this environment. That of another's is left where it is.
+fn collect_own(slot: &mut Slot, env: EnvNo, ticket: Ticket) -> Option<Answer>
+    ensures answer { option_map said result ≡ (if ticket.env.0 == env.0 && has ticket slot.old.uncollected then reply_to slot.old.limits slot.old.history ticket else None) }
+    ensures thread { slot.new ≡ with_tickets slot.old (if is_some result then without_ticket ticket slot.old.uncollected else slot.old.uncollected) }
+{
+    if ticket.env.0 != env.0 {
+        return None;
+    }
+    slot.collect(ticket)
 }

@@ -7,7 +7,7 @@ ghost use Rattle.ti_handshake.specs.Call.{Holds, Waits, SawNews, found};
 ghost use Rattle.ti_handshake.specs.Thread.{refused_at};
 
 use crate::running::Running;
-use crate::waiting::await_news;
+use crate::waiting::await_unbarred;
 use std::marker::Model;
 use std::sync::Wait;
 use ti_cell::{OwnSeat, ThreadCell};
@@ -93,17 +93,17 @@ impl<'a> Fresh<'a> {
                 Ok(running) => return running,
                 Err((_error, again)) => fresh = again,
             }
-            fresh.await_news(rt);
+            fresh.await_unbarred(rt);
         }
         unreachable!()
     }
 
     /// Waits until the thread's history has entries that it has not seen, by looks alone.
-    fn await_news<R: Wait>(&mut self, rt: &R)
+    fn await_unbarred<R: Wait>(&mut self, rt: &R)
         ensures cell { self.new.cell ≡ self.old.cell }
         ensures news { SawNews self.old.view self.new.view }
     {
-        await_news(rt, self.cell, &mut self.seat);
+        await_unbarred(rt, self.cell, &mut self.seat);
     }
 
     /// The thread's seat.

@@ -1,25 +1,61 @@
-//! How a call waits for news of a cell without taking its lock.
+//! How a call waits for news of a cell without taking its lock: by looks, with pauses between them, and then asleep.
 ghost use Rattle.std.specs.Prelude.{◌≡◌};
 ghost use Rattle.ti_handshake.specs.Call.{SawNews};
 
 use crossbeam_utils::Backoff;
 use std::sync::Wait;
-use ti_cell::{CellSeat, ThreadCell};
+use ti_cell::{CellSeat, OwnSeat, ThreadCell};
 
-/// Looks until the thread's history has entries that the seat has not seen, and pauses between the looks. Before that
-/// a hold would find what the last one found.
+/// After how many looks who waits sleeps. Between them it makes 1, 2, 4 up to 64 pauses, and then 64 each time, 1,215 in
+/// all: some 6 microseconds where a pause takes 4.5 ns, 70 where it takes 56. It does not give its processor up between
+/// them: who shares it with the one that it waits for would get it back only when that one's time is over, some
+/// milliseconds later, where one who sleeps is woken at once, on another processor if one is idle.
+const LOOKS: u32 = 24;
+
+/// Looks until the thread's history has entries that the seat has not seen. Before that a hold would find what the last
+/// one found. After some looks it sleeps between them, until somebody stores.
 pub fn await_news<K, R: Wait>(rt: &R, cell: &ThreadCell, seat: &mut CellSeat<K>)
     requires cell { seat.old.cell ≡ cell.now }
     ensures cell { seat.new.cell ≡ seat.old.cell }
     ensures news { SawNews seat.old.view seat.new.view }
 {
     let backoff = Backoff::new();
+    let mut looks: u32 = 0;
     for _ in rt.forever() {
         let look = cell.look(seat);
         if look.count > seat.seen_len() as u64 {
             return;
         }
-        backoff.snooze();
+        if looks < LOOKS {
+            looks += 1;
+            backoff.spin();
+        } else {
+            cell.sleep_without_news(rt, seat);
+        }
+    }
+    unreachable!()
+}
+
+/// The same for a thread that was refused since it is barred: it looks until it is not, which is news. Entries that leave
+/// it barred do not wake it.
+pub fn await_unbarred<R: Wait>(rt: &R, cell: &ThreadCell, seat: &mut OwnSeat)
+    requires cell { seat.old.cell ≡ cell.now }
+    ensures cell { seat.new.cell ≡ seat.old.cell }
+    ensures news { SawNews seat.old.view seat.new.view }
+{
+    let backoff = Backoff::new();
+    let mut looks: u32 = 0;
+    for _ in rt.forever() {
+        let look = cell.look(seat);
+        if !look.barred && look.count > seat.seen_len() as u64 {
+            return;
+        }
+        if looks < LOOKS {
+            looks += 1;
+            backoff.spin();
+        } else {
+            cell.sleep_while_barred(rt);
+        }
     }
     unreachable!()
 }

@@ -1,5 +1,5 @@
 pub mod Listed
-pub mod DirectoryLaws
-pub mod ChunkLaws
-pub mod RingLaws
-pub mod LateLaws
+pub mod KeptLaws
+pub mod TableLaws
+pub mod StepLaws
+pub mod ViewLaws

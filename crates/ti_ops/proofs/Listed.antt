@@ -1,8 +1,8 @@
 -- Lists made from a function of the index.
-use Rattle.std.proofs.Common.{◌≡◌, ℕ, ◌<◌, ◌≤◌, ◌+◌, ◌-◌, [], ◌∷◌, ◌++◌, length, get_or, set, replicate, refl, arith, suc, zero, ap, sym, ◌∙◌, inl, inr}
+use Rattle.std.proofs.Common.{◌≡◌, ℕ, ◌<◌, ◌+◌, ◌-◌, [], ◌∷◌, ◌++◌, length, get_or, set, replicate, refl, arith, suc, zero, ap, sym, ◌∙◌, inl, inr}
 use Rattle.std.proofs.lemmas.Bool.{cases_lt}
-use Rattle.std.proofs.lemmas.List.{length-append, get_or_append_left, get_or-append_right, set-append_left, set-append_right, get_or_past, replicate_more}
-use Rattle.ti_ops.specs.Chunks.{listed}
+use Rattle.std.proofs.lemmas.List.{length-append, get_or_append_left, get_or-append_right, set-append_left, set-append_right, replicate_more}
+use Rattle.ti_ops.specs.Kept.{listed}
 
 pub length-listed : {A : Type 0} → (f : ℕ → A) (n : ℕ) → length (listed f n) ≡ n
 length-listed f zero = refl
@@ -34,9 +34,6 @@ listed_at f (suc n) i d h =
           ∙ ap f (sym e)
     ]
 
-pub listed_past : {A : Type 0} → (f : ℕ → A) (n i : ℕ) (d : A) → n ≤ i → get_or (listed f n) i d ≡ d
-listed_past f n i d h = get_or_past (listed f n) i d (omega (arith, h, length-listed f n))
-
 -- a function that differs at one place
 pub listed_set : {A : Type 0} → (f g : ℕ → A) (n k : ℕ) (x : A) → k < n → g k ≡ x → ((i : ℕ) → i < n → (i ≡ k → ⊥) → g i ≡ f i) → listed g n ≡ set (listed f n) k x
 listed_set f g zero k x h e same = grind arith
@@ -54,8 +51,3 @@ listed_set f g (suc n) k x h e same =
           ∙ ap (λ j. listed f n ++ set (f n ∷ []) j x) z
           ∙ sym (set-append_right (listed f n) (f n ∷ []) n k x (length-listed f n) last)
     ]
-
--- the first apart
-pub listed_first : {A : Type 0} → (f : ℕ → A) (n : ℕ) → listed f (suc n) ≡ f 0 ∷ listed (λ i. f (suc i)) n
-listed_first f zero = refl
-listed_first f (suc n) = ap (λ xs. xs ++ f (suc n) ∷ []) (listed_first f n)

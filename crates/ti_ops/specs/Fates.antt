@@ -1,25 +1,12 @@
 -- What has become of the calls that environments asked of one thread.
-use Rattle.std.specs.Prelude.{ℕ, Bool, true, false, List, [], ◌∷◌, ◌++◌, Option, Some, None, slice_index_or, slice_set}
+use Rattle.std.specs.Prelude.{ℕ, Bool, true, false, ◌==◌, ◌&&◌, List, [], ◌∷◌, ◌++◌, Option, Some, None, slice_index_or, slice_set}
+use Rattle.std.specs.List.{list_any, count_by}
 use Rattle.ti_types.specs.declared.numbers.EnvNo.{EnvNo}
 use Rattle.ti_types.specs.declared.event.Ticket.{Ticket}
 use Rattle.ti_types.specs.declared.answer.Answer.{Answer}
 use Rattle.ti_ops.specs.declared.pending.Pending.{Pending}
 use Rattle.ti_ops.specs.declared.fate.Fate.{Fate}
 use Rattle.ti_ops.specs.declared.fate.Fate.TheVariants.{Waiting, Told, Gone}
-
--- the fates of each environment's calls, by number, and how many calls an environment may ask; the calls that wait,
--- the earliest posted first, and how many may wait
-pub record Fates : Type 0 where
-  pub lists : List (List Fate)
-  pub calls : ℕ
-  pub waiting : List Pending
-  pub room : ℕ
-
-abbrev pub with_lists : Fates → List (List Fate) → Fates
-with_lists f lists = record { lists = lists; calls = f.calls; waiting = f.waiting; room = f.room }
-
-abbrev pub with_queue : Fates → List Pending → Fates
-with_queue f waiting = record { lists = f.lists; calls = f.calls; waiting = waiting; room = f.room }
 
 -- the answer that is there to be collected
 abbrev pub told_by : Fate → Option Answer
@@ -41,6 +28,10 @@ fates_by env fates = slice_index_or fates env.0 []
 abbrev pub fate_of : Ticket → List (List Fate) → Fate
 fate_of t fates = slice_index_or (fates_by t.env fates) t.no Gone
 
+-- of how many calls of an environment something is left
+abbrev pub open_by : EnvNo → List (List Fate) → ℕ
+open_by env fates = count_by is_open (fates_by env fates)
+
 -- one more call of an environment
 abbrev pub with_call : EnvNo → Fate → List (List Fate) → List (List Fate)
 with_call env fate fates = slice_set fates env.0 (fates_by env fates ++ fate ∷ [])
@@ -48,3 +39,11 @@ with_call env fate fates = slice_set fates env.0 (fates_by env fates ++ fate ∷
 -- another fate of a call
 abbrev pub with_fate : Ticket → Fate → List (List Fate) → List (List Fate)
 with_fate t fate fates = slice_set fates t.env.0 (slice_set (fates_by t.env fates) t.no fate)
+
+-- whether two tickets of one thread are one
+abbrev pub is_at : Ticket → Ticket → Bool
+is_at t u = t.no == u.no && t.env.0 == u.env.0
+
+-- whether a call is among those that wait
+abbrev pub is_awaited : Ticket → List Pending → Bool
+is_awaited t waiting = list_any (λ p. is_at p.ticket t) waiting

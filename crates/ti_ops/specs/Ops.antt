@@ -5,21 +5,20 @@ use Rattle.ti_ops.specs.declared.fate.Fate.{Fate}
 use Rattle.ti_ops.specs.declared.fate.Fate.TheVariants.{Waiting}
 use Rattle.ti_ops.specs.Fates.{with_call}
 
--- the calls that wait, the earliest posted first; the fates of each environment's calls, by number; how many calls
--- may wait; and how many calls an environment may ask
+-- the calls that wait, the earliest posted first; the fates of each environment's calls, by number; and of how many
+-- calls of an environment something may be left at once
 pub record Ops : Type 0 where
   pub waiting : List Pending
   pub fates : List (List Fate)
-  pub room : ℕ
-  pub calls : ℕ
+  pub window : ℕ
 
 abbrev pub with_waiting : Ops → List Pending → Ops
-with_waiting o waiting = record { waiting = waiting; fates = o.fates; room = o.room; calls = o.calls }
+with_waiting o waiting = record { waiting = waiting; fates = o.fates; window = o.window }
 
 abbrev pub with_fates : Ops → List (List Fate) → Ops
-with_fates o fates = record { waiting = o.waiting; fates = fates; room = o.room; calls = o.calls }
+with_fates o fates = record { waiting = o.waiting; fates = fates; window = o.window }
 
 -- with one more call that waits
 abbrev pub with_posted : Ops → Pending → Ops
 with_posted o p =
-    record { waiting = o.waiting ++ p ∷ []; fates = with_call p.ticket.env Waiting o.fates; room = o.room; calls = o.calls }
+    record { waiting = o.waiting ++ p ∷ []; fates = with_call p.ticket.env Waiting o.fates; window = o.window }

@@ -4,23 +4,16 @@
 //!
 //! - The calls that wait are taken in the order in which they were posted, each with its buffer.
 //! - An answer that was delivered to a ticket is collected once, and by that ticket's environment and number alone.
-//! - Each call takes a constant time whatever waits and whatever is not collected, but for a `post` that is the first to
-//!   need memory for fates since many calls were answered at once: it fills what these left unfilled, at most 64 places
-//!   for each of them. The calls that wait stand in a ring, and the fate of a call stands at its number, in chunks of its
-//!   environment. Both are in one block, which is filled from its two ends. (No contract says this.)
+//! - Of each environment at most a window of calls wait or have an answer that was not collected. Only these are kept:
+//!   of the others nothing is left but their number.
+//! - A call is posted, taken and answered in a constant time, and so is one passed. To collect goes over the answers
+//!   that are there, the earliest posted first: it finds that one at once. (No contract says this.)
 //! - Only `PendingOps::new` takes memory, and its only error is want of it. The room for calls is not filled in advance.
 #![tactic(auto)]
 
-mod directory;
 mod fate;
-mod late;
-mod numbers;
-mod pairs;
+mod kept;
 mod pending;
-mod place;
-mod pool;
-mod ring;
-mod table;
 
 pub use fate::Fate;
 pub use pending::{Pending, PendingOps};

@@ -1,13 +1,14 @@
 //! The calls that wait at a thread, and the answers that are not collected yet.
-ghost use Rattle.std.specs.Prelude.{◌≡◌, ◌<◌, ◌*◌, [], ◌∷◌, length, replicate, IfOk, IfErr, MatchOption, is_some, if◌then◌else◌};
-ghost use Rattle.ti_ops.specs.Fates.{fates_by, fate_of, told_by, with_call, with_fate};
+ghost use Rattle.std.specs.Prelude.{◌≡◌, ◌<◌, ◌+◌, ◌^◌, [], ◌∷◌, false, length, replicate, nat_le, IfOk, IfErr, MatchOption, is_some, if◌then◌else◌};
+ghost use Rattle.ti_ops.specs.Fates.{fates_by, fate_of, open_by, told_by, with_call, with_fate, is_awaited};
 ghost use Rattle.ti_ops.specs.Ops.{with_waiting, with_fates, with_posted};
 ghost use Rattle.ti_ops.specs.declared.fate.Fate.TheVariants as fate;
 
-use crate::place::Place;
-use crate::table::FateTable;
+use crate::kept::{Count, Kept, Stage, find, find_last, is_told, take_out};
 use std::alloc::Global;
+use std::collections::VecDeque;
 use std::marker::Model;
+use std::mem;
 use ti_types::{Answer, Call, EnvNo, TiError, Ticket, TraceBuf};
 
 /// A call that waits, with the buffer for its answer.
@@ -24,66 +25,96 @@ pub struct Pending {
 /// environment asks of the thread is told here by `post` or by `pass`, in the order of the numbers.
 #[derive(Drop, Debug)]
 pub struct PendingOps {
-    fates: FateTable,
+    /// The calls that are kept, the earliest posted first.
+    kept: VecDeque<Kept>,
+    /// How many of them wait no more: these come first.
+    taken: usize,
+    /// What each environment has asked.
+    counts: Vec<Count>,
+    /// How many calls of an environment may be kept.
+    window: u32,
 }
 
 impl Model for PendingOps {
+    ghost use Rattle.std.specs.VecDeque.{deque_capacity};
     ghost use Rattle.ti_ops.specs.Ops.{Ops};
+    ghost use Rattle.ti_ops.specs.Kept.{ops_in, IsKept};
 
     ghost Value = { Ops };
 
-    ghost view = { λ s. record { waiting = s.fates.waiting; fates = s.fates.lists; room = s.fates.room; calls = s.fates.calls } };
+    ghost view = { λ s. ops_in s.window s.taken s.counts.items s.kept.items };
+
+    ghost invariant = { λ s. IsKept s.window s.taken (deque_capacity s.kept) s.counts.items s.kept.items };
 }
 
 impl PendingOps {
-    /// No calls, with room for as many as `envs` environments may ask, each of them `calls`.
+    /// No calls of this many environments, of each of which at most `window` calls wait or are not collected at once.
     ///
     /// Fails with `OutOfMemory` (110) where there is no memory for the room, and in no other case (this profile).
-    pub fn new(alloc: Global, envs: u32, calls: u32) -> Result<Self, TiError>
+    pub fn new(alloc: Global, envs: u32, window: u32) -> Result<Self, TiError>
         ensures waiting { IfOk result (λ o. o.waiting ≡ []) }
         ensures fates { IfOk result (λ o. o.fates ≡ replicate envs []) }
-        ensures room { IfOk result (λ o. o.room ≡ envs * calls) }
-        ensures calls { IfOk result (λ o. o.calls ≡ calls) }
+        ensures window { IfOk result (λ o. o.window ≡ window) }
         ensures memory { IfErr result (λ e. e ≡ TiError.OutOfMemory) }
     {
-        let fates = FateTable::new(alloc, envs, calls)?;
-        Ok(PendingOps { fates })
+        let kept = VecDeque::with_capacity(alloc, envs as usize * window as usize)?;
+        let none = Count { asked: 0, held: 0 };
+        let counts = vec![in alloc; none; envs as usize]?;
+        Ok(PendingOps {
+            kept,
+            taken: 0,
+            counts,
+            window,
+        })
     }
 
     /// How many calls wait.
     pub fn waiting(&self) -> usize
         ensures { result ≡ length self.now.waiting }
     {
-        self.fates.waiting()
+        self.kept.len() - self.taken
     }
 
     /// How many calls an environment has asked, which is the number of its next one.
-    pub fn asked(&self, env: EnvNo) -> u32
+    pub fn asked(&self, env: EnvNo) -> u64
         requires { env.0 < length self.now.fates }
         ensures { result ≡ length (fates_by env self.now.fates) }
     {
-        self.fates.asked(env)
+        self.counts[env.0 as usize].asked
+    }
+
+    /// Whether no further call of an environment may be posted, until one of its answers is collected.
+    pub fn is_full(&self, env: EnvNo) -> bool
+        requires { env.0 < length self.now.fates }
+        ensures { result ≡ nat_le self.now.window (open_by env self.now.fates) }
+    {
+        self.counts[env.0 as usize].held >= self.window
     }
 
     /// Puts a call after those that wait. It is its environment's next one, and there is room for it.
     pub fn post(&mut self, ticket: Ticket, call: Call, buf: TraceBuf)
         requires env { ticket.env.0 < length self.old.fates }
         requires next { ticket.no ≡ length (fates_by ticket.env self.old.fates) }
-        requires calls { ticket.no < self.old.calls }
-        requires room { length self.old.waiting < self.old.room }
+        requires fits { ticket.no + 1 < 2 ^ 64 }
+        requires room { open_by ticket.env self.old.fates < self.old.window }
         ensures { self.new ≡ with_posted self.old (record { ticket = ticket; call = call; buf = buf }) }
     {
-        self.fates.push(ticket.env, Place::Waiting);
-        self.fates.wait(Pending { ticket, call, buf });
+        let count = &mut self.counts[ticket.env.0 as usize];
+        count.asked += 1;
+        count.held += 1;
+        self.kept.push_back_reserved(Kept {
+            ticket,
+            stage: Stage::Posted { call, buf },
+        });
     }
 
-    /// Notes that an environment's next call was answered at once. There is room for it.
+    /// Notes that an environment's next call was answered at once.
     pub fn pass(&mut self, env: EnvNo)
         requires env { env.0 < length self.old.fates }
-        requires calls { length (fates_by env self.old.fates) < self.old.calls }
+        requires fits { length (fates_by env self.old.fates) + 1 < 2 ^ 64 }
         ensures { self.new ≡ with_fates self.old (with_call env fate.Gone self.old.fates) }
     {
-        self.fates.pass(env);
+        self.counts[env.0 as usize].asked += 1;
     }
 
     /// Takes the call that has waited longest, with its buffer, or `None` where none waits.
@@ -91,15 +122,27 @@ impl PendingOps {
         ensures first { MatchOption result ((self.old.waiting ≡ []) × (self.new.waiting ≡ [])) (λ p. self.old.waiting ≡ p ∷ self.new.waiting) }
         ensures rest { self.new ≡ with_waiting self.old self.new.waiting }
     {
-        self.fates.take_first()
+        if self.taken == self.kept.len() {
+            return None;
+        }
+        let first = &mut self.kept[self.taken];
+        let ticket = first.ticket;
+        let stage = mem::replace(&mut first.stage, Stage::Taken);
+        self.taken += 1;
+        match stage {
+            Stage::Posted { call, buf } => Some(Pending { ticket, call, buf }),
+            _ => unreachable!(),
+        }
     }
 
-    /// Keeps the answer to a call that was posted and has no answer yet, until it is collected.
+    /// Keeps the answer to a call that was taken and has no answer yet, until it is collected.
     pub fn deliver(&mut self, ticket: Ticket, answer: Answer)
-        requires { fate_of ticket self.old.fates ≡ fate.Waiting }
+        requires waits { fate_of ticket self.old.fates ≡ fate.Waiting }
+        requires taken { is_awaited ticket self.old.waiting ≡ false }
         ensures { self.new ≡ with_fates self.old (with_fate ticket (fate.Told answer) self.old.fates) }
     {
-        self.fates.tell(ticket, answer);
+        let at = find_last(&self.kept, self.taken, ticket);
+        self.kept[at].stage = Stage::Told(answer);
     }
 
     /// Takes the answer to a ticket out, or gives `None` where it is not there: the call is not answered yet, was
@@ -108,6 +151,19 @@ impl PendingOps {
         ensures answer { result ≡ told_by (fate_of ticket self.old.fates) }
         ensures fates { self.new ≡ with_fates self.old (if is_some result then with_fate ticket fate.Gone self.old.fates else self.old.fates) }
     {
-        self.fates.take(ticket)
+        let at = find(&self.kept, self.taken, ticket);
+        if at == self.taken {
+            return None;
+        }
+        if !is_told(&self.kept[at]) {
+            return None;
+        }
+        let Kept { ticket: _, stage } = take_out(&mut self.kept, at);
+        self.taken -= 1;
+        self.counts[ticket.env.0 as usize].held -= 1;
+        match stage {
+            Stage::Told(answer) => Some(answer),
+            _ => unreachable!(),
+        }
     }
 }

@@ -34,6 +34,8 @@ pub mod LateTicketLaws
 pub mod PlaceTickets
 pub mod StepsStay
 pub mod StorageReplies
+pub mod SuspensionLaws
+pub mod TakeHoldLaws
 pub mod LifeLaws
 pub mod WordAnswers
 pub mod StopLaws

@@ -20,6 +20,7 @@ pub mod LateTickets
 pub mod Outcomes
 pub mod Refused
 pub mod Storage
+pub mod Suspensions
 pub mod Makers
 pub mod Alone
 pub mod Fronts

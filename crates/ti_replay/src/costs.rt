@@ -28,7 +28,7 @@ pub fn env_of(entry: Entry) -> Option<EnvNo>
 
 /// What an entry costs its thread, of its own entries: 1 for a step, 2 for a hand-over to native or blocked,
 /// which pays for the return, and 0 for others (this profile).
-pub fn own_cost(entry: Entry) -> u32
+pub fn own_cost(entry: Entry) -> u64
     ensures cost { result ≡ own_cost_of entry }
     ensures small { result < 3 }
 {

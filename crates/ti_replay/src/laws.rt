@@ -9,6 +9,7 @@ ghost use Rattle.ti_replay.specs.LateTickets.{StepsComeLate, StepsStayLegal, Tic
 ghost use Rattle.ti_replay.specs.Makers.{ModeIsOwn, OwnCostsAreOwn, CallCostsAreItsOwn, NumbersAreItsOwn};
 ghost use Rattle.ti_replay.specs.Refused.{RefusalsKeep};
 ghost use Rattle.ti_replay.specs.Standing.{StandsStill, OneStateUnderAStop};
+ghost use Rattle.ti_replay.specs.Suspensions.{SuspensionsStay, TracesAgree, SuspensionsTakeHold, SuspendedRest, SuspendedTracesAgree};
 ghost use Rattle.ti_replay.specs.Storage.{WordsReplyAlike, WordIsGiven, EnvWordsFollowTheirCalls};
 
 /// What has taken place in a history stays, and so does each reply that is given.
@@ -50,6 +51,26 @@ pub fn words_are_last_set()
 #[tactic(auto, using(crate::proofs::StandingLaws::stands_still))]
 pub fn stopped_threads_stand_still()
     ensures { StandsStill }
+{}
+
+/// A suspended thread that does not run makes no entry of its own until somebody asks for its resumption: it stays
+/// suspended, in its mode, and loses just the frames that are popped.
+pub fn suspended_threads_stand_still()
+    ensures { SuspensionsStay }
+{}
+
+/// Two traces of a thread that rests suspended are equal, when nobody asked for its resumption and as many frames were popped
+/// before the one as before the other.
+pub fn traces_agree()
+    ensures { TracesAgree }
+{}
+
+/// A suspension that is answered Done takes hold: at its answer the thread is suspended and does not run. There it rests
+/// until somebody asks for its resumption, and two traces of it are equal.
+pub fn suspensions_take_hold()
+    ensures hold { SuspensionsTakeHold }
+    ensures rest { SuspendedRest }
+    ensures traces { SuspendedTracesAgree }
 {}
 
 /// A call, a stop or a go at a running thread may come before all steps that the thread has logged.

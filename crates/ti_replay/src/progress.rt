@@ -28,7 +28,7 @@ pub struct Progress {
     view: ThreadView,
     waiting: Vec<(usize, Entry)>,
     next: usize,
-    own: u32,
+    own: u64,
     costs: Vec<Costs>,
 }
 
@@ -123,9 +123,9 @@ impl Progress {
             && match safe {
                 Safe::AtPoll => armed,
                 Safe::Native => {
-                    newest_is_native(&self.view.frames) && self.own as u64 + 2 <= limits.own as u64
+                    newest_is_native(&self.view.frames) && limits.own.saturating_sub(self.own) >= 2
                 }
-                Safe::Blocked(_) => self.own as u64 + 2 <= limits.own as u64,
+                Safe::Blocked(_) => limits.own.saturating_sub(self.own) >= 2,
             };
         if fits {
             self.view.mode = Mode::AtSafe(safe);

@@ -121,7 +121,7 @@ pub fn fits(
     limits: &Limits,
     view: &ThreadView,
     armed: bool,
-    own: u32,
+    own: u64,
     costs: Costs,
     entry: Entry,
 ) -> bool
@@ -133,9 +133,9 @@ pub fn fits(
         Entry::Start => matches!(view.mode, Mode::New) && view.stopper.is_none(),
         Entry::Own(step) => runs && step_fits(limits, &view.frames, step) && own < limits.own,
         Entry::Hand(Safe::Native) => {
-            runs && newest_is_native(&view.frames) && own as u64 + 2 <= limits.own as u64
+            runs && newest_is_native(&view.frames) && limits.own.saturating_sub(own) >= 2
         }
-        Entry::Hand(Safe::Blocked(_)) => runs && own as u64 + 2 <= limits.own as u64,
+        Entry::Hand(Safe::Blocked(_)) => runs && limits.own.saturating_sub(own) >= 2,
         Entry::Hand(Safe::AtPoll) => runs && armed,
         Entry::Back => {
             matches!(view.mode, Mode::AtSafe(_)) && !(view.suspended || view.stopper.is_some())

@@ -1,53 +1,129 @@
--- Walks and their entries.
-use Rattle.std.proofs.Common.{◌≡◌, ℕ, ap₂, length-append, take-append-drop, ◌+◌, ◌<◌, ◌≤◌, Bool, true, ◌==◌, if◌then◌else◌, List, [], ◌∷◌, ◌++◌, length, take, drop, get_or, refl, ap, sym, ◌∙◌, arith, append_assoc, append-nil, drop-cons, add-one}
-use Rattle.std.proofs.lemmas.List.{get_or_append_left, take_all}
-use Rattle.std.proofs.lemmas.Grind.{take_at_read}
+-- Going through a walk, one operation after another.
+use Rattle.std.proofs.Common.{◌≡◌, ℕ, zero, suc, ◌+◌, ◌<◌, ◌≤◌, ◌↔◌, Bool, true, false, List, [], ◌∷◌, ◌++◌, length, take, drop, get_or, refl, ap, sym, ◌∙◌, subst, arith, drop-cons, add-one, Option, Some, None}
+use Rattle.std.proofs.lemmas.Bool.{and_parts}
+use Rattle.ti_types.specs.declared.limits.Limits.{Limits}
+use Rattle.ti_types.specs.declared.state.Mode.{Mode}
 use Rattle.ti_types.specs.declared.entry.Entry.{Entry}
 use Rattle.ti_types.specs.declared.event.Event.{Event}
-use Rattle.ti_replay.specs.Events.{own_entry}
 use Rattle.ti_live.specs.declared.report.Refusal.{Refusal}
-use Rattle.ti_report.specs.Walks.{is_refused, made_from, one_walked, Begins}
+use Rattle.ti_report.specs.Refusals.{is_so, mode_behind, own_behind, error_of, refusals_behind, refusals_from}
+use Rattle.ti_report.specs.Walks.{left_by, listed, entries_from, IsDone, GoneThrough}
 
-any_snoc : (refused : List Refusal) (r : Refusal) (k : ℕ) → is_refused (refused ++ r ∷ []) k ≡ (if r.operation == k then true else is_refused refused k)
-any_snoc [] r k = grind arith
-any_snoc (s ∷ refused) r k = grind (arith, any_snoc refused r k)
+pub drop_past : (walk : List Event) (i : ℕ) → length walk ≤ i → drop i walk ≡ []
+drop_past [] zero h = refl
+drop_past [] (suc i) h = refl
+drop_past (x ∷ walk) zero h = absurd (omega (arith, h))
+drop_past (x ∷ walk) (suc i) h = drop_past walk i (omega (arith, h))
 
--- one more refused operation
-pub refused_take : (refused : List Refusal) (i k : ℕ) (d : Refusal) → i < length refused → is_refused (take (i + 1) refused) k ≡ (if (get_or refused i d).operation == k then true else is_refused (take i refused) k)
-refused_take refused i k d h = ap (λ l. is_refused l k) (take_at_read refused i d h).1 ∙ any_snoc (take i refused) (get_or refused i d) k
+-- what is made and paid for is within the budget
+pub paid_behind : (limits : Limits) (m : Mode) (own : ℕ) (x : Event) (error : Option ℕ) → own ≤ limits.own → is_so limits m own x error ≡ true → own_behind own x error ≤ limits.own
+paid_behind limits m own x None h so = grind (arith, so)
+paid_behind limits m own x (Some n) h so = h
 
--- one more operation
-pub made_step : (refused : List Refusal) (walk : List Event) (i : ℕ) (d : Event) (made made' all : List Entry) (b : Bool) → i < length walk → b ≡ is_refused refused i
-    → made' ≡ made ++ (if b then [] else one_walked (own_entry (get_or walk i d)))
-    → made ++ made_from refused i (drop i walk) ≡ all → made' ++ made_from refused (i + 1) (drop (i + 1) walk) ≡ all
-made_step refused walk i d made made' all b h is new inv =
-    let x : drop i walk ≡ get_or walk i d ∷ drop (i + 1) walk = rw add-one (drop-cons walk i d h) in
-    let one = if b then [] else one_walked (own_entry (get_or walk i d)) in
-    ap (λ (l : List Entry). l ++ made_from refused (i + 1) (drop (i + 1) walk)) new
-    ∙ append_assoc made one (made_from refused (i + 1) (drop (i + 1) walk))
-    ∙ ap (λ (c : Bool). made ++ ((if c then [] else one_walked (own_entry (get_or walk i d))) ++ made_from refused (i + 1) (drop (i + 1) walk))) is
-    ∙ sym (ap (λ l. made ++ made_from refused i l) x) ∙ inv
+-- a list that ended early fits if nothing is left
+pub done_early : (limits : Limits) (m : Mode) (own number : ℕ) (walk : List Event) (refused : List Refusal) (entries : List Entry) → IsDone m refused entries
+    → GoneThrough limits true m own number walk refused entries
+done_early limits m own number [] refused entries d = record { made = 0; within = omega arith; whole = λ h. cc; refusals = d.none; left = d.last }
+done_early limits m own number (x ∷ walk) refused entries d = record { made = 0; within = omega arith; whole = λ h. cc h; refusals = d.none; left = d.last }
 
-pub begins_short : (xs ys : List Entry) → Begins xs ys → length xs ≤ length ys
-begins_short xs ys b = omega (arith, length-append xs b.0, ap length b.1)
+-- at the end of a walk nothing is left
+pub done_whole : (limits : Limits) (spent : Bool) (m : Mode) (own number : ℕ) (refused : List Refusal) (entries : List Entry) → IsDone m refused entries
+    → GoneThrough limits spent m own number [] refused entries
+done_whole limits spent m own number refused entries d = record { made = 0; within = omega arith; whole = λ h. refl; refusals = d.none; left = d.last }
 
-pub begins_at : (xs ys : List Entry) (i : ℕ) (d : Entry) → Begins xs ys → i < length xs → get_or xs i d ≡ get_or ys i d
-begins_at xs ys i d b h = sym (get_or_append_left xs b.0 d i h) ∙ ap (λ l. get_or l i d) b.1
+pub whole_done : (limits : Limits) (spent : Bool) (m : Mode) (own number : ℕ) (refused : List Refusal) (entries : List Entry) → GoneThrough limits spent m own number [] refused entries
+    → IsDone m refused entries
+whole_done limits spent m own number refused entries g = by_count g.made g.refusals g.left where
+  by_count : (n : ℕ) → refusals_from limits m own number (take n []) refused ≡ true → entries ≡ entries_from m number (take n []) refused → IsDone m refused entries
+  by_count zero r l = record { none = r; last = l }
+  by_count (suc n) r l = record { none = r; last = l }
 
-pub begins_all : (xs ys : List Entry) (i : ℕ) → length xs ≤ i → length xs ≤ length ys → i ≤ length xs → take i xs ≡ take i ys → Begins xs ys
-begins_all xs ys i h l m e =
-    let x : take i xs ≡ xs = take_all i xs h in
-    (drop i ys, ap (λ l. l ++ drop i ys) (sym x ∙ e) ∙ take-append-drop i ys)
+-- what is left behind one more operation
+pub record Behind (limits : Limits) (spent : Bool) (m : Mode) (own number : ℕ) (x : Event) (walk : List Event) (refused : List Refusal) (entries : List Entry) : Type 0 where
+  pub so : is_so limits m own x (error_of number refused) ≡ true
+  pub rest : List Entry
+  pub parts : entries ≡ left_by (error_of number refused) x ++ rest
+  pub gone : GoneThrough limits spent (mode_behind m x (error_of number refused)) (own_behind own x (error_of number refused)) (number + 1) walk (refusals_behind number refused) rest
 
--- of two lists as long as one another
-pub begins_whole : (xs ys : List Entry) → length xs ≡ length ys → Begins xs ys → xs ≡ ys
-begins_whole [] [] h b = refl
-begins_whole [] (y ∷ ys) h b = absurd (omega (arith, h))
-begins_whole (x ∷ xs) [] h b = absurd (omega (arith, h))
-begins_whole (x ∷ xs) (y ∷ ys) h b =
-    let t : xs ++ b.0 ≡ ys = cc (b.1) in
-    let z : x ≡ y = cc (b.1) in
-    ap₂ (λ (u : Entry) (l : List Entry). u ∷ l) z (begins_whole xs ys (omega (arith, h)) (b.0, t))
+pub goes : (limits : Limits) (spent : Bool) (m : Mode) (own number : ℕ) (x : Event) (walk : List Event) (refused : List Refusal) (entries : List Entry)
+    → Behind limits spent m own number x walk refused entries → GoneThrough limits spent m own number (x ∷ walk) refused entries
+goes limits spent m own number x walk refused entries b = record {
+  made = suc b.gone.made;
+  within = omega (arith, b.gone.within);
+  whole = λ h. omega (arith, b.gone.whole h);
+  refusals = grind (arith, b.so, b.gone.refusals);
+  left = b.parts ∙ ap (λ l. left_by (error_of number refused) x ++ l) b.gone.left;
+}
 
-pub whole_begins : (xs ys : List Entry) → xs ≡ ys → Begins xs ys
-whole_begins xs ys e = ([], append-nil xs ∙ e)
+pub went : (limits : Limits) (spent : Bool) (m : Mode) (own number : ℕ) (x : Event) (walk : List Event) (refused : List Refusal) (entries : List Entry)
+    → (spent ≡ true → IsDone m refused entries → ⊥) → GoneThrough limits spent m own number (x ∷ walk) refused entries → Behind limits spent m own number x walk refused entries
+went limits spent m own number x walk refused entries not_done g = by_count g.made g.within g.whole g.refusals g.left where
+  by_count : (n : ℕ) → n ≤ length (x ∷ walk) → (spent ≡ false → n ≡ length (x ∷ walk)) → refusals_from limits m own number (take n (x ∷ walk)) refused ≡ true
+      → entries ≡ entries_from m number (take n (x ∷ walk)) refused → Behind limits spent m own number x walk refused entries
+  by_count zero w h r l = absurd (never spent not_done h (record { none = r; last = l })) where
+    never : (s : Bool) → (s ≡ true → IsDone m refused entries → ⊥) → (s ≡ false → zero ≡ length (x ∷ walk)) → IsDone m refused entries → ⊥
+    never true keeps h d = keeps refl d
+    never false keeps h d = let e = h refl in omega (arith, e)
+  by_count (suc n) w h r l =
+      let two = and_parts _ _ r in
+      record {
+        so = two.0;
+        rest = entries_from (mode_behind m x (error_of number refused)) (number + 1) (take n walk) (refusals_behind number refused);
+        parts = l;
+        gone = record { made = n; within = omega (arith, w); whole = λ e. omega (arith, h e); refusals = two.1; left = refl };
+      }
+
+-- the same of the operation at a place
+pub behind : (limits : Limits) (spent : Bool) (m : Mode) (own i : ℕ) (walk : List Event) (d : Event) (refused : List Refusal) (entries : List Entry) → i < length walk
+    → (spent ≡ true → IsDone m refused entries → ⊥) → GoneThrough limits spent m own i (drop i walk) refused entries
+    → Behind limits spent m own i (get_or walk i d) (drop (i + 1) walk) refused entries
+behind limits spent m own i walk d refused entries h not_done g =
+    let parts : drop i walk ≡ get_or walk i d ∷ drop (i + 1) walk = rw add-one (drop-cons walk i d h) in
+    went limits spent m own i (get_or walk i d) (drop (i + 1) walk) refused entries not_done (subst (λ w. GoneThrough limits spent m own i w refused entries) parts g)
+
+rest_is : (xs ys zs : List Entry) → xs ++ ys ≡ xs ++ zs → ys ≡ zs
+rest_is [] ys zs h = h
+rest_is (x ∷ xs) ys zs h = let t : xs ++ ys ≡ xs ++ zs = cc h in rest_is xs ys zs t
+
+-- one more turn
+pub turn : (limits : Limits) (spent : Bool) (m m' : Mode) (own own' i : ℕ) (walk : List Event) (d : Event) (refused refused' : List Refusal) (entries entries' : List Entry) (error : Option ℕ) (All : Type 0)
+    → i < length walk → (spent ≡ true → IsDone m refused entries → ⊥) → error ≡ error_of i refused → is_so limits m own (get_or walk i d) error ≡ true
+    → entries ≡ left_by error (get_or walk i d) ++ entries' → m' ≡ mode_behind m (get_or walk i d) error → own' ≡ own_behind own (get_or walk i d) error → refused' ≡ refusals_behind i refused
+    → GoneThrough limits spent m own i (drop i walk) refused entries ↔ All → GoneThrough limits spent m' own' (i + 1) (drop (i + 1) walk) refused' entries' ↔ All
+turn limits spent m m' own own' i walk d refused refused' entries entries' error All h not_done is so parts mode' paid left same =
+    let x = get_or walk i d in
+    let rest = drop (i + 1) walk in
+    let e = error_of i refused in
+    let whole : drop i walk ≡ x ∷ rest = rw add-one (drop-cons walk i d h) in
+    let so' : is_so limits m own x e ≡ true = subst (λ o. is_so limits m own x o ≡ true) is so in
+    let parts' : entries ≡ left_by e x ++ entries' = subst (λ o. entries ≡ left_by o x ++ entries') is parts in
+    let m_is : m' ≡ mode_behind m x e = mode' ∙ ap (λ o. mode_behind m x o) is in
+    let own_is : own' ≡ own_behind own x e = paid ∙ ap (λ o. own_behind own x o) is in
+    let here : GoneThrough limits spent m' own' (i + 1) rest refused' entries' → GoneThrough limits spent (mode_behind m x e) (own_behind own x e) (i + 1) rest (refusals_behind i refused) entries'
+    = λ g. subst (λ (t : Mode × ℕ × List Refusal). GoneThrough limits spent t.0 t.1 (i + 1) rest t.2 entries') (λ j. (m_is j, own_is j, left j)) g in
+    let there : GoneThrough limits spent (mode_behind m x e) (own_behind own x e) (i + 1) rest (refusals_behind i refused) entries' → GoneThrough limits spent m' own' (i + 1) rest refused' entries'
+    = λ g. subst (λ (t : Mode × ℕ × List Refusal). GoneThrough limits spent t.0 t.1 (i + 1) rest t.2 entries') (λ j. (sym m_is j, sym own_is j, sym left j)) g in (
+      λ g. same.0 (subst (λ w. GoneThrough limits spent m own i w refused entries) (sym whole)
+          (goes limits spent m own i x rest refused entries (record { so = so'; rest = entries'; parts = parts'; gone = here g }))),
+      λ a.
+          let b = behind limits spent m own i walk d refused entries h not_done (same.1 a) in
+          there (subst (λ l. GoneThrough limits spent (mode_behind m x e) (own_behind own x e) (i + 1) rest (refusals_behind i refused) l)
+          (rest_is (left_by e x) b.rest entries' (sym b.parts ∙ parts')) b.gone),
+    )
+
+-- an operation that cannot have come to this
+pub not_so : (limits : Limits) (spent : Bool) (m : Mode) (own i : ℕ) (walk : List Event) (d : Event) (refused : List Refusal) (entries : List Entry) (error : Option ℕ) → i < length walk
+    → (spent ≡ true → IsDone m refused entries → ⊥) → error ≡ error_of i refused → is_so limits m own (get_or walk i d) error ≡ false
+    → GoneThrough limits spent m own i (drop i walk) refused entries → false ≡ true
+not_so limits spent m own i walk d refused entries error h not_done is so g =
+    let b = behind limits spent m own i walk d refused entries h not_done g in
+    sym so ∙ (ap (λ o. is_so limits m own (get_or walk i d) o) is ∙ b.so)
+
+-- nor one whose entry does not come next
+pub not_next : (limits : Limits) (spent : Bool) (m : Mode) (own i : ℕ) (walk : List Event) (d : Event) (refused : List Refusal) (entries : List Entry) (error : Option ℕ) (left : Option Entry) → i < length walk
+    → (spent ≡ true → IsDone m refused entries → ⊥) → error ≡ error_of i refused → listed left ≡ left_by error (get_or walk i d) → ((rest : List Entry) → entries ≡ listed left ++ rest → ⊥)
+    → GoneThrough limits spent m own i (drop i walk) refused entries → false ≡ true
+not_next limits spent m own i walk d refused entries error left h not_done is left_is never g =
+    let b = behind limits spent m own i walk d refused entries h not_done g in
+    let same : listed left ≡ left_by (error_of i refused) (get_or walk i d) = left_is ∙ ap (λ o. left_by o (get_or walk i d)) is in
+    absurd (never b.rest (b.parts ∙ ap (λ l. l ++ b.rest) (sym same)))

@@ -1,6 +1,6 @@
 -- Worked live runs, and reports that do not fit, computed.
-use Rattle.std.specs.Prelude.{ℕ, ◌≡◌, false, true, List, [], ◌∷◌, length, Option, Some}
-use Rattle.std.proofs.Common.{refl, ap, arith, ◌<◌, slice_index_or, lit≤, pos, negsuc}
+use Rattle.std.specs.Prelude.{ℕ, ◌≡◌, false, true, take, List, [], ◌∷◌, length, Option, Some}
+use Rattle.std.proofs.Common.{zero, suc, refl, ap, subst, arith, ◌<◌, slice_index_or, lit≤, pos, negsuc}
 use Rattle.ti_types.specs.declared.limits.Limits.{Limits}
 use Rattle.ti_types.specs.declared.numbers.EnvNo.{EnvNo}
 use Rattle.ti_types.specs.declared.numbers.ThreadNo.{ThreadNo}
@@ -9,9 +9,10 @@ use Rattle.ti_types.specs.declared.call.Call.TheVariants.{FrameCount, Trace, Sus
 use Rattle.ti_types.specs.declared.place.Frame.{Frame}
 use Rattle.ti_types.specs.declared.place.Place.{Place}
 use Rattle.ti_types.specs.declared.place.Place.TheVariants as place
+use Rattle.ti_types.specs.declared.state.Mode.TheVariants as mode
 use Rattle.ti_types.specs.declared.state.Safe.TheVariants.{Blocked}
 use Rattle.ti_types.specs.declared.state.Kind.TheVariants.{Sleep, Park, ObjectWait}
-use Rattle.ti_types.specs.declared.step.Step.TheVariants.{Enter}
+use Rattle.ti_types.specs.declared.step.Step.TheVariants.{Enter, Leave}
 use Rattle.ti_types.specs.declared.entry.Entry.{Entry}
 use Rattle.ti_types.specs.declared.entry.Entry.TheVariants as entry
 use Rattle.ti_types.specs.declared.event.Event.TheVariants as event
@@ -27,7 +28,8 @@ use Rattle.ti_live.specs.declared.reply.Reply.TheVariants.{Plain, Codes, Stacks}
 use Rattle.ti_types.specs.declared.stack.StackInfo.{StackInfo}
 use Rattle.ti_report.specs.Doings.{all_done}
 use Rattle.ti_report.specs.Told.{used, got, history_at}
-use Rattle.ti_report.specs.Walks.{WalkFits}
+use Rattle.ti_report.specs.Refusals.{refusals_from}
+use Rattle.ti_report.specs.Walks.{walked_in, entries_from, WalkFits}
 use Rattle.ti_report.specs.Fits.{CallsFit, AgentFits, Fits}
 use Rattle.ti_live.specs.declared.report.Script.{Script}
 use Rattle.ti_live.specs.declared.report.LiveReport.{LiveReport}
@@ -93,8 +95,8 @@ fit_call_first = (refl, tt)
 fit_end_first : CallsFit small end_first e [] one_call not_alive
 fit_end_first = (refl, tt)
 
-walk_of_end : WalkFits false (event.Start t ∷ event.Own t (Enter a) ∷ event.End t ∷ []) [] (history_at call_first t)
-walk_of_end = refl
+walk_of_end : WalkFits small false (event.Start t ∷ event.Own t (Enter a) ∷ event.End t ∷ []) [] (history_at call_first t)
+walk_of_end = record { made = 3; within = lit≤ tt; whole = λ _. refl; refusals = refl; left = refl }
 
 -- an invented reply does not fit
 invented : CallsFit small call_first e [] one_call (Plain (answer.Count 1) ∷ []) → ⊥
@@ -117,15 +119,37 @@ too_early : CallsFit small call_first e [] one_call (Plain (answer.Refused Calls
 too_early h = cc h.0
 
 -- nor a walk that leaves an entry which it has no operation for, or lacks one
-made_up : WalkFits false (event.Start t ∷ event.End t ∷ []) [] (history_at call_first t) → ⊥
-made_up h = cc h
+made_up : WalkFits small false (event.Start t ∷ event.End t ∷ []) [] (history_at call_first t) → ⊥
+made_up h = cc (subst (λ n. walked_in (history_at call_first t) ≡ entries_from mode.New 0 (take n (event.Start t ∷ event.End t ∷ [])) []) (h.whole refl) h.left)
 
-left_out : WalkFits false (event.Start t ∷ event.Own t (Enter a) ∷ event.End t ∷ []) [] (entry.Start ∷ entry.End ∷ []) → ⊥
-left_out h = cc h
+left_out : WalkFits small false (event.Start t ∷ event.Own t (Enter a) ∷ event.End t ∷ []) [] (entry.Start ∷ entry.End ∷ []) → ⊥
+left_out h = cc (subst (λ n. (entry.Start ∷ entry.End ∷ []) ≡ entries_from mode.New 0 (take n (event.Start t ∷ event.Own t (Enter a) ∷ event.End t ∷ [])) []) (h.whole refl) h.left)
 
--- where a list ended early, the first operations are enough
-ended_early : WalkFits true (event.Start t ∷ event.Own t (Enter a) ∷ event.End t ∷ []) [] (entry.Start ∷ entry.End ∷ [])
-ended_early = (enters ∷ [], refl)
+-- a thread that runs behind its walk is ended
+ends_behind : WalkFits small false (event.Start t ∷ event.Own t (Enter a) ∷ []) [] (history_at call_first t)
+ends_behind = record { made = 2; within = lit≤ tt; whole = λ _. refl; refusals = refl; left = refl }
+
+-- a history without the end, or with one that is not the walk's, does not fit
+no_end : WalkFits small false (event.Start t ∷ event.End t ∷ []) [] (entry.Start ∷ []) → ⊥
+no_end h = cc (subst (λ n. (entry.Start ∷ []) ≡ entries_from mode.New 0 (take n (event.Start t ∷ event.End t ∷ [])) []) (h.whole refl) h.left)
+
+another_end : WalkFits small false [] [] (entry.Start ∷ entry.End ∷ []) → ⊥
+another_end h = cc (subst (λ n. (entry.Start ∷ entry.End ∷ []) ≡ entries_from mode.New 0 (take n []) []) (h.whole refl) h.left)
+
+-- if a list ended early, the first operations are enough, with what was refused of them
+ended_early : WalkFits small true (event.Start t ∷ event.Own t (Enter a) ∷ event.End t ∷ []) [] (entry.Start ∷ entry.End ∷ [])
+ended_early = record { made = 1; within = lit≤ tt; whole = λ w. cc w; refusals = refl; left = refl }
+
+refused_early : WalkFits small true (event.Poll t ∷ event.Start t ∷ event.Own t (Enter a) ∷ []) (record { operation = 0; error = 204 } ∷ []) (entry.Start ∷ entry.End ∷ [])
+refused_early = record { made = 2; within = lit≤ tt; whole = λ w. cc w; refusals = refl; left = refl }
+
+-- but no other refusal
+unpaid_early : WalkFits small true (event.Start t ∷ event.Own t (Enter a) ∷ event.End t ∷ []) (record { operation = 1; error = 208 } ∷ []) (entry.Start ∷ entry.End ∷ []) → ⊥
+unpaid_early h = by_count h.made h.refusals where
+  by_count : (n : ℕ) → refusals_from small mode.New 0 0 (take n (event.Start t ∷ event.Own t (Enter a) ∷ event.End t ∷ [])) (record { operation = 1; error = 208 } ∷ []) ≡ true → ⊥
+  by_count zero r = cc r
+  by_count (suc zero) r = cc r
+  by_count (suc (suc n)) r = cc r
 
 -- ---- stacks of a thread in a method, blocked, and of one that has ended
 
@@ -180,7 +204,7 @@ histories_of_both =
     (entry.Start ∷ entry.Hand (Blocked Sleep) ∷ entry.Asked e 0 Suspend ∷ entry.Stop f ∷ entry.Read f (pos 2) ∷ entry.Go f ∷ entry.Stop e ∷ entry.Read e (pos 1) ∷ entry.Go e ∷ entry.Asked e 1 Resume ∷ []) ∷ []
 
 abbrev one_thread : Limits
-one_thread = record { threads = 1; envs = 2; depth = 4; own = 32; calls = 8; in_range = ((lit≤ tt, lit≤ tt), (lit≤ tt, lit≤ tt), (lit≤ tt, lit≤ tt), (lit≤ tt, lit≤ tt), (lit≤ tt, lit≤ tt)) }
+one_thread = record { threads = 1; envs = 2; depth = 4; own = 32; calls = 8; kept = true; in_range = ((lit≤ tt, lit≤ tt), (lit≤ tt, lit≤ tt), (lit≤ tt, lit≤ tt), (lit≤ tt, lit≤ tt), (lit≤ tt, lit≤ tt)) }
 
 fit_of_e : CallsFit one_thread histories_of_both e [] calls_of_e replies_of_e
 fit_of_e = (refl, (refl, (refl, (refl, tt))))
@@ -191,10 +215,10 @@ fit_of_f = (refl, tt)
 -- ---- calls are spent, and lack of memory is told
 
 abbrev two_calls : Limits
-two_calls = record { threads = 1; envs = 1; depth = 4; own = 32; calls = 2; in_range = ((lit≤ tt, lit≤ tt), (lit≤ tt, lit≤ tt), (lit≤ tt, lit≤ tt), (lit≤ tt, lit≤ tt), (lit≤ tt, lit≤ tt)) }
+two_calls = record { threads = 1; envs = 1; depth = 4; own = 32; calls = 2; kept = true; in_range = ((lit≤ tt, lit≤ tt), (lit≤ tt, lit≤ tt), (lit≤ tt, lit≤ tt), (lit≤ tt, lit≤ tt), (lit≤ tt, lit≤ tt)) }
 
 abbrev least_calls : Limits
-least_calls = record { threads = 1; envs = 1; depth = 4; own = 32; calls = 1; in_range = ((lit≤ tt, lit≤ tt), (lit≤ tt, lit≤ tt), (lit≤ tt, lit≤ tt), (lit≤ tt, lit≤ tt), (lit≤ tt, lit≤ tt)) }
+least_calls = record { threads = 1; envs = 1; depth = 4; own = 32; calls = 1; kept = true; in_range = ((lit≤ tt, lit≤ tt), (lit≤ tt, lit≤ tt), (lit≤ tt, lit≤ tt), (lit≤ tt, lit≤ tt), (lit≤ tt, lit≤ tt)) }
 
 abbrev calls_spending : List AgentCall
 calls_spending = call.Ask t (Trace (pos 0) (pos 1)) ∷ call.Ask t State ∷ call.AllStacks (pos 0) ∷ call.Ask t State ∷ call.Ask t State ∷ []
@@ -230,8 +254,8 @@ histories_of_count = (entry.Start ∷ enters ∷ entry.End ∷ []) ∷ (entry.St
 fit_count : CallsFit small histories_of_count e [] (call.Ask u FrameCount ∷ []) (Plain (answer.Count 0) ∷ [])
 fit_count = (refl, tt)
 
-walk_of_count : WalkFits false (event.Start u ∷ event.ToBlocked u Park ∷ []) [] (history_at histories_of_count u)
-walk_of_count = refl
+walk_of_count : WalkFits small false (event.Start u ∷ event.ToBlocked u Park ∷ []) [] (history_at histories_of_count u)
+walk_of_count = record { made = 2; within = lit≤ tt; whole = λ _. refl; refusals = refl; left = refl }
 
 -- ---- two agents set and get their words at two threads that poll
 
@@ -350,7 +374,10 @@ fits_listed = record {
         replies_fit = tt;
         used_up = both_threads (λ x. used small f x (all_done small f [] of_none []) ≡ length (got small f (history_at histories_listed x))) refl refl;
       });
-  walks = both_threads (λ x. WalkFits false (slice_index_or ([] ∷ [] ∷ []) x.0 []) (slice_index_or ([] ∷ [] ∷ []) x.0 []) (history_at histories_listed x)) refl refl;
+  walks =
+      both_threads (λ x. WalkFits small false (slice_index_or ([] ∷ [] ∷ []) x.0 []) (slice_index_or ([] ∷ [] ∷ []) x.0 []) (history_at histories_listed x))
+      (record { made = 0; within = lit≤ tt; whole = λ _. refl; refusals = refl; left = refl })
+      (record { made = 0; within = lit≤ tt; whole = λ _. refl; refusals = refl; left = refl });
 }
 
 -- the same with no histories, with one thread's alone, or with a call that has no reply does not fit
@@ -362,3 +389,24 @@ one_history h = cc ((h.calls e (lit≤ tt)).used_up t (lit≤ tt))
 
 no_reply : Fits listing (record listed { replies = [] ∷ [] ∷ [] }) → ⊥
 no_reply h = cc ((h.calls e (lit≤ tt)).all_made refl)
+
+-- ---- refused operations
+
+-- a step and a return before the start, a second start, a leave without a frame, a step after the end
+walk_refused : refusals_from small mode.New 0 0 (event.Own t (Enter a) ∷ event.Back t ∷ event.Start t ∷ event.Start t ∷ event.Own t Leave ∷ event.Poll t ∷ event.End t ∷ event.Poll t ∷ [])
+    (record { operation = 0; error = 204 } ∷ record { operation = 1; error = 205 } ∷ record { operation = 3; error = 210 } ∷ record { operation = 4; error = 202 } ∷ record { operation = 7; error = 204 } ∷ [])
+    ≡ true
+walk_refused = refl
+
+-- no thread refuses a start for its budget, a poll that it makes, or a step twice; and none makes a step after its end
+start_refused : refusals_from small mode.New 0 0 (event.Start t ∷ []) (record { operation = 0; error = 208 } ∷ []) ≡ false
+start_refused = refl
+
+poll_refused : refusals_from small mode.New 0 0 (event.Start t ∷ event.Poll t ∷ []) (record { operation = 1; error = 208 } ∷ []) ≡ false
+poll_refused = refl
+
+refused_twice : refusals_from small mode.New 0 0 (event.Poll t ∷ []) (record { operation = 0; error = 204 } ∷ record { operation = 0; error = 204 } ∷ []) ≡ false
+refused_twice = refl
+
+step_after_the_end : refusals_from small mode.New 0 0 (event.Start t ∷ event.End t ∷ event.Own t (Enter a) ∷ []) [] ≡ false
+step_after_the_end = refl

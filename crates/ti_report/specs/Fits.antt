@@ -136,4 +136,4 @@ pub record Fits (script : Script) (report : LiveReport) : Type 0 where
   pub calls : (e : EnvNo) → e.0 < script.limits.envs
       → AgentFits script.limits report.histories e report.spent (slice_index_or script.calls e.0 []) (slice_index_or report.replies e.0 [])
   pub walks : (t : ThreadNo) → t.0 < script.limits.threads
-      → WalkFits report.spent (slice_index_or script.walks t.0 []) (slice_index_or report.refused t.0 []) (history_at report.histories t)
+      → WalkFits script.limits report.spent (slice_index_or script.walks t.0 []) (slice_index_or report.refused t.0 []) (history_at report.histories t)

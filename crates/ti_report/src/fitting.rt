@@ -73,13 +73,20 @@ fn walks_fit(
     requires walks { length walks.now ≡ limits.threads }
     requires refused { length refused.now ≡ limits.threads }
     requires histories { length histories.now ≡ limits.threads }
-    ensures { IfOk result (λ yes. (yes ≡ true) ↔ ((t : ThreadNo) → t.0 < limits.threads → WalkFits spent (slice_index_or walks.now t.0 []) (slice_index_or refused.now t.0 []) (history_at histories.now t))) }
+    ensures { IfOk result (λ yes. (yes ≡ true) ↔ ((t : ThreadNo) → t.0 < limits.threads → WalkFits limits spent (slice_index_or walks.now t.0 []) (slice_index_or refused.now t.0 []) (history_at histories.now t))) }
 {
     for i in 0..limits.threads {
         let index = i as usize;
         let walk = walks[index].as_slice();
         let list = refused[index].as_slice();
-        if !walk_fits(alloc, spent, walk, list, histories[index].as_slice())? {
+        if !walk_fits(
+            alloc,
+            limits,
+            spent,
+            walk,
+            list,
+            histories[index].as_slice(),
+        )? {
             return Ok(false);
         }
     }
@@ -127,13 +134,7 @@ pub fn fits(alloc: Global, script: &Script, report: &LiveReport) -> Result<bool,
         return Ok(false);
     }
     let walks = script.walks.as_slice();
-    let fits = walks_fit(
-        alloc,
-        limits,
-        report.spent,
-        walks,
-        report.refused.as_slice(),
-        histories,
-    )?;
+    let refused = report.refused.as_slice();
+    let fits = walks_fit(alloc, limits, report.spent, walks, refused, histories)?;
     Ok(fits)
 }

@@ -2,8 +2,8 @@
 //!
 //! A report has each agent's replies and each thread's history. It fits where every history is legal, each agent's calls with
 //! their replies use up, in their order, the entries that the agent left in the histories, each with the reply of its own
-//! entry, and each thread's own entries are its walk's operations (`specs/Fits`, over `specs/Doings`, `specs/Told` and
-//! `specs/Walks`). The test goes over the report once: over each history five times, and over each reply and each
+//! entry, and each thread's own entries and refusals are its walk's (`specs/Fits`, over `specs/Doings`, `specs/Told`,
+//! `specs/Walks` and `specs/Refusals`). The test goes over the report once: over each history five times, and over each reply and each
 //! operation once.
 //!
 //! It stands on `ti_types`, `ti_replay` (what a history replies) and `ti_live` (the values). Upward it promises that `fits`
@@ -19,6 +19,7 @@ mod events;
 mod fitting;
 mod got;
 mod left;
+mod refusals;
 mod same;
 mod stacks;
 mod walks;

@@ -1,19 +1,27 @@
 //! A thread's own entries and the operations of its walk.
-ghost use Rattle.std.specs.Prelude.{◌≡◌, ◌↔◌, ◌<◌, ◌==◌, ◌++◌, [], ℕ, true, false, length, IfOk, OnOk, slice_index_or, if◌then◌else◌};
+ghost use Rattle.std.specs.Prelude.{◌≡◌, ◌↔◌, ◌++◌, List, true, IfOk, MatchOption};
+ghost use Rattle.ti_types.specs.declared.entry.Entry.{Entry};
+ghost use Rattle.ti_types.specs.declared.state.Mode.TheVariants as mode;
 ghost use Rattle.ti_replay.specs.Events.{own_entry};
-ghost use Rattle.ti_report.specs.Walks.{is_walked, one_walked, is_refused, made_from, walked_in, Begins, WalkFits};
+ghost use Rattle.ti_report.specs.Walks.{is_walked, one_walked, last_of, left_by, listed, walked_in, IsDone, GoneThrough, WalkFits};
 
+use crate::refusals::{error_of, is_so, mode_behind, own_behind, refusals_behind};
 use std::alloc::{AllocError, Global};
 use ti_live::Refusal;
-use ti_types::{Entry, Event, Safe};
+use ti_replay::rules::is_running;
+use ti_types::{Entry, Event, Limits, Mode, Safe};
 
-/// Whether only its own operation leaves an entry: a start, a step, a hand-over to native or blocked.
+/// Whether only its own operation leaves an entry: a start, a step, a hand-over to native or blocked, an end.
 fn is_walked(entry: Entry) -> bool
     ensures { result ≡ is_walked entry }
 {
     matches!(
         entry,
-        Entry::Start | Entry::Own(_) | Entry::Hand(Safe::Native) | Entry::Hand(Safe::Blocked(_))
+        Entry::Start
+            | Entry::Own(_)
+            | Entry::Hand(Safe::Native)
+            | Entry::Hand(Safe::Blocked(_))
+            | Entry::End
     )
 }
 
@@ -32,62 +40,24 @@ fn own_entry(event: Event) -> Option<Entry>
     }
 }
 
-/// Adds the entry of an operation, where it is one that only its operation leaves.
-fn push_walked(made: &mut Vec<Entry>, entry: Option<Entry>) -> Result<(), AllocError>
-    ensures { OnOk result (made.new.items ≡ made.old.items ++ one_walked entry) }
+/// An entry, if only its operation leaves it.
+fn one_walked(entry: Option<Entry>) -> Option<Entry>
+    ensures { listed result ≡ one_walked entry }
 {
-    if let Some(entry) = entry {
-        if is_walked(entry) {
-            made.push(entry)?;
-        }
-    }
-    Ok(())
-}
-
-/// Marks an operation as refused, where there is such an operation.
-fn mark(flags: &mut Vec<bool>, refusal: Refusal)
-    ensures length { length flags.new.items ≡ length flags.old.items }
-    ensures marks { (k : ℕ) → k < length flags.old.items → slice_index_or flags.new.items k false ≡ (if refusal.operation == k then true else slice_index_or flags.old.items k false) }
-{
-    let index = refusal.operation as usize;
-    if index < flags.len() {
-        flags[index] = true;
+    match entry {
+        Some(entry) if is_walked(entry) => Some(entry),
+        _ => None,
     }
 }
 
-/// Which of this many operations are refused.
-#[tactic(auto, using(crate::proofs::WalkLaws::refused_take))]
-fn flags(alloc: Global, refused: &[Refusal], count: usize) -> Result<Vec<bool>, AllocError>
-    ensures length { IfOk result (λ f. length f.items ≡ count) }
-    ensures marks { IfOk result (λ f. (k : ℕ) → k < count → slice_index_or f.items k false ≡ is_refused refused.now k) }
+/// The entry that only this operation leaves, unless it leaves none or was refused.
+fn left_by(error: Option<u32>, event: Event) -> Option<Entry>
+    ensures { listed result ≡ left_by error event }
 {
-    let mut flags = vec![in alloc; false; count]?;
-    for i in 0..refused.len() {
-        mark(&mut flags, refused[i]);
+    match error {
+        Some(_) => None,
+        None => one_walked(own_entry(event)),
     }
-    Ok(flags)
-}
-
-/// Adds what an operation leaves, unless it is refused.
-fn push_made(made: &mut Vec<Entry>, event: Event, refused: bool) -> Result<(), AllocError>
-    ensures { OnOk result (made.new.items ≡ made.old.items ++ (if refused then [] else one_walked (own_entry event))) }
-{
-    if !refused {
-        push_walked(made, own_entry(event))?;
-    }
-    Ok(())
-}
-
-/// The entries of a walk, but for the refused operations.
-fn made(alloc: Global, walk: &[Event], refused: &[Refusal]) -> Result<Vec<Entry>, AllocError>
-    ensures { IfOk result (λ m. m.items ≡ made_from refused.now 0 walk.now) }
-{
-    let flags = flags(alloc, refused, walk.len())?;
-    let mut made = Vec::new(alloc);
-    for i in 0..walk.len() {
-        push_made(&mut made, walk[i], flags[i])?;
-    }
-    Ok(made)
 }
 
 /// The entries of a history that only a walk's operations leave.
@@ -109,36 +79,89 @@ fn same_entry(one: Entry, other: Entry) -> bool
     one == other
 }
 
-/// Whether the first list begins the second.
-fn begins(one: &[Entry], other: &[Entry]) -> bool
-    ensures { (result ≡ true) ↔ Begins one.now other.now }
+/// The entries behind the one that an operation left, if that comes first. If it left none, all of them.
+fn entries_behind(entries: &[Entry], left: Option<Entry>) -> Option<&[Entry]>
+    ensures { MatchOption result ((rest : List Entry) → entries.now ≡ listed left ++ rest → ⊥) (λ rest. entries.now ≡ listed left ++ rest.now) }
 {
-    if one.len() > other.len() {
-        return false;
+    let Some(entry) = left else {
+        return Some(entries);
+    };
+    let Some((first, rest)) = entries.split_first() else {
+        return None;
+    };
+    if same_entry(*first, entry) {
+        Some(rest)
+    } else {
+        None
     }
-    for i in 0..one.len() {
-        if !same_entry(one[i], other[i]) {
-            return false;
-        }
-    }
-    true
 }
 
-/// Whether a thread's entries are its walk's operations. The error is lack of memory.
+/// Whether the end of a thread that runs is left, and of any other nothing.
+fn is_last(mode: Mode, entries: &[Entry]) -> bool
+    ensures { (result ≡ true) ↔ (entries.now ≡ last_of mode) }
+{
+    if !is_running(mode) {
+        return entries.is_empty();
+    }
+    entries.len() == 1 && same_entry(entries[0], Entry::End)
+}
+
+/// Whether nothing is left but the end of a thread that runs.
+fn is_done(mode: Mode, refused: &[Refusal], entries: &[Entry]) -> bool
+    ensures { (result ≡ true) ↔ IsDone mode refused.now entries.now }
+{
+    refused.is_empty() && is_last(mode, entries)
+}
+
+/// Whether a new thread that goes through the operations refuses just these, and leaves just these entries.
+fn goes_through(
+    limits: Limits,
+    spent: bool,
+    walk: &[Event],
+    refused: &[Refusal],
+    entries: &[Entry],
+) -> bool
+    ensures { (result ≡ true) ↔ GoneThrough limits spent mode.New 0 0 walk.now refused.now entries.now }
+{
+    let mut mode = Mode::New;
+    let mut own = 0u64;
+    let mut refused = refused;
+    let mut entries = entries;
+    for i in 0..walk.len() {
+        if spent && is_done(mode, refused, entries) {
+            return true;
+        }
+        let operation = walk[i];
+        let error = error_of(refused, i);
+        if !is_so(limits, mode, own, operation, error) {
+            return false;
+        }
+        let Some(rest) = entries_behind(entries, left_by(error, operation)) else {
+            return false;
+        };
+        entries = rest;
+        refused = refusals_behind(refused, i);
+        own = own_behind(limits, own, operation, error);
+        mode = mode_behind(mode, operation, error);
+    }
+    is_done(mode, refused, entries)
+}
+
+/// Whether a thread's refusals and entries are those of its walk, or of a prefix of it if lists ended early: an operation
+/// that does not fit the mode in which the walk left its thread is refused for that, another only with an error that its
+/// frames may have, or for its budget if that cannot pay. Which frames the thread has is not looked at, since pops change
+/// them. The error is lack of memory.
 pub fn walk_fits(
     alloc: Global,
+    limits: Limits,
     spent: bool,
     walk: &[Event],
     refused: &[Refusal],
     history: &[Entry],
 ) -> Result<bool, AllocError>
-    ensures { IfOk result (λ yes. (yes ≡ true) ↔ WalkFits spent walk.now refused.now history.now) }
+    ensures { IfOk result (λ yes. (yes ≡ true) ↔ WalkFits limits spent walk.now refused.now history.now) }
 {
-    let made = made(alloc, walk, refused)?;
-    let walked = walked(alloc, history)?;
-    if !spent && walked.len() != made.len() {
-        return Ok(false);
-    }
-    let fits = begins(&walked, &made);
+    let entries = walked(alloc, history)?;
+    let fits = goes_through(limits, spent, walk, refused, &entries);
     Ok(fits)
 }

@@ -108,7 +108,10 @@ fn close(cell: ThreadCell, done: Walked, told: &mut Told) -> Result<(), RunFault
         return Err(RunFault::Cell);
     };
     told.refused.push(Listed::from(refused))?;
-    told.histories.push(Listed::from(slot.into_history()))?;
+    let Some(history) = slot.into_history() else {
+        return Err(RunFault::Cell);
+    };
+    told.histories.push(Listed::from(history))?;
     Ok(())
 }
 

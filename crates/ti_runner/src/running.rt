@@ -16,9 +16,10 @@ use ti_vmop::VmTurn;
 /// Runs a script: each thread of it is walked by a thread of the operating system, and each agent's calls are made by one.
 /// The gate is asked before each operation and call.
 ///
-/// The report fits its script, for every schedule. The errors: `Memory`, where memory ran out, or a thread could not be
-/// started, and then the activities that were begun went through their lists; `Cell`, where a cell was not there at its end
-/// or the report does not fit (this profile).
+/// The report fits its script, for every schedule. The errors: `Memory`, when memory ran out, or a thread could not be
+/// started, and then the activities that were begun went through their lists; `Cell`, when the script's limits are not
+/// recorded (`Limits::recorded`), it has not as many lists as they say, a cell was not there at its end, or the report does
+/// not fit (this profile).
 pub fn run_live<R: Threads + Wait + Sync + AllocGlobal, G: Gate>(
     rt: &R,
     script: &Script,
@@ -28,7 +29,8 @@ pub fn run_live<R: Threads + Wait + Sync + AllocGlobal, G: Gate>(
 {
     let alloc = rt.alloc();
     let limits = script.limits;
-    if script.walks.as_slice().len() != limits.threads as usize
+    if !limits.kept
+        || script.walks.as_slice().len() != limits.threads as usize
         || script.calls.as_slice().len() != limits.envs as usize
     {
         return Err(RunFault::Cell);

@@ -1,5 +1,5 @@
 -- What a document says as a live script, and which fault it has.
-use Rattle.std.specs.Prelude.{◌≡◌, ◌+◌, ◌==◌, ◌&&◌, ◌||◌, ℕ, Bool, List, [], ◌∷◌, ◌++◌, length, codes, nat_le, is_some, if◌then◌else◌, Option, None, Some, Result, Ok, Err}
+use Rattle.std.specs.Prelude.{◌≡◌, ◌+◌, ◌==◌, ◌&&◌, ◌||◌, ℕ, Bool, List, [], ◌∷◌, ◌++◌, length, codes, nat_le, is_some, true, if◌then◌else◌, Option, None, Some, Result, Ok, Err}
 use Rattle.std.specs.Option.{ok_or}
 use Rattle.std.specs.Result.{result_err}
 use Rattle.std.specs.List.{list_all, sum_by}
@@ -162,3 +162,4 @@ pub record IsLive (d : Data) (l : Live) : Type 0 where
   pub items : items_of (cast_of d) d ≡ Ok (l.walks, l.calls)
   pub thread_count : l.limits.threads ≡ length l.threads
   pub agent_count : l.limits.envs ≡ length l.agents
+  pub kept : l.limits.kept ≡ true

@@ -210,7 +210,8 @@ fn live_in(alloc: Global, value: &Value) -> Result<Live, ScriptFault>
         bounds.own,
         bounds.calls,
     )
-    .unwrap();
+    .unwrap()
+    .recorded();
     Ok(Live {
         limits,
         threads,

@@ -1,10 +1,10 @@
 -- Calls of environments: their numbers, their room, and their replies.
-use Rattle.std.proofs.Common.{◌≡◌, ℕ, ◌<◌, ◌≤◌, true, false, List, [], ◌∷◌, ◌++◌, length, refl, ap, sym, ◌∙◌, arith, Option, Some, None, length-append, subst, ◌&&◌, vec_capacity, ℤ, le_refl}
+use Rattle.std.proofs.Common.{◌≡◌, ℕ, ◌<◌, ◌≤◌, true, false, List, [], ◌∷◌, ◌++◌, length, refl, ap, sym, ◌∙◌, arith, Option, Some, None, length-append, subst, ◌&&◌, ℤ, le_refl}
 use Rattle.std.proofs.lemmas.List.{map-append}
-use Rattle.std.specs.Global.{Vec}
+use Rattle.ti_trail.specs.Record.{Recorded}
 use Rattle.std.specs.List.{list_all}
 use Rattle.std.proofs.lemmas.Bool.Decides.{nat_tests}
-use Rattle.std.proofs.lemmas.List.Sums.{sum_by-append, sum_by-cons}
+use Rattle.std.proofs.lemmas.List.Sums.{sum_by-cons, count_by-le-length}
 use Rattle.std.proofs.lemmas.List.Folds.{list_all-append}
 use Rattle.ti_types.specs.declared.limits.Limits.{Limits}
 use Rattle.ti_types.specs.declared.numbers.EnvNo.{EnvNo}
@@ -20,16 +20,16 @@ use Rattle.ti_types.specs.Frames as buffer
 use Rattle.ti_types.specs.Answer.{said}
 use Rattle.ti_frames.specs.Frames.{Stack}
 use Rattle.ti_ops.specs.Ops.{Ops, with_posted, with_fates}
+use Rattle.ti_ops.specs.Fates.{fates_by, open_by, is_open}
 use Rattle.ti_ops.specs.declared.fate.Fate.{Fate}
 use Rattle.ti_ops.specs.declared.pending.Pending.{Pending}
 use Rattle.ti_replay.specs.Answers.{is_running, answer_of, stack_of}
 use Rattle.ti_replay.specs.Settling.{waits}
-use Rattle.ti_replay.specs.Legal.{is_legal, is_stopper, is_well_formed, is_not_negative, calls_spent, asked_by, ask_count, call_cost, call_cost_of}
+use Rattle.ti_replay.specs.Legal.{is_legal, is_stopper, is_well_formed, is_not_negative, calls_spent, asked_by, ask_count, call_cost}
 use Rattle.ti_replay.specs.View.{view, called}
 use Rattle.ti_replay.specs.Replies.{reply}
 use Rattle.ti_replay.specs.Costs.{charged}
 use Rattle.ti_replay.specs.HistoryState.{history_state}
-use Rattle.ti_replay.proofs.CostLaws.{is_legal-snoc}
 use Rattle.ti_replay.proofs.LateStepLaws.{called_keeps}
 use Rattle.ti_replay.proofs.PlaceLaws.{reply_at_once, reply_later, reply_past}
 use Rattle.ti_replay.proofs.AskingLaws.{reply-snoc}
@@ -43,10 +43,9 @@ use Rattle.ti_types.specs.declared.event.Event.TheVariants as event
 use Rattle.ti_replay.specs.Events.{hold_refusal}
 use Rattle.ti_slot.specs.declared.asked.Asked.TheVariants.{Answered, Waiting}
 use Rattle.ti_types.specs.declared.event.Ticket.{Ticket}
-use Rattle.ti_slot.specs.Slot.{Stands, FramesAreHome, LogIsHome}
+use Rattle.ti_slot.specs.Slot.{Stands, shelf, FramesAreHome, LogIsHome}
 use Rattle.ti_slot.proofs.SlotLaws as laws
 use Rattle.ti_slot.proofs.CallLaws.{May, Comes, comes, may_call, view_is}
-use Rattle.ti_replay.proofs.BoundLaws.{calls_bounded}
 
 asked_one : (env : EnvNo) (x : Entry) → ask_count env x ≤ call_cost env x
 asked_one env Start = omega arith
@@ -64,17 +63,15 @@ asked_le env [] = omega arith
 asked_le env (x ∷ history) = omega (arith, asked_le env history, asked_one env x, sum_by-cons (ask_count env) x history, sum_by-cons (call_cost env) x history)
 
 -- there is a number left for the next call
-pub asked_less : (a : Inside) (env : EnvNo) → IsSlot a → calls_spent env a.history.items < a.limits.calls → asked_by env a.history.items < a.ops.calls
-asked_less a env s hc = omega (arith, asked_le env a.history.items, s.ops_calls)
+pub asked_less : (a : Inside) (env : EnvNo) → IsSlot a → calls_spent env a.history.items < a.limits.calls → asked_by env a.history.items < a.limits.calls
+asked_less a env s hc = omega (arith, asked_le env a.history.items)
 
 pub may_ask : (a : Inside) (env : EnvNo) (n : ℕ) (call : Call) → IsSlot a → env.0 < a.limits.envs → calls_spent env a.history.items < a.limits.calls → is_well_formed call ≡ true → n ≡ asked_by env a.history.items → May a (Asked env n call)
 may_ask a env n call s he hc hw hn = grind (arith, nat_tests)
 
--- a call that may be asked has room among those that wait
-pub post_room : (a : Inside) (x : Entry) → IsSlot a → May a x → call_cost_of x ≡ 1 → length a.ops.waiting < a.ops.room
-post_room a x s may one =
-    let legal : is_legal a.limits (a.history.items ++ x ∷ []) ≡ true = is_legal-snoc a.limits a.history.items x ∙ grind (arith, s.legal, may) in
-    omega (arith, calls_bounded a.limits (a.history.items ++ x ∷ []) legal, sum_by-append call_cost_of a.history.items (x ∷ []), sum_by-cons call_cost_of x [], s.paid, s.ops_room, one)
+-- a call that may be asked has room among those of which something is left
+pub open_less : (a : Inside) (env : EnvNo) → IsSlot a → calls_spent env a.history.items < a.limits.calls → length (fates_by env a.ops.fates) ≡ asked_by env a.history.items → open_by env a.ops.fates < a.ops.window
+open_less a env s hc e = omega (arith, count_by-le-length is_open (fates_by env a.ops.fates), asked_le env a.history.items, e, s.window)
 
 pub ready_more : (limits : Limits) (waiting : List Pending) (p : Pending) → AreReady limits waiting → IsBufferOf limits p.call p.buf → AreReady limits (waiting ++ p ∷ [])
 ready_more limits [] p r b = (b, tt)
@@ -84,20 +81,19 @@ pub put_off_is : (a : Inside) (call : Call) → IsSlot a → (waits call && is_r
 put_off_is a call s = ap (λ (v : ThreadView). waits call && is_running v.mode) (view_is a s)
 
 -- the slot after a call that waits
-pub asked_waits : (a : Inside) (env : EnvNo) (n : ℕ) (call : Call) (thread : ThreadNo) (buf : buffer.Trace) (h : Vec Entry) (ops : Ops)
-    → IsSlot a → May a (Asked env n call) → (waits call && is_running a.condition.mode) ≡ true → h.items ≡ a.history.items ++ Asked env n call ∷ [] → vec_capacity a.history ≤ vec_capacity h
+pub asked_waits : (a : Inside) (env : EnvNo) (n : ℕ) (call : Call) (thread : ThreadNo) (buf : buffer.Trace) (h : Recorded Entry) (ops : Ops)
+    → IsSlot a → May a (Asked env n call) → (waits call && is_running a.condition.mode) ≡ true → h.items ≡ a.history.items ++ Asked env n call ∷ [] → shelf h ≡ shelf a.history
     → ops ≡ with_posted a.ops (record { ticket = record { env = env; thread = thread; no = n }; call = call; buf = buf }) → IsBufferOf a.limits call buf
-    → Stands a.limits h.items (vec_capacity h) a.condition a.frames a.log a.own (history_state a.limits h.items).costs ops
+    → Stands a.limits h.items (shelf h) a.condition a.frames a.log a.own (history_state a.limits h.items).costs ops
 asked_waits a env n call thread buf h ops s may off e le eo b =
     let x = Asked env n call in
     let p : Pending = record { ticket = record { env = env; thread = thread; no = n }; call = call; buf = buf } in
     let w : waits call ≡ true = grind arith in
     let more : entries_of (a.ops.waiting ++ p ∷ []) ≡ entries_of a.ops.waiting ++ x ∷ [] = map-append entry_of a.ops.waiting (p ∷ []) in
-    let count = length-append a.ops.waiting (p ∷ []) in
     let calls : list_all waits (calls_of (a.ops.waiting ++ p ∷ [])) ≡ true = grind (arith, s.calls, w, map-append (λ (q : Pending). q.call) a.ops.waiting (p ∷ []), list_all-append waits (calls_of a.ops.waiting) (call ∷ [])) in
-    rw eo (laws.own_costs a.limits h.items (vec_capacity h) a.condition a.frames a.log a.own (charged (costs_in a) x) (with_posted a.ops p) (laws.goes a.limits a.history.items (vec_capacity a.history) a.condition a.frames a.log a.own (costs_in a) a.ops x h.items (vec_capacity h) a.condition a.frames a.log a.own (charged (costs_in a) x) (with_posted a.ops p)
+    rw eo (laws.own_costs a.limits h.items (shelf h) a.condition a.frames a.log a.own (charged (costs_in a) x) (with_posted a.ops p) (laws.goes a.limits a.history.items (shelf a.history) a.condition a.frames a.log a.own (costs_in a) a.ops x h.items (shelf h) a.condition a.frames a.log a.own (charged (costs_in a) x) (with_posted a.ops p)
     (frames_or a.frames (view a.limits a.history.items).frames) s may e le
-    (grind (arith, off, more)) (laws.home a.frames (view a.limits a.history.items).frames) s.frames_home s.log_home refl refl (omega (arith, count)) (ready_more a.limits a.ops.waiting p s.ready b) calls))
+    (grind (arith, off, more)) (laws.home a.frames (view a.limits a.history.items).frames) s.frames_home s.log_home refl (ready_more a.limits a.ops.waiting p s.ready b) calls))
 
 -- frames that are where they were are at home there
 frames_stay : (limits : Limits) (m : Mode) (f g : Option Stack) → AreWhereTheyWere f g → FramesAreHome limits m f → FramesAreHome limits m g
@@ -107,17 +103,17 @@ frames_stay limits m (Some s) None same k = absurd same
 frames_stay limits m None (Some t) same k = absurd same
 
 -- the slot after a call that is answered at once
-pub answered : (a : Inside) (env : EnvNo) (n : ℕ) (call : Call) (h : Vec Entry) (c : Condition) (g : Option Stack) (ops : Ops)
-    → IsSlot a → May a (Asked env n call) → (waits call && is_running a.condition.mode) ≡ false → h.items ≡ a.history.items ++ Asked env n call ∷ [] → vec_capacity a.history ≤ vec_capacity h
+pub answered : (a : Inside) (env : EnvNo) (n : ℕ) (call : Call) (h : Recorded Entry) (c : Condition) (g : Option Stack) (ops : Ops)
+    → IsSlot a → May a (Asked env n call) → (waits call && is_running a.condition.mode) ≡ false → h.items ≡ a.history.items ++ Asked env n call ∷ [] → shelf h ≡ shelf a.history
     → ((others : List Frame) → view_of c (frames_or g others) ≡ called (view_of a.condition (frames_or a.frames others)) env call) → AreWhereTheyWere a.frames g
     → (fates : List (List Fate)) → ops ≡ with_fates a.ops fates
-    → Stands a.limits h.items (vec_capacity h) c g a.log a.own (history_state a.limits h.items).costs ops
+    → Stands a.limits h.items (shelf h) c g a.log a.own (history_state a.limits h.items).costs ops
 answered a env n call h c g ops s may off e le vc stay fates eo =
     let x = Asked env n call in
     let f = (view a.limits a.history.items).frames in
     let same : c.mode ≡ a.condition.mode = ap (λ (v : ThreadView). v.mode) (vc []) ∙ (called_keeps (view_of a.condition (frames_or a.frames [])) env call).0 in
-    rw eo (laws.own_costs a.limits h.items (vec_capacity h) c g a.log a.own (charged (costs_in a) x) (with_fates a.ops fates) (laws.goes a.limits a.history.items (vec_capacity a.history) a.condition a.frames a.log a.own (costs_in a) a.ops x h.items (vec_capacity h) c g a.log a.own (charged (costs_in a) x) (with_fates a.ops fates) (frames_or g f) s may e le
-    (grind (arith, off, vc f)) (laws.home g f) (subst (λ m. FramesAreHome a.limits m g) (sym same) (frames_stay a.limits a.condition.mode a.frames g stay s.frames_home)) (subst (λ m. LogIsHome a.limits m a.log) (sym same) s.log_home) refl refl (omega arith) s.ready s.calls))
+    rw eo (laws.own_costs a.limits h.items (shelf h) c g a.log a.own (charged (costs_in a) x) (with_fates a.ops fates) (laws.goes a.limits a.history.items (shelf a.history) a.condition a.frames a.log a.own (costs_in a) a.ops x h.items (shelf h) c g a.log a.own (charged (costs_in a) x) (with_fates a.ops fates) (frames_or g f) s may e le
+    (grind (arith, off, vc f)) (laws.home g f) (subst (λ m. FramesAreHome a.limits m g) (sym same) (frames_stay a.limits a.condition.mode a.frames g stay s.frames_home)) (subst (λ m. LogIsHome a.limits m a.log) (sym same) s.log_home) refl s.ready s.calls))
 
 pub replied : (a : Inside) (env : EnvNo) (n : ℕ) (call : Call) (h : List Entry) (told : Answer) → IsSlot a → (waits call && is_running a.condition.mode) ≡ false → h ≡ a.history.items ++ Asked env n call ∷ []
     → ((others : List Frame) → said told ≡ answer_of (view_of a.condition (frames_or a.frames others)) env call) → reply a.limits h (length a.history.items) ≡ Some (said told)
@@ -141,12 +137,12 @@ reads_here a t env n f s e he hc hn hs is =
     let hr : is_running a.condition.mode ≡ false = (subst (FramesAreHome a.limits a.condition.mode) is s.frames_home).0 in
     record { free = grind (arith, view_is a s, hs, hr); comes = comes a (Read env n) s (grind (arith, nat_tests, view_is a s, h.0, h.1)) }
 
-pub was_read : (a : Inside) (env : EnvNo) (n : ℤ) (h : Vec Entry) → IsSlot a → May a (Read env n) → h.items ≡ a.history.items ++ Read env n ∷ [] → vec_capacity a.history ≤ vec_capacity h
-    → Stands a.limits h.items (vec_capacity h) a.condition a.frames a.log a.own (history_state a.limits h.items).costs a.ops
+pub was_read : (a : Inside) (env : EnvNo) (n : ℤ) (h : Recorded Entry) → IsSlot a → May a (Read env n) → h.items ≡ a.history.items ++ Read env n ∷ [] → shelf h ≡ shelf a.history
+    → Stands a.limits h.items (shelf h) a.condition a.frames a.log a.own (history_state a.limits h.items).costs a.ops
 was_read a env n h s may e le =
-    laws.own_costs a.limits h.items (vec_capacity h) a.condition a.frames a.log a.own (charged (costs_in a) (Read env n)) a.ops (laws.goes a.limits a.history.items (vec_capacity a.history) a.condition a.frames a.log a.own (costs_in a) a.ops (Read env n) h.items (vec_capacity h) a.condition a.frames a.log a.own (charged (costs_in a) (Read env n)) a.ops
+    laws.own_costs a.limits h.items (shelf h) a.condition a.frames a.log a.own (charged (costs_in a) (Read env n)) a.ops (laws.goes a.limits a.history.items (shelf a.history) a.condition a.frames a.log a.own (costs_in a) a.ops (Read env n) h.items (shelf h) a.condition a.frames a.log a.own (charged (costs_in a) (Read env n)) a.ops
     (frames_or a.frames (view a.limits a.history.items).frames) s may e le
-    (grind arith) (laws.home a.frames (view a.limits a.history.items).frames) s.frames_home s.log_home refl refl (omega arith) s.ready s.calls)
+    (grind arith) (laws.home a.frames (view a.limits a.history.items).frames) s.frames_home s.log_home refl s.ready s.calls)
 
 pub reply_read : (limits : Limits) (history : List Entry) (env : EnvNo) (n : ℤ) → reply limits (history ++ Read env n ∷ []) (length history) ≡ Some (stack_of (view limits history) n)
 reply_read limits history env n =

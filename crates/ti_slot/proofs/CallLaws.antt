@@ -1,6 +1,6 @@
 -- Each call of a slot: the entry may come, there is room for it, and the slot stands for the longer history.
-use Rattle.std.proofs.Common.{◌≡◌, ℕ, ◌+◌, ◌<◌, ◌≤◌, true, false, List, [], ◌∷◌, ◌++◌, length, refl, ap, sym, ◌∙◌, arith, Option, Some, None, is_some, length-append, subst, vec_capacity}
-use Rattle.std.specs.Global.{Vec}
+use Rattle.std.proofs.Common.{◌≡◌, ℕ, ◌+◌, ◌<◌, ◌≤◌, true, false, List, [], ◌∷◌, ◌++◌, length, refl, ap, sym, ◌∙◌, arith, Option, Some, None, is_some, length-append, subst}
+use Rattle.ti_trail.specs.Record.{Recorded}
 use Rattle.std.proofs.lemmas.Bool.Decides.{nat_tests}
 use Rattle.ti_types.specs.declared.numbers.EnvNo.{EnvNo}
 use Rattle.ti_types.specs.declared.state.Mode.{Mode}
@@ -30,7 +30,7 @@ use Rattle.ti_slot.specs.Refusal.{hand_refusal}
 use Rattle.ti_replay.specs.LateTickets.{steps_of}
 use Rattle.ti_replay.specs.Refusals.{own_refusal}
 use Rattle.ti_replay.proofs.NextStates.{next_state, allows}
-use Rattle.ti_slot.specs.Slot.{Stands, state_of, FramesAreHome}
+use Rattle.ti_slot.specs.Slot.{Stands, Shelf, shelf, state_of, FramesAreHome}
 use Rattle.ti_slot.proofs.SlotLaws as laws
 use Rattle.ti_replay.proofs.BoundLaws.{own_bounded}
 
@@ -44,12 +44,12 @@ view_is a s = ap (λ (t : HistoryState). t.view) s.state
 -- what such an entry finds: there is room for it
 pub record Comes (a : Inside) (x : Entry) : Type 0 where
   pub may : May a x
-  pub room : length a.history.items < vec_capacity a.history
+  pub room : length a.history.items < a.history.room
 
 pub comes : (a : Inside) (x : Entry) → IsSlot a → May a x → Comes a x
 comes a x s may = record {
   may = may;
-  room = laws.room_for a.limits a.history.items (vec_capacity a.history) a.condition a.frames a.log a.own (costs_in a) a.ops x s may;
+  room = laws.room_for a.limits a.history.items (shelf a.history) a.condition a.frames a.log a.own (costs_in a) a.ops x s may;
 }
 
 -- an environment that may call the thread, by the fields
@@ -78,34 +78,34 @@ pub back_comes : (a : Inside) → IsSlot a → is_safe a.condition.mode ≡ true
 back_comes a s hm hu hs = comes a Back s (grind (arith, view_is a s))
 
 -- the fields after a stop
-pub stopped : (a : Inside) (env : EnvNo) (h : Vec Entry) → IsSlot a → May a (Stop env) → h.items ≡ a.history.items ++ Stop env ∷ [] → vec_capacity a.history ≤ vec_capacity h
-    → Stands a.limits h.items (vec_capacity h) (record { mode = a.condition.mode; suspended = a.condition.suspended; stopper = Some env; words = a.condition.words }) a.frames a.log a.own (history_state a.limits h.items).costs a.ops
+pub stopped : (a : Inside) (env : EnvNo) (h : Recorded Entry) → IsSlot a → May a (Stop env) → h.items ≡ a.history.items ++ Stop env ∷ [] → shelf h ≡ shelf a.history
+    → Stands a.limits h.items (shelf h) (record { mode = a.condition.mode; suspended = a.condition.suspended; stopper = Some env; words = a.condition.words }) a.frames a.log a.own (history_state a.limits h.items).costs a.ops
 stopped a env h s may e le =
-    laws.own_costs a.limits h.items (vec_capacity h) _ a.frames a.log a.own (charged (costs_in a) (Stop env)) a.ops (laws.goes a.limits a.history.items (vec_capacity a.history) a.condition a.frames a.log a.own (costs_in a) a.ops (Stop env) h.items (vec_capacity h) _ a.frames a.log a.own (charged (costs_in a) (Stop env)) a.ops
+    laws.own_costs a.limits h.items (shelf h) _ a.frames a.log a.own (charged (costs_in a) (Stop env)) a.ops (laws.goes a.limits a.history.items (shelf a.history) a.condition a.frames a.log a.own (costs_in a) a.ops (Stop env) h.items (shelf h) _ a.frames a.log a.own (charged (costs_in a) (Stop env)) a.ops
     (frames_or a.frames (view a.limits a.history.items).frames) s may e le
-    (grind arith) (laws.home a.frames (view a.limits a.history.items).frames) s.frames_home s.log_home refl refl (omega arith) s.ready s.calls)
+    (grind arith) (laws.home a.frames (view a.limits a.history.items).frames) s.frames_home s.log_home refl s.ready s.calls)
 
-pub let_go : (a : Inside) (env : EnvNo) (h : Vec Entry) → IsSlot a → May a (Go env) → h.items ≡ a.history.items ++ Go env ∷ [] → vec_capacity a.history ≤ vec_capacity h
-    → Stands a.limits h.items (vec_capacity h) (record { mode = a.condition.mode; suspended = a.condition.suspended; stopper = None; words = a.condition.words }) a.frames a.log a.own (history_state a.limits h.items).costs a.ops
+pub let_go : (a : Inside) (env : EnvNo) (h : Recorded Entry) → IsSlot a → May a (Go env) → h.items ≡ a.history.items ++ Go env ∷ [] → shelf h ≡ shelf a.history
+    → Stands a.limits h.items (shelf h) (record { mode = a.condition.mode; suspended = a.condition.suspended; stopper = None; words = a.condition.words }) a.frames a.log a.own (history_state a.limits h.items).costs a.ops
 let_go a env h s may e le =
-    laws.own_costs a.limits h.items (vec_capacity h) _ a.frames a.log a.own (costs_in a) a.ops (laws.goes a.limits a.history.items (vec_capacity a.history) a.condition a.frames a.log a.own (costs_in a) a.ops (Go env) h.items (vec_capacity h) _ a.frames a.log a.own (costs_in a) a.ops
+    laws.own_costs a.limits h.items (shelf h) _ a.frames a.log a.own (costs_in a) a.ops (laws.goes a.limits a.history.items (shelf a.history) a.condition a.frames a.log a.own (costs_in a) a.ops (Go env) h.items (shelf h) _ a.frames a.log a.own (costs_in a) a.ops
     (frames_or a.frames (view a.limits a.history.items).frames) s may e le
-    (grind (arith, charged_free (costs_in a) (Go env))) (laws.home a.frames (view a.limits a.history.items).frames) s.frames_home s.log_home refl refl (omega arith) s.ready s.calls)
+    (grind (arith, charged_free (costs_in a) (Go env))) (laws.home a.frames (view a.limits a.history.items).frames) s.frames_home s.log_home refl s.ready s.calls)
 
 -- the thread runs, and its frames are away
-pub started : (a : Inside) (h : Vec Entry) → IsSlot a → May a Start → h.items ≡ a.history.items ++ Start ∷ [] → vec_capacity a.history ≤ vec_capacity h
-    → Stands a.limits h.items (vec_capacity h) (record { mode = mode.Running; suspended = a.condition.suspended; stopper = a.condition.stopper; words = a.condition.words }) None None a.own (history_state a.limits h.items).costs a.ops
+pub started : (a : Inside) (h : Recorded Entry) → IsSlot a → May a Start → h.items ≡ a.history.items ++ Start ∷ [] → shelf h ≡ shelf a.history
+    → Stands a.limits h.items (shelf h) (record { mode = mode.Running; suspended = a.condition.suspended; stopper = a.condition.stopper; words = a.condition.words }) None None a.own (history_state a.limits h.items).costs a.ops
 started a h s may e le =
-    laws.own_costs a.limits h.items (vec_capacity h) _ None None a.own (costs_in a) a.ops (laws.goes a.limits a.history.items (vec_capacity a.history) a.condition a.frames a.log a.own (costs_in a) a.ops Start h.items (vec_capacity h) _ None None a.own (costs_in a) a.ops
+    laws.own_costs a.limits h.items (shelf h) _ None None a.own (costs_in a) a.ops (laws.goes a.limits a.history.items (shelf a.history) a.condition a.frames a.log a.own (costs_in a) a.ops Start h.items (shelf h) _ None None a.own (costs_in a) a.ops
     (frames_or a.frames (view a.limits a.history.items).frames) s may e le
-    (grind (arith, charged_free (costs_in a) Start)) refl refl refl refl refl (omega arith) s.ready s.calls)
+    (grind (arith, charged_free (costs_in a) Start)) refl refl refl refl s.ready s.calls)
 
-pub returned : (a : Inside) (h : Vec Entry) → IsSlot a → May a Back → is_safe a.condition.mode ≡ true → h.items ≡ a.history.items ++ Back ∷ [] → vec_capacity a.history ≤ vec_capacity h
-    → Stands a.limits h.items (vec_capacity h) (record { mode = mode.Running; suspended = a.condition.suspended; stopper = a.condition.stopper; words = a.condition.words }) None a.log a.own (history_state a.limits h.items).costs a.ops
+pub returned : (a : Inside) (h : Recorded Entry) → IsSlot a → May a Back → is_safe a.condition.mode ≡ true → h.items ≡ a.history.items ++ Back ∷ [] → shelf h ≡ shelf a.history
+    → Stands a.limits h.items (shelf h) (record { mode = mode.Running; suspended = a.condition.suspended; stopper = a.condition.stopper; words = a.condition.words }) None a.log a.own (history_state a.limits h.items).costs a.ops
 returned a h s may safe e le =
-    laws.own_costs a.limits h.items (vec_capacity h) _ None a.log a.own (costs_in a) a.ops (laws.goes a.limits a.history.items (vec_capacity a.history) a.condition a.frames a.log a.own (costs_in a) a.ops Back h.items (vec_capacity h) _ None a.log a.own (costs_in a) a.ops
+    laws.own_costs a.limits h.items (shelf h) _ None a.log a.own (costs_in a) a.ops (laws.goes a.limits a.history.items (shelf a.history) a.condition a.frames a.log a.own (costs_in a) a.ops Back h.items (shelf h) _ None a.log a.own (costs_in a) a.ops
     (frames_or a.frames (view a.limits a.history.items).frames) s may e le
-    (grind (arith, charged_free (costs_in a) Back)) refl refl (laws.log_away a.limits a.condition.mode mode.Running a.log s.log_home safe refl) refl refl (omega arith) s.ready s.calls)
+    (grind (arith, charged_free (costs_in a) Back)) refl refl (laws.log_away a.limits a.condition.mode mode.Running a.log s.log_home safe refl) refl s.ready s.calls)
 
 -- the frames that go out are those of the view
 pub frames_go : (a : Inside) (t : Thread) (x : Entry) (h : List Entry) (f : Stack) → IsSlot a → thread_in a ≡ t → a.frames ≡ Some f → h ≡ a.history.items ++ x ∷ []
@@ -122,15 +122,15 @@ at_mode c m = record { mode = m; suspended = c.suspended; stopper = c.stopper; w
 
 -- the logged steps enter the history of a running thread
 abbrev pub Ran : Inside → List Step → Type 0
-Ran a steps = Stands a.limits (a.history.items ++ steps_of steps) (vec_capacity a.history) a.condition None a.log (a.own + length steps) (costs_in a) a.ops
+Ran a steps = Stands a.limits (a.history.items ++ steps_of steps) (shelf a.history) a.condition None a.log (a.own + length steps) (costs_in a) a.ops
 
 pub runs_here : (a : Inside) → IsSlot a → is_running (view a.limits a.history.items).mode ≡ true → is_running a.condition.mode ≡ true
 runs_here a s r = sym (ap (λ (v : ThreadView). is_running v.mode) (view_is a s)) ∙ r
 
 pub ran : (a : Inside) (steps : List Step) → IsSlot a → is_running (view a.limits a.history.items).mode ≡ true → goes_on a.limits a.history.items (steps_of steps) ≡ true → Ran a steps
 ran a steps s r g =
-    let here = subst (λ f. Stands a.limits a.history.items (vec_capacity a.history) a.condition f a.log a.own (costs_in a) a.ops) (laws.away a.limits a.condition.mode a.frames s.frames_home (runs_here a s r)) s in
-    laws.steps_stand a.limits a.history.items (vec_capacity a.history) a.condition a.log a.own (costs_in a) a.ops steps here g
+    let here = subst (λ f. Stands a.limits a.history.items (shelf a.history) a.condition f a.log a.own (costs_in a) a.ops) (laws.away a.limits a.condition.mode a.frames s.frames_home (runs_here a s r)) s in
+    laws.steps_stand a.limits a.history.items (shelf a.history) a.condition a.log a.own (costs_in a) a.ops steps here g
 
 pub ran_own : (a : Inside) (steps : List Step) → Ran a steps → (own_spent (a.history.items ++ steps_of steps) ≡ a.own + length steps) × (a.own + length steps ≤ a.limits.own)
 ran_own a steps s =
@@ -155,14 +155,14 @@ pub length-steps : (steps : List Step) → length (steps_of steps) ≡ length st
 length-steps [] = refl
 length-steps (x ∷ steps) = grind (arith, length-steps steps)
 
-pub ran_room : (a : Inside) (steps : List Step) (x : Entry) → Ran a steps → may_follow a.limits (a.history.items ++ steps_of steps) x ≡ true → length a.history.items + length steps < vec_capacity a.history
+pub ran_room : (a : Inside) (steps : List Step) (x : Entry) → Ran a steps → may_follow a.limits (a.history.items ++ steps_of steps) x ≡ true → length a.history.items + length steps < a.history.room
 ran_room a steps x s may =
-    let r = laws.room_for a.limits (a.history.items ++ steps_of steps) (vec_capacity a.history) a.condition None a.log (a.own + length steps) (costs_in a) a.ops x s may in
+    let r = laws.room_for a.limits (a.history.items ++ steps_of steps) (shelf a.history) a.condition None a.log (a.own + length steps) (costs_in a) a.ops x s may in
     omega (arith, r, length-append a.history.items (steps_of steps), length-steps steps)
 
 -- the steps enter the history, and there is room for one entry more
-pub room_behind : (a : Inside) (steps given : List Step) (x : Entry) (h : Vec Entry) → Ran a steps → may_follow a.limits (a.history.items ++ steps_of steps) x ≡ true → given ≡ steps → h.items ≡ a.history.items ++ steps_of given → vec_capacity a.history ≤ vec_capacity h → length h.items < vec_capacity h
-room_behind a steps given x h s may same e le = omega (arith, ran_room a steps x s may, ap length e, length-append a.history.items (steps_of given), length-steps given, ap length same, le)
+pub room_behind : (a : Inside) (steps given : List Step) (x : Entry) (h : Recorded Entry) → Ran a steps → may_follow a.limits (a.history.items ++ steps_of steps) x ≡ true → given ≡ steps → h.items ≡ a.history.items ++ steps_of given → shelf h ≡ shelf a.history → length h.items < h.room
+room_behind a steps given x h s may same e le = omega (arith, ran_room a steps x s may, ap length e, length-append a.history.items (steps_of given), length-steps given, ap length same, ap (λ (z : Shelf). z.room) le)
 
 pub entry_behind : (steps given : List Step) (x : Entry) (h h1 h2 : List Entry) → given ≡ steps → h1 ≡ h ++ steps_of given → h2 ≡ h1 ++ x ∷ [] → h2 ≡ (h ++ steps_of steps) ++ x ∷ []
 entry_behind steps given x h h1 h2 same e1 e2 = e2 ∙ ap (λ l. l ++ x ∷ []) (e1 ∙ ap (λ s. h ++ steps_of s) same)

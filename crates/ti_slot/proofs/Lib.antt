@@ -1,4 +1,3 @@
-pub mod StepLaws
 pub mod SlotLaws
 pub mod CallLaws
 pub mod AskLaws

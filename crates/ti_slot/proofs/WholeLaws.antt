@@ -1,5 +1,5 @@
 -- What a slot tells of its tickets, call by call.
-use Rattle.std.proofs.Common.{◌≡◌, ℕ, ◌+◌, ◌<◌, ◌≤◌, true, false, ◌&&◌, if◌then◌else◌, List, [], ◌∷◌, ◌++◌, length, map, get_or, replicate, suc, zero, refl, ap, sym, ◌∙◌, arith, Option, Some, None, append-nil, append_assoc, subst, is_some, vec_capacity}
+use Rattle.std.proofs.Common.{◌≡◌, ℕ, ◌+◌, ◌<◌, ◌≤◌, true, false, ◌&&◌, if◌then◌else◌, List, [], ◌∷◌, ◌++◌, length, map, get_or, replicate, suc, zero, refl, ap, sym, ◌∙◌, arith, Option, Some, None, append-nil, append_assoc, subst, is_some}
 use Rattle.std.specs.Option.{option_map}
 use Rattle.std.proofs.lemmas.List.{length-map, length-replicate}
 use Rattle.ti_types.specs.declared.limits.Limits.{Limits}
@@ -14,7 +14,7 @@ use Rattle.ti_types.specs.declared.state.Mode.TheVariants as mode
 use Rattle.ti_types.specs.declared.entry.Entry.{Entry}
 use Rattle.ti_types.specs.declared.event.Event.{Event}
 use Rattle.ti_types.specs.declared.place.Frame.{Frame}
-use Rattle.std.specs.Global.{Vec}
+use Rattle.ti_trail.specs.Record.{Recorded}
 use Rattle.ti_replay.specs.Events.{hold_refusal, if_none}
 use Rattle.ti_slot.specs.declared.asked.Asked.TheVariants as asked
 use Rattle.ti_slot.specs.declared.condition.Condition.{Condition}
@@ -26,7 +26,7 @@ use Rattle.ti_frames.specs.Frames.{Stack, with_frames}
 use Rattle.ti_ops.specs.declared.fate.Fate.{Fate}
 use Rattle.ti_ops.specs.declared.fate.Fate.TheVariants.{Waiting, Told, Gone}
 use Rattle.ti_ops.specs.declared.pending.Pending.{Pending}
-use Rattle.ti_ops.specs.Fates.{fates_by, fate_of, with_call, with_fate, told_by}
+use Rattle.ti_ops.specs.Fates.{fates_by, fate_of, open_by, with_call, with_fate, told_by}
 use Rattle.ti_ops.specs.Ops.{Ops, with_posted, with_fates}
 use Rattle.ti_replay.specs.Answers.{is_running, answer_of}
 use Rattle.ti_replay.specs.Settling.{waits, is_hand_over}
@@ -43,10 +43,10 @@ use Rattle.ti_slot.specs.Waiting.{answers_of, entries_of, said_in, said_fate, de
 use Rattle.ti_slot.specs.Tickets.{Tells, has, without_ticket, asked_in, open_in, AreAwaited}
 use Rattle.ti_slot.specs.Thread.{Thread, with_more, IsAsked}
 use Rattle.ti_slot.specs.Inside.{IsSlot, IsWhole, costs_in, thread_in}
-use Rattle.ti_slot.specs.Slot.{Stands}
+use Rattle.ti_slot.specs.Slot.{Stands, shelf}
 use Rattle.ti_slot.proofs.SlotLaws as laws
 use Rattle.ti_slot.proofs.CallLaws.{Comes, comes, may_call, Ran, ran_view, at_mode, Hands}
-use Rattle.ti_slot.proofs.AskLaws.{put_off_is, asked_less, may_ask, post_room, asked_waits, answered, told_waits, told_now}
+use Rattle.ti_slot.proofs.AskLaws.{put_off_is, asked_less, may_ask, open_less, asked_waits, answered, told_waits, told_now}
 use Rattle.ti_slot.proofs.FateLaws.{by-said, fate-said, length-said, said-with_fate, said-with_call, waits-said}
 use Rattle.ti_slot.proofs.TicketLaws.{asked_stay, asked-steps}
 use Rattle.ti_slot.proofs.TellLaws.{is_plain, is_call, no_ticket, hand_free, tells_plain, tells_now, tells_later}
@@ -109,8 +109,8 @@ pub record Asks (a : Inside) (env : EnvNo) (n : ℕ) (call : Call) : Type 0 wher
   pub number : n ≡ asked_by env a.history.items
   pub listed : env.0 < length a.ops.fates
   pub next : n ≡ length (fates_by env a.ops.fates)
-  pub left : n < a.ops.calls
-  pub room : length a.ops.waiting < a.ops.room
+  pub left : n < a.limits.calls
+  pub room : open_by env a.ops.fates < a.ops.window
   pub comes : Comes a (Asked env n call)
 
 pub asks_here : (a : Inside) (t : Thread) (env : EnvNo) (n : ℕ) (call : Call) → IsWhole a → thread_in a ≡ t → env.0 < t.limits.envs → calls_spent env t.history < t.limits.calls → is_well_formed call ≡ true
@@ -125,15 +125,15 @@ asks_here a t env n call s et he hc hw en =
       listed = omega (arith, lists_here a s, h.0);
       next = en;
       left = omega (arith, number, asked_less a env s.0 h.1);
-      room = post_room a (Asked env n call) s.0 may refl;
+      room = open_less a env s.0 h.1 (list_here a env s);
       comes = comes a (Asked env n call) s.0 may;
     }
 
 -- the slot after a call that is answered at once, and what it comes to
-pub now_whole : (a : Inside) (env : EnvNo) (n : ℕ) (call : Call) (h : Vec Entry) (c : Condition) (g : Option Stack) (ops : Ops) → IsWhole a → Asks a env n call → (waits call && is_running a.condition.mode) ≡ false
-    → h.items ≡ a.history.items ++ Asked env n call ∷ [] → vec_capacity a.history ≤ vec_capacity h
+pub now_whole : (a : Inside) (env : EnvNo) (n : ℕ) (call : Call) (h : Recorded Entry) (c : Condition) (g : Option Stack) (ops : Ops) → IsWhole a → Asks a env n call → (waits call && is_running a.condition.mode) ≡ false
+    → h.items ≡ a.history.items ++ Asked env n call ∷ [] → shelf h ≡ shelf a.history
     → ((others : List Frame) → view_of c (frames_or g others) ≡ called (view_of a.condition (frames_or a.frames others)) env call) → AreWhereTheyWere a.frames g → ops ≡ with_fates a.ops (with_call env Gone a.ops.fates)
-    → Stands a.limits h.items (vec_capacity h) c g a.log a.own (history_state a.limits h.items).costs ops × Tells a.limits a.number h.items ops.waiting (said_in ops.fates)
+    → Stands a.limits h.items (shelf h) c g a.log a.own (history_state a.limits h.items).costs ops × Tells a.limits a.number h.items ops.waiting (said_in ops.fates)
 now_whole a env n call h c g ops s k off e le vc stay eo = (
   answered a env n call h c g ops s.0 k.comes.may off e le vc stay (with_call env Gone a.ops.fates) eo,
   rw (e, eo, said-with_call env Gone a.ops.fates) (tells_now a.limits a.number a.history.items a.ops.waiting (said_in a.ops.fates) env n call k.there k.number (put_off_is a call s.0 ∙ off) s.1),
@@ -149,10 +149,10 @@ now_told a t env n call h ops told s et k off e eo tell =
     (told_now a env n call h (open_in (said_in ops.fates) (asked_in a.number h)) told s.0 k.number off e same tell)
 
 -- the slot after a call that waits, and what it comes to
-pub later_whole : (a : Inside) (t : Thread) (env : EnvNo) (n : ℕ) (call : Call) (buf : buffer.Trace) (h : Vec Entry) (ops : Ops) → IsWhole a → thread_in a ≡ t → Asks a env n call → (waits call && is_running a.condition.mode) ≡ true
-    → h.items ≡ a.history.items ++ Asked env n call ∷ [] → vec_capacity a.history ≤ vec_capacity h
+pub later_whole : (a : Inside) (t : Thread) (env : EnvNo) (n : ℕ) (call : Call) (buf : buffer.Trace) (h : Recorded Entry) (ops : Ops) → IsWhole a → thread_in a ≡ t → Asks a env n call → (waits call && is_running a.condition.mode) ≡ true
+    → h.items ≡ a.history.items ++ Asked env n call ∷ [] → shelf h ≡ shelf a.history
     → ops ≡ with_posted a.ops (record { ticket = record { env = env; thread = a.number; no = n }; call = call; buf = buf }) → IsBufferOf t.limits call buf
-    → Stands a.limits h.items (vec_capacity h) a.condition a.frames a.log a.own (history_state a.limits h.items).costs ops × Tells a.limits a.number h.items ops.waiting (said_in ops.fates)
+    → Stands a.limits h.items (shelf h) a.condition a.frames a.log a.own (history_state a.limits h.items).costs ops × Tells a.limits a.number h.items ops.waiting (said_in ops.fates)
 later_whole a t env n call buf h ops s et k off e le eo b =
     let p : Pending = record { ticket = record { env = env; thread = a.number; no = n }; call = call; buf = buf } in (
       asked_waits a env n call a.number buf h ops s.0 k.comes.may off e le eo (subst (λ (z : Thread). IsBufferOf z.limits call buf) (sym et) b),
@@ -197,29 +197,29 @@ served_thread a t steps x v h ops s et hx e given =
     ∙ ap (λ (z : Thread). with_more z (steps_of steps ++ x ∷ [])) et
 
 -- the slot after a hand-over
-pub hand_whole : (a : Inside) (t : Thread) (steps : List Step) (safe : Safe) (fr fr' : Stack) (h : Vec Entry) (c : Condition) (own : ℕ) (ops : Ops) → IsWhole a → thread_in a ≡ t → Hands a steps safe fr
-    → h.items ≡ (a.history.items ++ steps_of steps) ++ Hand safe ∷ [] → vec_capacity a.history ≤ vec_capacity h → fr'.depth ≡ a.limits.depth → own ≡ a.own + length steps + own_cost (Hand safe)
+pub hand_whole : (a : Inside) (t : Thread) (steps : List Step) (safe : Safe) (fr fr' : Stack) (h : Recorded Entry) (c : Condition) (own : ℕ) (ops : Ops) → IsWhole a → thread_in a ≡ t → Hands a steps safe fr
+    → h.items ≡ (a.history.items ++ steps_of steps) ++ Hand safe ∷ [] → shelf h ≡ shelf a.history → fr'.depth ≡ a.limits.depth → own ≡ a.own + length steps + own_cost (Hand safe)
     → view_of c fr'.frames ≡ fold after (view_of (at_mode a.condition (mode.AtSafe safe)) fr.frames) (entries_of a.ops.waiting)
-    → ops.waiting ≡ [] → said_in ops.fates ≡ delivered (answers_of (view_of (at_mode a.condition (mode.AtSafe safe)) fr.frames) a.ops.waiting) (said_in a.ops.fates) → ops.room ≡ a.ops.room → ops.calls ≡ a.ops.calls
-    → Stands a.limits h.items (vec_capacity h) c (Some fr') a.log own (history_state a.limits h.items).costs ops × Tells a.limits a.number h.items ops.waiting (said_in ops.fates)
-hand_whole a t steps safe fr fr' h c own ops s et k e le depth oe served none given room few =
+    → ops.waiting ≡ [] → said_in ops.fates ≡ delivered (answers_of (view_of (at_mode a.condition (mode.AtSafe safe)) fr.frames) a.ops.waiting) (said_in a.ops.fates) → ops.window ≡ a.ops.window
+    → Stands a.limits h.items (shelf h) c (Some fr') a.log own (history_state a.limits h.items).costs ops × Tells a.limits a.number h.items ops.waiting (said_in ops.fates)
+hand_whole a t steps safe fr fr' h c own ops s et k e le depth oe served none given window =
     let here = ap (view_of (at_mode a.condition (mode.AtSafe safe))) (sym k.frames) in (
-      laws.own_costs a.limits h.items (vec_capacity h) c (Some fr') a.log own (costs_in a) ops (laws.serve_stands a.limits (a.history.items ++ steps_of steps) (vec_capacity a.history) (vec_capacity h) a.condition c a.log (a.own + length steps) own (costs_in a) a.ops ops (Hand safe) (mode.AtSafe safe) fr fr' h.items k.ran k.may e le
-          refl here refl refl depth served none room few oe (charged_free (costs_in a) (Hand safe) refl)),
+      laws.own_costs a.limits h.items (shelf h) c (Some fr') a.log own (costs_in a) ops (laws.serve_stands a.limits (a.history.items ++ steps_of steps) (shelf a.history) (shelf h) a.condition c a.log (a.own + length steps) own (costs_in a) a.ops ops (Hand safe) (mode.AtSafe safe) fr fr' h.items k.ran k.may e le
+          refl here refl refl depth served none window oe (charged_free (costs_in a) (Hand safe) refl)),
       served_after a steps (Hand safe) _ h.items ops s k.ran refl (ap (λ v. after v (Hand safe)) (ran_view a steps k.ran) ∙ here) e none given,
     )
 
 -- and after the end, with no frames
-pub end_whole : (a : Inside) (t : Thread) (steps : List Step) (fr cleared fr' : Stack) (h : Vec Entry) (c : Condition) (own : ℕ) (ops : Ops) → IsWhole a → thread_in a ≡ t → Ran a steps
-    → may_follow a.limits (a.history.items ++ steps_of steps) End ≡ true → h.items ≡ (a.history.items ++ steps_of steps) ++ End ∷ [] → vec_capacity a.history ≤ vec_capacity h
+pub end_whole : (a : Inside) (t : Thread) (steps : List Step) (fr cleared fr' : Stack) (h : Recorded Entry) (c : Condition) (own : ℕ) (ops : Ops) → IsWhole a → thread_in a ≡ t → Ran a steps
+    → may_follow a.limits (a.history.items ++ steps_of steps) End ≡ true → h.items ≡ (a.history.items ++ steps_of steps) ++ End ∷ [] → shelf h ≡ shelf a.history
     → cleared ≡ with_frames fr [] → fr'.depth ≡ a.limits.depth → own ≡ a.own + length steps
     → view_of c fr'.frames ≡ fold after (view_of (at_mode a.condition mode.Ended) cleared.frames) (entries_of a.ops.waiting)
-    → ops.waiting ≡ [] → said_in ops.fates ≡ delivered (answers_of (view_of (at_mode a.condition mode.Ended) cleared.frames) a.ops.waiting) (said_in a.ops.fates) → ops.room ≡ a.ops.room → ops.calls ≡ a.ops.calls
-    → Stands a.limits h.items (vec_capacity h) c (Some fr') a.log own (history_state a.limits h.items).costs ops × Tells a.limits a.number h.items ops.waiting (said_in ops.fates)
-end_whole a t steps fr cleared fr' h c own ops s et ran may e le ec depth oe served none given room few =
+    → ops.waiting ≡ [] → said_in ops.fates ≡ delivered (answers_of (view_of (at_mode a.condition mode.Ended) cleared.frames) a.ops.waiting) (said_in a.ops.fates) → ops.window ≡ a.ops.window
+    → Stands a.limits h.items (shelf h) c (Some fr') a.log own (history_state a.limits h.items).costs ops × Tells a.limits a.number h.items ops.waiting (said_in ops.fates)
+end_whole a t steps fr cleared fr' h c own ops s et ran may e le ec depth oe served none given window =
     let here = ap (view_of (at_mode a.condition mode.Ended)) (sym (ap (λ (f : Stack). f.frames) ec)) in (
-      laws.own_costs a.limits h.items (vec_capacity h) c (Some fr') a.log own (costs_in a) ops (laws.serve_stands a.limits (a.history.items ++ steps_of steps) (vec_capacity a.history) (vec_capacity h) a.condition c a.log (a.own + length steps) own (costs_in a) a.ops ops End mode.Ended cleared fr' h.items ran may e le
-          refl here refl refl depth served none room few (omega (arith, oe)) (charged_free (costs_in a) End refl)),
+      laws.own_costs a.limits h.items (shelf h) c (Some fr') a.log own (costs_in a) ops (laws.serve_stands a.limits (a.history.items ++ steps_of steps) (shelf a.history) (shelf h) a.condition c a.log (a.own + length steps) own (costs_in a) a.ops ops End mode.Ended cleared fr' h.items ran may e le
+          refl here refl refl depth served none window (omega (arith, oe)) (charged_free (costs_in a) End refl)),
       served_after a steps End _ h.items ops s ran refl (ap (λ v. after v End) (ran_view a steps ran) ∙ here) e none given,
     )
 
@@ -257,7 +257,7 @@ less_after a t ops (Some b) s er e =
     rw (e, said-with_fate t Gone a.ops.fates) (tells_less a.limits a.number a.history.items a.ops.waiting (said_in a.ops.fates) t (said b) (said_told a t b er) s.1)
 
 pub less_stands : (a : Inside) (ops : Ops) (fates : List (List Fate)) → IsSlot a → ops ≡ with_fates a.ops fates
-    → Stands a.limits a.history.items (vec_capacity a.history) a.condition a.frames a.log a.own (costs_in a) ops
+    → Stands a.limits a.history.items (shelf a.history) a.condition a.frames a.log a.own (costs_in a) ops
 less_stands a ops fates s e =
     rw e (record {
       legal = s.legal;
@@ -265,9 +265,7 @@ less_stands a ops fates s e =
       frames_home = s.frames_home;
       log_home = s.log_home;
       room = s.room;
-      ops_room = s.ops_room;
-      ops_calls = s.ops_calls;
-      paid = s.paid;
+      window = s.window;
       ready = s.ready;
       calls = s.calls;
     })

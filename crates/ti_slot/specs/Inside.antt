@@ -1,19 +1,19 @@
 -- A slot's fields, as a whole.
-use Rattle.std.specs.Prelude.{List, vec_capacity}
+use Rattle.std.specs.Prelude.{List}
 use Rattle.ti_replay.specs.declared.costs.Costs.{Costs}
 use Rattle.ti_replay.specs.HistoryState.{history_state}
 use Rattle.ti_slot.specs.declared.slot.Slot.TheInside.{Inside}
 use Rattle.ti_slot.specs.Waiting.{said_in}
 use Rattle.ti_slot.specs.Tickets.{Tells, asked_in, open_in}
 use Rattle.ti_slot.specs.Thread.{Thread}
-use Rattle.ti_slot.specs.Slot.{Stands}
+use Rattle.ti_slot.specs.Slot.{Stands, shelf}
 
 -- what each environment has asked and spent: nothing of it is kept but in the history
 abbrev pub costs_in : Inside → List Costs
 costs_in a = (history_state a.limits a.history.items).costs
 
 abbrev pub IsSlot : Inside → Type 0
-IsSlot a = Stands a.limits a.history.items (vec_capacity a.history) a.condition a.frames a.log a.own (costs_in a) a.ops
+IsSlot a = Stands a.limits a.history.items (shelf a.history) a.condition a.frames a.log a.own (costs_in a) a.ops
 
 -- and what is told of its tickets
 abbrev pub IsWhole : Inside → Type 0

@@ -8,6 +8,7 @@ use Rattle.ti_types.specs.declared.event.Ticket.{Ticket}
 use Rattle.ti_types.specs.declared.answer.Answer.{Answer}
 use Rattle.ti_types.specs.declared.entry.Entry.{Entry}
 use Rattle.ti_types.specs.declared.entry.Entry.TheVariants.{Asked}
+pub use Rattle.ti_ops.specs.Fates.{is_at, is_awaited}
 use Rattle.ti_ops.specs.Fates.{fates_by, fate_of, told_by, is_open}
 use Rattle.ti_ops.specs.declared.pending.Pending.{Pending}
 use Rattle.ti_ops.specs.declared.fate.Fate.{Fate}
@@ -47,17 +48,10 @@ abbrev pub open_in : List (List Fate) → List Ticket → List Ticket
 open_in fates [] = []
 open_in fates (t ∷ tickets) = if is_open (fate_of t fates) then t ∷ open_in fates tickets else open_in fates tickets
 
--- whether two tickets of one thread are one
-abbrev pub is_at : Ticket → Ticket → Bool
-is_at t u = t.no == u.no && t.env.0 == u.env.0
-
 -- the calls that wait have no answer yet
 abbrev pub AreAwaited : List (List Fate) → List Pending → Type 0
 AreAwaited fates [] = Unit {0}
 AreAwaited fates (p ∷ waiting) = (fate_of p.ticket fates ≡ Waiting) × AreAwaited fates waiting
-
-abbrev pub is_awaited : Ticket → List Pending → Bool
-is_awaited t waiting = list_any (λ p. is_at p.ticket t) waiting
 
 -- no call waits twice
 abbrev pub AreApart : List Pending → Type 0

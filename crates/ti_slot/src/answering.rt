@@ -147,8 +147,7 @@ pub fn serve(condition: &mut Condition, frames: &mut Frames, limits: &Limits, op
     ensures depth { frames.new.depth ≡ limits.now.depth }
     ensures waiting { ops.new.waiting ≡ [] }
     ensures given { said_in ops.new.fates ≡ delivered (answers_of (view_of condition.old frames.old.frames) ops.old.waiting) (said_in ops.old.fates) }
-    ensures room { ops.new.room ≡ ops.old.room }
-    ensures few { ops.new.calls ≡ ops.old.calls }
+    ensures window { ops.new.window ≡ ops.old.window }
 {
     while let Some(p) = ops.take_first() {
         let Pending { ticket, call, buf } = p;

@@ -10,7 +10,7 @@ use ti_types::{Limits, Place, Safe, TiError};
 
 /// Why a thread that runs with these frames, and has spent `own`, may not hand over: `NoNativeFrame` (207) to native
 /// where its newest frame is not native, then `OwnSpent` (208) to native or blocked where less than 2 is left.
-pub fn refusal_of_hand(limits: &Limits, frames: &Frames, own: u32, safe: Safe) -> Option<TiError>
+pub fn refusal_of_hand(limits: &Limits, frames: &Frames, own: u64, safe: Safe) -> Option<TiError>
     requires { own ≤ limits.now.own }
     ensures { (v : ThreadView) → runs_is v.mode ≡ true → v.frames ≡ frames.now.frames → result ≡ own_refusal limits.now v own (entry.Hand safe) }
 {

@@ -1,29 +1,38 @@
 //! More entries of a history.
-ghost use Rattle.std.specs.Prelude.{◌≡◌, ◌≤◌, ◌<◌, ◌+◌, ◌++◌, ◌∷◌, [], length, vec_capacity};
+ghost use Rattle.std.specs.Prelude.{◌≡◌, ◌≤◌, ◌<◌, ◌+◌, ◌++◌, ◌∷◌, [], length};
+ghost use Rattle.ti_types.specs.declared.entry.Entry.TheVariants.{Own};
 ghost use Rattle.ti_replay.specs.LateTickets.{steps_of};
+ghost use Rattle.ti_slot.specs.Slot.{shelf};
 
+use ti_trail::{Reads, Record};
 use ti_types::{Entry, Step};
 
-/// Adds an entry, for which there is room.
-pub fn push(history: &mut Vec<Entry>, entry: Entry)
-    requires { length history.old.items < vec_capacity history.old }
-    ensures items { history.new.items ≡ history.old.items ++ entry ∷ [] }
-    ensures capacity { vec_capacity history.old ≤ vec_capacity history.new }
-{
-    match history.push(entry) {
-        Ok(()) => (),
-        Err(_) => unreachable!(),
+/// A logged step, as the entry that it is in the history.
+pub struct AsOwn;
+
+impl Reads<Step, Entry> for AsOwn {
+    ghost read = { Own };
+
+    fn read(step: &Step) -> Entry {
+        Entry::Own(*step)
     }
 }
 
-/// Adds the thread's own steps, for which there is room.
-#[tactic(auto, using(crate::proofs::StepLaws::steps_more))]
-pub fn push_steps(history: &mut Vec<Entry>, steps: &[Step])
-    requires { length history.old.items + length steps.now ≤ vec_capacity history.old }
-    ensures items { history.new.items ≡ history.old.items ++ steps_of steps.now }
-    ensures capacity { vec_capacity history.old ≤ vec_capacity history.new }
+/// Adds an entry, for which there is room.
+pub fn push(history: &mut Record<Entry>, entry: Entry)
+    requires { length history.old.items < history.old.room }
+    ensures items { history.new.items ≡ history.old.items ++ entry ∷ [] }
+    ensures shelf { shelf history.new ≡ shelf history.old }
 {
-    for step in steps {
-        push(history, Entry::Own(*step));
-    }
+    history.push(entry);
+}
+
+/// Adds the thread's own steps, for which there is room. They are kept where the history is.
+pub fn push_steps(history: &mut Record<Entry>, steps: &Record<Step>)
+    requires room { length history.old.items + length steps.now.items ≤ history.old.room }
+    requires kept { steps.now.kept ≡ history.old.kept }
+    ensures items { history.new.items ≡ history.old.items ++ steps_of steps.now.items }
+    ensures shelf { shelf history.new ≡ shelf history.old }
+{
+    history.append::<Step, AsOwn>(steps);
 }

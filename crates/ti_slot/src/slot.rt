@@ -1,5 +1,5 @@
 //! The slot of a thread: its history, its state, and the calls that wait.
-ghost use Rattle.std.specs.Prelude.{◌≡◌, ◌<◌, ◌≤◌, ◌+◌, ◌-◌, ◌*◌, ◌++◌, ◌∷◌, [], true, false, length, Some, None, IfOk, IfErr, MatchResult, MatchOption, if◌then◌else◌, is_some};
+ghost use Rattle.std.specs.Prelude.{◌≡◌, ◌<◌, ◌≤◌, ◌+◌, ◌-◌, ◌*◌, ◌++◌, ◌∷◌, [], true, false, length, Some, None, IfOk, IfErr, IfSome, MatchResult, MatchOption, if◌then◌else◌, is_some};
 ghost use Rattle.ti_types.specs.Answer.{said};
 ghost use Rattle.ti_types.specs.declared.entry.Entry.TheVariants as entry;
 ghost use Rattle.ti_types.specs.declared.event.Event.TheVariants as event;
@@ -34,6 +34,7 @@ use ti_frames::{Frames, Log};
 use ti_ops::PendingOps;
 use ti_replay::costs::own_cost;
 use ti_replay::rules::{is_new, is_put_off, is_running, is_safe, is_stopper};
+use ti_trail::{Record, Recording};
 use ti_types::{
     Answer, Call, Entry, EnvNo, Limits, Mode, Safe, ThreadNo, TiError, Ticket, TraceBuf, WordList,
 };
@@ -49,9 +50,9 @@ pub struct Slot {
     number: ThreadNo,
     // What calls change stands together, so that little memory goes from one processor to another with the slot.
     condition: Condition,
-    history: Vec<Entry>,
+    history: Record<Entry>,
     /// What the thread has spent of its own entries.
-    own: u32,
+    own: u64,
     ops: PendingOps,
     /// None exactly while the thread runs, which has them then.
     frames: Option<Frames>,
@@ -72,19 +73,21 @@ impl Model for Slot {
 }
 
 impl Slot {
-    /// A thread that has not started, with all the room that it will ever need.
+    /// A thread that has not started, with all the room that it will ever need. Its history takes memory only where it
+    /// is to be read again.
     ///
     /// Fails with `OutOfMemory` (110) where there is no memory for that room, and in no other case (this profile).
     pub fn new(alloc: Global, limits: Limits, number: ThreadNo) -> Result<Self, TiError>
         ensures thread { IfOk result (λ s. s ≡ new_slot limits number) }
         ensures memory { IfErr result (λ e. e ≡ TiError.OutOfMemory) }
     {
+        let recording = Recording::of(limits.kept);
         let frames = Frames::new(alloc, limits.depth)?;
-        let log = Log::new(alloc, limits.own)?;
+        let log = Log::new(alloc, limits.own, recording)?;
         let words = WordList::zeros(alloc, limits.envs as usize)?;
         let ops = PendingOps::new(alloc, limits.envs, limits.calls)?;
-        let all_calls = limits.envs as usize * limits.calls as usize;
-        let history = Vec::with_capacity(alloc, limits.own as usize + 4 * all_calls + 2)?;
+        let all_calls = limits.envs as u64 * limits.calls as u64;
+        let history = Record::new(alloc, limits.own + 4 * all_calls + 2, recording)?;
         Ok(Slot {
             limits,
             number,
@@ -112,7 +115,7 @@ impl Slot {
             (λ e. own_refusal self.old.limits (view self.old.limits self.old.history) (own_spent self.old.history) entry.Start ≡ Some e) }
         ensures thread { MatchResult result (λ _. self.new ≡ with_more self.old (entry.Start ∷ [])) (λ _. self.new ≡ self.old) }
         ensures frames { IfOk result (λ r. (r.0.frames ≡ (view self.new.limits self.new.history).frames) × (r.0.depth ≡ self.old.limits.depth)) }
-        ensures log { IfOk result (λ r. (r.1.steps ≡ []) × (r.1.room ≡ self.old.limits.own)) }
+        ensures log { IfOk result (λ r. (r.1.steps ≡ []) × (r.1.room ≡ self.old.limits.own) × (r.1.kept ≡ self.old.limits.kept)) }
         ensures runs { IfOk result (λ _. runs_is (view self.new.limits self.new.history).mode ≡ true) }
         ensures legal { is_legal self.new.limits self.new.history ≡ true }
     {
@@ -177,6 +180,7 @@ impl Slot {
         requires steps { goes_on self.old.limits self.old.history (steps_of log.old.steps) ≡ true }
         requires frames { frames.frames ≡ (view self.old.limits (self.old.history ++ steps_of log.old.steps)).frames }
         requires depth { frames.depth ≡ self.old.limits.depth }
+        requires kept { log.old.kept ≡ self.old.limits.kept }
         requires armed { safe ≡ AtPoll → is_armed self.old.limits self.old.history ≡ true }
         ensures when { MatchResult result (λ _. hand_refusal self.old.limits (self.old.history ++ steps_of log.old.steps) safe ≡ None) (λ e. hand_refusal self.old.limits (self.old.history ++ steps_of log.old.steps) safe ≡ Some e.0) }
         ensures thread { MatchResult result (λ _. self.new ≡ with_more self.old (steps_of log.old.steps ++ entry.Hand safe ∷ [])) (λ _. self.new ≡ self.old) }
@@ -184,7 +188,7 @@ impl Slot {
         ensures back { IfErr result (λ e. e.1 ≡ frames) }
         ensures legal { is_legal self.new.limits self.new.history ≡ true }
     {
-        let own = self.own + log.len() as u32;
+        let own = self.own + log.len() as u64;
         if let Some(error) = refusal_of_hand(&self.limits, &frames, own, safe) {
             return Err((error, frames));
         }
@@ -210,11 +214,12 @@ impl Slot {
         requires running { runs_is (view self.old.limits self.old.history).mode ≡ true }
         requires steps { goes_on self.old.limits self.old.history (steps_of log.old.steps) ≡ true }
         requires depth { frames.depth ≡ self.old.limits.depth }
+        requires kept { log.old.kept ≡ self.old.limits.kept }
         ensures thread { self.new ≡ with_more self.old (steps_of log.old.steps ++ entry.End ∷ []) }
         ensures log { log.new ≡ with_steps log.old [] }
         ensures legal { is_legal self.new.limits self.new.history ≡ true }
     {
-        let own = self.own + log.len() as u32;
+        let own = self.own + log.len() as u64;
         let mut frames = frames;
         frames.clear();
         push_steps(&mut self.history, log.steps());
@@ -247,7 +252,7 @@ impl Slot {
         ensures asked { IsAsked self.old self.new env call result }
         ensures legal { is_legal self.new.limits self.new.history ≡ true }
     {
-        let no = self.ops.asked(env);
+        let no = self.ops.asked(env) as u32;
         let entry = Entry::Asked(env, no, call);
         if is_put_off(self.condition.mode, call) {
             let ticket = Ticket {
@@ -341,7 +346,7 @@ impl Slot {
     }
 
     /// What the thread may still spend of its own entries: a step costs 1, a hand-over to native or blocked 2.
-    pub fn own_left(&self) -> u32
+    pub fn own_left(&self) -> u64
         ensures left { result + own_spent self.now.history ≡ self.now.limits.own }
     {
         self.limits.own - self.own
@@ -388,20 +393,22 @@ impl Slot {
         ensures len { result ≡ length self.now.history }
         ensures legal { is_legal self.now.limits self.now.history ≡ true }
     {
-        self.history.len()
+        self.history.len() as usize
     }
 
-    /// The entries so far, the earliest first.
-    pub fn history(&self) -> &[Entry]
-        ensures entries { result.now ≡ self.now.history }
+    /// The entries so far, the earliest first, where they are kept.
+    pub fn history(&self) -> Option<&[Entry]>
+        ensures kept { is_some result ≡ self.now.limits.kept }
+        ensures entries { IfSome result (λ s. s.now ≡ self.now.history) }
         ensures legal { is_legal self.now.limits self.now.history ≡ true }
     {
-        self.history.as_slice()
+        self.history.items()
     }
 
-    /// The entries so far, the earliest first, and the rest of the slot is given up.
-    pub fn into_history(self) -> Vec<Entry>
-        ensures entries { result.items ≡ self.history }
+    /// The entries so far, the earliest first, where they are kept, and the rest of the slot is given up.
+    pub fn into_history(self) -> Option<Vec<Entry>>
+        ensures kept { is_some result ≡ self.limits.kept }
+        ensures entries { IfSome result (λ v. v.items ≡ self.history) }
         ensures legal { is_legal self.limits self.history ≡ true }
     {
         let Slot {
@@ -414,6 +421,6 @@ impl Slot {
             ops: _,
             history,
         } = self;
-        history
+        history.into_items()
     }
 }

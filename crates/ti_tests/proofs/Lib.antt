@@ -1,3 +1,4 @@
 pub mod HandOvers
 pub mod Stops
 pub mod AtCell
+pub mod ClearPolls

@@ -1,3 +1,4 @@
 pub mod Cells
 pub mod Agents
 pub mod HandOvers
+pub mod ClearPolls

@@ -152,11 +152,15 @@ fn two_threads_share_a_cell(rt: HostRuntime) -> Result<(), Fail> {
     let Some(limits) = Limits::new(1, 2, 1, 1, 100) else {
         return Err("the limits are in range".into());
     };
+    let limits = limits.recorded();
     let Some((started, slot)) = shared_by_two(&rt, rt.alloc(), limits) else {
         return Err("there is memory".into());
     };
     assert!(rt; started && slot.len() == 201);
-    let Ok(view) = replay(rt.alloc(), limits, slot.history()) else {
+    let Some(history) = slot.history() else {
+        return Err("the history is kept".into());
+    };
+    let Ok(view) = replay(rt.alloc(), limits, history) else {
         return Err("the history is legal".into());
     };
     assert!(rt; view.words.get(0) == 99 && view.words.get(1) == 199);

@@ -1,4 +1,4 @@
-//! Tests of what no clause says: that calls succeed where memory is ample, and what failing streams leavebehind.
+//! Tests of what no clause says: that calls succeed where memory is ample, and what failing streams leave behind.
 //!
 //! It stands above all other crates, and nothing stands on it.
 #![tactic(auto)]
@@ -8,6 +8,8 @@ mod agents;
 #[cfg(test)]
 mod cells;
 #[cfg(test)]
+mod clear_polls;
+#[cfg(test)]
 mod cores;
 #[cfg(test)]
 mod hand_overs;
@@ -15,6 +17,8 @@ mod hand_overs;
 mod lists;
 #[cfg(test)]
 mod memory;
+#[cfg(test)]
+mod posted;
 #[cfg(test)]
 mod reports;
 #[cfg(test)]
@@ -27,5 +31,7 @@ mod streams;
 mod together;
 #[cfg(test)]
 mod traces;
+#[cfg(test)]
+mod waits;
 #[cfg(test)]
 mod walks;

@@ -134,6 +134,7 @@ fn traces_without_calls_left_cost_nothing(rt: HostRuntime) -> Result<(), Fail> {
     let Some(limits) = Limits::new(1, 1, 4, 32, 1) else {
         return Err("the limits are in range".into());
     };
+    let limits = limits.recorded();
     let alloc = rt.alloc();
     let Ok((cell, own, mut seats)) = ThreadCell::make(alloc, limits, ThreadNo(0)) else {
         return Err("there is memory".into());
@@ -144,6 +145,7 @@ fn traces_without_calls_left_cost_nothing(rt: HostRuntime) -> Result<(), Fail> {
     };
     let seat = ask_behind_traces(&rt, &cell, env)?;
     let slot = close(cell, own, seat).ok_or("all seats are back")?;
-    assert!(rt; slot.history() == [Entry::Asked(EnvNo(0), 0, Call::State)].as_slice());
+    let history = slot.history().ok_or("the history is kept")?;
+    assert!(rt; history == [Entry::Asked(EnvNo(0), 0, Call::State)].as_slice());
     Ok(())
 }

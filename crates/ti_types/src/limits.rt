@@ -1,6 +1,6 @@
 //! The limits that all else keeps within.
-ghost use Rattle.std.specs.Prelude.{◌≡◌, ◌≤◌, ◌↔◌, IsSome, IfSome};
-ghost use Rattle.ti_types.specs.Limits.{InRange};
+ghost use Rattle.std.specs.Prelude.{◌≡◌, ◌≤◌, ◌↔◌, true, false, IsTrue, IsSome, IfSome};
+ghost use Rattle.ti_types.specs.Limits.{InRange, AreLimits, IsWithin, most_depth, most_own, most_calls};
 
 /// The limits of a coordinator, each within its range (this profile).
 #[derive(Clone, Copy, Debug)]
@@ -9,14 +9,16 @@ pub struct Limits {
     pub threads: u32,
     /// How many environments there are, 1 to 32.
     pub envs: u32,
-    /// How many frames a thread may have, 1 to 4,096.
+    /// How many frames a thread may have, 1 to 4,096, or 65,536 where it may run as long as its process.
     pub depth: u32,
-    /// How many entries of its own a thread may pay for, 1 to 65,536: 1 for a step, 2 for a hand-over to native or
-    /// blocked, which pays for the return.
-    pub own: u32,
+    /// How many entries of its own a thread may pay for, 1 to 65,536, or 2^59 where it may run as long as its process:
+    /// 1 for a step, 2 for a hand-over to native or blocked, which pays for the return.
+    pub own: u64,
     /// How many calls, stops and reads each environment may pay for at each thread, 1 to 1,024.
     pub calls: u32,
-    pub ghost in_range: { InRange threads envs depth own calls },
+    /// Whether the threads' histories are kept in memory, to be read again.
+    pub kept: bool,
+    pub ghost in_range: { AreLimits threads envs depth own calls },
 }
 
 impl Limits {
@@ -28,22 +30,81 @@ impl Limits {
         ensures depth { IfSome result (λ l. l.depth ≡ depth) }
         ensures own { IfSome result (λ l. l.own ≡ own) }
         ensures calls { IfSome result (λ l. l.calls ≡ calls) }
+        ensures kept { IfSome result (λ l. l.kept ≡ false) }
     {
-        let threads_fit = 1 <= threads && threads <= 64;
-        let envs_fit = 1 <= envs && envs <= 32;
-        let depth_fits = 1 <= depth && depth <= 4096;
         let own_fits = 1 <= own && own <= 65536;
         let calls_fit = 1 <= calls && calls <= 1024;
-        if threads_fit && envs_fit && depth_fits && own_fits && calls_fit {
+        if shape_fits(threads, envs, depth, 4096) && own_fits && calls_fit {
             Some(Limits {
                 threads,
                 envs,
                 depth,
-                own,
+                own: own as u64,
                 calls,
+                kept: false,
             })
         } else {
             None
         }
     }
+
+    /// The same limits, under which each thread's history is kept in memory, to be read when its cell is closed.
+    pub fn recorded(self) -> Self
+        ensures shape { (result.threads ≡ self.threads) × (result.envs ≡ self.envs) × (result.depth ≡ self.depth) }
+        ensures budgets { (result.own ≡ self.own) × (result.calls ≡ self.calls) }
+        ensures kept { result.kept ≡ true }
+    {
+        let Limits {
+            threads,
+            envs,
+            depth,
+            own,
+            calls,
+            ..
+        } = self;
+        Limits {
+            threads,
+            envs,
+            depth,
+            own,
+            calls,
+            kept: true,
+        }
+    }
+
+    /// Limits under which a thread may run as long as its process: 2^59 entries of its own, and 1,024 calls of each
+    /// environment. It has at most `depth` frames, 1 to 65,536; the room for them is reserved and takes memory only as far
+    /// as the thread has been deep. Its history is not kept. None where a limit is not within its range (this profile).
+    pub fn lasting(threads: u32, envs: u32, depth: u32) -> Option<Self>
+        ensures range { IsSome result ↔ (IsWithin 64 threads × IsWithin 32 envs × IsWithin most_depth depth) }
+        ensures threads { IfSome result (λ l. l.threads ≡ threads) }
+        ensures envs { IfSome result (λ l. l.envs ≡ envs) }
+        ensures depth { IfSome result (λ l. l.depth ≡ depth) }
+        ensures own { IfSome result (λ l. l.own ≡ most_own) }
+        ensures calls { IfSome result (λ l. l.calls ≡ most_calls) }
+        ensures kept { IfSome result (λ l. l.kept ≡ false) }
+    {
+        if shape_fits(threads, envs, depth, 65536) {
+            Some(Limits {
+                threads,
+                envs,
+                depth,
+                own: 1 << 59,
+                calls: 1024,
+                kept: false,
+            })
+        } else {
+            None
+        }
+    }
+}
+
+/// Whether the limits that every coordinator keeps within are in their ranges.
+fn shape_fits(threads: u32, envs: u32, depth: u32, most: u32) -> bool
+    ensures { IsTrue result ↔ (IsWithin 64 threads × IsWithin 32 envs × IsWithin most depth) }
+{
+    let threads_fit = 1 <= threads && threads <= 64;
+    let envs_fit = 1 <= envs && envs <= 32;
+    let depth_fits = 1 <= depth && depth <= most;
+    threads_fit && envs_fit && depth_fits
 }

@@ -15,7 +15,7 @@ use ti_env::EnvState;
 use ti_handshake::Desk;
 use ti_types::{Answer, EnvNo, ThreadNo, TiError, TraceBuf};
 
-/// The turn of global operations. It holds nothing: whoever has it makes one, so it is kept in a `Mutex`.
+/// The turn of global operations, kept in a `Mutex`: whoever has it makes one, and has it until the threads are let go.
 #[derive(Drop)]
 pub struct VmTurn {}
 
@@ -27,14 +27,15 @@ impl VmTurn {
 }
 
 /// Threads that stand for an environment, each listed with the reads that were to come. It has to be spent: `go` lets them
-/// go.
-pub struct Standing<'l> {
+/// go. Until then it has the turn, so that no other operation begins by that turn.
+pub struct Standing<'t, 'l> {
+    turn: &'t mut VmTurn,
     env: EnvNo,
     threads: &'l [(ThreadNo, u32)],
     reads: u64,
 }
 
-impl<'l> Model for Standing<'l> {
+impl<'t, 'l> Model for Standing<'t, 'l> {
     ghost use Rattle.ti_vmop.specs.Turns.{Stood, AreDistinct};
 
     ghost Value = { Stood };
@@ -130,13 +131,13 @@ fn await_each<R: Wait>(rt: &R, desks: &mut [Desk<'_>], threads: &[(ThreadNo, u32
 ///
 /// Refused with `CallsSpent` (209) where a thread has fewer calls left than one and its reads to come, before any stop;
 /// then nothing changes.
-pub fn stop_all<'l, R: Wait>(
+pub fn stop_all<'t, 'l, R: Wait>(
     rt: &R,
-    turn: &mut VmTurn,
+    turn: &'t mut VmTurn,
     desks: &mut [Desk<'_>],
     state: &mut EnvState,
     threads: &'l [(ThreadNo, u32)],
-) -> Result<Standing<'l>, TiError>
+) -> Result<Standing<'t, 'l>, TiError>
     requires desks { AreOneEnvironments desks.old × (0 < length desks.old) }
     requires there { AreThere (length desks.old) threads.now × (length state.old.spent ≡ length desks.old) }
     requires distinct { AreDistinct threads.now }
@@ -149,7 +150,6 @@ pub fn stop_all<'l, R: Wait>(
     ensures env { IfOk result (λ s. (p : Place) → slice_get desks.old 0 ≡ Some p → s.env ≡ p.env) }
     ensures standing { IfOk result (λ s. (s.threads ≡ threads.now) × (s.reads ≡ 0)) }
 {
-    let _turn = turn;
     let env = desks[0].env();
     if !are_paid_for(state, threads) {
         return Err(TiError::CallsSpent);
@@ -157,13 +157,14 @@ pub fn stop_all<'l, R: Wait>(
     stop_each(rt, desks, state, threads);
     await_each(rt, desks, threads);
     Ok(Standing {
+        turn,
         env,
         threads,
         reads: 0,
     })
 }
 
-impl<'l> Standing<'l> {
+impl<'t, 'l> Standing<'t, 'l> {
     /// Reads a listed thread, which was seen to stand, by one hold: its state, and at most `max_count` newest frames (JVM TI
     /// 11, GetAllStackTraces). It costs one call. The answer tells of the mode and the frames that the desk had seen, after
     /// the pops that others made since (JVM TI 11, PopFrame); a thread that is not alive has no frames. The desks are those
@@ -201,12 +202,14 @@ impl<'l> Standing<'l> {
     pub fn go<R: Wait>(self, rt: &R, desks: &mut [Desk<'_>]) -> Round
         requires there { AreThere (length desks.old) self.threads }
         requires stand { AllStand self.threads desks.old }
+        requires env { (i : ℕ) (p : Place) → slice_get desks.old i ≡ Some p → is_listed i self.threads ≡ true → p.env ≡ self.env }
         ensures desks { AtEach self.entry.threads desks.old desks.new (λ e. entry.Go e ∷ []) }
         ensures env { result.env ≡ self.entry.env }
         ensures threads { result.threads ≡ length self.entry.threads }
         ensures reads { result.reads ≡ self.entry.reads }
     {
         let Standing {
+            turn: _turn,
             env,
             threads,
             reads,

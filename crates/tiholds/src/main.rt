@@ -1,5 +1,6 @@
 //! `tiholds HOW`: environments hold a thread's cell, each 1,024 times in each of 256 rounds, and set their word by each
-//! hold. HOW is `one`, `two` or `four`, for this many threads at one cell, or `apart`, for four threads at a cell each.
+//! hold. HOW is `one`, `two` or `four`, for this many threads at one cell, or `apart`, for four threads at a cell each. With
+//! `many`, nobody holds: 10,000 cells are made and kept, of threads that may last and be 65,536 frames deep.
 //! It writes nothing. The status is 0, or 1 where memory runs out, and 2 for other arguments. `bench/cells.py` times it.
 //!
 //! It stands on `ti_cell`, and nothing stands on it.
@@ -31,6 +32,9 @@ const HOLDS: u32 = 1024;
 
 const ROUNDS: u32 = 256;
 
+/// How many cells are made when nobody holds.
+const CELLS: usize = 10_000;
+
 /// Who holds which cell.
 #[derive(Clone, Copy)]
 enum Crowd {
@@ -38,6 +42,7 @@ enum Crowd {
     Two,
     Four,
     Apart,
+    Nobody,
 }
 
 /// Sets an environment's word by one hold.
@@ -233,6 +238,19 @@ fn four_apart<R: Threads + Wait + Sync>(rt: &R, alloc: Global, limits: Limits) -
     b
 }
 
+/// Makes many cells, and keeps them until all are made.
+fn many(alloc: Global) -> Option<()> {
+    let limits = Limits::lasting(1, 1, 65_536)?;
+    let mut cells = Vec::with_capacity(alloc, CELLS).ok()?;
+    for _ in 0..CELLS {
+        let made = ThreadCell::make(alloc, limits, ThreadNo(0)).ok()?;
+        let Ok(()) = cells.push(made) else {
+            return None;
+        };
+    }
+    Some(())
+}
+
 /// All rounds.
 fn rounds<R: Threads + Wait + Sync>(rt: &R, alloc: Global, crowd: Crowd) -> Option<()> {
     let limits = Limits::new(1, 4, 1, 1, HOLDS)?;
@@ -251,6 +269,7 @@ fn rounds<R: Threads + Wait + Sync>(rt: &R, alloc: Global, crowd: Crowd) -> Opti
             Some(())
         }
         Crowd::Apart => four_apart(rt, alloc, limits),
+        Crowd::Nobody => many(alloc),
     }
 }
 
@@ -264,6 +283,7 @@ fn asked_crowd<R: Env + AllocGlobal>(rt: &R) -> Option<Crowd> {
         "two" => Some(Crowd::Two),
         "four" => Some(Crowd::Four),
         "apart" => Some(Crowd::Apart),
+        "many" => Some(Crowd::Nobody),
         _ => None,
     }
 }

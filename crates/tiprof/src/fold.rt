@@ -1,6 +1,6 @@
 //! Stacks, and how often each was seen.
-ghost use Rattle.std.specs.Prelude.{◌≡◌, ◌+◌, true, map, OnOk, OnErr, IfOk};
-ghost use Rattle.tiprof.specs.Folds.{counts_of};
+ghost use Rattle.std.specs.Prelude.{◌≡◌, ◌≢◌, ◌+◌, List, [], map, OnOk, OnErr, IfOk};
+ghost use Rattle.tiprof.specs.Folds.{counts_of, same_methods, seen};
 
 use std::alloc::{AllocError, Global};
 use ti_types::{Frame, MethodNo};
@@ -28,7 +28,7 @@ impl Folded {
 
     /// Whether it has the methods of these frames.
     fn is_of(&self, frames: &[Frame]) -> bool
-        ensures { result ≡ true → self.now.methods.items ≡ map (λ x. x.method) frames.now }
+        ensures { result ≡ same_methods self.now.methods.items (map (λ x. x.method) frames.now) }
     {
         if self.methods.len() != frames.len() {
             return false;
@@ -42,7 +42,9 @@ impl Folded {
     }
 
     /// Its methods, the newest first.
-    pub fn methods(&self) -> &[MethodNo] {
+    pub fn methods(&self) -> &[MethodNo]
+        ensures { result.now ≡ self.now.methods.items }
+    {
         &self.methods
     }
 
@@ -67,6 +69,7 @@ impl Fold {
     /// None yet.
     pub fn new(alloc: Global) -> Self
         ensures none { result.total ≡ 0 }
+        ensures empty { result.stacks.items ≡ [] }
     {
         Fold {
             stacks: Vec::new(alloc),
@@ -74,15 +77,12 @@ impl Fold {
         }
     }
 
-    /// Where a stack of these frames is, if it was seen.
-    fn place_of(&self, frames: &[Frame]) -> Option<usize> {
-        self.stacks.iter().position(|folded| folded.is_of(frames))
-    }
-
     #[tactic(auto, using(crate::proofs::FoldLaws::one_more))]
     /// One more stack, its newest frame first. An error where there is no memory, and then nothing has changed.
     pub fn add(&mut self, alloc: Global, frames: &[Frame]) -> Result<(), AllocError>
         ensures more { OnOk result (self.new.total ≡ self.old.total + 1) }
+        ensures given { OnOk result (seen (map (λ x. x.method) frames.now) self.new.stacks.items ≡ seen (map (λ x. x.method) frames.now) self.old.stacks.items + 1) }
+        ensures others { OnOk result ((methods : List MethodNo) → methods ≢ map (λ x. x.method) frames.now → seen methods self.new.stacks.items ≡ seen methods self.old.stacks.items) }
         ensures unchanged { OnErr result (self.new.total ≡ self.old.total) }
         ensures same { OnErr result (self.new.stacks.items ≡ self.old.stacks.items) }
     {
@@ -103,7 +103,8 @@ impl Fold {
 
     /// The stacks, in the order in which they were first seen.
     pub fn stacks(&self) -> &[Folded]
-        ensures { counts_of result.now ≡ self.now.total }
+        ensures all { result.now ≡ self.now.stacks.items }
+        ensures sum { counts_of result.now ≡ self.now.total }
     {
         &self.stacks
     }

@@ -3,7 +3,8 @@ use crate::asking::{Shared, Work};
 use crate::spent::{Began, Spent};
 use std::rt::Clock;
 use std::sync::Wait;
-use std::time::CpuClock;
+use std::thread;
+use std::time::{CpuClock, Duration};
 use ti_handshake::{AtSafe, Fresh, Polled, Running};
 use ti_types::{Kind, MethodNo, Step};
 
@@ -11,25 +12,44 @@ use ti_types::{Kind, MethodNo, Step};
 #[derive(Clone, Copy)]
 pub enum Task {
     Steps,
+    /// So many steps of a thread that may run as long as its process.
+    Lasting(u32),
     Polls,
     /// Steps and polls of a thread, while a thread beside it is asked for traces.
     Beside,
     /// Counts of a running thread's frames.
     Running,
+    /// The wait of a thread that is suspended.
+    Suspended,
+    /// The wait for a count at a running thread that does not poll.
+    Unpolled,
     /// What is asked of parked threads of this many frames.
     Parked(Work, u32),
 }
 
 /// How many steps a thread takes: each costs 1 of its 65,536.
-const STEPS: u32 = 60_000;
+pub const STEPS: u32 = 60_000;
 
 const POLLS: u32 = 1_000_000;
+
+/// How many milliseconds a thread is suspended, or does not poll.
+pub const WAIT: u64 = 2000;
 
 /// How often a thread that waits for others polls before it gives up.
 const TURNS: u32 = u32::MAX;
 
 /// How many polls lie between two looks at who is done.
 const LOOK: u32 = 4096;
+
+impl Task {
+    /// In how many rounds it is measured.
+    pub fn rounds(self) -> u32 {
+        match self {
+            Task::Lasting(_) | Task::Suspended | Task::Unpolled => 1,
+            _ => 32,
+        }
+    }
+}
 
 /// Enters this many methods.
 pub fn enter(running: &mut Running<'_>, frames: u32) -> Option<()> {
@@ -51,15 +71,15 @@ pub fn park<'a, R: Wait>(rt: &R, fresh: Fresh<'a>, frames: u32) -> Option<AtSafe
     start(rt, fresh, frames)?.block(rt, Kind::ObjectWait).ok()
 }
 
-/// Enters and leaves a method, again and again.
-pub fn take_steps<R: Clock + CpuClock>(rt: &R, running: Running<'_>) -> Option<Spent> {
+/// Enters and leaves a method, until it took this many steps.
+pub fn take_steps<R: Clock + CpuClock>(rt: &R, running: Running<'_>, steps: u32) -> Option<Spent> {
     let mut running = running;
     let began = Began::now(rt)?;
-    for method in 0..STEPS / 2 {
+    for method in 0..steps / 2 {
         running.step(Step::Enter(MethodNo(method))).ok()?;
         running.step(Step::Leave).ok()?;
     }
-    began.spent(rt, u64::from(STEPS))
+    began.spent(rt, u64::from(steps))
 }
 
 /// Polls, again and again. Nobody asks, so that each poll is clear.
@@ -112,4 +132,36 @@ pub fn poll_until_done<R: Wait>(
     }
     let _ended = running.end(rt);
     None
+}
+
+/// Polls until it is held. Then what it spends until it may go on. `None` where nobody holds it.
+pub fn wait_suspended<R: Wait + Clock + CpuClock>(rt: &R, running: Running<'_>) -> Option<Spent> {
+    let mut running = running;
+    for _ in 0..TURNS {
+        if !running.poll_clear() {
+            match running.poll(rt) {
+                Polled::Go(again) => running = again,
+                Polled::Held(held) => {
+                    let began = Began::now(rt)?;
+                    let back = held.back(rt);
+                    let spent = began.spent(rt, 1);
+                    let _ended = back.end(rt);
+                    return spent;
+                }
+            }
+        }
+    }
+    let _ended = running.end(rt);
+    None
+}
+
+/// Does not poll for a while, and then until this many others are done.
+pub fn poll_late<R: Wait + Clock>(
+    rt: &R,
+    shared: &Shared,
+    running: Running<'_>,
+    others: u32,
+) -> Option<()> {
+    thread::sleep(rt, Duration::from_millis(WAIT));
+    poll_until_done(rt, shared, running, others)
 }

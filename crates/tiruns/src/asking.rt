@@ -1,11 +1,13 @@
 //! What environments ask, by how many at once.
+use crate::activity::WAIT;
 use crate::spent::{Began, Spent};
 use std::rt::Clock;
 use std::sync::{Mutex, Wait};
+use std::thread;
 use std::thread::{Threads, join};
-use std::time::CpuClock;
+use std::time::{CpuClock, Duration};
 use ti_agent::Env;
-use ti_types::{ThreadNo, TiError};
+use ti_types::{Caps, ThreadNo, TiError};
 use ti_vmop::VmTurn;
 
 /// What an environment asks, again and again, of thread 0, or of all.
@@ -176,4 +178,31 @@ pub fn ask_all<R: Threads + Wait + Sync + Clock + CpuClock + AllocGlobal>(
             both(one, two)
         }
     }
+}
+
+/// Suspends thread 0 for a while.
+pub fn suspend<R: Wait + Clock>(rt: &R, env: Env<'_>) -> Option<()> {
+    let mut env = env;
+    env.add_capabilities(Caps::CAN_SUSPEND).ok()?;
+    env.suspend_thread(rt, ThreadNo(0)).ok()?;
+    thread::sleep(rt, Duration::from_millis(WAIT));
+    env.resume_thread(rt, ThreadNo(0)).ok()
+}
+
+/// Asks for one count of thread 0's frames, and then notes that it is done.
+pub fn count_once<R: Wait + Clock + CpuClock>(
+    rt: &R,
+    shared: &Shared,
+    env: Env<'_>,
+) -> Option<Spent> {
+    let mut env = env;
+    let began = Began::now(rt);
+    let count = env.get_frame_count(rt, ThreadNo(0)).ok();
+    let spent = match began {
+        Some(began) => began.spent(rt, 1),
+        None => None,
+    };
+    shared.note_done(rt);
+    count?;
+    spent
 }

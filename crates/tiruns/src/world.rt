@@ -4,8 +4,11 @@ ghost use Rattle.ti_cell.specs.View.{subject_of};
 ghost use Rattle.ti_cell.specs.Seats.{env_seats};
 ghost use Rattle.tiruns.specs.Seats.{IsNewSeat, IsNewDesk};
 
-use crate::activity::{Task, park, poll_until_done, start, take_polls, take_steps, work_beside};
-use crate::asking::{Crowd, Shared, Work, ask_all};
+use crate::activity::{
+    STEPS, Task, park, poll_late, poll_until_done, start, take_polls, take_steps, wait_suspended,
+    work_beside,
+};
+use crate::asking::{Crowd, Shared, Work, ask_all, count_once, suspend};
 use crate::spent::Spent;
 use std::alloc::Global;
 use std::rt::Clock;
@@ -160,6 +163,40 @@ fn ask_running<R: Threads + Wait + Sync + Clock + CpuClock + AllocGlobal>(
     spent
 }
 
+/// A thread is suspended for a while. What its wait took.
+fn ask_suspended<R: Threads + Wait + Sync + Clock + CpuClock + AllocGlobal>(
+    rt: &R,
+    thread: Fresh<'_>,
+    env: Env<'_>,
+) -> Option<Spent> {
+    let running = start(rt, thread, 4)?;
+    let (spent, suspended) = join(
+        rt,
+        move || -> Option<Spent> { wait_suspended(rt, running) },
+        move || -> Option<()> { suspend(rt, env) },
+    );
+    suspended?;
+    spent
+}
+
+/// Counts once the frames of a thread that does not poll for a while. What the wait took.
+fn ask_unpolled<R: Threads + Wait + Sync + Clock + CpuClock + AllocGlobal>(
+    rt: &R,
+    thread: Fresh<'_>,
+    env: Env<'_>,
+) -> Option<Spent> {
+    let running = start(rt, thread, 4)?;
+    let shared = Shared::new();
+    let shared = &shared;
+    let (polled, spent) = join(
+        rt,
+        move || -> Option<()> { poll_late(rt, shared, running, 1) },
+        move || -> Option<Spent> { count_once(rt, shared, env) },
+    );
+    polled?;
+    spent
+}
+
 /// A thread takes steps and polls, while a parked thread beside it is asked for traces. What the first spent.
 fn work_on<R: Threads + Wait + Sync + Clock + CpuClock + AllocGlobal>(
     rt: &R,
@@ -192,10 +229,13 @@ fn measure<R: Threads + Wait + Sync + Clock + CpuClock + AllocGlobal>(
     let (front, back) = threads;
     let (zero, one) = front;
     match task {
-        Task::Steps => take_steps(rt, start(rt, zero, 0)?),
+        Task::Steps => take_steps(rt, start(rt, zero, 0)?, STEPS),
+        Task::Lasting(steps) => take_steps(rt, start(rt, zero, 0)?, steps),
         Task::Polls => take_polls(rt, start(rt, zero, 0)?),
         Task::Beside => work_on(rt, (zero, one), envs, crowd),
         Task::Running => ask_running(rt, zero, envs, crowd),
+        Task::Suspended => ask_suspended(rt, zero, envs.0.0),
+        Task::Unpolled => ask_unpolled(rt, zero, envs.0.0),
         Task::Parked(work, frames) => {
             ask_parked(rt, ((zero, one), back), frames, envs, work, crowd)
         }
@@ -220,13 +260,24 @@ fn new_cell(
     }
 }
 
+/// The limits of a task.
+fn limits_of(task: Task) -> Option<Limits>
+    ensures threads { IfSome result (λ l. l.threads ≡ 4) }
+    ensures envs { IfSome result (λ l. l.envs ≡ 4) }
+{
+    match task {
+        Task::Lasting(_) => Limits::lasting(4, 4, 256),
+        _ => Limits::new(4, 4, 256, 65_536, 1024),
+    }
+}
+
 /// One round, at four new threads.
 pub fn round<R: Threads + Wait + Sync + Clock + CpuClock + AllocGlobal>(
     rt: &R,
     task: Task,
     crowd: Crowd,
 ) -> Option<Spent> {
-    let limits = Limits::new(4, 4, 256, 65_536, 1024)?;
+    let limits = limits_of(task)?;
     let alloc = rt.alloc();
     let (c0, own0, seats0) = new_cell(alloc, limits, ThreadNo(0))?;
     let (c1, own1, seats1) = new_cell(alloc, limits, ThreadNo(1))?;

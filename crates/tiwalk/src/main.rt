@@ -1,9 +1,13 @@
 //! `tiwalk`: reads one document from standard input and writes what it comes to. All it does is `ti_driver`'s.
 #![tactic(auto)]
 
-ghost use Rattle.std.specs.Prelude.{◌≡◌, IfOk, IfErr};
+ghost use Rattle.std.specs.Prelude.{◌≡◌, ◌≢◌, ◌⊎◌, IfOk, IfErr, OnOk, Err};
+ghost use Rattle.ti_driver.specs.declared.command.Command.{Command};
+ghost use Rattle.ti_driver.specs.declared.fault.Fault.TheVariants.{Write as NotWritten};
+ghost use Rattle.ti_driver.specs.Commands.{IsUsageOrMemory};
+ghost use Rattle.ti_driver.specs.Doings.{IsDone, IsCutShort, IsFaultBefore};
 ghost use Rattle.std.specs.Process.{exit_status};
-ghost use Rattle.std.specs.Io.KnownBytes.{Keeps};
+ghost use Rattle.std.specs.Io.KnownBytes.{Appends, Keeps};
 ghost use Rattle.ti_driver.specs.Faults.{end_status, fault_line};
 ghost use Rattle.ti_driver.specs.Streams.{TakesFront};
 
@@ -14,7 +18,7 @@ use std::sync::Wait;
 use std::thread::Threads;
 use ti_driver::{Fault, asked_command, carry_out, put_fault, status};
 
-/// The status that a run ends with: 0, 1 where a history is illegal, and that of a fault.
+/// The status that a run ends with: 0, 1 when a history is illegal, and that of a fault.
 fn code_of(ended: &Result<bool, Fault>) -> ExitCode
     ensures { exit_status result ≡ end_status ended.now }
 {
@@ -24,17 +28,18 @@ fn code_of(ended: &Result<bool, Fault>) -> ExitCode
     }
 }
 
-/// Says why a run came to nothing, where it did, and gives the status that it ends with, which stands also where nothing
-/// can be said.
-fn finish<W: Write>(errors: &mut W, ended: &Result<bool, Fault>) -> ExitCode
-    ensures status { exit_status result ≡ end_status ended.now }
+/// Says why a run came to nothing, if it did. `Write` when the writer fails or takes no byte; it then holds a prefix of the
+/// line.
+fn say<W: Write>(errors: &mut W, ended: &Result<bool, Fault>) -> Result<(), Fault>
     ensures quiet { IfOk ended.now (λ _. Keeps (W.contents errors.old) (W.contents errors.new)) }
-    ensures said { IfErr ended.now (λ fault. TakesFront (W.contents errors.old) (W.contents errors.new) (fault_line fault)) }
+    ensures said { OnOk result (IfErr ended.now (λ fault. Appends (W.contents errors.old) (W.contents errors.new) (fault_line fault))) }
+    ensures front { IfErr ended.now (λ fault. TakesFront (W.contents errors.old) (W.contents errors.new) (fault_line fault)) }
+    ensures err { IfErr result (λ e. (e ≡ NotWritten) × (IfOk ended.now (λ _. ⊥))) }
 {
-    if let Err(fault) = ended {
-        let _ = put_fault(errors, fault);
+    match ended {
+        Ok(_) => Ok(()),
+        Err(fault) => put_fault(errors, fault),
     }
-    code_of(ended)
 }
 
 /// Does what the process was asked for, from the reader to the writer.
@@ -42,12 +47,19 @@ fn run<H: Env + Threads + Wait + Sync + AllocGlobal, R: Read, W: Write>(
     rt: &H,
     reader: &mut R,
     writer: &mut W,
-) -> Result<bool, Fault> {
+) -> Result<bool, Fault>
+    ensures ok { IfOk result (λ legal. (command : Command) × IsDone command (R.remaining reader.old) (W.contents writer.old) (W.contents writer.new) legal) }
+    ensures write { result ≡ Err NotWritten → (command : Command) × IsCutShort command (R.remaining reader.old) (W.contents writer.old) (W.contents writer.new) }
+    ensures fault { IfErr result (λ e. e ≢ NotWritten → IsUsageOrMemory e ⊎ ((command : Command) × IsFaultBefore command (R.remaining reader.old) e)) }
+    ensures unwritten { IfErr result (λ e. e ≢ NotWritten → Keeps (W.contents writer.old) (W.contents writer.new)) }
+{
     let command = asked_command(rt)?;
     carry_out(rt, command, reader, writer)
 }
 
 fn main(rt: HostRuntime) -> ExitCode {
     let ended = run(&rt, &mut rt.stdin(), &mut rt.stdout());
-    finish(&mut rt.stderr(), &ended)
+    // The status is the same when nothing can be said.
+    let _ = say(&mut rt.stderr(), &ended);
+    code_of(&ended)
 }

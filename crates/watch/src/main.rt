@@ -5,11 +5,14 @@
 //! is told to end. The status is 0, or 1 where memory runs out, something was refused, or the lines cannot be written.
 #![tactic(auto)]
 
+mod traces;
+
 ghost use Rattle.std.specs.Prelude.{◌≡◌, IfSome};
 ghost use Rattle.ti_cell.specs.View.{subject_of};
 ghost use Rattle.ti_cell.specs.Seats.{env_seats};
 ghost use Rattle.watch.specs.Seats.{IsNewSeat};
 
+use crate::traces::trace_twice;
 use std::alloc::Global;
 use std::process::ExitCode;
 use std::sync::Wait;
@@ -71,13 +74,9 @@ fn environment<'a>(
 fn inspect<R: Wait + Print + AllocGlobal>(rt: &R, env: Env<'_>) -> Option<()> {
     let mut env = env;
     env.add_capabilities(Caps::CAN_SUSPEND).ok()?;
-    env.suspend_thread(rt, THREAD).ok()?;
+    let (trace, _again) = trace_twice(rt, rt.alloc(), &mut env, THREAD, 8).ok()?;
     println!(rt; "state {:#x}", env.get_thread_state(rt, THREAD).ok()?).ok()?;
-    for frame in env
-        .get_stack_trace(rt, rt.alloc(), THREAD, 0, 8)
-        .ok()?
-        .frames()
-    {
+    for frame in trace.frames() {
         println!(rt; "method {}", frame.method.0).ok()?;
     }
     env.resume_thread(rt, THREAD).ok()?;

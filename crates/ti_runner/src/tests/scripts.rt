@@ -35,7 +35,7 @@ pub(crate) fn run<R: Threads + Wait + Sync + AllocGlobal>(
         return Err("the limits are in range".into());
     };
     let script = Script {
-        limits,
+        limits: limits.recorded(),
         walks: listed(alloc, walks)?,
         calls: listed(alloc, calls)?,
     };

@@ -1,6 +1,6 @@
 use Rattle.std.proofs.Common.{◌≡◌, ◌≤◌, length, vec_capacity}
 use Rattle.ti_types.specs.declared.limits.Limits.{Limits}
-use Rattle.ti_agent.specs.Traces.{AreRoomy}
+use Rattle.ti_agent.specs.Buffers.{AreRoomy}
 use Rattle.ti_agent.proofs.traces.buffers.Given as goal
 
 -- those so far

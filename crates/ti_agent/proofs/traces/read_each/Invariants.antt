@@ -1,6 +1,7 @@
 use Rattle.std.proofs.Common.{◌≡◌, ◌≤◌, ◌+◌, length, take, drop, vec_capacity}
 use Rattle.ti_vmop.specs.Turns.{with_reads}
-use Rattle.ti_agent.specs.Traces.{AreHeld, AreLeft, AreRoomy, HasRead}
+use Rattle.ti_agent.specs.Buffers.{AreRoomy}
+use Rattle.ti_agent.specs.Traces.{AreHeld, AreLeft, HasRead}
 use Rattle.ti_agent.proofs.traces.read_each.Given as goal
 
 -- those so far, and those to come

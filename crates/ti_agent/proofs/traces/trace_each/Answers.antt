@@ -6,7 +6,8 @@ use Rattle.ti_types.specs.declared.entry.Entry.TheVariants.{Go}
 use Rattle.std.proofs.Common.{[], ◌∷◌}
 use Rattle.ti_vmop.specs.Turns.{Listed, AtEach, AreThere}
 use Rattle.ti_agent.specs.Env.{Environment}
-use Rattle.ti_agent.specs.Traces.{AreHeld, AreListed, AreRoomy, HasRead}
+use Rattle.ti_agent.specs.Buffers.{AreRoomy}
+use Rattle.ti_agent.specs.Traces.{AreHeld, AreListed, HasRead}
 use Rattle.ti_agent.proofs.Tracing.{may_stop, one_environment, same_env, distinct_in, there_in, all_listed, left_in, limits_all, held_after_stops, whole_after_go}
 use Rattle.ti_agent.proofs.traces.trace_each.Goals as goal
 
@@ -92,3 +93,6 @@ returns-clause-traced g c =
       threads_are = c.go.ensures.threads ∙ ap (λ v. length v) threads;
       reads_are = c.go.ensures.reads ∙ ap (λ v. v.reads) c.read_each.ensures.standing;
     }
+
+pub go-requires-clause-env : goal.go-requires-clause-env
+go-requires-clause-env g c i p at listed = (c.read_each.ensures.held.desks i p at).env_is ∙ sym (ap (λ v. v.env) c.read_each.ensures.standing)

@@ -33,7 +33,7 @@ returns c =
     (subst (λ l. (c.in_ok-agents_fit.field-0 ≡ true) ↔ ((e : EnvNo) → e.0 < limits.envs → AgentFits limits r.histories e r.spent (slice_index_or l e.0 []) (slice_index_or c.as_slice.result.now e.0 []))) c.as_slice-calls.ensures (c.in_ok-agents_fit.ensures r.histories are')) in
     let yes' : c.in_ok-agents_fit.field-0 ≡ true = grind (arith, c.if-not-branch.false) in
     let shape = c.has_shape.ensures.0 (grind (arith, c.if-not-has_shape.false)) in
-    let walks = subst (λ h. (c.in_ok-fits.fits ≡ true) ↔ ((t : ThreadNo) → t.0 < limits.threads → WalkFits r.spent (slice_index_or s.walks t.0 []) (slice_index_or r.refused t.0 []) (history_at h t))) c.as_slice-histories.ensures
-    (subst (λ l. (c.in_ok-fits.fits ≡ true) ↔ ((t : ThreadNo) → t.0 < limits.threads → WalkFits r.spent (slice_index_or s.walks t.0 []) (slice_index_or l t.0 []) (history_at c.as_slice-histories.result.now t))) c.as_slice-2.ensures
-    (subst (λ w. (c.in_ok-fits.fits ≡ true) ↔ ((t : ThreadNo) → t.0 < limits.threads → WalkFits r.spent (slice_index_or w t.0 []) (slice_index_or c.as_slice-2.result.now t.0 []) (history_at c.as_slice-histories.result.now t))) c.as_slice-walks.ensures c.in_ok-fits.ensures)) in
+    let walks = subst (λ h. (c.in_ok-fits.fits ≡ true) ↔ ((t : ThreadNo) → t.0 < limits.threads → WalkFits limits r.spent (slice_index_or s.walks t.0 []) (slice_index_or r.refused t.0 []) (history_at h t))) c.as_slice-histories.ensures
+    (subst (λ l. (c.in_ok-fits.fits ≡ true) ↔ ((t : ThreadNo) → t.0 < limits.threads → WalkFits limits r.spent (slice_index_or s.walks t.0 []) (slice_index_or l t.0 []) (history_at c.as_slice-histories.result.now t))) c.as_slice-refused.ensures
+    (subst (λ w. (c.in_ok-fits.fits ≡ true) ↔ ((t : ThreadNo) → t.0 < limits.threads → WalkFits limits r.spent (slice_index_or w t.0 []) (slice_index_or c.as_slice-refused.result.now t.0 []) (history_at c.as_slice-histories.result.now t))) c.as_slice-walks.ensures c.in_ok-fits.ensures)) in
     (λ x. record { shape = shape; legal = legal; calls = agents.0 yes'; walks = walks.0 x }, λ f. walks.1 f.walks)

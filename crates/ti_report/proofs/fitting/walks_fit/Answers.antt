@@ -14,9 +14,9 @@ returns-then-not-branch c =
     let no' : c.in_ok-walk_fits.field-0 ≡ false = grind (arith, c.if-not-branch.true) in (
       λ e. cc e,
       λ h.
-          let here = subst (λ w. WalkFits c.args.spent w c.as_slice-list.result.now c.as_slice.result.now) walk
-          (subst (λ r. WalkFits c.args.spent (slice_index_or c.args.walks.now i []) r c.as_slice.result.now) list
-          (subst (λ s. WalkFits c.args.spent (slice_index_or c.args.walks.now i []) (slice_index_or c.args.refused.now i []) s) history (h t c.loop-i-test.true))) in
+          let here = subst (λ w. WalkFits c.args.limits c.args.spent w c.as_slice-list.result.now c.as_slice.result.now) walk
+          (subst (λ r. WalkFits c.args.limits c.args.spent (slice_index_or c.args.walks.now i []) r c.as_slice.result.now) list
+          (subst (λ s. WalkFits c.args.limits c.args.spent (slice_index_or c.args.walks.now i []) (slice_index_or c.args.refused.now i []) s) history (h t c.loop-i-test.true))) in
           let yes' = c.in_ok-walk_fits.ensures.1 here in
           cc (sym no' ∙ yes'),
     )

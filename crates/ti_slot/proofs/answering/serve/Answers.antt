@@ -34,6 +34,5 @@ loop-p-preserved c =
       depth = c.take_call.ensures.depth ∙ k.depth;
       view = rw (dw, cv) (ap (λ ws. fold after w (entries_of ws)) (sym ew) ∙ k.view);
       given = rw (dw, df, cv) (s.1 ∙ ap (λ ws. delivered (answers_of w ws) (said_in o.fates)) (sym ew) ∙ k.given);
-      room = ap (λ (z : Ops). z.room) c.deliver.ensures ∙ ap (λ (z : Ops). z.room) c.in-Some.ensures.rest ∙ k.room;
-      few = ap (λ (z : Ops). z.calls) c.deliver.ensures ∙ ap (λ (z : Ops). z.calls) c.in-Some.ensures.rest ∙ k.few;
+      window = ap (λ (z : Ops). z.window) c.deliver.ensures ∙ ap (λ (z : Ops). z.window) c.in-Some.ensures.rest ∙ k.window;
     }

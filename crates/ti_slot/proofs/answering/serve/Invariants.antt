@@ -16,8 +16,7 @@ invariant-loop-p l = record {
   depth : l.frames.depth ≡ l.limits.depth;
   view : fold after (view_of l.condition l.frames.frames) (entries_of l.ops.waiting) ≡ fold after (view_of l.fn.condition l.fn.frames.frames) (entries_of l.fn.ops.waiting);
   given : delivered (answers_of (view_of l.condition l.frames.frames) l.ops.waiting) (said_in l.ops.fates) ≡ delivered (answers_of (view_of l.fn.condition l.fn.frames.frames) l.fn.ops.waiting) (said_in l.fn.ops.fates);
-  room : l.ops.room ≡ l.fn.ops.room;
-  few : l.ops.calls ≡ l.fn.ops.calls;
+  window : l.ops.window ≡ l.fn.ops.window;
 }
 
 abbrev pub decreases-loop-p : goal.decreases-loop-p

@@ -66,3 +66,21 @@ go-round-requires-clause-stand g c =
     reads_stand s seen later listed second [] (pos 4) (said c.read-second.result) one refl (omega (arith, c.requires.two)) (record { env_is = refl; state_is = again.state; desks = again.desks; answer_is = again.answer }) in
     let threads = ap (λ v. v.threads) again.standing ∙ (ap (λ v. v.threads) told.standing ∙ r.standing.0) in
     stand_go s later listed c.read-second.new.self.threads [] two threads
+
+pub go-round-requires-clause-env : goal.go-round-requires-clause-env
+go-round-requires-clause-env g c i p at is =
+    let s : Environment = record { env = record { 0 = 0 }; state = c.args.state.now; desks = c.args.desks.now } in
+    let stopped : Environment = record { env = record { 0 = 0 }; state = c.stop_all.new.state; desks = c.stop_all.new.desks } in
+    let seen : Environment = record { env = record { 0 = 0 }; state = c.read-first.new.state; desks = c.read-first.new.desks } in
+    let later : Environment = record { env = record { 0 = 0 }; state = c.read-second.new.state; desks = c.read-second.new.desks } in
+    let r = c.in-Ok.ensures in
+    let k : Stand s stopped listed both =
+    stops_stand s c.stop_all.new.state c.stop_all.new.desks listed both c.requires.whole (ap (λ (n : ℕ). each_once n both) (sym c.requires.two)) (ap (λ (n : ℕ). are_there n both) c.requires.two) r.spent r.state r.desks r.stand in
+    let told = c.read-first.ensures in
+    let one : Stand s seen listed (second ∷ []) =
+    reads_stand s stopped seen listed first (second ∷ []) (pos 4) (said c.read-first.result) k refl (omega (arith, c.requires.two)) (record { env_is = refl; state_is = told.state; desks = told.desks; answer_is = told.answer }) in
+    let again = c.read-second.ensures in
+    let two : Stand s later listed [] =
+    reads_stand s seen later listed second [] (pos 4) (said c.read-second.result) one refl (omega (arith, c.requires.two)) (record { env_is = refl; state_is = again.state; desks = again.desks; answer_is = again.answer }) in
+    let env = ap (λ v. v.env) again.standing ∙ (ap (λ v. v.env) told.standing ∙ same_env s c.in-Ok.standing.env c.requires.whole r.env) in
+    (two.held.desks i p at).env_is ∙ sym env

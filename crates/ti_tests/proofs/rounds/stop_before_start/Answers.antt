@@ -46,5 +46,19 @@ go-round-requires-clause-stand g c =
     let threads = ap (λ v. v.threads) told.standing ∙ r.standing.0 in
     stand_go s seen listed c.read-told.new.self.threads [] one threads
 
+pub go-round-requires-clause-env : goal.go-round-requires-clause-env
+go-round-requires-clause-env g c i p at is =
+    let s : Environment = record { env = record { 0 = 0 }; state = c.args.state.now; desks = c.args.desks.now } in
+    let stopped : Environment = record { env = record { 0 = 0 }; state = c.stop_all.new.state; desks = c.stop_all.new.desks } in
+    let seen : Environment = record { env = record { 0 = 0 }; state = c.read-told.new.state; desks = c.read-told.new.desks } in
+    let r = c.in-Ok.ensures in
+    let k : Stand s stopped listed alone =
+    stops_stand s c.stop_all.new.state c.stop_all.new.desks listed alone c.requires.whole (ap (λ (n : ℕ). each_once n alone) (sym c.requires.one)) (ap (λ (n : ℕ). are_there n alone) c.requires.one) r.spent r.state r.desks r.stand in
+    let told = c.read-told.ensures in
+    let one : Stand s seen listed [] =
+    reads_stand s stopped seen listed first [] (pos 4) (said c.read-told.result) k refl (omega (arith, c.requires.one)) (record { env_is = refl; state_is = told.state; desks = told.desks; answer_is = told.answer }) in
+    let env = ap (λ v. v.env) told.standing ∙ same_env s c.in-Ok.standing.env c.requires.whole r.env in
+    (one.held.desks i p at).env_is ∙ sym env
+
 pub returns : goal.returns
 returns g c = record { other = c.try_stop-another.ensures.desk c.args.other.now.cell 1 c.requires.other }

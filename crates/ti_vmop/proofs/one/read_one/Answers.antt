@@ -10,7 +10,7 @@ returns-clause-hold g c =
     let f = c.facts.ensures in
     let hold = recount c.args.desk.now c.read.new.self.view _ _ c.args.max_count (to_z-of_z w32 c.args.max_count c.ranges.max_count) c.read.ensures.hold.waits in
     let at = finds c.args.desk.now _ (Read c.args.desk.now.env c.args.max_count) _ (omega arith) f.number f.mine hold c.requires.stands in
-    record { waits = read_holds c.args.desk.now _ c.args.max_count _ _ refl at hold; looked = c.read.ensures.hold.looked }
+    record { waits = read_holds c.args.desk.now _ c.args.max_count _ _ refl at hold; looked = c.read.ensures.hold.looked; once = c.read.ensures.hold.once }
 
 pub returns-clause-reply : goal.returns-clause-reply
 returns-clause-reply g c =

@@ -1,7 +1,7 @@
 use Rattle.std.proofs.Common.{◌≡◌, sym, subst, refl, None}
 use Rattle.ti_types.specs.Answer.{said}
 use Rattle.ti_env.specs.Env.{call_refusal}
-use Rattle.ti_slot.specs.Waiting.{IsBufferOf}
+use Rattle.ti_agent.specs.Buffers.{IsJustBufferOf}
 use Rattle.ti_agent.specs.Env.{Environment}
 use Rattle.ti_agent.specs.Asks.{Asks, Went}
 use Rattle.ti_agent.proofs.Replied.{answered_kind, answered_not}
@@ -18,7 +18,7 @@ pub call-requires-clause-buf : goal.call-requires-clause-buf
 call-requires-clause-buf g c =
     let s : Environment = record { env = c.self.inside.env; state = c.self.inside.state; desks = c.self.inside.desks.items } in
     let free : call_refusal s.state c.args.thread c.args.call ≡ None = subst (λ (x : Environment). call_refusal x.state c.args.thread c.args.call ≡ None) (sym c.self.view_is) c.requires.admitted in
-    let has : IsBufferOf s.state.limits c.args.call c.args.buf = subst (λ (x : Environment). IsBufferOf x.state.limits c.args.call c.args.buf) (sym c.self.view_is) c.requires.buf in
+    let has : IsJustBufferOf s.state.limits c.args.call c.args.buf = subst (λ (x : Environment). IsJustBufferOf x.state.limits c.args.call c.args.buf) (sym c.self.view_is) c.requires.buf in
     has_buffer s c.args.thread c.args.call c.index_mut.result.now c.args.buf c.self.invariant free c.index_mut.ensures.value has
 
 pub invariant_of-self : goal.invariant_of-self

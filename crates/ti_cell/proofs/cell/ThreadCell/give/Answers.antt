@@ -11,7 +11,7 @@ use Rattle.ti_cell.proofs.Steps.{frees_keep}
 use Rattle.ti_cell.proofs.cell.ThreadCell.give.Goals as goal
 
 pub free-word-requires : goal.free-word-requires
-free-word-requires c = record { count = subst (λ n. n ≤ 2 ^ 32) (sym c.len.ensures.len) (short c.args.slot.limits c.args.slot.history c.len.ensures.legal) }
+free-word-requires c = record { count = subst (λ n. n ≤ 2 ^ 60) (sym c.len.ensures.len) (short c.args.slot.limits c.args.slot.history c.len.ensures.legal) }
 
 pub store-requires : goal.store-requires
 store-requires c =

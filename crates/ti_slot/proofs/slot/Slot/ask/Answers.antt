@@ -11,10 +11,13 @@ asked-no-requires c = omega (arith, lists_here c.self.inside c.self.invariant, (
 asks : (c : After-asked-no) → Asks c.self.inside c.args.env c.asked-no.result c.args.call
 asks c = asks_here c.self.inside _ c.args.env c.asked-no.result c.args.call c.self.invariant c.self.view_is c.requires.env c.requires.calls c.requires.well_formed c.asked-no.ensures
 
+pub overflow_cast-no : goal.overflow_cast-no
+overflow_cast-no c = omega (arith, (asks (goal.at.overflow_cast-no c).After-asked-no).left, c.self.inside.limits.in_range)
+
 pub post-requires : goal.post-requires
 post-requires c =
     let a = asks (goal.at.post-requires c).After-asked-no in
-    record { env = a.listed; next = a.next; calls = a.left; room = a.room }
+    record { env = a.listed; next = a.next; fits = omega (arith, a.left, c.self.inside.limits.in_range); room = a.room }
 
 pub push-requires : goal.push-requires
 push-requires c = (asks (goal.at.push-requires c).After-asked-no).comes.room
@@ -22,7 +25,7 @@ push-requires c = (asks (goal.at.push-requires c).After-asked-no).comes.room
 pub invariant_of-self : goal.invariant_of-self
 invariant_of-self c =
     later_whole c.self.inside _ c.args.env c.asked-no.result c.args.call c.args.buf c.push.new.history c.post.new.self c.self.invariant c.self.view_is (asks (goal.at.invariant_of-self c).After-asked-no)
-    (sym c.is_put_off.ensures ∙ c.if-is_put_off.true) c.push.ensures.items c.push.ensures.capacity c.post.ensures c.requires.buf
+    (sym c.is_put_off.ensures ∙ c.if-is_put_off.true) c.push.ensures.items c.push.ensures.shelf c.post.ensures c.requires.buf
 
 pub returns-then-is_put_off-clause-asked : goal.returns-then-is_put_off-clause-asked
 returns-then-is_put_off-clause-asked c =
@@ -35,7 +38,7 @@ returns-then-is_put_off-clause-legal c = (invariant_of-self c).0.legal
 pub pass-requires : goal.pass-requires
 pass-requires c =
     let a = asks (goal.at.pass-requires c).After-asked-no in
-    record { env = a.listed; calls = omega (arith, a.next, a.left) }
+    record { env = a.listed; fits = omega (arith, a.next, a.left, c.self.inside.limits.in_range) }
 
 pub push-requires-else-is_put_off : goal.push-requires-else-is_put_off
 push-requires-else-is_put_off c = (asks (goal.at.push-requires-else-is_put_off c).After-asked-no).comes.room
@@ -44,7 +47,7 @@ pub invariant_of-self-else-is_put_off : goal.invariant_of-self-else-is_put_off
 invariant_of-self-else-is_put_off c =
     let push = c.push-else-is_put_off in
     now_whole c.self.inside c.args.env c.asked-no.result c.args.call push.new.history c.take_at_once.new.condition c.take_at_once.new.frames c.pass.new.self c.self.invariant (asks (goal.at.invariant_of-self-else-is_put_off c).After-asked-no)
-    (sym c.is_put_off.ensures ∙ c.if-is_put_off.false) push.ensures.items push.ensures.capacity c.take_at_once.ensures.view c.take_at_once.ensures.home c.pass.ensures
+    (sym c.is_put_off.ensures ∙ c.if-is_put_off.false) push.ensures.items push.ensures.shelf c.take_at_once.ensures.view c.take_at_once.ensures.home c.pass.ensures
 
 pub returns-else-is_put_off-clause-asked : goal.returns-else-is_put_off-clause-asked
 returns-else-is_put_off-clause-asked c =

@@ -13,7 +13,7 @@ push-requires c = (comes_back (goal.at.push-requires c).Else-is_some).room
 
 pub invariant_of-self : goal.invariant_of-self
 invariant_of-self c = (
-  rw c.take.ensures.after (returned c.self.inside c.push.new.history c.self.invariant.0 (comes_back (goal.at.invariant_of-self c).Else-is_some).may (sym c.is_safe.ensures ∙ c.if-not-is_safe.false) c.push.ensures.items c.push.ensures.capacity),
+  rw c.take.ensures.after (returned c.self.inside c.push.new.history c.self.invariant.0 (comes_back (goal.at.invariant_of-self c).Else-is_some).may (sym c.is_safe.ensures ∙ c.if-not-is_safe.false) c.push.ensures.items c.push.ensures.shelf),
   plain_after c.self.inside Back c.push.new.history.items c.self.invariant refl c.push.ensures.items,
 )
 

@@ -14,7 +14,7 @@ push-requires c = (goes (goal.at.push-requires c).Else-not-held).room
 
 pub invariant_of-self : goal.invariant_of-self
 invariant_of-self c = (
-  let_go c.self.inside c.args.env c.push.new.history c.self.invariant.0 (goes (goal.at.invariant_of-self c).Else-not-held).may c.push.ensures.items c.push.ensures.capacity,
+  let_go c.self.inside c.args.env c.push.new.history c.self.invariant.0 (goes (goal.at.invariant_of-self c).Else-not-held).may c.push.ensures.items c.push.ensures.shelf,
   plain_after c.self.inside (Go c.args.env) c.push.new.history.items c.self.invariant refl c.push.ensures.items,
 )
 

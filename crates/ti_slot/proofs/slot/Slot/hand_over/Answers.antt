@@ -1,7 +1,9 @@
-use Rattle.std.proofs.Common.{◌≡◌, refl, ◌+◌, ◌++◌, ◌∷◌, [], length, arith, ap, ◌∙◌}
+use Rattle.std.proofs.Common.{◌≡◌, refl, ◌+◌, ◌++◌, ◌∷◌, [], length, arith, ap, sym, ◌∙◌}
 use Rattle.ti_types.specs.declared.entry.Entry.TheVariants.{Hand}
 use Rattle.ti_replay.specs.LateTickets.{steps_of}
 use Rattle.ti_slot.specs.Refusal.{hand_refusal}
+use Rattle.ti_slot.specs.Slot.{Shelf}
+use Rattle.ti_slot.specs.Thread.{Thread}
 use Rattle.ti_slot.proofs.CallLaws.{Runs, runs_on, ran_room, room_behind, entry_behind, refusal_is, Hands, hands_here}
 use Rattle.ti_slot.proofs.WholeLaws.{hand_whole, served_thread, awaited_here}
 use Rattle.ti_slot.proofs.slot.Slot.hand_over.Goals.{After-len, After-refusal_of_hand, In_default, After-push}
@@ -22,10 +24,7 @@ hands c =
     hands_here c.self.inside _ c.args.log.now.steps c.args.safe c.args.frames c.self.invariant.0 c.self.view_is (runs p.After-len) c.requires.frames (refused p.After-refusal_of_hand ∙ c.in_default.is) c.requires.armed
 
 pushed : (c : After-push) → c.push.new.history.items ≡ (c.self.inside.history.items ++ steps_of c.args.log.now.steps) ++ Hand c.args.safe ∷ []
-pushed c = entry_behind c.args.log.now.steps _ (Hand c.args.safe) _ _ _ c.steps.ensures c.push_steps.ensures.items c.push.ensures.items
-
-pub overflow_cast-own : goal.overflow_cast-own
-overflow_cast-own c = omega (arith, (runs c).few, c.len.ensures.len, c.self.inside.limits.in_range)
+pushed c = entry_behind c.args.log.now.steps _ (Hand c.args.safe) _ _ _ c.steps.ensures.items c.push_steps.ensures.items c.push.ensures.items
 
 pub overflow_add-own : goal.overflow_add-own
 overflow_add-own c = omega (arith, (runs c).few, c.len.ensures.len, c.self.inside.limits.in_range)
@@ -39,12 +38,15 @@ returns-in-Some-clause-when c = refused (goal.at.returns-in-Some-clause-when c).
 pub push_steps-requires : goal.push_steps-requires
 push_steps-requires c =
     let k = hands (goal.at.push_steps-requires c).In_default in
-    omega (arith, ran_room c.self.inside c.args.log.now.steps (Hand c.args.safe) k.ran k.may, ap length c.steps.ensures)
+    record {
+      room = omega (arith, ran_room c.self.inside c.args.log.now.steps (Hand c.args.safe) k.ran k.may, ap length c.steps.ensures.items);
+      kept = c.steps.ensures.kept ∙ (c.requires.kept ∙ (sym (ap (λ (t : Thread). t.limits.kept) c.self.view_is) ∙ sym (ap (λ (z : Shelf). z.kept) c.self.invariant.0.room)));
+    }
 
 pub push-requires : goal.push-requires
 push-requires c =
     let k = hands (goal.at.push-requires c).In_default in
-    room_behind c.self.inside c.args.log.now.steps _ (Hand c.args.safe) c.push_steps.new.history k.ran k.may c.steps.ensures c.push_steps.ensures.items c.push_steps.ensures.capacity
+    room_behind c.self.inside c.args.log.now.steps _ (Hand c.args.safe) c.push_steps.new.history k.ran k.may c.steps.ensures.items c.push_steps.ensures.items c.push_steps.ensures.shelf
 
 pub overflow_add-self : goal.overflow_add-self
 overflow_add-self c = omega (arith, (runs (goal.at.overflow_add-self c).After-len).few, c.len.ensures.len, c.self.inside.limits.in_range, c.own_cost.ensures.small)
@@ -54,8 +56,8 @@ invariant_of-self c =
     let i = c.self.inside in
     let p = goal.at.invariant_of-self c in
     hand_whole i _ c.args.log.now.steps c.args.safe c.args.frames c.serve.new.frames c.push.new.history c.serve.new.condition (i.own + c.len.result + c.own_cost.result) c.serve.new.ops c.self.invariant c.self.view_is (hands p.In_default)
-    (pushed p.After-push) (omega (arith, c.push_steps.ensures.capacity, c.push.ensures.capacity)) c.serve.ensures.depth (omega (arith, c.len.ensures.len, c.own_cost.ensures.cost))
-    c.serve.ensures.view c.serve.ensures.waiting c.serve.ensures.given c.serve.ensures.room c.serve.ensures.few
+    (pushed p.After-push) (c.push.ensures.shelf ∙ c.push_steps.ensures.shelf) c.serve.ensures.depth (omega (arith, c.len.ensures.len, c.own_cost.ensures.cost))
+    c.serve.ensures.view c.serve.ensures.waiting c.serve.ensures.given c.serve.ensures.window
 
 pub returns-clause-when : goal.returns-clause-when
 returns-clause-when c = refused (goal.at.returns-clause-when c).After-refusal_of_hand ∙ c.in_default.is

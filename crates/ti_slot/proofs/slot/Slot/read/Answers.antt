@@ -26,7 +26,7 @@ pub invariant_of-self : goal.invariant_of-self
 invariant_of-self c =
     let i = c.self.inside in
     let p = (goal.at.invariant_of-self c).In-Some in (
-      was_read i c.args.env c.args.max_count c.push.new.history c.self.invariant.0 (reads p).comes.may (pushed c) c.push.ensures.capacity,
+      was_read i c.args.env c.args.max_count c.push.new.history c.self.invariant.0 (reads p).comes.may (pushed c) c.push.ensures.shelf,
       plain_after i (Read c.args.env c.args.max_count) c.push.new.history.items c.self.invariant refl (pushed c),
     )
 

@@ -13,7 +13,7 @@ push-requires c = (starts (goal.at.push-requires c).Else-is_some).room
 
 pub invariant_of-self : goal.invariant_of-self
 invariant_of-self c = (
-  rw (c.take.ensures.after, c.take-2.ensures.after) (started c.self.inside c.push.new.history c.self.invariant.0 (starts (goal.at.invariant_of-self c).Else-is_some).may c.push.ensures.items c.push.ensures.capacity),
+  rw (c.take.ensures.after, c.take-2.ensures.after) (started c.self.inside c.push.new.history c.self.invariant.0 (starts (goal.at.invariant_of-self c).Else-is_some).may c.push.ensures.items c.push.ensures.shelf),
   plain_after c.self.inside Start c.push.new.history.items c.self.invariant refl c.push.ensures.items,
 )
 

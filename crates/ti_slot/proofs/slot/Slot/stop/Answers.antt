@@ -14,7 +14,7 @@ push-requires c = (stops (goal.at.push-requires c).Else-is_some).room
 
 pub invariant_of-self : goal.invariant_of-self
 invariant_of-self c = (
-  stopped c.self.inside c.args.env c.push.new.history c.self.invariant.0 (stops (goal.at.invariant_of-self c).Else-is_some).may c.push.ensures.items c.push.ensures.capacity,
+  stopped c.self.inside c.args.env c.push.new.history c.self.invariant.0 (stops (goal.at.invariant_of-self c).Else-is_some).may c.push.ensures.items c.push.ensures.shelf,
   plain_after c.self.inside (Stop c.args.env) c.push.new.history.items c.self.invariant refl c.push.ensures.items,
 )
 

@@ -1,0 +1,62 @@
+-- Calls that are posted at a thread, and collected later.
+use Rattle.std.specs.Prelude.{◌≡◌, false, true, if◌then◌else◌, is_some, [], ◌∷◌, ◌++◌, Option, Some, None, IfSome, slice_get, slice_set}
+use Rattle.ti_types.specs.declared.answer.Answer.{Answer}
+use Rattle.ti_types.specs.declared.call.Call.{Call}
+use Rattle.ti_types.specs.declared.event.Ticket.{Ticket}
+use Rattle.ti_types.specs.declared.numbers.ThreadNo.{ThreadNo}
+use Rattle.ti_env.specs.Env.{with_spent}
+use Rattle.ti_replay.specs.Tickets.{reply_to}
+use Rattle.ti_slot.specs.declared.asked.Asked.{Asked as AskedOf}
+use Rattle.ti_slot.specs.declared.asked.Asked.TheVariants.{Answered, Waiting}
+use Rattle.ti_slot.specs.Tickets.{has, without_ticket}
+use Rattle.ti_handshake.specs.Call.{HoldsWith, WaitsWith, IsTold, next_call, ticket_told}
+use Rattle.ti_handshake.specs.Desk.{Place, IsSame, ReplyAtPlace}
+use Rattle.ti_agent.specs.Env.{Environment}
+
+-- one call is spent at the thread, its desk posted it by one hold, and nothing else changed
+pub record Posts (old new : Environment) (thread : ThreadNo) (c : Call) (r : AskedOf) : Type 0 where
+  pub before : Place
+  pub after : Place
+  pub there : slice_get old.desks thread.0 ≡ Some before
+  pub about : before.view.subject.thread ≡ thread
+  pub same : IsSame before after
+  pub hold : HoldsWith before.view after.view (next_call before.view before.env c ∷ []) (before.view.posted ++ ticket_told r)
+  pub told : IsTold before.view after.view before.env c r
+  pub new_is : new ≡ record { env = old.env; state = with_spent old.state thread; desks = slice_set old.desks thread.0 after }
+
+-- the desk at the ticket's thread collected it: the answer is the reply to it, at the place of its call; it is out no
+-- more, and nothing else changed
+pub record Collects (old new : Environment) (ticket : Ticket) (a : Answer) : Type 0 where
+  pub before : Place
+  pub after : Place
+  pub there : slice_get old.desks ticket.thread.0 ≡ Some before
+  pub same : IsSame before after
+  pub hold : WaitsWith before.view after.view [] (without_ticket ticket before.view.posted)
+  pub once : has ticket after.view.posted ≡ false
+  pub answer : reply_to before.view.subject.limits after.view.seen ticket ≡ Some a
+  pub place : ReplyAtPlace before.view.subject.limits after.view.seen ticket a
+  pub new_is : new ≡ record { env = old.env; state = old.state; desks = slice_set old.desks ticket.thread.0 after }
+
+-- the desk at the ticket's thread looked for its answer by one hold: if the ticket was out there and the answer is there,
+-- it was collected. Nothing else changed
+pub record LooksFor (old new : Environment) (ticket : Ticket) (r : Option Answer) : Type 0 where
+  pub before : Place
+  pub after : Place
+  pub there : slice_get old.desks ticket.thread.0 ≡ Some before
+  pub same : IsSame before after
+  pub hold : HoldsWith before.view after.view [] (if is_some r then without_ticket ticket before.view.posted else before.view.posted)
+  pub once : IfSome r (λ a. has ticket after.view.posted ≡ false)
+  pub answer : r ≡ (if has ticket before.view.posted then reply_to before.view.subject.limits after.view.seen ticket else None)
+  pub place : IfSome r (λ a. ReplyAtPlace before.view.subject.limits after.view.seen ticket a)
+  pub new_is : new ≡ record { env = old.env; state = old.state; desks = slice_set old.desks ticket.thread.0 after }
+
+-- the ticket is out at the desk of its thread
+pub record IsOut (s : Environment) (k : Ticket) : Type 0 where
+  pub desk : Place
+  pub there : slice_get s.desks k.thread.0 ≡ Some desk
+  pub out : has k desk.view.posted ≡ true
+
+-- so is the ticket of a call that waits
+abbrev pub IsOutIfWaiting : Environment → AskedOf → Type 0
+IsOutIfWaiting s (Answered a) = Unit {0}
+IsOutIfWaiting s (Waiting k) = IsOut s k

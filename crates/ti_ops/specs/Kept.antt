@@ -1,0 +1,92 @@
+-- The calls of which something is kept, and the fates that they stand for.
+use Rattle.std.specs.Prelude.{ℕ, zero, suc, ◌≡◌, ◌<◌, ◌≤◌, ◌*◌, Bool, true, false, if◌then◌else◌, List, [], ◌∷◌, ◌++◌, length, map, drop, slice_index_or}
+use Rattle.std.specs.List.{All, list_any, sum_by}
+use Rattle.ti_types.specs.declared.numbers.EnvNo.{EnvNo}
+use Rattle.ti_types.specs.declared.event.Ticket.{Ticket}
+use Rattle.ti_types.specs.declared.call.Call.{Call}
+use Rattle.ti_types.specs.declared.call.Call.TheVariants.{State}
+use Rattle.ti_types.specs.Frames.{Trace}
+use Rattle.ti_ops.specs.declared.pending.Pending.{Pending}
+use Rattle.ti_ops.specs.declared.fate.Fate.{Fate}
+use Rattle.ti_ops.specs.declared.fate.Fate.TheVariants as fate
+use Rattle.ti_ops.specs.declared.kept.Kept.{Kept}
+use Rattle.ti_ops.specs.declared.kept.Count.{Count}
+use Rattle.ti_ops.specs.declared.kept.Stage.{Stage}
+use Rattle.ti_ops.specs.declared.kept.Stage.TheVariants.{Posted, Taken, Told}
+use Rattle.ti_ops.specs.Fates.{is_at, open_by}
+use Rattle.ti_ops.specs.Ops.{Ops}
+
+abbrev pub fate_in : Stage → Fate
+fate_in (Posted c b) = fate.Waiting
+fate_in Taken = fate.Waiting
+fate_in (Told a) = fate.Told a
+
+abbrev pub is_posted : Stage → Bool
+is_posted (Posted c b) = true
+is_posted Taken = false
+is_posted (Told a) = false
+
+abbrev pub has_answer : Stage → Bool
+has_answer (Posted c b) = false
+has_answer Taken = false
+has_answer (Told a) = true
+
+abbrev pub call_in : Stage → Call
+call_in (Posted c b) = c
+call_in _ = State
+
+abbrev pub buf_in : Stage → Trace
+buf_in (Posted c b) = b
+buf_in _ = record { frames = []; room = 0 }
+
+abbrev pub pending_in : Kept → Pending
+pending_in k = record { ticket = k.ticket; call = call_in k.stage; buf = buf_in k.stage }
+
+-- a call by its environment and number: that of its ticket
+abbrev pub ticket_at : ℕ → ℕ → Ticket
+ticket_at env number = record { env = record { 0 = env }; thread = record { 0 = 0 }; no = number }
+
+-- whether the ticket's call is kept
+abbrev pub has : Ticket → List Kept → Bool
+has t kept = list_any (λ k. is_at k.ticket t) kept
+
+-- no call is kept twice
+abbrev pub AreOnce : List Kept → Type 0
+AreOnce [] = Unit {0}
+AreOnce (k ∷ kept) = (has k.ticket kept ≡ false) × AreOnce kept
+
+-- the fate of a ticket's call: nothing is left of those that are not kept
+abbrev pub fate_among : Ticket → List Kept → Fate
+fate_among t [] = fate.Gone
+fate_among t (k ∷ kept) = if is_at k.ticket t then fate_in k.stage else fate_among t kept
+
+-- what a function gives for each number below a bound
+abbrev pub listed : {A : Type 0} → (ℕ → A) → ℕ → List A
+listed f zero = []
+listed f (suc n) = listed f n ++ f n ∷ []
+
+abbrev pub count_of : List Count → ℕ → Count
+count_of counts env = slice_index_or counts env (record { asked = 0; held = 0 })
+
+-- the fates of the calls that an environment has asked
+abbrev pub list_of : List Count → List Kept → ℕ → List Fate
+list_of counts kept env = listed (λ number. fate_among (ticket_at env number) kept) (count_of counts env).asked
+
+-- the fates of each environment
+abbrev pub lists_of : List Count → List Kept → List (List Fate)
+lists_of counts kept = listed (list_of counts kept) (length counts)
+
+abbrev pub ops_in : ℕ → ℕ → List Count → List Kept → Ops
+ops_in window taken counts kept = record { waiting = map pending_in (drop taken kept); fates = lists_of counts kept; window = window }
+
+-- The calls that wait come last, each kept call was asked, and of each environment there are as many as its count says,
+-- which are not too many.
+pub record IsKept (window first capacity : ℕ) (counts : List Count) (kept : List Kept) : Type 0 where
+  pub taken : first ≤ length kept
+  pub waits : All (λ k. is_posted k.stage ≡ true) (drop first kept)
+  pub once : AreOnce kept
+  pub asked : All (λ k. k.ticket.no < (count_of counts k.ticket.env.0).asked) kept
+  pub few : All (λ c. c.held ≤ window) counts
+  pub all : sum_by (λ c. c.held) counts ≡ length kept
+  pub held : (env : EnvNo) → env.0 < length counts → (count_of counts env.0).held ≡ open_by env (lists_of counts kept)
+  pub room : length counts * window ≤ capacity

@@ -1,0 +1,105 @@
+//! What is kept of a call that waits or was not collected.
+ghost use Rattle.std.specs.Prelude.{◌≡◌, ◌+◌, ◌≤◌, ◌<◌, true, false, length, take, slice_index_or};
+ghost use Rattle.ti_ops.specs.Kept.{has, has_answer};
+ghost use Rattle.ti_ops.specs.declared.kept.Kept.{Kept};
+ghost use Rattle.std.specs.List.{remove};
+ghost use Rattle.std.specs.VecDeque.{deque_capacity};
+ghost use Rattle.ti_ops.specs.Fates.{is_at};
+
+use std::collections::VecDeque;
+use ti_types::{Answer, Call, Ticket, TraceBuf};
+
+/// A call that waits, or whose answer was not collected.
+#[derive(Drop, Debug)]
+pub struct Kept {
+    pub ticket: Ticket,
+    pub stage: Stage,
+}
+
+/// How far a call has come.
+#[derive(Drop, Debug)]
+pub enum Stage {
+    /// It waits, with the buffer for its answer.
+    Posted { call: Call, buf: TraceBuf },
+    /// It was taken, and its answer is not there yet.
+    Taken,
+    /// The answer is there.
+    Told(Answer),
+}
+
+/// How many calls an environment has asked, and how many of them are kept.
+#[derive(Clone, Copy, Debug)]
+pub struct Count {
+    pub asked: u64,
+    pub held: u32,
+}
+
+/// Whether a call is the ticket's.
+#[inline]
+pub fn is_of(kept: &Kept, ticket: Ticket) -> bool
+    ensures { result ≡ is_at kept.now.ticket ticket }
+{
+    kept.ticket.no == ticket.no && kept.ticket.env.0 == ticket.env.0
+}
+
+/// Whether a call's answer is there.
+#[inline]
+pub fn is_told(kept: &Kept) -> bool
+    ensures { result ≡ has_answer kept.now.stage }
+{
+    matches!(kept.stage, Stage::Told(_))
+}
+
+/// Where a ticket's call is among the first that are kept, or how many these are where it is not there.
+pub fn find(kept: &VecDeque<Kept>, before: usize, ticket: Ticket) -> usize
+    requires { before ≤ length kept.now.items }
+    ensures within { result ≤ before }
+    ensures there { (d : Kept) → result < before → is_at (slice_index_or kept.now.items result d).ticket ticket ≡ true }
+    ensures nowhere { result ≡ before → has ticket (take before kept.now.items) ≡ false }
+{
+    for at in 0..before {
+        if is_of(&kept[at], ticket) {
+            return at;
+        }
+    }
+    before
+}
+
+/// Where a ticket's call is among the first that are kept. It is there, and mostly the last of them.
+pub fn find_last(kept: &VecDeque<Kept>, before: usize, ticket: Ticket) -> usize
+    requires before { before ≤ length kept.now.items }
+    requires there { has ticket (take before kept.now.items) ≡ true }
+    ensures within { result < before }
+    ensures there { (d : Kept) → is_at (slice_index_or kept.now.items result d).ticket ticket ≡ true }
+{
+    let last = before - 1;
+    if is_of(&kept[last], ticket) {
+        return last;
+    }
+    find(kept, before, ticket)
+}
+
+/// Takes one of the kept calls out. Where it is the last one, its place is the next call's.
+pub fn take_out(kept: &mut VecDeque<Kept>, at: usize) -> Kept
+    requires { at < length kept.old.items }
+    ensures kept { kept.new.items ≡ remove kept.old.items at }
+    ensures taken { (d : Kept) → result ≡ slice_index_or kept.old.items at d }
+    ensures capacity { deque_capacity kept.new ≡ deque_capacity kept.old }
+{
+    if at + 1 == kept.len() {
+        let Some(last) = kept.pop_back() else {
+            unreachable!()
+        };
+        return last;
+    }
+    if at == 0 {
+        let Some(first) = kept.pop_front() else {
+            unreachable!()
+        };
+        return first;
+    }
+    let Some(taken) = kept.remove(at) else {
+        unreachable!()
+    };
+    taken
+}
