@@ -3,8 +3,9 @@
 # on all cases, on large documents (and programs that hold cells and run threads), and with each allocation, each start of a
 # thread, each read and each write refused in turn (and the tests of a core so). `make stress` runs it on live documents that
 # are made up by chance. `make edits` tries the edits that the gate leaves out.
-# `make try` runs the program on all examples without proving anything.
-.PHONY: run try test examples cases bench refused stress edits
+# `make jvm` carries walks out on a Java VM and compares its answers with the program's lines. `make try` runs the program on all
+# examples without proving anything.
+.PHONY: run try test examples cases bench refused stress edits jvm
 
 run:
 	cd crates/tiwalk && rt run < ../../examples/first.json
@@ -32,6 +33,8 @@ bench:
 	python3 bench/cells.py
 	cd crates/tiruns && rt run -- steps 0
 	python3 bench/running.py
+	cd crates/tiprof && rt run -- --samples 0
+	python3 bench/profiling.py
 
 refused:
 	python3 ci/refused_memory.py
@@ -43,3 +46,6 @@ stress:
 
 edits:
 	python3 ci/edits.py
+
+jvm:
+	python3 jvm/compare.py

@@ -1,7 +1,7 @@
 #!/usr/bin/env python3
 """Adds up folded stacks, as `tiprof` writes them, and compares the sum with what its last line says.
 
-    crates/tiprof/out/tiprof --samples 10000 > folded.txt 2> said.txt
+    crates/tiprof/out/tiprof --seconds 10 > folded.txt 2> said.txt
     tools/profile_sum.py folded.txt said.txt
 
 It writes both numbers, and ends with status 0 where they are the same, else with 1.

@@ -1,15 +1,24 @@
 #!/usr/bin/env python3
-"""Draws a walk and its output as a time line, in SVG that stands by itself.
+"""Draws a walk or a live run, with its lines, as a time line: SVG that needs nothing else.
 
-    crates/tiwalk/out/tiwalk < examples/stopped.json | tools/timeline.py examples/stopped.json > stopped.svg
+    tools/timeline.py examples/stopped.json < examples/stopped.out > stopped.svg
+    crates/tiwalk/out/tiwalk live < SCRIPT | tools/timeline.py SCRIPT > picture.svg
 
-It takes the walk's document as its argument and the walk's lines on standard input. Time runs from left to right, a column
-for each event. Each thread has a lane, coloured by its mode, in which its frames are a stair, and below it a thread that is
-suspended or stopped has a line. Each agent has a lane with its calls: an arrow goes from a call to the place where it took
-place, which of a call that waited is the thread's next hand-over; one that was refused is crossed out, as is a thread's own event, and one that was never
-answered ends open. The texts of all lines stand in the picture's tool tips.
+It takes the document as its argument, and what `tiwalk` wrote for it on standard input.
+
+Of a walk, time runs from left to right, a column for each event. A thread has a lane, coloured by its mode. Its frames are a
+stair in it, and a line below it says when it is suspended or stopped. An agent has a lane with its calls. An arrow goes from
+a call to where it took place: of a call that waited that is the thread's next hand-over. The arrow of a call that was never
+answered is dashed. What was refused is crossed out; a call that its thread answered with an error is red.
+
+Of a live run, each thread has a lane with its operations in their order, coloured by the mode that it is in after each. An
+agent has a lane with its calls, each with its reply. Between the lanes there is no order.
+
+The texts of all lines are in the picture's tool tips. The status is 0, or 1 with a line on standard error for a document
+that is neither, or lines that are not of it.
 """
 
+import argparse
 import dataclasses
 import html
 import json
@@ -22,6 +31,10 @@ LEFT = 96
 TOP = 40
 STAIR = 40
 GREY = 'fill="#777777"'
+RED = "#c62828"
+BLUE = "#1565c0"
+PINK = "#c2185b"
+VIOLET = "#6a1b9a"
 
 MODES = {
     "new": ("#eeeeee", "new"),
@@ -33,7 +46,7 @@ MODES = {
 }
 WAITING = {"count", "trace", "location", "suspend", "pop"}
 # What an agent's call is refused with before it reaches its thread. A trace is also told 103 by its thread.
-UNREACHED = {"10", "99", "209", "110", "116"}
+UNREACHED = {"10", "98", "99", "209", "110", "116"}
 
 
 @dataclasses.dataclass
@@ -176,7 +189,7 @@ def follow(walk, lines):
 
 def cross(x, y, title):
     """A mark of what was refused."""
-    return f'<path d="M{x - 6} {y - 6} L{x + 6} {y + 6} M{x - 6} {y + 6} L{x + 6} {y - 6}" stroke="#c62828" stroke-width="1.5"><title>{html.escape(title)}</title></path>'
+    return f'<path d="M{x - 6} {y - 6} L{x + 6} {y + 6} M{x - 6} {y + 6} L{x + 6} {y - 6}" stroke="{RED}" stroke-width="1.5"><title>{html.escape(title)}</title></path>'
 
 
 def x_of(column):
@@ -206,7 +219,7 @@ def draw_thread(thread, deepest):
         out.append(cross(x_of(column) + COLUMN / 2, top + 10, f"{column} {thread.name} {title}"))
     for row, (why, first, last) in enumerate(sorted(thread.barred, key=lambda b: b[1])):
         y = top + STAIR + 8 + 4 * (row % 2)
-        colour = "#c2185b" if why == "suspended" else "#6a1b9a"
+        colour = PINK if why == "suspended" else VIOLET
         out.append(f'<line x1="{x_of(first)}" y1="{y}" x2="{x_of(last)}" y2="{y}" stroke="{colour}" stroke-width="3"><title>{thread.name}: {html.escape(why)}</title></line>')
     return out
 
@@ -214,7 +227,7 @@ def draw_thread(thread, deepest):
 def draw_call(call, threads, agents, bottom, end):
     x = x_of(call.column) + COLUMN / 2
     y = bottom + agents.index(call.agent) * AGENT_LANE + 16
-    colour = "#c62828" if call.line.startswith("error") else "#1565c0"
+    colour = RED if call.line.startswith("error") else BLUE
     tip = f"<title>{call.column} {html.escape(call.agent)} {call.word}: {html.escape(call.line)}</title>"
     out = [f'<circle cx="{x}" cy="{y}" r="4" fill="{colour}">{tip}</circle>', text(x, y + 15 + 9 * (call.column % 2), call.word, 9, "middle", 'fill="#555555"')]
     if call.refused:
@@ -228,19 +241,66 @@ def draw_call(call, threads, agents, bottom, end):
     return out
 
 
+def frame_of(width, height, body):
+    """A picture of this size."""
+    head = [
+        f'<svg xmlns="http://www.w3.org/2000/svg" viewBox="0 0 {width} {height}" width="{width}" height="{height}" font-family="sans-serif">',
+        '<defs><marker id="arrow" viewBox="0 0 8 8" refX="7" refY="4" markerWidth="7" markerHeight="7" orient="auto"><path d="M0 0 L8 4 L0 8 z" fill="#555555"/></marker></defs>',
+        f'<rect width="{width}" height="{height}" fill="#ffffff"/>',
+    ]
+    return "\n".join(head + body + ["</svg>"]) + "\n"
+
+
+def line_mark(colour, more=""):
+    return lambda x, y: f'<path d="M{x - 4} {y} L{x + 10} {y}" fill="none" stroke="{colour}" stroke-width="2" {more}/>'
+
+
+def dot_mark(colour):
+    return lambda x, y: f'<circle cx="{x + 3}" cy="{y}" r="4" fill="{colour}"/>'
+
+
+def box_mark(colour):
+    return lambda x, y: f'<rect x="{x - 3}" y="{y - 6}" width="12" height="12" fill="{colour}" stroke="#999999"/>'
+
+
+MODE_MARKS = [(box_mark(colour), title) for colour, title in MODES.values()]
+CALL_MARKS = [
+    (dot_mark(BLUE), "a call"),
+    (dot_mark(RED), "answered with an error"),
+    (lambda x, y: cross(x + 3, y, "refused"), "refused"),
+]
+WALK_MARKS = [
+    (lambda x, y: f'<path d="M{x - 4} {y} L{x + 10} {y}" stroke="{BLUE}" marker-end="url(#arrow)"/>', "where it took place"),
+    (line_mark(BLUE, 'stroke-dasharray="3 3"'), "never answered"),
+    (line_mark("#444444"), "frames"),
+    (line_mark(PINK), "suspended"),
+    (line_mark(VIOLET), "stopped"),
+]
+MARK = 156
+LEGEND_ROW = 18
+
+
+def legend(rows, top):
+    """Rows of marks with their titles."""
+    out = []
+    for row, marks in enumerate(rows):
+        y = top + row * LEGEND_ROW
+        for place, (mark, title) in enumerate(marks):
+            x = LEFT + MARK * place
+            out += [mark(x, y - 4), text(x + 16, y, title, 11)]
+    return out
+
+
 def draw(walk, lines):
     threads, calls = follow(walk, lines)
     count = len(lines)
     deepest = max([depth for t in threads.values() for _, depth in t.stair] + [1])
     bottom = TOP + len(threads) * LANE + 24
     agents = walk["agents"]
-    height = bottom + len(agents) * AGENT_LANE + 44
-    width = max(x_of(count) + 24, LEFT + 120 * len(MODES))
-    out = [
-        f'<svg xmlns="http://www.w3.org/2000/svg" viewBox="0 0 {width} {height}" width="{width}" height="{height}" font-family="sans-serif">',
-        '<defs><marker id="arrow" viewBox="0 0 8 8" refX="7" refY="4" markerWidth="7" markerHeight="7" orient="auto"><path d="M0 0 L8 4 L0 8 z" fill="#555555"/></marker></defs>',
-        f'<rect width="{width}" height="{height}" fill="#ffffff"/>',
-    ]
+    marks = [MODE_MARKS, CALL_MARKS, WALK_MARKS]
+    height = bottom + len(agents) * AGENT_LANE + 32 + len(marks) * LEGEND_ROW
+    width = max(x_of(count) + 24, LEFT + MARK * len(MODES))
+    out = []
     for column in range(count):
         event = walk["events"][column]
         tip = f"<title>{column} {html.escape(json.dumps(event))}: {html.escape(lines[column])}</title>"
@@ -251,24 +311,139 @@ def draw(walk, lines):
         out.append(text(LEFT - 8, bottom + row * AGENT_LANE + 20, agent, 13, "end"))
     for call in calls:
         out += draw_call(call, threads, agents, bottom, count)
-    for place, (colour, title) in enumerate(MODES.values()):
-        x = LEFT + 116 * place
-        out.append(f'<rect x="{x}" y="{height - 24}" width="12" height="12" fill="{colour}" stroke="#999999"/>')
-        out.append(text(x + 16, height - 14, title, 11))
-    out.append("</svg>")
-    return "\n".join(out) + "\n"
+    out += legend(marks, bottom + len(agents) * AGENT_LANE + 32)
+    return frame_of(width, height, out)
+
+
+OPERATION = 72
+LIVE_LANE = 52
+CELL = 36
+CALLED = "#e3edf9"
+REFUSED = "#fbe4e4"
+AFTER = {"start": "running", "back": "running", "native": "native", "block": "blocked", "end": "ended"}
+
+
+@dataclasses.dataclass
+class Cell:
+    """An operation or a call in its lane."""
+
+    colour: str
+    word: str
+    told: str
+    crossed: bool
+    tip: str
+
+
+def short(what):
+    return what if len(what) <= 12 else what[:10] + ".."
+
+
+def live_lane(name, top, cells):
+    out = [text(LEFT - 8, top + 22, name, 13, "end")]
+    for number, cell in enumerate(cells):
+        x = LEFT + number * OPERATION
+        tip = f"{name} {number} {cell.tip}"
+        out.append(f'<rect x="{x}" y="{top}" width="{OPERATION}" height="{CELL}" fill="{cell.colour}" stroke="#ffffff"><title>{html.escape(tip)}</title></rect>')
+        out.append(text(x + OPERATION / 2, top + 15, short(cell.word), 10, "middle"))
+        out.append(text(x + OPERATION / 2, top + 29, short(cell.told), 9, "middle", 'fill="#555555"'))
+        if cell.crossed:
+            out.append(cross(x + OPERATION - 9, top + 9, tip))
+    return out
+
+
+def thread_cells(operations, refusals):
+    """A thread's operations, each with the mode that it is in after it."""
+    mode, cells = "new", []
+    for number, operation in enumerate(operations):
+        refused = refusals.get(number, "")
+        if not refused:
+            mode = AFTER.get(operation[0], mode)
+        cells.append(Cell(MODES[mode][0], operation[0], refused, bool(refused), f"{json.dumps(operation)}: {refused}"))
+    return cells
+
+
+def call_cells(calls, replies):
+    cells = []
+    for number, call in enumerate(calls):
+        reply = replies.get(number, "")
+        colour = REFUSED if reply.startswith("error") else CALLED
+        cells.append(Cell(colour, call[0], reply, False, f"{json.dumps(call)}: {reply}"))
+    return cells
+
+
+def draw_live(script, lines):
+    """The lanes of a live run, whose lines are each `NAME NUMBER TEXT`, or `NAME legal`."""
+    told = {}
+    for line in lines:
+        name, rest = line.split(" ", 1)
+        number, _, what = rest.partition(" ")
+        if number.isdigit():
+            told.setdefault(name, {})[int(number)] = what
+    lanes = [(name, thread_cells(walk, told.get(name, {}))) for name, walk in zip(script["threads"], script["walks"])]
+    lanes += [(name, call_cells(calls, told.get(name, {}))) for name, calls in zip(script["agents"], script["calls"])]
+    longest = max([len(cells) for _, cells in lanes] + [1])
+    bottom = TOP + len(lanes) * LIVE_LANE
+    out = [text(LEFT, TOP - 16, "Each lane has its own order. Between lanes there is none.", 11, "start", GREY)]
+    for row, (name, cells) in enumerate(lanes):
+        out += live_lane(name, TOP + row * LIVE_LANE, cells)
+    # a thread that is held in a live run goes back in the same operation
+    modes = [mark for mark, name in zip(MODE_MARKS, MODES) if name != "held"]
+    calls = [(box_mark(CALLED), "a call and its reply"), (box_mark(REFUSED), "a refused call"), (CALL_MARKS[-1][0], "a refused operation")]
+    out += legend([modes, calls], bottom + 20)
+    width = max(LEFT + longest * OPERATION + 24, LEFT + MARK * len(modes))
+    return frame_of(width, bottom + 20 + 2 * LEGEND_ROW, out)
+
+
+def give_up(why):
+    sys.exit(f"timeline.py: {why}")
+
+
+def read_document(path):
+    """The document, and whether it is a live script."""
+    try:
+        with open(path, encoding="utf-8") as file:
+            document = json.load(file)
+    except OSError as error:
+        give_up(f"{path}: {error.strerror}")
+    except ValueError as error:
+        give_up(f"{path} is no JSON: {error}")
+    has = document.keys() if isinstance(document, dict) else ()
+    if {"threads", "agents", "events"} <= set(has):
+        return document, False
+    if {"threads", "agents", "walks", "calls"} <= set(has):
+        return document, True
+    if "entries" in has:
+        give_up(f"{path} is the history of one thread: a time line is of a walk or a live script")
+    give_up(f"{path} is no walk (threads, agents, events) and no live script (threads, agents, walks, calls)")
+
+
+def outcomes(lines, walk, path):
+    """What the lines of a walk say behind their numbers."""
+    parts = [line.split(" ", 1) for line in lines]
+    if [part[0] for part in parts] != [str(number) for number in range(len(walk["events"]))] or any(len(p) < 2 for p in parts):
+        give_up(f"standard input has not the lines 0 to {len(walk['events']) - 1} that `tiwalk` writes for {path}")
+    return [part[1] for part in parts]
+
+
+def replies(lines, script, path):
+    """The lines of a live run, which end with a verdict on each thread."""
+    verdicts = [f"{name} legal" for name in script["threads"]]
+    if not set(verdicts) <= set(lines):
+        give_up(f"standard input has not the lines that `tiwalk live` writes for {path}")
+    return lines
 
 
 def main():
-    if len(sys.argv) != 2:
-        sys.exit("usage: timeline.py WALK.json < LINES")
-    with open(sys.argv[1], encoding="utf-8") as file:
-        walk = json.load(file)
-    # each line begins with its event's index
-    lines = [line.split(" ", 1)[1] for line in sys.stdin.read().splitlines()]
-    if len(lines) != len(walk["events"]):
-        sys.exit(f"timeline.py: {len(lines)} lines for {len(walk['events'])} events")
-    sys.stdout.write(draw(walk, lines))
+    about, _, more = __doc__.partition("\n\n")
+    parser = argparse.ArgumentParser(description=about, epilog=more, formatter_class=argparse.RawDescriptionHelpFormatter)
+    parser.add_argument("document", help="a walk or a live script")
+    path = parser.parse_args().document
+    document, is_live = read_document(path)
+    lines = sys.stdin.read().splitlines()
+    if is_live:
+        sys.stdout.write(draw_live(document, replies(lines, document, path)))
+    else:
+        sys.stdout.write(draw(document, outcomes(lines, document, path)))
 
 
 main()

@@ -10,7 +10,7 @@ use Rattle.ti_types.specs.declared.error.TiError.{TiError}
 use Rattle.ti_types.specs.declared.numbers.EnvNo.{EnvNo}
 use Rattle.ti_types.specs.declared.numbers.ThreadNo.{ThreadNo}
 use Rattle.ti_types.specs.declared.stack.StackInfo.{StackInfo}
-use Rattle.ti_env.specs.Env.{call_refusal}
+use Rattle.ti_agent.specs.Posts.{posting_refusal}
 use Rattle.ti_handshake.specs.Desk.{Place}
 use Rattle.ti_vmop.specs.Turns.{Listed, AtDesk, AtEach, is_listed}
 use Rattle.ti_vmop.specs.declared.standing.Round.{Round}
@@ -53,7 +53,7 @@ called_cells old new thread c a k = one (refusal_of old.state thread c a) k
     one None h = ap (λ (s : Environment). cells_at s.desks) h.new_is ∙ set_cells old.desks thread.0 h.before h.after h.there h.asks.same.cell
 
 posted_cells : (old new : Environment) (c : Call) (t : ThreadNo) (x : Posted) → IsPosted old new c t x → cells_at new.desks ≡ cells_at old.desks
-posted_cells old new c t x k = one (call_refusal old.state t c) x k
+posted_cells old new c t x k = one (posting_refusal old t c) x k
   where
     one : (r : Option TiError) (x : Posted) → IsPostedBy r old new c t x → cells_at new.desks ≡ cells_at old.desks
     one (Some e) (Code n) h = ap (λ (s : Environment). cells_at s.desks) h.0

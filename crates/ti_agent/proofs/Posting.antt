@@ -19,13 +19,13 @@ use Rattle.ti_vmop.proofs.Each.{at_index}
 use Rattle.ti_agent.specs.Env.{Environment}
 use Rattle.ti_agent.specs.declared.lists.Posted.{Posted}
 use Rattle.ti_agent.specs.declared.lists.Posted.TheVariants.{Code, Waits}
-use Rattle.ti_agent.specs.Posts.{Posts, Collects, LooksFor, IsOut, IsOutIfWaiting}
+use Rattle.ti_agent.specs.Posts.{posting_refusal, Posts, Collects, LooksFor, WaitsFor, IsOut, IsOutIfWaiting}
 use Rattle.ti_agent.proofs.Whole.{seen_call}
 use Rattle.std.specs.Prelude.{is_some, IfSome, if◌then◌else◌}
 use Rattle.std.specs.Option.{option_map}
 use Rattle.ti_types.specs.Answer.{said}
 use Rattle.ti_replay.specs.Tickets.{reply_to}
-use Rattle.ti_handshake.specs.Call.{HoldsWith}
+use Rattle.ti_handshake.specs.Call.{HoldsWith, WaitsWith}
 use Rattle.ti_handshake.specs.Desk.{IsSame, ReplyAtPlace}
 use Rattle.ti_agent.specs.Lists.{IsPosted, IsPostedBy, PostsEach, IsCollected, CollectsEach, IsOpen, AreOthers, NoneTwice, AreOpen}
 
@@ -189,7 +189,7 @@ open_waits s s' t c k (x ∷ xs) w o = (open_kept s s' t c (Waiting k) x w o.0, 
     apart (Waits j) p = (apart_new s s' t c k j w p, tt)
 
 pub open_more : (s s' : Environment) (c : Call) (t : ThreadNo) (x : Posted) (xs : List Posted) → IsPosted s s' c t x → AreOpen s xs → AreOpen s' (xs ++ x ∷ [])
-open_more s s' c t x xs h o = by_refusal (call_refusal s.state t c) x h
+open_more s s' c t x xs h o = by_refusal (posting_refusal s t c) x h
   where
     by_refusal : (r : Option TiError) (y : Posted) → IsPostedBy r s s' c t y → AreOpen s' (xs ++ y ∷ [])
     by_refusal (Some e) (Code n) k = subst (λ (z : Environment). AreOpen z (xs ++ Code n ∷ [])) (sym k.0) (open_refused s n xs o)
@@ -244,6 +244,14 @@ pub looked_for : (s : Environment) (k : Ticket) (p q : Place) (r : Option Answer
     → IfSome r (λ a. ReplyAtPlace p.view.subject.limits q.view.seen k (said a)) → LooksFor s (seen_call s k.thread.0 q) k (option_map said r)
 looked_for s k p q None at same hold once is place = record { before = p; after = q; there = at; same = same; hold = hold; once = tt; answer = is; place = tt; new_is = refl }
 looked_for s k p q (Some a) at same hold once is place = record { before = p; after = q; there = at; same = same; hold = hold; once = once; answer = is; place = place; new_is = refl }
+
+-- a desk waited for one
+pub waited_for : (s : Environment) (k : Ticket) (p q : Place) (r : Option Answer) → slice_get s.desks k.thread.0 ≡ Some p → IsSame p q
+    → WaitsWith p.view q.view [] (if is_some r then without_ticket k p.view.posted else p.view.posted)
+    → IfSome r (λ a. has k q.view.posted ≡ false) → option_map said r ≡ (if has k p.view.posted then reply_to p.view.subject.limits q.view.seen k else None)
+    → IfSome r (λ a. ReplyAtPlace p.view.subject.limits q.view.seen k (said a)) → WaitsFor s (seen_call s k.thread.0 q) k (option_map said r)
+waited_for s k p q None at same hold once is place = record { before = p; after = q; there = at; same = same; hold = hold; once = tt; answer = is; place = tt; new_is = refl }
+waited_for s k p q (Some a) at same hold once is place = record { before = p; after = q; there = at; same = same; hold = hold; once = once; answer = is; place = place; new_is = refl }
 
 -- the list at one place
 

@@ -1,5 +1,5 @@
 -- An environment while its threads are stopped, read and let go.
-use Rattle.std.proofs.Common.{◌≡◌, ◌≢◌, ℕ, ℤ, zero, suc, ◌+◌, ◌-◌, ◌<◌, Bool, true, false, inl, inr, List, [], ◌∷◌, ◌++◌, length, take, drop, refl, ap, sym, ◌∙◌, arith, subst, eq-eqb, ne_eqb, nat_lt, length-set, length-append, append_assoc, Some, if◌then◌else◌}
+use Rattle.std.proofs.Common.{◌≡◌, ◌≢◌, ℕ, ℤ, zero, suc, ◌+◌, ◌-◌, ◌<◌, ◌≤◌, Bool, true, false, inl, inr, List, [], ◌∷◌, ◌++◌, length, take, drop, refl, ap, sym, ◌∙◌, arith, subst, eq-eqb, ne_eqb, nat_lt, length-set, length-append, append_assoc, Some, if◌then◌else◌}
 use Rattle.std.specs.Prelude.{slice_get, slice_index_or, slice_index}
 use Rattle.std.proofs.lemmas.Bool.{cases_eq, cases_Bool}
 use Rattle.std.proofs.lemmas.Bool.Decides.{nat_tests}
@@ -7,6 +7,7 @@ use Rattle.std.proofs.lemmas.List.Sums.{fold-append, sum_by-append}
 use Rattle.ti_types.specs.declared.answer.Answer.{Answer}
 use Rattle.ti_types.specs.declared.entry.Entry.{Entry}
 use Rattle.ti_types.specs.declared.entry.Entry.TheVariants.{Stop, Read, Go}
+use Rattle.ti_types.specs.declared.event.Ticket.{Ticket}
 use Rattle.ti_types.specs.declared.limits.Limits.{Limits}
 use Rattle.ti_types.specs.declared.numbers.EnvNo.{EnvNo}
 use Rattle.ti_types.specs.declared.numbers.ThreadNo.{ThreadNo}
@@ -150,6 +151,7 @@ held_after_stops s l z ds whole distinct there paid spends each stand = record {
           stands = λ b. stand i q e is;
           free = λ no'. (let o : true ≡ false = sym is ∙ no' in cc);
           paid = omega (arith, old.paid, calls, spent, some, most);
+          within = omega (arith, old.within, ap (λ (t : List Ticket). length t) h.posted, ap (λ (v : Limits). v.window) limits);
         }
 
     unlisted : (i : ℕ) (p q : Place) → is_listed i l ≡ false → slice_get s.desks i ≡ Some p → slice_get ds i ≡ Some q → IsHeld (with_desks s z ds) l i q
@@ -165,6 +167,7 @@ held_after_stops s l z ds whole distinct there paid spends each stand = record {
           stands = λ yes'. (let o : true ≡ false = sym yes' ∙ is in cc);
           free = λ b. old.free;
           paid = omega (arith, old.paid, spent, most);
+          within = omega (arith, old.within, ap (λ (v : Limits). v.window) limits);
         } in
         subst (λ (x : Place). IsHeld (with_desks s z ds) l i x) (sym still) was
 
@@ -252,6 +255,7 @@ held_after_read s n l m x held is_in left there r = record {
           stands = λ b. subst (λ (z : Limits × EnvNo). is_standing z.0 q.view.seen z.1 ≡ true) (λ j. ((sym h.goes.subject j).limits, sym h.same.env j)) told.stands;
           free = λ no'. (let o : true ≡ false = sym is_in ∙ (ap (λ (j : ℕ). is_listed j l) same ∙ no') in cc);
           paid = omega (arith, old.paid, calls, spent, some, most);
+          within = omega (arith, old.within, ap (λ (t : List Ticket). length t) h.posted, ap (λ (v : Limits). v.window) limits);
         }
 
     other_desk : (i : ℕ) (p q : Place) → x.thread.0 ≢ i → slice_get s.desks i ≡ Some p → slice_get n.desks i ≡ Some q → IsHeld n l i q
@@ -266,6 +270,7 @@ held_after_read s n l m x held is_in left there r = record {
           stands = old.stands;
           free = old.free;
           paid = omega (arith, old.paid, spent, most);
+          within = omega (arith, old.within, ap (λ (v : Limits). v.window) limits);
         } in
         subst (λ (v : Place). IsHeld n l i v) (sym still) was
 
@@ -382,13 +387,14 @@ whole_after_go s l ds held each = record {
           about = h.goes.subject ∙ old.about;
           free = (λ j. stops_by (h.same.env j) (h.mine j)) ∙ stops_go p.env p.view.mine;
           paid = omega (arith, old.paid, calls);
+          within = omega (arith, old.within, ap (λ (t : List Ticket). length t) h.posted);
         }
 
     unlisted : (i : ℕ) (p q : Place) → is_listed i l ≡ false → slice_get s.desks i ≡ Some p → slice_get ds i ≡ Some q → IsDesk (with_desks s s.state ds) i q
     unlisted i p q is at e =
         let still : q ≡ p = unlisted_stays l s.desks ds (λ e. Go e ∷ []) i p q each is at e in
         let old = held.desks i p at in
-        let was : IsDesk (with_desks s s.state ds) i p = record { env_is = old.env_is; about = old.about; free = old.free is; paid = old.paid } in
+        let was : IsDesk (with_desks s s.state ds) i p = record { env_is = old.env_is; about = old.about; free = old.free is; paid = old.paid; within = old.within } in
         subst (λ (v : Place). IsDesk (with_desks s s.state ds) i v) (sym still) was
 
     one : (i : ℕ) (q : Place) → slice_get ds i ≡ Some q → IsDesk (with_desks s s.state ds) i q

@@ -1,7 +1,7 @@
 -- What is true of an environment stays true.
-use Rattle.std.proofs.Common.{◌≡◌, ◌≢◌, ℕ, zero, suc, ◌+◌, ◌-◌, ◌<◌, ◌≤◌, false, inl, inr, List, [], ◌∷◌, ◌++◌, length, refl, ap, sym, ◌∙◌, arith, subst, Some, None, length-set}
+use Rattle.std.proofs.Common.{◌≡◌, ◌≢◌, ℕ, zero, suc, ◌+◌, ◌-◌, ◌<◌, ◌≤◌, ◌&&◌, nat_le, Bool, true, false, if◌then◌else◌, inl, inr, List, [], ◌∷◌, ◌++◌, length, refl, ap, sym, ◌∙◌, arith, subst, Some, None, length-set, length-append}
 use Rattle.std.specs.Prelude.{slice_get, slice_index_or, slice_set, slice_index}
-use Rattle.std.proofs.lemmas.Bool.{cases_eq}
+use Rattle.std.proofs.lemmas.Bool.{cases_eq, cases_Bool}
 use Rattle.std.proofs.lemmas.Bool.Decides.{nat_tests}
 use Rattle.std.proofs.lemmas.List.Sums.{fold-append}
 use Rattle.ti_types.specs.declared.answer.Answer.{Answer}
@@ -14,6 +14,7 @@ use Rattle.ti_types.specs.declared.numbers.ThreadNo.{ThreadNo}
 use Rattle.ti_types.specs.Frames as buffer
 use Rattle.ti_env.specs.Env.{EnvValue, call_refusal, spent_at, with_spent, with_caps}
 use Rattle.ti_replay.specs.Legal.{calls_spent}
+use Rattle.ti_replay.specs.Settling.{waits}
 use Rattle.ti_slot.specs.Waiting.{HasRoomFor, IsBufferOf}
 use Rattle.ti_agent.specs.Buffers.{HasJustRoomFor, IsJustBufferOf}
 use Rattle.ti_cell.specs.View.{subject_of}
@@ -21,11 +22,14 @@ use Rattle.ti_cell.proofs.Goes.{spent_more}
 use Rattle.ti_handshake.specs.Call.{GoesOn, HoldsWith, WaitsWith, IsTold, next_call, ticket_told}
 use Rattle.ti_types.specs.declared.event.Ticket.{Ticket}
 use Rattle.ti_slot.specs.declared.asked.Asked.{Asked as AskedOf}
+use Rattle.ti_slot.specs.declared.asked.Asked.TheVariants as asked
+use Rattle.ti_slot.specs.Thread.{IsLate}
+use Rattle.ti_slot.specs.Tickets.{same, without_ticket}
 use Rattle.ti_agent.specs.Posts.{Posts}
 use Rattle.ti_handshake.specs.Desk.{Place, IsSame}
 use Rattle.ti_replay.specs.Fronts.{stops_by, stops_after}
 use Rattle.ti_vmop.proofs.Each.{at_index, set_here}
-use Rattle.ti_agent.specs.Env.{Environment, IsDesk, IsWhole}
+use Rattle.ti_agent.specs.Env.{Environment, IsDesk, IsWhole, out_of, is_full}
 use Rattle.std.proofs.Common.{append-nil}
 use Rattle.ti_agent.specs.Asks.{Asks, Went, IsCalled, IsCalledBy, refusal_of, is_for_memory}
 use Rattle.std.proofs.Common.{ℤ, Option, Ok, Err, OnOk, OnErr, Result}
@@ -65,6 +69,43 @@ just_buffer limits call.GetWord b h = tt
 just_buffer limits (call.SetWord word) b h = tt
 just_buffer limits call.Pop b h = tt
 
+-- the desk there is about the thread, under the environment's limits
+pub desk_about : (s : Environment) (thread : ThreadNo) (c : Call) (p : Place) → IsWhole s → call_refusal s.state thread c ≡ None → p ≡ slice_index_or s.desks thread.0 p
+    → p.view.subject ≡ subject_of s.state.limits (record { 0 = thread.0 })
+desk_about s thread c p whole h e = (whole.desks thread.0 p (desk_at s thread c p whole h e)).about
+
+-- its desk has room for one call more
+pub has_room : (s : Environment) (thread : ThreadNo) (c : Call) (p : Place) → IsWhole s → call_refusal s.state thread c ≡ None → p ≡ slice_index_or s.desks thread.0 p
+    → length p.view.posted ≤ p.view.subject.limits.window
+has_room s thread c p whole h e =
+    let k = whole.desks thread.0 p (desk_at s thread c p whole h e) in
+    omega (arith, k.within, ap (λ x. x.limits.window) k.about)
+
+-- and for one that stays out, if it may wait and not as many are out as may be
+pub may_stay : (s : Environment) (thread : ThreadNo) (c : Call) (p : Place) → IsWhole s → call_refusal s.state thread c ≡ None → p ≡ slice_index_or s.desks thread.0 p
+    → (waits c && is_full s thread) ≡ false → waits c ≡ true → length p.view.posted < s.state.limits.window
+may_stay s thread c p whole h e free may =
+    let less : nat_le s.state.limits.window (length p.view.posted) ≡ false = ap (λ (o : Option Place). nat_le s.state.limits.window (out_of o)) (sym (desk_at s thread c p whole h e)) ∙ grind (arith, free, may) in
+    grind (arith, nat_tests, less)
+
+-- a call that may stay out is at most one ticket more
+pub one_more : (old : List Ticket) (c : Call) (r : AskedOf) (window : ℕ) → length old ≤ window → (waits c ≡ true → length old < window) → IsLate c r → length (old ++ ticket_told r) ≤ window
+one_more old c (asked.Answered a) window within free late = omega (arith, within, length-append old [])
+one_more old c (asked.Waiting k) window within free late = omega (arith, free late, length-append old (k ∷ []))
+
+-- and one that is collected is one less
+pub fewer : (t : Ticket) (tickets : List Ticket) → length (without_ticket t tickets) ≤ length tickets
+fewer t [] = omega arith
+fewer t (u ∷ tickets) =
+    elim (cases_Bool (same u t)) [
+      | inl it ↦ grind (arith, it)
+      | inr other ↦ grind (arith, other, fewer t tickets)
+    ]
+
+pub fewer_if : (b : Bool) (t : Ticket) (tickets : List Ticket) → length (if b then without_ticket t tickets else tickets) ≤ length tickets
+fewer_if true t tickets = fewer t tickets
+fewer_if false t tickets = omega arith
+
 pub has_buffer : (s : Environment) (thread : ThreadNo) (c : Call) (p : Place) (b : buffer.Trace) → IsWhole s → call_refusal s.state thread c ≡ None → p ≡ slice_index_or s.desks thread.0 p
     → IsJustBufferOf s.state.limits c b → IsBufferOf p.view.subject.limits c b
 has_buffer s thread c p b whole h e has =
@@ -99,8 +140,9 @@ abbrev pub after_call : Environment → ThreadNo → EnvValue → Place → Envi
 after_call s thread state q = record { env = s.env; state = state; desks = slice_set s.desks thread.0 q }
 
 pub whole_after : (s : Environment) (thread : ThreadNo) (c : Call) (p q : Place) (state : EnvValue) → IsWhole s → call_refusal s.state thread c ≡ None → p ≡ slice_index_or s.desks thread.0 p
-    → state ≡ with_spent s.state thread → IsSame p q → GoesOn p.view q.view → q.view.mine ≡ p.view.mine ++ next_call p.view p.env c ∷ [] → IsWhole (after_call s thread state q)
-whole_after s thread c p q state whole h e spend same_place goes_on more = subst (λ (z : EnvValue). IsWhole (after_call s thread z q)) (sym spend) done
+    → state ≡ with_spent s.state thread → IsSame p q → GoesOn p.view q.view → q.view.mine ≡ p.view.mine ++ next_call p.view p.env c ∷ [] → length q.view.posted ≤ s.state.limits.window
+    → IsWhole (after_call s thread state q)
+whole_after s thread c p q state whole h e spend same_place goes_on more within = subst (λ (z : EnvValue). IsWhole (after_call s thread z q)) (sym spend) done
   where
     here : (i : ℕ) → thread.0 ≡ i → IsDesk (after_call s thread (with_spent s.state thread) q) i q
     here i same =
@@ -115,6 +157,7 @@ whole_after s thread c p q state whole h e spend same_place goes_on more = subst
           about = goes_on.subject ∙ old.about;
           free = stops ∙ old.free;
           paid = omega (arith, old.paid, calls, spent, reach.1);
+          within = within;
         } in
         subst (λ (j : ℕ). IsDesk (after_call s thread (with_spent s.state thread) q) j q) same there
 
@@ -126,7 +169,7 @@ whole_after s thread c p q state whole h e spend same_place goes_on more = subst
       | inr other ↦
           let old = whole.desks i w (set_there s.desks thread.0 i q w other f) in
           let spent : slice_index (with_spent s.state thread).spent i ≡ slice_index s.state.spent i = set_other s.state.spent thread.0 i (spent_at s.state thread + 1) other in
-          record { env_is = old.env_is; about = old.about; free = old.free; paid = omega (arith, old.paid, spent) }
+          record { env_is = old.env_is; about = old.about; free = old.free; paid = omega (arith, old.paid, spent); within = old.within }
     ]
 
     done : IsWhole (after_call s thread (with_spent s.state thread) q)
@@ -156,6 +199,7 @@ whole_with s state whole spent limits = record {
     about = old.about ∙ ap (λ (l : Limits). subject_of l (record { 0 = i })) (sym limits);
     free = old.free;
     paid = subst (λ (z : List ℕ × ℕ). z.1 - slice_index z.0 i + calls_spent p.env p.view.mine ≤ z.1) (λ j. (sym spent j, (sym limits j).calls)) old.paid;
+    within = subst (λ (l : Limits). length p.view.posted ≤ l.window) (sym limits) old.within;
   });
 }
 
@@ -188,8 +232,9 @@ posts s new thread c p q r state whole h e spend same hold told is = record {
 }
 
 -- a desk saw more, and added nothing
-pub whole_seen : (s : Environment) (t : ℕ) (p q : Place) (tickets : List Ticket) → IsWhole s → slice_get s.desks t ≡ Some p → IsSame p q → WaitsWith p.view q.view [] tickets → IsWhole (record { env = s.env; state = s.state; desks = slice_set s.desks t q })
-whole_seen s t p q tickets whole at same hold = record {
+pub whole_seen : (s : Environment) (t : ℕ) (p q : Place) (tickets : List Ticket) → IsWhole s → slice_get s.desks t ≡ Some p → IsSame p q → WaitsWith p.view q.view [] tickets → length tickets ≤ length p.view.posted
+    → IsWhole (record { env = s.env; state = s.state; desks = slice_set s.desks t q })
+whole_seen s t p q tickets whole at same hold fewer = record {
   count = whole.count ∙ sym (length-set s.desks t q);
   some = omega (arith, whole.some, length-set s.desks t q);
   desks = desks;
@@ -205,6 +250,7 @@ whole_seen s t p q tickets whole at same hold = record {
           about = hold.goes.subject ∙ old.about;
           free = (λ j. stops_by (same.env j) (mine j)) ∙ old.free;
           paid = omega (arith, old.paid, calls);
+          within = omega (arith, old.within, fewer, ap (λ (l : List Ticket). length l) hold.posted);
         }
 
     desks : (i : ℕ) (w : Place) → slice_get (slice_set s.desks t q) i ≡ Some w → IsDesk (record { env = s.env; state = s.state; desks = slice_set s.desks t q }) i w
@@ -212,10 +258,10 @@ whole_seen s t p q tickets whole at same hold = record {
       | inl e ↦
           let is : q ≡ w = set_here s.desks t q w (ap (slice_get (slice_set s.desks t q)) e ∙ f) in
           let there : IsDesk s i w = subst (λ (z : ℕ × Place). IsDesk s z.0 z.1) (λ j. (e j, is j)) here in
-          record { env_is = there.env_is; about = there.about; free = there.free; paid = there.paid }
+          record { env_is = there.env_is; about = there.about; free = there.free; paid = there.paid; within = there.within }
       | inr other ↦
           let old = whole.desks i w (set_there s.desks t i q w other f) in
-          record { env_is = old.env_is; about = old.about; free = old.free; paid = old.paid }
+          record { env_is = old.env_is; about = old.about; free = old.free; paid = old.paid; within = old.within }
     ]
 
 pub desk_there : (s : Environment) (t : ℕ) (p : Place) → t < length s.desks → p ≡ slice_index_or s.desks t p → slice_get s.desks t ≡ Some p

@@ -1,7 +1,8 @@
 -- An environment, with a desk at each thread.
-use Rattle.std.specs.Prelude.{ℕ, ◌≡◌, ◌+◌, ◌-◌, ◌<◌, ◌≤◌, false, List, [], length, map, Some, slice_get}
+use Rattle.std.specs.Prelude.{ℕ, ◌≡◌, ◌+◌, ◌-◌, ◌<◌, ◌≤◌, nat_le, Bool, false, List, [], length, map, Option, Some, None, slice_get}
 use Rattle.atomic_table.specs.Seated.{TableId}
 use Rattle.ti_types.specs.declared.numbers.EnvNo.{EnvNo}
+use Rattle.ti_types.specs.declared.numbers.ThreadNo.{ThreadNo}
 use Rattle.ti_env.specs.Env.{EnvValue, spent_at}
 use Rattle.ti_replay.specs.Legal.{calls_spent}
 use Rattle.ti_cell.specs.View.{subject_of}
@@ -14,13 +15,26 @@ pub record Environment : Type 0 where
   pub state : EnvValue
   pub desks : List Place
 
--- a desk of the environment at thread i. None of its stops stands, and its thread has room for as many calls as the
--- environment has left there
+-- a desk of the environment at thread i. None of its stops stands, its thread has room for as many calls as the
+-- environment has left there, and no more of them are out than may be
 pub record IsDesk (s : Environment) (i : ℕ) (p : Place) : Type 0 where
   pub env_is : p.env ≡ s.env
   pub about : p.view.subject ≡ subject_of s.state.limits (record { 0 = i })
   pub free : stops_by p.env p.view.mine ≡ false
   pub paid : s.state.limits.calls - spent_at s.state (record { 0 = i }) + calls_spent p.env p.view.mine ≤ s.state.limits.calls
+  pub within : length p.view.posted ≤ s.state.limits.window
+
+-- how many calls of the environment are out at the thread
+abbrev pub out_of : Option Place → ℕ
+out_of (Some p) = length p.view.posted
+out_of None = 0
+
+abbrev pub outstanding : Environment → ThreadNo → ℕ
+outstanding s t = out_of (slice_get s.desks t.0)
+
+-- as many as may be
+abbrev pub is_full : Environment → ThreadNo → Bool
+is_full s t = nat_le s.state.limits.window (outstanding s t)
 
 -- what is true of an environment between calls
 pub record IsWhole (s : Environment) : Type 0 where

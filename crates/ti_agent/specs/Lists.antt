@@ -9,11 +9,10 @@ use Rattle.ti_types.specs.declared.error.TiError.{TiError}
 use Rattle.ti_types.specs.declared.event.Ticket.{Ticket}
 use Rattle.ti_types.specs.declared.numbers.ThreadNo.{ThreadNo}
 use Rattle.ti_types.specs.TiError.{number_of}
-use Rattle.ti_env.specs.Env.{call_refusal}
 use Rattle.ti_slot.specs.declared.asked.Asked.TheVariants.{Answered, Waiting}
 use Rattle.ti_slot.specs.Tickets.{same}
 use Rattle.ti_agent.specs.Env.{Environment}
-use Rattle.ti_agent.specs.Posts.{Posts, Collects, IsOut}
+use Rattle.ti_agent.specs.Posts.{posting_refusal, Posts, Collects, IsOut}
 use Rattle.ti_agent.specs.declared.lists.Posted.{Posted}
 use Rattle.ti_agent.specs.declared.lists.Posted.TheVariants.{Code, Waits}
 
@@ -30,7 +29,7 @@ IsPostedBy None old new c t (Code n) = (a : Answer) × Posts old new t c (Answer
 IsPostedBy None old new c t (Waits k) = Posts old new t c (Waiting k)
 
 abbrev pub IsPosted : Environment → Environment → Call → ThreadNo → Posted → Type 0
-IsPosted old new c t x = IsPostedBy (call_refusal old.state t c) old new c t x
+IsPosted old new c t x = IsPostedBy (posting_refusal old t c) old new c t x
 
 -- one at each thread after another
 abbrev pub PostsEach : Environment → Environment → Call → List ThreadNo → List Posted → Type 0

@@ -1,17 +1,25 @@
 -- Calls that are posted at a thread, and collected later.
-use Rattle.std.specs.Prelude.{◌≡◌, false, true, if◌then◌else◌, is_some, [], ◌∷◌, ◌++◌, Option, Some, None, IfSome, slice_get, slice_set}
+use Rattle.std.specs.Prelude.{◌≡◌, ◌&&◌, false, true, if◌then◌else◌, is_some, [], ◌∷◌, ◌++◌, Option, Some, None, IfSome, slice_get, slice_set}
 use Rattle.ti_types.specs.declared.answer.Answer.{Answer}
 use Rattle.ti_types.specs.declared.call.Call.{Call}
 use Rattle.ti_types.specs.declared.event.Ticket.{Ticket}
 use Rattle.ti_types.specs.declared.numbers.ThreadNo.{ThreadNo}
-use Rattle.ti_env.specs.Env.{with_spent}
+use Rattle.ti_types.specs.Refusing.{or_else}
+use Rattle.ti_types.specs.declared.error.TiError.{TiError}
+use Rattle.ti_types.specs.declared.error.TiError.TheVariants.{OutOfMemory}
+use Rattle.ti_env.specs.Env.{with_spent, call_refusal}
+use Rattle.ti_replay.specs.Settling.{waits}
 use Rattle.ti_replay.specs.Tickets.{reply_to}
 use Rattle.ti_slot.specs.declared.asked.Asked.{Asked as AskedOf}
 use Rattle.ti_slot.specs.declared.asked.Asked.TheVariants.{Answered, Waiting}
 use Rattle.ti_slot.specs.Tickets.{has, without_ticket}
 use Rattle.ti_handshake.specs.Call.{HoldsWith, WaitsWith, IsTold, next_call, ticket_told}
 use Rattle.ti_handshake.specs.Desk.{Place, IsSame, ReplyAtPlace}
-use Rattle.ti_agent.specs.Env.{Environment}
+use Rattle.ti_agent.specs.Env.{Environment, is_full}
+
+-- why a call is not posted at a thread: the environment refuses it; or it may wait, and as many are out there as may be
+abbrev pub posting_refusal : Environment → ThreadNo → Call → Option TiError
+posting_refusal s t c = or_else (call_refusal s.state t c) (if waits c && is_full s t then Some OutOfMemory else None)
 
 -- one call is spent at the thread, its desk posted it by one hold, and nothing else changed
 pub record Posts (old new : Environment) (thread : ThreadNo) (c : Call) (r : AskedOf) : Type 0 where
@@ -45,6 +53,19 @@ pub record LooksFor (old new : Environment) (ticket : Ticket) (r : Option Answer
   pub there : slice_get old.desks ticket.thread.0 ≡ Some before
   pub same : IsSame before after
   pub hold : HoldsWith before.view after.view [] (if is_some r then without_ticket ticket before.view.posted else before.view.posted)
+  pub once : IfSome r (λ a. has ticket after.view.posted ≡ false)
+  pub answer : r ≡ (if has ticket before.view.posted then reply_to before.view.subject.limits after.view.seen ticket else None)
+  pub place : IfSome r (λ a. ReplyAtPlace before.view.subject.limits after.view.seen ticket a)
+  pub new_is : new ≡ record { env = old.env; state = old.state; desks = slice_set old.desks ticket.thread.0 after }
+
+-- the desk at the ticket's thread looked for its answer, by holds and looks between them: if the ticket was out there and
+-- the answer was there at last, it was collected. Nothing else changed
+pub record WaitsFor (old new : Environment) (ticket : Ticket) (r : Option Answer) : Type 0 where
+  pub before : Place
+  pub after : Place
+  pub there : slice_get old.desks ticket.thread.0 ≡ Some before
+  pub same : IsSame before after
+  pub hold : WaitsWith before.view after.view [] (if is_some r then without_ticket ticket before.view.posted else before.view.posted)
   pub once : IfSome r (λ a. has ticket after.view.posted ≡ false)
   pub answer : r ≡ (if has ticket before.view.posted then reply_to before.view.subject.limits after.view.seen ticket else None)
   pub place : IfSome r (λ a. ReplyAtPlace before.view.subject.limits after.view.seen ticket a)

@@ -162,6 +162,7 @@ pub record IsHeld (s : Environment) (threads : Listed) (i : ℕ) (p : Place) : T
   pub stands : is_listed i threads ≡ true → is_standing p.view.subject.limits p.view.seen p.env ≡ true
   pub free : is_listed i threads ≡ false → stops_by p.env p.view.mine ≡ false
   pub paid : s.state.limits.calls - spent_at s.state (record { 0 = i }) + calls_spent p.env p.view.mine ≤ s.state.limits.calls
+  pub within : length p.view.posted ≤ s.state.limits.window
 
 -- an environment between the stops and the gos
 pub record AreHeld (s : Environment) (threads : Listed) : Type 0 where

@@ -22,7 +22,7 @@ pub(crate) fn all_threads(alloc: Global, count: u32) -> Result<Vec<ThreadNo>, Ti
 }
 
 /// The same, each with one read to come.
-pub(crate) fn all_with_one_read(alloc: Global, count: u32) -> Result<Vec<(ThreadNo, u32)>, TiError>
+pub(crate) fn all_with_one_read(alloc: Global, count: u32) -> Result<Vec<(ThreadNo, u64)>, TiError>
     ensures all { IfOk result (λ v. v.items ≡ all_once count) }
     ensures memory { IfErr result (λ e. e ≡ OutOfMemory) }
 {
@@ -58,12 +58,12 @@ pub(crate) fn count_each(
     alloc: Global,
     state: &EnvState,
     threads: &[ThreadNo],
-) -> Result<Vec<u32>, TiError>
+) -> Result<Vec<u64>, TiError>
     requires there { are_there (length state.now.spent) threads.now ≡ true }
     ensures counts { IfOk result (λ v. AreCounts (length state.now.spent) threads.now v.items) }
     ensures paid { MatchResult result (λ _. are_paid state.now (each_once (length state.now.spent) threads.now) ≡ true) (λ e. IsNotCounted state.now threads.now e) }
 {
-    let mut counts = vec![in alloc; 0u32; state.threads() as usize]?;
+    let mut counts = vec![in alloc; 0u64; state.threads() as usize]?;
     for i in 0..threads.len() {
         let thread = threads[i];
         let reads = state.left(thread).saturating_sub(1);
@@ -81,8 +81,8 @@ pub(crate) fn count_each(
 pub(crate) fn counted_threads(
     alloc: Global,
     count: u32,
-    counts: &[u32],
-) -> Result<Vec<(ThreadNo, u32)>, TiError>
+    counts: &[u64],
+) -> Result<Vec<(ThreadNo, u64)>, TiError>
     requires counts { length counts.now ≡ count }
     ensures listed { IfOk result (λ v. (threads : List Thread) → AreCounts count threads counts.now → v.items ≡ each_once count threads) }
     ensures memory { IfErr result (λ e. e ≡ OutOfMemory) }

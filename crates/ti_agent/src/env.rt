@@ -1,13 +1,14 @@
 //! An environment, its desks, and its calls at one thread by JVM TI's names.
-ghost use Rattle.std.specs.Prelude.{◌≡◌, ◌↔◌, ◌<◌, length, true, false, None, Some, Ok, IfOk, IfErr, OnOk, OnErr, IsOk};
+ghost use Rattle.std.specs.Prelude.{◌≡◌, ◌&&◌, ◌↔◌, ◌<◌, length, true, false, None, Some, Ok, IfOk, IfErr, OnOk, OnErr, IsOk};
 ghost use Rattle.ti_types.specs.Answer.{said};
 ghost use Rattle.ti_types.specs.Caps.{caps_with, caps_without, can_be_had, holds_all};
 ghost use Rattle.ti_types.specs.declared.call.Call.TheVariants as call;
 ghost use Rattle.ti_types.specs.declared.error.TiError.TheVariants.{NotAvailable};
 ghost use Rattle.ti_env.specs.Env.{call_refusal, with_caps, with_word};
 ghost use Rattle.ti_replay.specs.Admission.{takes_buffer};
+ghost use Rattle.ti_replay.specs.Settling.{waits};
 ghost use Rattle.ti_agent.specs.Buffers.{IsJustBufferOf};
-ghost use Rattle.ti_agent.specs.Env.{Environment, AreNewDesks};
+ghost use Rattle.ti_agent.specs.Env.{Environment, AreNewDesks, is_full};
 ghost use Rattle.ti_agent.specs.Posts.{Posts};
 ghost use Rattle.ti_agent.specs.Asks.{Went, IsCalled, IsKind, is_for_memory, in_state, in_count, in_word, in_location, in_trace, in_done};
 
@@ -17,6 +18,7 @@ use std::marker::Model;
 use std::sync::Wait;
 use ti_env::EnvState;
 use ti_handshake::Desk;
+use ti_replay::rules::waits as may_wait;
 use ti_slot::Asked;
 use ti_types::{Answer, Call, Caps, EnvNo, Frame, ThreadNo, TiError, TraceBuf};
 
@@ -48,6 +50,9 @@ impl<'a> Env<'a> {
         requires desks { AreNewDesks env state desks.items }
         ensures { result ≡ record { env = env; state = state; desks = desks.entry.items } }
     {
+        for desk in &desks {
+            desk.facts();
+        }
         Env { env, state, desks }
     }
 
@@ -80,9 +85,18 @@ impl<'a> Env<'a> {
     /// Whether a call reaches its thread, as `EnvState::admit` says.
     pub(crate) fn admit(&self, thread: ThreadNo, call: Call) -> Result<(), TiError>
         ensures admitted { OnOk result (call_refusal self.now.state thread call ≡ None) }
+        ensures there { OnOk result (thread.0 < length self.now.desks) }
         ensures refused { IfErr result (λ e. call_refusal self.now.state thread call ≡ Some e) }
     {
         self.state.admit(thread, call)
+    }
+
+    /// Whether a call may wait, and as many of the environment's are out at the thread as may be.
+    pub(crate) fn has_no_room(&self, thread: ThreadNo, call: Call) -> bool
+        requires there { thread.0 < length self.now.desks }
+        ensures { result ≡ (waits call && is_full self.now thread) }
+    {
+        may_wait(call) && self.desks[thread.0 as usize].out() >= self.state.limits().window
     }
 
     /// Whether these capabilities are held.
@@ -92,7 +106,7 @@ impl<'a> Env<'a> {
         self.state.caps().has(caps)
     }
 
-    /// Posts a call that was admitted. The buffer has no more room than the call takes.
+    /// Posts a call that was admitted, for which there is room. The buffer has no more room than the call takes.
     pub(crate) fn post_one<R: Wait>(
         &mut self,
         rt: &R,
@@ -101,6 +115,7 @@ impl<'a> Env<'a> {
         buf: TraceBuf,
     ) -> Asked
         requires admitted { call_refusal self.old.state thread call ≡ None }
+        requires room { (waits call && is_full self.old thread) ≡ false }
         requires buf { IsJustBufferOf self.old.state.limits call buf }
         ensures posts { Posts self.old self.new thread call result }
     {

@@ -42,6 +42,9 @@ impl<'a> Env<'a> {
         if let Err(error) = self.admit(thread, call) {
             return Posted::Code(error.number());
         }
+        if self.has_no_room(thread, call) {
+            return Posted::Code(TiError::OutOfMemory.number());
+        }
         match self.post_one(rt, thread, call, TraceBuf::none()) {
             Asked::Answered(answer) => Posted::Code(code_in(&answer)),
             Asked::Waiting(ticket) => Posted::Waits(ticket),
@@ -116,7 +119,8 @@ impl<'a> Env<'a> {
 
     /// SuspendThreadList (JVM TI 11): one code for each element, 0 or the number of its error. All are posted, in the
     /// list's order, before the first is waited for; a refused element keeps no other from its turn. It spends one call
-    /// for each element that reaches its thread.
+    /// for each element that reaches its thread. An element's number is 110 if `window` calls of this environment are out
+    /// at its thread, those of the list included; such an element does not reach it.
     ///
     /// 99 MUST_POSSESS_CAPABILITY and then 110 OUT_OF_MEMORY for the whole call; then nothing was posted.
     pub fn suspend_thread_list<R: Wait>(

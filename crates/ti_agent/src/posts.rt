@@ -4,15 +4,16 @@ ghost use Rattle.std.specs.Option.{option_map};
 ghost use Rattle.ti_types.specs.Answer.{said};
 ghost use Rattle.ti_types.specs.Refusing.{or_else};
 ghost use Rattle.ti_types.specs.declared.error.TiError.TheVariants.{OutOfMemory};
-ghost use Rattle.ti_env.specs.Env.{call_refusal};
 ghost use Rattle.ti_replay.specs.Admission.{takes_buffer};
 ghost use Rattle.ti_replay.specs.Legal.{is_well_formed};
 ghost use Rattle.ti_agent.specs.Buffers.{IsJustBufferOf};
-ghost use Rattle.ti_agent.specs.Posts.{Posts, Collects, LooksFor, IsOut, IsOutIfWaiting};
+ghost use Rattle.ti_agent.specs.Posts.{posting_refusal, Posts, Collects, LooksFor, WaitsFor, IsOut, IsOutIfWaiting};
 
 use crate::env::Env;
 use std::alloc::Global;
+use std::rt::Clock;
 use std::sync::Wait;
+use std::time::Duration;
 use ti_slot::Asked;
 use ti_types::{Answer, Call, Limits, ThreadNo, TiError, Ticket, TraceBuf};
 
@@ -40,7 +41,7 @@ impl<'a> Env<'a> {
     ///
     /// Refused before it reaches the thread with 99 MUST_POSSESS_CAPABILITY, 10 INVALID_THREAD, 103 ILLEGAL_ARGUMENT for a
     /// negative count or depth, 209 (this profile) if the environment has no call left there, and then 110 OUT_OF_MEMORY
-    /// for a trace's frames. Then nothing changes.
+    /// if the call may wait and `window` are out there, and for a trace's frames. Then nothing changes.
     pub fn post<R: Wait>(
         &mut self,
         rt: &R,
@@ -48,14 +49,17 @@ impl<'a> Env<'a> {
         thread: ThreadNo,
         call: Call,
     ) -> Result<Asked, TiError>
-        ensures admitted { IfOk result (λ a. call_refusal self.old.state thread call ≡ None) }
+        ensures admitted { IfOk result (λ a. posting_refusal self.old thread call ≡ None) }
         ensures posts { IfOk result (λ a. Posts self.old self.new thread call a) }
         ensures out { IfOk result (λ a. IsOutIfWaiting self.new a) }
-        ensures refused { IfErr result (λ e. Some e ≡ or_else (call_refusal self.old.state thread call) (if takes_buffer call then Some OutOfMemory else None)) }
+        ensures refused { IfErr result (λ e. Some e ≡ or_else (posting_refusal self.old thread call) (if takes_buffer call then Some OutOfMemory else None)) }
         ensures unchanged { IfErr result (λ e. self.new ≡ self.old) }
     {
         if let Err(error) = self.admit(thread, call) {
             return Err(error);
+        }
+        if self.has_no_room(thread, call) {
+            return Err(TiError::OutOfMemory);
         }
         match buffer_for(alloc, self.state.limits(), call) {
             Ok(buf) => Ok(self.post_one(rt, thread, call, buf)),
@@ -76,6 +80,26 @@ impl<'a> Env<'a> {
             return None;
         }
         self.desks[at].try_collect(rt, ticket)
+    }
+
+    /// The same, by holds until the answer is there or the time is over. Meanwhile it sleeps.
+    ///
+    /// `None` when the time is over, or the clock can't be read. Then the ticket is out as before, so that a call can be
+    /// given more time, or be left. A ticket that is not out at this environment is waited for in vain.
+    pub fn collect_within<R: Wait + Clock>(
+        &mut self,
+        rt: &R,
+        ticket: Ticket,
+        time: Duration,
+    ) -> Option<Answer>
+        ensures waits { ticket.thread.0 < length self.old.desks → WaitsFor self.old self.new ticket (option_map said result) }
+        ensures nobody { length self.old.desks ≤ ticket.thread.0 → (self.new ≡ self.old) × (result ≡ None) }
+    {
+        let at = ticket.thread.0 as usize;
+        if at >= self.desks.len() {
+            return None;
+        }
+        self.desks[at].collect_within(rt, ticket, time)
     }
 
     /// The answer to a call that was posted and not collected, for which it may wait. The ticket is out no more then.

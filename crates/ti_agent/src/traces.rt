@@ -99,7 +99,7 @@ fn trace_each<R: Wait>(
     env: EnvNo,
     desks: &mut [Desk<'_>],
     state: &mut EnvState,
-    stopping: &[(ThreadNo, u32)],
+    stopping: &[(ThreadNo, u64)],
     threads: &[ThreadNo],
     max_count: i32,
     bufs: Vec<TraceBuf>,
@@ -172,7 +172,7 @@ impl<'a> Env<'a> {
         rt: &R,
         alloc: Global,
         turn: &Mutex<VmTurn>,
-        stopping: &[(ThreadNo, u32)],
+        stopping: &[(ThreadNo, u64)],
         threads: &[ThreadNo],
         max_count: i32,
     ) -> Result<(Vec<StackInfo>, Round), TiError>

@@ -1,5 +1,5 @@
 -- What stays of a history as it grows, and which of its entries a seat makes.
-use Rattle.std.proofs.Common.{◌≡◌, ◌≢◌, ℕ, ◌*◌, ◌≤◌, ◌^◌, eqb, List, [], ◌∷◌, ◌++◌, length, take, cond, Bool, true, refl, sym, ap, ◌∙◌, append_assoc, append-nil, arith, eq-eqb, ne_eqb, length-append}
+use Rattle.std.proofs.Common.{◌<◌, ◌≡◌, ◌≢◌, ℕ, ◌*◌, ◌≤◌, ◌^◌, eqb, List, [], ◌∷◌, ◌++◌, length, take, cond, Bool, true, refl, sym, ap, ◌∙◌, append_assoc, append-nil, arith, eq-eqb, ne_eqb, length-append}
 use Rattle.std.proofs.lemmas.List.{take-append-le}
 use Rattle.std.proofs.lemmas.Nat.{mul-le}
 use Rattle.std.proofs.lemmas.List.Elements.{filter-append}
@@ -58,8 +58,8 @@ each_push P [] x h p = (p, tt)
 each_push P (y ∷ ys) x h p = (h.0, each_push P ys x h.1 p)
 
 -- a legal history is short enough to be counted in the word
-pub short : (limits : Limits) (history : List Entry) → is_legal limits history ≡ true → length history ≤ 2 ^ 60
+pub short : (limits : Limits) (history : List Entry) → is_legal limits history ≡ true → length history < 2 ^ 61
 short limits history legal =
     let r = limits.in_range in
-    let calls : limits.envs * limits.calls ≤ 32 * 1024 = mul-le limits.envs limits.calls 32 1024 r.1.1 r.4.1 in
+    let calls : limits.envs * limits.calls ≤ 32 * 2 ^ 52 = mul-le limits.envs limits.calls 32 (2 ^ 52) r.1.1 r.4.1 in
     omega (arith, length_bounded limits history legal, r.3.1, calls)

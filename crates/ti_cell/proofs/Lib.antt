@@ -7,3 +7,4 @@ pub mod Steps
 pub mod Ends
 pub mod Goes
 pub mod Refused
+pub mod Tickets

@@ -19,6 +19,7 @@ use crossbeam_utils::Backoff;
 use std::alloc::{AllocError, Global};
 use std::marker::{Model, PhantomData};
 use std::sync::Wait;
+use std::time::Duration;
 use ti_slot::Slot;
 use ti_types::{Limits, ThreadNo, TiError};
 
@@ -70,6 +71,7 @@ impl ThreadCell {
             seat: pass,
             number: 0,
             count: 0,
+            out: 0,
             role: PhantomData,
         };
         Ok((cell, own, seats))
@@ -112,6 +114,7 @@ impl ThreadCell {
             seat,
             number,
             count: 0,
+            out: 0,
             role: PhantomData,
         }
     }
@@ -132,6 +135,7 @@ impl ThreadCell {
             mut seat,
             number,
             count: _,
+            out: _,
             role,
         } = seat;
         let slot = self.take(rt, &mut seat);
@@ -157,7 +161,7 @@ impl ThreadCell {
                 return slot;
             }
             if backoff.is_completed() {
-                self.sleep(rt, Wish::Free);
+                self.sleep(rt, Wish::Free, None);
                 backoff.reset();
             } else {
                 backoff.snooze();
@@ -178,6 +182,7 @@ impl ThreadCell {
             mut seat,
             number,
             count,
+            out,
             role,
         } = seat;
         match self.try_take(&mut seat) {
@@ -192,6 +197,7 @@ impl ThreadCell {
                 seat,
                 number,
                 count,
+                out,
                 role,
             }),
         }
@@ -228,24 +234,33 @@ impl ThreadCell {
     /// Sleeps where the thread's history has no more entries than the seat has seen, until somebody stores. It may return
     /// sooner.
     pub fn sleep_without_news<K, R: Wait>(&self, rt: &R, seat: &CellSeat<K>) {
-        self.sleep(rt, Wish::More(seat.count as u64));
+        self.sleep(rt, Wish::More(seat.count as u64), None);
+    }
+
+    /// The same, for no longer than this.
+    pub fn sleep_without_news_for<K, R: Wait>(&self, rt: &R, seat: &CellSeat<K>, time: Duration) {
+        self.sleep(rt, Wish::More(seat.count as u64), Some(time));
     }
 
     /// Sleeps where the thread is barred, until a store leaves it not barred. Other stores do not wake it. It may return
     /// sooner.
     pub fn sleep_while_barred<R: Wait>(&self, rt: &R) {
-        self.sleep(rt, Wish::Unbarred);
+        self.sleep(rt, Wish::Unbarred, None);
     }
 
-    /// Sleeps on the word where it does not show what is waited for, until somebody is called for it (`Sleepers`).
+    /// Sleeps on the word where it does not show what is waited for, until somebody is called for it (`Sleepers`), or the
+    /// time is over.
     #[inline(never)]
-    fn sleep<R: Wait>(&self, rt: &R, wish: Wish) {
+    fn sleep<R: Wait>(&self, rt: &R, wish: Wish, time: Option<Duration>) {
         self.sleepers.add(wish);
         let word = Word {
             bits: self.table.shared.peek(0),
         };
         if !wish.is_met(word) {
-            self.table.shared.park(rt, 0, word.low_half());
+            match time {
+                Some(time) => self.table.shared.park_timeout(rt, 0, word.low_half(), time),
+                None => self.table.shared.park(rt, 0, word.low_half()),
+            }
         }
         self.sleepers.remove(wish);
     }
@@ -300,6 +315,7 @@ impl ThreadCell {
             seat,
             number: _,
             count: _,
+            out: _,
             role: _,
         } = seat;
         self.table.shared.join_seat::<Returns>(&mut own.seat, seat);
@@ -329,6 +345,7 @@ impl ThreadCell {
             seat,
             number: _,
             count: _,
+            out: _,
             role: _,
         } = seat;
         let mut closed = table.close_with(seat);

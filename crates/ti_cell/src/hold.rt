@@ -54,11 +54,13 @@ impl<'a, K> Hold<'a, K> {
             role,
         } = self;
         let count = slot.len();
+        let out = slot.out_of(number);
         cell.give(&mut seat, slot);
         CellSeat {
             seat,
             number,
             count,
+            out,
             role,
         }
     }

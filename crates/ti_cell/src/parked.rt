@@ -1,14 +1,16 @@
 //! A slot as it lies in its cell.
-ghost use Rattle.std.specs.Prelude.{◌≡◌, length, true, IfOk, IfErr};
+ghost use Rattle.std.specs.Prelude.{◌≡◌, ◌≤◌, length, true, IfOk, IfErr};
 ghost use Rattle.ti_types.specs.declared.error.TiError.TheVariants as TiError;
 ghost use Rattle.ti_replay.specs.Legal.{is_legal, is_armed};
+ghost use Rattle.ti_replay.specs.Makers.{made_by};
 ghost use Rattle.ti_replay.specs.View.{view, is_barred};
 ghost use Rattle.ti_slot.specs.Thread.{new_slot};
+ghost use Rattle.ti_cell.specs.View.{tickets_of};
 
 use std::alloc::{AllocError, Global};
 use std::marker::Model;
 use ti_slot::Slot;
-use ti_types::{Limits, ThreadNo, TiError};
+use ti_types::{EnvNo, Limits, ThreadNo, TiError};
 
 /// A slot that is moved by a pointer. Contracts see it as the slot.
 #[derive(Drop)]
@@ -40,6 +42,18 @@ impl Parked {
         ensures legal { is_legal self.now.limits self.now.history ≡ true }
     {
         self.slot.len()
+    }
+
+    /// How many calls that were asked from a seat wait, or have an answer that is not collected.
+    pub fn out_of(&self, number: u32) -> u32
+        ensures out { result ≡ length (tickets_of number self.now.uncollected) }
+        ensures few { length (tickets_of number self.now.uncollected) ≤ length (made_by number self.now.history) }
+    {
+        self.slot.tickets();
+        match number.checked_sub(1) {
+            Some(env) => self.slot.held(EnvNo(env)),
+            None => 0,
+        }
     }
 
     pub fn armed(&self) -> bool

@@ -1,5 +1,5 @@
 //! The seats at a cell: the owner's, and one for each environment.
-ghost use Rattle.std.specs.Prelude.{◌≡◌, [], true, false, length};
+ghost use Rattle.std.specs.Prelude.{◌≡◌, ◌≤◌, [], true, false, length};
 ghost use Rattle.ti_replay.specs.Legal.{is_legal};
 ghost use Rattle.ti_replay.specs.Makers.{made_by};
 
@@ -21,8 +21,8 @@ pub type OwnSeat = CellSeat<Own>;
 
 pub type EnvSeat = CellSeat<Env>;
 
-/// A seat of a cell, in the role `K`: what one user of the cell knows. Of that it has at run time its number and how many
-/// entries it has seen, and it is moved to where its user runs. Contracts see it as its cell and a `View`.
+/// A seat of a cell, in the role `K`: what one user of the cell knows. Of that it has at run time its number, how many
+/// entries it has seen, and how many of its calls are out. It is moved to where its user runs. Contracts see it as its cell and a `View`.
 #[derive(Drop)]
 pub struct CellSeat<K> {
     pub(crate) seat: Pass,
@@ -30,11 +30,13 @@ pub struct CellSeat<K> {
     pub(crate) number: u32,
     /// How many entries the seat has seen.
     pub(crate) count: usize,
+    /// How many of its calls wait, or have an answer that is not collected.
+    pub(crate) out: u32,
     pub(crate) role: PhantomData<K>,
 }
 
 impl<K> Model for CellSeat<K> {
-    ghost use Rattle.std.specs.Prelude.{◌≡◌, [], true, false, length};
+    ghost use Rattle.std.specs.Prelude.{◌≡◌, ◌≤◌, [], true, false, length};
     ghost use Rattle.ti_replay.specs.Legal.{is_legal};
     ghost use Rattle.ti_replay.specs.Makers.{made_by};
     ghost use Rattle.ti_cell.specs.Seats.{Sitting};
@@ -43,17 +45,18 @@ impl<K> Model for CellSeat<K> {
 
     ghost view = { λ s. record { cell = s.seat.table_id; view = s.seat.me.0 } };
 
-    ghost invariant = { λ s. (s.seat.me.1 ≡ []) × (s.seat.me.0.holds ≡ false) × (s.seat.me.0.gone ≡ false) × (is_legal s.seat.me.0.subject.limits s.seat.me.0.seen ≡ true) × (s.seat.me.0.mine ≡ made_by s.seat.me.0.number s.seat.me.0.seen) × (s.number ≡ s.seat.me.0.number) × (s.count ≡ length s.seat.me.0.seen) × (s.seat.me.0.found ≡ []) };
+    ghost invariant = { λ s. (s.seat.me.1 ≡ []) × (s.seat.me.0.holds ≡ false) × (s.seat.me.0.gone ≡ false) × (is_legal s.seat.me.0.subject.limits s.seat.me.0.seen ≡ true) × (s.seat.me.0.mine ≡ made_by s.seat.me.0.number s.seat.me.0.seen) × (s.number ≡ s.seat.me.0.number) × (s.count ≡ length s.seat.me.0.seen) × (s.seat.me.0.found ≡ []) × (s.out ≡ length s.seat.me.0.posted) × (length s.seat.me.0.posted ≤ length s.seat.me.0.mine) };
 }
 
 impl<K> CellSeat<K> {
     /// What is always true of a seat: it holds nothing and has not come back, and what was seen is legal, and has of the
-    /// seat's entries just those that it made.
+    /// seat's entries just those that it made. No more of its calls are out than it made entries.
     pub fn facts(&self)
         ensures rests { (self.now.view.holds ≡ false) × (self.now.view.found ≡ []) }
         ensures there { self.now.view.gone ≡ false }
         ensures legal { is_legal self.now.view.subject.limits self.now.view.seen ≡ true }
         ensures mine { self.now.view.mine ≡ made_by self.now.view.number self.now.view.seen }
+        ensures few { length self.now.view.posted ≤ length self.now.view.mine }
     {
         let _ = &self.seat;
     }
@@ -70,5 +73,12 @@ impl<K> CellSeat<K> {
         ensures { result ≡ length self.now.view.seen }
     {
         self.count
+    }
+
+    /// How many of the seat's calls wait, or have an answer that is not collected (this profile).
+    pub fn out(&self) -> u32
+        ensures { result ≡ length self.now.view.posted }
+    {
+        self.out
     }
 }

@@ -14,7 +14,7 @@ pub struct Word {
 impl Word {
     /// The word of a cell that nobody holds.
     pub fn free(count: usize, armed: bool, barred: bool) -> Word
-        requires count { count ≤ 2 ^ 60 }
+        requires count { count < 2 ^ 61 }
         ensures bits { result.bits ≡ word_at count barred armed false }
     {
         Word {

@@ -69,12 +69,17 @@ parts_passed limits h (Some f) (Some l) x p k = record {
   kept = k.kept;
 }
 
+-- limits that stay are as wide as they were
+still_wide : (t u : Thread) → u.limits ≡ t.limits → t.limits.calls ≤ t.limits.window → u.limits.calls ≤ u.limits.window
+still_wide t u e w = subst (λ (z : Limits). z.calls ≤ z.window) (sym e) w
+
 -- a call, a stop or a go
 pub whole_passed : (t u : Thread) (f : Option Stack) (l : Option Steps) (x : Entry) → is_passed x ≡ true → IsWhole t f l
     → u.limits ≡ t.limits → u.history ≡ t.history ++ x ∷ [] → is_legal u.limits u.history ≡ true → IsWhole u f l
 whole_passed t u f l x p k el eh legal = record {
   legal = legal;
   parts = rw (el, eh) (parts_passed t.limits t.history f l x p k.parts);
+  wide = still_wide t u el k.wide;
 }
 
 -- the same, where the thread's own answer may be a refusal
@@ -87,6 +92,7 @@ whole_held t u f l (Some error) x p k e legal = record {
       let el : u.limits ≡ t.limits = ap (λ (z : Thread). z.limits) e in
       let eh : u.history ≡ t.history = ap (λ (z : Thread). z.history) e ∙ append-nil t.history in
       rw (el, eh) k.parts;
+  wide = still_wide t u (ap (λ (z : Thread). z.limits) e) k.wide;
 }
 
 read_mode : (limits : Limits) (h : List Entry) (env : EnvNo) (n : ℤ) → (view limits (h ++ Read env n ∷ [])).mode ≡ (view limits h).mode
@@ -109,6 +115,7 @@ whole_read t u f l env n None er k e legal = record {
       let el : u.limits ≡ t.limits = ap (λ (z : Thread). z.limits) e in
       let eh : u.history ≡ t.history ++ Read env n ∷ [] = ap (λ (z : Thread). z.history) e in
       rw (el, eh) (parts_read t.limits t.history f l env n (read_rests t.limits t.history env t n (sym er)) k.parts);
+  wide = still_wide t u (ap (λ (z : Thread). z.limits) e) k.wide;
 }
 whole_read t u f l env n (Some error) er k e legal = record {
   legal = legal;
@@ -116,6 +123,7 @@ whole_read t u f l env n (Some error) er k e legal = record {
       let el : u.limits ≡ t.limits = ap (λ (z : Thread). z.limits) e in
       let eh : u.history ≡ t.history = ap (λ (z : Thread). z.history) e ∙ append-nil t.history in
       rw (el, eh) k.parts;
+  wide = still_wide t u (ap (λ (z : Thread). z.limits) e) k.wide;
 }
 
 -- whether a thread runs after one more entry
@@ -127,8 +135,8 @@ runs-snoc limits h x =
 
 -- the thread gets its frames, and a log with nothing in it
 pub whole_away : (t u : Thread) (x : Entry) (f : Stack) (l : Steps) → ((r : Bool) → runs_after r x ≡ true) → u ≡ with_more t (x ∷ []) → f.frames ≡ (view u.limits u.history).frames → f.depth ≡ t.limits.depth
-    → l.steps ≡ [] → (l.room ≡ t.limits.own) × (l.kept ≡ t.limits.kept) → is_legal u.limits u.history ≡ true → IsWhole u (Some f) (Some l)
-whole_away t u x f l a e newest depth none room legal =
+    → l.steps ≡ [] → (l.room ≡ t.limits.own) × (l.kept ≡ t.limits.kept) → t.limits.calls ≤ t.limits.window → is_legal u.limits u.history ≡ true → IsWhole u (Some f) (Some l)
+whole_away t u x f l a e newest depth none room wide legal =
     let el : u.limits ≡ t.limits = ap (λ (z : Thread). z.limits) e in
     let eh : u.history ≡ t.history ++ x ∷ [] = ap (λ (z : Thread). z.history) e in
     record {
@@ -141,26 +149,28 @@ whole_away t u x f l a e newest depth none room legal =
         room = room.0 ∙ ap (λ (z : Limits). z.own) (sym el);
         kept = room.1 ∙ ap (λ (z : Limits). z.kept) (sym el);
       };
+      wide = still_wide t u el wide;
     }
 
 -- a thread that returns has a log already
 pub whole_back : (t u : Thread) (g : Option Stack) (f : Stack) (l : Option Steps) → IsWhole t g l → own_refusal t.limits (view t.limits t.history) (own_spent t.history) Back ≡ None
     → u ≡ with_more t (Back ∷ []) → f.frames ≡ (view u.limits u.history).frames → f.depth ≡ t.limits.depth → is_legal u.limits u.history ≡ true → IsWhole u (Some f) l
 whole_back t u None f None k free e newest depth legal = let n : is_new (view t.limits t.history).mode ≡ true = k.parts.1 in absurd (grind (arith, n, free))
-whole_back t u None f (Some l) k free e newest depth legal = whole_away t u Back f l (λ r. refl) e newest depth k.parts.0.none k.parts.1 legal
+whole_back t u None f (Some l) k free e newest depth legal = whole_away t u Back f l (λ r. refl) e newest depth k.parts.0.none k.parts.1 k.wide legal
 whole_back t u (Some g) f None k free e newest depth legal = absurd k.parts
 whole_back t u (Some g) f (Some l) k free e newest depth legal = let n : is_running (view t.limits t.history).mode ≡ true = k.parts.runs in absurd (grind (arith, n, free))
 
 -- a thread that hands over or ends
-pub whole_home : (t u : Thread) (x : Entry) (steps : List Step) (l : Steps) → is_hand_over x ≡ true → u ≡ with_more t (steps_of steps ++ x ∷ []) → l.steps ≡ [] → (l.room ≡ t.limits.own) × (l.kept ≡ t.limits.kept) → is_legal u.limits u.history ≡ true
-    → IsWhole u None (Some l)
-whole_home t u x steps l hand e none room legal =
+pub whole_home : (t u : Thread) (x : Entry) (steps : List Step) (l : Steps) → is_hand_over x ≡ true → u ≡ with_more t (steps_of steps ++ x ∷ []) → l.steps ≡ [] → (l.room ≡ t.limits.own) × (l.kept ≡ t.limits.kept) → t.limits.calls ≤ t.limits.window
+    → is_legal u.limits u.history ≡ true → IsWhole u None (Some l)
+whole_home t u x steps l hand e none room wide legal =
     let el : u.limits ≡ t.limits = ap (λ (z : Thread). z.limits) e in
     let eh : u.history ≡ (t.history ++ steps_of steps) ++ x ∷ [] = ap (λ (z : Thread). z.history) e ∙ sym (append_assoc t.history (steps_of steps) (x ∷ [])) in
     let off : runs_after (is_running (view t.limits (t.history ++ steps_of steps)).mode) x ≡ false = hand_stops (is_running (view t.limits (t.history ++ steps_of steps)).mode) x hand in
     record {
       legal = legal;
       parts = (record { rests = rw (el, eh) (runs-snoc t.limits (t.history ++ steps_of steps) x ∙ off); none = none }, (room.0 ∙ ap (λ (z : Limits). z.own) (sym el), room.1 ∙ ap (λ (z : Limits). z.kept) (sym el)));
+      wide = still_wide t u el wide;
     }
   where
     hand_stops : (r : Bool) (x : Entry) → is_hand_over x ≡ true → runs_after r x ≡ false
@@ -235,6 +245,7 @@ whole_stepped t f g l m step k free eg em =
         room = ap (λ (z : Steps). z.room) em ∙ k.parts.room;
         kept = ap (λ (z : Steps). z.kept) em ∙ k.parts.kept;
       };
+      wide = k.wide;
     }
 
 -- what is refused leaves the thread

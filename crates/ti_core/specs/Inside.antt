@@ -1,5 +1,5 @@
 -- Where a thread's frames and its log are.
-use Rattle.std.specs.Prelude.{◌≡◌, true, false, List, [], ◌++◌, Option, Some, None}
+use Rattle.std.specs.Prelude.{◌≤◌, ◌≡◌, true, false, List, [], ◌++◌, Option, Some, None}
 use Rattle.ti_types.specs.declared.step.Step.{Step}
 use Rattle.ti_types.specs.declared.limits.Limits.{Limits}
 use Rattle.ti_types.specs.declared.entry.Entry.{Entry}
@@ -47,3 +47,4 @@ AreWith limits history (Some f) (Some l) = RunsWith limits history f l
 pub record IsWhole (slot : Thread) (frames : Option Stack) (log : Option Steps) : Type 0 where
   pub legal : is_legal slot.limits slot.history ≡ true
   pub parts : AreWith slot.limits slot.history frames log
+  pub wide : slot.limits.calls ≤ slot.limits.window

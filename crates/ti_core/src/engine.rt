@@ -100,7 +100,8 @@ fn stands(limits: &Limits, threads: &[OneThread], env: EnvNo, thread: ThreadNo) 
 impl Core {
     /// A core in which nothing has happened, with all the room that it will need. No ticket of it is out.
     ///
-    /// 110 where memory runs out; then nothing is made.
+    /// 110 where memory runs out, and for limits whose `window` is less than their `calls`, such as `Limits::lasting` gives:
+    /// a core keeps the answer to each call until it is taken. Then nothing is made.
     #[tactic(auto, using(crate::proofs::NewLaws::new_stands, crate::proofs::NewLaws::none_out))]
     pub fn new(alloc: Global, limits: Limits) -> Result<Self, TiError>
         ensures limits { IfOk result (λ c. c.limits ≡ limits) }

@@ -47,10 +47,15 @@ impl Model for OneThread {
 
 impl OneThread {
     /// A thread that has not started, with all the room that it will need.
+    ///
+    /// 110 where there is no memory for it, or where an environment may spend more calls than may be out at once.
     pub fn new(alloc: Global, limits: Limits, number: ThreadNo) -> Result<Self, TiError>
         ensures new { IfOk result (λ t. t ≡ new_state limits number) }
         ensures memory { IfErr result (λ e. e ≡ TiError.OutOfMemory) }
     {
+        if u64::from(limits.window) < limits.calls {
+            return Err(TiError::OutOfMemory);
+        }
         let slot = Slot::new(alloc, limits, number)?;
         Ok(OneThread {
             slot,
@@ -196,6 +201,7 @@ impl OneThread {
         ensures said { told_now result ≡ given (reply_now self.old.thread.limits self.old env call) }
         ensures ticket { IfPosted result (λ k. k ≡ ticket_of self.old.thread env) }
     {
+        self.slot.tickets();
         match self.slot.ask(env, call, buf) {
             Asked::Answered(answer) => Outcome::Gave(answer),
             Asked::Waiting(ticket) => Outcome::Posted(ticket),

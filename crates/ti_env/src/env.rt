@@ -15,7 +15,7 @@ use ti_types::{Call, Caps, Limits, ThreadNo, TiError, needs};
 pub struct EnvState {
     caps: Caps,
     /// By the thread's number.
-    spent: Vec<u32>,
+    spent: Vec<u64>,
     limits: Limits,
     word: u64,
 }
@@ -159,7 +159,7 @@ impl EnvState {
     }
 
     /// How many calls are left at a thread (this profile): 0 where there is no such thread.
-    pub fn left(&self, thread: ThreadNo) -> u32
+    pub fn left(&self, thread: ThreadNo) -> u64
         ensures { result ≡ left_at self.now thread }
     {
         match self.spent.get(thread.0 as usize) {

@@ -1,5 +1,5 @@
 -- A desk's call: what was taken, what was stored, and what the call tells.
-use Rattle.std.proofs.Common.{◌≡◌, ℕ, suc, ◌+◌, ◌<◌, ◌==◌, Bool, cond, true, false, inl, inr, eq-eqb, ne_eqb, append-nil, refl, List, [], ◌∷◌, ◌++◌, length, append_assoc, sym, ap, ◌∙◌, subst, arith, Option, Some, None}
+use Rattle.std.proofs.Common.{◌≡◌, ℕ, suc, ◌+◌, ◌<◌, ◌≤◌, ◌==◌, Bool, cond, true, false, inl, inr, eq-eqb, ne_eqb, append-nil, refl, List, [], ◌∷◌, ◌++◌, length, append_assoc, sym, ap, ◌∙◌, subst, arith, Option, Some, None}
 use Rattle.atomic_table.specs.Seated.{TableId}
 use Rattle.ti_types.specs.declared.answer.Answer.{Answer}
 use Rattle.ti_types.specs.declared.call.Call.{Call}
@@ -25,10 +25,11 @@ use Rattle.ti_replay.specs.Replies.{reply}
 use Rattle.ti_slot.specs.declared.asked.Asked as asked
 use Rattle.ti_slot.specs.declared.asked.Asked.TheVariants.{Answered, Waiting}
 use Rattle.ti_slot.specs.Thread.{Thread, IsAsked, next_asked, ticket_of, with_more, with_tickets}
-use Rattle.ti_slot.specs.Tickets.{same, has, without_ticket, AreOnce}
+use Rattle.ti_slot.specs.Tickets.{same, has, held_by, without_ticket, AreOnce}
 use Rattle.ti_cell.specs.declared.view.View.{View}
 use Rattle.ti_cell.specs.View.{holding, stored, tickets_of, tickets_but}
 use Rattle.ti_cell.specs.Rule.{IsTaken, Keeps}
+use Rattle.ti_cell.proofs.Tickets.{out_of_env}
 use Rattle.ti_cell.proofs.Calls.{has_of, left_of, collect_keeps}
 use Rattle.ti_cell.specs.Seats.{Sitting, Holding}
 use Rattle.ti_cell.proofs.Goes.{asked_more, asked_is, may_ask}
@@ -68,11 +69,22 @@ may_call p env s h n k left =
     let here : calls_spent env s.view.mine < s.view.subject.limits.calls = subst (λ (x : EnvNo × View). calls_spent x.0 x.1.mine < x.1.subject.limits.calls) (λ i. (k.env_is i, k.view i)) left in
     subst (λ (t : Thread). calls_spent env t.history < t.limits.calls) (sym k.lent) (may_ask s.view h.slot env k.taken k.number here)
 
-store_is : (p : Place) (env : EnvNo) (s : Sitting) (h : Holding) (n : Thread) (w : View) (history : List Entry) (left : List Ticket) → Took p env s h n → w ≡ stored h.view history left → w ≡ stored (holding s.view n.history n.uncollected) history left
-store_is p env s h n w history left k store = store ∙ (λ i. stored (k.holds i) history left) ∙ sym (λ i. stored (holding s.view (k.lent i).history (k.lent i).uncollected) history left)
-
 taken_here : (p : Place) (env : EnvNo) (s : Sitting) (h : Holding) (n : Thread) → Took p env s h n → IsTaken s.view n
 taken_here p env s h n k = subst (λ (t : Thread). IsTaken s.view t) (sym k.lent) k.taken
+
+-- the desk's tickets are those of the slot that are its own
+pub posted_is : (p : Place) (env : EnvNo) (s : Sitting) (h : Holding) (n : Thread) → Took p env s h n → p.view.posted ≡ tickets_of (env.0 + 1) n.uncollected
+posted_is p env s h n k =
+    ap (λ (v : View). v.posted) k.view ∙ ((taken_here p env s h n k).posted ∙ ap (λ (i : ℕ). tickets_of i n.uncollected) k.number)
+
+-- there is room in the slot, if there is at the desk
+pub has_room : (p : Place) (env : EnvNo) (s : Sitting) (h : Holding) (n : Thread) → Took p env s h n → length p.view.posted ≤ p.view.subject.limits.window → held_by env n.uncollected ≤ n.limits.window
+has_room p env s h n k few =
+    let t = taken_here p env s h n k in
+    omega (arith, few, ap (λ (l : List Ticket). length l) (posted_is p env s h n k), out_of_env (env.0 + 1) env refl n.uncollected, ap (λ (l : Limits). l.window) t.about.0, ap (λ (v : View). v.subject.limits.window) k.view)
+
+store_is : (p : Place) (env : EnvNo) (s : Sitting) (h : Holding) (n : Thread) (w : View) (history : List Entry) (left : List Ticket) → Took p env s h n → w ≡ stored h.view history left → w ≡ stored (holding s.view n.history n.uncollected) history left
+store_is p env s h n w history left k store = store ∙ (λ i. stored (k.holds i) history left) ∙ sym (λ i. stored (holding s.view (k.lent i).history (k.lent i).uncollected) history left)
 
 -- what is stored is what was found, with more after it, and other tickets of the desk
 pub stores_with : (p : Place) (env : EnvNo) (s : Sitting) (h : Holding) (n m : Thread) (w : View) (more : List Entry) (tickets : List Ticket) → Took p env s h n
@@ -92,11 +104,6 @@ pub finds : (p : Place) (env : EnvNo) (s : Sitting) (h : Holding) (n m : Thread)
     → w ≡ stored h.view m.history m.uncollected → m.history ≡ n.history ++ more → found p.view w ≡ n.history
 finds p env s h n m w more k store longer =
     subst (λ (v : View). found v w ≡ n.history) (sym k.view) (found_held s.view w n m.history more m.uncollected (store_is p env s h n w m.history m.uncollected k store) longer)
-
--- the desk's tickets are those of the slot that are its own
-pub posted_is : (p : Place) (env : EnvNo) (s : Sitting) (h : Holding) (n : Thread) → Took p env s h n → p.view.posted ≡ tickets_of (env.0 + 1) n.uncollected
-posted_is p env s h n k =
-    ap (λ (v : View). v.posted) k.view ∙ ((taken_here p env s h n k).posted ∙ ap (λ (i : ℕ). tickets_of i n.uncollected) k.number)
 
 -- the tickets of others are left as they were
 pub may_keep : (p : Place) (env : EnvNo) (s : Sitting) (h : Holding) (n m : Thread) → Took p env s h n → Keeps (env.0 + 1) n.uncollected m.uncollected → Keeps h.view.number h.view.found m.uncollected

@@ -145,14 +145,17 @@ waits_looks v w looks k e =
     }
 
 -- a wait that added nothing, and then looks
-pub waits_news : (a b c : View) → Waits a b [] → SawNews b c → Waits a c []
-waits_news a b c p n =
+pub waits_looked : (a b c : View) (looks : List Look) → Waits a b [] → c ≡ with_looks b looks → Waits a c []
+waits_looked a b c looks p e =
     let seated : IsSeated b = record {
       rests = p.goes.rests;
       legal = subst (λ (l : Limits). is_legal l b.seen ≡ true) (λ i. (sym p.goes.subject i).limits) p.goes.legal;
       whole = p.goes.whole ∙ ap (λ (i : ℕ). made_by i b.seen) (sym p.goes.number);
     } in
-    waits_then a b c [] p (waits_looks b c (n.0 ++ n.1 ∷ []) seated n.2)
+    waits_then a b c [] p (waits_looks b c looks seated e)
+
+pub waits_news : (a b c : View) → Waits a b [] → SawNews b c → Waits a c []
+waits_news a b c p n = waits_looked a b c (n.0 ++ n.1 ∷ []) p n.2
 
 -- a hold that added nothing, and then looks
 pub news_then : (a b c d : View) → Waits a b [] → Waits b c [] → SawNews c d → Waits a d []

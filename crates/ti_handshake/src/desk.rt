@@ -1,5 +1,5 @@
 //! A desk: an environment's calls at one thread.
-ghost use Rattle.std.specs.Prelude.{◌≡◌, ◌==◌, ◌&&◌, ◌<◌, ◌≤◌, ◌+◌, ◌++◌, true, false, if◌then◌else◌, is_some, [], ◌∷◌, length, Some, None, IfSome, MatchOption};
+ghost use Rattle.std.specs.Prelude.{List, ◌≡◌, ◌==◌, ◌&&◌, ◌<◌, ◌≤◌, ◌+◌, ◌++◌, true, false, if◌then◌else◌, is_some, [], ◌∷◌, length, Some, None, IfSome, MatchOption};
 ghost use Rattle.std.specs.Option.{option_map};
 ghost use Rattle.ti_types.specs.Answer.{said};
 ghost use Rattle.ti_types.specs.declared.entry.Entry.TheVariants as entry;
@@ -8,17 +8,21 @@ ghost use Rattle.ti_replay.specs.Events.{if_none};
 ghost use Rattle.ti_replay.specs.Makers.{made_by};
 ghost use Rattle.ti_replay.specs.Legal.{is_legal, calls_spent, is_well_formed, is_not_negative};
 ghost use Rattle.ti_replay.specs.Replies.{reply};
+ghost use Rattle.ti_replay.specs.Settling.{waits};
 ghost use Rattle.ti_replay.specs.Standing.{is_standing};
 ghost use Rattle.ti_replay.specs.Tickets.{reply_to};
-ghost use Rattle.ti_slot.specs.Thread.{read_answer, with_tickets};
+ghost use Rattle.ti_slot.specs.Thread.{IsLate, read_answer, with_tickets};
 ghost use Rattle.ti_slot.specs.Tickets.{has, without_ticket};
 ghost use Rattle.ti_slot.specs.Waiting.{IsBufferOf, HasRoomFor};
-ghost use Rattle.ti_handshake.specs.Call.{GoesOn, Waits, WaitsWith, Holds, HoldsWith, found, IsTold, IsAnswered, SawNews, next_call, ticket_told};
+ghost use Rattle.ti_cell.specs.declared.look.Look.{Look};
+ghost use Rattle.ti_handshake.specs.Call.{GoesOn, Waits, WaitsWith, Holds, HoldsWith, found, IsTold, IsAnswered, SawNews, next_call, ticket_told, with_looks};
 ghost use Rattle.ti_handshake.specs.Desk.{Place, IsSame, ReplyAtPlace, is_anothers, there_found, stop_refusal, read_refusal, go_refusal};
 
-use crate::waiting::await_news;
+use crate::waiting::{Deadline, await_news, await_news_until};
 use std::marker::Model;
+use std::rt::Clock;
 use std::sync::Wait;
+use std::time::Duration;
 use ti_cell::{EnvSeat, ThreadCell};
 use ti_slot::{Asked, Slot};
 use ti_types::{Answer, Call, EnvNo, Ticket, TraceBuf};
@@ -62,7 +66,7 @@ impl<'a> Desk<'a> {
     }
 
     /// What is always true of a desk: its seat is its environment's and holds nothing, and what was seen is legal, and has
-    /// of the seat's entries just those that it made.
+    /// of the seat's entries just those that it made. No more of its calls are out than it made entries.
     pub fn facts(&self)
         ensures rests { (self.now.view.holds ≡ false) × (self.now.view.found ≡ []) }
         ensures there_still { self.now.view.gone ≡ false }
@@ -70,6 +74,7 @@ impl<'a> Desk<'a> {
         ensures there { self.now.env.0 < self.now.view.subject.limits.envs }
         ensures legal { is_legal self.now.view.subject.limits self.now.view.seen ≡ true }
         ensures mine { self.now.view.mine ≡ made_by self.now.view.number self.now.view.seen }
+        ensures few { length self.now.view.posted ≤ length self.now.view.mine }
     {
         let Some(seat) = &self.seat else {
             unreachable!()
@@ -94,20 +99,32 @@ impl<'a> Desk<'a> {
         seat.seen_len()
     }
 
+    /// How many of the desk's calls wait, or have an answer that is not collected (this profile).
+    pub fn out(&self) -> u32
+        ensures { result ≡ length self.now.view.posted }
+    {
+        let Some(seat) = &self.seat else {
+            unreachable!()
+        };
+        seat.out()
+    }
+
     /// Asks the thread a call by one hold: its answer, or a new ticket where the call waits for the running thread
     /// (JEP 312), which is among the desk's tickets from then on. It costs one call.
     ///
     /// The answer is the thread's own, a refusal included, as `Slot::ask` says of each call (JVM TI 11): 13, 14, 15, 31,
     /// 32, and 103 for a trace's start. A call that is refused changes nothing but the history. The buffer is empty and
-    /// has room for a trace's frames.
+    /// has room for a trace's frames. One call may be out beyond the window, so that `call` has room where it is full.
     #[inline(always)]
     pub fn post<R: Wait>(&mut self, rt: &R, call: Call, buf: TraceBuf) -> Asked
         requires well_formed { is_well_formed call ≡ true }
         requires calls { calls_spent self.old.env self.old.view.mine < self.old.view.subject.limits.calls }
+        requires room { waits call ≡ true → length self.old.view.posted ≤ self.old.view.subject.limits.window }
         requires buf { IsBufferOf self.old.view.subject.limits call buf }
         ensures same { IsSame self.old self.new }
         ensures hold { HoldsWith self.old.view self.new.view (next_call self.old.view self.old.env call ∷ []) (self.old.view.posted ++ ticket_told result) }
         ensures told { IsTold self.old.view self.new.view self.old.env call result }
+        ensures late { IsLate call result }
     {
         let Some(seat) = self.seat.take() else {
             unreachable!()
@@ -163,6 +180,36 @@ impl<'a> Desk<'a> {
         answer
     }
 
+    /// The same as `try_collect`, by holds until the answer is there or the time is over. Between them it waits by looks.
+    ///
+    /// `None` when the time is over, or the clock can't be read. Then the ticket is out as before. A ticket that is none of
+    /// the desk's is waited for in vain.
+    pub fn collect_within<R: Wait + Clock>(
+        &mut self,
+        rt: &R,
+        ticket: Ticket,
+        time: Duration,
+    ) -> Option<Answer>
+        ensures same { IsSame self.old self.new }
+        ensures hold { WaitsWith self.old.view self.new.view [] (if is_some result then without_ticket ticket self.old.view.posted else self.old.view.posted) }
+        ensures once { IfSome result (λ _. has ticket self.new.view.posted ≡ false) }
+        ensures answer { option_map said result ≡ (if has ticket self.old.view.posted then reply_to self.old.view.subject.limits self.new.view.seen ticket else None) }
+        ensures place { IfSome result (λ a. ReplyAtPlace self.old.view.subject.limits self.new.view.seen ticket (said a)) }
+    {
+        self.facts();
+        let deadline = Deadline::after(rt, time);
+        for _ in rt.forever() {
+            let found = self.try_collect(rt, ticket);
+            if found.is_some() {
+                return found;
+            }
+            if !self.await_news_until(rt, &deadline) {
+                return None;
+            }
+        }
+        unreachable!()
+    }
+
     /// Asks the thread a call, and waits for its answer where it has to: the reply at the place of the call, whatever
     /// others did before it took place. It costs one call, and the desk's tickets stay as they were.
     ///
@@ -170,6 +217,7 @@ impl<'a> Desk<'a> {
     pub fn call<R: Wait>(&mut self, rt: &R, call: Call, buf: TraceBuf) -> Answer
         requires well_formed { is_well_formed call ≡ true }
         requires calls { calls_spent self.old.env self.old.view.mine < self.old.view.subject.limits.calls }
+        requires room { waits call ≡ true → length self.old.view.posted ≤ self.old.view.subject.limits.window }
         requires buf { IsBufferOf self.old.view.subject.limits call buf }
         ensures same { IsSame self.old self.new }
         ensures goes { GoesOn self.old.view self.new.view }
@@ -314,6 +362,18 @@ impl<'a> Desk<'a> {
             unreachable!()
         };
         await_news(rt, self.cell, seat);
+    }
+
+    /// The same until the deadline: whether there are such entries. Without them nothing but looks was done.
+    fn await_news_until<R: Wait + Clock>(&mut self, rt: &R, deadline: &Deadline) -> bool
+        ensures same { IsSame self.old self.new }
+        ensures looks { (looks : List Look) × (self.new.view ≡ with_looks self.old.view looks) }
+        ensures news { result ≡ true → SawNews self.old.view self.new.view }
+    {
+        let Some(seat) = &mut self.seat else {
+            unreachable!()
+        };
+        await_news_until(rt, self.cell, seat, deadline)
     }
 
     /// The desk's seat, which may go back to the owner's (`ThreadCell::rejoin`).

@@ -1,9 +1,12 @@
 //! How a call waits for news of a cell without taking its lock: by looks, with pauses between them, and then asleep.
-ghost use Rattle.std.specs.Prelude.{◌≡◌};
-ghost use Rattle.ti_handshake.specs.Call.{SawNews};
+ghost use Rattle.std.specs.Prelude.{◌≡◌, List, true};
+ghost use Rattle.ti_cell.specs.declared.look.Look.{Look};
+ghost use Rattle.ti_handshake.specs.Call.{SawNews, with_looks};
 
 use crossbeam_utils::Backoff;
+use std::rt::Clock;
 use std::sync::Wait;
+use std::time::{Duration, Instant};
 use ti_cell::{CellSeat, OwnSeat, ThreadCell};
 
 /// After how many looks who waits sleeps. Between them it makes 1, 2, 4 up to 64 pauses, and then 64 each time, 1,215 in
@@ -31,6 +34,61 @@ pub fn await_news<K, R: Wait>(rt: &R, cell: &ThreadCell, seat: &mut CellSeat<K>)
             backoff.spin();
         } else {
             cell.sleep_without_news(rt, seat);
+        }
+    }
+    unreachable!()
+}
+
+/// A time that is waited for, since it began.
+#[derive(Clone, Copy)]
+pub struct Deadline {
+    began: Option<Instant>,
+    time: Duration,
+}
+
+impl Deadline {
+    /// It begins now.
+    pub fn after<R: Clock>(rt: &R, time: Duration) -> Deadline {
+        Deadline {
+            began: Instant::now(rt).ok(),
+            time,
+        }
+    }
+
+    /// How much of it is left. `None` if it is over, or the clock can't be read.
+    fn left<R: Clock>(&self, rt: &R) -> Option<Duration> {
+        let spent = self.began?.elapsed(rt).ok()?;
+        self.time.checked_sub(spent)
+    }
+}
+
+/// The same until the deadline: whether there are such entries. Without them nothing but looks was done.
+pub fn await_news_until<K, R: Wait + Clock>(
+    rt: &R,
+    cell: &ThreadCell,
+    seat: &mut CellSeat<K>,
+    deadline: &Deadline,
+) -> bool
+    requires cell { seat.old.cell ≡ cell.now }
+    ensures cell { seat.new.cell ≡ seat.old.cell }
+    ensures looks { (looks : List Look) × (seat.new.view ≡ with_looks seat.old.view looks) }
+    ensures news { result ≡ true → SawNews seat.old.view seat.new.view }
+{
+    let backoff = Backoff::new();
+    let mut looks: u32 = 0;
+    for _ in rt.forever() {
+        let look = cell.look(seat);
+        if look.count > seat.seen_len() as u64 {
+            return true;
+        }
+        if looks < LOOKS {
+            looks += 1;
+            backoff.spin();
+        } else {
+            match deadline.left(rt) {
+                Some(time) => cell.sleep_without_news_for(rt, seat, time),
+                None => return false,
+            }
         }
     }
     unreachable!()

@@ -25,7 +25,7 @@ abbrev pub opens : Fate → ℕ
 opens x = if is_open x then 1 else 0
 
 -- of how many calls something is left, with one more call
-open-with_call : (e env : EnvNo) (x : Fate) (fates : List (List Fate)) → env.0 < length fates
+pub open-with_call : (e env : EnvNo) (x : Fate) (fates : List (List Fate)) → env.0 < length fates
     → open_by e (with_call env x fates) ≡ open_by e fates + (if env.0 == e.0 then opens x else 0)
 open-with_call e env x fates h =
     elim (cases_eq e.0 env.0) [
@@ -43,7 +43,7 @@ open-with_call e env x fates h =
     counted xs x = omega (arith, sum_by-append opens xs (x ∷ []), sum_by-cons opens x [])
 
 -- and with another fate of a call
-open-with_fate : (e : EnvNo) (t : Ticket) (x : Fate) (fates : List (List Fate)) → t.env.0 < length fates → t.no < length (fates_by t.env fates)
+pub open-with_fate : (e : EnvNo) (t : Ticket) (x : Fate) (fates : List (List Fate)) → t.env.0 < length fates → t.no < length (fates_by t.env fates)
     → open_by e (with_fate t x fates) + (if t.env.0 == e.0 then opens (fate_of t fates) else 0) ≡ open_by e fates + (if t.env.0 == e.0 then opens x else 0)
 open-with_fate e t x fates h n =
     elim (cases_eq e.0 t.env.0) [

@@ -1,5 +1,5 @@
 //! The calls that wait at a thread, and the answers that are not collected yet.
-ghost use Rattle.std.specs.Prelude.{◌≡◌, ◌<◌, ◌+◌, ◌^◌, [], ◌∷◌, false, length, replicate, nat_le, IfOk, IfErr, MatchOption, is_some, if◌then◌else◌};
+ghost use Rattle.std.specs.Prelude.{◌≡◌, ◌<◌, ◌+◌, ◌^◌, [], ◌∷◌, false, length, replicate, IfOk, IfErr, MatchOption, is_some, if◌then◌else◌};
 ghost use Rattle.ti_ops.specs.Fates.{fates_by, fate_of, open_by, told_by, with_call, with_fate, is_awaited};
 ghost use Rattle.ti_ops.specs.Ops.{with_waiting, with_fates, with_posted};
 ghost use Rattle.ti_ops.specs.declared.fate.Fate.TheVariants as fate;
@@ -83,12 +83,12 @@ impl PendingOps {
         self.counts[env.0 as usize].asked
     }
 
-    /// Whether no further call of an environment may be posted, until one of its answers is collected.
-    pub fn is_full(&self, env: EnvNo) -> bool
+    /// How many calls of an environment wait, or have an answer that is not collected.
+    pub fn held(&self, env: EnvNo) -> u32
         requires { env.0 < length self.now.fates }
-        ensures { result ≡ nat_le self.now.window (open_by env self.now.fates) }
+        ensures { result ≡ open_by env self.now.fates }
     {
-        self.counts[env.0 as usize].held >= self.window
+        self.counts[env.0 as usize].held
     }
 
     /// Puts a call after those that wait. It is its environment's next one, and there is room for it.

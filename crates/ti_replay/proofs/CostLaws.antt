@@ -1,5 +1,5 @@
 -- The table of costs is what the history's entries cost.
-use Rattle.std.proofs.Common.{ltb-true, ◌↔◌, ◌≡◌, ◌≢◌, ℕ, ◌+◌, ◌<◌, true, false, ◌&&◌, inl, inr, List, [], ◌∷◌, ◌++◌, length, refl, ap, sym, ◌∙◌, arith, replicate, append-nil, append_assoc, nat_lt, length-set, get_or-set_other, get_or-set_same, Some, None}
+use Rattle.std.proofs.Common.{ltb-true, ◌↔◌, ◌≡◌, ◌≢◌, ℕ, ◌+◌, ◌<◌, ◌≤◌, true, false, ◌&&◌, inl, inr, List, [], ◌∷◌, ◌++◌, length, refl, ap, sym, ◌∙◌, arith, replicate, append-nil, append_assoc, nat_lt, length-set, get_or-set_other, get_or-set_same, Some, None}
 use Rattle.std.specs.List.{fold}
 use Rattle.std.proofs.lemmas.List.{get_or-replicate, length-replicate}
 use Rattle.std.proofs.lemmas.List.Sums.{sum_by-cons}
@@ -12,7 +12,7 @@ use Rattle.ti_types.specs.declared.entry.Entry.{Entry}
 use Rattle.ti_types.specs.declared.entry.Entry.TheVariants.{Start, Own, Hand, Back, End, Asked, Stop, Read, Go}
 use Rattle.ti_replay.specs.Legal.{situation, fits, may_follow, first_illegal, goes_on, is_legal, env_of, ask_count, call_cost, calls_spent, asked_by}
 use Rattle.ti_replay.specs.declared.costs.Costs.{Costs}
-use Rattle.ti_replay.specs.Costs.{no_costs, costs_at, charged, charged_to, IsDue}
+use Rattle.ti_replay.specs.Costs.{no_costs, costs_at, charged, charged_to, ArePaid, IsDue}
 use Rattle.ti_replay.specs.PlacedState.{PlacedState, placed_state, situation_in, may_enter}
 
 abbrev pub more : Costs → ℕ → ℕ → Costs
@@ -52,6 +52,29 @@ length-charged t (Asked env number call) = length-set t env.0 _
 length-charged t (Stop env) = length-set t env.0 _
 length-charged t (Read env max_count) = length-set t env.0 _
 length-charged t (Go env) = length-set t env.0 _
+
+pub paid_at_first : (n : ℕ) → ArePaid (replicate n no_costs)
+paid_at_first n env h =
+    let z : costs_at (replicate n no_costs) env ≡ no_costs = get_or-replicate n env.0 no_costs no_costs (omega (arith, h, length-replicate n no_costs)) in
+    omega (arith, ap (λ (c : Costs). c.asked) z)
+
+asked_paid : (env : EnvNo) (x : Entry) → ask_count env x ≤ call_cost env x
+asked_paid env Start = omega arith
+asked_paid env (Own step) = omega arith
+asked_paid env (Hand safe) = omega arith
+asked_paid env Back = omega arith
+asked_paid env End = omega arith
+asked_paid env (Asked other number call) = omega arith
+asked_paid env (Stop other) = omega arith
+asked_paid env (Read other max_count) = omega arith
+asked_paid env (Go other) = omega arith
+
+-- an entry that is charged is paid for, too
+pub still_paid : (t : List Costs) (x : Entry) → ArePaid t → ArePaid (charged t x)
+still_paid t x p env h =
+    let there : env.0 < length t = omega (arith, h, length-charged t x) in
+    let now = costs_at-charged t x env there in
+    omega (arith, ap (λ (c : Costs). c.asked) now, ap (λ (c : Costs). c.calls) now, p env there, asked_paid env x)
 
 costs_at-fold : (t : List Costs) (history : List Entry) (env : EnvNo) → env.0 < length t → costs_at (fold charged t history) env ≡ more (costs_at t env) (asked_by env history) (calls_spent env history)
 costs_at-fold t [] env h = grind arith

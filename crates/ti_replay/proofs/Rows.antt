@@ -19,7 +19,7 @@ use Rattle.ti_replay.specs.Legal.{is_legal, first_illegal, may_follow}
 use Rattle.ti_replay.specs.Replies.{reply}
 
 abbrev small : Limits
-small = record { threads = 2; envs = 2; depth = 4; own = 32; calls = 8; kept = true; in_range = ((lit≤ tt, lit≤ tt), (lit≤ tt, lit≤ tt), (lit≤ tt, lit≤ tt), (lit≤ tt, lit≤ tt), (lit≤ tt, lit≤ tt)) }
+small = record { threads = 2; envs = 2; depth = 4; own = 32; calls = 8; window = 8; kept = true; in_range = ((lit≤ tt, lit≤ tt), (lit≤ tt, lit≤ tt), (lit≤ tt, lit≤ tt), (lit≤ tt, lit≤ tt), (lit≤ tt, lit≤ tt), (lit≤ tt, lit≤ tt)) }
 
 abbrev e : EnvNo
 e = record { 0 = 0 }

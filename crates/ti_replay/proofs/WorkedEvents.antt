@@ -48,13 +48,13 @@ n = record { 0 = 3 }
 
 -- limits: the usual ones, small budgets, and the least
 abbrev pub small : Limits
-small = record { threads = 2; envs = 2; depth = 4; own = 32; calls = 8; kept = true; in_range = ((lit≤ tt, lit≤ tt), (lit≤ tt, lit≤ tt), (lit≤ tt, lit≤ tt), (lit≤ tt, lit≤ tt), (lit≤ tt, lit≤ tt)) }
+small = record { threads = 2; envs = 2; depth = 4; own = 32; calls = 8; window = 8; kept = true; in_range = ((lit≤ tt, lit≤ tt), (lit≤ tt, lit≤ tt), (lit≤ tt, lit≤ tt), (lit≤ tt, lit≤ tt), (lit≤ tt, lit≤ tt), (lit≤ tt, lit≤ tt)) }
 
 abbrev pub tiny : Limits
-tiny = record { threads = 2; envs = 2; depth = 2; own = 4; calls = 2; kept = true; in_range = ((lit≤ tt, lit≤ tt), (lit≤ tt, lit≤ tt), (lit≤ tt, lit≤ tt), (lit≤ tt, lit≤ tt), (lit≤ tt, lit≤ tt)) }
+tiny = record { threads = 2; envs = 2; depth = 2; own = 4; calls = 2; window = 2; kept = true; in_range = ((lit≤ tt, lit≤ tt), (lit≤ tt, lit≤ tt), (lit≤ tt, lit≤ tt), (lit≤ tt, lit≤ tt), (lit≤ tt, lit≤ tt), (lit≤ tt, lit≤ tt)) }
 
 abbrev pub least : Limits
-least = record { threads = 2; envs = 2; depth = 1; own = 2; calls = 1; kept = true; in_range = ((lit≤ tt, lit≤ tt), (lit≤ tt, lit≤ tt), (lit≤ tt, lit≤ tt), (lit≤ tt, lit≤ tt), (lit≤ tt, lit≤ tt)) }
+least = record { threads = 2; envs = 2; depth = 1; own = 2; calls = 1; window = 1; kept = true; in_range = ((lit≤ tt, lit≤ tt), (lit≤ tt, lit≤ tt), (lit≤ tt, lit≤ tt), (lit≤ tt, lit≤ tt), (lit≤ tt, lit≤ tt), (lit≤ tt, lit≤ tt)) }
 
 abbrev pub set_of : ℕ → Caps
 set_of bits = record { bits = bits }

@@ -1,5 +1,5 @@
 -- The costs of a history's entries, in a table with a row for each environment.
-use Rattle.std.specs.Prelude.{◌≡◌, ◌<◌, ◌+◌, List, Option, Some, None, slice_set, slice_index_or}
+use Rattle.std.specs.Prelude.{◌≡◌, ◌<◌, ◌≤◌, ◌+◌, length, List, Option, Some, None, slice_set, slice_index_or}
 use Rattle.ti_types.specs.declared.numbers.EnvNo.{EnvNo}
 use Rattle.ti_types.specs.declared.entry.Entry.{Entry}
 use Rattle.ti_types.specs.Limits.{most_calls}
@@ -31,6 +31,10 @@ charged_by costs None x = costs
 -- the costs after an entry
 abbrev pub charged : List Costs → Entry → List Costs
 charged costs x = charged_by costs (env_of x) x
+
+-- no environment has asked more calls than it has paid for
+abbrev pub ArePaid : List Costs → Type 0
+ArePaid costs = (env : EnvNo) → env.0 < length costs → (costs_at costs env).asked ≤ (costs_at costs env).calls
 
 -- the entry is numbered as the table says, and its environment has a call left
 abbrev pub IsDue : List Costs → Entry → Type 0

@@ -1,7 +1,7 @@
 //! What entries cost, and a table of it with a row for each environment.
 ghost use Rattle.std.specs.Prelude.{◌≡◌, ◌<◌};
 ghost use Rattle.ti_replay.specs.Legal.{env_of as env_of_entry, own_cost as own_cost_of};
-ghost use Rattle.ti_replay.specs.Costs.{charged, IsDue};
+ghost use Rattle.ti_replay.specs.Costs.{charged, ArePaid, IsDue};
 
 use ti_types::{Entry, EnvNo, Safe};
 
@@ -11,7 +11,7 @@ pub struct Costs {
     /// How many calls it has asked.
     pub asked: u64,
     /// How many calls, stops and reads of it there are.
-    pub calls: u32,
+    pub calls: u64,
 }
 
 /// The environment of an entry, and none for the thread's own entries, which cost no environment anything.
@@ -40,11 +40,12 @@ pub fn own_cost(entry: Entry) -> u64
 }
 
 /// Charges an entry to its environment: 1 for a call, a stop or a read (this profile). A call must have the number that
-/// the table says, and its environment a call left of at most 1,024; nothing changes where the table has no such
+/// the table says, and its environment a call left of at most 2^52; nothing changes where the table has no such
 /// environment.
 #[tactic(auto, using(crate::proofs::Charging::charging))]
 pub fn charge(costs: &mut [Costs], entry: Entry)
-    requires { IsDue costs.old entry }
+    requires due { IsDue costs.old entry }
+    requires paid { ArePaid costs.old }
     ensures { costs.new ≡ charged costs.old entry }
 {
     match entry {
@@ -52,7 +53,7 @@ pub fn charge(costs: &mut [Costs], entry: Entry)
             let index = env.0 as usize;
             if index < costs.len() {
                 costs[index] = Costs {
-                    asked: number as u64 + 1,
+                    asked: number + 1,
                     calls: costs[index].calls + 1,
                 };
             }

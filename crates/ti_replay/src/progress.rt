@@ -34,14 +34,18 @@ pub struct Progress {
 
 impl Model for Progress {
     ghost use Rattle.ti_replay.specs.PlacedState.{PlacedState};
+    ghost use Rattle.ti_replay.specs.Costs.{ArePaid};
 
     ghost Value = { PlacedState };
 
     ghost view = { λ a. record { view = a.view; waiting = a.waiting.items; next = a.next; own = a.own; costs = a.costs.items } };
+
+    ghost invariant = { λ a. ArePaid a.costs.items };
 }
 
 impl Progress {
     /// Of a history with no entry. The error is lack of memory for a word and a row of costs per environment.
+    #[tactic(auto, using(crate::proofs::CostLaws::paid_at_first))]
     pub fn new(alloc: Global, limits: &Limits) -> Result<Self, AllocError>
         ensures { IfOk result (λ p. p ≡ placed_state limits.now []) }
     {
@@ -77,7 +81,7 @@ impl Progress {
     }
 
     /// Adds an entry that may come next: it takes place, or waits. The error is lack of memory.
-    #[tactic(auto, using(crate::proofs::CostLaws::due))]
+    #[tactic(auto, using(crate::proofs::CostLaws::due, crate::proofs::CostLaws::still_paid))]
     pub fn enter(&mut self, limits: &Limits, entry: Entry) -> Result<(), AllocError>
         requires may { may_enter limits.now self.old entry ≡ true }
         requires room { self.old.next + 1 < 2 ^ 64 }
@@ -195,7 +199,7 @@ impl Progress {
 
     /// Adds an entry that may come next, and says what is answered to the one of a place, where none was answered
     /// before. The error is lack of memory.
-    #[tactic(auto, using(crate::proofs::CostLaws::due))]
+    #[tactic(auto, using(crate::proofs::CostLaws::due, crate::proofs::CostLaws::still_paid))]
     pub fn enter_asking(
         &mut self,
         alloc: Global,
@@ -229,7 +233,7 @@ impl Progress {
 
     /// Adds an entry that may come next, and writes what is answered to each entry that takes place then at its place.
     /// There is a place for each earlier entry, and one more is added. The error is lack of memory.
-    #[tactic(auto, using(crate::proofs::CostLaws::due))]
+    #[tactic(auto, using(crate::proofs::CostLaws::due, crate::proofs::CostLaws::still_paid))]
     #[inline(always)]
     pub fn enter_telling(
         &mut self,

@@ -145,7 +145,7 @@ pub fn fits(
             env.0 < limits.envs
                 && costs.calls < limits.calls
                 && is_well_formed(call)
-                && number as u64 == costs.asked
+                && number == costs.asked
         }
         Entry::Stop(env) => {
             env.0 < limits.envs && costs.calls < limits.calls && view.stopper.is_none()

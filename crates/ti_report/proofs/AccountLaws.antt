@@ -11,6 +11,7 @@ use Rattle.ti_types.specs.declared.entry.Entry.{Entry}
 use Rattle.ti_types.specs.declared.event.Event.{Event}
 use Rattle.ti_types.specs.declared.answer.Answer.{Answer}
 use Rattle.ti_types.specs.declared.event.Event.TheVariants.{Start, Own, Poll, ToNative, ToBlocked, Back, End, Ask, Stop, Read, Go, AddCaps, Relinquish, GetCaps, SetEnvWord, GetEnvWord}
+use Rattle.ti_types.specs.Limits.{most_calls}
 use Rattle.ti_replay.specs.Admission.{Happening, Dealings, caps_after, dealings, refusal_of, is_paid, is_aimed_at, is_by, agent_of}
 use Rattle.ti_replay.specs.Legal.{calls_spent}
 use Rattle.ti_replay.specs.Outcomes.{out_of, env_word, env_word_after}
@@ -20,15 +21,15 @@ use Rattle.ti_report.specs.Books.{Row}
 use Rattle.ti_report.specs.Accounts.{IsWithin, AccountValue, Accounts, ArePages, why_now, counted, accounted, told_now, own_answer}
 
 -- one more at a thread keeps an account within its bounds
-set_spent : (spent : List ℕ) (i k : ℕ) → i < length spent → ((k : ℕ) → slice_index spent k ≤ 1024) → slice_index spent i < 1024
-    → slice_index (slice_set spent i (slice_index spent i + 1)) k ≤ 1024
+set_spent : (spent : List ℕ) (i k : ℕ) → i < length spent → ((k : ℕ) → slice_index spent k ≤ most_calls) → slice_index spent i < most_calls
+    → slice_index (slice_set spent i (slice_index spent i + 1)) k ≤ most_calls
 set_spent spent i k there few less =
     elim (cases_eq k i) [
       | inl same ↦ rw same (omega (arith, get_or-set_same spent i (slice_index spent i + 1) 0 there, less))
       | inr other ↦ omega (arith, get_or-set_other spent i k (slice_index spent i + 1) 0 other, few k)
     ]
 
-pub within_spent : (used spent : List ℕ) (i : ℕ) → IsWithin used spent → i < length spent → slice_index spent i < 1024
+pub within_spent : (used spent : List ℕ) (i : ℕ) → IsWithin used spent → i < length spent → slice_index spent i < most_calls
     → IsWithin used (slice_set spent i (slice_index spent i + 1))
 within_spent used spent i w there room = record {
   alike = w.alike ∙ sym (length-set spent i (slice_index spent i + 1));

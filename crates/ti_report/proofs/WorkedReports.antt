@@ -204,7 +204,7 @@ histories_of_both =
     (entry.Start ∷ entry.Hand (Blocked Sleep) ∷ entry.Asked e 0 Suspend ∷ entry.Stop f ∷ entry.Read f (pos 2) ∷ entry.Go f ∷ entry.Stop e ∷ entry.Read e (pos 1) ∷ entry.Go e ∷ entry.Asked e 1 Resume ∷ []) ∷ []
 
 abbrev one_thread : Limits
-one_thread = record { threads = 1; envs = 2; depth = 4; own = 32; calls = 8; kept = true; in_range = ((lit≤ tt, lit≤ tt), (lit≤ tt, lit≤ tt), (lit≤ tt, lit≤ tt), (lit≤ tt, lit≤ tt), (lit≤ tt, lit≤ tt)) }
+one_thread = record { threads = 1; envs = 2; depth = 4; own = 32; calls = 8; window = 8; kept = true; in_range = ((lit≤ tt, lit≤ tt), (lit≤ tt, lit≤ tt), (lit≤ tt, lit≤ tt), (lit≤ tt, lit≤ tt), (lit≤ tt, lit≤ tt), (lit≤ tt, lit≤ tt)) }
 
 fit_of_e : CallsFit one_thread histories_of_both e [] calls_of_e replies_of_e
 fit_of_e = (refl, (refl, (refl, (refl, tt))))
@@ -215,10 +215,10 @@ fit_of_f = (refl, tt)
 -- ---- calls are spent, and lack of memory is told
 
 abbrev two_calls : Limits
-two_calls = record { threads = 1; envs = 1; depth = 4; own = 32; calls = 2; kept = true; in_range = ((lit≤ tt, lit≤ tt), (lit≤ tt, lit≤ tt), (lit≤ tt, lit≤ tt), (lit≤ tt, lit≤ tt), (lit≤ tt, lit≤ tt)) }
+two_calls = record { threads = 1; envs = 1; depth = 4; own = 32; calls = 2; window = 2; kept = true; in_range = ((lit≤ tt, lit≤ tt), (lit≤ tt, lit≤ tt), (lit≤ tt, lit≤ tt), (lit≤ tt, lit≤ tt), (lit≤ tt, lit≤ tt), (lit≤ tt, lit≤ tt)) }
 
 abbrev least_calls : Limits
-least_calls = record { threads = 1; envs = 1; depth = 4; own = 32; calls = 1; kept = true; in_range = ((lit≤ tt, lit≤ tt), (lit≤ tt, lit≤ tt), (lit≤ tt, lit≤ tt), (lit≤ tt, lit≤ tt), (lit≤ tt, lit≤ tt)) }
+least_calls = record { threads = 1; envs = 1; depth = 4; own = 32; calls = 1; window = 1; kept = true; in_range = ((lit≤ tt, lit≤ tt), (lit≤ tt, lit≤ tt), (lit≤ tt, lit≤ tt), (lit≤ tt, lit≤ tt), (lit≤ tt, lit≤ tt), (lit≤ tt, lit≤ tt)) }
 
 abbrev calls_spending : List AgentCall
 calls_spending = call.Ask t (Trace (pos 0) (pos 1)) ∷ call.Ask t State ∷ call.AllStacks (pos 0) ∷ call.Ask t State ∷ call.Ask t State ∷ []

@@ -28,6 +28,7 @@ use Rattle.ti_replay.specs.Legal.{calls_spent}
 use Rattle.ti_replay.specs.Outcomes.{env_word, env_word_after}
 use Rattle.ti_report.specs.Told.{thread_of, is_call, is_due, refused_or_got, got_by, got, used, history_at}
 use Rattle.ti_types.specs.declared.stack.StackInfo.{StackInfo}
+use Rattle.ti_types.specs.Limits.{most_calls}
 use Rattle.ti_report.specs.Books.{Row}
 use Rattle.ti_report.specs.Fits.{code_of, stack_told, is_live, said_info, Sort, single, coded, live_stacks, stacks, sort_of}
 
@@ -121,7 +122,7 @@ marked wanting xs = map (λ x. record { event = x; wanting = wanting }) xs
 -- there are as many numbers of either kind, and few calls are spent
 pub record IsWithin (used spent : List ℕ) : Type 0 where
   pub alike : length used ≡ length spent
-  pub few : (k : ℕ) → slice_index spent k ≤ 1024
+  pub few : (k : ℕ) → slice_index spent k ≤ most_calls
 
 -- one more used entry can be counted, where the event uses one
 abbrev pub CanCount : AccountValue → Option TiError → Event → Type 0
@@ -129,7 +130,7 @@ CanCount a why event = (is_call event && is_none why) ≡ true → slice_index a
 
 -- one more call can be paid, where the event is paid
 abbrev pub IsFew : AccountValue → Option TiError → Event → Type 0
-IsFew a why event = (is_paid event && is_none why) ≡ true → slice_index a.spent (thread_of event).0 < 1024
+IsFew a why event = (is_paid event && is_none why) ≡ true → slice_index a.spent (thread_of event).0 < most_calls
 
 -- all stacks, or those of threads that are alive
 abbrev pub kept : (live : Bool) → List (Option StackInfo) → List (Option StackInfo)

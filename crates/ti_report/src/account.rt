@@ -8,6 +8,7 @@ ghost use Rattle.ti_types.specs.Frames.{bare_trace};
 ghost use Rattle.ti_types.specs.Admitting.{admitting_refusal, asking_refusal, reaching_refusal};
 ghost use Rattle.ti_report.specs.Told.{thread_of, is_call, is_due, got_by};
 ghost use Rattle.ti_report.specs.Gots.{told_in};
+ghost use Rattle.ti_types.specs.Limits.{most_calls};
 ghost use Rattle.ti_report.specs.Books.{rows_in, spent_in, page_in};
 ghost use Rattle.ti_report.specs.Accounts.{AccountValue, CanCount, IsFew, why_now, accounted_with, own_answer, told_with, counted, can_pay_now, new_account};
 ghost use Rattle.ti_report.specs.Fits.{code_of, stack_of};
@@ -26,7 +27,7 @@ pub struct Account {
     env: EnvNo,
     caps: Caps,
     word: u64,
-    spent: Vec<u32>,
+    spent: Vec<u64>,
     used: Vec<usize>,
 }
 
@@ -89,7 +90,7 @@ impl Account {
 
     /// How many calls have been spent at a thread.
     #[inline(always)]
-    fn spent_at(&self, thread: ThreadNo) -> u32
+    fn spent_at(&self, thread: ThreadNo) -> u64
         ensures { result ≡ slice_index self.now.spent thread.0 }
     {
         let index = thread.0 as usize;
@@ -236,7 +237,7 @@ impl Account {
         if !matches!(error, TiError::CallsSpent) {
             return true;
         }
-        self.spent_in_all(books, thread_of(event)) == limits.calls as usize
+        self.spent_in_all(books, thread_of(event)) as u64 == limits.calls
     }
 
     /// What an event about the environment is answered, and None for others.
@@ -345,7 +346,7 @@ impl Account {
     #[tactic(auto, using(crate::proofs::AccountLaws::within_spent))]
     #[inline(always)]
     fn spend(&mut self, thread: ThreadNo)
-        requires { slice_index self.old.spent thread.0 < 1024 }
+        requires { slice_index self.old.spent thread.0 < most_calls }
         ensures { self.new ≡ record self.old { spent = counted true self.old.spent thread.0 } }
     {
         let index = thread.0 as usize;

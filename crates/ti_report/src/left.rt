@@ -1,7 +1,7 @@
 //! What an agent left, in few bytes.
 ghost use Rattle.std.specs.Prelude.{◌≡◌, get_or, true, List};
 ghost use Rattle.ti_types.specs.declared.entry.Entry.{Entry};
-ghost use Rattle.ti_types.specs.declared.entry.Entry.TheVariants.{Start};
+ghost use Rattle.ti_types.specs.declared.entry.Entry.TheVariants.{Start, Asked};
 ghost use Rattle.ti_types.specs.declared.numbers.EnvNo.{EnvNo};
 ghost use Rattle.ti_report.specs.Told.{is_left_by};
 ghost use Rattle.ti_report.specs.Lefts.{left_in};
@@ -32,19 +32,30 @@ impl Left {
         ensures { (e : EnvNo) (entries : List Entry) → is_left_by e entry ≡ true → get_or entries place Start ≡ entry → left_in e entries result ≡ entry }
     {
         match entry {
-            Entry::Asked(_, no, call) => match call {
-                Call::State => Left::State(no),
-                Call::FrameCount => Left::FrameCount(no),
-                Call::Suspend => Left::Suspend(no),
-                Call::Resume => Left::Resume(no),
-                Call::GetWord => Left::GetWord(no),
-                Call::Pop => Left::Pop(no),
-                Call::Trace { .. } | Call::Location { .. } | Call::SetWord(_) => Left::At(place),
+            Entry::Asked(_, no, call) => match u32::try_from(no) {
+                Ok(no) => Left::asked(no, call, place),
+                Err(_) => Left::At(place),
             },
             Entry::Stop(_) => Left::Stop,
             Entry::Read(_, max_count) => Left::Read(max_count),
             Entry::Go(_) => Left::Go,
             _ => Left::At(place),
+        }
+    }
+
+    /// A call of that number, which stands at this place.
+    #[inline(always)]
+    fn asked(no: u32, call: Call, place: u32) -> Left
+        ensures { (e : EnvNo) (entries : List Entry) → get_or entries place Start ≡ Asked e no call → left_in e entries result ≡ Asked e no call }
+    {
+        match call {
+            Call::State => Left::State(no),
+            Call::FrameCount => Left::FrameCount(no),
+            Call::Suspend => Left::Suspend(no),
+            Call::Resume => Left::Resume(no),
+            Call::GetWord => Left::GetWord(no),
+            Call::Pop => Left::Pop(no),
+            Call::Trace { .. } | Call::Location { .. } | Call::SetWord(_) => Left::At(place),
         }
     }
 
@@ -55,12 +66,12 @@ impl Left {
         ensures { result ≡ left_in env entries.now self }
     {
         match self {
-            Left::State(no) => Entry::Asked(env, no, Call::State),
-            Left::FrameCount(no) => Entry::Asked(env, no, Call::FrameCount),
-            Left::Suspend(no) => Entry::Asked(env, no, Call::Suspend),
-            Left::Resume(no) => Entry::Asked(env, no, Call::Resume),
-            Left::GetWord(no) => Entry::Asked(env, no, Call::GetWord),
-            Left::Pop(no) => Entry::Asked(env, no, Call::Pop),
+            Left::State(no) => Entry::Asked(env, u64::from(no), Call::State),
+            Left::FrameCount(no) => Entry::Asked(env, u64::from(no), Call::FrameCount),
+            Left::Suspend(no) => Entry::Asked(env, u64::from(no), Call::Suspend),
+            Left::Resume(no) => Entry::Asked(env, u64::from(no), Call::Resume),
+            Left::GetWord(no) => Entry::Asked(env, u64::from(no), Call::GetWord),
+            Left::Pop(no) => Entry::Asked(env, u64::from(no), Call::Pop),
             Left::Stop => Entry::Stop(env),
             Left::Read(max_count) => Entry::Read(env, max_count),
             Left::Go => Entry::Go(env),

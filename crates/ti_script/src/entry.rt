@@ -199,7 +199,7 @@ fn asked(format: u64, rest: &[Value]) -> Option<Entry>
     let env = env_in(env)?;
     let number = u32_in(number)?;
     let call = call_in(format, text.as_str()?, rest)?;
-    Some(Entry::Asked(env, number, call))
+    Some(Entry::Asked(env, u64::from(number), call))
 }
 
 fn stop_entry(rest: &[Value]) -> Option<Entry>

@@ -4,7 +4,7 @@ use Rattle.std.proofs.lemmas.List.{map-append}
 use Rattle.ti_trail.specs.Record.{Recorded}
 use Rattle.std.specs.List.{list_all}
 use Rattle.std.proofs.lemmas.Bool.Decides.{nat_tests}
-use Rattle.std.proofs.lemmas.List.Sums.{sum_by-cons, count_by-le-length}
+use Rattle.std.proofs.lemmas.List.Sums.{sum_by-cons}
 use Rattle.std.proofs.lemmas.List.Folds.{list_all-append}
 use Rattle.ti_types.specs.declared.limits.Limits.{Limits}
 use Rattle.ti_types.specs.declared.numbers.EnvNo.{EnvNo}
@@ -68,10 +68,6 @@ asked_less a env s hc = omega (arith, asked_le env a.history.items)
 
 pub may_ask : (a : Inside) (env : EnvNo) (n : ℕ) (call : Call) → IsSlot a → env.0 < a.limits.envs → calls_spent env a.history.items < a.limits.calls → is_well_formed call ≡ true → n ≡ asked_by env a.history.items → May a (Asked env n call)
 may_ask a env n call s he hc hw hn = grind (arith, nat_tests)
-
--- a call that may be asked has room among those of which something is left
-pub open_less : (a : Inside) (env : EnvNo) → IsSlot a → calls_spent env a.history.items < a.limits.calls → length (fates_by env a.ops.fates) ≡ asked_by env a.history.items → open_by env a.ops.fates < a.ops.window
-open_less a env s hc e = omega (arith, count_by-le-length is_open (fates_by env a.ops.fates), asked_le env a.history.items, e, s.window)
 
 pub ready_more : (limits : Limits) (waiting : List Pending) (p : Pending) → AreReady limits waiting → IsBufferOf limits p.call p.buf → AreReady limits (waiting ++ p ∷ [])
 ready_more limits [] p r b = (b, tt)

@@ -12,7 +12,8 @@ use Rattle.ti_types.specs.Answer.{said}
 use Rattle.ti_ops.specs.declared.fate.Fate.{Fate}
 use Rattle.ti_ops.specs.declared.fate.Fate.TheVariants.{Waiting, Told, Gone}
 use Rattle.ti_ops.specs.declared.pending.Pending.{Pending}
-use Rattle.ti_ops.specs.Fates.{fates_by, fate_of, with_call, with_fate, is_open}
+use Rattle.ti_ops.specs.Fates.{fates_by, fate_of, open_by, with_call, with_fate, is_open}
+use Rattle.ti_ops.proofs.StepLaws.{open-with_fate}
 use Rattle.ti_replay.specs.Answers.{answer_of}
 use Rattle.ti_replay.specs.View.{called}
 use Rattle.ti_slot.specs.Waiting.{Saying, answers_of, said_fate, said_in, delivered}
@@ -216,6 +217,18 @@ length-delivered env w (p ∷ waiting) fates k a =
     let o : is_open (fate_of p.ticket fates) ≡ true = ap is_open k.0 in
     length-delivered env (called w p.ticket.env p.call) waiting (with_fate p.ticket (Told answer) fates) (awaited_after fates p.ticket (Told answer) waiting o a.0 k.1) a.1
     ∙ length-with_fate env p.ticket (Told answer) fates o
+
+-- an answer leaves as many open
+pub open-delivered : (env : EnvNo) (w : ThreadView) (waiting : List Pending) (fates : List (List Fate)) → AreAwaited fates waiting → AreApart waiting
+    → open_by env (delivered (answers_of w waiting) fates) ≡ open_by env fates
+open-delivered env w [] fates k a = refl
+open-delivered env w (p ∷ waiting) fates k a =
+    let answer = answer_of w p.ticket.env p.call in
+    let o : is_open (fate_of p.ticket fates) ≡ true = ap is_open k.0 in
+    let there = within p.ticket fates o in
+    let one = open-with_fate env p.ticket (Told answer) fates there.0 there.1 in
+    open-delivered env (called w p.ticket.env p.call) waiting (with_fate p.ticket (Told answer) fates) (awaited_after fates p.ticket (Told answer) waiting o a.0 k.1) a.1
+    ∙ grind (arith, nat_tests, one, o)
 
 pub envs-delivered : (w : ThreadView) (waiting : List Pending) (fates : List (List Fate)) → length (delivered (answers_of w waiting) fates) ≡ length fates
 envs-delivered w [] fates = refl

@@ -1,5 +1,5 @@
 -- Waiting calls take place, answers are collected, and which tickets are open then.
-use Rattle.std.proofs.Common.{◌≡◌, ℕ, ◌<◌, ◌==◌, nat_lt, true, false, ◌&&◌, List, [], ◌∷◌, ◌++◌, refl, ap, sym, ◌∙◌, arith, Option, Some, None, inl, inr, if◌then◌else◌, length, length-set, append-nil, subst}
+use Rattle.std.proofs.Common.{◌≡◌, ℕ, ◌+◌, ◌<◌, ◌==◌, nat_lt, true, false, ◌&&◌, List, [], ◌∷◌, ◌++◌, refl, ap, sym, ◌∙◌, arith, Option, Some, None, inl, inr, if◌then◌else◌, length, length-set, append-nil, subst}
 use Rattle.std.specs.Option.{option_or}
 use Rattle.std.proofs.lemmas.Bool.{cases_Bool}
 use Rattle.std.proofs.lemmas.Bool.Decides.{nat_tests}
@@ -16,7 +16,8 @@ use Rattle.ti_types.specs.declared.view.ThreadView.{ThreadView}
 use Rattle.ti_ops.specs.declared.fate.Fate.{Fate}
 use Rattle.ti_ops.specs.declared.fate.Fate.TheVariants.{Waiting, Told, Gone}
 use Rattle.ti_ops.specs.declared.pending.Pending.{Pending}
-use Rattle.ti_ops.specs.Fates.{fates_by, fate_of, with_call, with_fate, told_by, is_open}
+use Rattle.ti_ops.specs.Fates.{fates_by, fate_of, open_by, with_call, with_fate, told_by, is_open}
+use Rattle.ti_ops.proofs.StepLaws.{open-with_fate}
 use Rattle.ti_replay.specs.Settling.{is_hand_over}
 use Rattle.ti_replay.specs.View.{view, after, called}
 use Rattle.ti_replay.specs.Legal.{asked_by}
@@ -24,10 +25,10 @@ use Rattle.ti_replay.specs.HistoryState.{history_state}
 use Rattle.ti_replay.specs.Tickets.{is_call_of, reply_in, reply_to}
 use Rattle.ti_replay.proofs.TicketReplies.{reply_to-snoc, settling}
 use Rattle.ti_slot.specs.Waiting.{answers_of, entries_of, delivered}
-use Rattle.ti_slot.specs.Tickets.{has, without_ticket, asked_in, open_in, is_at, AreAwaited, AreApart, AreOnce, Tells}
-use Rattle.ti_slot.proofs.FateLaws.{saying_for, fate_or, fate-passed, fate-with_call, fate-with_fate, length-with_fate, same_fate, said_waits, fate-delivered, length-delivered, envs-delivered}
+use Rattle.ti_slot.specs.Tickets.{same, has, held_by, without_ticket, asked_in, open_in, is_at, AreAwaited, AreApart, AreOnce, Tells}
+use Rattle.ti_slot.proofs.FateLaws.{saying_for, fate_or, fate-passed, fate-with_call, fate-with_fate, length-with_fate, same_fate, said_waits, fate-delivered, open-delivered, length-delivered, within, envs-delivered}
 use Rattle.ti_slot.proofs.TicketLaws.{asked_in-snoc, asked_stay, open-append, open_same, open_less, has-open}
-use Rattle.ti_slot.proofs.TellLaws.{asked-snoc, still, hand_free, no_asking, no_ticket, awaited_on, asked_before, is_next, not_next}
+use Rattle.ti_slot.proofs.TellLaws.{held-cons, asked-snoc, still, hand_free, no_asking, no_ticket, awaited_on, asked_before, is_next, not_next}
 
 hand_no_call : (t : Ticket) (x : Entry) → is_hand_over x ≡ true → is_call_of t x ≡ false
 hand_no_call t Start h = cc
@@ -52,6 +53,18 @@ data Spoken (t : Ticket) (r : Option Answer) : Type 0 where
 spoken : (t : Ticket) (r : Option Answer) → Spoken t r
 spoken t (Some a) = Says a refl
 spoken t None = Silent refl
+
+-- after the waiting calls took place
+pub open_hand : (fates : List (List Fate)) (w : ThreadView) (waiting : List Pending) (ts : List Ticket) → AreAwaited fates waiting → AreApart waiting → open_in (delivered (answers_of w waiting) fates) ts ≡ open_in fates ts
+open_hand fates w waiting ts k a =
+    let ans = answers_of w waiting in
+    let f : (t : Ticket) → fate_of t (delivered ans fates) ≡ fate_or (saying_for t ans) (fate_of t fates) = λ t. fate-delivered t w waiting fates k a in
+    open_same (delivered ans fates) fates ts (λ t h. elim (spoken t (saying_for t ans)) [
+      | Says y e ↦
+          let told : fate_of t (delivered ans fates) ≡ Told y = f t ∙ ap (λ q. fate_or q (fate_of t fates)) e in
+          ap is_open told ∙ sym (ap is_open (said_waits t w waiting fates y k e))
+      | Silent e ↦ ap is_open (f t ∙ ap (λ q. fate_or q (fate_of t fates)) e)
+    ])
 
 -- the waiting calls take place
 pub tells_hand : (limits : Limits) (number : ThreadNo) (h : List Entry) (waiting : List Pending) (fates : List (List Fate)) (x : Entry) → is_hand_over x ≡ true → (history_state limits h).waiting ≡ entries_of waiting
@@ -96,7 +109,16 @@ tells_hand limits number h waiting fates x hx ew s =
       apart = tt;
       listed = λ t. ap (has t) same ∙ s.listed t ∙ ap (λ m. t.thread.0 == number.0 && nat_lt t.no m) (sym (a t.env));
       once = subst AreOnce (sym same) s.once;
+      held = λ env. ap (λ ts. held_by env (open_in new ts)) same ∙ ap (held_by env) (open_hand fates (after v x) waiting (asked_in number h) s.awaited s.apart) ∙ s.held env ∙ sym (open-delivered env (after v x) waiting fates s.awaited s.apart);
     }
+
+held-without : (e : EnvNo) (t : Ticket) (ts : List Ticket) → has t ts ≡ true → held_by e (without_ticket t ts) + (if t.env.0 == e.0 then 1 else 0) ≡ held_by e ts
+held-without e t [] h = cc
+held-without e t (u ∷ ts) h =
+    elim (cases_Bool (same u t)) [
+      | inl it ↦ let s : u.env.0 ≡ t.env.0 = grind (arith, nat_tests) in grind (arith, nat_tests, it, s, held-cons e u ts)
+      | inr other ↦ let z = held-without e t ts (grind (arith, h, other)) in grind (arith, nat_tests, other, z, held-cons e u ts, held-cons e u (without_ticket t ts))
+    ]
 
 -- an answer is collected
 pub tells_less : (limits : Limits) (number : ThreadNo) (h : List Entry) (waiting : List Pending) (fates : List (List Fate)) (t : Ticket) (a : Answer) → fate_of t fates ≡ Told a
@@ -125,8 +147,23 @@ tells_less limits number h waiting fates t a e s =
       apart = s.apart;
       listed = s.listed;
       once = s.once;
+      held = λ e. held_less e;
     }
   where
+    here : Ticket
+    here = record { env = t.env; thread = number; no = t.no }
+
+    held_less : (e : EnvNo) → held_by e (open_in (with_fate t Gone fates) (asked_in number h)) ≡ open_by e (with_fate t Gone fates)
+    held_less env =
+        let o : is_open (fate_of here fates) ≡ true = ap is_open e in
+        let there = within here fates o in
+        let k = asked_before limits number h waiting fates here s o in
+        let is_there : has here (open_in fates (asked_in number h)) ≡ true = grind (arith, nat_tests, has-open here fates (asked_in number h), o, s.listed here, k) in
+        let less = open_less here fates (asked_in number h) o s.once (λ u k. let l = s.listed u in grind (arith, nat_tests, l, k)) in
+        let one = held-without env here (open_in fates (asked_in number h)) is_there in
+        let now = open-with_fate env here Gone fates there.0 there.1 in
+        ap (held_by env) less ∙ grind (arith, nat_tests, one, now, s.held env, o)
+
     is_told : (x : Fate) (y : Answer) → told_by x ≡ Some y → x ≡ Told y
     is_told Waiting y w = cc
     is_told (Told z) y w = cc
@@ -152,52 +189,6 @@ collected_is limits number h waiting fates t e s = by_fate (fate_of t fates) ref
 pub not_mine : (limits : Limits) (number : ThreadNo) (h : List Entry) (waiting : List Pending) (fates : List (List Fate)) (t : Ticket) → (t.thread.0 ≡ number.0 → ⊥) → Tells limits number h waiting fates
     → has t (open_in fates (asked_in number h)) ≡ false
 not_mine limits number h waiting fates t e s = grind (arith, nat_tests, has-open t fates (asked_in number h), s.listed t, e)
-
--- which tickets are open after a call that is answered at once
-pub open_now : (limits : Limits) (number : ThreadNo) (h : List Entry) (waiting : List Pending) (fates : List (List Fate)) (env : EnvNo) (n : ℕ) (call : Call) → env.0 < limits.envs → n ≡ asked_by env h → Tells limits number h waiting fates
-    → open_in (with_call env Gone fates) (asked_in number (h ++ Asked env n call ∷ [])) ≡ open_in fates (asked_in number h)
-open_now limits number h waiting fates env n call he hn s =
-    let u : Ticket = record { env = env; thread = number; no = n } in
-    let new = with_call env Gone fates in
-    let inside : env.0 < length fates = omega (arith, he, s.envs) in
-    let none : fate_of u new ≡ Gone = fate-passed u env fates inside ∙ get_or_past (fates_by env fates) n Gone (omega (arith, hn, s.lists env)) in
-    let same_ones : open_in new (asked_in number h) ≡ open_in fates (asked_in number h) = open_same new fates (asked_in number h) (λ t k. ap is_open (fate-passed t env fates inside)) in
-    let last : open_in new (u ∷ []) ≡ [] = grind (arith, none) in
-    ap (open_in new) (asked_in-snoc number h (Asked env n call)) ∙ open-append new (asked_in number h) (u ∷ [])
-    ∙ ap (λ ts. open_in new (asked_in number h) ++ ts) last ∙ append-nil (open_in new (asked_in number h)) ∙ same_ones
-
--- after a call that waits
-pub open_later : (limits : Limits) (number : ThreadNo) (h : List Entry) (waiting : List Pending) (fates : List (List Fate)) (env : EnvNo) (n : ℕ) (call : Call) → env.0 < limits.envs → n ≡ asked_by env h → Tells limits number h waiting fates
-    → open_in (with_call env Waiting fates) (asked_in number (h ++ Asked env n call ∷ [])) ≡ open_in fates (asked_in number h) ++ (record { env = env; thread = number; no = n }) ∷ []
-open_later limits number h waiting fates env n call he hn s =
-    let u : Ticket = record { env = env; thread = number; no = n } in
-    let new = with_call env Waiting fates in
-    let inside : env.0 < length fates = omega (arith, he, s.envs) in
-    let len : length (fates_by env fates) ≡ n = s.lists env ∙ sym hn in
-    let f : (t : Ticket) → fate_of t new ≡ (if is_next env n t then Waiting else fate_of t fates) = λ t. fate-with_call t env Waiting fates inside ∙ ap (λ m. if is_next env m t then Waiting else fate_of t fates) len in
-    let here : is_next env n u ≡ true = grind (arith, nat_tests) in
-    let waits : fate_of u new ≡ Waiting = f u ∙ grind (arith, here) in
-    let same_ones : open_in new (asked_in number h) ≡ open_in fates (asked_in number h) =
-    open_same new fates (asked_in number h) (λ t k.
-    let below : t.no < asked_by t.env h = (let l = s.listed t in grind (arith, nat_tests, l, k)) in
-    let other : is_next env n t ≡ false = not_next t env h n hn below in
-    let same_fates : fate_of t new ≡ fate_of t fates = f t ∙ grind (arith, other) in
-    ap is_open same_fates) in
-    let last : open_in new (u ∷ []) ≡ u ∷ [] = grind (arith, waits) in
-    ap (open_in new) (asked_in-snoc number h (Asked env n call)) ∙ open-append new (asked_in number h) (u ∷ [])
-    ∙ ap (λ ts. open_in new (asked_in number h) ++ ts) last ∙ ap (λ ts. ts ++ u ∷ []) same_ones
-
--- after the waiting calls took place
-pub open_hand : (fates : List (List Fate)) (w : ThreadView) (waiting : List Pending) (ts : List Ticket) → AreAwaited fates waiting → AreApart waiting → open_in (delivered (answers_of w waiting) fates) ts ≡ open_in fates ts
-open_hand fates w waiting ts k a =
-    let ans = answers_of w waiting in
-    let f : (t : Ticket) → fate_of t (delivered ans fates) ≡ fate_or (saying_for t ans) (fate_of t fates) = λ t. fate-delivered t w waiting fates k a in
-    open_same (delivered ans fates) fates ts (λ t h. elim (spoken t (saying_for t ans)) [
-      | Says y e ↦
-          let told : fate_of t (delivered ans fates) ≡ Told y = f t ∙ ap (λ q. fate_or q (fate_of t fates)) e in
-          ap is_open told ∙ sym (ap is_open (said_waits t w waiting fates y k e))
-      | Silent e ↦ ap is_open (f t ∙ ap (λ q. fate_or q (fate_of t fates)) e)
-    ])
 
 -- after an answer was collected
 pub open_taken : (limits : Limits) (number : ThreadNo) (h : List Entry) (waiting : List Pending) (fates : List (List Fate)) (t : Ticket) (a : Answer) → t.thread.0 ≡ number.0 → fate_of t fates ≡ Told a → Tells limits number h waiting fates

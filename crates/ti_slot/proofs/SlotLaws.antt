@@ -139,7 +139,7 @@ serve_stands limits h cap cap' c c' l own own' costs ops ops' x m fr fr' h' s ma
 
 -- a thread that has not started
 pub new_stands : (limits : Limits) (h : List Entry) (cap : Shelf) (words : List ℕ) (f : Stack) (l : Steps) (ops : Ops) → h ≡ [] → cap ≡ shelf_of limits → words ≡ replicate limits.envs 0
-    → f.frames ≡ [] → f.depth ≡ limits.depth → l.steps ≡ [] → l.room ≡ limits.own → l.kept ≡ limits.kept → ops.waiting ≡ [] → ops.window ≡ limits.calls
+    → f.frames ≡ [] → f.depth ≡ limits.depth → l.steps ≡ [] → l.room ≡ limits.own → l.kept ≡ limits.kept → ops.waiting ≡ [] → ops.window ≡ limits.window + 1
     → Stands limits h cap (record { mode = mode.New; suspended = false; stopper = None; words = words }) (Some f) (Some l) 0 (history_state limits h).costs ops
 new_stands limits h cap words f l ops eh le ew ff fd ls lr lk none window =
     own_costs limits h cap (record { mode = mode.New; suspended = false; stopper = None; words = words }) (Some f) (Some l) 0 (replicate limits.envs no_costs) ops (rw eh (record {

@@ -1,5 +1,5 @@
 -- What the fates of a history's calls tell, entry by entry.
-use Rattle.std.proofs.Common.{◌≡◌, ℕ, ◌+◌, ◌<◌, ◌≤◌, ◌==◌, nat_lt, Bool, true, false, ◌&&◌, List, [], ◌∷◌, ◌++◌, length, refl, ap, sym, ◌∙◌, arith, Option, Some, None, inl, inr, not, if◌then◌else◌, length-set, subst}
+use Rattle.std.proofs.Common.{◌≡◌, ℕ, ◌+◌, ◌<◌, ◌≤◌, ◌==◌, nat_lt, Bool, true, false, ◌&&◌, List, [], ◌∷◌, ◌++◌, length, refl, ap, sym, ◌∙◌, arith, Option, Some, None, inl, inr, not, if◌then◌else◌, length-set, subst, append-nil}
 use Rattle.std.specs.Option.{option_or}
 use Rattle.std.proofs.lemmas.Bool.{cases_Bool}
 use Rattle.std.proofs.lemmas.Bool.Decides.{nat_tests}
@@ -17,7 +17,8 @@ use Rattle.ti_types.specs.declared.view.ThreadView.{ThreadView}
 use Rattle.ti_ops.specs.declared.fate.Fate.{Fate}
 use Rattle.ti_ops.specs.declared.fate.Fate.TheVariants.{Waiting, Gone}
 use Rattle.ti_ops.specs.declared.pending.Pending.{Pending}
-use Rattle.ti_ops.specs.Fates.{fates_by, fate_of, with_call, told_by, is_open}
+use Rattle.ti_ops.specs.Fates.{fates_by, fate_of, open_by, with_call, told_by, is_open}
+use Rattle.ti_ops.proofs.StepLaws.{open-with_call}
 use Rattle.ti_replay.specs.Settling.{is_hand_over}
 use Rattle.ti_replay.specs.View.{view}
 use Rattle.ti_replay.specs.Legal.{asked_by, ask_count}
@@ -25,9 +26,9 @@ use Rattle.ti_replay.specs.HistoryState.{HistoryState, history_state}
 use Rattle.ti_replay.specs.Tickets.{reply_in, reply_to}
 use Rattle.ti_replay.proofs.NextStates.{is_put_off}
 use Rattle.ti_replay.proofs.TicketReplies.{reply_to-snoc, settling}
-use Rattle.ti_slot.specs.Tickets.{has, AreOnce, ticket_in, asked_in, is_at, is_awaited, AreAwaited, AreApart, Tells}
+use Rattle.ti_slot.specs.Tickets.{has, held_by, open_in, AreOnce, ticket_in, asked_in, is_at, is_awaited, AreAwaited, AreApart, Tells}
 use Rattle.ti_slot.proofs.FateLaws.{within, fate-passed, fate-with_call, length-with_call, same_fate}
-use Rattle.ti_slot.proofs.TicketLaws.{asked_in-snoc, asked_stay, listed_more, once_more}
+use Rattle.ti_slot.proofs.TicketLaws.{open-append, open_same, asked_in-snoc, asked_stay, listed_more, once_more}
 
 pub asked-snoc : (env : EnvNo) (history : List Entry) (x : Entry) → asked_by env (history ++ x ∷ []) ≡ asked_by env history + ask_count env x
 asked-snoc env history x = omega (arith, sum_by-append (ask_count env) history (x ∷ []), sum_by-cons (ask_count env) x [])
@@ -122,6 +123,7 @@ tells_plain limits number h waiting fates x p s =
       apart = s.apart;
       listed = λ t. ap (has t) same ∙ s.listed t ∙ ap (λ m. t.thread.0 == number.0 && nat_lt t.no m) (sym (a t.env));
       once = subst AreOnce (sym same) s.once;
+      held = λ env. ap (λ ts. held_by env (open_in fates ts)) same ∙ s.held env;
     }
 
 -- the number of an open call is below that of the next
@@ -172,6 +174,46 @@ asked_more limits number h waiting fates env n call hn s =
       once = subst AreOnce (sym more) (once_more (asked_in number h) u s.once not_there);
     }
 
+-- which tickets are open after a call that is answered at once
+pub open_now : (limits : Limits) (number : ThreadNo) (h : List Entry) (waiting : List Pending) (fates : List (List Fate)) (env : EnvNo) (n : ℕ) (call : Call) → env.0 < limits.envs → n ≡ asked_by env h → Tells limits number h waiting fates
+    → open_in (with_call env Gone fates) (asked_in number (h ++ Asked env n call ∷ [])) ≡ open_in fates (asked_in number h)
+open_now limits number h waiting fates env n call he hn s =
+    let u : Ticket = record { env = env; thread = number; no = n } in
+    let new = with_call env Gone fates in
+    let inside : env.0 < length fates = omega (arith, he, s.envs) in
+    let none : fate_of u new ≡ Gone = fate-passed u env fates inside ∙ get_or_past (fates_by env fates) n Gone (omega (arith, hn, s.lists env)) in
+    let same_ones : open_in new (asked_in number h) ≡ open_in fates (asked_in number h) = open_same new fates (asked_in number h) (λ t k. ap is_open (fate-passed t env fates inside)) in
+    let last : open_in new (u ∷ []) ≡ [] = grind (arith, none) in
+    ap (open_in new) (asked_in-snoc number h (Asked env n call)) ∙ open-append new (asked_in number h) (u ∷ [])
+    ∙ ap (λ ts. open_in new (asked_in number h) ++ ts) last ∙ append-nil (open_in new (asked_in number h)) ∙ same_ones
+
+-- after a call that waits
+pub open_later : (limits : Limits) (number : ThreadNo) (h : List Entry) (waiting : List Pending) (fates : List (List Fate)) (env : EnvNo) (n : ℕ) (call : Call) → env.0 < limits.envs → n ≡ asked_by env h → Tells limits number h waiting fates
+    → open_in (with_call env Waiting fates) (asked_in number (h ++ Asked env n call ∷ [])) ≡ open_in fates (asked_in number h) ++ (record { env = env; thread = number; no = n }) ∷ []
+open_later limits number h waiting fates env n call he hn s =
+    let u : Ticket = record { env = env; thread = number; no = n } in
+    let new = with_call env Waiting fates in
+    let inside : env.0 < length fates = omega (arith, he, s.envs) in
+    let len : length (fates_by env fates) ≡ n = s.lists env ∙ sym hn in
+    let f : (t : Ticket) → fate_of t new ≡ (if is_next env n t then Waiting else fate_of t fates) = λ t. fate-with_call t env Waiting fates inside ∙ ap (λ m. if is_next env m t then Waiting else fate_of t fates) len in
+    let here : is_next env n u ≡ true = grind (arith, nat_tests) in
+    let waits : fate_of u new ≡ Waiting = f u ∙ grind (arith, here) in
+    let same_ones : open_in new (asked_in number h) ≡ open_in fates (asked_in number h) =
+    open_same new fates (asked_in number h) (λ t k.
+    let below : t.no < asked_by t.env h = (let l = s.listed t in grind (arith, nat_tests, l, k)) in
+    let other : is_next env n t ≡ false = not_next t env h n hn below in
+    let same_fates : fate_of t new ≡ fate_of t fates = f t ∙ grind (arith, other) in
+    ap is_open same_fates) in
+    let last : open_in new (u ∷ []) ≡ u ∷ [] = grind (arith, waits) in
+    ap (open_in new) (asked_in-snoc number h (Asked env n call)) ∙ open-append new (asked_in number h) (u ∷ [])
+    ∙ ap (λ ts. open_in new (asked_in number h) ++ ts) last ∙ ap (λ ts. ts ++ u ∷ []) same_ones
+
+pub held-cons : (e : EnvNo) (u : Ticket) (ts : List Ticket) → held_by e (u ∷ ts) ≡ (if u.env.0 == e.0 then 1 else 0) + held_by e ts
+held-cons e u ts = sum_by-cons (λ (t : Ticket). if t.env.0 == e.0 then 1 else 0) u ts
+
+held-more : (e : EnvNo) (ts : List Ticket) (u : Ticket) → held_by e (ts ++ u ∷ []) ≡ held_by e ts + (if u.env.0 == e.0 then 1 else 0)
+held-more e ts u = omega (arith, sum_by-append (λ (t : Ticket). if t.env.0 == e.0 then 1 else 0) ts (u ∷ []), held-cons e u [])
+
 -- a call that is answered at once
 pub tells_now : (limits : Limits) (number : ThreadNo) (h : List Entry) (waiting : List Pending) (fates : List (List Fate)) (env : EnvNo) (n : ℕ) (call : Call) → env.0 < limits.envs → n ≡ asked_by env h
     → is_put_off (history_state limits h) (Asked env n call) ≡ false → Tells limits number h waiting fates → Tells limits number (h ++ Asked env n call ∷ []) waiting (with_call env Gone fates)
@@ -198,6 +240,7 @@ tells_now limits number h waiting fates env n call he hn off s =
       apart = s.apart;
       listed = l.listed;
       once = l.once;
+      held = λ e. ap (held_by e) (open_now limits number h waiting fates env n call he hn s) ∙ s.held e ∙ sym (open-with_call e env Gone fates inside ∙ grind (arith, nat_tests));
     }
 
 awaited_more : (fates : List (List Fate)) (waiting : List Pending) (p : Pending) → AreAwaited fates waiting → fate_of p.ticket fates ≡ Waiting → AreAwaited fates (waiting ++ p ∷ [])
@@ -247,4 +290,7 @@ tells_later limits number h waiting fates env n call p he hn off ep s =
       apart = apart_more fates waiting p s.apart s.awaited none;
       listed = l.listed;
       once = l.once;
+      held = λ e.
+          ap (held_by e) (open_later limits number h waiting fates env n call he hn s) ∙ held-more e (open_in fates (asked_in number h)) (record { env = env; thread = number; no = n })
+          ∙ ap (λ m. m + (if env.0 == e.0 then 1 else 0)) (s.held e) ∙ sym (open-with_call e env Waiting fates inside ∙ grind (arith, nat_tests));
     }

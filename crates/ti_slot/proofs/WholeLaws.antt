@@ -2,6 +2,7 @@
 use Rattle.std.proofs.Common.{◌≡◌, ℕ, ◌+◌, ◌<◌, ◌≤◌, true, false, ◌&&◌, if◌then◌else◌, List, [], ◌∷◌, ◌++◌, length, map, get_or, replicate, suc, zero, refl, ap, sym, ◌∙◌, arith, Option, Some, None, append-nil, append_assoc, subst, is_some}
 use Rattle.std.specs.Option.{option_map}
 use Rattle.std.proofs.lemmas.List.{length-map, length-replicate}
+use Rattle.std.proofs.lemmas.List.Sums.{sum_by-cons, count_by-le-length}
 use Rattle.ti_types.specs.declared.limits.Limits.{Limits}
 use Rattle.ti_types.specs.declared.numbers.EnvNo.{EnvNo}
 use Rattle.ti_types.specs.declared.numbers.ThreadNo.{ThreadNo}
@@ -26,31 +27,32 @@ use Rattle.ti_frames.specs.Frames.{Stack, with_frames}
 use Rattle.ti_ops.specs.declared.fate.Fate.{Fate}
 use Rattle.ti_ops.specs.declared.fate.Fate.TheVariants.{Waiting, Told, Gone}
 use Rattle.ti_ops.specs.declared.pending.Pending.{Pending}
-use Rattle.ti_ops.specs.Fates.{fates_by, fate_of, open_by, with_call, with_fate, told_by}
+use Rattle.ti_ops.specs.Fates.{fates_by, fate_of, open_by, with_call, with_fate, told_by, is_open}
 use Rattle.ti_ops.specs.Ops.{Ops, with_posted, with_fates}
 use Rattle.ti_replay.specs.Answers.{is_running, answer_of}
 use Rattle.ti_replay.specs.Settling.{waits, is_hand_over}
 use Rattle.ti_replay.specs.View.{view, after, called}
 use Rattle.ti_replay.specs.Legal.{asked_by, calls_spent, is_well_formed, may_follow, own_cost}
 use Rattle.ti_replay.proofs.Charging.{charged_free}
-use Rattle.std.specs.List.{fold}
+use Rattle.std.specs.List.{fold, count_by}
 use Rattle.ti_replay.specs.HistoryState.{HistoryState, history_state}
 use Rattle.ti_replay.specs.LateTickets.{steps_of}
 use Rattle.ti_replay.specs.Tickets.{reply_to}
 use Rattle.ti_slot.specs.declared.slot.Slot.TheInside.{Inside}
 use Rattle.ti_slot.specs.Condition.{view_of, frames_or, AreWhereTheyWere}
 use Rattle.ti_slot.specs.Waiting.{answers_of, entries_of, said_in, said_fate, delivered, IsBufferOf}
-use Rattle.ti_slot.specs.Tickets.{Tells, has, without_ticket, asked_in, open_in, AreAwaited}
+use Rattle.ti_slot.specs.Tickets.{Tells, has, held_by, without_ticket, asked_in, open_in, AreAwaited}
 use Rattle.ti_slot.specs.Thread.{Thread, with_more, IsAsked}
 use Rattle.ti_slot.specs.Inside.{IsSlot, IsWhole, costs_in, thread_in}
 use Rattle.ti_slot.specs.Slot.{Stands, shelf}
 use Rattle.ti_slot.proofs.SlotLaws as laws
 use Rattle.ti_slot.proofs.CallLaws.{Comes, comes, may_call, Ran, ran_view, at_mode, Hands}
-use Rattle.ti_slot.proofs.AskLaws.{put_off_is, asked_less, may_ask, open_less, asked_waits, answered, told_waits, told_now}
+use Rattle.ti_slot.proofs.AskLaws.{put_off_is, asked_less, may_ask, asked_waits, answered, told_waits, told_now}
 use Rattle.ti_slot.proofs.FateLaws.{by-said, fate-said, length-said, said-with_fate, said-with_call, waits-said}
+use Rattle.ti_ops.proofs.StepLaws.{opens}
 use Rattle.ti_slot.proofs.TicketLaws.{asked_stay, asked-steps}
-use Rattle.ti_slot.proofs.TellLaws.{is_plain, is_call, no_ticket, hand_free, tells_plain, tells_now, tells_later}
-use Rattle.ti_slot.proofs.OpenLaws.{tells_hand, tells_less, collected_is, not_mine, open_now, open_later, open_hand, open_taken}
+use Rattle.ti_slot.proofs.TellLaws.{is_plain, is_call, no_ticket, hand_free, tells_plain, open_now, open_later, tells_now, tells_later}
+use Rattle.ti_slot.proofs.OpenLaws.{tells_hand, tells_less, collected_is, not_mine, open_hand, open_taken}
 
 none_by : (n i : ℕ) → get_or {A = List Fate} (replicate n []) i [] ≡ []
 none_by zero i = refl
@@ -72,6 +74,7 @@ tells_nothing limits number =
       apart = tt;
       listed = λ t. grind arith;
       once = tt;
+      held = λ env. sym (ap (count_by is_open) (none env));
     }
 
 -- the lists of fates are those of the history's calls
@@ -103,6 +106,27 @@ held_thread a t event x h et p e free =
     plain_thread a (thread_in a) x h refl p e ∙ ap (λ r. with_more (thread_in a) (if_none r (x ∷ []))) (sym free)
     ∙ ap (λ (z : Thread). with_more z (if_none (hold_refusal (view z.limits z.history) (event z.number)) (x ∷ []))) et
 
+-- of how many calls of an environment something is left, said or not
+open-said : (env : EnvNo) (fates : List (List Fate)) → open_by env (said_in fates) ≡ open_by env fates
+open-said env fates = ap (count_by is_open) (by-said env fates) ∙ mapped (fates_by env fates)
+  where
+    one : (x : Fate) → opens (said_fate x) ≡ opens x
+    one Waiting = refl
+    one (Told a) = refl
+    one Gone = refl
+
+    mapped : (xs : List Fate) → count_by is_open (map said_fate xs) ≡ count_by is_open xs
+    mapped [] = refl
+    mapped (x ∷ xs) = omega (arith, sum_by-cons opens (said_fate x) (map said_fate xs), sum_by-cons opens x xs, mapped xs, one x)
+
+pub held_here : (a : Inside) (t : Thread) (env : EnvNo) → IsWhole a → thread_in a ≡ t → open_by env a.ops.fates ≡ held_by env t.uncollected
+held_here a t env s et = sym (open-said env a.ops.fates) ∙ sym (s.1.held env) ∙ ap (λ (z : Thread). held_by env z.uncollected) et
+
+-- and at most as many as it has asked
+pub few_here : (a : Inside) (t : Thread) (env : EnvNo) → IsWhole a → thread_in a ≡ t → held_by env t.uncollected ≤ asked_by env t.history
+few_here a t env s et =
+    omega (arith, held_here a t env s et, count_by-le-length is_open (fates_by env a.ops.fates), list_here a env s, ap (λ (z : Thread). asked_by env z.history) et)
+
 -- a call that may be asked, and the room for it
 pub record Asks (a : Inside) (env : EnvNo) (n : ℕ) (call : Call) : Type 0 where
   pub there : env.0 < a.limits.envs
@@ -110,12 +134,12 @@ pub record Asks (a : Inside) (env : EnvNo) (n : ℕ) (call : Call) : Type 0 wher
   pub listed : env.0 < length a.ops.fates
   pub next : n ≡ length (fates_by env a.ops.fates)
   pub left : n < a.limits.calls
-  pub room : open_by env a.ops.fates < a.ops.window
+  pub room : waits call ≡ true → open_by env a.ops.fates < a.ops.window
   pub comes : Comes a (Asked env n call)
 
 pub asks_here : (a : Inside) (t : Thread) (env : EnvNo) (n : ℕ) (call : Call) → IsWhole a → thread_in a ≡ t → env.0 < t.limits.envs → calls_spent env t.history < t.limits.calls → is_well_formed call ≡ true
-    → n ≡ length (fates_by env a.ops.fates) → Asks a env n call
-asks_here a t env n call s et he hc hw en =
+    → (waits call ≡ true → held_by env t.uncollected ≤ t.limits.window) → n ≡ length (fates_by env a.ops.fates) → Asks a env n call
+asks_here a t env n call s et he hc hw hh en =
     let h = may_call a t env et he hc in
     let number : n ≡ asked_by env a.history.items = en ∙ list_here a env s in
     let may = may_ask a env n call s.0 h.0 h.1 hw number in
@@ -125,7 +149,7 @@ asks_here a t env n call s et he hc hw en =
       listed = omega (arith, lists_here a s, h.0);
       next = en;
       left = omega (arith, number, asked_less a env s.0 h.1);
-      room = open_less a env s.0 h.1 (list_here a env s);
+      room = λ w. omega (arith, hh w, held_here a t env s et, s.0.window, ap (λ (z : Thread). z.limits.window) et);
       comes = comes a (Asked env n call) s.0 may;
     }
 

@@ -54,6 +54,6 @@ pub record Stands (limits : Limits) (history : List Entry) (there : Shelf) (c : 
   pub frames_home : FramesAreHome limits c.mode frames
   pub log_home : LogIsHome limits c.mode log
   pub room : there ≡ shelf_of limits
-  pub window : ops.window ≡ limits.calls
+  pub window : ops.window ≡ limits.window + 1
   pub ready : AreReady limits ops.waiting
   pub calls : list_all waits (calls_of ops.waiting) ≡ true

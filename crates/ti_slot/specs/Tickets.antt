@@ -1,6 +1,6 @@
 -- Which tickets a slot still has.
-use Rattle.std.specs.Prelude.{◌≡◌, ◌≤◌, Bool, false, ◌==◌, ◌&&◌, nat_lt, if◌then◌else◌, length, List, [], ◌∷◌, Some, None}
-use Rattle.std.specs.List.{list_any, flat_map}
+use Rattle.std.specs.Prelude.{ℕ, ◌≡◌, ◌≤◌, Bool, false, ◌==◌, ◌&&◌, nat_lt, if◌then◌else◌, length, List, [], ◌∷◌, Some, None}
+use Rattle.std.specs.List.{list_any, flat_map, count_by}
 use Rattle.ti_types.specs.declared.limits.Limits.{Limits}
 use Rattle.ti_types.specs.declared.numbers.EnvNo.{EnvNo}
 use Rattle.ti_types.specs.declared.numbers.ThreadNo.{ThreadNo}
@@ -9,7 +9,7 @@ use Rattle.ti_types.specs.declared.answer.Answer.{Answer}
 use Rattle.ti_types.specs.declared.entry.Entry.{Entry}
 use Rattle.ti_types.specs.declared.entry.Entry.TheVariants.{Asked}
 pub use Rattle.ti_ops.specs.Fates.{is_at, is_awaited}
-use Rattle.ti_ops.specs.Fates.{fates_by, fate_of, told_by, is_open}
+use Rattle.ti_ops.specs.Fates.{fates_by, fate_of, open_by, told_by, is_open}
 use Rattle.ti_ops.specs.declared.pending.Pending.{Pending}
 use Rattle.ti_ops.specs.declared.fate.Fate.{Fate}
 use Rattle.ti_ops.specs.declared.fate.Fate.TheVariants.{Waiting}
@@ -48,6 +48,10 @@ abbrev pub open_in : List (List Fate) → List Ticket → List Ticket
 open_in fates [] = []
 open_in fates (t ∷ tickets) = if is_open (fate_of t fates) then t ∷ open_in fates tickets else open_in fates tickets
 
+-- how many tickets are an environment's
+abbrev pub held_by : EnvNo → List Ticket → ℕ
+held_by env tickets = count_by (λ t. t.env.0 == env.0) tickets
+
 -- the calls that wait have no answer yet
 abbrev pub AreAwaited : List (List Fate) → List Pending → Type 0
 AreAwaited fates [] = Unit {0}
@@ -69,3 +73,4 @@ pub record Tells (limits : Limits) (number : ThreadNo) (history : List Entry) (w
   pub apart : AreApart waiting
   pub listed : (t : Ticket) → has t (asked_in number history) ≡ (t.thread.0 == number.0 && nat_lt t.no (asked_by t.env history))
   pub once : AreOnce (asked_in number history)
+  pub held : (env : EnvNo) → held_by env (open_in fates (asked_in number history)) ≡ open_by env fates

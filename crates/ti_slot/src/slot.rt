@@ -7,16 +7,18 @@ ghost use Rattle.ti_types.specs.declared.state.Safe.TheVariants.{AtPoll};
 ghost use Rattle.ti_types.specs.declared.view.ThreadView.{ThreadView};
 ghost use Rattle.ti_frames.specs.Log.{with_steps};
 ghost use Rattle.ti_replay.specs.Answers.{or_zero as or_zero_of, is_running as runs_is};
+ghost use Rattle.ti_replay.specs.Settling.{waits};
 ghost use Rattle.ti_replay.specs.View.{view, is_barred};
 ghost use Rattle.ti_replay.specs.Legal.{is_legal, is_armed, is_well_formed, is_not_negative, own_cost, own_spent, calls_spent, asked_by, goes_on};
 ghost use Rattle.ti_replay.specs.Refusals.{own_refusal};
 ghost use Rattle.ti_replay.specs.Events.{hold_refusal, if_none};
 ghost use Rattle.ti_replay.specs.Standing.{is_standing};
 ghost use Rattle.ti_replay.specs.Replies.{reply};
-ghost use Rattle.ti_slot.specs.Thread.{new_slot, with_more, with_tickets, done_or, IsAsked, read_answer};
+ghost use Rattle.ti_slot.specs.Thread.{new_slot, with_more, with_tickets, done_or, IsAsked, IsLate, read_answer};
 ghost use Rattle.std.specs.Option.{option_map};
-ghost use Rattle.ti_slot.specs.Tickets.{has, without_ticket, AreOnce};
+ghost use Rattle.ti_slot.specs.Tickets.{has, held_by, without_ticket, AreOnce};
 ghost use Rattle.ti_types.specs.declared.event.Ticket.{Ticket};
+ghost use Rattle.ti_types.specs.declared.numbers.EnvNo.{EnvNo};
 ghost use Rattle.std.specs.Prelude.{◌&&◌, ◌==◌, nat_lt};
 ghost use Rattle.ti_replay.specs.Tickets.{reply_to};
 ghost use Rattle.ti_slot.specs.Refusal.{hand_refusal};
@@ -85,8 +87,8 @@ impl Slot {
         let frames = Frames::new(alloc, limits.depth)?;
         let log = Log::new(alloc, limits.own, recording)?;
         let words = WordList::zeros(alloc, limits.envs as usize)?;
-        let ops = PendingOps::new(alloc, limits.envs, limits.calls)?;
-        let all_calls = limits.envs as u64 * limits.calls as u64;
+        let ops = PendingOps::new(alloc, limits.envs, limits.window + 1)?;
+        let all_calls = limits.envs as u64 * limits.calls;
         let history = Record::new(alloc, limits.own + 4 * all_calls + 2, recording)?;
         Ok(Slot {
             limits,
@@ -242,17 +244,19 @@ impl Slot {
     /// The answer is the thread's own, a refusal included: `ThreadNotAlive` (15), `IllegalArgument` (103) for a trace's
     /// start, `NoMoreFrames` (31), `ThreadSuspended` (14), `ThreadNotSuspended` (13), `OpaqueFrame` (32), as JVM TI 11
     /// says of each call. A call that is refused changes nothing but the history. A pop takes the newest of the frames
-    /// that lie here. The buffer is empty and has room for a trace's frames.
+    /// that lie here. The buffer is empty and has room for a trace's frames. One call may wait beyond the window.
     #[inline(always)]
     pub fn ask(&mut self, env: EnvNo, call: Call, buf: TraceBuf) -> Asked
         requires env { env.0 < self.old.limits.envs }
         requires well_formed { is_well_formed call ≡ true }
         requires calls { calls_spent env self.old.history < self.old.limits.calls }
+        requires room { waits call ≡ true → held_by env self.old.uncollected ≤ self.old.limits.window }
         requires buf { IsBufferOf self.old.limits call buf }
         ensures asked { IsAsked self.old self.new env call result }
+        ensures late { IsLate call result }
         ensures legal { is_legal self.new.limits self.new.history ≡ true }
     {
-        let no = self.ops.asked(env) as u32;
+        let no = self.ops.asked(env);
         let entry = Entry::Asked(env, no, call);
         if is_put_off(self.condition.mode, call) {
             let ticket = Ticket {
@@ -269,6 +273,17 @@ impl Slot {
             take_at_once(&mut self.condition, &mut self.frames, env, call);
             self.ops.pass(env);
             Asked::Answered(told)
+        }
+    }
+
+    /// How many calls of an environment wait, or have an answer that is not collected: 0 of one that is not there.
+    pub fn held(&self, env: EnvNo) -> u32
+        ensures { result ≡ held_by env self.now.uncollected }
+    {
+        if env.0 < self.limits.envs {
+            self.ops.held(env)
+        } else {
+            0
         }
     }
 
@@ -380,9 +395,11 @@ impl Slot {
         self.condition.stopper
     }
 
-    /// What is always true of the tickets: none is there twice, and each is of a call of this thread's history.
+    /// What is always true of the tickets: none is there twice, each is of a call of this thread's history, and an
+    /// environment has at most as many as it asked calls.
     pub fn tickets(&self)
         ensures once { AreOnce self.now.uncollected }
+        ensures few { (env : EnvNo) → held_by env self.now.uncollected ≤ asked_by env self.now.history }
         ensures known { (k : Ticket) → has k self.now.uncollected ≡ true → (k.thread.0 == self.now.number.0 && nat_lt k.no (asked_by k.env self.now.history)) ≡ true }
     {
         let _ = &self.history;

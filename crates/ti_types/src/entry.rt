@@ -20,7 +20,7 @@ pub enum Entry {
     /// The running thread ends. The calls that wait take place just after.
     End,
     /// A call of an environment at the thread, and how many calls of it were asked there before.
-    Asked(EnvNo, u32, Call),
+    Asked(EnvNo, u64, Call),
     /// An environment stops the thread: it does not return until it is let go (after GetAllStackTraces).
     Stop(EnvNo),
     /// An environment reads at most this many of the newest frames under its stop.

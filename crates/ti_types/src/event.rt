@@ -51,7 +51,7 @@ pub struct Ticket {
     pub env: EnvNo,
     pub thread: ThreadNo,
     /// How many calls of the environment were asked at the thread before.
-    pub no: u32,
+    pub no: u64,
 }
 
 /// What an event comes to: the first five of a thread's own events, the last two of an environment's.

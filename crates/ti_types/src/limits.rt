@@ -1,6 +1,6 @@
 //! The limits that all else keeps within.
 ghost use Rattle.std.specs.Prelude.{◌≡◌, ◌≤◌, ◌↔◌, true, false, IsTrue, IsSome, IfSome};
-ghost use Rattle.ti_types.specs.Limits.{InRange, AreLimits, IsWithin, most_depth, most_own, most_calls};
+ghost use Rattle.ti_types.specs.Limits.{InRange, AreLimits, IsWithin, most_depth, most_own, most_calls, most_window};
 
 /// The limits of a coordinator, each within its range (this profile).
 #[derive(Clone, Copy, Debug)]
@@ -14,11 +14,14 @@ pub struct Limits {
     /// How many entries of its own a thread may pay for, 1 to 65,536, or 2^59 where it may run as long as its process:
     /// 1 for a step, 2 for a hand-over to native or blocked, which pays for the return.
     pub own: u64,
-    /// How many calls, stops and reads each environment may pay for at each thread, 1 to 1,024.
-    pub calls: u32,
+    /// How many calls, stops and reads each environment may pay for at each thread, 1 to 1,024, or 2^52 where the thread
+    /// may run as long as its process.
+    pub calls: u64,
+    /// How many calls each environment may have posted at each thread whose answers it has not collected, 1 to 1,024.
+    pub window: u32,
     /// Whether the threads' histories are kept in memory, to be read again.
     pub kept: bool,
-    pub ghost in_range: { AreLimits threads envs depth own calls },
+    pub ghost in_range: { AreLimits threads envs depth own calls window },
 }
 
 impl Limits {
@@ -30,6 +33,7 @@ impl Limits {
         ensures depth { IfSome result (λ l. l.depth ≡ depth) }
         ensures own { IfSome result (λ l. l.own ≡ own) }
         ensures calls { IfSome result (λ l. l.calls ≡ calls) }
+        ensures window { IfSome result (λ l. l.window ≡ calls) }
         ensures kept { IfSome result (λ l. l.kept ≡ false) }
     {
         let own_fits = 1 <= own && own <= 65536;
@@ -39,8 +43,9 @@ impl Limits {
                 threads,
                 envs,
                 depth,
-                own: own as u64,
-                calls,
+                own: u64::from(own),
+                calls: u64::from(calls),
+                window: calls,
                 kept: false,
             })
         } else {
@@ -51,7 +56,7 @@ impl Limits {
     /// The same limits, under which each thread's history is kept in memory, to be read when its cell is closed.
     pub fn recorded(self) -> Self
         ensures shape { (result.threads ≡ self.threads) × (result.envs ≡ self.envs) × (result.depth ≡ self.depth) }
-        ensures budgets { (result.own ≡ self.own) × (result.calls ≡ self.calls) }
+        ensures budgets { (result.own ≡ self.own) × (result.calls ≡ self.calls) × (result.window ≡ self.window) }
         ensures kept { result.kept ≡ true }
     {
         let Limits {
@@ -60,6 +65,7 @@ impl Limits {
             depth,
             own,
             calls,
+            window,
             ..
         } = self;
         Limits {
@@ -68,13 +74,48 @@ impl Limits {
             depth,
             own,
             calls,
+            window,
             kept: true,
         }
     }
 
-    /// Limits under which a thread may run as long as its process: 2^59 entries of its own, and 1,024 calls of each
-    /// environment. It has at most `depth` frames, 1 to 65,536; the room for them is reserved and takes memory only as far
-    /// as the thread has been deep. Its history is not kept. None where a limit is not within its range (this profile).
+    /// The same limits, but that each environment may have at most `window` calls posted at each thread whose answers it
+    /// has not collected, 1 to 1,024. None where that is not within its range (this profile).
+    pub fn with_window(self, window: u32) -> Option<Self>
+        ensures range { IsSome result ↔ IsWithin most_window window }
+        ensures window { IfSome result (λ l. l.window ≡ window) }
+        ensures shape { IfSome result (λ l. (l.threads ≡ self.threads) × (l.envs ≡ self.envs) × (l.depth ≡ self.depth)) }
+        ensures budgets { IfSome result (λ l. (l.own ≡ self.own) × (l.calls ≡ self.calls)) }
+        ensures kept { IfSome result (λ l. l.kept ≡ self.kept) }
+    {
+        let Limits {
+            threads,
+            envs,
+            depth,
+            own,
+            calls,
+            kept,
+            ..
+        } = self;
+        if 1 <= window && window <= 1024 {
+            Some(Limits {
+                threads,
+                envs,
+                depth,
+                own,
+                calls,
+                window,
+                kept,
+            })
+        } else {
+            None
+        }
+    }
+
+    /// Limits under which a thread may run as long as its process: 2^59 entries of its own, and 2^52 calls of each
+    /// environment, of which 1,024 may be posted and not collected at a time. It has at most `depth` frames, 1 to 65,536.
+    /// The room for frames and calls is reserved, and takes memory only as far as the thread has been deep, and as calls
+    /// were out at once. Its history is not kept. None where a limit is not within its range (this profile).
     pub fn lasting(threads: u32, envs: u32, depth: u32) -> Option<Self>
         ensures range { IsSome result ↔ (IsWithin 64 threads × IsWithin 32 envs × IsWithin most_depth depth) }
         ensures threads { IfSome result (λ l. l.threads ≡ threads) }
@@ -82,6 +123,7 @@ impl Limits {
         ensures depth { IfSome result (λ l. l.depth ≡ depth) }
         ensures own { IfSome result (λ l. l.own ≡ most_own) }
         ensures calls { IfSome result (λ l. l.calls ≡ most_calls) }
+        ensures window { IfSome result (λ l. l.window ≡ most_window) }
         ensures kept { IfSome result (λ l. l.kept ≡ false) }
     {
         if shape_fits(threads, envs, depth, 65536) {
@@ -90,7 +132,8 @@ impl Limits {
                 envs,
                 depth,
                 own: 1 << 59,
-                calls: 1024,
+                calls: 1 << 52,
+                window: 1024,
                 kept: false,
             })
         } else {

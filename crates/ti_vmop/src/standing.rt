@@ -31,7 +31,7 @@ impl VmTurn {
 pub struct Standing<'t, 'l> {
     turn: &'t mut VmTurn,
     env: EnvNo,
-    threads: &'l [(ThreadNo, u32)],
+    threads: &'l [(ThreadNo, u64)],
     reads: u64,
 }
 
@@ -77,7 +77,7 @@ impl Round {
 }
 
 /// Whether each thread has a call left for its stop and each read.
-fn are_paid_for(state: &EnvState, threads: &[(ThreadNo, u32)]) -> bool
+fn are_paid_for(state: &EnvState, threads: &[(ThreadNo, u64)]) -> bool
     requires there { AreThere (length state.now.spent) threads.now }
     ensures { result ≡ are_paid state.now threads.now }
 {
@@ -95,7 +95,7 @@ fn stop_each<R: Wait>(
     rt: &R,
     desks: &mut [Desk<'_>],
     state: &mut EnvState,
-    threads: &[(ThreadNo, u32)],
+    threads: &[(ThreadNo, u64)],
 )
     requires there { AreThere (length desks.old) threads.now × (length state.old.spent ≡ length desks.old) }
     requires distinct { AreDistinct threads.now }
@@ -112,7 +112,7 @@ fn stop_each<R: Wait>(
 }
 
 /// Waits until each thread stands.
-fn await_each<R: Wait>(rt: &R, desks: &mut [Desk<'_>], threads: &[(ThreadNo, u32)])
+fn await_each<R: Wait>(rt: &R, desks: &mut [Desk<'_>], threads: &[(ThreadNo, u64)])
     requires there { AreThere (length desks.old) threads.now }
     requires distinct { AreDistinct threads.now }
     ensures desks { AtEach threads.now desks.old desks.new (λ e. []) }
@@ -136,7 +136,7 @@ pub fn stop_all<'t, 'l, R: Wait>(
     turn: &'t mut VmTurn,
     desks: &mut [Desk<'_>],
     state: &mut EnvState,
-    threads: &'l [(ThreadNo, u32)],
+    threads: &'l [(ThreadNo, u64)],
 ) -> Result<Standing<'t, 'l>, TiError>
     requires desks { AreOneEnvironments desks.old × (0 < length desks.old) }
     requires there { AreThere (length desks.old) threads.now × (length state.old.spent ≡ length desks.old) }
@@ -224,7 +224,7 @@ impl<'t, 'l> Standing<'t, 'l> {
 }
 
 /// Lets each thread go, in the order of the list.
-fn go_each<R: Wait>(rt: &R, desks: &mut [Desk<'_>], threads: &[(ThreadNo, u32)])
+fn go_each<R: Wait>(rt: &R, desks: &mut [Desk<'_>], threads: &[(ThreadNo, u64)])
     requires there { AreThere (length desks.old) threads.now }
     requires distinct { AreDistinct threads.now }
     requires stand { AllStand threads.now desks.old }

@@ -1,3 +1,4 @@
 pub mod StationLaws
 pub mod FoldLaws
+pub mod RootsLaws
 pub mod AskedLaws

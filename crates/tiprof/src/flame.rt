@@ -1,11 +1,15 @@
 //! A flame graph of folded stacks, as an SVG that stands alone: a bar for each front of stacks, as wide as the stacks that
-//! begin with it, the oldest method at the foot.
+//! begin with it.
+//!
+//! At the foot are the workers, if they stay apart. On them is what the threads did: warm bars are of threads that ran,
+//! cool ones of threads in native code or blocked. The methods follow, the oldest first.
 ghost use Rattle.std.specs.Prelude.{◌≡◌};
 ghost use Rattle.std.specs.Option.{option_map};
 ghost use Rattle.tiprof.specs.Flames.{entity_of};
 
 use crate::fold::{Fold, Folded};
 use crate::method::name_of;
+use crate::roots::{Doing, Part, Roots};
 use std::alloc::{AllocError, Global};
 use std::fmt::Write;
 use ti_types::MethodNo;
@@ -16,8 +20,8 @@ const WIDTH: u64 = 120_000;
 /// A bar's height.
 const HEIGHT: u64 = 20;
 
-/// No stack has more frames than are read.
-const DEEPEST: usize = 128;
+/// The hue of the bars of workers.
+const GREEN: u32 = 100;
 
 /// The methods of a stack from the oldest on, and how often it was seen.
 type Row = (Vec<u32>, u64);
@@ -31,7 +35,7 @@ fn row_of(alloc: Global, folded: &Folded) -> Result<Row, AllocError> {
     Ok((path, folded.count()))
 }
 
-/// All rows in order, so that those which begin with the same methods stand together.
+/// All rows of a fold in order, so that those which begin with the same methods stand together.
 fn rows_of(alloc: Global, fold: &Fold) -> Result<Vec<Row>, AllocError> {
     let mut rows = Vec::new(alloc);
     for folded in fold.stacks() {
@@ -41,12 +45,18 @@ fn rows_of(alloc: Global, fold: &Fold) -> Result<Vec<Row>, AllocError> {
     Ok(rows)
 }
 
-/// A bar: its method, how many stacks are to the left of it, and how many begin with it.
+/// How many stacks are to the left of a bar, and how many begin with it.
+#[derive(Clone, Copy)]
+struct Span {
+    before: u64,
+    count: u64,
+}
+
+/// A bar of a method.
 #[derive(Clone, Copy)]
 struct Bar {
     method: u32,
-    before: u64,
-    count: u64,
+    span: Span,
 }
 
 /// Whether two stacks have the same methods up to a depth.
@@ -59,20 +69,24 @@ fn agree(one: &[u32], other: &[u32], depth: usize) -> bool {
     true
 }
 
-/// The bars at a depth, from the left on.
-fn bars_at(alloc: Global, rows: &[Row], depth: usize) -> Result<Vec<Bar>, AllocError> {
+/// The bars at a depth, from the left on, where so many stacks are to the left of all.
+fn bars_at(alloc: Global, rows: &[Row], depth: usize, left: u64) -> Result<Vec<Bar>, AllocError> {
     let mut bars: Vec<Bar> = Vec::new(alloc);
-    let mut before: u64 = 0;
+    let mut before = left;
     for i in 0..rows.len() {
         let (path, count) = &rows[i];
         if let Some(method) = path.get(depth) {
             let joined = 0 < i && agree(&rows[i - 1].0, path, depth);
             match bars.last_mut() {
-                Some(last) if joined => last.count = last.count.saturating_add(*count),
+                Some(last) if joined => {
+                    last.span.count = last.span.count.saturating_add(*count);
+                }
                 _ => bars.push(Bar {
                     method: *method,
-                    before,
-                    count: *count,
+                    span: Span {
+                        before,
+                        count: *count,
+                    },
                 })?,
             }
         }
@@ -81,7 +95,7 @@ fn bars_at(alloc: Global, rows: &[Row], depth: usize) -> Result<Vec<Bar>, AllocE
     Ok(bars)
 }
 
-/// What stands for a character in the text of an SVG, where it may not stand for itself.
+/// What is written in place of a character that may not be in the text of an SVG.
 fn entity_of(letter: char) -> Option<&'static str>
     ensures { option_map (λ e. e.now) result ≡ entity_of letter }
 {
@@ -106,78 +120,180 @@ fn write_name(text: &mut String, name: &str) -> Result<(), AllocError> {
     Ok(())
 }
 
-/// Hundredths of the picture's width that this many of all stacks take.
-fn width_of(count: u64, total: u64) -> u64 {
-    if total == 0 {
-        return 0;
-    }
-    count.saturating_mul(WIDTH) / total
+/// A picture of so many stacks, as far as it is written.
+#[derive(Drop)]
+struct Picture {
+    text: String,
+    /// The top of the lowest bar.
+    foot: u64,
+    total: u64,
 }
 
-/// Writes a bar.
-fn write_bar(text: &mut String, bar: Bar, top: u64, total: u64) -> Result<(), AllocError> {
-    let name = name_of(MethodNo(bar.method));
-    let x = width_of(bar.before, total);
-    let width = width_of(bar.count, total);
-    let hue = 5 + bar.method % 12 * 5;
-    write!(
-        text,
-        "<g><rect x=\"{}.{:02}\" y=\"{}\" width=\"{}.{:02}\" height=\"19\" fill=\"hsl({},85%,62%)\" stroke=\"#fffaf0\"/>",
-        x / 100,
-        x % 100,
-        top,
-        width / 100,
-        width % 100,
-        hue
-    )?;
-    text.push_str("<title>")?;
-    write_name(text, name)?;
-    write!(text, ": {} of {} stacks</title>", bar.count, total)?;
-    if width / 800 > name.len() as u64 {
+impl Picture {
+    /// This share of so much, for a number of stacks.
+    fn share(&self, count: u64, whole: u64) -> u64 {
+        if self.total == 0 {
+            return 0;
+        }
+        count.saturating_mul(whole) / self.total
+    }
+
+    /// Writes the head, with a title.
+    fn begin(&mut self, title: &str) -> Result<(), AllocError> {
+        let height = self.foot.saturating_add(HEIGHT);
         write!(
-            text,
-            "<text x=\"{}\" y=\"{}\">",
-            x / 100 + 4,
-            top.saturating_add(14)
+            self.text,
+            "<svg xmlns=\"http://www.w3.org/2000/svg\" viewBox=\"0 0 1200 {height}\" font-family=\"sans-serif\" font-size=\"12\">\n"
         )?;
-        write_name(text, name)?;
-        text.push_str("</text>")?;
+        self.text.push_str(
+            "<rect width=\"100%\" height=\"100%\" fill=\"#fffaf0\"/>\n<text x=\"4\" y=\"14\">",
+        )?;
+        write_name(&mut self.text, title)?;
+        self.text.push_str("</text>\n")
     }
-    text.push_str("</g>\n")
+
+    /// Writes a bar, its depth counted from the foot.
+    fn bar(&mut self, name: &str, hue: u32, depth: usize, span: Span) -> Result<(), AllocError> {
+        let x = self.share(span.before, WIDTH);
+        let width = self.share(span.count, WIDTH);
+        let top = self
+            .foot
+            .saturating_sub((depth as u64).saturating_mul(HEIGHT));
+        write!(
+            self.text,
+            "<g><rect x=\"{}.{:02}\" y=\"{}\" width=\"{}.{:02}\" height=\"19\" fill=\"hsl({},85%,62%)\" stroke=\"#fffaf0\"/>",
+            x / 100,
+            x % 100,
+            top,
+            width / 100,
+            width % 100,
+            hue
+        )?;
+        self.hover(name, span.count)?;
+        if width / 800 > name.len() as u64 {
+            self.label(name, x / 100 + 4, top.saturating_add(14))?;
+        }
+        self.text.push_str("</g>\n")
+    }
+
+    /// Writes what shows where the pointer rests on a bar: its name, its count, and its part of all.
+    fn hover(&mut self, name: &str, count: u64) -> Result<(), AllocError> {
+        let tenths = self.share(count, 1000);
+        self.text.push_str("<title>")?;
+        write_name(&mut self.text, name)?;
+        write!(
+            self.text,
+            ": {} of {} stacks, {}.{} %</title>",
+            count,
+            self.total,
+            tenths / 10,
+            tenths % 10
+        )
+    }
+
+    /// Writes a bar's name.
+    fn label(&mut self, name: &str, x: u64, y: u64) -> Result<(), AllocError> {
+        write!(self.text, "<text x=\"{x}\" y=\"{y}\">")?;
+        write_name(&mut self.text, name)?;
+        self.text.push_str("</text>")
+    }
+
+    /// Writes the bars of threads that did the same, the lowest at a depth.
+    fn fold(
+        &mut self,
+        alloc: Global,
+        fold: &Fold,
+        doing: Doing,
+        depth: usize,
+        before: u64,
+    ) -> Result<(), AllocError> {
+        let count = fold.total();
+        if count == 0 {
+            return Ok(());
+        }
+        let hue = hue_of(doing);
+        self.bar(doing.word(), hue, depth, Span { before, count })?;
+        let rows = rows_of(alloc, fold)?;
+        for level in 0..deepest(fold) {
+            let above = depth.saturating_add(level).saturating_add(1);
+            for bar in bars_at(alloc, &rows, level, before)?.iter() {
+                let name = name_of(MethodNo(bar.method));
+                let shade = hue.saturating_add(bar.method % 12 * 5);
+                self.bar(name, shade, above, bar.span)?;
+            }
+        }
+        Ok(())
+    }
+
+    /// Writes the bars of a part.
+    fn part(
+        &mut self,
+        alloc: Global,
+        part: &Part,
+        depth: usize,
+        before: u64,
+    ) -> Result<(), AllocError> {
+        let ran = part.fold(Doing::Running);
+        self.fold(alloc, ran, Doing::Running, depth, before)?;
+        let after = before.saturating_add(ran.total());
+        self.fold(alloc, part.fold(Doing::Away), Doing::Away, depth, after)
+    }
 }
 
-/// The number of methods of the deepest stack, up to the greatest that is drawn.
-fn deepest(rows: &[Row]) -> usize {
+/// The first of the hues of threads that did this.
+fn hue_of(doing: Doing) -> u32 {
+    match doing {
+        Doing::Running => 5,
+        Doing::Away => 185,
+    }
+}
+
+/// The number of methods of the deepest stack.
+fn deepest(fold: &Fold) -> usize {
     let mut most: usize = 0;
-    for (path, _count) in rows {
-        most = most.max(path.len().min(DEEPEST));
+    for folded in fold.stacks() {
+        most = most.max(folded.methods().len());
     }
     most
 }
 
-/// The flame graph of all stacks.
-pub fn flame_of(alloc: Global, fold: &Fold) -> Result<String, AllocError> {
-    let rows = rows_of(alloc, fold)?;
-    let most = deepest(&rows);
-    let foot = (most as u64).saturating_mul(HEIGHT);
-    let mut text = String::new(alloc);
-    write!(
-        text,
-        "<svg xmlns=\"http://www.w3.org/2000/svg\" viewBox=\"0 0 1200 {}\" font-family=\"sans-serif\" font-size=\"12\">\n",
-        foot.saturating_add(HEIGHT)
-    )?;
-    text.push_str("<rect width=\"100%\" height=\"100%\" fill=\"#fffaf0\"/>\n")?;
-    write!(
-        text,
-        "<text x=\"4\" y=\"14\">{} stacks</text>\n",
-        fold.total()
-    )?;
-    for depth in 0..most {
-        let top = foot.saturating_sub((depth as u64).saturating_mul(HEIGHT));
-        for bar in bars_at(alloc, &rows, depth)?.iter() {
-            write_bar(&mut text, *bar, top, fold.total())?;
+/// The number of bars that stand on one another at most.
+fn height_of(roots: &Roots) -> usize {
+    let mut most: usize = 0;
+    for part in roots.parts() {
+        for doing in [Doing::Running, Doing::Away] {
+            most = most.max(deepest(part.fold(doing)));
         }
     }
-    text.push_str("</svg>")?;
-    Ok(text)
+    most.saturating_add(if roots.is_by_thread() { 2 } else { 1 })
+}
+
+/// How many stacks a part has.
+fn count_of(part: &Part) -> u64 {
+    let ran = part.fold(Doing::Running).total();
+    ran.saturating_add(part.fold(Doing::Away).total())
+}
+
+/// The flame graph of all stacks, under this title.
+pub fn flame_of(alloc: Global, roots: &Roots, title: &str) -> Result<String, AllocError> {
+    let mut picture = Picture {
+        text: String::new(alloc),
+        foot: (height_of(roots) as u64).saturating_mul(HEIGHT),
+        total: roots.total(),
+    };
+    picture.begin(title)?;
+    let mut before: u64 = 0;
+    for (number, part) in roots.parts().iter().enumerate() {
+        let count = count_of(part);
+        if roots.is_by_thread() {
+            let name = format!(in alloc; "worker {number}")?;
+            picture.bar(name.as_str(), GREEN, 0, Span { before, count })?;
+            picture.part(alloc, part, 1, before)?;
+        } else {
+            picture.part(alloc, part, 0, before)?;
+        }
+        before = before.saturating_add(count);
+    }
+    picture.text.push_str("</svg>")?;
+    Ok(picture.text)
 }

@@ -1,35 +1,49 @@
-//! Folded stacks, as flame graph tools read them: a line for each stack, its methods from the oldest on, and how often it
-//! was seen.
-use crate::fold::{Fold, Folded};
+//! Folded stacks, as flame graph tools read them: a line for each stack, from its root on, and how often it was seen.
+//!
+//! The root is the worker, if the workers stay apart, and then what the thread did. The methods follow from the oldest on.
+use crate::fold::Folded;
 use crate::method::name_of;
+use crate::roots::{Doing, Roots};
 use std::alloc::{AllocError, Global};
 use std::fmt::Write;
-use ti_types::MethodNo;
+
+/// The root of the lines of a worker, or of all.
+fn root_of(alloc: Global, worker: Option<usize>, doing: Doing) -> Result<String, AllocError> {
+    let mut root = String::new(alloc);
+    if let Some(number) = worker {
+        write!(root, "worker {number};")?;
+    }
+    root.push_str(doing.word())?;
+    Ok(root)
+}
 
 /// The line of a stack.
-fn line_of(alloc: Global, folded: &Folded) -> Result<String, AllocError> {
+fn line_of(alloc: Global, root: &str, folded: &Folded) -> Result<String, AllocError> {
     let mut line = String::new(alloc);
-    let methods = folded.methods();
-    if methods.is_empty() {
-        line.push_str("no_frames")?;
-    }
-    for (i, method) in methods.iter().rev().enumerate() {
-        if 0 < i {
-            line.push_str(";")?;
-        }
+    line.push_str(root)?;
+    for method in folded.methods().iter().rev() {
+        line.push_str(";")?;
         line.push_str(name_of(*method))?;
     }
-    line.push_str(" ")?;
-    let count = format!(in alloc; "{}", folded.count())?;
-    line.push_str(count.as_str())?;
+    write!(line, " {}", folded.count())?;
     Ok(line)
 }
 
 /// The lines of all stacks, in the order of their bytes.
-pub fn lines_of(alloc: Global, fold: &Fold) -> Result<Vec<String>, AllocError> {
+pub fn lines_of(alloc: Global, roots: &Roots) -> Result<Vec<String>, AllocError> {
     let mut lines = Vec::new(alloc);
-    for folded in fold.stacks() {
-        lines.push(line_of(alloc, folded)?)?;
+    for (number, part) in roots.parts().iter().enumerate() {
+        let worker = if roots.is_by_thread() {
+            Some(number)
+        } else {
+            None
+        };
+        for doing in [Doing::Running, Doing::Away] {
+            let root = root_of(alloc, worker, doing)?;
+            for folded in part.fold(doing).stacks() {
+                lines.push(line_of(alloc, root.as_str(), folded)?)?;
+            }
+        }
     }
     lines.sort()?;
     Ok(lines)

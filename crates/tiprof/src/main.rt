@@ -1,42 +1,46 @@
 //! `tiprof`: a sampling profiler of threads that compute, over `ti_agent`.
 //!
 //! This many workers, each on a thread of its own, parse a document, sort numbers, search and sleep in turn, with a frame for
-//! each method. Environments on one more thread take the stacks of all of them at an interval, until there are enough
-//! samples, or all workers are done: a worker has 65,536 entries of its own. Then it writes folded stacks to standard
-//! output, or with `--svg` a flame graph, and to standard error a line with what was done.
+//! each method. An environment on one more thread takes the stacks of all of them at an interval. It ends after so many
+//! seconds or samples, where all workers have made their rounds, or with standard input if nothing else is given. Then it
+//! writes folded stacks to standard output, or with `--svg` a flame graph, and to standard error a line with what was
+//! done.
 //!
-//! At most 16,384 samples are taken: each of 32 environments has 1,024 calls at each thread, and a sample costs two of
-//! them. The status is 0, or 1 where memory runs out or a line cannot be written, and 2, with a line of usage on standard
-//! error, for arguments that ask for nothing of this.
+//! The limits are lasting ones: it may go on as long as its process. The status is 0, or 1 where memory runs out or a line
+//! cannot be written, and 2, with a line of usage on standard error, for arguments that ask for nothing of this.
 #![tactic(auto)]
 
+mod asking;
 mod flame;
 mod fold;
 mod folded;
 mod method;
 mod options;
 mod parse;
+mod roots;
 mod sampling;
 mod search;
 mod session;
+mod shared;
 mod sort;
 mod station;
+mod taken;
 mod worker;
 mod working;
 
 use crate::flame::flame_of;
 use crate::folded::lines_of;
-use crate::options::{Options, options_of};
+use crate::options::{Options, Way, options_of};
 use crate::parse::document;
-use crate::sampling::SAMPLES_EACH;
 use crate::session::{Ran, run};
+use std::alloc::{AllocError, Global};
 use std::env;
+use std::io::Input;
 use std::process::ExitCode;
 use std::rt::{Clock, Env};
 use std::sync::Wait;
 use std::thread::Threads;
 use std::time::CpuClock;
-use ti_types::Limits;
 
 /// What the process was asked for.
 fn asked<R: Env + AllocGlobal>(rt: &R) -> Option<Options> {
@@ -46,47 +50,63 @@ fn asked<R: Env + AllocGlobal>(rt: &R) -> Option<Options> {
     options_of(&words)
 }
 
-/// The limits of a run: as many environments as it takes for the samples.
-fn limits_of(options: Options) -> Option<Limits> {
-    let envs = options.samples / SAMPLES_EACH + 1;
-    Limits::new(options.threads, envs.min(32), 128, 65_536, 1024)
-}
-
 /// Runs the workers, and samples them.
-fn sampled<R: Threads + Wait + Sync + Clock + CpuClock + Eprint + AllocGlobal>(
+fn sampled<R: Threads + Wait + Sync + Clock + CpuClock + Input + Eprint + AllocGlobal>(
     rt: &R,
     options: Options,
 ) -> Option<Ran> {
     let text = document(rt.alloc()).ok()?;
-    run(rt, limits_of(options)?, options, text.as_bytes())
+    run(rt, options, text.as_bytes())
+}
+
+/// What a flame graph is of.
+fn title_of(alloc: Global, options: Options, ran: &Ran) -> Result<String, AllocError> {
+    let way = match options.way {
+        Way::Handshake => "by handshakes",
+        Way::Standing => "of threads that stand",
+    };
+    format!(in alloc;
+        "tiprof: {} samples of {} threads, {} us apart, {}: {} stacks",
+        ran.sampled.samples,
+        options.threads,
+        options.interval,
+        way,
+        ran.sampled.taken.roots().total()
+    )
+}
+
+/// Writes the stacks.
+fn write_stacks<R: Print + AllocGlobal>(rt: &R, options: Options, ran: &Ran) -> Option<()> {
+    let roots = ran.sampled.taken.roots();
+    if options.svg {
+        let title = title_of(rt.alloc(), options, ran).ok()?;
+        let picture = flame_of(rt.alloc(), roots, title.as_str()).ok()?;
+        return println!(rt; "{picture}").ok();
+    }
+    for line in lines_of(rt.alloc(), roots).ok()? {
+        println!(rt; "{line}").ok()?;
+    }
+    Some(())
 }
 
 /// Writes what came of it.
 fn report<R: Print + Eprint + AllocGlobal>(rt: &R, options: Options, ran: &Ran) -> Option<()> {
-    if options.svg {
-        let picture = flame_of(rt.alloc(), &ran.sampled.fold).ok()?;
-        println!(rt; "{picture}").ok()?;
-    } else {
-        for line in lines_of(rt.alloc(), &ran.sampled.fold).ok()? {
-            println!(rt; "{line}").ok()?;
-        }
-    }
+    write_stacks(rt, options, ran)?;
     eprintln!(rt;
         "tiprof: {} samples of {} threads in {} ms; {} live threads seen, {} stacks folded; {} jobs, {} us of processor",
         ran.sampled.samples,
         options.threads,
-        ran.sampled.micros / 1000,
-        ran.sampled.live,
-        ran.sampled.fold.total(),
+        ran.sampled.millis,
+        ran.sampled.taken.live(),
+        ran.sampled.taken.roots().total(),
         ran.jobs,
         ran.cpu / 1000
     )
-    .ok()?;
-    Some(())
+    .ok()
 }
 
 const USAGE: &str =
-    "usage: tiprof [--samples 0..16384] [--interval MICROSECONDS] [--threads 1..64] [--svg]";
+    "usage: tiprof [--seconds 1..86400] [--samples N] [--jobs N] [--interval MICROSECONDS] [--threads 1..64] [--handshake | --standing] [--by-thread] [--svg]";
 
 fn main(rt: HostRuntime) -> ExitCode {
     let Some(options) = asked(&rt) else {

@@ -1,35 +1,52 @@
 //! What the arguments ask for.
 ghost use Rattle.std.specs.Prelude.{◌≡◌, Some, map, string_bytes};
-ghost use Rattle.tiprof.specs.Asked.{digits_behind, number_of, options_of as options_by, usual, with_option, with_words, within};
+ghost use Rattle.tiprof.specs.Asked.{digits_behind, is_bounded, number_of, options_of as options_by, usual, with_flag, with_option, with_words, within};
+
+/// How a sample is taken.
+#[derive(Clone, Copy, Debug, PartialEq, Eq)]
+pub enum Way {
+    /// Each thread is asked for its stack, and answers at its own poll: nobody stands still.
+    Handshake,
+    /// All threads are stopped, read and let go: all stacks are of one moment.
+    Standing,
+}
 
 /// What the arguments ask for.
 #[derive(Clone, Copy, Debug, PartialEq, Eq)]
 pub struct Options {
-    /// How many samples are taken at most: up to 16,384, since each of 32 environments takes 512.
-    pub samples: u32,
+    /// After how many seconds the sampling ends: 1 to 86,400.
+    pub seconds: Option<u32>,
+    /// How many samples are taken at most.
+    pub samples: Option<u32>,
+    /// After how many rounds of its jobs each worker ends: 1 and more.
+    pub jobs: Option<u32>,
     /// The microseconds between two samples: 1 to 60,000,000.
     pub interval: u32,
     /// How many workers there are: 1 to 64.
     pub threads: u32,
+    pub way: Way,
+    /// Whether the stacks of different workers stay apart.
+    pub by_thread: bool,
     /// Whether a flame graph is written, and not folded stacks.
     pub svg: bool,
 }
 
-/// The number of digits after those of a number, where it stays below 100,000,000.
+/// The number of digits after those of a number, where it stays below 2^32.
 fn digits_behind(front: u32, digits: &[u8]) -> Option<u32>
     ensures { result ≡ digits_behind front digits.now }
 {
     let mut number = front;
     for digit in digits {
-        if !digit.is_ascii_digit() || number >= 10_000_000 {
+        if !digit.is_ascii_digit() {
             return None;
         }
-        number = number * 10 + u32::from(*digit - b'0');
+        let more = u32::from(*digit - b'0');
+        number = number.checked_mul(10)?.checked_add(more)?;
     }
     Some(number)
 }
 
-/// The number of a word that has digits and nothing else, and is below 100,000,000.
+/// The number of a word that has digits and nothing else, and is below 2^32.
 fn number_of(word: &str) -> Option<u32>
     ensures { result ≡ number_of word.now }
 {
@@ -51,16 +68,43 @@ fn within(word: &str, least: u32, most: u32) -> Option<u32>
 }
 
 impl Options {
-    /// Where no argument says another: 1,000 samples of 4 threads, one a millisecond, as folded stacks.
+    /// Where no argument says another: 4 threads, a handshake each millisecond, until standard input is closed, as folded
+    /// stacks.
     fn usual() -> Options
         ensures { result ≡ usual }
     {
         Options {
-            samples: 1000,
+            seconds: None,
+            samples: None,
+            jobs: None,
             interval: 1000,
             threads: 4,
+            way: Way::Handshake,
+            by_thread: false,
             svg: false,
         }
+    }
+
+    /// Whether the sampling ends by itself: else it ends with standard input.
+    pub fn is_bounded(self) -> bool
+        ensures { result ≡ is_bounded self }
+    {
+        self.seconds.is_some() || self.samples.is_some() || self.jobs.is_some()
+    }
+
+    /// The options with one more. `None` where the word is no option that stands alone.
+    fn with_flag(self, word: &str) -> Option<Options>
+        ensures { result ≡ with_flag self word.now }
+    {
+        let mut options = self;
+        match word {
+            "--handshake" => options.way = Way::Handshake,
+            "--standing" => options.way = Way::Standing,
+            "--by-thread" => options.by_thread = true,
+            "--svg" => options.svg = true,
+            _ => return None,
+        }
+        Some(options)
     }
 
     /// The options with one more. `None` where the word is no option that has a value, or the value is no number within
@@ -70,7 +114,9 @@ impl Options {
     {
         let mut options = self;
         match word {
-            "--samples" => options.samples = within(value, 0, 16_384)?,
+            "--seconds" => options.seconds = Some(within(value, 1, 86_400)?),
+            "--samples" => options.samples = Some(within(value, 0, u32::MAX)?),
+            "--jobs" => options.jobs = Some(within(value, 1, u32::MAX)?),
             "--interval" => options.interval = within(value, 1, 60_000_000)?,
             "--threads" => options.threads = within(value, 1, 64)?,
             _ => return None,
@@ -84,18 +130,13 @@ impl Options {
     {
         match words {
             [] => Some(self),
-            [word] => if word.as_str() == "--svg" {
-                Some(Options { svg: true, ..self })
-            } else {
-                None
-            },
-            [word, value, rest @ ..] => if word.as_str() == "--svg" {
-                Options { svg: true, ..self }.with_words(&words[1..])
-            } else {
-                match self.with(word.as_str(), value.as_str()) {
+            [word] => self.with_flag(word.as_str()),
+            [word, value, rest @ ..] => match self.with_flag(word.as_str()) {
+                Some(options) => options.with_words(&words[1..]),
+                None => match self.with(word.as_str(), value.as_str()) {
                     Some(options) => options.with_words(rest),
                     None => None,
-                }
+                },
             },
         }
     }

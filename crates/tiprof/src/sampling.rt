@@ -1,164 +1,135 @@
-//! The environments that sample all threads at an interval, and what they share with the workers.
-use crate::fold::Fold;
-use crate::options::Options;
+//! The samples, one after another, until the sampling is to end.
+use crate::asking::{Asking, standing};
+use crate::options::{Options, Way};
+use crate::shared::Shared;
+use crate::taken::Taken;
+use std::io;
 use std::rt::Clock;
-use std::sync::atomic::{AtomicBool, AtomicU32, Ordering};
-use std::sync::{Mutex, Wait};
-use std::thread;
+use std::sync::Wait;
 use std::time::{Duration, Instant};
 use ti_agent::Env;
-use ti_types::StackInfo;
-use ti_vmop::VmTurn;
 
-/// This many samples an environment takes: each costs it two calls at each thread, and it has 1,024.
-pub const SAMPLES_EACH: u32 = 512;
-
-/// The frames of a thread that are read.
-const FRAMES: i32 = 128;
-
-/// This many milliseconds lie between two lines that say how far the sampling is.
-const PROGRESS: u64 = 500;
-
-/// What the workers and the environments share.
-#[derive(Drop)]
-pub struct Shared {
-    turn: Mutex<VmTurn>,
-    over: AtomicBool,
-    done: AtomicU32,
-}
-
-impl Shared {
-    pub fn new() -> Self {
-        Shared {
-            turn: Mutex::new(VmTurn::new()),
-            over: AtomicBool::new(false),
-            done: AtomicU32::new(0),
-        }
-    }
-
-    /// Whether the sampling is over.
-    pub fn is_over(&self) -> bool {
-        self.over.load(Ordering::SeqCst)
-    }
-
-    /// One more worker is done.
-    pub fn note_done(&self) {
-        self.done.fetch_add(1, Ordering::SeqCst);
-    }
-}
+/// This many seconds lie between two lines that say how far the sampling is.
+const PROGRESS: u64 = 5;
 
 /// What the sampling came to.
 #[derive(Drop)]
 pub struct Sampled {
-    pub fold: Fold,
-    pub samples: u32,
-    /// How many threads were alive, over all samples.
-    pub live: u64,
-    /// How long it took, in microseconds.
-    pub micros: u64,
+    pub taken: Taken,
+    pub samples: u64,
+    /// How long it took, in milliseconds.
+    pub millis: u64,
 }
 
-/// Adds all stacks of a sample.
-fn fold_all<R: AllocGlobal>(rt: &R, fold: &mut Fold, infos: &[StackInfo]) -> Option<()> {
-    for info in infos {
-        fold.add(rt.alloc(), info.frames.frames()).ok()?;
-    }
-    Some(())
-}
-
-/// When to sample next, and when to say how far it is.
+/// When to sample next, when to say how far it is, and when to end.
 #[derive(Clone, Copy)]
 struct Pace {
     began: Instant,
     interval: Duration,
     due: Duration,
     said: Duration,
+    end: Duration,
 }
 
 impl Pace {
-    fn new<R: Clock>(rt: &R, interval: Duration) -> Option<Pace> {
+    fn new<R: Clock>(rt: &R, options: Options) -> Option<Pace> {
+        let interval = Duration::from_micros(u64::from(options.interval));
+        let end = match options.seconds {
+            Some(seconds) => Duration::from_secs(u64::from(seconds)),
+            None => Duration::MAX,
+        };
         Some(Pace {
             began: Instant::now(rt).ok()?,
             interval,
             due: interval,
             said: Duration::ZERO,
+            end,
         })
     }
 
-    /// Sleeps until the next sample is due, and sets when the one after it is. What has passed since the beginning.
-    fn wait<R: Clock>(&mut self, rt: &R) -> Option<Duration> {
-        let passed = self.began.elapsed(rt).ok()?;
-        thread::sleep(rt, self.due.saturating_sub(passed));
-        self.due = self.due.saturating_add(self.interval);
-        self.began.elapsed(rt).ok()
+    /// Waits until the next sample is due, and sets when the one after it is. The time since the beginning, or `None`
+    /// where the sampling is to end.
+    fn next<R: Wait + Clock>(
+        &mut self,
+        rt: &R,
+        shared: &Shared,
+        workers: u32,
+    ) -> io::Result<Option<Duration>> {
+        for _ in rt.forever() {
+            let passed = self.began.elapsed(rt)?;
+            if passed >= self.end || shared.is_ended(workers) {
+                return Ok(None);
+            }
+            if passed >= self.due {
+                self.due = self.due.saturating_add(self.interval);
+                return Ok(Some(passed));
+            }
+            shared.rest(rt, self.due.min(self.end).saturating_sub(passed));
+        }
+        unreachable!()
     }
 
     /// Whether a line is due that says how far it is.
     fn says(&mut self, passed: Duration) -> bool {
-        let says = passed.saturating_sub(self.said) >= Duration::from_millis(PROGRESS);
+        let says = passed.saturating_sub(self.said) >= Duration::from_secs(PROGRESS);
         if says {
             self.said = passed;
         }
         says
     }
-}
 
-impl Sampled {
-    fn micros_of(passed: Duration) -> u64 {
-        u64::try_from(passed.as_micros()).unwrap_or(u64::MAX)
+    /// The milliseconds since the beginning.
+    fn millis<R: Clock>(&self, rt: &R) -> Option<u64> {
+        let passed = self.began.elapsed(rt).ok()?;
+        Some(u64::try_from(passed.as_millis()).unwrap_or(u64::MAX))
     }
 }
 
-/// Samples until enough were taken or all workers are done, and then says that it is over.
+/// Samples until that is to end, and tells the workers to stop.
 pub fn sample<R: Wait + Clock + Eprint + AllocGlobal>(
     rt: &R,
     shared: &Shared,
-    envs: Vec<Env<'_>>,
+    env: Env<'_>,
     options: Options,
 ) -> Option<Sampled> {
-    let sampled = sample_on(rt, shared, envs, options);
-    shared.over.store(true, Ordering::SeqCst);
+    let sampled = sample_on(rt, shared, env, options);
+    shared.stop();
     sampled
 }
 
-/// The same, but for the end.
+/// The same, but for the workers.
 fn sample_on<R: Wait + Clock + Eprint + AllocGlobal>(
     rt: &R,
     shared: &Shared,
-    envs: Vec<Env<'_>>,
+    env: Env<'_>,
     options: Options,
 ) -> Option<Sampled> {
-    let mut envs = envs;
-    let mut pace = Pace::new(rt, Duration::from_micros(u64::from(options.interval)))?;
-    let mut sampled = Sampled {
-        fold: Fold::new(rt.alloc()),
-        samples: 0,
-        live: 0,
-        micros: 0,
+    let mut env = env;
+    let mut taken = Taken::new(rt.alloc(), options)?;
+    let mut asking = Asking::new(rt.alloc(), options.threads)?;
+    let mut pace = Pace::new(rt, options)?;
+    let most = match options.samples {
+        Some(samples) => u64::from(samples),
+        None => u64::MAX,
     };
-    let mut env = envs.pop()?;
-    for turn in 0..options.samples {
-        if 0 < turn && turn % SAMPLES_EACH == 0 {
-            env = envs.pop()?;
-        }
-        let passed = pace.wait(rt)?;
-        if shared.done.load(Ordering::SeqCst) >= options.threads {
+    let mut samples: u64 = 0;
+    for _ in 0..most {
+        let Some(passed) = pace.next(rt, shared, options.threads).ok()? else {
             break;
+        };
+        match options.way {
+            Way::Handshake => asking.sample(rt, &mut env, &mut taken)?,
+            Way::Standing => standing(rt, shared.turn(), &mut env, &mut taken)?,
         }
-        let (infos, _round) = env
-            .get_all_stack_traces(rt, rt.alloc(), &shared.turn, FRAMES)
-            .ok()?;
-        fold_all(rt, &mut sampled.fold, &infos)?;
-        sampled.samples = sampled.samples.saturating_add(1);
-        sampled.live = sampled.live.saturating_add(infos.len() as u64);
+        samples = samples.saturating_add(1);
         if pace.says(passed) {
-            eprintln!(rt;
-                "tiprof: {} of {} samples",
-                sampled.samples, options.samples
-            )
-            .ok()?;
+            eprintln!(rt; "tiprof: {samples} samples").ok()?;
         }
     }
-    sampled.micros = Sampled::micros_of(pace.began.elapsed(rt).ok()?);
-    Some(sampled)
+    asking.finish(rt, &mut env, &mut taken)?;
+    Some(Sampled {
+        taken,
+        samples,
+        millis: pace.millis(rt)?,
+    })
 }

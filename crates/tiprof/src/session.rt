@@ -3,11 +3,14 @@ ghost use Rattle.std.specs.Prelude.{◌≡◌, length, IfSome};
 ghost use Rattle.ti_cell.specs.View.{subject_of};
 ghost use Rattle.tiprof.specs.Stations.{ArePosts, AreStations, AreDesks, IsNewDesk};
 
+use crate::asking::DEPTH;
 use crate::options::Options;
-use crate::sampling::{Sampled, Shared, sample};
+use crate::sampling::{Sampled, sample};
+use crate::shared::Shared;
 use crate::station::{Post, Station};
-use crate::working::{NewWorker, work_all};
+use crate::working::{NewWorker, Task, work_all};
 use std::alloc::Global;
+use std::io::Input;
 use std::rt::Clock;
 use std::sync::Wait;
 use std::thread::{Threads, join};
@@ -66,7 +69,7 @@ fn desks_of<'a>(
     Some(desks)
 }
 
-/// One more environment, with a desk at each thread. `None` where memory runs out, or no seat is left.
+/// The environment, with a desk at each thread. `None` where memory runs out, or no seat is left.
 fn environment<'a>(
     alloc: Global,
     limits: Limits,
@@ -81,25 +84,6 @@ fn environment<'a>(
     let state = EnvState::new(alloc, limits).ok()?;
     let desks = desks_of(alloc, limits, env, stations)?;
     Some(Env::new(env, state, desks))
-}
-
-/// All environments, the last first.
-fn environments<'a>(
-    alloc: Global,
-    limits: Limits,
-    stations: Vec<Station<'a>>,
-) -> Option<Vec<Env<'a>>>
-    requires at { AreStations limits stations.items }
-    requires count { length stations.items ≡ limits.threads }
-{
-    let mut stations = stations;
-    let mut envs = Vec::with_capacity(alloc, limits.envs as usize).ok()?;
-    for i in 0..limits.envs {
-        let env = EnvNo(limits.envs - 1 - i);
-        envs.push(environment(alloc, limits, env, &mut stations)?)
-            .ok()?;
-    }
-    Some(envs)
 }
 
 /// The new cells of all threads, and the seats at them.
@@ -144,8 +128,26 @@ fn occupy<'a>(
     Some((stations, workers))
 }
 
+/// Samples, and beside that listens for the end of standard input where the sampling does not end by itself.
+fn sample_beside<R: Threads + Wait + Sync + Clock + Input + Eprint + AllocGlobal>(
+    rt: &R,
+    shared: &Shared,
+    env: Env<'_>,
+    options: Options,
+) -> Option<Sampled> {
+    if options.is_bounded() {
+        return sample(rt, shared, env, options);
+    }
+    let (sampled, ()) = join(
+        rt,
+        move || -> Option<Sampled> { sample(rt, shared, env, options) },
+        move || shared.listen(rt),
+    );
+    sampled
+}
+
 /// The workers run, and are sampled.
-fn run_at<R: Threads + Wait + Sync + Clock + CpuClock + Eprint + AllocGlobal>(
+fn run_at<R: Threads + Wait + Sync + Clock + CpuClock + Input + Eprint + AllocGlobal>(
     rt: &R,
     limits: Limits,
     options: Options,
@@ -156,13 +158,18 @@ fn run_at<R: Threads + Wait + Sync + Clock + CpuClock + Eprint + AllocGlobal>(
     requires at { AreStations limits stations.items }
     requires count { length stations.items ≡ limits.threads }
 {
-    let envs = environments(rt.alloc(), limits, stations)?;
+    let mut stations = stations;
+    let env = environment(rt.alloc(), limits, EnvNo(0), &mut stations)?;
+    let task = Task {
+        rounds: options.jobs,
+        text,
+    };
     let shared = Shared::new();
     let shared = &shared;
     let (worked, sampled) = join(
         rt,
-        move || -> Option<(u64, u64)> { work_all(rt, shared, works, text) },
-        move || -> Option<Sampled> { sample(rt, shared, envs, options) },
+        move || -> Option<(u64, u64)> { work_all(rt, shared, works, task) },
+        move || -> Option<Sampled> { sample_beside(rt, shared, env, options) },
     );
     let (jobs, cpu) = worked?;
     Some(Ran {
@@ -173,12 +180,12 @@ fn run_at<R: Threads + Wait + Sync + Clock + CpuClock + Eprint + AllocGlobal>(
 }
 
 /// Runs new workers, and samples them. `None` where memory runs out, or a line cannot be written.
-pub fn run<R: Threads + Wait + Sync + Clock + CpuClock + Eprint + AllocGlobal>(
+pub fn run<R: Threads + Wait + Sync + Clock + CpuClock + Input + Eprint + AllocGlobal>(
     rt: &R,
-    limits: Limits,
     options: Options,
     text: &[u8],
 ) -> Option<Ran> {
+    let limits = Limits::lasting(options.threads, 1, DEPTH)?;
     let (cells, posts) = make_cells(rt.alloc(), limits)?;
     let (stations, workers) = occupy(rt.alloc(), limits, &cells, posts)?;
     run_at(rt, limits, options, stations, workers, text)

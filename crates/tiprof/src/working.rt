@@ -1,10 +1,10 @@
-//! What the workers do: one job after another, until the sampling is over or their entries are spent.
+//! What the workers do: one job after another, until they are told to stop, or have made their rounds.
 ghost use Rattle.std.specs.Prelude.{◌≡◌};
 
 use crate::method::Method;
 use crate::parse::parse;
-use crate::sampling::Shared;
 use crate::search::{WAYS, search};
+use crate::shared::Shared;
 use crate::sort::sort;
 use crate::worker::{Spent, Worker};
 use std::rt::Clock;
@@ -24,6 +24,25 @@ pub struct NewWorker<'a> {
     pub ghost here: { fresh.cell ≡ cell.now },
 }
 
+/// What a worker is to do.
+#[derive(Clone, Copy)]
+pub struct Task<'t> {
+    /// How many rounds of its jobs: as many as there is time for, if not given.
+    pub rounds: Option<u32>,
+    /// What it parses.
+    pub text: &'t [u8],
+}
+
+impl Task<'_> {
+    /// How many jobs that is.
+    fn jobs(self) -> u64 {
+        match self.rounds {
+            Some(rounds) => u64::from(rounds) * ROUND,
+            None => u64::MAX,
+        }
+    }
+}
+
 /// What a worker did.
 #[derive(Clone, Copy, Drop)]
 pub struct Worked {
@@ -34,18 +53,21 @@ pub struct Worked {
 /// This many microseconds a worker sleeps between two rounds.
 const REST: u64 = 500;
 
+/// The jobs of a round.
+const ROUND: u64 = 4;
+
 /// One job: whether it came to what it should.
 fn job<R: Wait + Clock + AllocGlobal>(
     rt: &R,
     worker: &mut Worker<'_>,
-    turn: u32,
+    turn: u64,
     text: &[u8],
 ) -> Result<bool, Spent>
     ensures same { worker.new ≡ worker.old }
 {
-    match turn % 4 {
+    match turn % ROUND {
         0 => Ok(parse(rt, worker, text)?.whole),
-        1 => sort(rt, rt.alloc(), worker, turn),
+        1 => sort(rt, rt.alloc(), worker, (turn % 65_536) as u32),
         2 => Ok(search(rt, worker)? == WAYS),
         _ => {
             worker.enter(Method::Rest)?;
@@ -56,27 +78,27 @@ fn job<R: Wait + Clock + AllocGlobal>(
     }
 }
 
-/// One job after another, until the sampling is over, or one does not come to what it should. How many were done.
+/// One job after another, until the worker is told to stop, has made its rounds, or one does not come to what it should.
+/// How many were done.
 fn jobs<R: Wait + Clock + AllocGlobal>(
     rt: &R,
     shared: &Shared,
     worker: &mut Worker<'_>,
+    task: Task<'_>,
     number: u32,
-    text: &[u8],
 ) -> u64
     ensures same { worker.new ≡ worker.old }
 {
     if worker.enter(Method::Worker).is_err() {
         return 0;
     }
-    let mut done: u64 = 0;
-    for turn in number..u32::MAX {
-        if shared.is_over() || job(rt, worker, turn, text) != Ok(true) {
+    for done in 0..task.jobs() {
+        let turn = done.wrapping_add(u64::from(number));
+        if shared.is_over() || job(rt, worker, turn, task.text) != Ok(true) {
             return done;
         }
-        done = done.saturating_add(1);
     }
-    done
+    task.jobs()
 }
 
 /// A worker's life.
@@ -84,7 +106,7 @@ fn work<R: Wait + Clock + CpuClock + AllocGlobal>(
     rt: &R,
     shared: &Shared,
     work: NewWorker<'_>,
-    text: &[u8],
+    task: Task<'_>,
 ) -> Worked {
     let NewWorker {
         cell,
@@ -93,7 +115,7 @@ fn work<R: Wait + Clock + CpuClock + AllocGlobal>(
     } = work;
     let began = rt.thread_cpu_time();
     let mut worker = Worker::start(rt, cell, fresh);
-    let jobs = jobs(rt, shared, &mut worker, number, text);
+    let jobs = jobs(rt, shared, &mut worker, task, number);
     let _seat = worker.end(rt);
     let cpu = match (began, rt.thread_cpu_time()) {
         (Ok(began), Ok(ended)) => ended.saturating_sub(began).as_nanos(),
@@ -111,12 +133,12 @@ pub fn work_all<R: Threads + Wait + Sync + Clock + CpuClock + AllocGlobal>(
     rt: &R,
     shared: &Shared,
     works: Vec<NewWorker<'_>>,
-    text: &[u8],
+    task: Task<'_>,
 ) -> Option<(u64, u64)> {
     let worked = thread::map_vec(
         rt,
         works,
-        &|one: NewWorker<'_>| -> Worked { work(rt, shared, one, text) },
+        &|one: NewWorker<'_>| -> Worked { work(rt, shared, one, task) },
     )
     .ok()?;
     let mut jobs: u64 = 0;

@@ -1,5 +1,5 @@
 //! What a measured thread does.
-use crate::asking::{Shared, Work};
+use crate::asking::Shared;
 use crate::spent::{Began, Spent};
 use std::rt::Clock;
 use std::sync::Wait;
@@ -7,25 +7,6 @@ use std::thread;
 use std::time::{CpuClock, Duration};
 use ti_handshake::{AtSafe, Fresh, Polled, Running};
 use ti_types::{Kind, MethodNo, Step};
-
-/// What is measured.
-#[derive(Clone, Copy)]
-pub enum Task {
-    Steps,
-    /// So many steps of a thread that may run as long as its process.
-    Lasting(u32),
-    Polls,
-    /// Steps and polls of a thread, while a thread beside it is asked for traces.
-    Beside,
-    /// Counts of a running thread's frames.
-    Running,
-    /// The wait of a thread that is suspended.
-    Suspended,
-    /// The wait for a count at a running thread that does not poll.
-    Unpolled,
-    /// What is asked of parked threads of this many frames.
-    Parked(Work, u32),
-}
 
 /// How many steps a thread takes: each costs 1 of its 65,536.
 pub const STEPS: u32 = 60_000;
@@ -35,21 +16,11 @@ const POLLS: u32 = 1_000_000;
 /// How many milliseconds a thread is suspended, or does not poll.
 pub const WAIT: u64 = 2000;
 
-/// How often a thread that waits for others polls before it gives up.
-const TURNS: u32 = u32::MAX;
+/// How often a thread polls that waits to be suspended, before it gives up.
+pub const TURNS: u32 = u32::MAX;
 
 /// How many polls lie between two looks at who is done.
-const LOOK: u32 = 4096;
-
-impl Task {
-    /// In how many rounds it is measured.
-    pub fn rounds(self) -> u32 {
-        match self {
-            Task::Lasting(_) | Task::Suspended | Task::Unpolled => 1,
-            _ => 32,
-        }
-    }
-}
+const LOOK: u64 = 4096;
 
 /// Enters this many methods.
 pub fn enter(running: &mut Running<'_>, frames: u32) -> Option<()> {
@@ -94,21 +65,29 @@ pub fn take_polls<R: Clock + CpuClock>(rt: &R, running: Running<'_>) -> Option<S
     began.spent(rt, u64::from(POLLS))
 }
 
+/// Makes a step and polls. Nobody asks, so that the poll is clear.
+fn step_and_poll(running: &mut Running<'_>, step: Step) -> Option<()> {
+    running.step(step).ok()?;
+    if running.poll_clear() { Some(()) } else { None }
+}
+
 /// Enters and leaves a method, again and again, and polls after each step.
 pub fn work_beside<R: Clock + CpuClock>(rt: &R, running: Running<'_>) -> Option<Spent> {
     let mut running = running;
     let began = Began::now(rt)?;
     for method in 0..STEPS / 2 {
-        running.step(Step::Enter(MethodNo(method))).ok()?;
-        if !running.poll_clear() {
-            return None;
-        }
-        running.step(Step::Leave).ok()?;
-        if !running.poll_clear() {
-            return None;
-        }
+        step_and_poll(&mut running, Step::Enter(MethodNo(method)))?;
+        step_and_poll(&mut running, Step::Leave)?;
     }
     began.spent(rt, u64::from(STEPS))
+}
+
+/// Hands over and goes on. `None` if it is held.
+fn go_on<'a, R: Wait>(rt: &R, running: Running<'a>) -> Option<Running<'a>> {
+    match running.poll(rt) {
+        Polled::Go(again) => Some(again),
+        Polled::Held(_) => None,
+    }
 }
 
 /// Polls until this many others are done, or it was held.
@@ -119,40 +98,65 @@ pub fn poll_until_done<R: Wait>(
     others: u32,
 ) -> Option<()> {
     let mut running = running;
-    for turn in 0..TURNS {
+    for turn in 0..u64::MAX {
         if !running.poll_clear() {
-            match running.poll(rt) {
-                Polled::Go(again) => running = again,
-                Polled::Held(_) => return None,
-            }
+            running = go_on(rt, running)?;
         }
         if turn % LOOK == 0 && shared.count_done(rt) >= others {
             return Some(());
+        }
+    }
+    None
+}
+
+/// Enters and leaves a method, again and again, and polls after each step, until this many others are done, or it was held.
+pub fn work_until_done<R: Wait>(
+    rt: &R,
+    shared: &Shared,
+    running: Running<'_>,
+    others: u32,
+) -> Option<()> {
+    let mut running = running;
+    for turn in 0..u64::MAX {
+        let step = if turn % 2 == 0 {
+            Step::Enter(MethodNo(0))
+        } else {
+            Step::Leave
+        };
+        running.step(step).ok()?;
+        if !running.poll_clear() {
+            running = go_on(rt, running)?;
+        }
+        if turn % LOOK == 0 && shared.count_done(rt) >= others {
+            return Some(());
+        }
+    }
+    None
+}
+
+/// Polls until it is held. `None` if nobody holds it; then it has ended.
+pub fn poll_until_held<'a, R: Wait>(rt: &R, running: Running<'a>) -> Option<AtSafe<'a>> {
+    let mut running = running;
+    for _ in 0..TURNS {
+        if !running.poll_clear() {
+            match running.poll(rt) {
+                Polled::Go(again) => running = again,
+                Polled::Held(held) => return Some(held),
+            }
         }
     }
     let _ended = running.end(rt);
     None
 }
 
-/// Polls until it is held. Then what it spends until it may go on. `None` where nobody holds it.
+/// What a thread spends from where it is held until it may go on. Then it ends.
 pub fn wait_suspended<R: Wait + Clock + CpuClock>(rt: &R, running: Running<'_>) -> Option<Spent> {
-    let mut running = running;
-    for _ in 0..TURNS {
-        if !running.poll_clear() {
-            match running.poll(rt) {
-                Polled::Go(again) => running = again,
-                Polled::Held(held) => {
-                    let began = Began::now(rt)?;
-                    let back = held.back(rt);
-                    let spent = began.spent(rt, 1);
-                    let _ended = back.end(rt);
-                    return spent;
-                }
-            }
-        }
-    }
-    let _ended = running.end(rt);
-    None
+    let held = poll_until_held(rt, running)?;
+    let began = Began::now(rt)?;
+    let back = held.back(rt);
+    let spent = began.spent(rt, 1);
+    let _ended = back.end(rt);
+    spent
 }
 
 /// Does not poll for a while, and then until this many others are done.

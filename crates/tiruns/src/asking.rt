@@ -1,6 +1,7 @@
 //! What environments ask, by how many at once.
 use crate::activity::WAIT;
 use crate::spent::{Began, Spent};
+use crate::task::{Crowd, Work};
 use std::rt::Clock;
 use std::sync::{Mutex, Wait};
 use std::thread;
@@ -9,36 +10,6 @@ use std::time::{CpuClock, Duration};
 use ti_agent::Env;
 use ti_types::{Caps, ThreadNo, TiError};
 use ti_vmop::VmTurn;
-
-/// What an environment asks, again and again, of thread 0, or of all.
-#[derive(Clone, Copy)]
-pub enum Work {
-    State,
-    Word,
-    Count,
-    Trace,
-    All,
-}
-
-/// How many environments ask at once.
-#[derive(Clone, Copy)]
-pub enum Crowd {
-    Nobody,
-    One,
-    Two,
-    Four,
-}
-
-impl Crowd {
-    pub fn size(self) -> u32 {
-        match self {
-            Crowd::Nobody => 0,
-            Crowd::One => 1,
-            Crowd::Two => 2,
-            Crowd::Four => 4,
-        }
-    }
-}
 
 /// What those who ask share: the turn, and how many of them are done.
 #[derive(Drop)]
@@ -56,7 +27,7 @@ impl Shared {
     }
 
     /// One more is done.
-    fn note_done<R: Wait>(&self, rt: &R) {
+    pub fn note_done<R: Wait>(&self, rt: &R) {
         let mut done = self.done.lock(rt);
         *done = done.saturating_add(1);
     }
@@ -106,15 +77,15 @@ impl Work {
     }
 }
 
-/// Asks until all calls are spent.
-fn ask_on<R: Wait + Clock + CpuClock + AllocGlobal>(
+/// Asks so many times.
+pub fn ask_on<R: Wait + Clock + CpuClock + AllocGlobal>(
     rt: &R,
     shared: &Shared,
     env: Env<'_>,
     work: Work,
+    times: u32,
 ) -> Option<Spent> {
     let mut env = env;
-    let times = work.times();
     let began = Began::now(rt)?;
     for _ in 0..times {
         if work.once(rt, shared, &mut env).is_err() {
@@ -124,14 +95,14 @@ fn ask_on<R: Wait + Clock + CpuClock + AllocGlobal>(
     began.spent(rt, u64::from(times))
 }
 
-/// The same, and then notes that it is done.
+/// Asks until all calls are spent, and then notes that it is done.
 fn ask<R: Wait + Clock + CpuClock + AllocGlobal>(
     rt: &R,
     shared: &Shared,
     env: Env<'_>,
     work: Work,
 ) -> Option<Spent> {
-    let spent = ask_on(rt, shared, env, work);
+    let spent = ask_on(rt, shared, env, work, work.times());
     shared.note_done(rt);
     spent
 }

@@ -14,7 +14,7 @@ pub struct Spent {
 }
 
 /// Nanoseconds, or the most that there is room for.
-fn nanos(time: Duration) -> u64 {
+pub fn nanos(time: Duration) -> u64 {
     match u64::try_from(time.as_nanos()) {
         Ok(n) => n,
         Err(_) => u64::MAX,
@@ -48,7 +48,7 @@ pub struct Began {
 }
 
 impl Began {
-    /// Now, in the thread that asks. `None` where there is no clock, here and below.
+    /// Now, in the thread that asks. `None` if there is no clock, here and below.
     pub fn now<R: Clock + CpuClock>(rt: &R) -> Option<Self> {
         let cpu = rt.thread_cpu_time().ok()?;
         let wall = Instant::now(rt).ok()?;

@@ -1,11 +1,12 @@
-use Rattle.std.proofs.Common.{◌≡◌, sym, subst, refl, None}
+use Rattle.std.proofs.Common.{◌≡◌, List, length, ap, arith, sym, subst, refl, None}
+use Rattle.ti_types.specs.declared.event.Ticket.{Ticket}
 use Rattle.ti_types.specs.Answer.{said}
 use Rattle.ti_env.specs.Env.{call_refusal}
 use Rattle.ti_agent.specs.Buffers.{IsJustBufferOf}
 use Rattle.ti_agent.specs.Env.{Environment}
 use Rattle.ti_agent.specs.Asks.{Asks, Went}
 use Rattle.ti_agent.proofs.Replied.{answered_kind, answered_not}
-use Rattle.ti_agent.proofs.Whole.{may_call, has_buffer, whole_after, after_call, went}
+use Rattle.ti_agent.proofs.Whole.{may_call, has_room, desk_about, has_buffer, whole_after, after_call, went}
 use Rattle.ti_agent.proofs.env.Env.ask_one.Goals as goal
 
 pub call-requires-clause-calls : goal.call-requires-clause-calls
@@ -13,6 +14,12 @@ call-requires-clause-calls g c =
     let s : Environment = record { env = c.self.inside.env; state = c.self.inside.state; desks = c.self.inside.desks.items } in
     let free : call_refusal s.state c.args.thread c.args.call ≡ None = subst (λ (x : Environment). call_refusal x.state c.args.thread c.args.call ≡ None) (sym c.self.view_is) c.requires.admitted in
     may_call s c.args.thread c.args.call c.index_mut.result.now c.self.invariant free c.index_mut.ensures.value
+
+pub call-requires-clause-room : goal.call-requires-clause-room
+call-requires-clause-room g c = λ _.
+    let s : Environment = record { env = c.self.inside.env; state = c.self.inside.state; desks = c.self.inside.desks.items } in
+    let free : call_refusal s.state c.args.thread c.args.call ≡ None = subst (λ (x : Environment). call_refusal x.state c.args.thread c.args.call ≡ None) (sym c.self.view_is) c.requires.admitted in
+    has_room s c.args.thread c.args.call c.index_mut.result.now c.self.invariant free c.index_mut.ensures.value
 
 pub call-requires-clause-buf : goal.call-requires-clause-buf
 call-requires-clause-buf g c =
@@ -27,6 +34,7 @@ invariant_of-self g c =
     let free : call_refusal s.state c.args.thread c.args.call ≡ None = subst (λ (x : Environment). call_refusal x.state c.args.thread c.args.call ≡ None) (sym c.self.view_is) c.requires.admitted in
     let e = c.call.ensures in
     whole_after s c.args.thread c.args.call c.index_mut.result.now c.call.new.self c.spend.new.self c.self.invariant free c.index_mut.ensures.value c.spend.ensures e.same e.goes e.mine
+    (omega (arith, ap (λ (t : List Ticket). length t) e.posted, has_room s c.args.thread c.args.call c.index_mut.result.now c.self.invariant free c.index_mut.ensures.value, ap (λ x. x.limits.window) (desk_about s c.args.thread c.args.call c.index_mut.result.now c.self.invariant free c.index_mut.ensures.value)))
 
 pub returns-clause-went : goal.returns-clause-went
 returns-clause-went g c =

@@ -2,7 +2,7 @@ use Rattle.std.proofs.Common.{rules, sym, subst, refl}
 use Rattle.ti_types.specs.Answer.{said}
 use Rattle.ti_agent.specs.Env.{Environment}
 use Rattle.ti_agent.specs.Posts.{Collects, IsOut}
-use Rattle.ti_agent.proofs.Whole.{whole_seen, seen_call}
+use Rattle.ti_agent.proofs.Whole.{fewer, whole_seen, seen_call}
 use Rattle.ti_agent.proofs.Posting.{in_range_of, out_at}
 use Rattle.ti_agent.proofs.env.Env.collect.Goals as goal
 
@@ -20,7 +20,7 @@ pub invariant_of-self : goal.invariant_of-self
 invariant_of-self g c =
     let s : Environment = record { env = c.self.inside.env; state = c.self.inside.state; desks = c.self.inside.desks.items } in
     let at = (out_at s c.args.ticket c.index_mut.result.now (subst (λ (x : Environment). IsOut x c.args.ticket) (sym c.self.view_is) c.requires.out) c.index_mut.ensures.value).0 in
-    whole_seen s c.args.ticket.thread.0 c.index_mut.result.now c.collect.new.self _ c.self.invariant at c.collect.ensures.same c.collect.ensures.hold
+    whole_seen s c.args.ticket.thread.0 c.index_mut.result.now c.collect.new.self _ c.self.invariant at c.collect.ensures.same c.collect.ensures.hold (fewer c.args.ticket c.index_mut.result.now.view.posted)
 
 pub returns : goal.returns
 returns g c =

@@ -1,10 +1,10 @@
-use Rattle.std.proofs.Common.{◌<◌, length, arith, subst}
+use Rattle.std.proofs.Common.{◌<◌, is_some, length, arith, subst}
 use Rattle.std.specs.Option.{option_map}
 use Rattle.std.proofs.lemmas.Bool.Decides.{nat_tests}
 use Rattle.ti_types.specs.Answer.{said}
 use Rattle.ti_agent.specs.Env.{Environment}
 use Rattle.ti_agent.specs.Posts.{LooksFor}
-use Rattle.ti_agent.proofs.Whole.{whole_seen, seen_call, desk_there}
+use Rattle.ti_agent.proofs.Whole.{fewer_if, whole_seen, seen_call, desk_there}
 use Rattle.ti_agent.proofs.Posting.{looked_for}
 use Rattle.ti_agent.proofs.env.Env.try_collect.Goals as goal
 
@@ -14,7 +14,7 @@ invariant_of-self g c =
     let t = c.args.ticket.thread.0 in
     let within : t < length s.desks = grind (arith, nat_tests, c.if-at-len.false, c.len.ensures) in
     let at = desk_there s t c.index_mut.result.now within c.index_mut.ensures.value in
-    whole_seen s t c.index_mut.result.now c.try_collect.new.self _ c.self.invariant at c.try_collect.ensures.same c.try_collect.ensures.hold.waits
+    whole_seen s t c.index_mut.result.now c.try_collect.new.self _ c.self.invariant at c.try_collect.ensures.same c.try_collect.ensures.hold.waits (fewer_if (is_some c.try_collect.result) c.args.ticket c.index_mut.result.now.view.posted)
 
 pub returns-clause-looks : goal.returns-clause-looks
 returns-clause-looks g c = λ _.

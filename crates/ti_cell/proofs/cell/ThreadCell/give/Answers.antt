@@ -1,4 +1,4 @@
-use Rattle.std.proofs.Common.{rules, ◌≡◌, ℕ, ◌≤◌, ◌^◌, List, false, [], ◌∷◌, Option, Some, sym, ap, ◌∙◌, subst}
+use Rattle.std.proofs.Common.{rules, ◌≡◌, ℕ, ◌<◌, ◌^◌, List, false, [], ◌∷◌, Option, Some, sym, ap, ◌∙◌, subst}
 use Rattle.atomic_table.specs.Table.{Me, rest}
 use Rattle.ti_slot.specs.Thread.{Thread}
 use Rattle.ti_cell.specs.declared.view.View.{View}
@@ -11,7 +11,7 @@ use Rattle.ti_cell.proofs.Steps.{frees_keep}
 use Rattle.ti_cell.proofs.cell.ThreadCell.give.Goals as goal
 
 pub free-word-requires : goal.free-word-requires
-free-word-requires c = record { count = subst (λ n. n ≤ 2 ^ 60) (sym c.len.ensures.len) (short c.args.slot.limits c.args.slot.history c.len.ensures.legal) }
+free-word-requires c = record { count = subst (λ n. n < 2 ^ 61) (sym c.len.ensures.len) (short c.args.slot.limits c.args.slot.history c.len.ensures.legal) }
 
 pub store-requires : goal.store-requires
 store-requires c =

@@ -13,7 +13,7 @@ pub invariant_of-self-2 : goal.invariant_of-self-2
 invariant_of-self-2 c =
     let old : IsWhole c.self.inside.slot (Some c.in-Some.frames) (Some c.in-Some-log.log) = rw (sym c.in-Some.is ∙ c.take.ensures.value, sym c.in-Some-log.is) c.self.invariant in
     rw c.take.ensures.after (whole_home c.self.inside.slot c.end.new.self End c.in-Some-log.log.steps c.end.new.log refl c.end.ensures.thread (ap (λ (l : Steps). l.steps) c.end.ensures.log)
-    (ap (λ (l : Steps). l.room) c.end.ensures.log ∙ old.parts.room, ap (λ (l : Steps). l.kept) c.end.ensures.log ∙ old.parts.kept) c.end.ensures.legal)
+    (ap (λ (l : Steps). l.room) c.end.ensures.log ∙ old.parts.room, ap (λ (l : Steps). l.kept) c.end.ensures.log ∙ old.parts.kept) old.wide c.end.ensures.legal)
 
 pub returns-clause-next : goal.returns-clause-next
 returns-clause-next c =

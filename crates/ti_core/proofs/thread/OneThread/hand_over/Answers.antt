@@ -18,4 +18,4 @@ pub invariant_of-self-in-Ok : goal.invariant_of-self-in-Ok
 invariant_of-self-in-Ok c =
     let old : IsWhole c.self.inside.slot (Some c.in-Some.frames) (Some c.in-Some-log.log) = rw (sym c.in-Some.is ∙ c.take.ensures.value, sym c.in-Some-log.is) c.self.invariant in
     rw c.take.ensures.after (whole_home c.self.inside.slot c.hand_over.new.self (Hand c.args.safe) c.in-Some-log.log.steps c.hand_over.new.log refl c.in-Ok.ensures.thread (ap (λ (l : Steps). l.steps) c.in-Ok.ensures.log)
-    (ap (λ (l : Steps). l.room) c.in-Ok.ensures.log ∙ old.parts.room, ap (λ (l : Steps). l.kept) c.in-Ok.ensures.log ∙ old.parts.kept) c.in-Ok.ensures.legal)
+    (ap (λ (l : Steps). l.room) c.in-Ok.ensures.log ∙ old.parts.room, ap (λ (l : Steps). l.kept) c.in-Ok.ensures.log ∙ old.parts.kept) old.wide c.in-Ok.ensures.legal)

@@ -6,7 +6,7 @@ use Rattle.ti_core.proofs.WholeLaws.{whole_away, start_same, refused_next}
 use Rattle.ti_core.proofs.thread.OneThread.start.Goals as goal
 
 pub invariant_of-self : goal.invariant_of-self
-invariant_of-self c = whole_away c.self.inside.slot c.start.new.self Start c.in-Ok.frames c.in-Ok.log (λ r. refl) c.in-Ok.ensures.thread c.in-Ok.ensures.frames.0 c.in-Ok.ensures.frames.1 c.in-Ok.ensures.log.0 (c.in-Ok.ensures.log.1, c.in-Ok.ensures.log.2) c.in-Ok.ensures.legal
+invariant_of-self c = whole_away c.self.inside.slot c.start.new.self Start c.in-Ok.frames c.in-Ok.log (λ r. refl) c.in-Ok.ensures.thread c.in-Ok.ensures.frames.0 c.in-Ok.ensures.frames.1 c.in-Ok.ensures.log.0 (c.in-Ok.ensures.log.1, c.in-Ok.ensures.log.2) c.self.invariant.wide c.in-Ok.ensures.legal
 
 pub returns-in-Err-clause-next : goal.returns-in-Err-clause-next
 returns-in-Err-clause-next c =

@@ -1,4 +1,4 @@
-use Rattle.ti_handshake.proofs.Desks.{Took, took, may_call, may_keep, asks, told, ticket_fresh}
+use Rattle.ti_handshake.proofs.Desks.{Took, took, may_call, has_room, may_keep, asks, told, ticket_fresh}
 use Rattle.ti_cell.proofs.Calls.{asked_keeps}
 use Rattle.ti_handshake.proofs.desk.Desk.post.Given.{Over}
 use Rattle.ti_handshake.proofs.desk.Desk.post.Goals.{After-slot-slot}
@@ -12,6 +12,11 @@ pub ask-asked-requires-clause-calls : goal.ask-asked-requires-clause-calls
 ask-asked-requires-clause-calls g c =
     let k = taken g (goal.at.ask-asked-requires-clause-calls g c).After-slot-slot in
     may_call _ _ _ _ _ k c.requires.calls
+
+pub ask-asked-requires-clause-room : goal.ask-asked-requires-clause-room
+ask-asked-requires-clause-room g c = λ w.
+    let k = taken g (goal.at.ask-asked-requires-clause-room g c).After-slot-slot in
+    has_room _ _ _ _ _ k (c.requires.room w)
 
 pub store-requires-clause-keeps : goal.store-requires-clause-keeps
 store-requires-clause-keeps g c =

@@ -9,15 +9,12 @@ asked-no-requires c = omega (arith, lists_here c.self.inside c.self.invariant, (
 
 -- the call may be asked, with the number of fates that are there
 asks : (c : After-asked-no) → Asks c.self.inside c.args.env c.asked-no.result c.args.call
-asks c = asks_here c.self.inside _ c.args.env c.asked-no.result c.args.call c.self.invariant c.self.view_is c.requires.env c.requires.calls c.requires.well_formed c.asked-no.ensures
-
-pub overflow_cast-no : goal.overflow_cast-no
-overflow_cast-no c = omega (arith, (asks (goal.at.overflow_cast-no c).After-asked-no).left, c.self.inside.limits.in_range)
+asks c = asks_here c.self.inside _ c.args.env c.asked-no.result c.args.call c.self.invariant c.self.view_is c.requires.env c.requires.calls c.requires.well_formed c.requires.room c.asked-no.ensures
 
 pub post-requires : goal.post-requires
 post-requires c =
     let a = asks (goal.at.post-requires c).After-asked-no in
-    record { env = a.listed; next = a.next; fits = omega (arith, a.left, c.self.inside.limits.in_range); room = a.room }
+    record { env = a.listed; next = a.next; fits = omega (arith, a.left, c.self.inside.limits.in_range); room = a.room (let off = sym c.is_put_off.ensures ∙ c.if-is_put_off.true in grind (arith, off)) }
 
 pub push-requires : goal.push-requires
 push-requires c = (asks (goal.at.push-requires c).After-asked-no).comes.room
@@ -34,6 +31,9 @@ returns-then-is_put_off-clause-asked c =
 
 pub returns-then-is_put_off-clause-legal : goal.returns-then-is_put_off-clause-legal
 returns-then-is_put_off-clause-legal c = (invariant_of-self c).0.legal
+
+pub returns-then-is_put_off-clause-late : goal.returns-then-is_put_off-clause-late
+returns-then-is_put_off-clause-late c = let off = sym c.is_put_off.ensures ∙ c.if-is_put_off.true in grind (arith, off)
 
 pub pass-requires : goal.pass-requires
 pass-requires c =

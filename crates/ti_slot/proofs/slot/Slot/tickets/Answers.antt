@@ -5,12 +5,16 @@ use Rattle.ti_slot.specs.Thread.{Thread}
 use Rattle.ti_slot.specs.Waiting.{said_in}
 use Rattle.ti_slot.specs.Tickets.{has, asked_in, AreOnce}
 use Rattle.ti_slot.proofs.TicketLaws.{open_once, has-open}
+use Rattle.ti_slot.proofs.WholeLaws.{few_here}
 use Rattle.ti_slot.proofs.slot.Slot.tickets.Goals as goal
 
 pub returns-clause-once : goal.returns-clause-once
 returns-clause-once c =
     let i = c.self.inside in
     subst (λ (z : Thread). AreOnce z.uncollected) c.self.view_is (open_once (said_in i.ops.fates) (asked_in i.number i.history.items) c.self.invariant.1.once)
+
+pub returns-clause-few : goal.returns-clause-few
+returns-clause-few c env = few_here c.self.inside _ env c.self.invariant c.self.view_is
 
 pub returns-clause-known : goal.returns-clause-known
 returns-clause-known c =

@@ -1,0 +1,177 @@
+-- Stops and reads of desks that nobody stopped before.
+use Rattle.std.proofs.Common.{◌≡◌, ℕ, ℤ, zero, suc, ◌+◌, ◌<◌, ◌≤◌, List, [], ◌∷◌, length, true, refl, ap, sym, ◌∙◌, arith, subst, Some, None, Option, Bool, eq-eqb, if◌then◌else◌}
+use Rattle.std.specs.Prelude.{slice_get}
+use Rattle.std.proofs.lemmas.List.{length-replicate}
+use Rattle.std.proofs.lemmas.List.Sums.{sum_by-append}
+use Rattle.atomic_table.specs.Seated.{TableId}
+use Rattle.ti_types.specs.declared.answer.Answer.{Answer}
+use Rattle.ti_types.specs.declared.entry.Entry.{Entry}
+use Rattle.ti_types.specs.declared.event.Ticket.{Ticket}
+use Rattle.ti_types.specs.declared.entry.Entry.TheVariants.{Stop}
+use Rattle.ti_types.specs.declared.error.TiError.{TiError}
+use Rattle.ti_types.specs.declared.limits.Limits.{Limits}
+use Rattle.ti_types.specs.declared.numbers.EnvNo.{EnvNo}
+use Rattle.ti_types.specs.declared.numbers.ThreadNo.{ThreadNo}
+use Rattle.ti_types.specs.Frames as buffer
+use Rattle.ti_types.specs.Numbers.{or_zero}
+use Rattle.ti_env.specs.Env.{EnvValue, new_env}
+use Rattle.ti_replay.specs.Events.{if_none}
+use Rattle.ti_replay.specs.Legal.{calls_spent, call_cost}
+use Rattle.ti_slot.specs.Waiting.{HasRoomFor}
+use Rattle.ti_cell.specs.declared.view.Subject.{Subject}
+use Rattle.ti_cell.specs.declared.view.View.{View}
+use Rattle.ti_cell.specs.Seats.{Sitting}
+use Rattle.ti_cell.specs.View.{newcomer, subject_of}
+use Rattle.ti_handshake.specs.Call.{Holds}
+use Rattle.ti_handshake.specs.Desk.{Place, IsSame}
+use Rattle.ti_replay.specs.Fronts.{stops_by}
+use Rattle.ti_vmop.specs.Turns.{Listed, is_listed, are_paid, spend_all, AtEach, AllStand, MayRead}
+use Rattle.ti_agent.specs.Env.{Environment, IsDesk, IsWhole, AreNewDesks}
+use Rattle.ti_agent.specs.Traces.{AreHeld, AreLeft, ReadsOne, each_once, are_there}
+use Rattle.ti_agent.proofs.Tracing.{limits_all, left_in, left_one, left_then, distinct_in, there_in, held_after_stops, held_after_read, may_read}
+use Rattle.ti_agent_tests.specs.HandOvers.{MayCall}
+
+-- desks that have made no call
+pub new_whole : (env : EnvNo) (state : EnvValue) (desks : List Place) → length state.spent ≡ length desks → 0 < length desks → AreNewDesks env state desks
+    → ((i : ℕ) (p : Place) → slice_get desks i ≡ Some p → p.view.posted ≡ []) → IsWhole (record { env = env; state = state; desks = desks })
+new_whole env state desks count some are none_out = record { count = count; some = some; desks = one }
+  where
+    one : (i : ℕ) (p : Place) → slice_get desks i ≡ Some p → IsDesk (record { env = env; state = state; desks = desks }) i p
+    one i p at =
+        let a = are i p at in
+        let none : calls_spent p.env p.view.mine ≡ 0 = ap (calls_spent p.env) a.2 in
+        record {
+          env_is = a.0;
+          about = a.1;
+          free = ap (λ (l : List Entry). stops_by p.env l) a.2;
+          paid = omega (arith, none);
+          within = omega (arith, ap (λ (l : List Ticket). length l) (none_out i p at));
+        }
+
+some_same : (x y : Place) → Some x ≡ Some y → x ≡ y
+some_same x y e = cc
+
+-- a desk after a new seat of environment 0
+pub record IsNewDesk (limits : Limits) (thread : ThreadNo) (seat : Sitting) (p : Place) : Type 0 where
+  pub seat_is : seat.view ≡ newcomer (subject_of limits thread) 1 0
+  pub number : p.env.0 + 1 ≡ seat.view.number
+  pub view : p.view ≡ seat.view
+
+new_desk : (limits : Limits) (i : ℕ) (seat : Sitting) (p : Place) (state : EnvValue) → state.limits ≡ limits → IsNewDesk limits (record { 0 = i }) seat p
+    → (p.env ≡ record { 0 = 0 }) × (p.view.subject ≡ subject_of state.limits (record { 0 = i })) × (p.view.mine ≡ [])
+new_desk limits i seat p state same is =
+    let view : p.view ≡ newcomer (subject_of limits (record { 0 = i })) 1 0 = is.view ∙ is.seat_is in
+    let number : seat.view.number ≡ 1 = ap (λ (v : View). v.number) is.seat_is in
+    let zero_is : p.env.0 ≡ 0 = omega (arith, is.number, number) in (
+      ap (λ (n : ℕ). record { 0 = n }) zero_is,
+      ap (λ (v : View). v.subject) view ∙ ap (λ (l : Limits). subject_of l (record { 0 = i })) (sym same),
+      ap (λ (v : View). v.mine) view,
+    )
+
+-- nothing of it is out
+new_out : (limits : Limits) (i : ℕ) (seat : Sitting) (p : Place) → IsNewDesk limits (record { 0 = i }) seat p → p.view.posted ≡ []
+new_out limits i seat p is = ap (λ (v : View). v.posted) (is.view ∙ is.seat_is)
+
+new_spent : (state : EnvValue) (limits : Limits) → state ≡ new_env limits → length state.spent ≡ limits.threads
+new_spent state limits is = ap (λ (s : EnvValue). length s.spent) is ∙ length-replicate limits.threads 0
+
+pub one_whole : (limits : Limits) (state : EnvValue) (seat : Sitting) (p : Place) → limits.threads ≡ 1 → state ≡ new_env limits → IsNewDesk limits (record { 0 = 0 }) seat p
+    → IsWhole (record { env = record { 0 = 0 }; state = state; desks = p ∷ [] })
+one_whole limits state seat p threads is new =
+    new_whole (record { 0 = 0 }) state (p ∷ []) (new_spent state limits is ∙ threads) (omega arith) are none_out
+  where
+    none_out : (i : ℕ) (q : Place) → slice_get (p ∷ []) i ≡ Some q → q.view.posted ≡ []
+    none_out zero q at = subst (λ (x : Place). x.view.posted ≡ []) (some_same p q at) (new_out limits 0 seat p new)
+    none_out (suc i) q at = absurd (none at)
+      where
+        none : slice_get [] i ≡ Some q → ⊥
+        none e = cc
+
+    are : AreNewDesks (record { 0 = 0 }) state (p ∷ [])
+    are zero q at = subst (λ (x : Place). (x.env ≡ record { 0 = 0 }) × (x.view.subject ≡ subject_of state.limits (record { 0 = 0 })) × (x.view.mine ≡ [])) (some_same p q at) (new_desk limits 0 seat p state (ap (λ (s : EnvValue). s.limits) is) new)
+    are (suc i) q at = absurd (none at)
+      where
+        none : slice_get [] i ≡ Some q → ⊥
+        none e = cc
+
+pub two_new : (limits : Limits) (state : EnvValue) (one two : Sitting) (p r : Place) → state ≡ new_env limits → IsNewDesk limits (record { 0 = 0 }) one p → IsNewDesk limits (record { 0 = 1 }) two r
+    → AreNewDesks (record { 0 = 0 }) state (p ∷ r ∷ [])
+two_new limits state one two p r is first second = are
+  where
+    are : AreNewDesks (record { 0 = 0 }) state (p ∷ r ∷ [])
+    are zero q at = subst (λ (x : Place). (x.env ≡ record { 0 = 0 }) × (x.view.subject ≡ subject_of state.limits (record { 0 = 0 })) × (x.view.mine ≡ [])) (some_same p q at) (new_desk limits 0 one p state (ap (λ (s : EnvValue). s.limits) is) first)
+    are (suc zero) q at = subst (λ (x : Place). (x.env ≡ record { 0 = 0 }) × (x.view.subject ≡ subject_of state.limits (record { 0 = 1 })) × (x.view.mine ≡ [])) (some_same r q at) (new_desk limits 1 two r state (ap (λ (s : EnvValue). s.limits) is) second)
+    are (suc (suc i)) q at = absurd (none at)
+      where
+        none : slice_get [] i ≡ Some q → ⊥
+        none e = cc
+
+pub two_whole : (limits : Limits) (state : EnvValue) (one two : Sitting) (p r : Place) → limits.threads ≡ 2 → state ≡ new_env limits → IsNewDesk limits (record { 0 = 0 }) one p → IsNewDesk limits (record { 0 = 1 }) two r
+    → IsWhole (record { env = record { 0 = 0 }; state = state; desks = p ∷ r ∷ [] })
+two_whole limits state one two p r threads is first second =
+    new_whole (record { 0 = 0 }) state (p ∷ r ∷ []) (new_spent state limits is ∙ threads) (omega arith) (two_new limits state one two p r is first second) none_out
+  where
+    none_out : (i : ℕ) (q : Place) → slice_get (p ∷ r ∷ []) i ≡ Some q → q.view.posted ≡ []
+    none_out zero q at = subst (λ (x : Place). x.view.posted ≡ []) (some_same p q at) (new_out limits 0 one p first)
+    none_out (suc zero) q at = subst (λ (x : Place). x.view.posted ≡ []) (some_same r q at) (new_out limits 1 two r second)
+    none_out (suc (suc i)) q at = absurd (none at)
+      where
+        none : slice_get [] i ≡ Some q → ⊥
+        none e = cc
+
+-- a stop that is tried costs one call at most
+costs_one : (env : EnvNo) (refusal : Option TiError) → calls_spent env (if_none refusal (Stop env ∷ [])) ≤ 1
+costs_one env None =
+    let one : call_cost env (Stop env) ≡ 1 = ap (λ (b : Bool). if b then 1 else 0) (eq-eqb env.0 env.0 refl) in
+    omega (arith, one)
+costs_one env (Some e) = omega arith
+
+pub stop_tried : (old new : Place) (refusal : Option TiError) (cell : TableId) (left : ℕ) → IsSame old new → Holds old.view new.view (if_none refusal (Stop old.env ∷ [])) → MayCall cell (left + 1) old → MayCall cell left new
+stop_tried old new refusal cell left is hold may =
+    let more = if_none refusal (Stop old.env ∷ []) in
+    let sum : calls_spent new.env new.view.mine ≡ calls_spent old.env old.view.mine + calls_spent old.env more = (λ i. calls_spent (is.env i) (hold.waits.mine i)) ∙ sum_by-append (call_cost old.env) old.view.mine more in
+    let limits : new.view.subject.limits.calls ≡ old.view.subject.limits.calls = ap (λ (s : Subject). s.limits.calls) hold.waits.goes.subject in
+    let window : new.view.subject.limits.window ≡ old.view.subject.limits.window = ap (λ (s : Subject). s.limits.window) hold.waits.goes.subject in
+    let left_is = may.left in
+    let room_is = may.room in
+    record { here = is.cell ∙ may.here; left = omega (arith, sum, limits, left_is, costs_one old.env refusal); room = omega (arith, ap (λ (l : List Ticket). length l) hold.waits.posted, window, room_is) }
+
+-- After the stops of an environment: the threads of a list stand, and there are calls left for these reads
+pub record Stand (old now : Environment) (stopped : Listed) (reads : List ThreadNo) : Type 0 where
+  pub held : AreHeld now stopped
+  pub left : AreLeft now.state reads
+  pub limits : now.state.limits ≡ old.state.limits
+  pub count : length now.desks ≡ length old.desks
+
+-- threads that are stopped, each once, in the order of their numbers
+pub stops_stand : (s : Environment) (z : EnvValue) (ds : List Place) (stopped : Listed) (reads : List ThreadNo) → IsWhole s → stopped ≡ each_once (length s.desks) reads → are_there (length s.desks) reads ≡ true
+    → are_paid s.state stopped ≡ true → z ≡ spend_all s.state stopped → AtEach stopped s.desks ds (λ e. Stop e ∷ []) → AllStand stopped ds → Stand s (record { env = s.env; state = z; desks = ds }) stopped reads
+stops_stand s z ds stopped reads whole is there paid spends each stand = record {
+  held = held_after_stops s stopped z ds whole (distinct_in stopped (length s.desks) reads is) (there_in stopped (length s.desks) (length s.desks) reads is refl) paid spends each stand;
+  left = left_in s.state z reads stopped (is ∙ ap (λ (n : ℕ). each_once n reads) (sym whole.count)) (ap (λ (n : ℕ). are_there n reads) whole.count ∙ there) paid spends;
+  limits = ap (λ (v : EnvValue). v.limits) spends ∙ limits_all s.state stopped;
+  count = each.0;
+}
+
+-- one of them is read
+pub reads_stand : (old now new : Environment) (stopped : Listed) (t : ThreadNo) (rest : List ThreadNo) (m : ℤ) (a : Answer) → Stand old now stopped (t ∷ rest) → is_listed t.0 stopped ≡ true → t.0 < length old.desks
+    → ReadsOne now new m (record { thread = t; answer = a }) → Stand old new stopped rest
+reads_stand old now new stopped t rest m a k listed there one =
+    let here : t.0 < length now.desks = omega (arith, there, k.count) in
+    record {
+      held = held_after_read now new stopped m (record { thread = t; answer = a }) k.held listed (left_one now.state t rest k.left) here one;
+      left = left_then now.state new.state t rest k.left one.state_is (omega (arith, here, k.held.count));
+      limits = ap (λ (v : EnvValue). v.limits) one.state_is ∙ k.limits;
+      count = one.desks.0 ∙ k.count;
+    }
+
+-- what the next read requires
+pub stand_may : (old now : Environment) (stopped : Listed) (t : ThreadNo) (rest : List ThreadNo) (m : ℤ) (b : buffer.Trace) (env : EnvNo) → Stand old now stopped (t ∷ rest) → is_listed t.0 stopped ≡ true → env ≡ now.env
+    → HasRoomFor old.state.limits (or_zero m) b → (p : Place) → slice_get now.desks t.0 ≡ Some p → MayRead env now.state p t m b
+stand_may old now stopped t rest m b env k listed same room p at =
+    subst (λ (v : EnvNo). MayRead v now.state p t m b) (sym same)
+    (may_read now stopped t p m b k.held listed at (subst (λ (v : Limits). HasRoomFor v (or_zero m) b) (sym k.limits) room))
+
+-- and what letting them go does
+pub stand_go : (old now : Environment) (stopped threads : Listed) (rest : List ThreadNo) → Stand old now stopped rest → threads ≡ stopped → AllStand threads now.desks
+stand_go old now stopped threads rest k same i p at listed = (k.held.desks i p at).stands (ap (λ (l : Listed). is_listed i l) (sym same) ∙ listed)

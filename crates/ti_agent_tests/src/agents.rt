@@ -1,0 +1,246 @@
+//! Environments at running threads: calls, suspensions, traces.
+ghost use Rattle.std.specs.Prelude.{◌≡◌, ◌+◌, ◌<◌, IfSome};
+ghost use Rattle.ti_cell.specs.View.{subject_of, newcomer};
+ghost use Rattle.ti_cell.specs.Seats.{env_seats};
+ghost use Rattle.ti_agent_tests.specs.Agents.{HasDeskAt, IsNewSeat};
+
+use std::alloc::Global;
+use std::sync::{Mutex, Wait};
+use std::test::*;
+use std::thread;
+use std::thread::{Threads, join};
+use ti_agent::Env;
+use ti_cell::{EnvSeat, ThreadCell};
+use ti_env::EnvState;
+use ti_handshake::{AtSafe, Desk, Fresh, Polled, Running};
+use ti_types::{Caps, EnvNo, Limits, MethodNo, Place, Step, ThreadNo, TiError};
+use ti_vmop::VmTurn;
+
+/// How often a loop turns before it gives up.
+pub(crate) const TURNS: u32 = 1_000_000;
+
+/// How often the second environment asks for the thread's state.
+const STATES: u32 = 100;
+
+/// The environment of a seat, under limits of one thread. `None` where memory runs out.
+pub(crate) fn environment<'a>(
+    alloc: Global,
+    limits: Limits,
+    cell: &'a ThreadCell,
+    env: EnvNo,
+    seat: EnvSeat,
+) -> Option<Env<'a>>
+    requires one { limits.threads ≡ 1 }
+    requires seat { IsNewSeat cell.now limits (record { 0 = 0 }) env seat }
+    ensures desk { IfSome result (λ e. HasDeskAt cell.now e) }
+{
+    let state = EnvState::new(alloc, limits).ok()?;
+    let mut desks = Vec::with_capacity(alloc, 1).ok()?;
+    desks.push_reserved(Desk::new(cell, seat));
+    Some(Env::new(env, state, desks))
+}
+
+/// The seats of two environments at a thread's cell.
+pub(crate) fn both(
+    cell: &ThreadCell,
+    limits: Limits,
+    thread: ThreadNo,
+    seats: Vec<EnvSeat>,
+) -> Option<(EnvSeat, EnvSeat)>
+    requires seats { seats.items ≡ env_seats cell.now (subject_of limits thread) 2 }
+    requires envs { limits.envs ≡ 2 }
+    ensures first { IfSome result (λ s. IsNewSeat cell.now limits thread (record { 0 = 0 }) s.0) }
+    ensures second { IfSome result (λ s. IsNewSeat cell.now limits thread (record { 0 = 1 }) s.1) }
+{
+    let _cell = cell;
+    let _limits = limits;
+    let _thread = thread;
+    let mut seats = seats;
+    let two = seats.pop()?;
+    let one = seats.pop()?;
+    Some((one, two))
+}
+
+/// Polls until the thread is held. Where that does not come, the thread ends, so that nobody waits for it.
+pub(crate) fn await_held<'a, R: Wait>(rt: &R, running: Running<'a>) -> Option<AtSafe<'a>> {
+    let mut running = running;
+    for _ in 0..TURNS {
+        if !running.poll_clear() {
+            match running.poll(rt) {
+                Polled::Go(again) => running = again,
+                Polled::Held(safe) => return Some(safe),
+            }
+        }
+        thread::yield_now();
+    }
+    let _ended = running.end(rt);
+    None
+}
+
+/// Tries to return until the thread may.
+fn await_let_go<'a, R: Wait>(rt: &R, held: AtSafe<'a>) -> Option<Running<'a>> {
+    let mut held = held;
+    for _ in 0..TURNS {
+        match held.try_back(rt) {
+            Ok(running) => return Some(running),
+            Err((_barred, still)) => held = still,
+        }
+        thread::yield_now();
+    }
+    None
+}
+
+/// How many frames the thread has, up to 8: it leaves them.
+fn frames_of(running: &mut Running<'_>) -> u32 {
+    for frames in 0..8 {
+        if running.step(Step::Leave).is_err() {
+            return frames;
+        }
+    }
+    8
+}
+
+/// What the thread does: it polls until it is held and runs on once it is let go. How many frames it has then.
+fn run_thread<R: Wait>(rt: &R, running: Running<'_>) -> Option<u32> {
+    let held = await_held(rt, running)?;
+    let mut running = await_let_go(rt, held)?;
+    let frames = frames_of(&mut running);
+    let _ended = running.end(rt);
+    Some(frames)
+}
+
+/// Whether a global trace tells of the one thread, which is suspended with one frame.
+fn is_traced<R: Wait + AllocGlobal>(rt: &R, env: &mut Env<'_>) -> bool {
+    let turn = Mutex::new(VmTurn::new());
+    match env.get_all_stack_traces(rt, rt.alloc(), &turn, 8) {
+        Ok((infos, round)) => {
+            let told = match infos.as_slice() {
+                [info] => info.state == 0x10_0005 && info.frames.frames().len() == 1,
+                _ => false,
+            };
+            told && round.threads() == 1 && round.reads() == 1
+        }
+        Err(_) => false,
+    }
+}
+
+/// What the first environment is told of a thread that runs with two frames, and what it does there: it counts its frames,
+/// suspends it, reads it, pops a frame, and resumes it. The first call whose answer is not the right one.
+fn inspect<R: Wait + AllocGlobal>(rt: &R, env: Env<'_>) -> Result<(), u32> {
+    let mut env = env;
+    let thread = ThreadNo(0);
+    if env.suspend_thread(rt, thread) != Err(TiError::MustPossessCapability) {
+        return Err(0);
+    }
+    let caps = Caps::CAN_SUSPEND.add(Caps::CAN_POP_FRAME);
+    if env.add_capabilities(caps).is_err() {
+        return Err(1);
+    }
+    if env.get_frame_count(rt, thread) != Ok(2) {
+        return Err(2);
+    }
+    if env.suspend_thread(rt, thread) != Ok(()) {
+        return Err(3);
+    }
+    if env.get_thread_state(rt, thread) != Ok(0x10_0005) {
+        return Err(4);
+    }
+    match env.get_frame_location(rt, thread, 0) {
+        Ok(frame) => if frame.method != MethodNo(1) || frame.place != Place::Java(0) {
+            return Err(5);
+        },
+        Err(_) => return Err(5),
+    }
+    match env.get_stack_trace(rt, rt.alloc(), thread, 0, 8) {
+        Ok(trace) => if trace.frames().len() != 2 {
+            return Err(6);
+        },
+        Err(_) => return Err(6),
+    }
+    if env.pop_frame(rt, thread) != Ok(()) {
+        return Err(7);
+    }
+    if env.get_frame_count(rt, thread) != Ok(1) {
+        return Err(8);
+    }
+    if !is_traced(rt, &mut env) {
+        return Err(13);
+    }
+    if env.set_thread_local_storage(rt, thread, 7) != Ok(()) {
+        return Err(9);
+    }
+    if env.get_thread_local_storage(rt, thread) != Ok(7) {
+        return Err(10);
+    }
+    match env.resume_thread_list(rt, rt.alloc(), &[thread, ThreadNo(1), thread]) {
+        Ok(codes) => if codes.as_slice() != [0, 10, 13].as_slice() {
+            return Err(11);
+        },
+        Err(_) => return Err(11),
+    }
+    if env.get_frame_count(rt, ThreadNo(1)) != Err(TiError::InvalidThread) {
+        return Err(12);
+    }
+    Ok(())
+}
+
+/// What the second environment does meanwhile: it asks for the thread's state, again and again. Whether it was told one
+/// each time.
+fn watch<R: Wait>(rt: &R, env: Env<'_>) -> bool {
+    let mut env = env;
+    for _ in 0..STATES {
+        if env.get_thread_state(rt, ThreadNo(0)).is_err() {
+            return false;
+        }
+    }
+    true
+}
+
+/// A thread runs with two frames, one environment inspects it, and another holds the cell in between: what each came to.
+/// `None` where memory runs out.
+fn inspected<R: Threads + Wait + Sync + AllocGlobal>(
+    rt: &R,
+    limits: Limits,
+) -> Option<(Option<u32>, Result<(), u32>, bool)>
+    requires one { limits.threads ≡ 1 }
+    requires envs { limits.envs ≡ 2 }
+{
+    let Ok((cell, own, seats)) = ThreadCell::make(rt.alloc(), limits, ThreadNo(0)) else {
+        return None;
+    };
+    let (one, two) = both(&cell, limits, ThreadNo(0), seats)?;
+    let first = environment(rt.alloc(), limits, &cell, EnvNo(0), one)?;
+    let second = environment(rt.alloc(), limits, &cell, EnvNo(1), two)?;
+    let Ok(mut running) = Fresh::new(&cell, own).try_start(rt) else {
+        return None;
+    };
+    let _outer = running.step(Step::Enter(MethodNo(0)));
+    let _inner = running.step(Step::Enter(MethodNo(1)));
+    let (frames, (told, states)) = join(
+        rt,
+        move || -> Option<u32> { run_thread(rt, running) },
+        move || -> (Result<(), u32>, bool) {
+            join(
+                rt,
+                move || -> Result<(), u32> { inspect(rt, first) },
+                move || -> bool { watch(rt, second) },
+            )
+        },
+    );
+    Some((frames, told, states))
+}
+
+/// A call that waits is answered at the thread's poll, and to the one that asked, whoever else holds the cell in between.
+#[test]
+fn an_environment_inspects_a_running_thread(rt: HostRuntime) -> Result<(), Fail> {
+    let Some(limits) = Limits::new(1, 2, 4, 16, 128) else {
+        return Err("the limits are in range".into());
+    };
+    let Some((frames, told, states)) = inspected(&rt, limits) else {
+        return Err("there is memory".into());
+    };
+    assert!(rt; told == Ok(()));
+    assert!(rt; frames == Some(1));
+    assert!(rt; states);
+    Ok(())
+}

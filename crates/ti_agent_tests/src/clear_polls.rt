@@ -1,0 +1,61 @@
+//! What a poll that was clear tells of the history, once the cell is closed.
+ghost use Rattle.std.specs.Prelude.{◌≡◌, [], true, IfSome};
+ghost use Rattle.ti_agent_tests.specs.ClearPolls.{HasPolled, WasCalm};
+
+use std::alloc::Global;
+use std::sync::Wait;
+use std::test::*;
+use ti_cell::{OwnSeat, ThreadCell};
+use ti_handshake::Fresh;
+use ti_slot::Slot;
+use ti_types::{Limits, ThreadNo};
+
+/// Starts the thread, polls by one load, and ends it: whether the poll was clear, and the thread's seat.
+fn poll_once<R: Wait>(rt: &R, cell: &ThreadCell, own: OwnSeat) -> (bool, OwnSeat)
+    requires cell { own.cell ≡ cell.now }
+    requires owner { own.view.number ≡ 0 }
+    requires none { own.view.mine ≡ [] }
+    ensures cell { result.1.cell ≡ cell.now }
+    ensures polled { HasPolled result.0 result.1.view }
+{
+    let mut running = Fresh::new(cell, own).start(rt);
+    let clear = running.poll_clear();
+    let ended = running.end(rt);
+    (clear, ended.into_seat())
+}
+
+/// The slot of a cell whose thread polled. If that poll was clear, the history has a front after which nobody waited for
+/// the thread, whoever else was at the cell.
+fn finish(cell: ThreadCell, own: OwnSeat, clear: bool) -> Option<Slot>
+    requires cell { own.cell ≡ cell }
+    requires polled { HasPolled clear own.view }
+    ensures calm { clear ≡ true → IfSome result (λ s. WasCalm s.limits s.history) }
+{
+    let _clear = clear;
+    cell.close(own)
+}
+
+/// A thread starts, polls once and ends: whether the poll was clear, and the slot. `None` if memory runs out.
+fn polled_once<R: Wait>(rt: &R, alloc: Global, limits: Limits) -> Option<(bool, Slot)>
+    ensures calm { IfSome result (λ s. s.0 ≡ true → WasCalm s.1.limits s.1.history) }
+{
+    let Ok((cell, own, _seats)) = ThreadCell::make(alloc, limits, ThreadNo(0)) else {
+        return None;
+    };
+    let (clear, own) = poll_once(rt, &cell, own);
+    let slot = finish(cell, own, clear)?;
+    Some((clear, slot))
+}
+
+/// That the poll is clear if nobody calls for the thread is what no clause says.
+#[test]
+fn a_poll_is_clear_if_nobody_waits(rt: HostRuntime) -> Result<(), Fail> {
+    let Some(limits) = Limits::new(1, 1, 1, 1, 1) else {
+        return Err("the limits are in range".into());
+    };
+    let Some((clear, slot)) = polled_once(&rt, rt.alloc(), limits) else {
+        return Err("there is memory".into());
+    };
+    assert!(rt; clear && slot.len() == 2);
+    Ok(())
+}

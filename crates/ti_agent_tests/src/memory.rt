@@ -1,0 +1,112 @@
+//! What a refused allocation leaves of running threads. Each of these tests passes with ample memory and with any one
+//! allocation refused (`ci/refused_tests.py`): then the call says 110, and everything is as it was.
+ghost use Rattle.std.specs.Prelude.{◌≡◌, IfSome, IfOk};
+ghost use Rattle.ti_agent_tests.specs.Agents.{HasDeskAt};
+
+use crate::agents::environment;
+use crate::hand_overs::{close, expect};
+use crate::traces::seat_of;
+use std::sync::{Mutex, Wait};
+use std::test::*;
+use ti_agent::Env;
+use ti_cell::{EnvSeat, ThreadCell};
+use ti_types::{EnvNo, Limits, ThreadNo, TiError};
+use ti_vmop::VmTurn;
+
+const E: EnvNo = EnvNo(0);
+
+const T: ThreadNo = ThreadNo(0);
+
+/// Traces all threads: the environment's seat where memory ran out, and else `None`.
+fn trace_all<R: Wait + AllocGlobal>(
+    rt: &R,
+    cell: &ThreadCell,
+    env: Env<'_>,
+) -> Result<Option<EnvSeat>, Fail>
+    requires desk { HasDeskAt cell.now env }
+    ensures seat { IfOk result (λ told. IfSome told (λ s. s.cell ≡ cell.now)) }
+{
+    let _cell = cell;
+    let mut env = env;
+    let turn = Mutex::new(VmTurn::new());
+    match env.get_all_stack_traces(rt, rt.alloc(), &turn, 4) {
+        Ok((infos, round)) => {
+            expect(
+                infos.is_empty() && round.threads() == 1 && round.reads() == 1,
+                "no thread is alive",
+            )?;
+            Ok(None)
+        }
+        Err(error) => {
+            expect(error == TiError::OutOfMemory, "memory is wanting")?;
+            Ok(seat_of(env))
+        }
+    }
+}
+
+/// Traces the thread twice: the environment's seat where memory ran out, and else `None`.
+fn trace_twice<R: Wait + AllocGlobal>(
+    rt: &R,
+    cell: &ThreadCell,
+    env: Env<'_>,
+) -> Result<Option<EnvSeat>, Fail>
+    requires desk { HasDeskAt cell.now env }
+    ensures seat { IfOk result (λ told. IfSome told (λ s. s.cell ≡ cell.now)) }
+{
+    let _cell = cell;
+    let mut env = env;
+    let turn = Mutex::new(VmTurn::new());
+    match env.get_thread_list_stack_traces(rt, rt.alloc(), &turn, &[T, T], 4) {
+        Ok((infos, round)) => {
+            expect(
+                infos.len() == 2 && round.threads() == 1 && round.reads() == 2,
+                "it is told of twice",
+            )?;
+            Ok(None)
+        }
+        Err(error) => {
+            expect(error == TiError::OutOfMemory, "memory is wanting")?;
+            Ok(seat_of(env))
+        }
+    }
+}
+
+#[test]
+fn a_refused_trace_of_all_stops_nobody(rt: HostRuntime) -> Result<(), Fail> {
+    let Some(limits) = Limits::new(1, 1, 4, 32, 8) else {
+        return Err("the limits are in range".into());
+    };
+    let Ok((cell, own, mut seats)) = ThreadCell::make(rt.alloc(), limits, T) else {
+        return Ok(());
+    };
+    let seat = seats.pop().ok_or("there is an environment")?;
+    let Some(env) = environment(rt.alloc(), limits, &cell, E, seat) else {
+        return Ok(());
+    };
+    let Some(seat) = trace_all(&rt, &cell, env)? else {
+        return Ok(());
+    };
+    let slot = close(cell, own, seat).ok_or("all seats are back")?;
+    assert_eq!(rt; slot.len(), 0);
+    Ok(())
+}
+
+#[test]
+fn a_refused_trace_of_a_list_stops_nobody(rt: HostRuntime) -> Result<(), Fail> {
+    let Some(limits) = Limits::new(1, 1, 4, 32, 8) else {
+        return Err("the limits are in range".into());
+    };
+    let Ok((cell, own, mut seats)) = ThreadCell::make(rt.alloc(), limits, T) else {
+        return Ok(());
+    };
+    let seat = seats.pop().ok_or("there is an environment")?;
+    let Some(env) = environment(rt.alloc(), limits, &cell, E, seat) else {
+        return Ok(());
+    };
+    let Some(seat) = trace_twice(&rt, &cell, env)? else {
+        return Ok(());
+    };
+    let slot = close(cell, own, seat).ok_or("all seats are back")?;
+    assert_eq!(rt; slot.len(), 0);
+    Ok(())
+}

@@ -1,0 +1,287 @@
+//! Stops, reads and gos by hand, with the threads' own calls in between.
+ghost use Rattle.std.specs.Prelude.{ℕ, ◌≡◌, ◌+◌, ◌<◌, ◌≤◌, length, [], IfSome, IfOk};
+ghost use Rattle.atomic_table.specs.Seated.{TableId};
+ghost use Rattle.ti_slot.specs.Waiting.{HasRoomFor};
+ghost use Rattle.ti_agent.specs.Env.{AreNewDesks, IsWhole};
+ghost use Rattle.ti_agent_tests.specs.Agents.{IsNewSeat};
+ghost use Rattle.ti_agent_tests.specs.HandOvers.{MayCall};
+
+use crate::agents::both;
+use crate::hand_overs::expect;
+use std::alloc::Global;
+use std::sync::Wait;
+use std::test::*;
+use ti_cell::{EnvSeat, OwnSeat, ThreadCell};
+use ti_env::EnvState;
+use ti_handshake::{AtSafe, Desk, Fresh, Running};
+use ti_types::{
+    Answer, EnvNo, Frame, Kind, Limits, MethodNo, Place, Step, ThreadNo, TiError, TraceBuf,
+};
+use ti_vmop::{VmTurn, stop_all};
+
+/// How many frames a read may tell.
+const FRAMES: i32 = 4;
+
+/// Whether an answer tells of a stack of these bits and frames.
+fn tells(answer: &Answer, bits: u32, frames: &[Frame]) -> bool {
+    match answer {
+        Answer::Stack {
+            state,
+            frames: told,
+        } => *state == bits && told.frames() == frames,
+        _ => false,
+    }
+}
+
+/// A thread that started, entered a method, and waits for an object.
+pub(crate) fn waiting_thread<'a, R: Wait>(
+    rt: &R,
+    cell: &'a ThreadCell,
+    own: OwnSeat,
+) -> Result<AtSafe<'a>, Fail>
+    requires cell { own.cell ≡ cell.now }
+    requires owner { own.view.number ≡ 0 }
+    requires none { own.view.mine ≡ [] }
+{
+    let Ok(mut running) = Fresh::new(cell, own).try_start(rt) else {
+        return Err("no stop stands".into());
+    };
+    expect(
+        running.step(Step::Enter(MethodNo(0))).is_ok(),
+        "it enters a method",
+    )?;
+    match running.block(rt, Kind::ObjectWait) {
+        Ok(waiting) => Ok(waiting),
+        Err(_) => Err("it has a step left".into()),
+    }
+}
+
+/// A thread starts and ends.
+pub(crate) fn run_out<R: Wait>(rt: &R, cell: &ThreadCell, own: OwnSeat) -> Result<(), Fail>
+    requires cell { own.cell ≡ cell.now }
+    requires owner { own.view.number ≡ 0 }
+    requires none { own.view.mine ≡ [] }
+{
+    let Ok(running) = Fresh::new(cell, own).try_start(rt) else {
+        return Err("no stop stands".into());
+    };
+    let _ended = running.end(rt);
+    Ok(())
+}
+
+/// Stops both threads, reads each once, and lets them go, while the first, which waits for an object, tries to return: it
+/// may not (206). The second has ended.
+fn stop_and_read<'c, R: Wait>(
+    rt: &R,
+    desks: &mut [Desk<'_>],
+    state: &mut EnvState,
+    waiting: AtSafe<'c>,
+    bufs: (TraceBuf, TraceBuf),
+) -> Result<AtSafe<'c>, Fail>
+    requires whole { IsWhole (record { env = record { 0 = 0 }; state = state.old; desks = desks.old }) }
+    requires two { length desks.old ≡ 2 }
+    requires first { HasRoomFor state.old.limits 4 bufs.0 }
+    requires second { HasRoomFor state.old.limits 4 bufs.1 }
+{
+    let mut turn = VmTurn::new();
+    let list = [(ThreadNo(0), 1u64), (ThreadNo(1), 1u64)];
+    let Ok(mut standing) = stop_all(rt, &mut turn, desks, state, &list) else {
+        return Err("each thread has its calls left".into());
+    };
+    let back = waiting.try_back(rt);
+    let first = standing.read(rt, desks, state, ThreadNo(0), FRAMES, bufs.0);
+    let second = standing.read(rt, desks, state, ThreadNo(1), FRAMES, bufs.1);
+    let round = standing.go(rt, desks);
+    let Err((error, waiting)) = back else {
+        return Err("a stop stands".into());
+    };
+    expect(error == TiError::Barred, "the error is 206")?;
+    let frame = Frame {
+        method: MethodNo(0),
+        place: Place::Java(0),
+    };
+    expect(
+        tells(&first, 0x191, &[frame]),
+        "it waits for an object, in a method",
+    )?;
+    expect(tells(&second, 0x2, &[]), "it has ended")?;
+    expect(
+        round.threads() == 2 && round.reads() == 2,
+        "2 threads and 2 reads",
+    )?;
+    Ok(waiting)
+}
+
+/// What an environment keeps for itself, and its desk at each of two threads. `None` where memory runs out.
+pub(crate) fn at_two<'a>(
+    alloc: Global,
+    limits: Limits,
+    first: &'a ThreadCell,
+    one: EnvSeat,
+    second: &'a ThreadCell,
+    two: EnvSeat,
+) -> Option<(EnvState, Vec<Desk<'a>>)>
+    requires threads { limits.threads ≡ 2 }
+    requires one { IsNewSeat first.now limits (record { 0 = 0 }) (record { 0 = 0 }) one }
+    requires two { IsNewSeat second.now limits (record { 0 = 1 }) (record { 0 = 0 }) two }
+    ensures two { IfSome result (λ r. length r.1.items ≡ 2) }
+    ensures limits { IfSome result (λ r. r.0.limits ≡ limits) }
+    ensures whole { IfSome result (λ r. IsWhole (record { env = record { 0 = 0 }; state = r.0; desks = r.1.items })) }
+    ensures new { IfSome result (λ r. AreNewDesks (record { 0 = 0 }) r.0 r.1.items) }
+{
+    let state = EnvState::new(alloc, limits).ok()?;
+    let mut desks = Vec::with_capacity(alloc, 2).ok()?;
+    desks.push_reserved(Desk::new(first, one));
+    desks.push_reserved(Desk::new(second, two));
+    Some((state, desks))
+}
+
+/// What an environment keeps for itself, and its desk at the one thread. `None` where memory runs out.
+fn at_one<'a>(
+    alloc: Global,
+    limits: Limits,
+    cell: &'a ThreadCell,
+    seat: EnvSeat,
+) -> Option<(EnvState, Vec<Desk<'a>>)>
+    requires threads { limits.threads ≡ 1 }
+    requires seat { IsNewSeat cell.now limits (record { 0 = 0 }) (record { 0 = 0 }) seat }
+    ensures one { IfSome result (λ r. length r.1.items ≡ 1) }
+    ensures limits { IfSome result (λ r. r.0.limits ≡ limits) }
+    ensures whole { IfSome result (λ r. IsWhole (record { env = record { 0 = 0 }; state = r.0; desks = r.1.items })) }
+{
+    let state = EnvState::new(alloc, limits).ok()?;
+    let mut desks = Vec::with_capacity(alloc, 1).ok()?;
+    desks.push_reserved(Desk::new(cell, seat));
+    Some((state, desks))
+}
+
+/// Two threads, one of which waits for an object and the other has ended, are stopped, read and let go: what each read tells,
+/// that the first may not return meanwhile and may then, and that two calls were spent at each.
+#[test]
+fn a_round_over_two_threads(rt: HostRuntime) -> Result<(), Fail> {
+    let Some(limits) = Limits::new(2, 1, 4, 32, 8) else {
+        return Err("the limits are in range".into());
+    };
+    let alloc = rt.alloc();
+    let Ok((first, own_first, mut seats_first)) = ThreadCell::make(alloc, limits, ThreadNo(0))
+    else {
+        return Err("there is memory".into());
+    };
+    let Ok((second, own_second, mut seats_second)) = ThreadCell::make(alloc, limits, ThreadNo(1))
+    else {
+        return Err("there is memory".into());
+    };
+    let one = seats_first.pop().ok_or("there is an environment")?;
+    let two = seats_second.pop().ok_or("there is an environment")?;
+    let Some((mut state, mut desks)) = at_two(alloc, limits, &first, one, &second, two) else {
+        return Err("there is memory".into());
+    };
+    let (Ok(one), Ok(two)) = (
+        TraceBuf::make(alloc, FRAMES, 4),
+        TraceBuf::make(alloc, FRAMES, 4),
+    ) else {
+        return Err("there is memory".into());
+    };
+    let waiting = waiting_thread(&rt, &first, own_first)?;
+    run_out(&rt, &second, own_second)?;
+    let waiting = stop_and_read(&rt, &mut desks, &mut state, waiting, (one, two))?;
+    let Ok(_running) = waiting.try_back(&rt) else {
+        return Err("no stop stands".into());
+    };
+    assert_eq!(rt; state.left(ThreadNo(0)), 6);
+    assert_eq!(rt; state.left(ThreadNo(1)), 6);
+    Ok(())
+}
+
+/// Tries to stop the thread, without waiting for another's stop.
+fn try_stop<R: Wait>(rt: &R, desk: &mut Desk<'_>) -> Answer
+    requires desk { MayCall desk.old.cell 1 desk.old }
+    ensures desk { (cell : TableId) (left : ℕ) → MayCall cell (left + 1) desk.old → MayCall cell left desk.new }
+{
+    desk.try_stop(rt)
+}
+
+/// An environment's stop at a thread that has not started, and what another's desk and the thread come to meanwhile: the
+/// thread again, and what was read of it.
+fn stop_before_start<'c, R: Wait>(
+    rt: &R,
+    desks: &mut [Desk<'_>],
+    state: &mut EnvState,
+    other: &mut Desk<'_>,
+    fresh: Fresh<'c>,
+    buf: TraceBuf,
+) -> Result<Fresh<'c>, Fail>
+    requires whole { IsWhole (record { env = record { 0 = 0 }; state = state.old; desks = desks.old }) }
+    requires one { length desks.old ≡ 1 }
+    requires other { MayCall other.old.cell 2 other.old }
+    requires room { HasRoomFor state.old.limits 4 buf }
+    ensures other { IfOk result (λ _. MayCall other.old.cell 1 other.new) }
+{
+    let mut turn = VmTurn::new();
+    let list = [(ThreadNo(0), 1u64)];
+    let Ok(mut standing) = stop_all(rt, &mut turn, desks, state, &list) else {
+        return Err("the thread has its calls left".into());
+    };
+    let started = fresh.try_start(rt);
+    let another = try_stop(rt, other);
+    let told = standing.read(rt, desks, state, ThreadNo(0), FRAMES, buf);
+    let _round = standing.go(rt, desks);
+    let Err((error, fresh)) = started else {
+        return Err("a stop stands".into());
+    };
+    expect(error == TiError::Barred, "the error is 206")?;
+    expect(
+        matches!(another, Answer::Refused(TiError::AlreadyStopped)),
+        "the error is 211",
+    )?;
+    expect(tells(&told, 0x0, &[]), "it has not started")?;
+    Ok(fresh)
+}
+
+/// Another environment's stop, where the first one's is gone: the thread may start once it is gone too.
+fn start_behind_stop<'c, R: Wait>(
+    rt: &R,
+    other: &mut Desk<'_>,
+    fresh: Fresh<'c>,
+) -> Result<Running<'c>, Fail>
+    requires other { MayCall other.old.cell 1 other.old }
+{
+    expect(
+        matches!(try_stop(rt, other), Answer::Done),
+        "no stop stands",
+    )?;
+    let Err((error, fresh)) = fresh.try_start(rt) else {
+        return Err("a stop stands".into());
+    };
+    expect(error == TiError::Barred, "the error is 206")?;
+    expect(matches!(other.go(rt), Answer::Done), "its stop stands")?;
+    match fresh.try_start(rt) {
+        Ok(running) => Ok(running),
+        Err(_) => Err("no stop stands".into()),
+    }
+}
+
+/// Two environments' stops, one after the other, at a thread that has not started: it starts when both are gone.
+#[test]
+fn two_stops_before_a_start(rt: HostRuntime) -> Result<(), Fail> {
+    let Some(limits) = Limits::new(1, 2, 4, 32, 8) else {
+        return Err("the limits are in range".into());
+    };
+    let alloc = rt.alloc();
+    let Ok((cell, own, seats)) = ThreadCell::make(alloc, limits, ThreadNo(0)) else {
+        return Err("there is memory".into());
+    };
+    let (one, two) = both(&cell, limits, ThreadNo(0), seats).ok_or("there are two environments")?;
+    let Some((mut state, mut desks)) = at_one(alloc, limits, &cell, one) else {
+        return Err("there is memory".into());
+    };
+    let mut other = Desk::new(&cell, two);
+    let Ok(buf) = TraceBuf::make(alloc, FRAMES, 4) else {
+        return Err("there is memory".into());
+    };
+    let fresh = Fresh::new(&cell, own);
+    let fresh = stop_before_start(&rt, &mut desks, &mut state, &mut other, fresh, buf)?;
+    let running = start_behind_stop(&rt, &mut other, fresh)?;
+    let _ended = running.end(&rt);
+    Ok(())
+}

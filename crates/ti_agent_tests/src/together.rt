@@ -1,0 +1,327 @@
+//! An environment's calls at two threads that run: both are asked before the first is waited for, and both stand before the
+//! first is read.
+ghost use Rattle.std.specs.Prelude.{◌≡◌};
+ghost use Rattle.ti_agent_tests.specs.Agents.{IsNewSeat};
+
+use crate::agents::{TURNS, await_held, both};
+use crate::hand_overs::expect;
+use crate::rounds::at_two;
+use std::alloc::Global;
+use std::marker::Model;
+use std::sync::{Mutex, Wait};
+use std::test::*;
+use std::thread;
+use std::thread::{Threads, join};
+use ti_agent::Env;
+use ti_cell::{EnvSeat, ThreadCell};
+use ti_handshake::{AtSafe, Fresh, Running};
+use ti_types::{Caps, EnvNo, Limits, StackInfo, ThreadNo, TiError};
+use ti_vmop::VmTurn;
+
+/// How often a thread tries to return while a stop stands.
+const TRIES: u32 = 1_000;
+
+/// Both threads.
+const BOTH: [ThreadNo; 2] = [ThreadNo(0), ThreadNo(1)];
+
+/// A seat at a thread's cell, from which it is only looked at.
+#[derive(Drop)]
+struct Watch<'a> {
+    cell: &'a ThreadCell,
+    seat: EnvSeat,
+}
+
+impl<'a> Model for Watch<'a> {
+    ghost use Rattle.std.specs.Prelude.{◌≡◌};
+    ghost use Rattle.ti_cell.specs.Seats.{Sitting};
+
+    ghost Value = { Sitting };
+
+    ghost view = { λ w. w.seat };
+
+    ghost invariant = { λ w. w.seat.cell ≡ w.cell.now };
+}
+
+impl<'a> Watch<'a> {
+    /// Looks until the thread may not return: whether that came.
+    fn await_barred(&mut self) -> bool {
+        for _ in 0..TURNS {
+            if self.cell.look(&mut self.seat).barred {
+                return true;
+            }
+            thread::yield_now();
+        }
+        false
+    }
+}
+
+/// Two threads that run, the first of which is watched.
+#[derive(Drop)]
+struct BothRun<'a> {
+    watch: Watch<'a>,
+    first: Running<'a>,
+    second: Running<'a>,
+}
+
+/// The same, while the first is held.
+#[derive(Drop)]
+struct OneHeld<'a> {
+    watch: Watch<'a>,
+    first: AtSafe<'a>,
+    second: Running<'a>,
+}
+
+/// The same, while both are held.
+#[derive(Drop)]
+struct BothHeld<'a> {
+    watch: Watch<'a>,
+    first: AtSafe<'a>,
+    second: AtSafe<'a>,
+}
+
+/// Which threads are traced: all, or those of a list that has both.
+#[derive(Clone, Copy)]
+enum Which {
+    All,
+    Listed,
+}
+
+/// An environment with a desk at each of two threads. `None` where memory runs out.
+pub(crate) fn environment<'a>(
+    alloc: Global,
+    limits: Limits,
+    first: &'a ThreadCell,
+    one: EnvSeat,
+    second: &'a ThreadCell,
+    two: EnvSeat,
+) -> Option<Env<'a>>
+    requires threads { limits.threads ≡ 2 }
+    requires one { IsNewSeat first.now limits (record { 0 = 0 }) (record { 0 = 0 }) one }
+    requires two { IsNewSeat second.now limits (record { 0 = 1 }) (record { 0 = 0 }) two }
+{
+    let (state, desks) = at_two(alloc, limits, first, one, second, two)?;
+    Some(Env::new(EnvNo(0), state, desks))
+}
+
+/// Both threads poll until they are held, the second first. Where one is not, both end, so far as they run.
+fn hold_both<'a, R: Wait>(rt: &R, threads: BothRun<'a>) -> Option<BothHeld<'a>> {
+    let BothRun {
+        watch,
+        first,
+        second,
+    } = threads;
+    let Some(second) = await_held(rt, second) else {
+        let _ended = first.end(rt);
+        return None;
+    };
+    let first = await_held(rt, first)?;
+    Some(BothHeld {
+        watch,
+        first,
+        second,
+    })
+}
+
+/// The second of two threads that are held returns. `None` where something bars it.
+fn back<'a, R: Wait>(rt: &R, threads: BothHeld<'a>) -> Option<OneHeld<'a>> {
+    let BothHeld {
+        watch,
+        first,
+        second,
+    } = threads;
+    match second.try_back(rt) {
+        Ok(second) => Some(OneHeld {
+            watch,
+            first,
+            second,
+        }),
+        Err(_) => None,
+    }
+}
+
+/// A thread tries to return, again and again, and may not (206). Where it may, it ends.
+fn try_often<'a, R: Wait>(rt: &R, held: AtSafe<'a>) -> Option<AtSafe<'a>> {
+    let mut held = held;
+    for _ in 0..TRIES {
+        match held.try_back(rt) {
+            Ok(running) => {
+                let _ended = running.end(rt);
+                return None;
+            }
+            Err((TiError::Barred, still)) => held = still,
+            Err(_) => return None,
+        }
+        thread::yield_now();
+    }
+    Some(held)
+}
+
+/// What the threads do while they are stopped: the first, which is held already, tries to return after its stop, and only
+/// then the second polls until it is held. Where one of it does not come, the second ends.
+fn stand_in_turn<'a, R: Wait>(rt: &R, threads: OneHeld<'a>) -> Option<BothHeld<'a>> {
+    let OneHeld {
+        mut watch,
+        first,
+        second,
+    } = threads;
+    let first = if watch.await_barred() {
+        try_often(rt, first)
+    } else {
+        None
+    };
+    let Some(first) = first else {
+        let _ended = second.end(rt);
+        return None;
+    };
+    let second = await_held(rt, second)?;
+    Some(BothHeld {
+        watch,
+        first,
+        second,
+    })
+}
+
+/// Whether it tells that the thread is held at a poll, without frames.
+fn is_at_poll(info: &StackInfo, thread: ThreadNo) -> bool {
+    info.thread == thread && info.state == 0x5 && info.frames.frames().is_empty()
+}
+
+/// Whether both threads are told of, in the order of their numbers.
+fn are_at_poll(infos: &[StackInfo]) -> bool {
+    match infos {
+        [first, second] => is_at_poll(first, BOTH[0]) && is_at_poll(second, BOTH[1]),
+        _ => false,
+    }
+}
+
+/// Traces both threads: whether it was told that they are held at a poll, without frames.
+fn trace<'a, R: Wait + AllocGlobal>(rt: &R, env: Env<'a>, which: Which) -> (Env<'a>, bool) {
+    let mut env = env;
+    let turn = Mutex::new(VmTurn::new());
+    let told = match which {
+        Which::All => env.get_all_stack_traces(rt, rt.alloc(), &turn, 1),
+        Which::Listed => env.get_thread_list_stack_traces(rt, rt.alloc(), &turn, &BOTH, 1),
+    };
+    let are_right = match told {
+        Ok((infos, round)) => { are_at_poll(&infos) && round.threads() == 2 && round.reads() == 2 }
+        Err(_) => false,
+    };
+    (env, are_right)
+}
+
+/// Suspends both threads by one call: whether the codes are 0.
+fn suspend_both<'a, R: Wait + AllocGlobal>(rt: &R, env: Env<'a>) -> (Env<'a>, bool) {
+    let mut env = env;
+    let done = match env.suspend_thread_list(rt, rt.alloc(), &BOTH) {
+        Ok(codes) => codes.as_slice() == [0, 0].as_slice(),
+        Err(_) => false,
+    };
+    (env, done)
+}
+
+/// Resumes both threads by one call: whether the codes are 0.
+fn resume_both<R: Wait + AllocGlobal>(rt: &R, env: &mut Env<'_>) -> bool {
+    match env.resume_thread_list(rt, rt.alloc(), &BOTH) {
+        Ok(codes) => codes.as_slice() == [0, 0].as_slice(),
+        Err(_) => false,
+    }
+}
+
+/// An environment suspends both threads by one call while they run, and resumes them. The second runs again then.
+fn suspend_together<'a, R: Threads + Wait + Sync + AllocGlobal>(
+    rt: &R,
+    env: Env<'a>,
+    threads: BothRun<'a>,
+) -> Result<(Env<'a>, OneHeld<'a>), Fail> {
+    let (held, (env, done)) = join(
+        rt,
+        move || -> Option<BothHeld> { hold_both(rt, threads) },
+        move || -> (Env, bool) { suspend_both(rt, env) },
+    );
+    let mut env = env;
+    let Some(held) = held else {
+        return Err("both threads are held".into());
+    };
+    expect(done, "both are suspended")?;
+    expect(resume_both(rt, &mut env), "both are resumed")?;
+    let Some(threads) = back(rt, held) else {
+        return Err("it is resumed".into());
+    };
+    Ok((env, threads))
+}
+
+/// An environment traces both threads, of which the first is held and the second runs until the first has tried to return.
+/// The second runs again then.
+fn trace_together<'a, R: Threads + Wait + Sync + AllocGlobal>(
+    rt: &R,
+    env: Env<'a>,
+    threads: OneHeld<'a>,
+    which: Which,
+) -> Result<(Env<'a>, OneHeld<'a>), Fail> {
+    let (held, (env, told)) = join(
+        rt,
+        move || -> Option<BothHeld> { stand_in_turn(rt, threads) },
+        move || -> (Env, bool) { trace(rt, env, which) },
+    );
+    let Some(held) = held else {
+        return Err("both threads stand until both were read".into());
+    };
+    expect(told, "both are told of")?;
+    let Some(threads) = back(rt, held) else {
+        return Err("no stop stands".into());
+    };
+    Ok((env, threads))
+}
+
+/// An environment suspends, resumes and traces two threads, and another has a seat at the first.
+fn in_turn<R: Threads + Wait + Sync + AllocGlobal>(rt: &R, limits: Limits) -> Result<(), Fail>
+    requires threads { limits.threads ≡ 2 }
+    requires envs { limits.envs ≡ 2 }
+{
+    let alloc = rt.alloc();
+    let Ok((first, own_first, seats_first)) = ThreadCell::make(alloc, limits, ThreadNo(0)) else {
+        return Err("there is memory".into());
+    };
+    let Ok((second, own_second, seats_second)) = ThreadCell::make(alloc, limits, ThreadNo(1)) else {
+        return Err("there is memory".into());
+    };
+    let Some((one, seat)) = both(&first, limits, ThreadNo(0), seats_first) else {
+        return Err("there are two environments".into());
+    };
+    let Some((two, _seat)) = both(&second, limits, ThreadNo(1), seats_second) else {
+        return Err("there are two environments".into());
+    };
+    let Some(mut env) = environment(alloc, limits, &first, one, &second, two) else {
+        return Err("there is memory".into());
+    };
+    expect(
+        env.add_capabilities(Caps::CAN_SUSPEND).is_ok(),
+        "it can be had",
+    )?;
+    let Ok(running_first) = Fresh::new(&first, own_first).try_start(rt) else {
+        return Err("no stop stands".into());
+    };
+    let Ok(running_second) = Fresh::new(&second, own_second).try_start(rt) else {
+        return Err("no stop stands".into());
+    };
+    let threads = BothRun {
+        watch: Watch { cell: &first, seat },
+        first: running_first,
+        second: running_second,
+    };
+    let (env, threads) = suspend_together(rt, env, threads)?;
+    let (env, threads) = trace_together(rt, env, threads, Which::All)?;
+    let (_env, threads) = trace_together(rt, env, threads, Which::Listed)?;
+    let _ended = threads.second.end(rt);
+    Ok(())
+}
+
+/// A list call asks both threads before it waits for the first: the second is held first. A trace stops both before it reads
+/// the first, and lets none go before both were read: the first, which stands, may not return until the second stands.
+#[test]
+fn two_threads_are_suspended_and_traced_together(rt: HostRuntime) -> Result<(), Fail> {
+    let Some(limits) = Limits::new(2, 2, 4, 32, 8) else {
+        return Err("the limits are in range".into());
+    };
+    in_turn(&rt, limits)
+}

@@ -1,0 +1,130 @@
+//! The two ways to sample all threads once.
+use crate::roots::Doing;
+use crate::taken::Taken;
+use std::alloc::Global;
+use std::rt::Clock;
+use std::sync::{Mutex, Wait};
+use std::time::Duration;
+use ti_agent::Env;
+use ti_slot::Asked;
+use ti_types::{Call, ThreadNo, Ticket};
+use ti_vmop::VmTurn;
+
+/// A thread has at most this many frames, and as many are read.
+pub const DEPTH: u32 = 128;
+
+/// The frames of a thread that are read.
+const FRAMES: i32 = 128;
+
+/// How many seconds each of the last answers is waited for.
+const LAST: u64 = 1;
+
+/// A stack that a running thread owes, and for how many samples it counts.
+#[derive(Clone, Copy)]
+struct Owed {
+    ticket: Ticket,
+    samples: u64,
+}
+
+/// The stacks that threads owe, by their numbers. A thread that owes one is not asked again: all samples that it misses
+/// would be answered at its next poll, with the same stack.
+#[derive(Drop)]
+pub struct Asking {
+    owed: Vec<Option<Owed>>,
+}
+
+impl Asking {
+    /// No thread owes one.
+    pub fn new(alloc: Global, threads: u32) -> Option<Asking> {
+        let owed = vec![in alloc; None; threads as usize].ok()?;
+        Some(Asking { owed })
+    }
+
+    /// One sample by handshakes: each thread is asked, and nobody is waited for. `None` where memory runs out.
+    pub fn sample<R: Wait + AllocGlobal>(
+        &mut self,
+        rt: &R,
+        env: &mut Env<'_>,
+        taken: &mut Taken,
+    ) -> Option<()> {
+        for at in 0..self.owed.len() {
+            let thread = u32::try_from(at).ok()?;
+            if let Some(owed) = self.owed.get_mut(at) {
+                sample_one(rt, env, taken, thread, owed)?;
+            }
+        }
+        Some(())
+    }
+
+    /// Takes what is still owed. `None` where memory runs out.
+    pub fn finish<R: Wait + Clock + AllocGlobal>(
+        self,
+        rt: &R,
+        env: &mut Env<'_>,
+        taken: &mut Taken,
+    ) -> Option<()> {
+        for owed in &self.owed {
+            if let Some(Owed { ticket, samples }) = *owed {
+                if let Some(answer) = env.collect_within(rt, ticket, Duration::from_secs(LAST)) {
+                    taken.add_answer(rt.alloc(), ticket.thread.0, Doing::Running, answer, samples)?;
+                }
+            }
+        }
+        Some(())
+    }
+}
+
+/// Takes what a thread owes, and asks it again. If it still owes that, it counts for one sample more.
+fn sample_one<R: Wait + AllocGlobal>(
+    rt: &R,
+    env: &mut Env<'_>,
+    taken: &mut Taken,
+    thread: u32,
+    owed: &mut Option<Owed>,
+) -> Option<()> {
+    if let Some(Owed { ticket, samples }) = *owed {
+        let Some(answer) = env.try_collect(rt, ticket) else {
+            let samples = samples.saturating_add(1);
+            *owed = Some(Owed { ticket, samples });
+            return Some(());
+        };
+        taken.add_answer(rt.alloc(), thread, Doing::Running, answer, samples)?;
+    }
+    *owed = ask(rt, env, taken, thread)?;
+    Some(())
+}
+
+/// Asks a thread for its stack. One that is in native code or blocked answers at once, and owes none.
+fn ask<R: Wait + AllocGlobal>(
+    rt: &R,
+    env: &mut Env<'_>,
+    taken: &mut Taken,
+    thread: u32,
+) -> Option<Option<Owed>> {
+    let call = Call::Trace {
+        start: 0,
+        max_count: FRAMES,
+    };
+    match env.post(rt, rt.alloc(), ThreadNo(thread), call).ok()? {
+        Asked::Answered(answer) => {
+            taken.add_answer(rt.alloc(), thread, Doing::Away, answer, 1)?;
+            Some(None)
+        }
+        Asked::Waiting(ticket) => Some(Some(Owed { ticket, samples: 1 })),
+    }
+}
+
+/// One sample of all threads at one moment, at which all stand. `None` where memory runs out.
+pub fn standing<R: Wait + AllocGlobal>(
+    rt: &R,
+    turn: &Mutex<VmTurn>,
+    env: &mut Env<'_>,
+    taken: &mut Taken,
+) -> Option<()> {
+    let (infos, _round) = env.get_all_stack_traces(rt, rt.alloc(), turn, FRAMES).ok()?;
+    for info in &infos {
+        let doing = Doing::of_state(info.state);
+        taken.add(rt.alloc(), info.thread.0, doing, info.frames.frames())?;
+    }
+    Some(())
+}

@@ -1,0 +1,165 @@
+//! Stacks apart by what their threads did, and, if that is asked for, by thread.
+ghost use Rattle.std.specs.Prelude.{◌≡◌, ◌+◌, map, length, if◌then◌else◌, OnOk, OnErr, IfOk};
+ghost use Rattle.std.specs.List.{All, sum_by};
+ghost use Rattle.tiprof.specs.Roots.{doing_of, fold_in, folded_in, IsAddedTo, IsAddedAt, IsEmpty, place_of, stacks_in, word_of};
+
+use crate::fold::Fold;
+use std::alloc::{AllocError, Global};
+use ti_types::Frame;
+
+/// What a thread did when its stack was taken.
+#[derive(Clone, Copy, Debug, PartialEq, Eq)]
+pub enum Doing {
+    /// It ran, and handed its frames over at its next poll.
+    Running,
+    /// It was in native code or blocked, and was read where it was.
+    Away,
+}
+
+impl Doing {
+    /// By its state (JVM TI 11, GetThreadState): it ran if it is RUNNABLE, and not IN_NATIVE.
+    pub fn of_state(bits: u32) -> Doing
+        ensures { result ≡ doing_of bits }
+    {
+        if bits & 0x400004 == 0x4 {
+            Doing::Running
+        } else {
+            Doing::Away
+        }
+    }
+
+    /// The word at the root of its stacks.
+    pub fn word(self) -> &'static str
+        ensures { result.now ≡ word_of self }
+    {
+        match self {
+            Doing::Running => "running",
+            Doing::Away => "native_or_blocked",
+        }
+    }
+}
+
+/// The stacks of one worker, or of all.
+#[derive(Drop)]
+pub struct Part {
+    running: Fold,
+    away: Fold,
+}
+
+impl Part {
+    /// None yet.
+    fn new(alloc: Global) -> Part
+        ensures none { folded_in result ≡ 0 }
+        ensures empty { IsEmpty result }
+    {
+        Part {
+            running: Fold::new(alloc),
+            away: Fold::new(alloc),
+        }
+    }
+
+    /// One more stack of a thread that did this, its newest frame first. An error where there is no memory, and then
+    /// nothing has changed.
+    fn add(&mut self, alloc: Global, doing: Doing, frames: &[Frame]) -> Result<(), AllocError>
+        ensures added { OnOk result (IsAddedTo self.old self.new doing (map (λ x. x.method) frames.now)) }
+        ensures kept { OnErr result (stacks_in self.new ≡ stacks_in self.old) }
+        ensures same { OnErr result (folded_in self.new ≡ folded_in self.old) }
+    {
+        match doing {
+            Doing::Running => self.running.add(alloc, frames),
+            Doing::Away => self.away.add(alloc, frames),
+        }
+    }
+
+    /// The stacks of threads that did this.
+    pub fn fold(&self, doing: Doing) -> &Fold
+        ensures { result.now ≡ fold_in self.now doing }
+    {
+        match doing {
+            Doing::Running => &self.running,
+            Doing::Away => &self.away,
+        }
+    }
+}
+
+/// All stacks.
+#[derive(Drop)]
+pub struct Roots {
+    /// By the worker's number, or one for all.
+    parts: Vec<Part>,
+    by_thread: bool,
+    /// How many stacks were folded.
+    total: u64,
+    ghost sums: { sum_by folded_in parts.items ≡ total },
+}
+
+impl Roots {
+    /// None yet: of this many workers apart, or of all together.
+    pub fn new(alloc: Global, workers: u32, by_thread: bool) -> Result<Self, AllocError>
+        ensures none { IfOk result (λ r. r.total ≡ 0) }
+        ensures by_thread { IfOk result (λ r. r.by_thread ≡ by_thread) }
+        ensures count { IfOk result (λ r. length r.parts.items ≡ (if by_thread then workers else 1)) }
+        ensures empty { IfOk result (λ r. All IsEmpty r.parts.items) }
+    {
+        let count = if by_thread { workers } else { 1 };
+        let mut parts = Vec::with_capacity(alloc, count as usize)?;
+        for _ in 0..count {
+            parts.push_reserved(Part::new(alloc));
+        }
+        Ok(Roots {
+            parts,
+            by_thread,
+            total: 0,
+        })
+    }
+
+    #[tactic(auto, using(crate::proofs::RootsLaws::kept_at))]
+    /// One more stack of a worker that did this, its newest frame first. An error where there is no memory, or no such
+    /// worker, and then nothing has changed.
+    pub fn add(
+        &mut self,
+        alloc: Global,
+        worker: u32,
+        doing: Doing,
+        frames: &[Frame],
+    ) -> Result<(), AllocError>
+        ensures by_thread { self.new.by_thread ≡ self.old.by_thread }
+        ensures more { OnOk result (self.new.total ≡ self.old.total + 1) }
+        ensures added { OnOk result (IsAddedAt self.old.parts.items self.new.parts.items (place_of self.old.by_thread worker) doing (map (λ x. x.method) frames.now)) }
+        ensures kept { OnErr result (map stacks_in self.new.parts.items ≡ map stacks_in self.old.parts.items) }
+        ensures same { OnErr result (self.new.total ≡ self.old.total) }
+    {
+        let at = if self.by_thread { worker as usize } else { 0 };
+        let Some(total) = self.total.checked_add(1) else {
+            return Err(AllocError);
+        };
+        if at >= self.parts.len() {
+            return Err(AllocError);
+        }
+        self.parts[at].add(alloc, doing, frames)?;
+        self.total = total;
+        Ok(())
+    }
+
+    /// The stacks of each worker, in the order of their numbers, or of all.
+    pub fn parts(&self) -> &[Part]
+        ensures all { result.now ≡ self.now.parts.items }
+        ensures sum { sum_by folded_in result.now ≡ self.now.total }
+    {
+        &self.parts
+    }
+
+    /// Whether each worker has a part of its own.
+    pub fn is_by_thread(&self) -> bool
+        ensures { result ≡ self.now.by_thread }
+    {
+        self.by_thread
+    }
+
+    /// How many stacks were folded.
+    pub fn total(&self) -> u64
+        ensures { result ≡ self.now.total }
+    {
+        self.total
+    }
+}
