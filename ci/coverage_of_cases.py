@@ -14,6 +14,7 @@ SPECS = {
     "calls": "crates/ti_script/specs/Lives.antt",
     "live texts": "crates/ti_script/specs/LiveTexts.antt",
     "limits": "crates/ti_script/specs/LimitNames.antt",
+    "members": "crates/ti_script/specs/Members.antt",
     "faults": "crates/ti_driver/specs/Faults.antt",
     "verdicts": "crates/ti_driver/specs/Runs.antt",
     "commands": "crates/ti_driver/specs/Commands.antt",
@@ -21,14 +22,15 @@ SPECS = {
 }
 
 # what no document leads to: no cell is in use where all its users are done, no live run gives an illegal history, a
-# capability cannot be had, no event names an environment that is not there, and where a trace alone is refused for memory
-# depends on the machine
+# capability cannot be had, no event names an environment that is not there, where a trace alone is refused for memory
+# depends on the machine, and no document gives a call a deadline
 NOT_REACHED = {
     ("faults", "cell"),
     ("live texts", " illegal "),
     ("texts", "can_tag_objects"),
     ("errors", "116"),
     ("errors", "110"),
+    ("errors", "214"),
 }
 
 KINDS = ("monitor", "wait", "timed_wait", "sleep", "park", "timed_park")
@@ -91,6 +93,7 @@ def found_in(cases):
     found["texts"] = {word for word in words_of("texts") if word.encode() in texts}
     found["faults"] = {word for word in words_of("faults") if word.encode() in faults}
     found["limits"] = set(re.findall(r"limit (\w+)\n", faults.decode()))
+    found["members"] = {word for path in re.findall(r", member ([\w.]+)\n", faults.decode()) for word in (path, path.split(".")[-1])}
     found["errors"] = set(re.findall(r" error (\d+)\n", texts.decode()))
     return found
 

@@ -10,7 +10,7 @@ import typing
 SECONDS = 60
 # a device that takes no byte
 FULL = "/dev/full"
-USAGE = b"tiwalk: usage: tiwalk [walk|live|check]\n"
+USAGE = b"tiwalk: usage: tiwalk [walk|live|check] < DOCUMENT\n"
 
 
 @dataclasses.dataclass

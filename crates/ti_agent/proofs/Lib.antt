@@ -5,3 +5,4 @@ pub mod Listing
 pub mod Counts
 pub mod Tracing
 pub mod Cells
+pub mod InTime

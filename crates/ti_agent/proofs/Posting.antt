@@ -26,7 +26,7 @@ use Rattle.std.specs.Option.{option_map}
 use Rattle.ti_types.specs.Answer.{said}
 use Rattle.ti_replay.specs.Tickets.{reply_to}
 use Rattle.ti_handshake.specs.Call.{HoldsWith, WaitsWith}
-use Rattle.ti_handshake.specs.Desk.{IsSame, ReplyAtPlace}
+use Rattle.ti_handshake.specs.Desk.{IsSame, ReplyAtPlace, is_out}
 use Rattle.ti_agent.specs.Lists.{IsPosted, IsPostedBy, PostsEach, IsCollected, CollectsEach, IsOpen, AreOthers, NoneTwice, AreOpen}
 
 -- a desk that is there
@@ -45,11 +45,11 @@ in_range_of s k o = get_range s.desks k.thread.0 o.desk o.there
 some_same : (x y : Place) → Some x ≡ Some y → x ≡ y
 some_same x y e = cc
 
-pub out_at : (s : Environment) (k : Ticket) (p : Place) → IsOut s k → p ≡ slice_index_or s.desks k.thread.0 p → (slice_get s.desks k.thread.0 ≡ Some p) × (has k p.view.posted ≡ true)
+pub out_at : (s : Environment) (k : Ticket) (p : Place) → IsOut s k → p ≡ slice_index_or s.desks k.thread.0 p → (slice_get s.desks k.thread.0 ≡ Some p) × (is_out p k ≡ true)
 out_at s k p o e =
     let there : slice_get s.desks k.thread.0 ≡ Some p = at_index s.desks k.thread.0 p (in_range_of s k o) ∙ ap (λ (x : Place). Some x) (sym e) in
     let is : o.desk ≡ p = some_same o.desk p (sym o.there ∙ there) in
-    (there, ap (λ (x : Place). has k x.view.posted) (sym is) ∙ o.out)
+    (there, ap (λ (x : Place). is_out x k) (sym is) ∙ o.out)
 
 set_at : (l : List Place) (i : ℕ) (x : Place) → i < length l → slice_get (slice_set l i x) i ≡ Some x
 set_at [] i x h = absurd (omega (arith, h))
@@ -101,17 +101,25 @@ out_apart s s' t q k e n o = record {
   out = o.out;
 }
 
-out_here : (s s' : Environment) (t : ℕ) (p q : Place) (k : Ticket) → s'.desks ≡ slice_set s.desks t q → slice_get s.desks t ≡ Some p → t ≡ k.thread.0 → has k q.view.posted ≡ true → IsOut s' k
+out_here : (s s' : Environment) (t : ℕ) (p q : Place) (k : Ticket) → s'.desks ≡ slice_set s.desks t q → slice_get s.desks t ≡ Some p → t ≡ k.thread.0 → is_out q k ≡ true → IsOut s' k
 out_here s s' t p q k e there same h = record {
   desk = q;
   there = ap (λ (l : List Place). slice_get l k.thread.0) e ∙ (ap (slice_get (slice_set s.desks t q)) (sym same) ∙ set_at s.desks t q (get_range s.desks t p there));
   out = h;
 }
 
-desk_is : (s : Environment) (t : ℕ) (p : Place) (k : Ticket) (o : IsOut s k) → slice_get s.desks t ≡ Some p → t ≡ k.thread.0 → has k p.view.posted ≡ true
+desk_is : (s : Environment) (t : ℕ) (p : Place) (k : Ticket) (o : IsOut s k) → slice_get s.desks t ≡ Some p → t ≡ k.thread.0 → is_out p k ≡ true
 desk_is s t p k o there e =
     let is : o.desk ≡ p = some_same o.desk p (sym o.there ∙ (ap (slice_get s.desks) (sym e) ∙ there)) in
-    ap (λ (x : Place). has k x.view.posted) (sym is) ∙ o.out
+    ap (λ (x : Place). is_out x k) (sym is) ∙ o.out
+
+-- a call that is out is among those that were posted
+out_posted : (p : Place) (k : Ticket) → is_out p k ≡ true → has k p.view.posted ≡ true
+out_posted p k o = grind (arith, o)
+
+-- and stays out while it is, since nobody gave it up
+out_still : (p q : Place) (k : Ticket) → is_out p k ≡ true → IsSame p q → has k q.view.posted ≡ true → is_out q k ≡ true
+out_still p q k o same h = let given : has k q.cancelled ≡ has k p.cancelled = ap (has k) same.cancelled in grind (arith, o, given, h)
 
 out_kept : (s s' : Environment) (t : ThreadNo) (c : Call) (r : AskedOf) (k : Ticket) → Posts s s' t c r → IsOut s k → IsOut s' k
 out_kept s s' t c r k w o =
@@ -119,8 +127,8 @@ out_kept s s' t c r k w o =
     elim (cases_eq t.0 k.thread.0) [
       | inl e ↦
           let was = desk_is s t.0 w.before k o w.there e in
-          let is : has k w.after.view.posted ≡ true = ap (has k) w.hold.waits.posted ∙ has_more k w.before.view.posted (ticket_told r) was in
-          out_here s s' t.0 w.before w.after k desks w.there e is
+          let is : has k w.after.view.posted ≡ true = ap (has k) w.hold.waits.posted ∙ has_more k w.before.view.posted (ticket_told r) (out_posted w.before k was) in
+          out_here s s' t.0 w.before w.after k desks w.there e (out_still w.before w.after k was w.same is)
       | inr n ↦ out_apart s s' t.0 w.after k desks n o
     ]
 
@@ -128,8 +136,7 @@ out_new : (s s' : Environment) (t : ThreadNo) (c : Call) (k : Ticket) → Posts 
 out_new s s' t c k w =
     let desks : s'.desks ≡ slice_set s.desks t.0 w.after = ap (λ (x : Environment). x.desks) w.new_is in
     let at : t.0 ≡ k.thread.0 = ap (λ (x : ThreadNo). x.0) (sym w.about) ∙ sym (ap (λ (x : Ticket). x.thread.0) w.told.1) in
-    let is : has k w.after.view.posted ≡ true = ap (has k) w.hold.waits.posted ∙ has_last k w.before.view.posted in
-    out_here s s' t.0 w.before w.after k desks w.there at is
+    out_here s s' t.0 w.before w.after k desks w.there at w.out
 
 pub out_if_waiting : (s s' : Environment) (t : ThreadNo) (c : Call) (r : AskedOf) → Posts s s' t c r → IsOutIfWaiting s' r
 out_if_waiting s s' t c (Answered a) w = tt
@@ -143,7 +150,7 @@ apart_new s s' t c k j w o =
       | inl e ↦
           let is : k ≡ j = same_is k j e in
           let at : t.0 ≡ j.thread.0 = ap (λ (x : ThreadNo). x.0) (sym w.about) ∙ (sym (ap (λ (x : Ticket). x.thread.0) w.told.1) ∙ ap (λ (x : Ticket). x.thread.0) is) in
-          let was : has j w.before.view.posted ≡ true = desk_is s t.0 w.before j o w.there at in
+          let was : has j w.before.view.posted ≡ true = out_posted w.before j (desk_is s t.0 w.before j o w.there at) in
           let not : has j w.before.view.posted ≡ false = ap (λ (x : Ticket). has x w.before.view.posted) (sym is) ∙ w.told.2 in
           let never : true ≡ false = sym was ∙ not in
           cc
@@ -212,8 +219,8 @@ open_after s s' k a (Waits j) w h o =
     elim (cases_eq k.thread.0 j.thread.0) [
       | inl e ↦
           let was = desk_is s k.thread.0 w.before j o w.there e in
-          let is : has j w.after.view.posted ≡ true = ap (has j) w.hold.posted ∙ (has_without j k w.before.view.posted h.0 ∙ was) in
-          out_here s s' k.thread.0 w.before w.after j desks w.there e is
+          let is : has j w.after.view.posted ≡ true = ap (has j) w.hold.posted ∙ (has_without j k w.before.view.posted h.0 ∙ out_posted w.before j was) in
+          out_here s s' k.thread.0 w.before w.after j desks w.there e (out_still w.before w.after j was w.same is)
       | inr n ↦ out_apart s s' k.thread.0 w.after j desks n o
     ]
 
@@ -240,7 +247,7 @@ collects_more s m m' (y ∷ xs) [] x code h k = absurd h
 -- a desk looked for an answer
 pub looked_for : (s : Environment) (k : Ticket) (p q : Place) (r : Option Answer) → slice_get s.desks k.thread.0 ≡ Some p → IsSame p q
     → HoldsWith p.view q.view [] (if is_some r then without_ticket k p.view.posted else p.view.posted)
-    → IfSome r (λ a. has k q.view.posted ≡ false) → option_map said r ≡ (if has k p.view.posted then reply_to p.view.subject.limits q.view.seen k else None)
+    → IfSome r (λ a. has k q.view.posted ≡ false) → option_map said r ≡ (if is_out p k then reply_to p.view.subject.limits q.view.seen k else None)
     → IfSome r (λ a. ReplyAtPlace p.view.subject.limits q.view.seen k (said a)) → LooksFor s (seen_call s k.thread.0 q) k (option_map said r)
 looked_for s k p q None at same hold once is place = record { before = p; after = q; there = at; same = same; hold = hold; once = tt; answer = is; place = tt; new_is = refl }
 looked_for s k p q (Some a) at same hold once is place = record { before = p; after = q; there = at; same = same; hold = hold; once = once; answer = is; place = place; new_is = refl }
@@ -248,7 +255,7 @@ looked_for s k p q (Some a) at same hold once is place = record { before = p; af
 -- a desk waited for one
 pub waited_for : (s : Environment) (k : Ticket) (p q : Place) (r : Option Answer) → slice_get s.desks k.thread.0 ≡ Some p → IsSame p q
     → WaitsWith p.view q.view [] (if is_some r then without_ticket k p.view.posted else p.view.posted)
-    → IfSome r (λ a. has k q.view.posted ≡ false) → option_map said r ≡ (if has k p.view.posted then reply_to p.view.subject.limits q.view.seen k else None)
+    → IfSome r (λ a. has k q.view.posted ≡ false) → option_map said r ≡ (if is_out p k then reply_to p.view.subject.limits q.view.seen k else None)
     → IfSome r (λ a. ReplyAtPlace p.view.subject.limits q.view.seen k (said a)) → WaitsFor s (seen_call s k.thread.0 q) k (option_map said r)
 waited_for s k p q None at same hold once is place = record { before = p; after = q; there = at; same = same; hold = hold; once = tt; answer = is; place = tt; new_is = refl }
 waited_for s k p q (Some a) at same hold once is place = record { before = p; after = q; there = at; same = same; hold = hold; once = once; answer = is; place = place; new_is = refl }

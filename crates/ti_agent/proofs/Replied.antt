@@ -1,5 +1,5 @@
 -- The reply at the place of a call is an answer to that call.
-use Rattle.std.proofs.Common.{◌≡◌, ℕ, ◌+◌, ◌<◌, ◌==◌, ◌&&◌, Bool, true, false, List, [], ◌∷◌, ◌++◌, length, refl, ap, sym, ◌∙◌, arith, subst, inl, inr, Option, Some, None, if◌then◌else◌, ℤ}
+use Rattle.std.proofs.Common.{◌≡◌, ℕ, ◌+◌, ◌<◌, ◌==◌, ◌&&◌, ◌||◌, Bool, true, false, List, [], ◌∷◌, ◌++◌, length, refl, ap, sym, ◌∙◌, arith, subst, inl, inr, Option, Some, None, if◌then◌else◌, ℤ}
 use Rattle.std.specs.Prelude.{slice_get}
 use Rattle.std.specs.List.{enumerate_from}
 use Rattle.std.proofs.lemmas.Bool.{cases_Bool}
@@ -19,7 +19,7 @@ use Rattle.ti_replay.specs.View.{new_thread, after}
 use Rattle.ti_replay.specs.Replies.{reply_from, answer_to}
 use Rattle.ti_cell.specs.declared.view.View.{View}
 use Rattle.ti_handshake.specs.Call.{IsAnswered, next_call}
-use Rattle.ti_agent.specs.Asks.{IsKind, is_for_memory}
+use Rattle.ti_agent.specs.Asks.{IsKind, is_for_memory, is_timed_out}
 
 -- whatever is at the place is this entry
 abbrev AllAt : ℕ → Entry → List Placed → Type 0
@@ -99,35 +99,39 @@ kind_of v env call.GetWord = either call.GetWord (is_alive v.mode) _ _ tt tt
 kind_of v env call.Pop = either call.Pop (is_alive v.mode) _ _ (popped (pop_refusal v.suspended v.frames)) tt
 kind_of v env (call.SetWord word) = either (call.SetWord word) (is_alive v.mode) _ _ tt tt
 
-either_not : (b : Bool) (x y : Answer) → is_for_memory x ≡ false → is_for_memory y ≡ false → is_for_memory (if b then x else y) ≡ false
+-- an answer that no thread gives
+abbrev is_from_here : Answer → Bool
+is_from_here a = is_for_memory a || is_timed_out a
+
+either_not : (b : Bool) (x y : Answer) → is_from_here x ≡ false → is_from_here y ≡ false → is_from_here (if b then x else y) ≡ false
 either_not true x y p q = p
 either_not false x y p q = q
 
-traced_not : (o : Option ℕ) (most : ℕ) (frames : List Frame) → is_for_memory (trace_from o most frames) ≡ false
+traced_not : (o : Option ℕ) (most : ℕ) (frames : List Frame) → is_from_here (trace_from o most frames) ≡ false
 traced_not (Some n) most frames = refl
 traced_not None most frames = refl
 
-located_not : (o : Option Frame) → is_for_memory (location_of o) ≡ false
+located_not : (o : Option Frame) → is_from_here (location_of o) ≡ false
 located_not (Some f) = refl
 located_not None = refl
 
-popped_not : (suspended : Bool) (newest caller : Option Frame) → is_for_memory (done_or (popping_refusal suspended newest caller)) ≡ false
+popped_not : (suspended : Bool) (newest caller : Option Frame) → is_from_here (done_or (popping_refusal suspended newest caller)) ≡ false
 popped_not false newest caller = refl
 popped_not true None caller = refl
 popped_not true (Some newest) None = refl
 popped_not true (Some newest) (Some caller) = grind arith
 
--- no thread answers 110
-not_memory : (v : ThreadView) (env : EnvNo) (c : Call) → is_for_memory (answer_of v env c) ≡ false
-not_memory v env call.State = refl
-not_memory v env call.FrameCount = either_not (is_alive v.mode) _ _ refl refl
-not_memory v env (call.Trace start max_count) = either_not (is_alive v.mode) _ _ (traced_not (first_of_trace start (length v.frames)) (or_zero max_count) v.frames) refl
-not_memory v env (call.Location depth) = either_not (is_alive v.mode) _ _ (located_not (slice_get v.frames (or_zero depth))) refl
-not_memory v env call.Suspend = either_not (is_alive v.mode) _ _ (either_not v.suspended _ _ refl refl) refl
-not_memory v env call.Resume = either_not (is_alive v.mode) _ _ (either_not v.suspended _ _ refl refl) refl
-not_memory v env call.GetWord = either_not (is_alive v.mode) _ _ refl refl
-not_memory v env call.Pop = either_not (is_alive v.mode) _ _ (popped_not v.suspended (slice_get v.frames 0) (slice_get v.frames 1)) refl
-not_memory v env (call.SetWord word) = either_not (is_alive v.mode) _ _ refl refl
+-- no thread answers 110 or 214
+from_thread : (v : ThreadView) (env : EnvNo) (c : Call) → is_from_here (answer_of v env c) ≡ false
+from_thread v env call.State = refl
+from_thread v env call.FrameCount = either_not (is_alive v.mode) _ _ refl refl
+from_thread v env (call.Trace start max_count) = either_not (is_alive v.mode) _ _ (traced_not (first_of_trace start (length v.frames)) (or_zero max_count) v.frames) refl
+from_thread v env (call.Location depth) = either_not (is_alive v.mode) _ _ (located_not (slice_get v.frames (or_zero depth))) refl
+from_thread v env call.Suspend = either_not (is_alive v.mode) _ _ (either_not v.suspended _ _ refl refl) refl
+from_thread v env call.Resume = either_not (is_alive v.mode) _ _ (either_not v.suspended _ _ refl refl) refl
+from_thread v env call.GetWord = either_not (is_alive v.mode) _ _ refl refl
+from_thread v env call.Pop = either_not (is_alive v.mode) _ _ (popped_not v.suspended (slice_get v.frames 0) (slice_get v.frames 1)) refl
+from_thread v env (call.SetWord word) = either_not (is_alive v.mode) _ _ refl refl
 
 -- what a desk was answered is what a thread answers to its call
 answered_as : (old new : View) (env : EnvNo) (c : Call) (a : Answer) → IsAnswered old new (next_call old env c) a → (v : ThreadView) × (answer_of v env c ≡ a)
@@ -141,5 +145,15 @@ answered_as old new env c a k =
 pub answered_kind : (old new : View) (env : EnvNo) (c : Call) (a : Answer) → IsAnswered old new (next_call old env c) a → IsKind c a
 answered_kind old new env c a k = let r = answered_as old new env c a k in subst (λ (x : Answer). IsKind c x) r.1 (kind_of r.0 env c)
 
+or_false : (x y : Bool) → (x || y) ≡ false → (x ≡ false) × (y ≡ false)
+or_false true y e = cc e
+or_false false y e = (refl, e)
+
+answered_from_thread : (old new : View) (env : EnvNo) (c : Call) (a : Answer) → IsAnswered old new (next_call old env c) a → is_from_here a ≡ false
+answered_from_thread old new env c a k = let r = answered_as old new env c a k in ap is_from_here (sym r.1) ∙ from_thread r.0 env c
+
 pub answered_not : (old new : View) (env : EnvNo) (c : Call) (a : Answer) → IsAnswered old new (next_call old env c) a → is_for_memory a ≡ false
-answered_not old new env c a k = let r = answered_as old new env c a k in ap is_for_memory (sym r.1) ∙ not_memory r.0 env c
+answered_not old new env c a k = let e = answered_from_thread old new env c a k in (or_false (is_for_memory a) (is_timed_out a) e).0
+
+pub answered_in_time : (old new : View) (env : EnvNo) (c : Call) (a : Answer) → IsAnswered old new (next_call old env c) a → is_timed_out a ≡ false
+answered_in_time old new env c a k = let e = answered_from_thread old new env c a k in (or_false (is_for_memory a) (is_timed_out a) e).1

@@ -26,7 +26,7 @@ use Rattle.ti_slot.specs.declared.asked.Asked.TheVariants as asked
 use Rattle.ti_slot.specs.Thread.{IsLate}
 use Rattle.ti_slot.specs.Tickets.{same, without_ticket}
 use Rattle.ti_agent.specs.Posts.{Posts}
-use Rattle.ti_handshake.specs.Desk.{Place, IsSame}
+use Rattle.ti_handshake.specs.Desk.{Place, IsSame, IsTicketOut}
 use Rattle.ti_replay.specs.Fronts.{stops_by, stops_after}
 use Rattle.ti_vmop.proofs.Each.{at_index, set_here}
 use Rattle.ti_agent.specs.Env.{Environment, IsDesk, IsWhole, out_of, is_full}
@@ -140,7 +140,7 @@ abbrev pub after_call : Environment → ThreadNo → EnvValue → Place → Envi
 after_call s thread state q = record { env = s.env; state = state; desks = slice_set s.desks thread.0 q }
 
 pub whole_after : (s : Environment) (thread : ThreadNo) (c : Call) (p q : Place) (state : EnvValue) → IsWhole s → call_refusal s.state thread c ≡ None → p ≡ slice_index_or s.desks thread.0 p
-    → state ≡ with_spent s.state thread → IsSame p q → GoesOn p.view q.view → q.view.mine ≡ p.view.mine ++ next_call p.view p.env c ∷ [] → length q.view.posted ≤ s.state.limits.window
+    → state ≡ with_spent s.state thread → q.env ≡ p.env → GoesOn p.view q.view → q.view.mine ≡ p.view.mine ++ next_call p.view p.env c ∷ [] → length q.view.posted ≤ s.state.limits.window
     → IsWhole (after_call s thread state q)
 whole_after s thread c p q state whole h e spend same_place goes_on more within = subst (λ (z : EnvValue). IsWhole (after_call s thread z q)) (sym spend) done
   where
@@ -149,11 +149,11 @@ whole_after s thread c p q state whole h e spend same_place goes_on more within 
         let reach = there s.state thread c h in
         let old = whole.desks thread.0 p (desk_at s thread c p whole h e) in
         let mine : q.view.mine ≡ p.view.mine ++ next_call p.view p.env c ∷ [] = more in
-        let stops : stops_by q.env q.view.mine ≡ stops_by p.env p.view.mine = (λ j. stops_by (same_place.env j) (mine j)) ∙ stops_call p.env p.view.mine _ c in
-        let calls : calls_spent q.env q.view.mine ≡ calls_spent p.env p.view.mine + 1 = (λ j. calls_spent (same_place.env j) (mine j)) ∙ spent_more p.env p.view.mine _ c in
+        let stops : stops_by q.env q.view.mine ≡ stops_by p.env p.view.mine = (λ j. stops_by (same_place j) (mine j)) ∙ stops_call p.env p.view.mine _ c in
+        let calls : calls_spent q.env q.view.mine ≡ calls_spent p.env p.view.mine + 1 = (λ j. calls_spent (same_place j) (mine j)) ∙ spent_more p.env p.view.mine _ c in
         let spent : slice_index (with_spent s.state thread).spent thread.0 ≡ spent_at s.state thread + 1 = set_same s.state.spent thread.0 (spent_at s.state thread + 1) reach.0 in
         let there : IsDesk (after_call s thread (with_spent s.state thread) q) thread.0 q = record {
-          env_is = same_place.env ∙ old.env_is;
+          env_is = same_place ∙ old.env_is;
           about = goes_on.subject ∙ old.about;
           free = stops ∙ old.free;
           paid = omega (arith, old.paid, calls, spent, reach.1);
@@ -219,8 +219,8 @@ caps_whole s state (Ok u) caps whole added same = subst (λ (z : EnvValue). IsWh
 caps_whole s state (Err e) caps whole added same = subst (λ (z : EnvValue). IsWhole (record { env = s.env; state = z; desks = s.desks })) (sym same) (whole_with s s.state whole refl refl)
 
 pub posts : (s new : Environment) (thread : ThreadNo) (c : Call) (p q : Place) (r : AskedOf) (state : EnvValue) → IsWhole s → call_refusal s.state thread c ≡ None → p ≡ slice_index_or s.desks thread.0 p
-    → state ≡ with_spent s.state thread → IsSame p q → HoldsWith p.view q.view (next_call p.view p.env c ∷ []) (p.view.posted ++ ticket_told r) → IsTold p.view q.view p.env c r → new ≡ after_call s thread state q → Posts s new thread c r
-posts s new thread c p q r state whole h e spend same hold told is = record {
+    → state ≡ with_spent s.state thread → IsSame p q → HoldsWith p.view q.view (next_call p.view p.env c ∷ []) (p.view.posted ++ ticket_told r) → IsTold p.view q.view p.env c r → IsTicketOut q r → new ≡ after_call s thread state q → Posts s new thread c r
+posts s new thread c p q r state whole h e spend same hold told out is = record {
   before = p;
   after = q;
   there = desk_at s thread c p whole h e;
@@ -228,11 +228,12 @@ posts s new thread c p q r state whole h e spend same hold told is = record {
   same = same;
   hold = hold;
   told = told;
+  out = out;
   new_is = is ∙ ap (λ (z : EnvValue). after_call s thread z q) spend;
 }
 
 -- a desk saw more, and added nothing
-pub whole_seen : (s : Environment) (t : ℕ) (p q : Place) (tickets : List Ticket) → IsWhole s → slice_get s.desks t ≡ Some p → IsSame p q → WaitsWith p.view q.view [] tickets → length tickets ≤ length p.view.posted
+pub whole_seen : (s : Environment) (t : ℕ) (p q : Place) (tickets : List Ticket) → IsWhole s → slice_get s.desks t ≡ Some p → q.env ≡ p.env → WaitsWith p.view q.view [] tickets → length tickets ≤ length p.view.posted
     → IsWhole (record { env = s.env; state = s.state; desks = slice_set s.desks t q })
 whole_seen s t p q tickets whole at same hold fewer = record {
   count = whole.count ∙ sym (length-set s.desks t q);
@@ -244,11 +245,11 @@ whole_seen s t p q tickets whole at same hold fewer = record {
     here =
         let old = whole.desks t p at in
         let mine : q.view.mine ≡ p.view.mine = hold.mine ∙ append-nil p.view.mine in
-        let calls : calls_spent q.env q.view.mine ≡ calls_spent p.env p.view.mine = λ j. calls_spent (same.env j) (mine j) in
+        let calls : calls_spent q.env q.view.mine ≡ calls_spent p.env p.view.mine = λ j. calls_spent (same j) (mine j) in
         record {
-          env_is = same.env ∙ old.env_is;
+          env_is = same ∙ old.env_is;
           about = hold.goes.subject ∙ old.about;
-          free = (λ j. stops_by (same.env j) (mine j)) ∙ old.free;
+          free = (λ j. stops_by (same j) (mine j)) ∙ old.free;
           paid = omega (arith, old.paid, calls);
           within = omega (arith, old.within, fewer, ap (λ (l : List Ticket). length l) hold.posted);
         }

@@ -7,7 +7,7 @@ use Rattle.ti_types.specs.declared.answer.Answer.TheVariants as answer
 use Rattle.ti_types.specs.declared.call.Call.{Call}
 use Rattle.ti_types.specs.declared.call.Call.TheVariants as call
 use Rattle.ti_types.specs.declared.error.TiError.{TiError}
-use Rattle.ti_types.specs.declared.error.TiError.TheVariants.{OutOfMemory}
+use Rattle.ti_types.specs.declared.error.TiError.TheVariants.{OutOfMemory, TimedOut}
 use Rattle.ti_types.specs.declared.numbers.ThreadNo.{ThreadNo}
 use Rattle.ti_types.specs.declared.place.Frame.{Frame}
 use Rattle.ti_types.specs.Refusing.{or_else, unless}
@@ -36,6 +36,11 @@ pub record Went (old new : Environment) (thread : ThreadNo) (c : Call) (a : Answ
 abbrev pub is_for_memory : Answer → Bool
 is_for_memory (answer.Refused OutOfMemory) = true
 is_for_memory _ = false
+
+-- and that says that a time was over
+abbrev pub is_timed_out : Answer → Bool
+is_timed_out (answer.Refused TimedOut) = true
+is_timed_out _ = false
 
 -- why a call does not reach its thread: 99, 10, 103, 209, and 110 where it takes memory and there is none. No thread
 -- answers 110

@@ -14,7 +14,7 @@ use Rattle.ti_slot.specs.declared.asked.Asked.{Asked as AskedOf}
 use Rattle.ti_slot.specs.declared.asked.Asked.TheVariants.{Answered, Waiting}
 use Rattle.ti_slot.specs.Tickets.{has, without_ticket}
 use Rattle.ti_handshake.specs.Call.{HoldsWith, WaitsWith, IsTold, next_call, ticket_told}
-use Rattle.ti_handshake.specs.Desk.{Place, IsSame, ReplyAtPlace}
+use Rattle.ti_handshake.specs.Desk.{Place, IsSame, IsTicketOut, ReplyAtPlace, is_out}
 use Rattle.ti_agent.specs.Env.{Environment, is_full}
 
 -- why a call is not posted at a thread: the environment refuses it; or it may wait, and as many are out there as may be
@@ -30,6 +30,7 @@ pub record Posts (old new : Environment) (thread : ThreadNo) (c : Call) (r : Ask
   pub same : IsSame before after
   pub hold : HoldsWith before.view after.view (next_call before.view before.env c ∷ []) (before.view.posted ++ ticket_told r)
   pub told : IsTold before.view after.view before.env c r
+  pub out : IsTicketOut after r
   pub new_is : new ≡ record { env = old.env; state = with_spent old.state thread; desks = slice_set old.desks thread.0 after }
 
 -- the desk at the ticket's thread collected it: the answer is the reply to it, at the place of its call; it is out no
@@ -54,7 +55,7 @@ pub record LooksFor (old new : Environment) (ticket : Ticket) (r : Option Answer
   pub same : IsSame before after
   pub hold : HoldsWith before.view after.view [] (if is_some r then without_ticket ticket before.view.posted else before.view.posted)
   pub once : IfSome r (λ a. has ticket after.view.posted ≡ false)
-  pub answer : r ≡ (if has ticket before.view.posted then reply_to before.view.subject.limits after.view.seen ticket else None)
+  pub answer : r ≡ (if is_out before ticket then reply_to before.view.subject.limits after.view.seen ticket else None)
   pub place : IfSome r (λ a. ReplyAtPlace before.view.subject.limits after.view.seen ticket a)
   pub new_is : new ≡ record { env = old.env; state = old.state; desks = slice_set old.desks ticket.thread.0 after }
 
@@ -67,15 +68,15 @@ pub record WaitsFor (old new : Environment) (ticket : Ticket) (r : Option Answer
   pub same : IsSame before after
   pub hold : WaitsWith before.view after.view [] (if is_some r then without_ticket ticket before.view.posted else before.view.posted)
   pub once : IfSome r (λ a. has ticket after.view.posted ≡ false)
-  pub answer : r ≡ (if has ticket before.view.posted then reply_to before.view.subject.limits after.view.seen ticket else None)
+  pub answer : r ≡ (if is_out before ticket then reply_to before.view.subject.limits after.view.seen ticket else None)
   pub place : IfSome r (λ a. ReplyAtPlace before.view.subject.limits after.view.seen ticket a)
   pub new_is : new ≡ record { env = old.env; state = old.state; desks = slice_set old.desks ticket.thread.0 after }
 
--- the ticket is out at the desk of its thread
+-- the ticket is out at the desk of its thread, and was not given up
 pub record IsOut (s : Environment) (k : Ticket) : Type 0 where
   pub desk : Place
   pub there : slice_get s.desks k.thread.0 ≡ Some desk
-  pub out : has k desk.view.posted ≡ true
+  pub out : is_out desk k ≡ true
 
 -- so is the ticket of a call that waits
 abbrev pub IsOutIfWaiting : Environment → AskedOf → Type 0

@@ -24,14 +24,14 @@ use ti_types::{Answer, Call, Caps, EnvNo, Frame, ThreadNo, TiError, TraceBuf};
 
 /// An agent's environment, with a desk at each thread.
 #[derive(Drop)]
-pub struct Env<'a> {
+pub struct Env {
     pub(crate) env: EnvNo,
     pub(crate) state: EnvState,
     /// By the thread's number.
-    pub(crate) desks: Vec<Desk<'a>>,
+    pub(crate) desks: Vec<Desk>,
 }
 
-impl<'a> Model for Env<'a> {
+impl Model for Env {
     ghost use Rattle.ti_agent.specs.Env.{Environment, IsWhole};
 
     ghost Value = { Environment };
@@ -41,14 +41,14 @@ impl<'a> Model for Env<'a> {
     ghost invariant = { λ a. IsWhole (record { env = a.env; state = a.state; desks = a.desks.items }) };
 }
 
-impl<'a> Env<'a> {
+impl Env {
     /// An environment of these desks, desk i at thread i. All are under the limits of the state, and none has made a
     /// call.
-    pub fn new(env: EnvNo, state: EnvState, desks: Vec<Desk<'a>>) -> Env<'a>
+    pub fn new(env: EnvNo, state: EnvState, desks: Vec<Desk>) -> Env
         requires count { length state.spent ≡ length desks.items }
         requires some { 0 < length desks.items }
         requires desks { AreNewDesks env state desks.items }
-        ensures { result ≡ record { env = env; state = state; desks = desks.entry.items } }
+        ensures { result ≡ record { env = env; state = state; desks = desks.items } }
     {
         for desk in &desks {
             desk.facts();
@@ -58,8 +58,8 @@ impl<'a> Env<'a> {
 
     /// Its desks, in the order of the threads' numbers. Their seats may go back to the owners' (`ThreadCell::rejoin`), and
     /// what the environment kept for itself is gone (JVM TI 11, DisposeEnvironment, in so far).
-    pub fn into_desks(self) -> Vec<Desk<'a>>
-        ensures { result.items ≡ self.entry.desks }
+    pub fn into_desks(self) -> Vec<Desk>
+        ensures { result.items ≡ self.desks }
     {
         let Env {
             env: _,

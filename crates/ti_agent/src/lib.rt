@@ -11,6 +11,7 @@
 
 mod answers;
 mod counting;
+mod deadlines;
 mod env;
 mod lists;
 mod posts;

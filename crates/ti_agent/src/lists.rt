@@ -33,7 +33,7 @@ fn code_in(answer: &Answer) -> u32
     }
 }
 
-impl<'a> Env<'a> {
+impl Env {
     /// Posts a call at a thread, or gives the code of its refusal.
     fn post_at<R: Wait>(&mut self, rt: &R, thread: ThreadNo, call: Call) -> Posted
         requires bare { takes_buffer call ≡ false }

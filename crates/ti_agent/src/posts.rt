@@ -18,7 +18,7 @@ use ti_slot::Asked;
 use ti_types::{Answer, Call, Limits, ThreadNo, TiError, Ticket, TraceBuf};
 
 /// The buffer that a call takes.
-fn buffer_for(alloc: Global, limits: Limits, call: Call) -> Result<TraceBuf, TiError>
+pub(crate) fn buffer_for(alloc: Global, limits: Limits, call: Call) -> Result<TraceBuf, TiError>
     requires { is_well_formed call ≡ true }
     ensures room { IfOk result (λ b. IsJustBufferOf limits call b) }
     ensures memory { IfErr result (λ e. (e ≡ OutOfMemory) × (takes_buffer call ≡ true)) }
@@ -32,7 +32,7 @@ fn buffer_for(alloc: Global, limits: Limits, call: Call) -> Result<TraceBuf, TiE
     }
 }
 
-impl<'a> Env<'a> {
+impl Env {
     /// Posts a call at a thread, by one hold: its answer, or a ticket if it waits for the running thread (JEP 312). Such
     /// are the calls that read frames, SuspendThread and PopFrame. It spends one call, also if its answer is never
     /// collected. Other calls of this environment go on beside it.

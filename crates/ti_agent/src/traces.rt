@@ -60,7 +60,7 @@ fn told_of(thread: ThreadNo, answer: Answer) -> StackInfo
 fn read_each<R: Wait>(
     rt: &R,
     standing: &mut Standing<'_, '_>,
-    desks: &mut [Desk<'_>],
+    desks: &mut [Desk],
     state: &mut EnvState,
     threads: &[ThreadNo],
     max_count: i32,
@@ -97,7 +97,7 @@ fn trace_each<R: Wait>(
     rt: &R,
     turn: &mut VmTurn,
     env: EnvNo,
-    desks: &mut [Desk<'_>],
+    desks: &mut [Desk],
     state: &mut EnvState,
     stopping: &[(ThreadNo, u64)],
     threads: &[ThreadNo],
@@ -133,7 +133,7 @@ fn trace_each<R: Wait>(
     standing.go(rt, desks)
 }
 
-impl<'a> Env<'a> {
+impl Env {
     /// How many threads there are, where all may be traced but for memory.
     fn admit_all(&self, max_count: i32) -> Result<u32, TiError>
         ensures count { IfOk result (λ n. n ≡ length self.now.state.spent) }

@@ -1,6 +1,7 @@
 -- Stops and reads of desks that nobody stopped before.
-use Rattle.std.proofs.Common.{◌≡◌, ℕ, ℤ, zero, suc, ◌+◌, ◌<◌, ◌≤◌, List, [], ◌∷◌, length, true, refl, ap, sym, ◌∙◌, arith, subst, Some, None, Option, Bool, eq-eqb, if◌then◌else◌}
-use Rattle.std.specs.Prelude.{slice_get}
+use Rattle.std.proofs.Common.{◌≡◌, ℕ, ℤ, zero, suc, ◌+◌, ◌<◌, ◌≤◌, List, [], ◌∷◌, length, true, refl, ap, sym, ◌∙◌, arith, subst, Some, None, Option, Bool, eq-eqb, if◌then◌else◌, Result, Ok, Err}
+use Rattle.std.specs.Prelude.{slice_get, IfOk}
+use Rattle.std.specs.Result.{result_ok}
 use Rattle.std.proofs.lemmas.List.{length-replicate}
 use Rattle.std.proofs.lemmas.List.Sums.{sum_by-append}
 use Rattle.atomic_table.specs.Seated.{TableId}
@@ -74,6 +75,11 @@ new_out limits i seat p is = ap (λ (v : View). v.posted) (is.view ∙ is.seat_i
 
 new_spent : (state : EnvValue) (limits : Limits) → state ≡ new_env limits → length state.spent ≡ limits.threads
 new_spent state limits is = ap (λ (s : EnvValue). length s.spent) is ∙ length-replicate limits.threads 0
+
+-- what was made, as an option has it
+pub made : (r : Result EnvValue TiError) (limits : Limits) (state : EnvValue) → Some state ≡ result_ok r → IfOk r (λ s. s ≡ new_env limits) → state ≡ new_env limits
+made (Ok s) limits state is new = let same : state ≡ s = cc in same ∙ new
+made (Err e) limits state is new = cc
 
 pub one_whole : (limits : Limits) (state : EnvValue) (seat : Sitting) (p : Place) → limits.threads ≡ 1 → state ≡ new_env limits → IsNewDesk limits (record { 0 = 0 }) seat p
     → IsWhole (record { env = record { 0 = 0 }; state = state; desks = p ∷ [] })

@@ -10,39 +10,39 @@ use std::test::*;
 use std::thread;
 use std::thread::{Threads, join};
 use ti_agent::Env;
-use ti_cell::{EnvSeat, ThreadCell};
+use ti_cell::EnvSeat;
 use ti_env::EnvState;
-use ti_handshake::{AtSafe, Desk, Fresh, Polled, Running};
+use ti_handshake::{AtSafe, Desk, Fresh, Polled, Running, SharedCell};
 use ti_types::{Caps, EnvNo, Limits, MethodNo, Place, Step, ThreadNo, TiError};
 use ti_vmop::VmTurn;
 
 /// How often a loop turns before it gives up.
-pub(crate) const TURNS: u32 = 1_000_000;
+pub(crate) const TURNS: u32 = 100_000_000;
 
 /// How often the second environment asks for the thread's state.
 const STATES: u32 = 100;
 
 /// The environment of a seat, under limits of one thread. `None` where memory runs out.
-pub(crate) fn environment<'a>(
+pub(crate) fn environment(
     alloc: Global,
     limits: Limits,
-    cell: &'a ThreadCell,
+    cell: &SharedCell,
     env: EnvNo,
     seat: EnvSeat,
-) -> Option<Env<'a>>
+) -> Option<Env>
     requires one { limits.threads ≡ 1 }
     requires seat { IsNewSeat cell.now limits (record { 0 = 0 }) env seat }
     ensures desk { IfSome result (λ e. HasDeskAt cell.now e) }
 {
     let state = EnvState::new(alloc, limits).ok()?;
     let mut desks = Vec::with_capacity(alloc, 1).ok()?;
-    desks.push_reserved(Desk::new(cell, seat));
+    desks.push_reserved(Desk::new(cell.share().ok()?, seat));
     Some(Env::new(env, state, desks))
 }
 
 /// The seats of two environments at a thread's cell.
 pub(crate) fn both(
-    cell: &ThreadCell,
+    cell: &SharedCell,
     limits: Limits,
     thread: ThreadNo,
     seats: Vec<EnvSeat>,
@@ -62,7 +62,7 @@ pub(crate) fn both(
 }
 
 /// Polls until the thread is held. Where that does not come, the thread ends, so that nobody waits for it.
-pub(crate) fn await_held<'a, R: Wait>(rt: &R, running: Running<'a>) -> Option<AtSafe<'a>> {
+pub(crate) fn await_held<R: Wait>(rt: &R, running: Running) -> Option<AtSafe> {
     let mut running = running;
     for _ in 0..TURNS {
         if !running.poll_clear() {
@@ -78,7 +78,7 @@ pub(crate) fn await_held<'a, R: Wait>(rt: &R, running: Running<'a>) -> Option<At
 }
 
 /// Tries to return until the thread may.
-fn await_let_go<'a, R: Wait>(rt: &R, held: AtSafe<'a>) -> Option<Running<'a>> {
+fn await_let_go<R: Wait>(rt: &R, held: AtSafe) -> Option<Running> {
     let mut held = held;
     for _ in 0..TURNS {
         match held.try_back(rt) {
@@ -91,7 +91,7 @@ fn await_let_go<'a, R: Wait>(rt: &R, held: AtSafe<'a>) -> Option<Running<'a>> {
 }
 
 /// How many frames the thread has, up to 8: it leaves them.
-fn frames_of(running: &mut Running<'_>) -> u32 {
+fn frames_of(running: &mut Running) -> u32 {
     for frames in 0..8 {
         if running.step(Step::Leave).is_err() {
             return frames;
@@ -101,7 +101,7 @@ fn frames_of(running: &mut Running<'_>) -> u32 {
 }
 
 /// What the thread does: it polls until it is held and runs on once it is let go. How many frames it has then.
-fn run_thread<R: Wait>(rt: &R, running: Running<'_>) -> Option<u32> {
+fn run_thread<R: Wait>(rt: &R, running: Running) -> Option<u32> {
     let held = await_held(rt, running)?;
     let mut running = await_let_go(rt, held)?;
     let frames = frames_of(&mut running);
@@ -110,7 +110,7 @@ fn run_thread<R: Wait>(rt: &R, running: Running<'_>) -> Option<u32> {
 }
 
 /// Whether a global trace tells of the one thread, which is suspended with one frame.
-fn is_traced<R: Wait + AllocGlobal>(rt: &R, env: &mut Env<'_>) -> bool {
+fn is_traced<R: Wait + AllocGlobal>(rt: &R, env: &mut Env) -> bool {
     let turn = Mutex::new(VmTurn::new());
     match env.get_all_stack_traces(rt, rt.alloc(), &turn, 8) {
         Ok((infos, round)) => {
@@ -124,9 +124,18 @@ fn is_traced<R: Wait + AllocGlobal>(rt: &R, env: &mut Env<'_>) -> bool {
     }
 }
 
+/// Whether these are the codes of a list that names the thread, one that there is not, and the thread again. The second
+/// time it is not suspended (13), or it has already ended (15).
+fn are_of_the_resumed(codes: &[u32]) -> bool {
+    match codes {
+        [first, none, again] => *first == 0 && *none == 10 && (*again == 13 || *again == 15),
+        _ => false,
+    }
+}
+
 /// What the first environment is told of a thread that runs with two frames, and what it does there: it counts its frames,
 /// suspends it, reads it, pops a frame, and resumes it. The first call whose answer is not the right one.
-fn inspect<R: Wait + AllocGlobal>(rt: &R, env: Env<'_>) -> Result<(), u32> {
+fn inspect<R: Wait + AllocGlobal>(rt: &R, env: Env) -> Result<(), u32> {
     let mut env = env;
     let thread = ThreadNo(0);
     if env.suspend_thread(rt, thread) != Err(TiError::MustPossessCapability) {
@@ -173,7 +182,7 @@ fn inspect<R: Wait + AllocGlobal>(rt: &R, env: Env<'_>) -> Result<(), u32> {
         return Err(10);
     }
     match env.resume_thread_list(rt, rt.alloc(), &[thread, ThreadNo(1), thread]) {
-        Ok(codes) => if codes.as_slice() != [0, 10, 13].as_slice() {
+        Ok(codes) => if !are_of_the_resumed(codes.as_slice()) {
             return Err(11);
         },
         Err(_) => return Err(11),
@@ -186,7 +195,7 @@ fn inspect<R: Wait + AllocGlobal>(rt: &R, env: Env<'_>) -> Result<(), u32> {
 
 /// What the second environment does meanwhile: it asks for the thread's state, again and again. Whether it was told one
 /// each time.
-fn watch<R: Wait>(rt: &R, env: Env<'_>) -> bool {
+fn watch<R: Wait>(rt: &R, env: Env) -> bool {
     let mut env = env;
     for _ in 0..STATES {
         if env.get_thread_state(rt, ThreadNo(0)).is_err() {
@@ -205,13 +214,13 @@ fn inspected<R: Threads + Wait + Sync + AllocGlobal>(
     requires one { limits.threads ≡ 1 }
     requires envs { limits.envs ≡ 2 }
 {
-    let Ok((cell, own, seats)) = ThreadCell::make(rt.alloc(), limits, ThreadNo(0)) else {
+    let Ok((cell, own, seats)) = SharedCell::make(rt.alloc(), limits, ThreadNo(0)) else {
         return None;
     };
     let (one, two) = both(&cell, limits, ThreadNo(0), seats)?;
     let first = environment(rt.alloc(), limits, &cell, EnvNo(0), one)?;
     let second = environment(rt.alloc(), limits, &cell, EnvNo(1), two)?;
-    let Ok(mut running) = Fresh::new(&cell, own).try_start(rt) else {
+    let Ok(mut running) = Fresh::new(cell, own).try_start(rt) else {
         return None;
     };
     let _outer = running.step(Step::Enter(MethodNo(0)));

@@ -6,16 +6,16 @@ use std::alloc::Global;
 use std::sync::Wait;
 use std::test::*;
 use ti_cell::{OwnSeat, ThreadCell};
-use ti_handshake::Fresh;
+use ti_handshake::{Fresh, SharedCell};
 use ti_slot::Slot;
 use ti_types::{Limits, ThreadNo};
 
 /// Starts the thread, polls by one load, and ends it: whether the poll was clear, and the thread's seat.
-fn poll_once<R: Wait>(rt: &R, cell: &ThreadCell, own: OwnSeat) -> (bool, OwnSeat)
-    requires cell { own.cell ≡ cell.now }
+fn poll_once<R: Wait>(rt: &R, cell: SharedCell, own: OwnSeat) -> (bool, OwnSeat)
+    requires cell { own.cell ≡ cell }
     requires owner { own.view.number ≡ 0 }
     requires none { own.view.mine ≡ [] }
-    ensures cell { result.1.cell ≡ cell.now }
+    ensures cell { result.1.cell ≡ cell }
     ensures polled { HasPolled result.0 result.1.view }
 {
     let mut running = Fresh::new(cell, own).start(rt);
@@ -39,11 +39,11 @@ fn finish(cell: ThreadCell, own: OwnSeat, clear: bool) -> Option<Slot>
 fn polled_once<R: Wait>(rt: &R, alloc: Global, limits: Limits) -> Option<(bool, Slot)>
     ensures calm { IfSome result (λ s. s.0 ≡ true → WasCalm s.1.limits s.1.history) }
 {
-    let Ok((cell, own, _seats)) = ThreadCell::make(alloc, limits, ThreadNo(0)) else {
+    let Ok((cell, own, _seats)) = SharedCell::make(alloc, limits, ThreadNo(0)) else {
         return None;
     };
-    let (clear, own) = poll_once(rt, &cell, own);
-    let slot = finish(cell, own, clear)?;
+    let (clear, own) = poll_once(rt, cell.share().ok()?, own);
+    let slot = finish(cell.into_cell()?, own, clear)?;
     Some((clear, slot))
 }
 

@@ -10,8 +10,7 @@ use std::sync::Wait;
 use std::test::*;
 use std::time::{Duration, Instant};
 use ti_agent::Env;
-use ti_cell::ThreadCell;
-use ti_handshake::Running;
+use ti_handshake::{Running, SharedCell};
 use ti_types::{Answer, EnvNo, Limits, MethodNo, ThreadNo, Ticket};
 
 /// How long an environment waits for a thread that does not poll.
@@ -20,7 +19,7 @@ fn some_time() -> Duration {
 }
 
 /// The environment waits until its time is over, and the call is out as before.
-fn wait_in_vain<R: Wait + Clock>(rt: &R, env: &mut Env<'_>, ticket: Ticket) -> Result<(), Fail> {
+fn wait_in_vain<R: Wait + Clock>(rt: &R, env: &mut Env, ticket: Ticket) -> Result<(), Fail> {
     let Ok(began) = Instant::now(rt) else {
         return Err("there is a clock".into());
     };
@@ -35,11 +34,11 @@ fn wait_in_vain<R: Wait + Clock>(rt: &R, env: &mut Env<'_>, ticket: Ticket) -> R
 }
 
 /// A wait in vain, one whose answer is there, and one for a call that was collected.
-fn wait_in_turn<'a, R: Wait + Clock + AllocGlobal>(
+fn wait_in_turn<R: Wait + Clock + AllocGlobal>(
     rt: &R,
-    env: &mut Env<'_>,
-    running: Running<'a>,
-) -> Result<Running<'a>, Fail> {
+    env: &mut Env,
+    running: Running,
+) -> Result<Running, Fail> {
     let ticket = post_count(rt, env)?;
     wait_in_vain(rt, env, ticket)?;
     let running = answer_all(rt, running)?;
@@ -56,7 +55,7 @@ fn ask_one<R: Wait + Clock + AllocGlobal>(rt: &R, limits: Limits) -> Result<(), 
     requires threads { limits.threads ≡ 1 }
     requires envs { limits.envs ≡ 2 }
 {
-    let Ok((cell, own, seats)) = ThreadCell::make(rt.alloc(), limits, ThreadNo(0)) else {
+    let Ok((cell, own, seats)) = SharedCell::make(rt.alloc(), limits, ThreadNo(0)) else {
         return Err("there is memory".into());
     };
     let Some((one, _seat)) = both(&cell, limits, ThreadNo(0), seats) else {
@@ -65,7 +64,7 @@ fn ask_one<R: Wait + Clock + AllocGlobal>(rt: &R, limits: Limits) -> Result<(), 
     let Some(mut env) = environment(rt.alloc(), limits, &cell, EnvNo(0), one) else {
         return Err("there is memory".into());
     };
-    let running = start_in(rt, &cell, own, MethodNo(0))?;
+    let running = start_in(rt, cell, own, MethodNo(0))?;
     let running = wait_in_turn(rt, &mut env, running)?;
     let _ended = running.end(rt);
     Ok(())

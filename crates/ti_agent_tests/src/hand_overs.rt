@@ -3,15 +3,15 @@ ghost use Rattle.std.specs.Prelude.{ℕ, ◌≡◌, ◌+◌, ◌≤◌, true, []
 ghost use Rattle.atomic_table.specs.Seated.{TableId};
 ghost use Rattle.ti_types.specs.Frames.{Trace};
 ghost use Rattle.ti_replay.specs.Legal.{is_well_formed};
-ghost use Rattle.ti_slot.specs.Tickets.{has};
 ghost use Rattle.ti_slot.specs.Waiting.{IsBufferOf};
+ghost use Rattle.ti_handshake.specs.Desk.{is_out};
 ghost use Rattle.ti_agent_tests.specs.HandOvers.{MayCall};
 
 use crate::agents::both;
 use std::sync::Wait;
 use std::test::*;
-use ti_cell::{EnvSeat, OwnSeat, ThreadCell};
-use ti_handshake::{AtSafe, Desk, Fresh, Polled, Running};
+use ti_cell::{EnvSeat, OwnSeat};
+use ti_handshake::{AtSafe, Desk, Fresh, Polled, Running, SharedCell};
 use ti_slot::{Asked, Slot};
 use ti_types::{Answer, Call, Limits, MethodNo, Step, ThreadNo, TiError, Ticket, TraceBuf};
 
@@ -21,12 +21,12 @@ pub(crate) fn expect(holds: bool, what: &'static str) -> Result<(), Fail> {
 }
 
 /// Asks the thread a call that waits for it: the ticket.
-fn ask<R: Wait>(rt: &R, desk: &mut Desk<'_>, call: Call) -> Result<Ticket, Fail>
+fn ask<R: Wait>(rt: &R, desk: &mut Desk, call: Call) -> Result<Ticket, Fail>
     requires well_formed { is_well_formed call ≡ true }
     requires no_buffer { (b : Trace) → IsBufferOf desk.old.view.subject.limits call b }
     requires desk { MayCall desk.old.cell 1 desk.old }
     ensures desk { (cell : TableId) (left : ℕ) → MayCall cell (left + 1) desk.old → MayCall cell left desk.new }
-    ensures ticket { IfOk result (λ t. has t desk.new.view.posted ≡ true) }
+    ensures out { IfOk result (λ t. is_out desk.new t ≡ true) }
 {
     let Asked::Waiting(ticket) = desk.post(rt, call, TraceBuf::none()) else {
         return Err("the call waits for the thread".into());
@@ -35,22 +35,22 @@ fn ask<R: Wait>(rt: &R, desk: &mut Desk<'_>, call: Call) -> Result<Ticket, Fail>
 }
 
 /// A hold of another environment, where there is one: it asks whether its stop stands, and adds nothing.
-fn hold_between<R: Wait>(rt: &R, other: &mut Option<Desk<'_>>) {
+fn hold_between<R: Wait>(rt: &R, other: &mut Option<Desk>) {
     if let Some(desk) = other {
         let _stands = desk.standing(rt);
     }
 }
 
 /// The answer to a call that waited.
-fn answer_to<R: Wait>(rt: &R, desk: &mut Desk<'_>, ticket: Ticket) -> Answer
-    requires posted { has ticket desk.old.view.posted ≡ true }
+fn answer_to<R: Wait>(rt: &R, desk: &mut Desk, ticket: Ticket) -> Answer
+    requires out { is_out desk.old ticket ≡ true }
     ensures desk { (cell : TableId) (left : ℕ) → MayCall cell left desk.old → MayCall cell left desk.new }
 {
     desk.collect(rt, ticket)
 }
 
 /// Resumes the thread.
-fn resume<R: Wait>(rt: &R, desk: &mut Desk<'_>) -> Answer
+fn resume<R: Wait>(rt: &R, desk: &mut Desk) -> Answer
     requires desk { MayCall desk.old.cell 1 desk.old }
     ensures desk { (cell : TableId) (left : ℕ) → MayCall cell (left + 1) desk.old → MayCall cell left desk.new }
 {
@@ -58,11 +58,11 @@ fn resume<R: Wait>(rt: &R, desk: &mut Desk<'_>) -> Answer
 }
 
 /// The thread starts and enters a method, while nobody calls for it. It may not go into native code from there (207).
-fn start<'a, R: Wait>(rt: &R, cell: &'a ThreadCell, own: OwnSeat) -> Result<Running<'a>, Fail>
-    requires cell { own.cell ≡ cell.now }
+fn start<R: Wait>(rt: &R, cell: SharedCell, own: OwnSeat) -> Result<Running, Fail>
+    requires cell { own.cell ≡ cell }
     requires owner { own.view.number ≡ 0 }
     requires none { own.view.mine ≡ [] }
-    ensures cell { IfOk result (λ r. r.cell ≡ cell.now) }
+    ensures cell { IfOk result (λ r. r.cell ≡ cell) }
 {
     let Ok(mut running) = Fresh::new(cell, own).try_start(rt) else {
         return Err("no stop stands".into());
@@ -80,8 +80,8 @@ fn start<'a, R: Wait>(rt: &R, cell: &'a ThreadCell, own: OwnSeat) -> Result<Runn
 }
 
 /// The thread enters another method and polls. It is called for, and goes on at once.
-fn enter_and_poll<'a, R: Wait>(rt: &R, running: Running<'a>) -> Result<Running<'a>, Fail>
-    ensures cell { IfOk result (λ r. r.cell ≡ running.entry.cell) }
+fn enter_and_poll<R: Wait>(rt: &R, running: Running) -> Result<Running, Fail>
+    ensures cell { IfOk result (λ r. r.cell ≡ running.cell) }
 {
     let mut running = running;
     expect(!running.poll_clear(), "the thread is called for")?;
@@ -96,8 +96,8 @@ fn enter_and_poll<'a, R: Wait>(rt: &R, running: Running<'a>) -> Result<Running<'
 }
 
 /// The thread polls, and is held.
-fn poll_and_rest<'a, R: Wait>(rt: &R, running: Running<'a>) -> Result<AtSafe<'a>, Fail>
-    ensures cell { IfOk result (λ s. s.cell ≡ running.entry.cell) }
+fn poll_and_rest<R: Wait>(rt: &R, running: Running) -> Result<AtSafe, Fail>
+    ensures cell { IfOk result (λ s. s.cell ≡ running.cell) }
 {
     match running.poll(rt) {
         Polled::Held(held) => Ok(held),
@@ -106,15 +106,15 @@ fn poll_and_rest<'a, R: Wait>(rt: &R, running: Running<'a>) -> Result<AtSafe<'a>
 }
 
 /// A call that waits is answered where the thread polls, as the thread is then.
-fn count_frames<'a, R: Wait>(
+fn count_frames<R: Wait>(
     rt: &R,
-    running: Running<'a>,
-    desk: &mut Desk<'_>,
-    other: &mut Option<Desk<'_>>,
-) -> Result<Running<'a>, Fail>
+    running: Running,
+    desk: &mut Desk,
+    other: &mut Option<Desk>,
+) -> Result<Running, Fail>
     requires desk { MayCall desk.old.cell 3 desk.old }
     ensures desk { IfOk result (λ _. MayCall desk.old.cell 2 desk.new) }
-    ensures cell { IfOk result (λ r. r.cell ≡ running.entry.cell) }
+    ensures cell { IfOk result (λ r. r.cell ≡ running.cell) }
 {
     let ticket = ask(rt, desk, Call::FrameCount)?;
     expect(desk.seen_len() == 2, "2 entries are seen")?;
@@ -130,15 +130,15 @@ fn count_frames<'a, R: Wait>(
 }
 
 /// A thread that is suspended rests at its poll.
-fn suspend<'a, R: Wait>(
+fn suspend<R: Wait>(
     rt: &R,
-    running: Running<'a>,
-    desk: &mut Desk<'_>,
-    other: &mut Option<Desk<'_>>,
-) -> Result<AtSafe<'a>, Fail>
+    running: Running,
+    desk: &mut Desk,
+    other: &mut Option<Desk>,
+) -> Result<AtSafe, Fail>
     requires desk { MayCall desk.old.cell 2 desk.old }
     ensures desk { IfOk result (λ _. MayCall desk.old.cell 1 desk.new) }
-    ensures cell { IfOk result (λ s. s.cell ≡ running.entry.cell) }
+    ensures cell { IfOk result (λ s. s.cell ≡ running.cell) }
 {
     let mut running = running;
     expect(running.poll_clear(), "nobody calls for the thread")?;
@@ -157,13 +157,13 @@ fn suspend<'a, R: Wait>(
 /// The thread may not return (206) until it is resumed, and then ends: its seat.
 fn resume_and_end<R: Wait>(
     rt: &R,
-    held: AtSafe<'_>,
-    desk: &mut Desk<'_>,
-    other: &mut Option<Desk<'_>>,
+    held: AtSafe,
+    desk: &mut Desk,
+    other: &mut Option<Desk>,
 ) -> Result<OwnSeat, Fail>
     requires desk { MayCall desk.old.cell 1 desk.old }
     ensures desk { IfOk result (λ _. desk.new.cell ≡ desk.old.cell) }
-    ensures cell { IfOk result (λ s. s.cell ≡ held.entry.cell) }
+    ensures cell { IfOk result (λ s. s.cell ≡ held.cell) }
     ensures owner { IfOk result (λ s. s.view.number ≡ 0) }
 {
     let Err((error, held)) = held.try_back(rt) else {
@@ -185,10 +185,10 @@ fn resume_and_end<R: Wait>(
 /// What the thread and an environment do in turn, with another's holds in between: the seats that they have then.
 fn in_turn<R: Wait>(
     rt: &R,
-    cell: &ThreadCell,
+    cell: &SharedCell,
     own: OwnSeat,
     seat: EnvSeat,
-    other: Option<Desk<'_>>,
+    other: Option<Desk>,
 ) -> Result<(OwnSeat, EnvSeat), Fail>
     requires own { (own.cell ≡ cell.now) × (own.view.number ≡ 0) × (own.view.mine ≡ []) }
     requires seat { (seat.cell ≡ cell.now) × (seat.view.number ≡ 1) × (seat.view.mine ≡ []) × (seat.view.posted ≡ []) }
@@ -196,9 +196,9 @@ fn in_turn<R: Wait>(
     ensures own { IfOk result (λ s. (s.0.cell ≡ cell.now) × (s.0.view.number ≡ 0)) }
     ensures seat { IfOk result (λ s. s.1.cell ≡ cell.now) }
 {
-    let mut desk = Desk::new(cell, seat);
+    let mut desk = Desk::new(cell.share()?, seat);
     let mut other = other;
-    let running = start(rt, cell, own)?;
+    let running = start(rt, cell.share()?, own)?;
     hold_between(rt, &mut other);
     let running = count_frames(rt, running, &mut desk, &mut other)?;
     hold_between(rt, &mut other);
@@ -209,10 +209,11 @@ fn in_turn<R: Wait>(
 }
 
 /// The slot of a cell whose seats come back.
-pub(crate) fn close(cell: ThreadCell, own: OwnSeat, seat: EnvSeat) -> Option<Slot>
+pub(crate) fn close(cell: SharedCell, own: OwnSeat, seat: EnvSeat) -> Option<Slot>
     requires own { (own.cell ≡ cell) × (own.view.number ≡ 0) }
     requires seat { seat.cell ≡ cell }
 {
+    let cell = cell.into_cell()?;
     let mut own = own;
     cell.rejoin(&mut own, seat);
     cell.close(own)
@@ -222,7 +223,7 @@ pub(crate) fn close(cell: ThreadCell, own: OwnSeat, seat: EnvSeat) -> Option<Slo
 #[test]
 fn a_thread_hands_over_to_one_environment(rt: HostRuntime) -> Result<(), Fail> {
     let limits = Limits::new(2, 1, 4, 32, 8).ok_or("the limits are in range")?;
-    let Ok((cell, own, mut seats)) = ThreadCell::make(rt.alloc(), limits, ThreadNo(0)) else {
+    let Ok((cell, own, mut seats)) = SharedCell::make(rt.alloc(), limits, ThreadNo(0)) else {
         return Err("there is memory".into());
     };
     let seat = seats.pop().ok_or("there is an environment")?;
@@ -238,13 +239,13 @@ fn another_environment_holds_in_between(rt: HostRuntime) -> Result<(), Fail> {
     let Some(limits) = Limits::new(2, 2, 4, 32, 8) else {
         return Err("the limits are in range".into());
     };
-    let Ok((cell, own, seats)) = ThreadCell::make(rt.alloc(), limits, ThreadNo(0)) else {
+    let Ok((cell, own, seats)) = SharedCell::make(rt.alloc(), limits, ThreadNo(0)) else {
         return Err("there is memory".into());
     };
     let (seat, second) = both(&cell, limits, ThreadNo(0), seats).ok_or(
         "there are two environments",
     )?;
-    let other = Desk::new(&cell, second);
+    let other = Desk::new(cell.share()?, second);
     let (own, seat) = in_turn(&rt, &cell, own, seat, Some(other))?;
     let slot = close(cell, own, seat).ok_or("the thread's seat is back")?;
     assert_eq!(rt; slot.len(), 11);

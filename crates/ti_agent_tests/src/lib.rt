@@ -7,6 +7,8 @@
 #[cfg(test)]
 mod agents;
 #[cfg(test)]
+mod cancelled;
+#[cfg(test)]
 mod cells;
 #[cfg(test)]
 mod clear_polls;

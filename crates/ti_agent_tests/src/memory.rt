@@ -9,7 +9,8 @@ use crate::traces::seat_of;
 use std::sync::{Mutex, Wait};
 use std::test::*;
 use ti_agent::Env;
-use ti_cell::{EnvSeat, ThreadCell};
+use ti_cell::EnvSeat;
+use ti_handshake::SharedCell;
 use ti_types::{EnvNo, Limits, ThreadNo, TiError};
 use ti_vmop::VmTurn;
 
@@ -20,8 +21,8 @@ const T: ThreadNo = ThreadNo(0);
 /// Traces all threads: the environment's seat where memory ran out, and else `None`.
 fn trace_all<R: Wait + AllocGlobal>(
     rt: &R,
-    cell: &ThreadCell,
-    env: Env<'_>,
+    cell: &SharedCell,
+    env: Env,
 ) -> Result<Option<EnvSeat>, Fail>
     requires desk { HasDeskAt cell.now env }
     ensures seat { IfOk result (λ told. IfSome told (λ s. s.cell ≡ cell.now)) }
@@ -47,8 +48,8 @@ fn trace_all<R: Wait + AllocGlobal>(
 /// Traces the thread twice: the environment's seat where memory ran out, and else `None`.
 fn trace_twice<R: Wait + AllocGlobal>(
     rt: &R,
-    cell: &ThreadCell,
-    env: Env<'_>,
+    cell: &SharedCell,
+    env: Env,
 ) -> Result<Option<EnvSeat>, Fail>
     requires desk { HasDeskAt cell.now env }
     ensures seat { IfOk result (λ told. IfSome told (λ s. s.cell ≡ cell.now)) }
@@ -76,7 +77,7 @@ fn a_refused_trace_of_all_stops_nobody(rt: HostRuntime) -> Result<(), Fail> {
     let Some(limits) = Limits::new(1, 1, 4, 32, 8) else {
         return Err("the limits are in range".into());
     };
-    let Ok((cell, own, mut seats)) = ThreadCell::make(rt.alloc(), limits, T) else {
+    let Ok((cell, own, mut seats)) = SharedCell::make(rt.alloc(), limits, T) else {
         return Ok(());
     };
     let seat = seats.pop().ok_or("there is an environment")?;
@@ -96,7 +97,7 @@ fn a_refused_trace_of_a_list_stops_nobody(rt: HostRuntime) -> Result<(), Fail> {
     let Some(limits) = Limits::new(1, 1, 4, 32, 8) else {
         return Err("the limits are in range".into());
     };
-    let Ok((cell, own, mut seats)) = ThreadCell::make(rt.alloc(), limits, T) else {
+    let Ok((cell, own, mut seats)) = SharedCell::make(rt.alloc(), limits, T) else {
         return Ok(());
     };
     let seat = seats.pop().ok_or("there is an environment")?;

@@ -7,8 +7,8 @@ use crate::together::environment;
 use std::sync::Wait;
 use std::test::*;
 use ti_agent::Env;
-use ti_cell::{OwnSeat, ThreadCell};
-use ti_handshake::{Fresh, Polled, Running};
+use ti_cell::OwnSeat;
+use ti_handshake::{Fresh, Polled, Running, SharedCell};
 use ti_slot::Asked;
 use ti_types::{Answer, Call, EnvNo, Limits, MethodNo, Step, ThreadNo, TiError, Ticket};
 
@@ -21,7 +21,7 @@ const TRACE: Call = Call::Trace {
 /// Asks a thread that runs for its trace.
 fn post_trace<R: Wait + AllocGlobal>(
     rt: &R,
-    env: &mut Env<'_>,
+    env: &mut Env,
     thread: ThreadNo,
 ) -> Result<Ticket, Fail> {
     match env.post(rt, rt.alloc(), thread, TRACE) {
@@ -42,7 +42,7 @@ fn is_in(answer: &Option<Answer>, method: MethodNo) -> bool {
 }
 
 /// The thread polls, answers who waits, and goes on.
-pub(crate) fn answer_all<'a, R: Wait>(rt: &R, running: Running<'a>) -> Result<Running<'a>, Fail> {
+pub(crate) fn answer_all<R: Wait>(rt: &R, running: Running) -> Result<Running, Fail> {
     match running.poll(rt) {
         Polled::Go(running) => Ok(running),
         Polled::Held(_) => Err("nothing bars it".into()),
@@ -50,13 +50,13 @@ pub(crate) fn answer_all<'a, R: Wait>(rt: &R, running: Running<'a>) -> Result<Ru
 }
 
 /// A thread that runs in a method.
-pub(crate) fn start_in<'a, R: Wait>(
+pub(crate) fn start_in<R: Wait>(
     rt: &R,
-    cell: &'a ThreadCell,
+    cell: SharedCell,
     own: OwnSeat,
     method: MethodNo,
-) -> Result<Running<'a>, Fail>
-    requires cell { own.cell ≡ cell.now }
+) -> Result<Running, Fail>
+    requires cell { own.cell ≡ cell }
     requires owner { own.view.number ≡ 0 }
     requires none { own.view.mine ≡ [] }
 {
@@ -73,9 +73,9 @@ pub(crate) fn start_in<'a, R: Wait>(
 /// Both traces are out at once, and each is there once its own thread has polled, and is given once.
 fn trace_both<R: Wait + AllocGlobal>(
     rt: &R,
-    env: &mut Env<'_>,
-    first: Running<'_>,
-    second: Running<'_>,
+    env: &mut Env,
+    first: Running,
+    second: Running,
 ) -> Result<(), Fail> {
     let one = post_trace(rt, env, ThreadNo(0))?;
     let two = post_trace(rt, env, ThreadNo(1))?;
@@ -117,11 +117,11 @@ fn trace_both<R: Wait + AllocGlobal>(
 }
 
 /// A call that waits is collected by its ticket.
-fn count_later<'a, R: Wait + AllocGlobal>(
+fn count_later<R: Wait + AllocGlobal>(
     rt: &R,
-    env: &mut Env<'_>,
-    running: Running<'a>,
-) -> Result<Running<'a>, Fail> {
+    env: &mut Env,
+    running: Running,
+) -> Result<Running, Fail> {
     match env.post(rt, rt.alloc(), ThreadNo(0), Call::FrameCount) {
         Ok(Asked::Waiting(ticket)) => {
             let running = answer_all(rt, running)?;
@@ -135,7 +135,7 @@ fn count_later<'a, R: Wait + AllocGlobal>(
 }
 
 /// A state is told at once, and what may not be asked reaches no thread.
-fn ask_at_once<R: Wait + AllocGlobal>(rt: &R, env: &mut Env<'_>) -> Result<(), Fail> {
+fn ask_at_once<R: Wait + AllocGlobal>(rt: &R, env: &mut Env) -> Result<(), Fail> {
     match env.post(rt, rt.alloc(), ThreadNo(0), Call::State) {
         Ok(Asked::Answered(Answer::State(5))) => {}
         _ => return Err("it is alive and runs".into()),
@@ -164,10 +164,10 @@ fn ask_both<R: Wait + AllocGlobal>(rt: &R, limits: Limits) -> Result<(), Fail>
     requires envs { limits.envs ≡ 2 }
 {
     let alloc = rt.alloc();
-    let Ok((first, own_first, seats_first)) = ThreadCell::make(alloc, limits, ThreadNo(0)) else {
+    let Ok((first, own_first, seats_first)) = SharedCell::make(alloc, limits, ThreadNo(0)) else {
         return Err("there is memory".into());
     };
-    let Ok((second, own_second, seats_second)) = ThreadCell::make(alloc, limits, ThreadNo(1)) else {
+    let Ok((second, own_second, seats_second)) = SharedCell::make(alloc, limits, ThreadNo(1)) else {
         return Err("there is memory".into());
     };
     let Some((one, _seat)) = both(&first, limits, ThreadNo(0), seats_first) else {
@@ -179,8 +179,8 @@ fn ask_both<R: Wait + AllocGlobal>(rt: &R, limits: Limits) -> Result<(), Fail>
     let Some(mut env) = environment(alloc, limits, &first, one, &second, two) else {
         return Err("there is memory".into());
     };
-    let first = start_in(rt, &first, own_first, MethodNo(0))?;
-    let second = start_in(rt, &second, own_second, MethodNo(1))?;
+    let first = start_in(rt, first, own_first, MethodNo(0))?;
+    let second = start_in(rt, second, own_second, MethodNo(1))?;
     ask_at_once(rt, &mut env)?;
     let first = count_later(rt, &mut env, first)?;
     trace_both(rt, &mut env, first, second)?;

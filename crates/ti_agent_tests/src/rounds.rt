@@ -11,9 +11,9 @@ use crate::hand_overs::expect;
 use std::alloc::Global;
 use std::sync::Wait;
 use std::test::*;
-use ti_cell::{EnvSeat, OwnSeat, ThreadCell};
+use ti_cell::{EnvSeat, OwnSeat};
 use ti_env::EnvState;
-use ti_handshake::{AtSafe, Desk, Fresh, Running};
+use ti_handshake::{AtSafe, Desk, Fresh, Running, SharedCell};
 use ti_types::{
     Answer, EnvNo, Frame, Kind, Limits, MethodNo, Place, Step, ThreadNo, TiError, TraceBuf,
 };
@@ -34,12 +34,12 @@ fn tells(answer: &Answer, bits: u32, frames: &[Frame]) -> bool {
 }
 
 /// A thread that started, entered a method, and waits for an object.
-pub(crate) fn waiting_thread<'a, R: Wait>(
+pub(crate) fn waiting_thread<R: Wait>(
     rt: &R,
-    cell: &'a ThreadCell,
+    cell: SharedCell,
     own: OwnSeat,
-) -> Result<AtSafe<'a>, Fail>
-    requires cell { own.cell ≡ cell.now }
+) -> Result<AtSafe, Fail>
+    requires cell { own.cell ≡ cell }
     requires owner { own.view.number ≡ 0 }
     requires none { own.view.mine ≡ [] }
 {
@@ -57,8 +57,8 @@ pub(crate) fn waiting_thread<'a, R: Wait>(
 }
 
 /// A thread starts and ends.
-pub(crate) fn run_out<R: Wait>(rt: &R, cell: &ThreadCell, own: OwnSeat) -> Result<(), Fail>
-    requires cell { own.cell ≡ cell.now }
+pub(crate) fn run_out<R: Wait>(rt: &R, cell: SharedCell, own: OwnSeat) -> Result<(), Fail>
+    requires cell { own.cell ≡ cell }
     requires owner { own.view.number ≡ 0 }
     requires none { own.view.mine ≡ [] }
 {
@@ -71,13 +71,13 @@ pub(crate) fn run_out<R: Wait>(rt: &R, cell: &ThreadCell, own: OwnSeat) -> Resul
 
 /// Stops both threads, reads each once, and lets them go, while the first, which waits for an object, tries to return: it
 /// may not (206). The second has ended.
-fn stop_and_read<'c, R: Wait>(
+fn stop_and_read<R: Wait>(
     rt: &R,
-    desks: &mut [Desk<'_>],
+    desks: &mut [Desk],
     state: &mut EnvState,
-    waiting: AtSafe<'c>,
+    waiting: AtSafe,
     bufs: (TraceBuf, TraceBuf),
-) -> Result<AtSafe<'c>, Fail>
+) -> Result<AtSafe, Fail>
     requires whole { IsWhole (record { env = record { 0 = 0 }; state = state.old; desks = desks.old }) }
     requires two { length desks.old ≡ 2 }
     requires first { HasRoomFor state.old.limits 4 bufs.0 }
@@ -113,14 +113,14 @@ fn stop_and_read<'c, R: Wait>(
 }
 
 /// What an environment keeps for itself, and its desk at each of two threads. `None` where memory runs out.
-pub(crate) fn at_two<'a>(
+pub(crate) fn at_two(
     alloc: Global,
     limits: Limits,
-    first: &'a ThreadCell,
+    first: &SharedCell,
     one: EnvSeat,
-    second: &'a ThreadCell,
+    second: &SharedCell,
     two: EnvSeat,
-) -> Option<(EnvState, Vec<Desk<'a>>)>
+) -> Option<(EnvState, Vec<Desk>)>
     requires threads { limits.threads ≡ 2 }
     requires one { IsNewSeat first.now limits (record { 0 = 0 }) (record { 0 = 0 }) one }
     requires two { IsNewSeat second.now limits (record { 0 = 1 }) (record { 0 = 0 }) two }
@@ -131,18 +131,18 @@ pub(crate) fn at_two<'a>(
 {
     let state = EnvState::new(alloc, limits).ok()?;
     let mut desks = Vec::with_capacity(alloc, 2).ok()?;
-    desks.push_reserved(Desk::new(first, one));
-    desks.push_reserved(Desk::new(second, two));
+    desks.push_reserved(Desk::new(first.share().ok()?, one));
+    desks.push_reserved(Desk::new(second.share().ok()?, two));
     Some((state, desks))
 }
 
 /// What an environment keeps for itself, and its desk at the one thread. `None` where memory runs out.
-fn at_one<'a>(
+fn at_one(
     alloc: Global,
     limits: Limits,
-    cell: &'a ThreadCell,
+    cell: &SharedCell,
     seat: EnvSeat,
-) -> Option<(EnvState, Vec<Desk<'a>>)>
+) -> Option<(EnvState, Vec<Desk>)>
     requires threads { limits.threads ≡ 1 }
     requires seat { IsNewSeat cell.now limits (record { 0 = 0 }) (record { 0 = 0 }) seat }
     ensures one { IfSome result (λ r. length r.1.items ≡ 1) }
@@ -151,7 +151,7 @@ fn at_one<'a>(
 {
     let state = EnvState::new(alloc, limits).ok()?;
     let mut desks = Vec::with_capacity(alloc, 1).ok()?;
-    desks.push_reserved(Desk::new(cell, seat));
+    desks.push_reserved(Desk::new(cell.share().ok()?, seat));
     Some((state, desks))
 }
 
@@ -163,11 +163,11 @@ fn a_round_over_two_threads(rt: HostRuntime) -> Result<(), Fail> {
         return Err("the limits are in range".into());
     };
     let alloc = rt.alloc();
-    let Ok((first, own_first, mut seats_first)) = ThreadCell::make(alloc, limits, ThreadNo(0))
+    let Ok((first, own_first, mut seats_first)) = SharedCell::make(alloc, limits, ThreadNo(0))
     else {
         return Err("there is memory".into());
     };
-    let Ok((second, own_second, mut seats_second)) = ThreadCell::make(alloc, limits, ThreadNo(1))
+    let Ok((second, own_second, mut seats_second)) = SharedCell::make(alloc, limits, ThreadNo(1))
     else {
         return Err("there is memory".into());
     };
@@ -182,8 +182,8 @@ fn a_round_over_two_threads(rt: HostRuntime) -> Result<(), Fail> {
     ) else {
         return Err("there is memory".into());
     };
-    let waiting = waiting_thread(&rt, &first, own_first)?;
-    run_out(&rt, &second, own_second)?;
+    let waiting = waiting_thread(&rt, first, own_first)?;
+    run_out(&rt, second, own_second)?;
     let waiting = stop_and_read(&rt, &mut desks, &mut state, waiting, (one, two))?;
     let Ok(_running) = waiting.try_back(&rt) else {
         return Err("no stop stands".into());
@@ -194,7 +194,7 @@ fn a_round_over_two_threads(rt: HostRuntime) -> Result<(), Fail> {
 }
 
 /// Tries to stop the thread, without waiting for another's stop.
-fn try_stop<R: Wait>(rt: &R, desk: &mut Desk<'_>) -> Answer
+fn try_stop<R: Wait>(rt: &R, desk: &mut Desk) -> Answer
     requires desk { MayCall desk.old.cell 1 desk.old }
     ensures desk { (cell : TableId) (left : ℕ) → MayCall cell (left + 1) desk.old → MayCall cell left desk.new }
 {
@@ -203,14 +203,14 @@ fn try_stop<R: Wait>(rt: &R, desk: &mut Desk<'_>) -> Answer
 
 /// An environment's stop at a thread that has not started, and what another's desk and the thread come to meanwhile: the
 /// thread again, and what was read of it.
-fn stop_before_start<'c, R: Wait>(
+fn stop_before_start<R: Wait>(
     rt: &R,
-    desks: &mut [Desk<'_>],
+    desks: &mut [Desk],
     state: &mut EnvState,
-    other: &mut Desk<'_>,
-    fresh: Fresh<'c>,
+    other: &mut Desk,
+    fresh: Fresh,
     buf: TraceBuf,
-) -> Result<Fresh<'c>, Fail>
+) -> Result<Fresh, Fail>
     requires whole { IsWhole (record { env = record { 0 = 0 }; state = state.old; desks = desks.old }) }
     requires one { length desks.old ≡ 1 }
     requires other { MayCall other.old.cell 2 other.old }
@@ -239,11 +239,7 @@ fn stop_before_start<'c, R: Wait>(
 }
 
 /// Another environment's stop, where the first one's is gone: the thread may start once it is gone too.
-fn start_behind_stop<'c, R: Wait>(
-    rt: &R,
-    other: &mut Desk<'_>,
-    fresh: Fresh<'c>,
-) -> Result<Running<'c>, Fail>
+fn start_behind_stop<R: Wait>(rt: &R, other: &mut Desk, fresh: Fresh) -> Result<Running, Fail>
     requires other { MayCall other.old.cell 1 other.old }
 {
     expect(
@@ -268,18 +264,18 @@ fn two_stops_before_a_start(rt: HostRuntime) -> Result<(), Fail> {
         return Err("the limits are in range".into());
     };
     let alloc = rt.alloc();
-    let Ok((cell, own, seats)) = ThreadCell::make(alloc, limits, ThreadNo(0)) else {
+    let Ok((cell, own, seats)) = SharedCell::make(alloc, limits, ThreadNo(0)) else {
         return Err("there is memory".into());
     };
     let (one, two) = both(&cell, limits, ThreadNo(0), seats).ok_or("there are two environments")?;
     let Some((mut state, mut desks)) = at_one(alloc, limits, &cell, one) else {
         return Err("there is memory".into());
     };
-    let mut other = Desk::new(&cell, two);
+    let mut other = Desk::new(cell.share()?, two);
     let Ok(buf) = TraceBuf::make(alloc, FRAMES, 4) else {
         return Err("there is memory".into());
     };
-    let fresh = Fresh::new(&cell, own);
+    let fresh = Fresh::new(cell, own);
     let fresh = stop_before_start(&rt, &mut desks, &mut state, &mut other, fresh, buf)?;
     let running = start_behind_stop(&rt, &mut other, fresh)?;
     let _ended = running.end(&rt);

@@ -13,8 +13,8 @@ use std::test::*;
 use std::thread;
 use std::thread::{Threads, join};
 use ti_agent::Env;
-use ti_cell::{EnvSeat, ThreadCell};
-use ti_handshake::{AtSafe, Fresh, Running};
+use ti_cell::EnvSeat;
+use ti_handshake::{AtSafe, Fresh, Running, SharedCell};
 use ti_types::{Caps, EnvNo, Limits, StackInfo, ThreadNo, TiError};
 use ti_vmop::VmTurn;
 
@@ -26,12 +26,12 @@ const BOTH: [ThreadNo; 2] = [ThreadNo(0), ThreadNo(1)];
 
 /// A seat at a thread's cell, from which it is only looked at.
 #[derive(Drop)]
-struct Watch<'a> {
-    cell: &'a ThreadCell,
+struct Watch {
+    cell: SharedCell,
     seat: EnvSeat,
 }
 
-impl<'a> Model for Watch<'a> {
+impl Model for Watch {
     ghost use Rattle.std.specs.Prelude.{◌≡◌};
     ghost use Rattle.ti_cell.specs.Seats.{Sitting};
 
@@ -39,10 +39,10 @@ impl<'a> Model for Watch<'a> {
 
     ghost view = { λ w. w.seat };
 
-    ghost invariant = { λ w. w.seat.cell ≡ w.cell.now };
+    ghost invariant = { λ w. w.seat.cell ≡ w.cell };
 }
 
-impl<'a> Watch<'a> {
+impl Watch {
     /// Looks until the thread may not return: whether that came.
     fn await_barred(&mut self) -> bool {
         for _ in 0..TURNS {
@@ -57,26 +57,26 @@ impl<'a> Watch<'a> {
 
 /// Two threads that run, the first of which is watched.
 #[derive(Drop)]
-struct BothRun<'a> {
-    watch: Watch<'a>,
-    first: Running<'a>,
-    second: Running<'a>,
+struct BothRun {
+    watch: Watch,
+    first: Running,
+    second: Running,
 }
 
 /// The same, while the first is held.
 #[derive(Drop)]
-struct OneHeld<'a> {
-    watch: Watch<'a>,
-    first: AtSafe<'a>,
-    second: Running<'a>,
+struct OneHeld {
+    watch: Watch,
+    first: AtSafe,
+    second: Running,
 }
 
 /// The same, while both are held.
 #[derive(Drop)]
-struct BothHeld<'a> {
-    watch: Watch<'a>,
-    first: AtSafe<'a>,
-    second: AtSafe<'a>,
+struct BothHeld {
+    watch: Watch,
+    first: AtSafe,
+    second: AtSafe,
 }
 
 /// Which threads are traced: all, or those of a list that has both.
@@ -87,14 +87,14 @@ enum Which {
 }
 
 /// An environment with a desk at each of two threads. `None` where memory runs out.
-pub(crate) fn environment<'a>(
+pub(crate) fn environment(
     alloc: Global,
     limits: Limits,
-    first: &'a ThreadCell,
+    first: &SharedCell,
     one: EnvSeat,
-    second: &'a ThreadCell,
+    second: &SharedCell,
     two: EnvSeat,
-) -> Option<Env<'a>>
+) -> Option<Env>
     requires threads { limits.threads ≡ 2 }
     requires one { IsNewSeat first.now limits (record { 0 = 0 }) (record { 0 = 0 }) one }
     requires two { IsNewSeat second.now limits (record { 0 = 1 }) (record { 0 = 0 }) two }
@@ -104,7 +104,7 @@ pub(crate) fn environment<'a>(
 }
 
 /// Both threads poll until they are held, the second first. Where one is not, both end, so far as they run.
-fn hold_both<'a, R: Wait>(rt: &R, threads: BothRun<'a>) -> Option<BothHeld<'a>> {
+fn hold_both<R: Wait>(rt: &R, threads: BothRun) -> Option<BothHeld> {
     let BothRun {
         watch,
         first,
@@ -123,7 +123,7 @@ fn hold_both<'a, R: Wait>(rt: &R, threads: BothRun<'a>) -> Option<BothHeld<'a>> 
 }
 
 /// The second of two threads that are held returns. `None` where something bars it.
-fn back<'a, R: Wait>(rt: &R, threads: BothHeld<'a>) -> Option<OneHeld<'a>> {
+fn back<R: Wait>(rt: &R, threads: BothHeld) -> Option<OneHeld> {
     let BothHeld {
         watch,
         first,
@@ -140,7 +140,7 @@ fn back<'a, R: Wait>(rt: &R, threads: BothHeld<'a>) -> Option<OneHeld<'a>> {
 }
 
 /// A thread tries to return, again and again, and may not (206). Where it may, it ends.
-fn try_often<'a, R: Wait>(rt: &R, held: AtSafe<'a>) -> Option<AtSafe<'a>> {
+fn try_often<R: Wait>(rt: &R, held: AtSafe) -> Option<AtSafe> {
     let mut held = held;
     for _ in 0..TRIES {
         match held.try_back(rt) {
@@ -158,7 +158,7 @@ fn try_often<'a, R: Wait>(rt: &R, held: AtSafe<'a>) -> Option<AtSafe<'a>> {
 
 /// What the threads do while they are stopped: the first, which is held already, tries to return after its stop, and only
 /// then the second polls until it is held. Where one of it does not come, the second ends.
-fn stand_in_turn<'a, R: Wait>(rt: &R, threads: OneHeld<'a>) -> Option<BothHeld<'a>> {
+fn stand_in_turn<R: Wait>(rt: &R, threads: OneHeld) -> Option<BothHeld> {
     let OneHeld {
         mut watch,
         first,
@@ -195,7 +195,7 @@ fn are_at_poll(infos: &[StackInfo]) -> bool {
 }
 
 /// Traces both threads: whether it was told that they are held at a poll, without frames.
-fn trace<'a, R: Wait + AllocGlobal>(rt: &R, env: Env<'a>, which: Which) -> (Env<'a>, bool) {
+fn trace<R: Wait + AllocGlobal>(rt: &R, env: Env, which: Which) -> (Env, bool) {
     let mut env = env;
     let turn = Mutex::new(VmTurn::new());
     let told = match which {
@@ -210,7 +210,7 @@ fn trace<'a, R: Wait + AllocGlobal>(rt: &R, env: Env<'a>, which: Which) -> (Env<
 }
 
 /// Suspends both threads by one call: whether the codes are 0.
-fn suspend_both<'a, R: Wait + AllocGlobal>(rt: &R, env: Env<'a>) -> (Env<'a>, bool) {
+fn suspend_both<R: Wait + AllocGlobal>(rt: &R, env: Env) -> (Env, bool) {
     let mut env = env;
     let done = match env.suspend_thread_list(rt, rt.alloc(), &BOTH) {
         Ok(codes) => codes.as_slice() == [0, 0].as_slice(),
@@ -220,7 +220,7 @@ fn suspend_both<'a, R: Wait + AllocGlobal>(rt: &R, env: Env<'a>) -> (Env<'a>, bo
 }
 
 /// Resumes both threads by one call: whether the codes are 0.
-fn resume_both<R: Wait + AllocGlobal>(rt: &R, env: &mut Env<'_>) -> bool {
+fn resume_both<R: Wait + AllocGlobal>(rt: &R, env: &mut Env) -> bool {
     match env.resume_thread_list(rt, rt.alloc(), &BOTH) {
         Ok(codes) => codes.as_slice() == [0, 0].as_slice(),
         Err(_) => false,
@@ -228,11 +228,11 @@ fn resume_both<R: Wait + AllocGlobal>(rt: &R, env: &mut Env<'_>) -> bool {
 }
 
 /// An environment suspends both threads by one call while they run, and resumes them. The second runs again then.
-fn suspend_together<'a, R: Threads + Wait + Sync + AllocGlobal>(
+fn suspend_together<R: Threads + Wait + Sync + AllocGlobal>(
     rt: &R,
-    env: Env<'a>,
-    threads: BothRun<'a>,
-) -> Result<(Env<'a>, OneHeld<'a>), Fail> {
+    env: Env,
+    threads: BothRun,
+) -> Result<(Env, OneHeld), Fail> {
     let (held, (env, done)) = join(
         rt,
         move || -> Option<BothHeld> { hold_both(rt, threads) },
@@ -252,12 +252,12 @@ fn suspend_together<'a, R: Threads + Wait + Sync + AllocGlobal>(
 
 /// An environment traces both threads, of which the first is held and the second runs until the first has tried to return.
 /// The second runs again then.
-fn trace_together<'a, R: Threads + Wait + Sync + AllocGlobal>(
+fn trace_together<R: Threads + Wait + Sync + AllocGlobal>(
     rt: &R,
-    env: Env<'a>,
-    threads: OneHeld<'a>,
+    env: Env,
+    threads: OneHeld,
     which: Which,
-) -> Result<(Env<'a>, OneHeld<'a>), Fail> {
+) -> Result<(Env, OneHeld), Fail> {
     let (held, (env, told)) = join(
         rt,
         move || -> Option<BothHeld> { stand_in_turn(rt, threads) },
@@ -279,10 +279,10 @@ fn in_turn<R: Threads + Wait + Sync + AllocGlobal>(rt: &R, limits: Limits) -> Re
     requires envs { limits.envs ≡ 2 }
 {
     let alloc = rt.alloc();
-    let Ok((first, own_first, seats_first)) = ThreadCell::make(alloc, limits, ThreadNo(0)) else {
+    let Ok((first, own_first, seats_first)) = SharedCell::make(alloc, limits, ThreadNo(0)) else {
         return Err("there is memory".into());
     };
-    let Ok((second, own_second, seats_second)) = ThreadCell::make(alloc, limits, ThreadNo(1)) else {
+    let Ok((second, own_second, seats_second)) = SharedCell::make(alloc, limits, ThreadNo(1)) else {
         return Err("there is memory".into());
     };
     let Some((one, seat)) = both(&first, limits, ThreadNo(0), seats_first) else {
@@ -298,14 +298,14 @@ fn in_turn<R: Threads + Wait + Sync + AllocGlobal>(rt: &R, limits: Limits) -> Re
         env.add_capabilities(Caps::CAN_SUSPEND).is_ok(),
         "it can be had",
     )?;
-    let Ok(running_first) = Fresh::new(&first, own_first).try_start(rt) else {
+    let Ok(running_first) = Fresh::new(first.share()?, own_first).try_start(rt) else {
         return Err("no stop stands".into());
     };
-    let Ok(running_second) = Fresh::new(&second, own_second).try_start(rt) else {
+    let Ok(running_second) = Fresh::new(second, own_second).try_start(rt) else {
         return Err("no stop stands".into());
     };
     let threads = BothRun {
-        watch: Watch { cell: &first, seat },
+        watch: Watch { cell: first, seat },
         first: running_first,
         second: running_second,
     };

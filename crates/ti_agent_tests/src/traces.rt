@@ -9,7 +9,8 @@ use crate::{agents, together};
 use std::sync::{Mutex, Wait};
 use std::test::*;
 use ti_agent::Env;
-use ti_cell::{EnvSeat, ThreadCell};
+use ti_cell::EnvSeat;
+use ti_handshake::SharedCell;
 use ti_types::{Call, Entry, EnvNo, Frame, Limits, MethodNo, Place, StackInfo, ThreadNo, TiError};
 use ti_vmop::VmTurn;
 
@@ -20,7 +21,7 @@ fn tells(info: &StackInfo, thread: ThreadNo, bits: u32, frames: &[Frame]) -> boo
 
 /// Traces the second thread, which has ended, the first, which waits for an object, and the second again: three calls are
 /// spent at it, and two at the first.
-fn trace_one_twice<R: Wait + AllocGlobal>(rt: &R, env: &mut Env<'_>) -> Result<(), Fail> {
+fn trace_one_twice<R: Wait + AllocGlobal>(rt: &R, env: &mut Env) -> Result<(), Fail> {
     let turn = Mutex::new(VmTurn::new());
     let (first, second) = (ThreadNo(0), ThreadNo(1));
     let list = [second, first, second];
@@ -66,11 +67,11 @@ fn a_thread_is_traced_as_often_as_it_is_named(rt: HostRuntime) -> Result<(), Fai
         return Err("the limits are in range".into());
     };
     let alloc = rt.alloc();
-    let Ok((first, own_first, mut seats_first)) = ThreadCell::make(alloc, limits, ThreadNo(0))
+    let Ok((first, own_first, mut seats_first)) = SharedCell::make(alloc, limits, ThreadNo(0))
     else {
         return Err("there is memory".into());
     };
-    let Ok((second, own_second, mut seats_second)) = ThreadCell::make(alloc, limits, ThreadNo(1))
+    let Ok((second, own_second, mut seats_second)) = SharedCell::make(alloc, limits, ThreadNo(1))
     else {
         return Err("there is memory".into());
     };
@@ -79,21 +80,21 @@ fn a_thread_is_traced_as_often_as_it_is_named(rt: HostRuntime) -> Result<(), Fai
     let Some(mut env) = together::environment(alloc, limits, &first, one, &second, two) else {
         return Err("there is memory".into());
     };
-    let _waiting = waiting_thread(&rt, &first, own_first)?;
-    run_out(&rt, &second, own_second)?;
+    let _waiting = waiting_thread(&rt, first, own_first)?;
+    run_out(&rt, second, own_second)?;
     trace_one_twice(&rt, &mut env)
 }
 
 /// The state of the one thread.
-fn state_of<R: Wait>(rt: &R, env: &mut Env<'_>) -> Result<u32, TiError>
+fn state_of<R: Wait>(rt: &R, env: &mut Env) -> Result<u32, TiError>
     ensures desk { (cell : TableId) → HasDeskAt cell env.old → HasDeskAt cell env.new }
 {
     env.get_thread_state(rt, ThreadNo(0))
 }
 
 /// The seat of an environment at the one thread.
-pub(crate) fn seat_of(env: Env<'_>) -> Option<EnvSeat>
-    ensures seat { (cell : TableId) → HasDeskAt cell env.entry → IfSome result (λ s. s.cell ≡ cell) }
+pub(crate) fn seat_of(env: Env) -> Option<EnvSeat>
+    ensures seat { (cell : TableId) → HasDeskAt cell env → IfSome result (λ s. s.cell ≡ cell) }
 {
     let mut desks = env.into_desks();
     let desk = desks.pop()?;
@@ -103,8 +104,8 @@ pub(crate) fn seat_of(env: Env<'_>) -> Option<EnvSeat>
 /// With one call for the thread neither trace takes place (209), and then its state is asked, which costs that call.
 fn ask_behind_traces<R: Wait + AllocGlobal>(
     rt: &R,
-    cell: &ThreadCell,
-    env: Env<'_>,
+    cell: &SharedCell,
+    env: Env,
 ) -> Result<EnvSeat, Fail>
     requires desk { HasDeskAt cell.now env }
     ensures seat { IfOk result (λ s. s.cell ≡ cell.now) }
@@ -136,7 +137,7 @@ fn traces_without_calls_left_cost_nothing(rt: HostRuntime) -> Result<(), Fail> {
     };
     let limits = limits.recorded();
     let alloc = rt.alloc();
-    let Ok((cell, own, mut seats)) = ThreadCell::make(alloc, limits, ThreadNo(0)) else {
+    let Ok((cell, own, mut seats)) = SharedCell::make(alloc, limits, ThreadNo(0)) else {
         return Err("there is memory".into());
     };
     let seat = seats.pop().ok_or("there is an environment")?;

@@ -10,8 +10,7 @@ use std::thread;
 use std::thread::{Threads, join};
 use std::time::{CpuClock, Duration};
 use ti_agent::Env;
-use ti_cell::ThreadCell;
-use ti_handshake::{Fresh, Polled, Running};
+use ti_handshake::{Fresh, Polled, Running, SharedCell};
 use ti_types::{Caps, EnvNo, Limits, ThreadNo};
 
 /// How many milliseconds a wait lasts.
@@ -21,7 +20,7 @@ const WAIT: u64 = 300;
 const MOST: u64 = 30;
 
 /// Polls until it handed over once and went on. Whether it did.
-fn answer_one<R: Wait>(rt: &R, running: Running<'_>) -> bool {
+fn answer_one<R: Wait>(rt: &R, running: Running) -> bool {
     let mut running = running;
     for _ in 0..TURNS {
         if !running.poll_clear() {
@@ -43,7 +42,7 @@ fn answer_one<R: Wait>(rt: &R, running: Running<'_>) -> bool {
 /// call. What its wait took of the processor. `None` where that does not come, here and below.
 fn run_thread<R: Wait + Clock + CpuClock>(
     rt: &R,
-    running: Running<'_>,
+    running: Running,
     goes_on: &AtomicBool,
 ) -> Option<Duration> {
     let held = await_held(rt, running)?;
@@ -63,7 +62,7 @@ fn run_thread<R: Wait + Clock + CpuClock>(
 /// took of the processor.
 fn run_environment<R: Wait + Clock + CpuClock>(
     rt: &R,
-    env: Env<'_>,
+    env: Env,
     goes_on: &AtomicBool,
 ) -> Option<Duration> {
     let mut env = env;
@@ -91,12 +90,12 @@ fn waited<R: Threads + Wait + Sync + Clock + CpuClock + AllocGlobal>(
     requires one { limits.threads ≡ 1 }
     requires envs { limits.envs ≡ 2 }
 {
-    let Ok((cell, own, seats)) = ThreadCell::make(rt.alloc(), limits, ThreadNo(0)) else {
+    let Ok((cell, own, seats)) = SharedCell::make(rt.alloc(), limits, ThreadNo(0)) else {
         return None;
     };
     let (one, _two) = both(&cell, limits, ThreadNo(0), seats)?;
     let env = environment(rt.alloc(), limits, &cell, EnvNo(0), one)?;
-    let Ok(running) = Fresh::new(&cell, own).try_start(rt) else {
+    let Ok(running) = Fresh::new(cell, own).try_start(rt) else {
         return None;
     };
     let goes_on = AtomicBool::new(false);

@@ -7,13 +7,12 @@ use crate::posted::{answer_all, start_in};
 use std::sync::Wait;
 use std::test::*;
 use ti_agent::Env;
-use ti_cell::ThreadCell;
-use ti_handshake::Running;
+use ti_handshake::{Running, SharedCell};
 use ti_slot::Asked;
 use ti_types::{Answer, Call, EnvNo, Limits, MethodNo, ThreadNo, TiError, Ticket};
 
 /// Posts a count, which waits for the thread.
-pub(crate) fn post_count<R: Wait + AllocGlobal>(rt: &R, env: &mut Env<'_>) -> Result<Ticket, Fail> {
+pub(crate) fn post_count<R: Wait + AllocGlobal>(rt: &R, env: &mut Env) -> Result<Ticket, Fail> {
     match env.post(rt, rt.alloc(), ThreadNo(0), Call::FrameCount) {
         Ok(Asked::Waiting(ticket)) => Ok(ticket),
         _ => Err("the count waits for the thread".into()),
@@ -21,7 +20,7 @@ pub(crate) fn post_count<R: Wait + AllocGlobal>(rt: &R, env: &mut Env<'_>) -> Re
 }
 
 /// A call that may wait is refused, and one that is told at once goes through.
-fn ask_at_a_full_window<R: Wait + AllocGlobal>(rt: &R, env: &mut Env<'_>) -> Result<(), Fail> {
+fn ask_at_a_full_window<R: Wait + AllocGlobal>(rt: &R, env: &mut Env) -> Result<(), Fail> {
     match env.post(rt, rt.alloc(), ThreadNo(0), Call::FrameCount) {
         Err(TiError::OutOfMemory) => {}
         _ => return Err("one call may be out".into()),
@@ -33,11 +32,11 @@ fn ask_at_a_full_window<R: Wait + AllocGlobal>(rt: &R, env: &mut Env<'_>) -> Res
 }
 
 /// One call is out until its answer is collected, whether the thread has polled or not.
-fn fill_and_collect<'a, R: Wait + AllocGlobal>(
+fn fill_and_collect<R: Wait + AllocGlobal>(
     rt: &R,
-    env: &mut Env<'_>,
-    running: Running<'a>,
-) -> Result<Running<'a>, Fail> {
+    env: &mut Env,
+    running: Running,
+) -> Result<Running, Fail> {
     let ticket = post_count(rt, env)?;
     ask_at_a_full_window(rt, env)?;
     let running = answer_all(rt, running)?;
@@ -60,7 +59,7 @@ fn ask_one<R: Wait + AllocGlobal>(rt: &R, limits: Limits) -> Result<(), Fail>
     requires threads { limits.threads ≡ 1 }
     requires envs { limits.envs ≡ 2 }
 {
-    let Ok((cell, own, seats)) = ThreadCell::make(rt.alloc(), limits, ThreadNo(0)) else {
+    let Ok((cell, own, seats)) = SharedCell::make(rt.alloc(), limits, ThreadNo(0)) else {
         return Err("there is memory".into());
     };
     let Some((one, _seat)) = both(&cell, limits, ThreadNo(0), seats) else {
@@ -69,7 +68,7 @@ fn ask_one<R: Wait + AllocGlobal>(rt: &R, limits: Limits) -> Result<(), Fail>
     let Some(mut env) = environment(rt.alloc(), limits, &cell, EnvNo(0), one) else {
         return Err("there is memory".into());
     };
-    let running = start_in(rt, &cell, own, MethodNo(0))?;
+    let running = start_in(rt, cell, own, MethodNo(0))?;
     let running = fill_and_collect(rt, &mut env, running)?;
     let _ended = running.end(rt);
     Ok(())

@@ -48,12 +48,12 @@ pub record Took (p : Place) (env : EnvNo) (s : Sitting) (h : Holding) (n : Threa
   pub taken : IsTaken s.view h.slot
   pub lent : n ≡ h.slot
 
-pub took : (cell : TableId) (env : EnvNo) (o r : Option Sitting) (s : Sitting) (p : Place) (h : Holding) (n : Thread)
-    → IsThere cell env o → place_in cell env o ≡ p → r ≡ Some s → r ≡ o → h.view ≡ holding s.view h.slot.history h.slot.uncollected → IsTaken s.view h.slot → n ≡ h.slot → Took p env s h n
-took cell env o r s p h n there is some same holds taken lent =
+pub took : (cell : TableId) (env : EnvNo) (o r : Option Sitting) (s : Sitting) (g : List Ticket) (p : Place) (h : Holding) (n : Thread)
+    → IsThere cell env o g → place_in cell env o g ≡ p → r ≡ Some s → r ≡ o → h.view ≡ holding s.view h.slot.history h.slot.uncollected → IsTaken s.view h.slot → n ≡ h.slot → Took p env s h n
+took cell env o r s g p h n there is some same holds taken lent =
     let e : o ≡ Some s = sym same ∙ some in
-    let sits : Sits cell env s = subst (λ (x : Option Sitting). IsThere cell env x) e there in
-    let place : place_in cell env (Some s) ≡ p = ap (place_in cell env) (sym e) ∙ is in
+    let sits : Sits cell env s = (subst (λ (x : Option Sitting). IsThere cell env x g) e there).0 in
+    let place : place_in cell env (Some s) g ≡ p = ap (λ (x : Option Sitting). place_in cell env x g) (sym e) ∙ is in
     record {
       view = ap (λ (x : Place). x.view) (sym place);
       env_is = ap (λ (x : Place). x.env) (sym place);
@@ -254,7 +254,7 @@ of_number n t (u ∷ tickets) h =
     ]
 
 -- a ticket is among those of its environment's seat alone
-own_has : (env : EnvNo) (t : Ticket) (tickets : List Ticket) → has t (tickets_of (env.0 + 1) tickets) ≡ (t.env.0 == env.0 && has t tickets)
+pub own_has : (env : EnvNo) (t : Ticket) (tickets : List Ticket) → has t (tickets_of (env.0 + 1) tickets) ≡ (t.env.0 == env.0 && has t tickets)
 own_has env t tickets =
     elim (cases_eq t.env.0 env.0) [
       | inl e ↦ let is = has_of (env.0 + 1) t (omega (arith, e)) tickets in grind (arith, nat_tests, e, is)

@@ -92,3 +92,7 @@ pub record IsAnswered (old new : View) (call : Entry) (answer : Answer) : Type 0
   pub stands : new.seen ≡ front ++ call ∷ rest
   pub behind : StartsWith front old.seen
   pub replied : reply old.subject.limits new.seen (length front) ≡ Some answer
+
+-- its ticket, if it waits
+abbrev pub next_ticket : View → EnvNo → Ticket
+next_ticket v env = record { env = env; thread = v.subject.thread; no = asked_by env v.mine }

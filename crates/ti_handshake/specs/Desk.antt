@@ -1,5 +1,5 @@
 -- An environment at a thread.
-use Rattle.std.specs.Prelude.{ℤ, ◌≡◌, ◌==◌, ◌+◌, ◌<◌, Bool, false, not, List, ◌∷◌, ◌++◌, length, Option, Some, None}
+use Rattle.std.specs.Prelude.{ℤ, ◌≡◌, ◌==◌, ◌+◌, ◌<◌, ◌&&◌, Bool, true, false, not, if◌then◌else◌, is_some, List, [], ◌∷◌, ◌++◌, length, Option, Some, None}
 use Rattle.atomic_table.specs.Seated.{TableId}
 use Rattle.ti_types.specs.declared.answer.Answer.{Answer}
 use Rattle.ti_types.specs.declared.call.Call.{Call}
@@ -16,18 +16,79 @@ use Rattle.ti_replay.specs.Replies.{reply}
 use Rattle.ti_replay.specs.View.{view}
 use Rattle.ti_cell.specs.declared.view.View.{View}
 use Rattle.ti_cell.specs.Seats.{Sitting}
-use Rattle.ti_handshake.specs.Call.{found}
+use Rattle.ti_replay.specs.Settling.{waits}
+use Rattle.ti_replay.specs.Tickets.{reply_to}
+use Rattle.ti_slot.specs.Tickets.{has, without_ticket}
+use Rattle.ti_slot.specs.declared.asked.Asked.{Asked as AskedOf}
+use Rattle.ti_slot.specs.declared.asked.Asked.TheVariants.{Answered, Waiting}
+use Rattle.ti_handshake.specs.Call.{HoldsWith, IsAnswered, found, next_call, next_ticket}
 
--- an environment, its cell, and its seat there
+-- an environment, its cell, its seat there, and its calls there that were given up and are still out
 pub record Place : Type 0 where
   pub cell : TableId
   pub env : EnvNo
   pub view : View
+  pub cancelled : List Ticket
 
 -- the same place, seen later
 pub record IsSame (old new : Place) : Type 0 where
   pub cell : new.cell ≡ old.cell
   pub env : new.env ≡ old.env
+  pub cancelled : new.cancelled ≡ old.cancelled
+
+-- whether a call is out that was not given up
+abbrev pub is_out : Place → Ticket → Bool
+is_out p k = has k p.view.posted && not (has k p.cancelled)
+
+-- so is the call that a ticket was given for
+abbrev pub IsTicketOut : Place → AskedOf → Type 0
+IsTicketOut p (Answered a) = Unit {0}
+IsTicketOut p (Waiting k) = is_out p k ≡ true
+
+-- the call that was given up first was looked for by one hold, and its answer thrown away if it was there
+pub record LooksForFirst (old new : Place) (first : Ticket) (rest : List Ticket) (thrown : Bool) : Type 0 where
+  pub cell : new.cell ≡ old.cell
+  pub env : new.env ≡ old.env
+  pub hold : HoldsWith old.view new.view [] (if thrown then without_ticket first old.view.posted else old.view.posted)
+  pub thrown_if : thrown ≡ is_some (reply_to old.view.subject.limits new.view.seen first)
+  pub cancelled : new.cancelled ≡ (if thrown then rest else old.cancelled)
+
+abbrev pub DiscardsOf : List Ticket → Place → Place → Bool → Type 0
+DiscardsOf [] old new thrown = (new ≡ old) × (thrown ≡ false)
+DiscardsOf (first ∷ rest) old new thrown = LooksForFirst old new first rest thrown
+
+-- nothing is done if none was given up
+abbrev pub Discards : Place → Place → Bool → Type 0
+Discards old new thrown = DiscardsOf old.cancelled old new thrown
+
+-- the desk with other calls that were given up
+abbrev pub with_cancelled : Place → List Ticket → Place
+with_cancelled p tickets = record p { cancelled = tickets }
+
+-- a call that was asked, and was answered
+pub record IsAnsweredAt (old new : Place) (call : Call) (answer : Answer) : Type 0 where
+  pub posted : new.view.posted ≡ old.view.posted
+  pub answered : IsAnswered old.view new.view (next_call old.view old.env call) answer
+
+-- a call that was asked is out, and was not answered when it was last looked for
+pub record IsLeft (old new : Place) (call : Call) (ticket : Ticket) : Type 0 where
+  pub late : waits call ≡ true
+  pub ticket_is : ticket ≡ next_ticket old.view old.env
+  pub new_one : has ticket old.view.posted ≡ false
+  pub posted : new.view.posted ≡ old.view.posted ++ ticket ∷ []
+  pub unanswered : reply_to old.view.subject.limits new.view.seen ticket ≡ None
+
+-- it was given up then
+pub record GivesUp (old new : Place) (call : Call) : Type 0 where
+  pub cell : new.cell ≡ old.cell
+  pub env : new.env ≡ old.env
+  pub left : IsLeft old new call (next_ticket old.view old.env)
+  pub cancelled : new.cancelled ≡ old.cancelled ++ next_ticket old.view old.env ∷ []
+
+-- a call with a deadline was answered in time, or given up
+abbrev pub IsInTime : Place → Place → Call → Option Answer → Type 0
+IsInTime old new call (Some answer) = IsSame old new × IsAnsweredAt old new call answer
+IsInTime old new call None = GivesUp old new call
 
 -- the seat is the environment's, at this cell
 pub record Sits (cell : TableId) (env : EnvNo) (s : Sitting) : Type 0 where

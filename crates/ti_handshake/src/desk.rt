@@ -16,57 +16,64 @@ ghost use Rattle.ti_slot.specs.Tickets.{has, without_ticket};
 ghost use Rattle.ti_slot.specs.Waiting.{IsBufferOf, HasRoomFor};
 ghost use Rattle.ti_cell.specs.declared.look.Look.{Look};
 ghost use Rattle.ti_handshake.specs.Call.{GoesOn, Waits, WaitsWith, Holds, HoldsWith, found, IsTold, IsAnswered, SawNews, next_call, ticket_told, with_looks};
-ghost use Rattle.ti_handshake.specs.Desk.{Place, IsSame, ReplyAtPlace, is_anothers, there_found, stop_refusal, read_refusal, go_refusal};
+ghost use Rattle.ti_handshake.specs.Cancelled.{AreGivenUp};
+ghost use Rattle.ti_handshake.specs.Desk.{Place, IsSame, IsTicketOut, ReplyAtPlace, is_out, is_anothers, there_found, stop_refusal, read_refusal, go_refusal};
 
+use crate::cancelled::Cancelled;
+use crate::shared::SharedCell;
 use crate::waiting::{Deadline, await_news, await_news_until};
 use std::marker::Model;
 use std::rt::Clock;
 use std::sync::Wait;
 use std::time::Duration;
-use ti_cell::{EnvSeat, ThreadCell};
+use ti_cell::EnvSeat;
 use ti_slot::{Asked, Slot};
 use ti_types::{Answer, Call, EnvNo, Ticket, TraceBuf};
 
 /// One environment at one thread. Contracts see it as its cell, its environment, and its seat's view.
 #[derive(Drop)]
-pub struct Desk<'a> {
-    cell: &'a ThreadCell,
-    env: EnvNo,
+pub struct Desk {
+    pub(crate) cell: SharedCell,
+    pub(crate) env: EnvNo,
     /// `None` only while a call holds the cell.
-    seat: Option<EnvSeat>,
+    pub(crate) seat: Option<EnvSeat>,
+    pub(crate) cancelled: Cancelled,
 }
 
-impl<'a> Model for Desk<'a> {
+impl Model for Desk {
     ghost use Rattle.ti_handshake.specs.Desk.{Place};
     ghost use Rattle.ti_handshake.specs.Seated.{IsThere, place_in};
 
     ghost Value = { Place };
 
-    ghost view = { λ d. place_in d.cell.now d.env d.seat };
+    ghost view = { λ d. place_in d.cell d.env d.seat d.cancelled.tickets };
 
-    ghost invariant = { λ d. IsThere d.cell.now d.env d.seat };
+    ghost invariant = { λ d. IsThere d.cell d.env d.seat d.cancelled.tickets };
 }
 
-impl<'a> Desk<'a> {
+impl Desk {
     /// The desk of an environment's seat at this cell.
-    pub fn new(cell: &'a ThreadCell, seat: EnvSeat) -> Desk<'a>
-        requires cell { seat.cell ≡ cell.now }
+    pub fn new(cell: SharedCell, seat: EnvSeat) -> Desk
+        requires cell { seat.cell ≡ cell }
         requires number { 0 < seat.view.number }
         requires there { seat.view.number ≤ seat.view.subject.limits.envs }
-        ensures cell { result.cell ≡ cell.now }
+        ensures cell { result.cell ≡ cell }
         ensures env { result.env.0 + 1 ≡ seat.view.number }
         ensures view { result.view ≡ seat.view }
+        ensures none { result.cancelled ≡ [] }
     {
         let env = EnvNo(seat.number() - 1);
         Desk {
             cell,
             env,
             seat: Some(seat),
+            cancelled: Cancelled::none(),
         }
     }
 
     /// What is always true of a desk: its seat is its environment's and holds nothing, and what was seen is legal, and has
-    /// of the seat's entries just those that it made. No more of its calls are out than it made entries.
+    /// of the seat's entries just those that it made. No more of its calls are out than it made entries, and those that
+    /// were given up are among them.
     pub fn facts(&self)
         ensures rests { (self.now.view.holds ≡ false) × (self.now.view.found ≡ []) }
         ensures there_still { self.now.view.gone ≡ false }
@@ -75,6 +82,7 @@ impl<'a> Desk<'a> {
         ensures legal { is_legal self.now.view.subject.limits self.now.view.seen ≡ true }
         ensures mine { self.now.view.mine ≡ made_by self.now.view.number self.now.view.seen }
         ensures few { length self.now.view.posted ≤ length self.now.view.mine }
+        ensures cancelled { AreGivenUp self.now.cancelled self.now.view.posted }
     {
         let Some(seat) = &self.seat else {
             unreachable!()
@@ -125,6 +133,7 @@ impl<'a> Desk<'a> {
         ensures hold { HoldsWith self.old.view self.new.view (next_call self.old.view self.old.env call ∷ []) (self.old.view.posted ++ ticket_told result) }
         ensures told { IsTold self.old.view self.new.view self.old.env call result }
         ensures late { IsLate call result }
+        ensures out { IsTicketOut self.new result }
     {
         let Some(seat) = self.seat.take() else {
             unreachable!()
@@ -138,10 +147,10 @@ impl<'a> Desk<'a> {
     }
 
     /// The answer to a call of this desk that waited, by holds until it is there: the reply of the history to the ticket.
-    /// The ticket is one of the desk's, and is none from then on, so that it is answered once; the others stay. Between
-    /// its holds it waits by looks (`await_news`).
+    /// The ticket is one of the desk's that was not given up, and is none from then on, so that it is answered once; the
+    /// others stay. Between its holds it waits by looks (`await_news`).
     pub fn collect<R: Wait>(&mut self, rt: &R, ticket: Ticket) -> Answer
-        requires posted { has ticket self.old.view.posted ≡ true }
+        requires out { is_out self.old ticket ≡ true }
         ensures same { IsSame self.old self.new }
         ensures hold { WaitsWith self.old.view self.new.view [] (without_ticket ticket self.old.view.posted) }
         ensures once { has ticket self.new.view.posted ≡ false }
@@ -161,14 +170,19 @@ impl<'a> Desk<'a> {
     /// The answer to a call of this desk that waited, by one hold, if it is there: the reply of the history to the ticket.
     /// The ticket is none of the desk's from then on, so that it is answered once; the others stay.
     ///
-    /// `None` while the answer is not there, and for a ticket that is none of the desk's. Then nothing changes.
+    /// `None` while the answer is not there, for a ticket that is none of the desk's, and for one that was given up. Then
+    /// nothing changes.
     pub fn try_collect<R: Wait>(&mut self, rt: &R, ticket: Ticket) -> Option<Answer>
         ensures same { IsSame self.old self.new }
         ensures hold { HoldsWith self.old.view self.new.view [] (if is_some result then without_ticket ticket self.old.view.posted else self.old.view.posted) }
         ensures once { IfSome result (λ _. has ticket self.new.view.posted ≡ false) }
-        ensures answer { option_map said result ≡ (if has ticket self.old.view.posted then reply_to self.old.view.subject.limits self.new.view.seen ticket else None) }
+        ensures answer { option_map said result ≡ (if is_out self.old ticket then reply_to self.old.view.subject.limits self.new.view.seen ticket else None) }
         ensures place { IfSome result (λ a. ReplyAtPlace self.old.view.subject.limits self.new.view.seen ticket (said a)) }
     {
+        if self.cancelled.has(ticket) {
+            let _out = self.has_out(rt, ticket);
+            return None;
+        }
         let Some(seat) = self.seat.take() else {
             unreachable!()
         };
@@ -180,10 +194,25 @@ impl<'a> Desk<'a> {
         answer
     }
 
+    /// Whether a call of this desk is out, by one hold that adds nothing.
+    pub(crate) fn has_out<R: Wait>(&mut self, rt: &R, ticket: Ticket) -> bool
+        ensures same { IsSame self.old self.new }
+        ensures hold { Holds self.old.view self.new.view [] }
+        ensures out { result ≡ has ticket self.old.view.posted }
+    {
+        let Some(seat) = self.seat.take() else {
+            unreachable!()
+        };
+        let mut hold = self.cell.hold(rt, seat);
+        let out = is_own_out(hold.slot(), self.env, ticket);
+        self.seat = Some(hold.store());
+        out
+    }
+
     /// The same as `try_collect`, by holds until the answer is there or the time is over. Between them it waits by looks.
     ///
     /// `None` when the time is over, or the clock can't be read. Then the ticket is out as before. A ticket that is none of
-    /// the desk's is waited for in vain.
+    /// the desk's, or was given up, is waited for in vain.
     pub fn collect_within<R: Wait + Clock>(
         &mut self,
         rt: &R,
@@ -193,7 +222,7 @@ impl<'a> Desk<'a> {
         ensures same { IsSame self.old self.new }
         ensures hold { WaitsWith self.old.view self.new.view [] (if is_some result then without_ticket ticket self.old.view.posted else self.old.view.posted) }
         ensures once { IfSome result (λ _. has ticket self.new.view.posted ≡ false) }
-        ensures answer { option_map said result ≡ (if has ticket self.old.view.posted then reply_to self.old.view.subject.limits self.new.view.seen ticket else None) }
+        ensures answer { option_map said result ≡ (if is_out self.old ticket then reply_to self.old.view.subject.limits self.new.view.seen ticket else None) }
         ensures place { IfSome result (λ a. ReplyAtPlace self.old.view.subject.limits self.new.view.seen ticket (said a)) }
     {
         self.facts();
@@ -249,6 +278,30 @@ impl<'a> Desk<'a> {
                 return answer;
             }
             self.await_news(rt);
+        }
+        unreachable!()
+    }
+
+    /// The same as `stop` until the deadline. `None` when that is over while another environment's stop stands, or the clock
+    /// can't be read; then nothing was added.
+    pub fn stop_until<R: Wait + Clock>(&mut self, rt: &R, deadline: &Deadline) -> Option<Answer>
+        requires calls { calls_spent self.old.env self.old.view.mine < self.old.view.subject.limits.calls }
+        ensures same { IsSame self.old self.new }
+        ensures hold { MatchOption result
+            (Waits self.old.view self.new.view [])
+            (λ _. Waits self.old.view self.new.view (if_none (stop_refusal self.old self.new) (entry.Stop self.old.env ∷ []))) }
+        ensures answer { IfSome result (λ a. said a ≡ done_or (stop_refusal self.old self.new)) }
+        ensures waited { IfSome result (λ _. is_anothers self.old.env (there_found self.old self.new).stopper ≡ false) }
+    {
+        self.facts();
+        for _ in rt.forever() {
+            let answer = self.stop_unless_others(rt);
+            if answer.is_some() {
+                return answer;
+            }
+            if !self.await_news_until(rt, deadline) {
+                return None;
+            }
         }
         unreachable!()
     }
@@ -361,11 +414,11 @@ impl<'a> Desk<'a> {
         let Some(seat) = &mut self.seat else {
             unreachable!()
         };
-        await_news(rt, self.cell, seat);
+        await_news(rt, &self.cell, seat);
     }
 
     /// The same until the deadline: whether there are such entries. Without them nothing but looks was done.
-    fn await_news_until<R: Wait + Clock>(&mut self, rt: &R, deadline: &Deadline) -> bool
+    pub fn await_news_until<R: Wait + Clock>(&mut self, rt: &R, deadline: &Deadline) -> bool
         ensures same { IsSame self.old self.new }
         ensures looks { (looks : List Look) × (self.new.view ≡ with_looks self.old.view looks) }
         ensures news { result ≡ true → SawNews self.old.view self.new.view }
@@ -373,17 +426,21 @@ impl<'a> Desk<'a> {
         let Some(seat) = &mut self.seat else {
             unreachable!()
         };
-        await_news_until(rt, self.cell, seat, deadline)
+        await_news_until(rt, &self.cell, seat, deadline)
     }
 
     /// The desk's seat, which may go back to the owner's (`ThreadCell::rejoin`).
     pub fn into_seat(self) -> EnvSeat
-        ensures cell { result.cell ≡ self.entry.cell }
-        ensures view { result.view ≡ self.entry.view }
+        ensures cell { result.cell ≡ self.cell }
+        ensures view { result.view ≡ self.view }
     {
-        let Some(seat) = self.seat else {
-            unreachable!()
-        };
+        let Desk {
+            cell: _,
+            env: _,
+            seat,
+            cancelled: _,
+        } = self;
+        let Some(seat) = seat else { unreachable!() };
         seat
     }
 }
@@ -396,6 +453,13 @@ fn is_others(stopper: Option<EnvNo>, env: EnvNo) -> bool
         Some(other) => other.0 != env.0,
         None => false,
     }
+}
+
+/// Whether it is a ticket of this environment that is out.
+fn is_own_out(slot: &Slot, env: EnvNo, ticket: Ticket) -> bool
+    ensures { result ≡ (ticket.env.0 == env.0 && has ticket slot.now.uncollected) }
+{
+    ticket.env.0 == env.0 && slot.is_out(ticket)
 }
 
 /// Collects the answer to a ticket of this environment. That of another's is left where it is.

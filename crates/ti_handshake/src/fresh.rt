@@ -7,20 +7,21 @@ ghost use Rattle.ti_handshake.specs.Call.{Holds, Waits, SawNews, found};
 ghost use Rattle.ti_handshake.specs.Thread.{refused_at};
 
 use crate::running::Running;
+use crate::shared::SharedCell;
 use crate::waiting::await_unbarred;
 use std::marker::Model;
 use std::sync::Wait;
-use ti_cell::{OwnSeat, ThreadCell};
+use ti_cell::OwnSeat;
 use ti_types::TiError;
 
 /// A thread that has not started. Contracts see it as its seat.
 #[derive(Drop)]
-pub struct Fresh<'a> {
-    cell: &'a ThreadCell,
+pub struct Fresh {
+    cell: SharedCell,
     seat: OwnSeat,
 }
 
-impl<'a> Model for Fresh<'a> {
+impl Model for Fresh {
     ghost use Rattle.std.specs.Prelude.{◌≡◌};
     ghost use Rattle.ti_cell.specs.Seats.{Sitting};
     ghost use Rattle.ti_handshake.specs.Thread.{IsFresh};
@@ -29,13 +30,13 @@ impl<'a> Model for Fresh<'a> {
 
     ghost view = { λ f. f.seat };
 
-    ghost invariant = { λ f. (f.seat.cell ≡ f.cell.now) × IsFresh f.seat };
+    ghost invariant = { λ f. (f.seat.cell ≡ f.cell) × IsFresh f.seat };
 }
 
-impl<'a> Fresh<'a> {
+impl Fresh {
     /// The thread of a cell, whose seat has made no entry.
-    pub fn new(cell: &'a ThreadCell, seat: OwnSeat) -> Fresh<'a>
-        requires cell { seat.cell ≡ cell.now }
+    pub fn new(cell: SharedCell, seat: OwnSeat) -> Fresh
+        requires cell { seat.cell ≡ cell }
         requires owner { seat.view.number ≡ 0 }
         requires none { seat.view.mine ≡ [] }
         ensures seat { result ≡ seat }
@@ -54,13 +55,13 @@ impl<'a> Fresh<'a> {
     /// Starts the thread by one hold (JVM TI 11, GetThreadState: alive from here on).
     ///
     /// Refused with `Barred` (206) where a stop stands, and only there (this profile).
-    pub fn try_start<R: Wait>(self, rt: &R) -> Result<Running<'a>, (TiError, Fresh<'a>)>
-        ensures cell { MatchResult result (λ r. r.cell ≡ self.entry.cell) (λ e. e.1.cell ≡ self.entry.cell) }
-        ensures hold { MatchResult result (λ r. Holds self.entry.view r.view (entry.Start ∷ [])) (λ e. Holds self.entry.view e.1.view []) }
+    pub fn try_start<R: Wait>(self, rt: &R) -> Result<Running, (TiError, Fresh)>
+        ensures cell { MatchResult result (λ r. r.cell ≡ self.cell) (λ e. e.1.cell ≡ self.cell) }
+        ensures hold { MatchResult result (λ r. Holds self.view r.view (entry.Start ∷ [])) (λ e. Holds self.view e.1.view []) }
         ensures when { MatchResult result
-            (λ r. refused_at self.entry.view.subject.limits (found self.entry.view r.view) entry.Start ≡ None)
-            (λ e. refused_at self.entry.view.subject.limits (found self.entry.view e.1.view) entry.Start ≡ Some e.0) }
-        ensures barred { IfErr result (λ e. (e.0 ≡ Barred) × (is_barred (view self.entry.view.subject.limits e.1.view.seen) ≡ true)) }
+            (λ r. refused_at self.view.subject.limits (found self.view r.view) entry.Start ≡ None)
+            (λ e. refused_at self.view.subject.limits (found self.view e.1.view) entry.Start ≡ Some e.0) }
+        ensures barred { IfErr result (λ e. (e.0 ≡ Barred) × (is_barred (view self.view.subject.limits e.1.view.seen) ≡ true)) }
         ensures steps { IfOk result (λ r. r.steps ≡ []) }
     {
         let Fresh { cell, seat } = self;
@@ -81,9 +82,9 @@ impl<'a> Fresh<'a> {
 
     /// Starts the thread, and waits while a stop stands: by looks, until the history has grown, and then by one hold more
     /// (JVM TI 11, GetThreadState: alive from here on).
-    pub fn start<R: Wait>(self, rt: &R) -> Running<'a>
-        ensures cell { result.cell ≡ self.entry.cell }
-        ensures hold { Waits self.entry.view result.view (entry.Start ∷ []) }
+    pub fn start<R: Wait>(self, rt: &R) -> Running
+        ensures cell { result.cell ≡ self.cell }
+        ensures hold { Waits self.view result.view (entry.Start ∷ []) }
         ensures steps { result.steps ≡ [] }
     {
         self.seat.facts();
@@ -103,12 +104,12 @@ impl<'a> Fresh<'a> {
         ensures cell { self.new.cell ≡ self.old.cell }
         ensures news { SawNews self.old.view self.new.view }
     {
-        await_unbarred(rt, self.cell, &mut self.seat);
+        await_unbarred(rt, &self.cell, &mut self.seat);
     }
 
     /// The thread's seat.
     pub fn into_seat(self) -> OwnSeat
-        ensures seat { result ≡ self.entry }
+        ensures seat { result ≡ self }
     {
         self.seat
     }

@@ -9,23 +9,24 @@ ghost use Rattle.ti_handshake.specs.Call.{Holds, Waits, SawNews, found};
 ghost use Rattle.ti_handshake.specs.Thread.{RestsWith, HasEnded, refused_at};
 
 use crate::running::Running;
+use crate::shared::SharedCell;
 use crate::waiting::await_unbarred;
 use std::marker::Model;
 use std::sync::Wait;
-use ti_cell::{OwnSeat, ThreadCell};
+use ti_cell::OwnSeat;
 use ti_frames::Log;
 use ti_types::TiError;
 
 /// A thread that handed over: in native code, blocked, or held at a poll. Its frames lie in the slot. Contracts see it
 /// as its seat.
 #[derive(Drop)]
-pub struct AtSafe<'a> {
-    cell: &'a ThreadCell,
+pub struct AtSafe {
+    cell: SharedCell,
     seat: OwnSeat,
     log: Log,
 }
 
-impl<'a> Model for AtSafe<'a> {
+impl Model for AtSafe {
     ghost use Rattle.ti_cell.specs.Seats.{Sitting};
     ghost use Rattle.ti_handshake.specs.Thread.{RestsWith};
 
@@ -33,13 +34,13 @@ impl<'a> Model for AtSafe<'a> {
 
     ghost view = { λ a. a.seat };
 
-    ghost invariant = { λ a. RestsWith a.cell.now a.seat a.log };
+    ghost invariant = { λ a. RestsWith a.cell a.seat a.log };
 }
 
-impl<'a> AtSafe<'a> {
+impl AtSafe {
     /// A thread that handed over, of its parts.
-    pub(crate) fn of(cell: &'a ThreadCell, seat: OwnSeat, log: Log) -> AtSafe<'a>
-        requires rests { RestsWith cell.now seat log }
+    pub(crate) fn of(cell: SharedCell, seat: OwnSeat, log: Log) -> AtSafe
+        requires rests { RestsWith cell seat log }
         ensures of { result ≡ seat }
     {
         AtSafe { cell, seat, log }
@@ -57,13 +58,13 @@ impl<'a> AtSafe<'a> {
     /// Overview; JVM TI 11, SuspendThread).
     ///
     /// Refused with `Barred` (206) where it is suspended or a stop stands, and only there.
-    pub fn try_back<R: Wait>(self, rt: &R) -> Result<Running<'a>, (TiError, AtSafe<'a>)>
-        ensures cell { MatchResult result (λ r. r.cell ≡ self.entry.cell) (λ e. e.1.cell ≡ self.entry.cell) }
-        ensures hold { MatchResult result (λ r. Holds self.entry.view r.view (entry.Back ∷ [])) (λ e. Holds self.entry.view e.1.view []) }
+    pub fn try_back<R: Wait>(self, rt: &R) -> Result<Running, (TiError, AtSafe)>
+        ensures cell { MatchResult result (λ r. r.cell ≡ self.cell) (λ e. e.1.cell ≡ self.cell) }
+        ensures hold { MatchResult result (λ r. Holds self.view r.view (entry.Back ∷ [])) (λ e. Holds self.view e.1.view []) }
         ensures when { MatchResult result
-            (λ r. refused_at self.entry.view.subject.limits (found self.entry.view r.view) entry.Back ≡ None)
-            (λ e. refused_at self.entry.view.subject.limits (found self.entry.view e.1.view) entry.Back ≡ Some e.0) }
-        ensures barred { IfErr result (λ e. (e.0 ≡ Barred) × (is_barred (view self.entry.view.subject.limits e.1.view.seen) ≡ true)) }
+            (λ r. refused_at self.view.subject.limits (found self.view r.view) entry.Back ≡ None)
+            (λ e. refused_at self.view.subject.limits (found self.view e.1.view) entry.Back ≡ Some e.0) }
+        ensures barred { IfErr result (λ e. (e.0 ≡ Barred) × (is_barred (view self.view.subject.limits e.1.view.seen) ≡ true)) }
         ensures steps { IfOk result (λ r. r.steps ≡ []) }
     {
         let AtSafe { cell, seat, log } = self;
@@ -84,9 +85,9 @@ impl<'a> AtSafe<'a> {
 
     /// Lets the thread return, and waits while it is barred: by looks, until the history has grown, and then by one hold
     /// more (HotSpot Runtime Overview).
-    pub fn back<R: Wait>(self, rt: &R) -> Running<'a>
-        ensures cell { result.cell ≡ self.entry.cell }
-        ensures hold { Waits self.entry.view result.view (entry.Back ∷ []) }
+    pub fn back<R: Wait>(self, rt: &R) -> Running
+        ensures cell { result.cell ≡ self.cell }
+        ensures hold { Waits self.view result.view (entry.Back ∷ []) }
         ensures steps { result.steps ≡ [] }
     {
         self.seat.facts();
@@ -106,12 +107,12 @@ impl<'a> AtSafe<'a> {
         ensures cell { self.new.cell ≡ self.old.cell }
         ensures news { SawNews self.old.view self.new.view }
     {
-        await_unbarred(rt, self.cell, &mut self.seat);
+        await_unbarred(rt, &self.cell, &mut self.seat);
     }
 
     /// The thread's seat.
     pub fn into_seat(self) -> OwnSeat
-        ensures seat { result ≡ self.entry }
+        ensures seat { result ≡ self }
     {
         self.seat
     }
@@ -119,12 +120,12 @@ impl<'a> AtSafe<'a> {
 
 /// A thread that has ended. Contracts see it as its seat.
 #[derive(Drop)]
-pub struct Ended<'a> {
-    cell: &'a ThreadCell,
+pub struct Ended {
+    cell: SharedCell,
     seat: OwnSeat,
 }
 
-impl<'a> Model for Ended<'a> {
+impl Model for Ended {
     ghost use Rattle.ti_cell.specs.Seats.{Sitting};
     ghost use Rattle.ti_handshake.specs.Thread.{HasEnded};
 
@@ -132,13 +133,13 @@ impl<'a> Model for Ended<'a> {
 
     ghost view = { λ e. e.seat };
 
-    ghost invariant = { λ e. HasEnded e.cell.now e.seat };
+    ghost invariant = { λ e. HasEnded e.cell e.seat };
 }
 
-impl<'a> Ended<'a> {
+impl Ended {
     /// A thread that has ended, of its parts.
-    pub(crate) fn of(cell: &'a ThreadCell, seat: OwnSeat) -> Ended<'a>
-        requires ended { HasEnded cell.now seat }
+    pub(crate) fn of(cell: SharedCell, seat: OwnSeat) -> Ended
+        requires ended { HasEnded cell seat }
         ensures of { result ≡ seat }
     {
         Ended { cell, seat }
@@ -154,7 +155,7 @@ impl<'a> Ended<'a> {
 
     /// The thread's seat.
     pub fn into_seat(self) -> OwnSeat
-        ensures seat { result ≡ self.entry }
+        ensures seat { result ≡ self }
     {
         self.seat
     }

@@ -1,10 +1,11 @@
 -- What is kept, where a call is posted, passed, taken, answered or collected.
-use Rattle.std.proofs.Common.{◌≡◌, ℕ, ◌<◌, ◌≤◌, ◌+◌, ◌*◌, ◌==◌, ◌||◌, true, false, if◌then◌else◌, List, [], ◌∷◌, ◌++◌, length, map, take, drop, get_or, set, refl, arith, suc, zero, ap, sym, subst, ◌∙◌, inl, inr, None, replicate, length-set, length-append, get_or-set_same, get_or-set_other}
+use Rattle.std.proofs.Common.{◌≡◌, ℕ, ◌<◌, ◌≤◌, ◌+◌, ◌*◌, ◌==◌, ◌||◌, not, true, false, if◌then◌else◌, List, [], ◌∷◌, ◌++◌, length, map, take, drop, get_or, set, refl, arith, suc, zero, ap, sym, subst, ◌∙◌, inl, inr, None, replicate, length-set, length-append, get_or-set_same, get_or-set_other}
 use Rattle.std.specs.List.{All, sum_by, count_by, remove}
 use Rattle.std.proofs.lemmas.List.{drop-append-le, drop-set-lt, drop-drop, get_or-drop, length-drop, take-append-drop, length-replicate}
 use Rattle.std.proofs.lemmas.List.Elements.{All-get_or, All-set, All-push, All-weaker, All-drop, All-head, All-tail, All-nil, All-replicate}
 use Rattle.std.proofs.lemmas.List.Sums.{sum_by-set, sum_by-le, sum_by-append, sum_by-cons, get_or-le-sum_by}
-use Rattle.std.proofs.lemmas.Bool.{cases_Bool, cases_eq}
+use Rattle.std.proofs.Math.Seq.{take-length}
+use Rattle.std.proofs.lemmas.Bool.{cases_Bool, cases_eq, cases_lt}
 use Rattle.std.proofs.lemmas.Bool.Decides.{nat_tests}
 use Rattle.ti_types.specs.declared.numbers.EnvNo.{EnvNo}
 use Rattle.ti_types.specs.declared.event.Ticket.{Ticket}
@@ -335,6 +336,23 @@ no_answer Taken e = refl
 no_answer (Told a) e = cc
 
 -- an environment of which something is left has a count
+-- a call that is kept is open
+pub opens_in : (x : Stage) → is_open (fate_in x) ≡ true
+opens_in (Posted a b) = refl
+opens_in Taken = refl
+opens_in (Told a) = refl
+
+-- whether a call is open, by where it was found among those that are kept
+pub is_found : (window first cap : ℕ) (counts : List Count) (kept : List Kept) (u : Ticket) (all at : ℕ) → IsKept window first cap counts kept → all ≡ length kept → at ≤ all
+    → ((d : Kept) → at < all → is_at (get_or kept at d).ticket u ≡ true) → (at ≡ all → has u (take all kept) ≡ false) → is_open (fate_of u (lists_of counts kept)) ≡ not (at == all)
+is_found window first cap counts kept u all at s e h there nowhere =
+    ap is_open (fate_is counts kept u s.asked) ∙ elim (cases_lt at all) [
+      | inl below ↦ let d : Kept = record { ticket = u; stage = Taken } in
+          ap is_open (fate_at u kept at d (omega (arith, below, e)) s.once (there d below)) ∙ opens_in (get_or kept at d).stage ∙ grind (arith, nat_tests, below)
+      | inr past ↦ let n : at ≡ all = omega (arith, h, past) in
+          ap is_open (fate_none u kept (ap (has u) (sym (take-length kept)) ∙ ap (λ (m : ℕ). has u (take m kept)) (sym e) ∙ nowhere n)) ∙ grind (arith, nat_tests, n)
+    ]
+
 pub some_held : (window first cap : ℕ) (counts : List Count) (kept : List Kept) (u : Ticket) → IsKept window first cap counts kept → u.no < (count_of counts u.env.0).asked → is_open (fate_of u (lists_of counts kept)) ≡ true
     → 1 ≤ (count_of counts u.env.0).held
 some_held window first cap counts kept u s h o =

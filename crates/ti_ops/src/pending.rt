@@ -1,6 +1,6 @@
 //! The calls that wait at a thread, and the answers that are not collected yet.
 ghost use Rattle.std.specs.Prelude.{◌≡◌, ◌<◌, ◌+◌, ◌^◌, [], ◌∷◌, false, length, replicate, IfOk, IfErr, MatchOption, is_some, if◌then◌else◌};
-ghost use Rattle.ti_ops.specs.Fates.{fates_by, fate_of, open_by, told_by, with_call, with_fate, is_awaited};
+ghost use Rattle.ti_ops.specs.Fates.{fates_by, fate_of, open_by, told_by, is_open, with_call, with_fate, is_awaited};
 ghost use Rattle.ti_ops.specs.Ops.{with_waiting, with_fates, with_posted};
 ghost use Rattle.ti_ops.specs.declared.fate.Fate.TheVariants as fate;
 
@@ -89,6 +89,14 @@ impl PendingOps {
         ensures { result ≡ open_by env self.now.fates }
     {
         self.counts[env.0 as usize].held
+    }
+
+    /// Whether a ticket's call waits, or has an answer that is not collected.
+    pub fn is_out(&self, ticket: Ticket) -> bool
+        ensures { result ≡ is_open (fate_of ticket self.now.fates) }
+    {
+        let all = self.kept.len();
+        find(&self.kept, all, ticket) != all
     }
 
     /// Puts a call after those that wait. It is its environment's next one, and there is room for it.

@@ -13,14 +13,15 @@ use std::sync::{Mutex, Wait};
 use std::thread;
 use std::thread::{Promise, PromisedHandle, Scope, Threads, join_promised};
 use ti_agent::Env;
-use ti_cell::{OwnSeat, ThreadCell};
+use ti_cell::OwnSeat;
+use ti_handshake::SharedCell;
 use ti_live::{AgentCall, Listed, Script};
 use ti_types::{EnvNo, Event, ThreadNo};
 use ti_vmop::VmTurn;
 
 /// What a walk leaves is the owner's seat of this cell.
 #[derive(Clone, Copy)]
-pub(crate) struct SeatOf<'a>(&'a ThreadCell);
+pub(crate) struct SeatOf<'a>(&'a SharedCell);
 
 impl<'a> Promise<Walked> for SeatOf<'a> {
     ghost use Rattle.ti_runner.specs.Cells.{IsBack};
@@ -30,7 +31,7 @@ impl<'a> Promise<Walked> for SeatOf<'a> {
 
 /// What an agent leaves is a seat at each of these cells.
 #[derive(Clone, Copy)]
-pub(crate) struct SeatsAt<'a>(&'a [ThreadCell]);
+pub(crate) struct SeatsAt<'a>(&'a [SharedCell]);
 
 impl<'a> Promise<Called> for SeatsAt<'a> {
     ghost use Rattle.std.specs.Prelude.{◌≡◌};
@@ -48,7 +49,7 @@ fn start_walk<'s, E, R: Wait + Sync, G: Gate>(
     rt: &'s R,
     alloc: Global,
     gate: &'s G,
-    cell: &'s ThreadCell,
+    cell: &'s SharedCell,
     seat: OwnSeat,
     thread: ThreadNo,
     operations: &'s [Event],
@@ -58,13 +59,16 @@ fn start_walk<'s, E, R: Wait + Sync, G: Gate>(
     ensures { IfOk result (λ h. h.promise.0.now ≡ cell.now) }
 {
     let refused = Vec::with_capacity(alloc, operations.len())?;
+    let Ok(shared) = cell.share() else {
+        return Err(RunFault::Memory);
+    };
     let started = scope.spawn_with(
         SeatOf(cell),
         move || -> Walked
-            requires cell { seat.cell ≡ cell.now }
+            requires cell { seat.cell ≡ shared }
             requires new { IsNewOwner seat }
-            ensures { IsBack cell.entry.now result.seat }
-        { walk(rt, gate, cell, seat, thread, operations, refused) },
+            ensures { IsBack shared result.seat }
+        { walk(rt, gate, shared, seat, thread, operations, refused) },
     );
     match started {
         Ok(handle) => Ok(handle),
@@ -73,15 +77,15 @@ fn start_walk<'s, E, R: Wait + Sync, G: Gate>(
 }
 
 /// Starts the thread of one agent.
-fn start_agent<'s, 'c: 's, E, R: Wait + Sync, G: Gate>(
+fn start_agent<'s, E, R: Wait + Sync, G: Gate>(
     scope: &Scope<'s, E>,
     rt: &'s R,
     alloc: Global,
     gate: &'s G,
-    cells: &'s [ThreadCell],
+    cells: &'s [SharedCell],
     turn: &'s Mutex<VmTurn>,
     number: EnvNo,
-    env: Env<'c>,
+    env: Env,
     calls: &'s [AgentCall],
 ) -> Result<PromisedHandle<Called, SeatsAt<'s>>, RunFault>
     requires { cells_at env.desks ≡ cells.now }
@@ -94,7 +98,7 @@ fn start_agent<'s, 'c: 's, E, R: Wait + Sync, G: Gate>(
         move || -> Called
             requires empty { seats.items ≡ [] }
             requires room { length env.desks ≤ vec_capacity seats }
-            ensures { seats_at result.seats.items ≡ cells_at env.entry.desks }
+            ensures { seats_at result.seats.items ≡ cells_at env.desks }
         { call_all(rt, alloc, gate, turn, number, env, calls, replies, seats) },
     );
     match started {
@@ -109,7 +113,7 @@ fn start_walks<'s, E, R: Wait + Sync, G: Gate>(
     rt: &'s R,
     alloc: Global,
     gate: &'s G,
-    cells: &'s [ThreadCell],
+    cells: &'s [SharedCell],
     owners: Vec<OwnSeat>,
     walks: &'s [Listed<Event>],
 ) -> Result<Vec<PromisedHandle<Walked, SeatOf<'s>>>, RunFault>
@@ -137,14 +141,14 @@ fn start_walks<'s, E, R: Wait + Sync, G: Gate>(
 }
 
 /// Starts the threads of all agents, in their order.
-fn start_agents<'s, 'c: 's, E, R: Wait + Sync, G: Gate>(
+fn start_agents<'s, E, R: Wait + Sync, G: Gate>(
     scope: &Scope<'s, E>,
     rt: &'s R,
     alloc: Global,
     gate: &'s G,
-    cells: &'s [ThreadCell],
+    cells: &'s [SharedCell],
     turn: &'s Mutex<VmTurn>,
-    envs: Vec<Env<'c>>,
+    envs: Vec<Env>,
     calls: &'s [Listed<AgentCall>],
 ) -> Result<Vec<PromisedHandle<Called, SeatsAt<'s>>>, RunFault>
     requires desks { All (λ e. cells_at e.desks ≡ cells.now) envs.items }
@@ -172,15 +176,15 @@ fn start_agents<'s, 'c: 's, E, R: Wait + Sync, G: Gate>(
 }
 
 /// Starts all threads, and joins them.
-fn in_scope<'s, 'c: 's, E, R: Threads + Wait + Sync, G: Gate>(
+fn in_scope<'s, E, R: Threads + Wait + Sync, G: Gate>(
     scope: &Scope<'s, E>,
     rt: &'s R,
     alloc: Global,
     gate: &'s G,
     script: &'s Script,
-    cells: &'s [ThreadCell],
+    cells: &'s [SharedCell],
     owners: Vec<OwnSeat>,
-    envs: Vec<Env<'c>>,
+    envs: Vec<Env>,
     turn: &'s Mutex<VmTurn>,
 ) -> Result<Left, RunFault>
     requires owners { AreOwners cells.now owners.items }
@@ -219,9 +223,9 @@ pub(crate) fn activities<R: Threads + Wait + Sync, G: Gate>(
     alloc: Global,
     gate: &G,
     script: &Script,
-    cells: &[ThreadCell],
+    cells: &[SharedCell],
     owners: Vec<OwnSeat>,
-    envs: Vec<Env<'_>>,
+    envs: Vec<Env>,
     turn: &Mutex<VmTurn>,
 ) -> Result<Left, RunFault>
     requires owners { AreOwners cells.now owners.items }

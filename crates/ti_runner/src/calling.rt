@@ -88,7 +88,7 @@ fn trace(came: Result<TraceBuf, TiError>) -> Answer
 }
 
 /// A call at one thread.
-fn ask<R: Wait>(rt: &R, alloc: Global, env: &mut Env<'_>, thread: ThreadNo, call: Call) -> Answer
+fn ask<R: Wait>(rt: &R, alloc: Global, env: &mut Env, thread: ThreadNo, call: Call) -> Answer
     ensures { IsCalled env.old env.new thread call (said result) }
 {
     match call {
@@ -137,7 +137,7 @@ fn make<R: Wait>(
     rt: &R,
     alloc: Global,
     turn: &Mutex<VmTurn>,
-    env: &mut Env<'_>,
+    env: &mut Env,
     call: &AgentCall,
 ) -> Reply
     ensures { cells_at env.new.desks ≡ cells_at env.old.desks }
@@ -173,10 +173,10 @@ fn make<R: Wait>(
 }
 
 /// The seats of these desks, in their order.
-fn seats_of(desks: Vec<Desk<'_>>, seats: Vec<EnvSeat>) -> Vec<EnvSeat>
+fn seats_of(desks: Vec<Desk>, seats: Vec<EnvSeat>) -> Vec<EnvSeat>
     requires empty { seats.items ≡ [] }
     requires room { length desks.items ≤ vec_capacity seats }
-    ensures { seats_at result.items ≡ cells_at desks.entry.items }
+    ensures { seats_at result.items ≡ cells_at desks.items }
 {
     let mut seats = seats;
     for desk in desks {
@@ -192,14 +192,14 @@ pub(crate) fn call_all<R: Wait, G: Gate>(
     gate: &G,
     turn: &Mutex<VmTurn>,
     number: EnvNo,
-    env: Env<'_>,
+    env: Env,
     calls: &[AgentCall],
     replies: Vec<Reply>,
     seats: Vec<EnvSeat>,
 ) -> Called
     requires empty { seats.items ≡ [] }
     requires room { length env.desks ≤ vec_capacity seats }
-    ensures { seats_at result.seats.items ≡ cells_at env.entry.desks }
+    ensures { seats_at result.seats.items ≡ cells_at env.desks }
 {
     let mut env = env;
     let mut replies = replies;

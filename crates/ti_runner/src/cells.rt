@@ -8,15 +8,15 @@ ghost use Rattle.ti_runner.specs.Cells.{AreOwners, AreSeats, IsNewDesk};
 
 use std::alloc::Global;
 use ti_agent::Env;
-use ti_cell::{EnvSeat, OwnSeat, ThreadCell};
+use ti_cell::{EnvSeat, OwnSeat};
 use ti_env::EnvState;
-use ti_handshake::Desk;
+use ti_handshake::{Desk, SharedCell};
 use ti_types::{EnvNo, Limits, ThreadNo, TiError};
 
 /// The cells of a run, by the threads' numbers, with their seats.
 #[derive(Drop)]
 pub(crate) struct Cells {
-    pub cells: Vec<ThreadCell>,
+    pub cells: Vec<SharedCell>,
     /// The threads' own.
     pub owners: Vec<OwnSeat>,
     /// For each thread those of the environments, by their numbers.
@@ -34,7 +34,7 @@ pub(crate) fn make_cells(alloc: Global, limits: Limits) -> Result<Cells, TiError
     let mut owners = Vec::with_capacity(alloc, count)?;
     let mut seats = Vec::with_capacity(alloc, count)?;
     for number in 0..limits.threads {
-        let (cell, own, others) = ThreadCell::make(alloc, limits, ThreadNo(number))?;
+        let (cell, own, others) = SharedCell::make(alloc, limits, ThreadNo(number))?;
         cells.push_reserved(cell);
         owners.push_reserved(own);
         seats.push_reserved(others);
@@ -46,36 +46,36 @@ pub(crate) fn make_cells(alloc: Global, limits: Limits) -> Result<Cells, TiError
     })
 }
 
-/// The desk of the last of these environments.
-fn take_desk<'a>(
-    cell: &'a ThreadCell,
+/// The desk of the last of these environments. The only error is lack of memory.
+fn take_desk(
+    cell: &SharedCell,
     limits: Limits,
     thread: ThreadNo,
     env: EnvNo,
     seats: &mut Vec<EnvSeat>,
-) -> Desk<'a>
+) -> Result<Desk, TiError>
     requires seats { seats.old.items ≡ env_seats cell.now (subject_of limits thread) (env.0 + 1) }
     requires there { env.0 < limits.envs }
-    ensures desk { IsNewDesk cell.now limits thread env result }
+    ensures desk { IfOk result (λ d. IsNewDesk cell.now limits thread env d) }
     ensures rest { seats.new.items ≡ env_seats cell.now (subject_of limits thread) env.0 }
 {
     let _limits = limits;
     let _thread = thread;
     let _env = env;
     match seats.pop() {
-        Some(seat) => Desk::new(cell, seat),
+        Some(seat) => Ok(Desk::new(cell.share()?, seat)),
         None => unreachable!(),
     }
 }
 
 /// The last of these environments, with a desk at each cell. The only error is lack of memory.
-fn environment<'a>(
+fn environment(
     alloc: Global,
     limits: Limits,
-    cells: &'a [ThreadCell],
+    cells: &[SharedCell],
     seats: &mut [Vec<EnvSeat>],
     env: EnvNo,
-) -> Result<Env<'a>, TiError>
+) -> Result<Env, TiError>
     requires count { length cells.now ≡ limits.threads }
     requires seats { AreSeats limits (env.0 + 1) cells.now (map (λ l. l.items) seats.old) }
     requires there { env.0 < limits.envs }
@@ -86,18 +86,19 @@ fn environment<'a>(
     let mut desks = Vec::with_capacity(alloc, cells.len())?;
     for thread in 0..limits.threads {
         let k = thread as usize;
-        desks.push_reserved(take_desk(&cells[k], limits, ThreadNo(thread), env, &mut seats[k]));
+        let desk = take_desk(&cells[k], limits, ThreadNo(thread), env, &mut seats[k])?;
+        desks.push_reserved(desk);
     }
     Ok(Env::new(env, state, desks))
 }
 
 /// All environments, in the order of their numbers. The only error is lack of memory.
-pub(crate) fn environments<'a>(
+pub(crate) fn environments(
     alloc: Global,
     limits: Limits,
-    cells: &'a [ThreadCell],
+    cells: &[SharedCell],
     seats: Vec<Vec<EnvSeat>>,
-) -> Result<Vec<Env<'a>>, TiError>
+) -> Result<Vec<Env>, TiError>
     requires count { length cells.now ≡ limits.threads }
     requires seats { AreSeats limits limits.envs cells.now (map (λ l. l.items) seats.items) }
     ensures count { IfOk result (λ envs. length envs.items ≡ limits.envs) }

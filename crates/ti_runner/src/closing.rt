@@ -7,7 +7,8 @@ use crate::calling::Called;
 use crate::fault::RunFault;
 use crate::walking::Walked;
 use std::alloc::Global;
-use ti_cell::{EnvSeat, ThreadCell};
+use ti_cell::EnvSeat;
+use ti_handshake::SharedCell;
 use ti_live::{Listed, LiveReport, Refusal, Reply};
 use ti_types::Entry;
 
@@ -49,7 +50,7 @@ impl Told {
 }
 
 /// A seat goes back to the owner's.
-fn rejoin(cell: &ThreadCell, done: &mut Walked, seat: EnvSeat)
+fn rejoin(cell: &SharedCell, done: &mut Walked, seat: EnvSeat)
     requires back { IsBack cell.now done.old.seat }
     requires seat { seat.cell ≡ cell.now }
     ensures back { IsBack cell.now done.new.seat }
@@ -58,7 +59,7 @@ fn rejoin(cell: &ThreadCell, done: &mut Walked, seat: EnvSeat)
 }
 
 /// The seats of an agent go back to the threads' own.
-fn rejoin_all(cells: &[ThreadCell], walked: &mut [Walked], seats: Vec<EnvSeat>)
+fn rejoin_all(cells: &[SharedCell], walked: &mut [Walked], seats: Vec<EnvSeat>)
     requires back { AreBack cells.now walked.old }
     requires seats { seats_at seats.items ≡ cells.now }
     ensures { AreBack cells.now walked.new }
@@ -72,7 +73,7 @@ fn rejoin_all(cells: &[ThreadCell], walked: &mut [Walked], seats: Vec<EnvSeat>)
 
 /// The seats of all agents go back to the threads' own.
 pub(crate) fn give_back(
-    cells: &[ThreadCell],
+    cells: &[SharedCell],
     walked: &mut [Walked],
     called: Vec<Called>,
     told: &mut Told,
@@ -95,7 +96,7 @@ pub(crate) fn give_back(
 }
 
 /// Closes a cell, and tells what its thread left.
-fn close(cell: ThreadCell, done: Walked, told: &mut Told) -> Result<(), RunFault>
+fn close(cell: SharedCell, done: Walked, told: &mut Told) -> Result<(), RunFault>
     requires { IsBack cell done.seat }
 {
     let Walked {
@@ -104,6 +105,9 @@ fn close(cell: ThreadCell, done: Walked, told: &mut Told) -> Result<(), RunFault
         spent,
     } = done;
     told.spent = told.spent || spent;
+    let Some(cell) = cell.into_cell() else {
+        return Err(RunFault::Cell);
+    };
     let Some(slot) = cell.close(seat) else {
         return Err(RunFault::Cell);
     };
@@ -117,7 +121,7 @@ fn close(cell: ThreadCell, done: Walked, told: &mut Told) -> Result<(), RunFault
 
 /// Closes all cells, and tells what their threads left.
 pub(crate) fn close_all(
-    cells: Vec<ThreadCell>,
+    cells: Vec<SharedCell>,
     walked: Vec<Walked>,
     told: &mut Told,
 ) -> Result<(), RunFault>

@@ -4,22 +4,22 @@ ghost use Rattle.ti_runner.specs.Walks.{cell_of, cell_of_handed};
 
 use crate::gate::Gate;
 use std::sync::Wait;
-use ti_cell::{OwnSeat, ThreadCell};
-use ti_handshake::{AtSafe, Ended, Fresh, Polled, Running};
+use ti_cell::OwnSeat;
+use ti_handshake::{AtSafe, Ended, Fresh, Polled, Running, SharedCell};
 use ti_live::Refusal;
 use ti_types::{Event, Kind, Step, ThreadNo, TiError};
 
 /// A thread between two operations of its walk.
 #[derive(Drop)]
-enum Phase<'a> {
-    New(Fresh<'a>),
-    Runs(Running<'a>),
-    Rests(AtSafe<'a>),
-    Over(Ended<'a>),
+enum Phase {
+    New(Fresh),
+    Runs(Running),
+    Rests(AtSafe),
+    Over(Ended),
 }
 
 /// What an operation left: the thread, and why it was refused, if it was.
-type Took<'a> = (Phase<'a>, Option<TiError>);
+type Took = (Phase, Option<TiError>);
 
 /// What a walk leaves.
 #[derive(Drop)]
@@ -32,8 +32,8 @@ pub struct Walked {
 }
 
 /// Starts a new thread, and waits while a stop stands at it.
-fn start<'a, R: Wait>(rt: &R, phase: Phase<'a>) -> Took<'a>
-    ensures { cell_of result.0 ≡ cell_of phase.entry }
+fn start<R: Wait>(rt: &R, phase: Phase) -> Took
+    ensures { cell_of result.0 ≡ cell_of phase }
 {
     match phase {
         Phase::New(fresh) => (Phase::Runs(fresh.start(rt)), None),
@@ -42,8 +42,8 @@ fn start<'a, R: Wait>(rt: &R, phase: Phase<'a>) -> Took<'a>
 }
 
 /// Lets a thread that handed over return, and waits while it is barred.
-fn back<'a, R: Wait>(rt: &R, phase: Phase<'a>) -> Took<'a>
-    ensures { cell_of result.0 ≡ cell_of phase.entry }
+fn back<R: Wait>(rt: &R, phase: Phase) -> Took
+    ensures { cell_of result.0 ≡ cell_of phase }
 {
     match phase {
         Phase::Rests(safe) => (Phase::Runs(safe.back(rt)), None),
@@ -52,8 +52,8 @@ fn back<'a, R: Wait>(rt: &R, phase: Phase<'a>) -> Took<'a>
 }
 
 /// A step of a running thread.
-fn step<'a>(phase: Phase<'a>, step: Step) -> Took<'a>
-    ensures { cell_of result.0 ≡ cell_of phase.entry }
+fn step(phase: Phase, step: Step) -> Took
+    ensures { cell_of result.0 ≡ cell_of phase }
 {
     match phase {
         Phase::Runs(running) => {
@@ -66,8 +66,8 @@ fn step<'a>(phase: Phase<'a>, step: Step) -> Took<'a>
 }
 
 /// A poll of a running thread. Where it is held, it returns before anything else, and waits until it may.
-fn poll<'a, R: Wait>(rt: &R, phase: Phase<'a>) -> Took<'a>
-    ensures { cell_of result.0 ≡ cell_of phase.entry }
+fn poll<R: Wait>(rt: &R, phase: Phase) -> Took
+    ensures { cell_of result.0 ≡ cell_of phase }
 {
     match phase {
         Phase::Runs(running) => {
@@ -85,8 +85,8 @@ fn poll<'a, R: Wait>(rt: &R, phase: Phase<'a>) -> Took<'a>
 }
 
 /// What a hand-over came to.
-fn handed<'a>(came: Result<AtSafe<'a>, (TiError, Running<'a>)>) -> Took<'a>
-    ensures { cell_of result.0 ≡ cell_of_handed came.entry }
+fn handed(came: Result<AtSafe, (TiError, Running)>) -> Took
+    ensures { cell_of result.0 ≡ cell_of_handed came }
 {
     match came {
         Ok(safe) => (Phase::Rests(safe), None),
@@ -95,8 +95,8 @@ fn handed<'a>(came: Result<AtSafe<'a>, (TiError, Running<'a>)>) -> Took<'a>
 }
 
 /// Goes into native code.
-fn native<'a, R: Wait>(rt: &R, phase: Phase<'a>) -> Took<'a>
-    ensures { cell_of result.0 ≡ cell_of phase.entry }
+fn native<R: Wait>(rt: &R, phase: Phase) -> Took
+    ensures { cell_of result.0 ≡ cell_of phase }
 {
     match phase {
         Phase::Runs(running) => handed(running.native(rt)),
@@ -105,8 +105,8 @@ fn native<'a, R: Wait>(rt: &R, phase: Phase<'a>) -> Took<'a>
 }
 
 /// Blocks.
-fn block<'a, R: Wait>(rt: &R, phase: Phase<'a>, kind: Kind) -> Took<'a>
-    ensures { cell_of result.0 ≡ cell_of phase.entry }
+fn block<R: Wait>(rt: &R, phase: Phase, kind: Kind) -> Took
+    ensures { cell_of result.0 ≡ cell_of phase }
 {
     match phase {
         Phase::Runs(running) => handed(running.block(rt, kind)),
@@ -115,8 +115,8 @@ fn block<'a, R: Wait>(rt: &R, phase: Phase<'a>, kind: Kind) -> Took<'a>
 }
 
 /// Ends a running thread.
-fn end<'a, R: Wait>(rt: &R, phase: Phase<'a>) -> Took<'a>
-    ensures { cell_of result.0 ≡ cell_of phase.entry }
+fn end<R: Wait>(rt: &R, phase: Phase) -> Took
+    ensures { cell_of result.0 ≡ cell_of phase }
 {
     match phase {
         Phase::Runs(running) => (Phase::Over(running.end(rt)), None),
@@ -127,8 +127,8 @@ fn end<'a, R: Wait>(rt: &R, phase: Phase<'a>) -> Took<'a>
 /// One operation. One that does not fit the thread's state is not made: a start of a thread that is not new is refused with
 /// 210, a return of one that is not safe with 205, and any other of one that does not run with 204. An event that is no
 /// thread's own does nothing.
-fn take<'a, R: Wait>(rt: &R, phase: Phase<'a>, operation: Event) -> Took<'a>
-    ensures { cell_of result.0 ≡ cell_of phase.entry }
+fn take<R: Wait>(rt: &R, phase: Phase, operation: Event) -> Took
+    ensures { cell_of result.0 ≡ cell_of phase }
 {
     match operation {
         Event::Start(_) => start(rt, phase),
@@ -143,8 +143,8 @@ fn take<'a, R: Wait>(rt: &R, phase: Phase<'a>, operation: Event) -> Took<'a>
 }
 
 /// The seat of a thread whose walk is done. One that runs is ended.
-fn leave<R: Wait>(rt: &R, phase: Phase<'_>) -> OwnSeat
-    ensures cell { result.cell ≡ cell_of phase.entry }
+fn leave<R: Wait>(rt: &R, phase: Phase) -> OwnSeat
+    ensures cell { result.cell ≡ cell_of phase }
     ensures owner { result.view.number ≡ 0 }
 {
     match phase {
@@ -173,16 +173,16 @@ fn leave<R: Wait>(rt: &R, phase: Phase<'_>) -> OwnSeat
 pub(crate) fn walk<R: Wait, G: Gate>(
     rt: &R,
     gate: &G,
-    cell: &ThreadCell,
+    cell: SharedCell,
     seat: OwnSeat,
     thread: ThreadNo,
     operations: &[Event],
     refused: Vec<Refusal>,
 ) -> Walked
-    requires cell { seat.cell ≡ cell.now }
+    requires cell { seat.cell ≡ cell }
     requires owner { seat.view.number ≡ 0 }
     requires none { seat.view.mine ≡ [] }
-    ensures cell { result.seat.cell ≡ cell.now }
+    ensures cell { result.seat.cell ≡ cell }
     ensures owner { result.seat.view.number ≡ 0 }
 {
     let mut refused = refused;

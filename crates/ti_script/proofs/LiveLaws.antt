@@ -1,16 +1,17 @@
 -- Faults of live scripts in their order.
-use Rattle.std.proofs.Common.{ℕ, ◌≡◌, ◌||◌, List, [], ◌∷◌, Bool, true, false, is_some, if◌then◌else◌, Option, None, Some, Result, Ok, Err, inl, inr, codes, refl, ap, subst}
+use Rattle.std.proofs.Common.{ℕ, ◌≡◌, ◌||◌, List, [], ◌∷◌, Bool, true, false, is_some, if◌then◌else◌, Option, None, Some, Result, Ok, Err, inl, inr, codes, refl, subst}
 use Rattle.std.specs.List.{list_all}
 use Rattle.std.specs.Option.{ok_or, option_map}
 use Rattle.std.specs.Result.{IfErr, IsErrAnd}
 use Rattle.serde_json.specs.Data.{Data}
 use Rattle.ti_types.specs.declared.numbers.ThreadNo.{ThreadNo}
 use Rattle.ti_script.specs.declared.fault.ScriptFault.{ScriptFault}
-use Rattle.ti_script.specs.declared.fault.ScriptFault.TheVariants.{Shape, Name}
+use Rattle.ti_script.specs.declared.item.Spot.{Spot}
+use Rattle.ti_script.specs.Spots.{shape_at, name_at}
 use Rattle.ti_script.specs.declared.names.Cast.{Cast}
-use Rattle.ti_script.specs.Faults.{Faults, first_of, unless, head_shape}
-use Rattle.ti_script.specs.Tree.{at, has_exactly}
-use Rattle.ti_script.specs.Head.{is_text, limits_fault, cast_fault}
+use Rattle.ti_script.specs.Faults.{Faults, first_of}
+use Rattle.ti_script.specs.Tree.{at}
+use Rattle.ti_script.specs.Head.{is_text, members_fault, limits_fault, cast_fault}
 use Rattle.ti_script.specs.Walks.{cast_of}
 use Rattle.ti_script.specs.Events.{◌>>=◌, thread, thread_named, named, given, u32_in}
 use Rattle.ti_script.specs.Lives.{live_members, body_fault, live_fault, is_thread_element, threads_given}
@@ -25,11 +26,11 @@ fourth_fails : (e : ScriptFault) (a b c x : Option ScriptFault) → a ≡ None �
 fourth_fails e a b c x p q s f = rw (p, q, s) (last_fails e x f)
 
 -- a document whose head has no fault has that of its body
-pub body_fails : (d : Data) (cast : Cast) (e : ScriptFault) → has_exactly live_members d ≡ true → limits_fault (at (codes "limits") d) ≡ None → cast_fault d ≡ None → cast ≡ cast_of d
+pub body_fails : (d : Data) (cast : Cast) (e : ScriptFault) → members_fault live_members d ≡ None → limits_fault (at (codes "limits") d) ≡ None → cast_fault d ≡ None → cast ≡ cast_of d
     → Faults e (body_fault cast d) → Faults e (live_fault d)
 body_fails d cast e members limits names same f =
-    fourth_fails e (unless (has_exactly live_members d) head_shape) (limits_fault (at (codes "limits") d)) (cast_fault d) (body_fault (cast_of d) d)
-    (ap (λ b. unless b head_shape) members) limits names (subst (λ c. Faults e (body_fault c d)) same f)
+    fourth_fails e (members_fault live_members d) (limits_fault (at (codes "limits") d)) (cast_fault d) (body_fault (cast_of d) d)
+    members limits names (subst (λ c. Faults e (body_fault c d)) same f)
 
 -- an error of which one thing is known
 pub err_is : {X E : Type 0} (r : Result X E) {Q : E → Type 0} (P : E → Type 0) → IsErrAnd r Q → ((e : E) → Q e → P e) → IfErr r P
@@ -52,12 +53,12 @@ rest_given (Ok t) (Ok us) ts e = (us, refl)
 rest_given (Ok t) (Err f) ts e = cc e
 rest_given (Err f) more ts e = cc e
 
-pub all_elements : (cast : Cast) (item : ℕ) (ds : List Data) (ts : List ThreadNo) → threads_given cast item ds ≡ Ok ts → list_all is_thread_element ds ≡ true
-all_elements cast item [] ts e = refl
-all_elements cast item (d ∷ ds) ts e =
-    let g = given cast item thread d in
-    let m = threads_given cast item ds in
+pub all_elements : (cast : Cast) (spot : Spot) (ds : List Data) (ts : List ThreadNo) → threads_given cast spot ds ≡ Ok ts → list_all is_thread_element ds ≡ true
+all_elements cast spot [] ts e = refl
+all_elements cast spot (d ∷ ds) ts e =
+    let g = given cast spot thread d in
+    let m = threads_given cast spot ds in
     let a = first_given g m ts e in
     let b = rest_given g m ts e in
-    let first : is_thread_element d ≡ true = element_is (is_text d) (u32_in d) (named cast item (thread_named cast item) (Name item) d) (Shape item) a.0 a.1 in
-    rw (first, all_elements cast item ds b.0 b.1) refl
+    let first : is_thread_element d ≡ true = element_is (is_text d) (u32_in d) (named cast spot (thread_named cast spot) (name_at spot) d) (shape_at spot) a.0 a.1 in
+    rw (first, all_elements cast spot ds b.0 b.1) refl

@@ -9,7 +9,10 @@ use Rattle.ti_types.specs.declared.state.Kind.TheVariants.{Park}
 use Rattle.ti_types.specs.declared.numbers.ThreadNo.{ThreadNo}
 use Rattle.ti_live.specs.declared.call.AgentCall.TheVariants as call
 use Rattle.ti_script.specs.declared.fault.LimitName.TheVariants.{Depth}
+use Rattle.ti_script.specs.declared.fault.MemberName.TheVariants.{Limits, Own, Threads, Walks, Calls}
+use Rattle.ti_script.specs.declared.fault.Part.TheVariants.{Whole, Member, Element}
 use Rattle.ti_script.specs.declared.fault.ScriptFault.TheVariants.{Shape, Name, Limit}
+use Rattle.ti_script.specs.Head.{limits_fault}
 use Rattle.ti_script.specs.Walks.{cast_of}
 use Rattle.ti_script.specs.Lives.{items_of, live_fault}
 
@@ -102,26 +105,45 @@ what_is_walked = refl
 
 -- ---- the head, and then the two lists
 
+-- a member that is missing is named, the first of two of them, and one too many is not
+nothing_is_there : live_fault (object no_members) ≡ Some (Shape 0 (Member Limits))
+nothing_is_there = refl
+
+no_object : live_fault null ≡ Some (Shape 0 Whole)
+no_object = refl
+
+limits_are_no_object : limits_fault null ≡ Some (Shape 0 (Member Limits))
+limits_are_no_object = refl
+
+no_own : limits_fault (object (member (codes "calls") (whole 8) (member (codes "depth") (whole 4) no_members))) ≡ Some (Shape 0 (Member Own))
+no_own = refl
+
+one_limit_more : limits_fault (object (member (codes "calls") (whole 8) (member (codes "depth") (whole 4) (member (codes "own") (whole 32) (member (codes "threads") (whole 2) no_members))))) ≡ Some (Shape 0 (Member Limits))
+one_limit_more = refl
+
+own_is_a_text : limits_fault (object (member (codes "calls") (text []) (member (codes "depth") (whole 4) (member (codes "own") (text []) no_members)))) ≡ Some (Shape 0 (Member Own))
+own_is_a_text = refl
+
 depth_comes_first : live_fault (document 0 null null null) ≡ Some (Limit Depth)
 depth_comes_first = refl
 
-names_come_next : live_fault (document 4 (list (text (codes "t0") ∷ text (codes "t0") ∷ [])) null null) ≡ Some (Name 0)
+names_come_next : live_fault (document 4 (list (text (codes "t0") ∷ text (codes "t0") ∷ [])) null null) ≡ Some (Name 0 (Member Threads))
 names_come_next = refl
 
-no_array : live_fault (document 4 two null (list (list [] ∷ []))) ≡ Some (Shape 0)
+no_array : live_fault (document 4 two null (list (list [] ∷ []))) ≡ Some (Shape 0 (Member Walks))
 no_array = refl
 
-one_walk_of_two : live_fault (document 4 two (list (list [] ∷ [])) (list (list [] ∷ []))) ≡ Some (Shape 0)
+one_walk_of_two : live_fault (document 4 two (list (list [] ∷ [])) (list (list [] ∷ []))) ≡ Some (Shape 0 (Member Walks))
 one_walk_of_two = refl
 
-a_walk_is_no_array : live_fault (document 4 two (list (list [] ∷ null ∷ [])) (list (list [] ∷ []))) ≡ Some (Shape 0)
+a_walk_is_no_array : live_fault (document 4 two (list (list [] ∷ null ∷ [])) (list (list [] ∷ []))) ≡ Some (Shape 0 (Member Walks))
 a_walk_is_no_array = refl
 
-calls_of_two : live_fault (document 4 two no_walks (list (list [] ∷ list [] ∷ []))) ≡ Some (Shape 0)
+calls_of_two : live_fault (document 4 two no_walks (list (list [] ∷ list [] ∷ []))) ≡ Some (Shape 0 (Member Calls))
 calls_of_two = refl
 
 -- lists come before items
-shape_before_items : live_fault (document 4 two (list (list (null ∷ []) ∷ list [] ∷ [])) null) ≡ Some (Shape 0)
+shape_before_items : live_fault (document 4 two (list (list (null ∷ []) ∷ list [] ∷ [])) null) ≡ Some (Shape 0 (Member Calls))
 shape_before_items = refl
 
 -- ---- items are numbered over the walks, and then on over the calls
@@ -129,49 +151,49 @@ shape_before_items = refl
 abbrev jump : Data
 jump = list (text (codes "jump") ∷ [])
 
-second_walk : live_fault (document 4 two (list (list (start ∷ []) ∷ list (start ∷ jump ∷ []) ∷ [])) (list (list (jump ∷ []) ∷ []))) ≡ Some (Shape 3)
+second_walk : live_fault (document 4 two (list (list (start ∷ []) ∷ list (start ∷ jump ∷ []) ∷ [])) (list (list (jump ∷ []) ∷ []))) ≡ Some (Shape 3 (Element 0))
 second_walk = refl
 
-first_call : live_fault (document 4 two (list (list (start ∷ []) ∷ list (start ∷ []) ∷ [])) (list (list (jump ∷ []) ∷ []))) ≡ Some (Shape 3)
+first_call : live_fault (document 4 two (list (list (start ∷ []) ∷ list (start ∷ []) ∷ [])) (list (list (jump ∷ []) ∷ []))) ≡ Some (Shape 3 (Element 0))
 first_call = refl
 
-second_call : live_fault (document 4 two (list (list (start ∷ []) ∷ list (start ∷ []) ∷ [])) (list (list (list (text (codes "caps") ∷ []) ∷ jump ∷ []) ∷ []))) ≡ Some (Shape 4)
+second_call : live_fault (document 4 two (list (list (start ∷ []) ∷ list (start ∷ []) ∷ [])) (list (list (list (text (codes "caps") ∷ []) ∷ jump ∷ []) ∷ []))) ≡ Some (Shape 4 (Element 0))
 second_call = refl
 
 -- ---- within an item
 
-no_text : live_fault (calling (list [] ∷ [])) ≡ Some (Shape 1)
+no_text : live_fault (calling (list [] ∷ [])) ≡ Some (Shape 1 Whole)
 no_text = refl
 
-no_word : live_fault (calling (list (whole 5 ∷ []) ∷ [])) ≡ Some (Shape 1)
+no_word : live_fault (calling (list (whole 5 ∷ []) ∷ [])) ≡ Some (Shape 1 (Element 0))
 no_word = refl
 
-with_its_subject : live_fault (calling (list (text (codes "e") ∷ text (codes "caps") ∷ []) ∷ [])) ≡ Some (Shape 1)
+with_its_subject : live_fault (calling (list (text (codes "e") ∷ text (codes "caps") ∷ []) ∷ [])) ≡ Some (Shape 1 (Element 0))
 with_its_subject = refl
 
 -- an agent has no stop of its own, and a thread no call
-no_stop : live_fault (calling (list (text (codes "stop") ∷ text (codes "t0") ∷ []) ∷ [])) ≡ Some (Shape 1)
+no_stop : live_fault (calling (list (text (codes "stop") ∷ text (codes "t0") ∷ []) ∷ [])) ≡ Some (Shape 1 (Element 0))
 no_stop = refl
 
-no_call_of_a_thread : live_fault (document 4 two (list (list (list (text (codes "all") ∷ whole 1 ∷ []) ∷ []) ∷ list [] ∷ [])) (list (list [] ∷ []))) ≡ Some (Shape 1)
+no_call_of_a_thread : live_fault (document 4 two (list (list (list (text (codes "all") ∷ whole 1 ∷ []) ∷ []) ∷ list [] ∷ [])) (list (list [] ∷ []))) ≡ Some (Shape 1 (Element 0))
 no_call_of_a_thread = refl
 
-one_more_element : live_fault (calling (list (text (codes "all") ∷ whole 1 ∷ whole 1 ∷ []) ∷ [])) ≡ Some (Shape 1)
+one_more_element : live_fault (calling (list (text (codes "all") ∷ whole 1 ∷ whole 1 ∷ []) ∷ [])) ≡ Some (Shape 1 Whole)
 one_more_element = refl
 
 -- a list's kinds before its names, and its names before the count after it
-kinds_first : live_fault (calling (list (text (codes "list") ∷ list (text (codes "zz") ∷ null ∷ []) ∷ whole 1 ∷ []) ∷ [])) ≡ Some (Shape 1)
+kinds_first : live_fault (calling (list (text (codes "list") ∷ list (text (codes "zz") ∷ null ∷ []) ∷ whole 1 ∷ []) ∷ [])) ≡ Some (Shape 1 (Element 1))
 kinds_first = refl
 
-names_then : live_fault (calling (list (text (codes "list") ∷ list (text (codes "zz") ∷ []) ∷ null ∷ []) ∷ [])) ≡ Some (Name 1)
+names_then : live_fault (calling (list (text (codes "list") ∷ list (text (codes "zz") ∷ []) ∷ null ∷ []) ∷ [])) ≡ Some (Name 1 (Element 1))
 names_then = refl
 
-count_then : live_fault (calling (list (text (codes "list") ∷ list (text (codes "t0") ∷ []) ∷ null ∷ []) ∷ [])) ≡ Some (Shape 1)
+count_then : live_fault (calling (list (text (codes "list") ∷ list (text (codes "t0") ∷ []) ∷ null ∷ []) ∷ [])) ≡ Some (Shape 1 (Element 2))
 count_then = refl
 
 -- at most 1,024 elements
 as_many_as_may_be : live_fault (calling (list (text (codes "suspend_list") ∷ list (replicate 1024 (whole 9)) ∷ []) ∷ [])) ≡ None
 as_many_as_may_be = refl
 
-one_too_many : live_fault (calling (list (text (codes "suspend_list") ∷ list (replicate 1025 (text (codes "zz"))) ∷ []) ∷ [])) ≡ Some (Shape 1)
+one_too_many : live_fault (calling (list (text (codes "suspend_list") ∷ list (replicate 1025 (text (codes "zz"))) ∷ []) ∷ [])) ≡ Some (Shape 1 (Element 1))
 one_too_many = refl

@@ -1,5 +1,5 @@
 -- The events of a walk: a table of words for each subject, and what the further elements are.
-use Rattle.std.specs.Prelude.{ℕ, ◌++◌, ◌^◌, ◌==◌, ℤ, List, [], ◌∷◌, length, codes, Option, None, Some, Result, Ok, Err, option_and_then, map, nat_lt, int_le, negsuc, pos, ◌&&◌, if◌then◌else◌}
+use Rattle.std.specs.Prelude.{ℕ, ◌++◌, ◌+◌, ◌^◌, ◌==◌, ℤ, List, [], ◌∷◌, length, codes, Option, None, Some, Result, Ok, Err, option_and_then, map, nat_lt, int_le, negsuc, pos, ◌&&◌, if◌then◌else◌}
 use Rattle.std.specs.Option.{option_map, option_map_or, ok_or}
 use Rattle.std.specs.Str.{bytes_eq}
 use Rattle.std.specs.List.{list_all}
@@ -18,11 +18,13 @@ use Rattle.ti_types.specs.declared.numbers.ThreadNo.{ThreadNo}
 use Rattle.ti_types.specs.declared.numbers.EnvNo.{EnvNo}
 use Rattle.ti_types.specs.declared.numbers.MethodNo.{MethodNo}
 use Rattle.ti_script.specs.declared.fault.ScriptFault.{ScriptFault}
-use Rattle.ti_script.specs.declared.fault.ScriptFault.TheVariants.{Shape, Name}
+use Rattle.ti_script.specs.declared.item.Item.{Item}
+use Rattle.ti_script.specs.declared.item.Spot.{Spot}
 use Rattle.ti_script.specs.declared.names.Cast.{Cast}
 use Rattle.ti_script.specs.Names.{number_in}
 use Rattle.ti_script.specs.Tree.{array_in, whole_in}
 use Rattle.ti_script.specs.Head.{is_text, text_in}
+use Rattle.ti_script.specs.Spots.{walk_item, subject_of, behind_word, shape_of, shape_at, name_at}
 
 -- the first fault ends the reading
 infixl 10 ◌>>=◌
@@ -148,10 +150,10 @@ abbrev pub caps_named : Caps → List (List ℕ) → Option Caps
 caps_named held [] = Some held
 caps_named held (text ∷ more) = option_and_then (λ cap. caps_named (caps_with held cap) more) (cap_named text)
 
-module _ (cast : Cast) (item : ℕ) where
-  -- a text that stands for something, and the fault of one that does not
+module _ (cast : Cast) (spot : Spot) where
+  -- a text that names something, and the fault of one that does not
   abbrev pub named : {A : Type 0} → (List ℕ → Option A) → ScriptFault → Data → Result A ScriptFault
-  named meaning fault d = ok_or (as_str d) (Shape item) >>= λ text. ok_or (meaning text) fault
+  named meaning fault d = ok_or (as_str d) (shape_at spot) >>= λ text. ok_or (meaning text) fault
 
   abbrev pub thread_named : List ℕ → Option ThreadNo
   thread_named text = option_map (λ n. record { 0 = n }) (number_in cast.threads text)
@@ -160,38 +162,40 @@ module _ (cast : Cast) (item : ℕ) where
   method_named text = option_map (λ n. record { 0 = n }) (number_in cast.methods text)
 
   abbrev pub caps_in : List Data → Result Caps ScriptFault
-  caps_in ds = if list_all is_text ds then ok_or (caps_named no_caps (map text_in ds)) (Name item) else Err (Shape item)
+  caps_in ds = if list_all is_text ds then ok_or (caps_named no_caps (map text_in ds)) (name_at spot) else Err (shape_at spot)
 
   -- what an element gives
   abbrev pub given : (element : Element) → Data → Result (Given element) ScriptFault
-  given thread d = if is_text d then named thread_named (Name item) d else ok_or (option_map (λ n. record { 0 = n }) (u32_in d)) (Shape item)
-  given method d = named method_named (Name item) d
-  given kind d = named kind_named (Shape item) d
-  given number d = ok_or (u32_in d) (Shape item)
-  given signed d = ok_or (i32_in d) (Shape item)
-  given word d = ok_or (whole_in d) (Shape item)
-  given caps d = ok_or (array_in d) (Shape item) >>= caps_in
+  given thread d = if is_text d then named thread_named (name_at spot) d else ok_or (option_map (λ n. record { 0 = n }) (u32_in d)) (shape_at spot)
+  given method d = named method_named (name_at spot) d
+  given kind d = named kind_named (shape_at spot) d
+  given number d = ok_or (u32_in d) (shape_at spot)
+  given signed d = ok_or (i32_in d) (shape_at spot)
+  given word d = ok_or (whole_in d) (shape_at spot)
+  given caps d = ok_or (array_in d) (shape_at spot) >>= caps_in
 
-  -- the event, once the elements have given what they give, from left to right
-  abbrev pub filled : (elements : List Element) → Maker elements → List Data → Result Event ScriptFault
-  filled [] event ds = Ok event
-  filled (e ∷ es) event [] = Err (Shape item)
-  filled (e ∷ es) event (d ∷ ds) = given e d >>= λ x. filled es (event x) ds
+module _ (cast : Cast) (item : Item) where
+  -- the event, once the elements so many places behind the word have given what they give, from left to right
+  abbrev pub filled : (places : ℕ) → (elements : List Element) → Maker elements → List Data → Result Event ScriptFault
+  filled places [] event ds = Ok event
+  filled places (e ∷ es) event [] = Err (shape_of item)
+  filled places (e ∷ es) event (d ∷ ds) = given cast (behind_word item places) e d >>= λ x. filled (places + 1) es (event x) ds
 
   abbrev pub row_event : List Data → Row → Result Event ScriptFault
-  row_event ds r = if length ds == length r.elements then filled r.elements r.event ds else Err (Shape item)
+  row_event ds r = if length ds == length r.elements then filled 1 r.elements r.event ds else Err (shape_of item)
 
   abbrev pub word_event : List (List ℕ × Row) → List ℕ → List Data → Result Event ScriptFault
-  word_event table text ds = ok_or (lookup (bytes_eq text) table) (Shape item) >>= row_event ds
+  word_event table text ds = ok_or (lookup (bytes_eq text) table) (shape_at (behind_word item 0)) >>= row_event ds
 
   abbrev pub subject_event : List ℕ → List ℕ → List Data → Result Event ScriptFault
   subject_event subject text ds =
-      ok_or (subject_table cast subject) (Name item) >>= λ table. word_event table text ds
+      ok_or (subject_table cast subject) (name_at (subject_of item)) >>= λ table. word_event table text ds
 
   -- an event: a subject, a word and what the word's row wants
   abbrev pub list_event : List Data → Result Event ScriptFault
-  list_event (a ∷ b ∷ ds) = ok_or (as_str a) (Shape item) >>= λ subject. ok_or (as_str b) (Shape item) >>= λ text. subject_event subject text ds
-  list_event ds = Err (Shape item)
+  list_event (a ∷ b ∷ ds) = ok_or (as_str a) (shape_at (subject_of item)) >>= λ subject. ok_or (as_str b) (shape_at (behind_word item 0)) >>= λ text. subject_event subject text ds
+  list_event ds = Err (shape_of item)
 
-  abbrev pub event_in : Data → Result Event ScriptFault
-  event_in d = ok_or (array_in d) (Shape item) >>= list_event
+-- the event of an item of this number
+abbrev pub event_in : Cast → ℕ → Data → Result Event ScriptFault
+event_in cast n d = ok_or (array_in d) (shape_of (walk_item n)) >>= list_event cast (walk_item n)

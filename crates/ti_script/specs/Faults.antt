@@ -2,14 +2,16 @@
 use Rattle.std.specs.Prelude.{◌≡◌, ◌⊎◌, List, [], ◌∷◌, Bool, Option, None, Some, Result, Ok, Err, if◌then◌else◌}
 use Rattle.std.specs.Result.{result_err}
 use Rattle.ti_script.specs.declared.fault.ScriptFault.{ScriptFault}
+use Rattle.ti_script.specs.declared.fault.MemberName.{MemberName}
+use Rattle.ti_script.specs.declared.fault.Part.TheVariants.{Member}
 use Rattle.ti_script.specs.declared.fault.ScriptFault.TheVariants.{Shape, Name, Memory}
 
--- the faults of the head
-abbrev pub head_shape : ScriptFault
-head_shape = Shape 0
+-- the faults of a member of the head
+abbrev pub member_shape : MemberName → ScriptFault
+member_shape which = Shape 0 (Member which)
 
-abbrev pub head_name : ScriptFault
-head_name = Name 0
+abbrev pub member_name : MemberName → ScriptFault
+member_name which = Name 0 (Member which)
 
 -- the fault, unless the test holds
 abbrev pub unless : Bool → ScriptFault → Option ScriptFault

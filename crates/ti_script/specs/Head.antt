@@ -7,10 +7,13 @@ use Rattle.serde_json.specs.Find.{get, as_str}
 use Rattle.ti_script.specs.declared.fault.LimitName.{LimitName}
 use Rattle.ti_script.specs.declared.fault.LimitName.TheVariants.{Depth, Own, Calls, Threads, Agents, Methods, Events}
 use Rattle.ti_script.specs.declared.fault.ScriptFault.{ScriptFault}
-use Rattle.ti_script.specs.declared.fault.ScriptFault.TheVariants.{Limit}
+use Rattle.ti_script.specs.declared.fault.ScriptFault.TheVariants.{Shape, Limit}
+use Rattle.ti_script.specs.declared.fault.MemberName.{MemberName}
+use Rattle.ti_script.specs.declared.fault.MemberName.TheVariants as member
+use Rattle.ti_script.specs.declared.fault.Part.TheVariants.{Whole, Member}
 use Rattle.ti_script.specs.Names.{is_among}
-use Rattle.ti_script.specs.Tree.{array_in, elements, at, has_exactly, whole_in}
-use Rattle.ti_script.specs.Faults.{unless, first_of, head_shape, head_name}
+use Rattle.ti_script.specs.Tree.{array_in, elements, at, has_exactly, wrong_member, whole_in}
+use Rattle.ti_script.specs.Faults.{unless, first_of, member_shape, member_name}
 
 -- ---- limits
 
@@ -23,12 +26,15 @@ whole_at key d = option_and_then whole_in (get key d)
 abbrev pub number_at : List ℕ → Data → ℕ
 number_at key d = unwrap_or (whole_at key d) 0
 
+abbrev pub limits_members : List MemberName
+limits_members = member.Depth ∷ member.Own ∷ member.CallLimit ∷ []
+
 abbrev pub limits_fault : Data → Option ScriptFault
 limits_fault d = first_of
-    (unless (has_exactly (codes "depth" ∷ codes "own" ∷ codes "calls" ∷ []) d) head_shape
-    ∷ unless (is_some (whole_at (codes "depth") d)) head_shape
-    ∷ unless (is_some (whole_at (codes "own") d)) head_shape
-    ∷ unless (is_some (whole_at (codes "calls") d)) head_shape
+    (unless (has_exactly limits_members d) (Shape 0 (wrong_member (Member member.Limits) limits_members d))
+    ∷ unless (is_some (whole_at (codes "depth") d)) (member_shape member.Depth)
+    ∷ unless (is_some (whole_at (codes "own") d)) (member_shape member.Own)
+    ∷ unless (is_some (whole_at (codes "calls") d)) (member_shape member.CallLimit)
     ∷ unless (is_within 1 4096 (number_at (codes "depth") d)) (Limit Depth)
     ∷ unless (is_within 1 65536 (number_at (codes "own") d)) (Limit Own)
     ∷ unless (is_within 1 1024 (number_at (codes "calls") d)) (Limit Calls)
@@ -60,36 +66,40 @@ abbrev pub are_names : List (List ℕ) → List (List ℕ) → Bool
 are_names earlier [] = true
 are_names earlier (text ∷ more) = is_name text && (not (is_among earlier text) && are_names (earlier ++ text ∷ []) more)
 
-abbrev pub names_fault : LimitName → ℕ → ℕ → List (List ℕ) → Data → Option ScriptFault
-names_fault which low high earlier d = first_of
-    (unless (is_some (array_in d) && list_all is_text (elements d)) head_shape
-    ∷ unless (is_within low high (length (elements d))) (Limit which)
-    ∷ unless (are_names earlier (texts d)) head_name
+abbrev pub names_fault : MemberName → LimitName → ℕ → ℕ → List (List ℕ) → Data → Option ScriptFault
+names_fault which limit low high earlier d = first_of
+    (unless (is_some (array_in d) && list_all is_text (elements d)) (member_shape which)
+    ∷ unless (is_within low high (length (elements d))) (Limit limit)
+    ∷ unless (are_names earlier (texts d)) (member_name which)
     ∷ [])
 
 -- ---- the whole head
 
-abbrev pub walk_members : List (List ℕ)
-walk_members = codes "limits" ∷ codes "threads" ∷ codes "agents" ∷ codes "methods" ∷ codes "events" ∷ []
+abbrev pub walk_members : List MemberName
+walk_members = member.Limits ∷ member.Threads ∷ member.Agents ∷ member.Methods ∷ member.Events ∷ []
+
+-- the document is an object with exactly these members
+abbrev pub members_fault : List MemberName → Data → Option ScriptFault
+members_fault members d = unless (has_exactly members d) (Shape 0 (wrong_member Whole members d))
 
 -- the tests of the three arrays of names
 abbrev pub cast_fault : Data → Option ScriptFault
 cast_fault d = first_of
-    (names_fault Threads 1 64 [] (at (codes "threads") d)
-    ∷ names_fault Agents 1 32 (texts (at (codes "threads") d)) (at (codes "agents") d)
-    ∷ names_fault Methods 0 65536 [] (at (codes "methods") d)
+    (names_fault member.Threads Threads 1 64 [] (at (codes "threads") d)
+    ∷ names_fault member.Agents Agents 1 32 (texts (at (codes "threads") d)) (at (codes "agents") d)
+    ∷ names_fault member.Methods Methods 0 65536 [] (at (codes "methods") d)
     ∷ [])
 
-abbrev pub items_fault : LimitName → ℕ → Data → Option ScriptFault
-items_fault which high d = first_of
-    (unless (is_some (array_in d)) head_shape
-    ∷ unless (is_within 0 high (length (elements d))) (Limit which)
+abbrev pub items_fault : MemberName → LimitName → ℕ → Data → Option ScriptFault
+items_fault which limit high d = first_of
+    (unless (is_some (array_in d)) (member_shape which)
+    ∷ unless (is_within 0 high (length (elements d))) (Limit limit)
     ∷ [])
 
 abbrev pub head_fault : Data → Option ScriptFault
 head_fault d = first_of
-    (unless (has_exactly walk_members d) head_shape
+    (members_fault walk_members d
     ∷ limits_fault (at (codes "limits") d)
     ∷ cast_fault d
-    ∷ items_fault Events 65536 (at (codes "events") d)
+    ∷ items_fault member.Events Events 65536 (at (codes "events") d)
     ∷ [])

@@ -6,16 +6,18 @@ use Rattle.serde_json.specs.Data.{Data}
 use Rattle.serde_json.specs.Find.{as_number, as_i64}
 use Rattle.ti_types.specs.declared.entry.Entry.{Entry}
 use Rattle.ti_script.specs.declared.fault.LimitName.TheVariants.{Agents, Entries, Format}
+use Rattle.ti_script.specs.declared.fault.MemberName.{MemberName}
+use Rattle.ti_script.specs.declared.fault.MemberName.TheVariants as member
 use Rattle.ti_script.specs.declared.fault.ScriptFault.{ScriptFault}
 use Rattle.ti_script.specs.declared.fault.ScriptFault.TheVariants.{Limit}
 use Rattle.ti_script.specs.declared.history.History.{History}
-use Rattle.ti_script.specs.Tree.{at, elements, has_exactly, whole_in}
-use Rattle.ti_script.specs.Faults.{unless, first_of, head_shape}
-use Rattle.ti_script.specs.Head.{is_within, limits_fault, bounds_of, items_fault}
+use Rattle.ti_script.specs.Tree.{at, elements, whole_in}
+use Rattle.ti_script.specs.Faults.{unless, first_of, member_shape}
+use Rattle.ti_script.specs.Head.{is_within, members_fault, limits_fault, bounds_of, items_fault}
 use Rattle.ti_script.specs.Entries.{entries_in}
 
-abbrev pub history_members : List (List ℕ)
-history_members = codes "format" ∷ codes "limits" ∷ codes "agents" ∷ codes "entries" ∷ []
+abbrev pub history_members : List MemberName
+history_members = member.Format ∷ member.Limits ∷ member.Agents ∷ member.Entries ∷ []
 
 -- a whole number, also one below 0
 abbrev pub is_whole : Data → Bool
@@ -27,7 +29,7 @@ format_of d = unwrap_or (whole_in d) 0
 
 abbrev pub format_fault : Data → Option ScriptFault
 format_fault d = first_of
-    (unless (is_whole d) head_shape
+    (unless (is_whole d) (member_shape member.Format)
     ∷ unless (option_map_or (λ n. n == 1 || n == 2) (whole_in d) false) (Limit Format)
     ∷ [])
 
@@ -37,17 +39,17 @@ most_agents format = if format == 2 then 32 else 8
 
 abbrev pub agents_fault : (format : ℕ) → Data → Option ScriptFault
 agents_fault format d = first_of
-    (unless (is_some (whole_in d)) head_shape
+    (unless (is_some (whole_in d)) (member_shape member.Agents)
     ∷ unless (is_within 1 (most_agents format) (unwrap_or (whole_in d) 0)) (Limit Agents)
     ∷ [])
 
 abbrev pub history_head_fault : Data → Option ScriptFault
 history_head_fault d = first_of
-    (unless (has_exactly history_members d) head_shape
+    (members_fault history_members d
     ∷ format_fault (at (codes "format") d)
     ∷ limits_fault (at (codes "limits") d)
     ∷ agents_fault (format_of (at (codes "format") d)) (at (codes "agents") d)
-    ∷ items_fault Entries 262144 (at (codes "entries") d)
+    ∷ items_fault member.Entries Entries 262144 (at (codes "entries") d)
     ∷ [])
 
 abbrev pub entries_of : Data → Result (List Entry) ScriptFault

@@ -8,6 +8,8 @@ pub mod Texts
 pub mod Entries
 pub mod Histories
 pub mod LimitNames
+pub mod Members
+pub mod Spots
 pub mod Bounds
 pub mod Lives
 pub mod LiveTexts

@@ -14,20 +14,25 @@ use Rattle.ti_types.specs.declared.numbers.EnvNo.{EnvNo}
 use Rattle.ti_live.specs.declared.call.AgentCall.{AgentCall}
 use Rattle.ti_live.specs.declared.call.AgentCall.TheVariants.{Ask, AddCaps, Relinquish, GetCaps, SetEnvWord, GetEnvWord, SuspendList, ResumeList, AllStacks, ListStacks}
 use Rattle.ti_script.specs.declared.fault.LimitName.TheVariants.{Walks, CallsList}
+use Rattle.ti_script.specs.declared.fault.MemberName.{MemberName}
+use Rattle.ti_script.specs.declared.fault.MemberName.TheVariants as member
 use Rattle.ti_script.specs.declared.fault.ScriptFault.{ScriptFault}
-use Rattle.ti_script.specs.declared.fault.ScriptFault.TheVariants.{Shape, Limit}
+use Rattle.ti_script.specs.declared.item.Item.{Item}
+use Rattle.ti_script.specs.declared.item.Spot.{Spot}
+use Rattle.ti_script.specs.declared.fault.ScriptFault.TheVariants.{Limit}
 use Rattle.ti_script.specs.declared.names.Cast.{Cast}
 use Rattle.ti_script.specs.declared.live.Live.{Live}
-use Rattle.ti_script.specs.Tree.{at, array_in, elements, has_exactly}
-use Rattle.ti_script.specs.Faults.{unless, first_of, head_shape}
-use Rattle.ti_script.specs.Head.{is_within, is_text, limits_fault, bounds_of, cast_fault, texts}
+use Rattle.ti_script.specs.Tree.{at, array_in, elements}
+use Rattle.ti_script.specs.Faults.{unless, first_of, member_shape}
+use Rattle.ti_script.specs.Head.{is_within, is_text, members_fault, limits_fault, bounds_of, cast_fault, texts}
 use Rattle.ti_script.specs.Events.{◌>>=◌, Row, thread, signed, given, u32_in, ask_table, env_table, thread_table, word_event}
+use Rattle.ti_script.specs.Spots.{listed_item, behind_word, shape_of, shape_at}
 use Rattle.ti_script.specs.Walks.{cast_of}
 
 -- ---- the head
 
-abbrev pub live_members : List (List ℕ)
-live_members = codes "limits" ∷ codes "threads" ∷ codes "agents" ∷ codes "methods" ∷ codes "walks" ∷ codes "calls" ∷ []
+abbrev pub live_members : List MemberName
+live_members = member.Limits ∷ member.Threads ∷ member.Agents ∷ member.Methods ∷ member.Walks ∷ member.Calls ∷ []
 
 -- an array of this many arrays
 abbrev pub are_lists : ℕ → Data → Bool
@@ -40,8 +45,8 @@ count_in_all ds = sum_by (λ x. length (elements x)) ds
 -- the tests of the two arrays of lists: an array for each thread, an array for each agent, and then the two counts
 abbrev pub lists_fault : Cast → Data → Option ScriptFault
 lists_fault cast d = first_of
-    (unless (are_lists (length cast.threads) (at (codes "walks") d)) head_shape
-    ∷ unless (are_lists (length cast.agents) (at (codes "calls") d)) head_shape
+    (unless (are_lists (length cast.threads) (at (codes "walks") d)) (member_shape member.Walks)
+    ∷ unless (are_lists (length cast.agents) (at (codes "calls") d)) (member_shape member.Calls)
     ∷ unless (is_within 0 65536 (count_in_all (elements (at (codes "walks") d)))) (Limit Walks)
     ∷ unless (is_within 0 65536 (count_in_all (elements (at (codes "calls") d)))) (Limit CallsList)
     ∷ [])
@@ -65,26 +70,27 @@ as_call _ = GetCaps
 abbrev pub is_thread_element : Data → Bool
 is_thread_element d = is_text d || is_some (u32_in d)
 
-module _ (cast : Cast) (item : ℕ) where
+module _ (cast : Cast) (spot : Spot) where
   abbrev pub threads_given : List Data → Result (List ThreadNo) ScriptFault
   threads_given [] = Ok []
-  threads_given (d ∷ ds) = given cast item thread d >>= λ t. threads_given ds >>= λ ts. Ok (t ∷ ts)
+  threads_given (d ∷ ds) = given cast spot thread d >>= λ t. threads_given ds >>= λ ts. Ok (t ∷ ts)
 
   -- a list of threads: its length, the kinds and ranges of its elements, and then its names
   abbrev pub threads_in : Data → Result (List ThreadNo) ScriptFault
-  threads_in d = ok_or (array_in d) (Shape item) >>= λ ds. if nat_le (length ds) 1024 && list_all is_thread_element ds then threads_given ds else Err (Shape item)
+  threads_in d = ok_or (array_in d) (shape_at spot) >>= λ ds. if nat_le (length ds) 1024 && list_all is_thread_element ds then threads_given ds else Err (shape_at spot)
 
+module _ (cast : Cast) (item : Item) where
   abbrev pub of_threads : (List ThreadNo → AgentCall) → List Data → Result AgentCall ScriptFault
-  of_threads make (d ∷ []) = threads_in d >>= λ ts. Ok (make ts)
-  of_threads make _ = Err (Shape item)
+  of_threads make (d ∷ []) = threads_in cast (behind_word item 1) d >>= λ ts. Ok (make ts)
+  of_threads make _ = Err (shape_of item)
 
   abbrev pub of_count : List Data → Result AgentCall ScriptFault
-  of_count (d ∷ []) = given cast item signed d >>= λ n. Ok (AllStacks n)
-  of_count _ = Err (Shape item)
+  of_count (d ∷ []) = given cast (behind_word item 1) signed d >>= λ n. Ok (AllStacks n)
+  of_count _ = Err (shape_of item)
 
   abbrev pub of_both : List Data → Result AgentCall ScriptFault
-  of_both (d ∷ f ∷ []) = threads_in d >>= λ ts. given cast item signed f >>= λ n. Ok (ListStacks ts n)
-  of_both _ = Err (Shape item)
+  of_both (d ∷ f ∷ []) = threads_in cast (behind_word item 1) d >>= λ ts. given cast (behind_word item 2) signed f >>= λ n. Ok (ListStacks ts n)
+  of_both _ = Err (shape_of item)
 
   -- the words of a live run alone
   abbrev pub list_table : List (List ℕ × (List Data → Result AgentCall ScriptFault))
@@ -104,14 +110,15 @@ module _ (cast : Cast) (item : ℕ) where
 
   -- a word and what stands after it
   abbrev pub worded : {A : Type 0} → (List ℕ → List Data → Result A ScriptFault) → List Data → Result A ScriptFault
-  worded read [] = Err (Shape item)
-  worded read (b ∷ ds) = ok_or (as_str b) (Shape item) >>= λ text. read text ds
+  worded read [] = Err (shape_of item)
+  worded read (b ∷ ds) = ok_or (as_str b) (shape_at (behind_word item 0)) >>= λ text. read text ds
 
-  abbrev pub operation_in : ThreadNo → Data → Result Event ScriptFault
-  operation_in t d = ok_or (array_in d) (Shape item) >>= worded (word_event cast item (thread_table t))
+-- the operation and the call of an item of this number
+abbrev pub operation_in : Cast → ℕ → ThreadNo → Data → Result Event ScriptFault
+operation_in cast number t d = ok_or (array_in d) (shape_of (listed_item number)) >>= worded cast (listed_item number) (word_event cast (listed_item number) (thread_table t))
 
-  abbrev pub call_in : EnvNo → Data → Result AgentCall ScriptFault
-  call_in e d = ok_or (array_in d) (Shape item) >>= worded (word_call e)
+abbrev pub call_in : Cast → ℕ → EnvNo → Data → Result AgentCall ScriptFault
+call_in cast number e d = ok_or (array_in d) (shape_of (listed_item number)) >>= worded cast (listed_item number) (word_call cast (listed_item number) e)
 
 -- the operations of one thread, as items that are numbered from this one on, or the first fault
 abbrev pub operations_in : Cast → ThreadNo → ℕ → List Data → Result (List Event) ScriptFault
@@ -147,7 +154,7 @@ body_fault cast d = first_of (lists_fault cast d ∷ result_err (items_of cast d
 -- the first fault, in the order in which they are looked for
 abbrev pub live_fault : Data → Option ScriptFault
 live_fault d = first_of
-    (unless (has_exactly live_members d) head_shape
+    (members_fault live_members d
     ∷ limits_fault (at (codes "limits") d)
     ∷ cast_fault d
     ∷ body_fault (cast_of d) d

@@ -10,6 +10,7 @@ ghost use Rattle.ti_script.specs.Lives.{as_call, one_table, is_thread_element, t
 use crate::element::{signed_in, thread_in, u32_in};
 use crate::event::ask_event;
 use crate::fault::ScriptFault;
+use crate::item::{Item, Spot};
 use crate::names::Cast;
 use crate::service_event::env_event;
 use crate::tree::array_in;
@@ -35,7 +36,7 @@ fn as_call(event: Event) -> AgentCall
 /// The call of a word that stands for one event.
 fn one_event(
     cast: &Cast,
-    item: u32,
+    item: Item,
     agent: EnvNo,
     text: &str,
     rest: &[Value],
@@ -65,14 +66,14 @@ fn are_thread_elements(values: &[Value]) -> bool
 fn threads_given(
     alloc: Global,
     cast: &Cast,
-    item: u32,
+    spot: Spot,
     values: &[Value],
 ) -> Result<Listed<ThreadNo>, ScriptFault>
-    ensures { Gives (λ threads. threads) result (threads_given cast.now item (map view values.now)) }
+    ensures { Gives (λ threads. threads) result (threads_given cast.now spot (map view values.now)) }
 {
     let mut threads = Listed::with_room(alloc, values.len())?;
     for value in values {
-        let thread = thread_in(cast, item, value)?;
+        let thread = thread_in(cast, spot, value)?;
         threads.push(thread)?;
     }
     Ok(threads)
@@ -84,23 +85,23 @@ fn threads_given(
 fn threads_in(
     alloc: Global,
     cast: &Cast,
-    item: u32,
+    spot: Spot,
     value: &Value,
 ) -> Result<Listed<ThreadNo>, ScriptFault>
-    ensures { Gives (λ threads. threads) result (threads_in cast.now item (view value.now)) }
+    ensures { Gives (λ threads. threads) result (threads_in cast.now spot (view value.now)) }
 {
     let Some(values) = array_in(value) else {
-        return Err(ScriptFault::Shape { item });
+        return Err(spot.shape());
     };
     if values.len() > 1024 {
-        return Err(ScriptFault::Shape { item });
+        return Err(spot.shape());
     }
-    match threads_given(alloc, cast, item, values) {
+    match threads_given(alloc, cast, spot, values) {
         Ok(threads) => Ok(threads),
         Err(fault) => if are_thread_elements(values) {
             Err(fault)
         } else {
-            Err(ScriptFault::Shape { item })
+            Err(spot.shape())
         },
     }
 }
@@ -109,14 +110,19 @@ fn threads_in(
 fn suspend_list(
     alloc: Global,
     cast: &Cast,
-    item: u32,
+    item: Item,
     rest: &[Value],
 ) -> Result<AgentCall, ScriptFault>
     ensures { Gives (λ call. call) result (of_threads cast.now item SuspendList (map view rest.now)) }
 {
     match rest {
-        [threads] => Ok(AgentCall::SuspendList(threads_in(alloc, cast, item, threads)?)),
-        _ => Err(ScriptFault::Shape { item }),
+        [threads] => Ok(AgentCall::SuspendList(threads_in(
+            alloc,
+            cast,
+            item.behind_word(1),
+            threads,
+        )?)),
+        _ => Err(item.shape()),
     }
 }
 
@@ -124,24 +130,29 @@ fn suspend_list(
 fn resume_list(
     alloc: Global,
     cast: &Cast,
-    item: u32,
+    item: Item,
     rest: &[Value],
 ) -> Result<AgentCall, ScriptFault>
     ensures { Gives (λ call. call) result (of_threads cast.now item ResumeList (map view rest.now)) }
 {
     match rest {
-        [threads] => Ok(AgentCall::ResumeList(threads_in(alloc, cast, item, threads)?)),
-        _ => Err(ScriptFault::Shape { item }),
+        [threads] => Ok(AgentCall::ResumeList(threads_in(
+            alloc,
+            cast,
+            item.behind_word(1),
+            threads,
+        )?)),
+        _ => Err(item.shape()),
     }
 }
 
 /// GetAllStackTraces with a count of frames.
-fn all_stacks(cast: &Cast, item: u32, rest: &[Value]) -> Result<AgentCall, ScriptFault>
+fn all_stacks(cast: &Cast, item: Item, rest: &[Value]) -> Result<AgentCall, ScriptFault>
     ensures { Gives (λ call. call) result (of_count cast.now item (map view rest.now)) }
 {
     match rest {
-        [max_count] => Ok(AgentCall::AllStacks(signed_in(item, max_count)?)),
-        _ => Err(ScriptFault::Shape { item }),
+        [max_count] => Ok(AgentCall::AllStacks(signed_in(item.behind_word(1), max_count)?)),
+        _ => Err(item.shape()),
     }
 }
 
@@ -149,18 +160,18 @@ fn all_stacks(cast: &Cast, item: u32, rest: &[Value]) -> Result<AgentCall, Scrip
 fn list_stacks(
     alloc: Global,
     cast: &Cast,
-    item: u32,
+    item: Item,
     rest: &[Value],
 ) -> Result<AgentCall, ScriptFault>
     ensures { Gives (λ call. call) result (of_both cast.now item (map view rest.now)) }
 {
     match rest {
         [threads, max_count] => {
-            let threads = threads_in(alloc, cast, item, threads)?;
-            let max_count = signed_in(item, max_count)?;
+            let threads = threads_in(alloc, cast, item.behind_word(1), threads)?;
+            let max_count = signed_in(item.behind_word(2), max_count)?;
             Ok(AgentCall::ListStacks(threads, max_count))
         }
-        _ => Err(ScriptFault::Shape { item }),
+        _ => Err(item.shape()),
     }
 }
 
@@ -168,7 +179,7 @@ fn list_stacks(
 fn word_call(
     alloc: Global,
     cast: &Cast,
-    item: u32,
+    item: Item,
     agent: EnvNo,
     text: &str,
     rest: &[Value],
@@ -187,21 +198,22 @@ fn word_call(
     }
 }
 
-/// A call of an agent: a word and what stands after it.
+/// A call of an agent, as an item of this number: a word and what comes after it.
 pub(crate) fn call_in(
     alloc: Global,
     cast: &Cast,
-    item: u32,
+    number: u32,
     agent: EnvNo,
     value: &Value,
 ) -> Result<AgentCall, ScriptFault>
-    ensures { Gives (λ call. call) result (call_in cast.now item agent (view value.now)) }
+    ensures { Gives (λ call. call) result (call_in cast.now number agent (view value.now)) }
 {
+    let item = Item::of_list(number);
     let Some([word, rest @ ..]) = array_in(value) else {
-        return Err(ScriptFault::Shape { item });
+        return Err(item.shape());
     };
     let Some(word) = word.as_str() else {
-        return Err(ScriptFault::Shape { item });
+        return Err(item.word().shape());
     };
     word_call(alloc, cast, item, agent, word, rest)
 }

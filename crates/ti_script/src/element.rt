@@ -3,12 +3,13 @@ ghost use Rattle.std.specs.Prelude.{◌≡◌, map};
 ghost use Rattle.serde_json.specs.View.{view};
 ghost use Rattle.ti_types.specs.Caps.{no_caps};
 ghost use Rattle.std.specs.Option.{ok_or};
-ghost use Rattle.ti_script.specs.declared.fault.ScriptFault.TheVariants.{Shape};
+ghost use Rattle.ti_script.specs.Spots.{shape_at};
 ghost use Rattle.ti_script.specs.Head.{text_in};
 ghost use Rattle.ti_script.specs.Events.{thread, method, kind, number, signed, word, caps, given, u32_in, i32_in, kind_named, cap_named, caps_named, caps_in};
 
 use crate::fault::ScriptFault;
 use crate::head::are_texts;
+use crate::item::Spot;
 use crate::names::Cast;
 use crate::tree::array_in;
 use serde_json::Value;
@@ -61,72 +62,72 @@ fn cap_named(text: &str) -> Option<Caps>
     }
 }
 
-pub(crate) fn thread_in(cast: &Cast, item: u32, value: &Value) -> Result<ThreadNo, ScriptFault>
-    ensures { result ≡ given cast.now item thread (view value.now) }
+pub(crate) fn thread_in(cast: &Cast, spot: Spot, value: &Value) -> Result<ThreadNo, ScriptFault>
+    ensures { result ≡ given cast.now spot thread (view value.now) }
 {
     if let Some(text) = value.as_str() {
         return match cast.threads.number(text) {
             Some(number) => Ok(ThreadNo(number)),
-            None => Err(ScriptFault::Name { item }),
+            None => Err(spot.name()),
         };
     }
     match u32_in(value) {
         Some(number) => Ok(ThreadNo(number)),
-        None => Err(ScriptFault::Shape { item }),
+        None => Err(spot.shape()),
     }
 }
 
-pub(crate) fn method_in(cast: &Cast, item: u32, value: &Value) -> Result<MethodNo, ScriptFault>
-    ensures { result ≡ given cast.now item method (view value.now) }
+pub(crate) fn method_in(cast: &Cast, spot: Spot, value: &Value) -> Result<MethodNo, ScriptFault>
+    ensures { result ≡ given cast.now spot method (view value.now) }
 {
     let Some(text) = value.as_str() else {
-        return Err(ScriptFault::Shape { item });
+        return Err(spot.shape());
     };
     match cast.methods.number(text) {
         Some(number) => Ok(MethodNo(number)),
-        None => Err(ScriptFault::Name { item }),
+        None => Err(spot.name()),
     }
 }
 
-pub(crate) fn kind_in(cast: &Cast, item: u32, value: &Value) -> Result<Kind, ScriptFault>
-    ensures { result ≡ given cast.now item kind (view value.now) }
+pub(crate) fn kind_in(cast: &Cast, spot: Spot, value: &Value) -> Result<Kind, ScriptFault>
+    ensures { result ≡ given cast.now spot kind (view value.now) }
 {
     let _ = cast;
     let Some(text) = value.as_str() else {
-        return Err(ScriptFault::Shape { item });
+        return Err(spot.shape());
     };
-    kind_named(text).ok_or(ScriptFault::Shape { item })
+    kind_named(text).ok_or(spot.shape())
 }
 
-pub(crate) fn number_in(item: u32, value: &Value) -> Result<u32, ScriptFault>
-    ensures { result ≡ ok_or (u32_in (view value.now)) (Shape item) }
+pub(crate) fn number_in(spot: Spot, value: &Value) -> Result<u32, ScriptFault>
+    ensures { result ≡ ok_or (u32_in (view value.now)) (shape_at spot) }
 {
-    u32_in(value).ok_or(ScriptFault::Shape { item })
+    u32_in(value).ok_or(spot.shape())
 }
 
-pub(crate) fn signed_in(item: u32, value: &Value) -> Result<i32, ScriptFault>
-    ensures { result ≡ ok_or (i32_in (view value.now)) (Shape item) }
+pub(crate) fn signed_in(spot: Spot, value: &Value) -> Result<i32, ScriptFault>
+    ensures { result ≡ ok_or (i32_in (view value.now)) (shape_at spot) }
 {
-    i32_in(value).ok_or(ScriptFault::Shape { item })
+    i32_in(value).ok_or(spot.shape())
 }
 
-pub(crate) fn word_in(cast: &Cast, item: u32, value: &Value) -> Result<u64, ScriptFault>
-    ensures { result ≡ given cast.now item word (view value.now) }
+pub(crate) fn word_in(cast: &Cast, spot: Spot, value: &Value) -> Result<u64, ScriptFault>
+    ensures { result ≡ given cast.now spot word (view value.now) }
 {
     let _ = cast;
-    value.as_u64().ok_or(ScriptFault::Shape { item })
+    value.as_u64().ok_or(spot.shape())
 }
 
 /// The capabilities of these names.
 #[tactic(auto, using(crate::proofs::TreeLaws::list_all_views))]
-fn caps_in(cast: &Cast, item: u32, values: &[Value]) -> Result<Caps, ScriptFault>
-    ensures { result ≡ caps_in cast.now item (map view values.now) }
+fn caps_in(cast: &Cast, spot: Spot, values: &[Value]) -> Result<Caps, ScriptFault>
+    ensures { result ≡ caps_in cast.now spot (map view values.now) }
 {
     let _ = cast;
     if !are_texts(values) {
-        return Err(ScriptFault::Shape { item });
+        return Err(spot.shape());
     }
-    caps_named(values).ok_or(ScriptFault::Name { item })
+    caps_named(values).ok_or(spot.name())
 }
 
 fn caps_named(values: &[Value]) -> Option<Caps>
@@ -140,11 +141,11 @@ fn caps_named(values: &[Value]) -> Option<Caps>
     Some(caps)
 }
 
-pub(crate) fn caps_of(cast: &Cast, item: u32, value: &Value) -> Result<Caps, ScriptFault>
-    ensures { result ≡ given cast.now item caps (view value.now) }
+pub(crate) fn caps_of(cast: &Cast, spot: Spot, value: &Value) -> Result<Caps, ScriptFault>
+    ensures { result ≡ given cast.now spot caps (view value.now) }
 {
     let Some(values) = array_in(value) else {
-        return Err(ScriptFault::Shape { item });
+        return Err(spot.shape());
     };
-    caps_in(cast, item, values)
+    caps_in(cast, spot, values)
 }

@@ -10,6 +10,7 @@ ghost use Rattle.ti_script.specs.Events.{thread, signed, word, row, ask_table, a
 
 use crate::element::{signed_in, thread_in, word_in};
 use crate::fault::ScriptFault;
+use crate::item::Item;
 use crate::names::Cast;
 use crate::own_event::thread_event;
 use crate::service_event::service_event;
@@ -20,7 +21,7 @@ use ti_types::{Call, EnvNo, Event, ThreadNo};
 /// A call with nothing but its thread.
 fn plain_ask(
     cast: &Cast,
-    item: u32,
+    item: Item,
     agent: EnvNo,
     call: Call,
     rest: &[Value],
@@ -28,55 +29,55 @@ fn plain_ask(
     ensures { result ≡ row_event cast.now item (map view rest.now) (row (thread ∷ []) (λ t. Ask agent t call)) }
 {
     match rest {
-        [thread] => Ok(Event::Ask(agent, thread_in(cast, item, thread)?, call)),
-        _ => Err(ScriptFault::Shape { item }),
+        [thread] => Ok(Event::Ask(agent, thread_in(cast, item.behind_word(1), thread)?, call)),
+        _ => Err(item.shape()),
     }
 }
 
-fn trace_ask(cast: &Cast, item: u32, agent: EnvNo, rest: &[Value]) -> Result<Event, ScriptFault>
+fn trace_ask(cast: &Cast, item: Item, agent: EnvNo, rest: &[Value]) -> Result<Event, ScriptFault>
     ensures { result ≡ row_event cast.now item (map view rest.now) (row (thread ∷ signed ∷ signed ∷ []) (λ t s n. Ask agent t (Trace s n))) }
 {
     match rest {
         [thread, start, max_count] => {
-            let thread = thread_in(cast, item, thread)?;
-            let start = signed_in(item, start)?;
-            let max_count = signed_in(item, max_count)?;
+            let thread = thread_in(cast, item.behind_word(1), thread)?;
+            let start = signed_in(item.behind_word(2), start)?;
+            let max_count = signed_in(item.behind_word(3), max_count)?;
             Ok(Event::Ask(agent, thread, Call::Trace { start, max_count }))
         }
-        _ => Err(ScriptFault::Shape { item }),
+        _ => Err(item.shape()),
     }
 }
 
-fn location_ask(cast: &Cast, item: u32, agent: EnvNo, rest: &[Value]) -> Result<Event, ScriptFault>
+fn location_ask(cast: &Cast, item: Item, agent: EnvNo, rest: &[Value]) -> Result<Event, ScriptFault>
     ensures { result ≡ row_event cast.now item (map view rest.now) (row (thread ∷ signed ∷ []) (λ t d. Ask agent t (Location d))) }
 {
     match rest {
         [thread, depth] => {
-            let thread = thread_in(cast, item, thread)?;
-            let depth = signed_in(item, depth)?;
+            let thread = thread_in(cast, item.behind_word(1), thread)?;
+            let depth = signed_in(item.behind_word(2), depth)?;
             Ok(Event::Ask(agent, thread, Call::Location { depth }))
         }
-        _ => Err(ScriptFault::Shape { item }),
+        _ => Err(item.shape()),
     }
 }
 
-fn set_ask(cast: &Cast, item: u32, agent: EnvNo, rest: &[Value]) -> Result<Event, ScriptFault>
+fn set_ask(cast: &Cast, item: Item, agent: EnvNo, rest: &[Value]) -> Result<Event, ScriptFault>
     ensures { result ≡ row_event cast.now item (map view rest.now) (row (thread ∷ word ∷ []) (λ t w. Ask agent t (SetWord w))) }
 {
     match rest {
         [thread, word] => {
-            let thread = thread_in(cast, item, thread)?;
-            let word = word_in(cast, item, word)?;
+            let thread = thread_in(cast, item.behind_word(1), thread)?;
+            let word = word_in(cast, item.behind_word(2), word)?;
             Ok(Event::Ask(agent, thread, Call::SetWord(word)))
         }
-        _ => Err(ScriptFault::Shape { item }),
+        _ => Err(item.shape()),
     }
 }
 
 /// The event of a word that asks a thread. None where it is no such word.
 pub(crate) fn ask_event(
     cast: &Cast,
-    item: u32,
+    item: Item,
     agent: EnvNo,
     text: &str,
     rest: &[Value],
@@ -99,7 +100,7 @@ pub(crate) fn ask_event(
 
 fn agent_event(
     cast: &Cast,
-    item: u32,
+    item: Item,
     agent: EnvNo,
     text: &str,
     rest: &[Value],
@@ -112,18 +113,19 @@ fn agent_event(
     }
 }
 
-/// The event of an item.
-pub(crate) fn event_in(cast: &Cast, item: u32, value: &Value) -> Result<Event, ScriptFault>
-    ensures { result ≡ event_in cast.now item (view value.now) }
+/// The event of an item of this number.
+pub(crate) fn event_in(cast: &Cast, number: u32, value: &Value) -> Result<Event, ScriptFault>
+    ensures { result ≡ event_in cast.now number (view value.now) }
 {
+    let item = Item::of_walk(number);
     let Some([subject, word, rest @ ..]) = array_in(value) else {
-        return Err(ScriptFault::Shape { item });
+        return Err(item.shape());
     };
     let Some(subject) = subject.as_str() else {
-        return Err(ScriptFault::Shape { item });
+        return Err(item.subject().shape());
     };
     let Some(word) = word.as_str() else {
-        return Err(ScriptFault::Shape { item });
+        return Err(item.word().shape());
     };
     if let Some(thread) = cast.threads.number(subject) {
         return thread_event(cast, item, ThreadNo(thread), word, rest);
@@ -131,5 +133,5 @@ pub(crate) fn event_in(cast: &Cast, item: u32, value: &Value) -> Result<Event, S
     if let Some(agent) = cast.agents.number(subject) {
         return agent_event(cast, item, EnvNo(agent), word, rest);
     }
-    Err(ScriptFault::Name { item })
+    Err(item.subject().name())
 }

@@ -1,6 +1,8 @@
 //! What is wrong with a document.
 ghost use Rattle.std.specs.Prelude.{◌≡◌};
 ghost use Rattle.ti_script.specs.LimitNames.{limit_text};
+ghost use Rattle.ti_script.specs.Members.{key_of, member_text};
+ghost use Rattle.ti_script.specs.Faults.{member_shape, member_name};
 
 use std::alloc::{AllocError, AllocFailed};
 use std::fmt;
@@ -57,8 +59,88 @@ impl fmt::Display for LimitName {
     }
 }
 
+/// A member of a document's head. `CallLimit` is the member `calls` of `limits`, and `Calls` that of a live script.
+#[derive(Clone, Copy, Debug, PartialEq, Eq)]
+pub enum MemberName {
+    Format,
+    Limits,
+    Depth,
+    Own,
+    CallLimit,
+    Threads,
+    Agents,
+    Methods,
+    Events,
+    Walks,
+    Calls,
+    Entries,
+}
+
+impl MemberName {
+    /// The member's name in the object that has it.
+    pub fn key(self) -> &'static str
+        ensures { result.now ≡ key_of self }
+    {
+        match self {
+            MemberName::Format => "format",
+            MemberName::Limits => "limits",
+            MemberName::Depth => "depth",
+            MemberName::Own => "own",
+            MemberName::CallLimit | MemberName::Calls => "calls",
+            MemberName::Threads => "threads",
+            MemberName::Agents => "agents",
+            MemberName::Methods => "methods",
+            MemberName::Events => "events",
+            MemberName::Walks => "walks",
+            MemberName::Entries => "entries",
+        }
+    }
+
+    /// The way to the member from the document: its name, and before it `limits.` when it is one of `limits`.
+    pub fn text(self) -> &'static str
+        ensures { result.now ≡ member_text self }
+    {
+        match self {
+            MemberName::Format => "format",
+            MemberName::Limits => "limits",
+            MemberName::Depth => "limits.depth",
+            MemberName::Own => "limits.own",
+            MemberName::CallLimit => "limits.calls",
+            MemberName::Threads => "threads",
+            MemberName::Agents => "agents",
+            MemberName::Methods => "methods",
+            MemberName::Events => "events",
+            MemberName::Walks => "walks",
+            MemberName::Calls => "calls",
+            MemberName::Entries => "entries",
+        }
+    }
+}
+
+impl fmt::Display for MemberName {
+    ghost use Rattle.std.specs.Prelude.{Some};
+    ghost use Rattle.ti_script.specs.Members.{member_text};
+
+    ghost output = { λ which. Some (member_text which) };
+
+    fn fmt<W: fmt::Write>(&self, f: &mut fmt::Formatter<W>) -> fmt::Result {
+        f.write_str(self.text())
+    }
+}
+
+/// Which part of an item is at fault.
+#[derive(Clone, Copy, Debug, PartialEq, Eq)]
+pub enum Part {
+    /// No single part: it is no array or no object, or it has too many parts or too few.
+    Whole,
+    /// A member of the head: it is missing, or has the wrong shape or a wrong name.
+    Member(MemberName),
+    /// An element of the item, counted from 0.
+    Element(u32),
+}
+
 /// Why a document is no script: the first fault of it, in the order in which documents are examined. Items are numbered
-/// from 1, and item 0 is the head. Source: this profile.
+/// from 1, and item 0 is the head; `part` is the member or the element that is at fault. Source: this profile.
 #[derive(Clone, Copy, Debug, PartialEq, Eq, Error)]
 pub enum ScriptFault {
     /// The bytes are no JSON text, or are not UTF-8.
@@ -66,16 +148,38 @@ pub enum ScriptFault {
     Json,
     /// A wrong kind, a wrong number of elements, an unknown word, or a number out of the range of its place.
     #[error("item {item} has the wrong shape")]
-    Shape { item: u32 },
+    Shape { item: u32, part: Part },
     /// A name that is malformed, given twice, or not declared where it is looked up.
     #[error("item {item} has a wrong name")]
-    Name { item: u32 },
+    Name { item: u32, part: Part },
     /// A number or a count outside its limit.
     #[error("the limit {which} is passed")]
     Limit { which: LimitName },
     /// Memory ran out for the tree, the names or the items.
     #[error("no memory")]
     Memory,
+}
+
+impl ScriptFault {
+    /// A member of the head has the wrong shape, or is missing.
+    pub(crate) fn in_shape_of(member: MemberName) -> Self
+        ensures { result ≡ member_shape member }
+    {
+        ScriptFault::Shape {
+            item: 0,
+            part: Part::Member(member),
+        }
+    }
+
+    /// A member of the head has a wrong name.
+    pub(crate) fn in_names_of(member: MemberName) -> Self
+        ensures { result ≡ member_name member }
+    {
+        ScriptFault::Name {
+            item: 0,
+            part: Part::Member(member),
+        }
+    }
 }
 
 impl From<AllocError> for ScriptFault {

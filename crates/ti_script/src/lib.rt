@@ -16,6 +16,7 @@ mod event;
 mod fault;
 mod head;
 mod history;
+mod item;
 mod lists;
 mod live;
 mod live_bound;
@@ -32,7 +33,7 @@ mod tree;
 mod walk;
 
 pub use bound::line_bound;
-pub use fault::{LimitName, ScriptFault};
+pub use fault::{LimitName, MemberName, Part, ScriptFault};
 pub use history::{EntryList, History};
 pub use live::Live;
 pub use live_bound::{reply_bound, thread_line_bound};

@@ -3,19 +3,20 @@ ghost use Rattle.std.specs.Prelude.{◌≡◌, ◌≤◌, ◌+◌, List, length,
 ghost use Rattle.std.specs.List.{list_all};
 ghost use Rattle.serde_json.specs.View.{view};
 ghost use Rattle.serde_json.specs.Data.{Data};
-ghost use Rattle.ti_script.specs.Faults.{Reads, Gives, Faults, unless, head_shape};
+ghost use Rattle.ti_script.specs.Faults.{Reads, Gives, Faults, unless, member_shape};
 ghost use Rattle.ti_script.specs.declared.fault.ScriptFault.TheVariants.{Limit};
 ghost use Rattle.ti_script.specs.Tree.{at, elements, array_in};
+ghost use Rattle.ti_script.specs.Members.{key_of};
 ghost use Rattle.ti_script.specs.Head.{is_within};
 ghost use Rattle.ti_script.specs.Walks.{IsDocument, IsRefusalBy};
 ghost use Rattle.ti_script.specs.Lives.{are_lists, count_in_all, lists_fault, walks_in, calls_in, items_in, items_of, body_fault, live_fault, IsLive};
 
-use crate::fault::{LimitName, ScriptFault};
+use crate::fault::{LimitName, MemberName, ScriptFault};
 use crate::lists::{calls_of_one, operations_in};
 use crate::live::Live;
 use crate::names::Cast;
-use crate::reading::{bounds_at, cast_in, member};
-use crate::tree::{array_in, give_up_live, has_exactly};
+use crate::reading::{bounds_at, cast_in, check_members, member};
+use crate::tree::{array_in, give_up_live};
 use serde_json::Value;
 use std::alloc::Global;
 use ti_live::{AgentCall, Listed};
@@ -115,13 +116,17 @@ fn are_arrays(values: &[Value]) -> bool
 
 /// The arrays of a member that is an array of this many.
 #[tactic(auto, using(crate::proofs::TreeLaws::length_of_map))]
-fn lists_at<'a>(value: &'a Value, key: &str, count: usize) -> Result<&'a [Value], ScriptFault>
-    ensures read { Reads (λ lists. map view lists.now) result (unless (are_lists count (at key.now (view value.now))) head_shape) (elements (at key.now (view value.now))) }
+fn lists_at<'a>(
+    value: &'a Value,
+    which: MemberName,
+    count: usize,
+) -> Result<&'a [Value], ScriptFault>
+    ensures read { Reads (λ lists. map view lists.now) result (unless (are_lists count (at (key_of which) (view value.now))) (member_shape which)) (elements (at (key_of which) (view value.now))) }
     ensures count { IfOk result (λ lists. length lists.now ≡ count) }
 {
-    let lists = member(value, key)?;
+    let lists = member(value, which)?;
     if !are_lists(lists, count) {
-        return Err(ScriptFault::Shape { item: 0 });
+        return Err(ScriptFault::in_shape_of(which));
     }
     Ok(elements(lists))
 }
@@ -141,8 +146,8 @@ fn lists_in<'a>(cast: &Cast, value: &'a Value) -> Result<Lists<'a>, ScriptFault>
     ensures few { IfOk result (λ l. (count_in_all (map view l.walks.now) ≤ 65536) × (count_in_all (map view l.calls.now) ≤ 65536)) }
     ensures operations { IfOk result (λ l. l.operations ≡ count_in_all (map view l.walks.now)) }
 {
-    let walks = lists_at(value, "walks", cast.threads.len())?;
-    let calls = lists_at(value, "calls", cast.agents.len())?;
+    let walks = lists_at(value, MemberName::Walks, cast.threads.len())?;
+    let calls = lists_at(value, MemberName::Calls, cast.agents.len())?;
     let operations = items_in_all(walks, LimitName::Walks)?;
     let _calls = items_in_all(calls, LimitName::CallsList)?;
     Ok(Lists {
@@ -189,13 +194,18 @@ fn live_in(alloc: Global, value: &Value) -> Result<Live, ScriptFault>
     ensures ok { IfOk result (λ l. (live_fault (view value.now) ≡ None) × IsLive (view value.now) l) }
     ensures err { IfErr result (λ e. Faults e (live_fault (view value.now))) }
 {
-    if !has_exactly(
+    check_members(
         value,
-        &["limits", "threads", "agents", "methods", "walks", "calls"],
-    ) {
-        return Err(ScriptFault::Shape { item: 0 });
-    }
-    let bounds = bounds_at(value, "limits")?;
+        &[
+            MemberName::Limits,
+            MemberName::Threads,
+            MemberName::Agents,
+            MemberName::Methods,
+            MemberName::Walks,
+            MemberName::Calls,
+        ],
+    )?;
+    let bounds = bounds_at(value)?;
     let cast = cast_in(alloc, value)?;
     let (walks, calls) = body_in(alloc, &cast, value)?;
     let Cast {

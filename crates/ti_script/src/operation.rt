@@ -4,26 +4,28 @@ ghost use Rattle.serde_json.specs.View.{view};
 ghost use Rattle.ti_script.specs.Lives.{operation_in};
 
 use crate::fault::ScriptFault;
+use crate::item::Item;
 use crate::names::Cast;
 use crate::own_event::thread_event;
 use crate::tree::array_in;
 use serde_json::Value;
 use ti_types::{Event, ThreadNo};
 
-/// An operation of a thread: a word and what its row wants.
+/// An operation of a thread, as an item of this number: a word and what its row wants.
 pub(crate) fn operation_in(
     cast: &Cast,
-    item: u32,
+    number: u32,
     thread: ThreadNo,
     value: &Value,
 ) -> Result<Event, ScriptFault>
-    ensures { result ≡ operation_in cast.now item thread (view value.now) }
+    ensures { result ≡ operation_in cast.now number thread (view value.now) }
 {
+    let item = Item::of_list(number);
     let Some([word, rest @ ..]) = array_in(value) else {
-        return Err(ScriptFault::Shape { item });
+        return Err(item.shape());
     };
     let Some(word) = word.as_str() else {
-        return Err(ScriptFault::Shape { item });
+        return Err(item.word().shape());
     };
     thread_event(cast, item, thread, word, rest)
 }

@@ -7,6 +7,7 @@ ghost use Rattle.ti_script.specs.Events.{method, number, kind, row, thread_table
 
 use crate::element::{kind_in, method_in, number_in};
 use crate::fault::ScriptFault;
+use crate::item::Item;
 use crate::names::Cast;
 use serde_json::Value;
 use ti_types::{Event, Step, ThreadNo};
@@ -14,7 +15,7 @@ use ti_types::{Event, Step, ThreadNo};
 /// An event with nothing after its word.
 pub(crate) fn plain_event(
     cast: &Cast,
-    item: u32,
+    item: Item,
     event: Event,
     rest: &[Value],
 ) -> Result<Event, ScriptFault>
@@ -23,65 +24,73 @@ pub(crate) fn plain_event(
     let _ = cast;
     match rest {
         [] => Ok(event),
-        _ => Err(ScriptFault::Shape { item }),
+        _ => Err(item.shape()),
     }
 }
 
 fn enter_event(
     cast: &Cast,
-    item: u32,
+    item: Item,
     thread: ThreadNo,
     rest: &[Value],
 ) -> Result<Event, ScriptFault>
     ensures { result ≡ row_event cast.now item (map view rest.now) (row (method ∷ []) (λ m. Own thread (Enter m))) }
 {
     match rest {
-        [method] => Ok(Event::Own(thread, Step::Enter(method_in(cast, item, method)?))),
-        _ => Err(ScriptFault::Shape { item }),
+        [method] => Ok(Event::Own(
+            thread,
+            Step::Enter(method_in(cast, item.behind_word(1), method)?),
+        )),
+        _ => Err(item.shape()),
     }
 }
 
 fn enter_native_event(
     cast: &Cast,
-    item: u32,
+    item: Item,
     thread: ThreadNo,
     rest: &[Value],
 ) -> Result<Event, ScriptFault>
     ensures { result ≡ row_event cast.now item (map view rest.now) (row (method ∷ []) (λ m. Own thread (EnterNative m))) }
 {
     match rest {
-        [method] => { Ok(Event::Own(thread, Step::EnterNative(method_in(cast, item, method)?))) },
-        _ => Err(ScriptFault::Shape { item }),
+        [method] => {
+            Ok(Event::Own(
+                thread,
+                Step::EnterNative(method_in(cast, item.behind_word(1), method)?),
+            ))
+        },
+        _ => Err(item.shape()),
     }
 }
 
-fn at_event(cast: &Cast, item: u32, thread: ThreadNo, rest: &[Value]) -> Result<Event, ScriptFault>
+fn at_event(cast: &Cast, item: Item, thread: ThreadNo, rest: &[Value]) -> Result<Event, ScriptFault>
     ensures { result ≡ row_event cast.now item (map view rest.now) (row (number ∷ []) (λ p. Own thread (At p))) }
 {
     match rest {
-        [place] => Ok(Event::Own(thread, Step::At(number_in(item, place)?))),
-        _ => Err(ScriptFault::Shape { item }),
+        [place] => Ok(Event::Own(thread, Step::At(number_in(item.behind_word(1), place)?))),
+        _ => Err(item.shape()),
     }
 }
 
 fn block_event(
     cast: &Cast,
-    item: u32,
+    item: Item,
     thread: ThreadNo,
     rest: &[Value],
 ) -> Result<Event, ScriptFault>
     ensures { result ≡ row_event cast.now item (map view rest.now) (row (kind ∷ []) (λ k. ToBlocked thread k)) }
 {
     match rest {
-        [kind] => Ok(Event::ToBlocked(thread, kind_in(cast, item, kind)?)),
-        _ => Err(ScriptFault::Shape { item }),
+        [kind] => Ok(Event::ToBlocked(thread, kind_in(cast, item.behind_word(1), kind)?)),
+        _ => Err(item.shape()),
     }
 }
 
 /// The event of a thread's word.
 pub(crate) fn thread_event(
     cast: &Cast,
-    item: u32,
+    item: Item,
     thread: ThreadNo,
     text: &str,
     rest: &[Value],
@@ -99,6 +108,6 @@ pub(crate) fn thread_event(
         "block" => block_event(cast, item, thread, rest),
         "back" => plain_event(cast, item, Event::Back(thread), rest),
         "end" => plain_event(cast, item, Event::End(thread), rest),
-        _ => Err(ScriptFault::Shape { item }),
+        _ => Err(item.word().shape()),
     }
 }

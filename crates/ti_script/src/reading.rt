@@ -1,56 +1,72 @@
 //! A document as a walk.
-ghost use Rattle.std.specs.Prelude.{◌≡◌, ◌≤◌, ◌++◌, ◌∷◌, [], length, map, None, IfOk, IfErr, MatchResult};
+ghost use Rattle.std.specs.Prelude.{◌≡◌, ◌≤◌, ◌++◌, ◌∷◌, [], length, map, codes, None, IfOk, IfErr, MatchResult};
+ghost use Rattle.std.specs.Result.{result_err};
 ghost use Rattle.serde_json.specs.View.{view};
 ghost use Rattle.serde_json.specs.Data.{Data, null};
-ghost use Rattle.ti_script.specs.Faults.{Reads, Gives, Faults, head_shape};
+ghost use Rattle.ti_script.specs.Faults.{Reads, Gives, Faults, member_shape};
 ghost use Rattle.ti_types.specs.Limits.{InRange};
 ghost use Rattle.ti_script.specs.Tree.{at, elements};
-ghost use Rattle.ti_script.specs.Head.{limits_fault, bounds_of, names_fault, texts, cast_fault, items_fault};
+ghost use Rattle.ti_script.specs.Members.{key_of};
+ghost use Rattle.ti_script.specs.Head.{members_fault, limits_fault, bounds_of, names_fault, texts, cast_fault, items_fault};
 ghost use Rattle.ti_script.specs.Walks.{cast_of, events_in, walk_fault, IsWalk, IsDocument, IsRefusal};
 
 use crate::event::event_in;
-use crate::fault::{LimitName, ScriptFault};
+use crate::fault::{LimitName, MemberName, Part, ScriptFault};
 use crate::head::{Bounds, bounds_in, names_in};
 use crate::names::{Cast, Names};
-use crate::tree::{array_in, give_up, has_exactly};
+use crate::tree::{array_in, give_up, has_exactly, wrong_member};
 use crate::walk::{EventList, Walk};
 use serde_json::Value;
 use std::alloc::Global;
 use ti_types::Limits;
 
-/// The member of that name.
-pub(crate) fn member<'a>(value: &'a Value, key: &str) -> Result<&'a Value, ScriptFault>
-    ensures { MatchResult result (λ found. view found.now ≡ at key.now (view value.now)) (λ e. (e ≡ head_shape) × (at key.now (view value.now) ≡ null)) }
+/// The document is an object with exactly these members.
+pub(crate) fn check_members(value: &Value, members: &[MemberName]) -> Result<(), ScriptFault>
+    ensures { result_err result ≡ members_fault members.now (view value.now) }
 {
-    match value.get(key) {
-        Some(found) => Ok(found),
-        None => Err(ScriptFault::Shape { item: 0 }),
+    if has_exactly(value, members) {
+        Ok(())
+    } else {
+        Err(ScriptFault::Shape {
+            item: 0,
+            part: wrong_member(value, Part::Whole, members),
+        })
     }
 }
 
-pub(crate) fn bounds_at(value: &Value, key: &str) -> Result<Bounds, ScriptFault>
-    ensures read { Reads (λ b. (b.depth, b.own, b.calls)) result (limits_fault (at key.now (view value.now))) (bounds_of (at key.now (view value.now))) }
+/// A member of the document.
+pub(crate) fn member<'a>(value: &'a Value, which: MemberName) -> Result<&'a Value, ScriptFault>
+    ensures { MatchResult result (λ found. view found.now ≡ at (key_of which) (view value.now)) (λ e. (e ≡ member_shape which) × (at (key_of which) (view value.now) ≡ null)) }
+{
+    match value.get(which.key()) {
+        Some(found) => Ok(found),
+        None => Err(ScriptFault::in_shape_of(which)),
+    }
+}
+
+pub(crate) fn bounds_at(value: &Value) -> Result<Bounds, ScriptFault>
+    ensures read { Reads (λ b. (b.depth, b.own, b.calls)) result (limits_fault (at (codes "limits") (view value.now))) (bounds_of (at (codes "limits") (view value.now))) }
     ensures range { IfOk result (λ b. InRange 1 1 b.depth b.own b.calls) }
 {
-    let limits = member(value, key)?;
+    let limits = member(value, MemberName::Limits)?;
     bounds_in(limits)
 }
 
 fn names_at(
     alloc: Global,
     value: &Value,
-    key: &str,
-    which: LimitName,
+    which: MemberName,
+    limit: LimitName,
     low: usize,
     high: usize,
     earlier: &Names,
 ) -> Result<Names, ScriptFault>
     requires { high ≤ 65536 }
-    ensures read { Reads (λ names. names) result (names_fault which low high earlier.now (at key.now (view value.now))) (texts (at key.now (view value.now))) }
+    ensures read { Reads (λ names. names) result (names_fault which limit low high earlier.now (at (key_of which) (view value.now))) (texts (at (key_of which) (view value.now))) }
     ensures count { IfOk result (λ names. (low ≤ length names) × (length names ≤ high)) }
 {
-    let names = member(value, key)?;
-    names_in(alloc, names, which, low, high, earlier)
+    let names = member(value, which)?;
+    names_in(alloc, names, which, limit, low, high, earlier)
 }
 
 pub(crate) fn cast_in(alloc: Global, value: &Value) -> Result<Cast, ScriptFault>
@@ -59,9 +75,33 @@ pub(crate) fn cast_in(alloc: Global, value: &Value) -> Result<Cast, ScriptFault>
     ensures agents { IfOk result (λ cast. (1 ≤ length cast.agents) × (length cast.agents ≤ 32)) }
 {
     let none = Names::new(alloc);
-    let threads = names_at(alloc, value, "threads", LimitName::Threads, 1, 64, &none)?;
-    let agents = names_at(alloc, value, "agents", LimitName::Agents, 1, 32, &threads)?;
-    let methods = names_at(alloc, value, "methods", LimitName::Methods, 0, 65536, &none)?;
+    let threads = names_at(
+        alloc,
+        value,
+        MemberName::Threads,
+        LimitName::Threads,
+        1,
+        64,
+        &none,
+    )?;
+    let agents = names_at(
+        alloc,
+        value,
+        MemberName::Agents,
+        LimitName::Agents,
+        1,
+        32,
+        &threads,
+    )?;
+    let methods = names_at(
+        alloc,
+        value,
+        MemberName::Methods,
+        LimitName::Methods,
+        0,
+        65536,
+        &none,
+    )?;
     Ok(Cast {
         threads,
         agents,
@@ -72,19 +112,19 @@ pub(crate) fn cast_in(alloc: Global, value: &Value) -> Result<Cast, ScriptFault>
 /// The items of an array, at most this many.
 pub(crate) fn items_at<'a>(
     value: &'a Value,
-    key: &str,
-    which: LimitName,
+    which: MemberName,
+    limit: LimitName,
     high: usize,
 ) -> Result<&'a [Value], ScriptFault>
-    ensures read { Reads (λ items. map view items.now) result (items_fault which high (at key.now (view value.now))) (elements (at key.now (view value.now))) }
+    ensures read { Reads (λ items. map view items.now) result (items_fault which limit high (at (key_of which) (view value.now))) (elements (at (key_of which) (view value.now))) }
     ensures count { IfOk result (λ items. length items.now ≤ high) }
 {
-    let items = member(value, key)?;
+    let items = member(value, which)?;
     let Some(items) = array_in(items) else {
-        return Err(ScriptFault::Shape { item: 0 });
+        return Err(ScriptFault::in_shape_of(which));
     };
     if high < items.len() {
-        return Err(ScriptFault::Limit { which });
+        return Err(ScriptFault::Limit { which: limit });
     }
     Ok(items)
 }
@@ -107,12 +147,19 @@ fn walk_in(alloc: Global, value: &Value) -> Result<Walk, ScriptFault>
     ensures ok { IfOk result (λ w. (walk_fault (view value.now) ≡ None) × IsWalk (view value.now) w) }
     ensures err { IfErr result (λ e. Faults e (walk_fault (view value.now))) }
 {
-    if !has_exactly(value, &["limits", "threads", "agents", "methods", "events"]) {
-        return Err(ScriptFault::Shape { item: 0 });
-    }
-    let bounds = bounds_at(value, "limits")?;
+    check_members(
+        value,
+        &[
+            MemberName::Limits,
+            MemberName::Threads,
+            MemberName::Agents,
+            MemberName::Methods,
+            MemberName::Events,
+        ],
+    )?;
+    let bounds = bounds_at(value)?;
     let cast = cast_in(alloc, value)?;
-    let items = items_at(value, "events", LimitName::Events, 65536)?;
+    let items = items_at(value, MemberName::Events, LimitName::Events, 65536)?;
     let events = events_in(alloc, &cast, items)?;
     let Cast {
         threads,

@@ -1,5 +1,5 @@
 //! A document as a history.
-ghost use Rattle.std.specs.Prelude.{◌≡◌, ◌≤◌, length, map, unwrap_or, None, IfOk, IfErr};
+ghost use Rattle.std.specs.Prelude.{◌≡◌, ◌≤◌, length, map, codes, unwrap_or, None, IfOk, IfErr};
 ghost use Rattle.serde_json.specs.View.{view};
 ghost use Rattle.serde_json.specs.Data.{Data};
 ghost use Rattle.ti_script.specs.Faults.{Reads, Gives, Faults};
@@ -9,10 +9,10 @@ ghost use Rattle.ti_script.specs.Entries.{entries_in};
 ghost use Rattle.ti_script.specs.Histories.{format_fault, format_of, agents_fault, most_agents, history_fault, IsHistory};
 
 use crate::entry::entry_in;
-use crate::fault::{LimitName, ScriptFault};
+use crate::fault::{LimitName, MemberName, ScriptFault};
 use crate::history::{EntryList, History};
-use crate::reading::{bounds_at, items_at, member};
-use crate::tree::{give_up, has_exactly};
+use crate::reading::{bounds_at, check_members, items_at, member};
+use crate::tree::give_up;
 use serde_json::Value;
 use std::alloc::Global;
 use ti_types::Limits;
@@ -32,7 +32,7 @@ fn format_in(value: &Value) -> Result<u64, ScriptFault>
                 which: LimitName::Format,
             })
         } else {
-            Err(ScriptFault::Shape { item: 0 })
+            Err(ScriptFault::in_shape_of(MemberName::Format))
         },
     }
 }
@@ -50,7 +50,7 @@ fn agents_in(format: u64, value: &Value) -> Result<u64, ScriptFault>
     ensures range { IfOk result (λ agents. (1 ≤ agents) × (agents ≤ 32)) }
 {
     let Some(agents) = value.as_u64() else {
-        return Err(ScriptFault::Shape { item: 0 });
+        return Err(ScriptFault::in_shape_of(MemberName::Agents));
     };
     if agents < 1 || most_agents(format) < agents {
         return Err(ScriptFault::Limit {
@@ -60,18 +60,18 @@ fn agents_in(format: u64, value: &Value) -> Result<u64, ScriptFault>
     Ok(agents)
 }
 
-fn format_at(value: &Value, key: &str) -> Result<u64, ScriptFault>
-    ensures { Reads (λ format. format) result (format_fault (at key.now (view value.now))) (format_of (at key.now (view value.now))) }
+fn format_at(value: &Value) -> Result<u64, ScriptFault>
+    ensures { Reads (λ format. format) result (format_fault (at (codes "format") (view value.now))) (format_of (at (codes "format") (view value.now))) }
 {
-    let format = member(value, key)?;
+    let format = member(value, MemberName::Format)?;
     format_in(format)
 }
 
-fn agents_at(format: u64, value: &Value, key: &str) -> Result<u64, ScriptFault>
-    ensures read { Reads (λ agents. agents) result (agents_fault format (at key.now (view value.now))) (unwrap_or (whole_in (at key.now (view value.now))) 0) }
+fn agents_at(format: u64, value: &Value) -> Result<u64, ScriptFault>
+    ensures read { Reads (λ agents. agents) result (agents_fault format (at (codes "agents") (view value.now))) (unwrap_or (whole_in (at (codes "agents") (view value.now))) 0) }
     ensures range { IfOk result (λ agents. (1 ≤ agents) × (agents ≤ 32)) }
 {
-    let agents = member(value, key)?;
+    let agents = member(value, MemberName::Agents)?;
     agents_in(format, agents)
 }
 
@@ -82,9 +82,7 @@ fn entries_in(alloc: Global, format: u64, items: &[Value]) -> Result<EntryList, 
     let mut entries = EntryList::with_room(alloc, items.len())?;
     let mut item = 1;
     for value in items {
-        let Some(entry) = entry_in(format, value) else {
-            return Err(ScriptFault::Shape { item });
-        };
+        let entry = entry_in(format, item, value)?;
         entries.push(entry)?;
         item += 1;
     }
@@ -95,13 +93,19 @@ fn history_in(alloc: Global, value: &Value) -> Result<History, ScriptFault>
     ensures ok { IfOk result (λ h. (history_fault (view value.now) ≡ None) × IsHistory (view value.now) h) }
     ensures err { IfErr result (λ e. Faults e (history_fault (view value.now))) }
 {
-    if !has_exactly(value, &["format", "limits", "agents", "entries"]) {
-        return Err(ScriptFault::Shape { item: 0 });
-    }
-    let format = format_at(value, "format")?;
-    let bounds = bounds_at(value, "limits")?;
-    let agents = agents_at(format, value, "agents")?;
-    let items = items_at(value, "entries", LimitName::Entries, 262_144)?;
+    check_members(
+        value,
+        &[
+            MemberName::Format,
+            MemberName::Limits,
+            MemberName::Agents,
+            MemberName::Entries,
+        ],
+    )?;
+    let format = format_at(value)?;
+    let bounds = bounds_at(value)?;
+    let agents = agents_at(format, value)?;
+    let items = items_at(value, MemberName::Entries, LimitName::Entries, 262_144)?;
     let entries = entries_in(alloc, format, items)?;
     let limits = Limits::new(1, agents as u32, bounds.depth, bounds.own, bounds.calls).unwrap();
     Ok(History { limits, entries })

@@ -6,78 +6,79 @@ ghost use Rattle.ti_script.specs.Events.{thread, signed, word, caps, row, env_ta
 
 use crate::element::{caps_of, signed_in, thread_in, word_in};
 use crate::fault::ScriptFault;
+use crate::item::Item;
 use crate::names::Cast;
 use crate::own_event::plain_event;
 use serde_json::Value;
 use ti_types::{EnvNo, Event};
 
-fn stop_event(cast: &Cast, item: u32, agent: EnvNo, rest: &[Value]) -> Result<Event, ScriptFault>
+fn stop_event(cast: &Cast, item: Item, agent: EnvNo, rest: &[Value]) -> Result<Event, ScriptFault>
     ensures { result ≡ row_event cast.now item (map view rest.now) (row (thread ∷ []) (λ t. Stop agent t)) }
 {
     match rest {
-        [thread] => Ok(Event::Stop(agent, thread_in(cast, item, thread)?)),
-        _ => Err(ScriptFault::Shape { item }),
+        [thread] => Ok(Event::Stop(agent, thread_in(cast, item.behind_word(1), thread)?)),
+        _ => Err(item.shape()),
     }
 }
 
-fn read_event(cast: &Cast, item: u32, agent: EnvNo, rest: &[Value]) -> Result<Event, ScriptFault>
+fn read_event(cast: &Cast, item: Item, agent: EnvNo, rest: &[Value]) -> Result<Event, ScriptFault>
     ensures { result ≡ row_event cast.now item (map view rest.now) (row (thread ∷ signed ∷ []) (λ t n. Read agent t n)) }
 {
     match rest {
         [thread, max_count] => {
-            let thread = thread_in(cast, item, thread)?;
-            let max_count = signed_in(item, max_count)?;
+            let thread = thread_in(cast, item.behind_word(1), thread)?;
+            let max_count = signed_in(item.behind_word(2), max_count)?;
             Ok(Event::Read(agent, thread, max_count))
         },
-        _ => Err(ScriptFault::Shape { item }),
+        _ => Err(item.shape()),
     }
 }
 
-fn go_event(cast: &Cast, item: u32, agent: EnvNo, rest: &[Value]) -> Result<Event, ScriptFault>
+fn go_event(cast: &Cast, item: Item, agent: EnvNo, rest: &[Value]) -> Result<Event, ScriptFault>
     ensures { result ≡ row_event cast.now item (map view rest.now) (row (thread ∷ []) (λ t. Go agent t)) }
 {
     match rest {
-        [thread] => Ok(Event::Go(agent, thread_in(cast, item, thread)?)),
-        _ => Err(ScriptFault::Shape { item }),
+        [thread] => Ok(Event::Go(agent, thread_in(cast, item.behind_word(1), thread)?)),
+        _ => Err(item.shape()),
     }
 }
 
-fn add_event(cast: &Cast, item: u32, agent: EnvNo, rest: &[Value]) -> Result<Event, ScriptFault>
+fn add_event(cast: &Cast, item: Item, agent: EnvNo, rest: &[Value]) -> Result<Event, ScriptFault>
     ensures { result ≡ row_event cast.now item (map view rest.now) (row (caps ∷ []) (λ c. AddCaps agent c)) }
 {
     match rest {
-        [caps] => Ok(Event::AddCaps(agent, caps_of(cast, item, caps)?)),
-        _ => Err(ScriptFault::Shape { item }),
+        [caps] => Ok(Event::AddCaps(agent, caps_of(cast, item.behind_word(1), caps)?)),
+        _ => Err(item.shape()),
     }
 }
 
 fn relinquish_event(
     cast: &Cast,
-    item: u32,
+    item: Item,
     agent: EnvNo,
     rest: &[Value],
 ) -> Result<Event, ScriptFault>
     ensures { result ≡ row_event cast.now item (map view rest.now) (row (caps ∷ []) (λ c. Relinquish agent c)) }
 {
     match rest {
-        [caps] => Ok(Event::Relinquish(agent, caps_of(cast, item, caps)?)),
-        _ => Err(ScriptFault::Shape { item }),
+        [caps] => Ok(Event::Relinquish(agent, caps_of(cast, item.behind_word(1), caps)?)),
+        _ => Err(item.shape()),
     }
 }
 
-fn set_event(cast: &Cast, item: u32, agent: EnvNo, rest: &[Value]) -> Result<Event, ScriptFault>
+fn set_event(cast: &Cast, item: Item, agent: EnvNo, rest: &[Value]) -> Result<Event, ScriptFault>
     ensures { result ≡ row_event cast.now item (map view rest.now) (row (word ∷ []) (λ w. SetEnvWord agent w)) }
 {
     match rest {
-        [word] => Ok(Event::SetEnvWord(agent, word_in(cast, item, word)?)),
-        _ => Err(ScriptFault::Shape { item }),
+        [word] => Ok(Event::SetEnvWord(agent, word_in(cast, item.behind_word(1), word)?)),
+        _ => Err(item.shape()),
     }
 }
 
 /// The event of a word about the environment alone.
 pub(crate) fn env_event(
     cast: &Cast,
-    item: u32,
+    item: Item,
     agent: EnvNo,
     text: &str,
     rest: &[Value],
@@ -90,14 +91,14 @@ pub(crate) fn env_event(
         "caps" => plain_event(cast, item, Event::GetCaps(agent), rest),
         "setenv" => set_event(cast, item, agent, rest),
         "getenv" => plain_event(cast, item, Event::GetEnvWord(agent), rest),
-        _ => Err(ScriptFault::Shape { item }),
+        _ => Err(item.word().shape()),
     }
 }
 
 /// The event of a word for stops, capabilities and the environment's own word.
 pub(crate) fn service_event(
     cast: &Cast,
-    item: u32,
+    item: Item,
     agent: EnvNo,
     text: &str,
     rest: &[Value],

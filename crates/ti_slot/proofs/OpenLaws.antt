@@ -186,6 +186,15 @@ collected_is limits number h waiting fates t e s = by_fate (fate_of t fates) ref
     by_fate Gone w = grind (arith, w, has-open t fates (asked_in number h))
 
 -- a ticket of another thread is none of this one
+-- whether a ticket's call is open, as the tickets say it
+pub out_is : (limits : Limits) (number : ThreadNo) (h : List Entry) (waiting : List Pending) (fates : List (List Fate)) (t : Ticket) → t.thread.0 ≡ number.0 → Tells limits number h waiting fates
+    → is_open (fate_of t fates) ≡ has t (open_in fates (asked_in number h))
+out_is limits number h waiting fates t e s =
+    elim (cases_Bool (is_open (fate_of t fates))) [
+      | inl o ↦ let k = asked_before limits number h waiting fates t s o in grind (arith, nat_tests, has-open t fates (asked_in number h), s.listed t, e, k, o)
+      | inr n ↦ grind (arith, has-open t fates (asked_in number h), n)
+    ]
+
 pub not_mine : (limits : Limits) (number : ThreadNo) (h : List Entry) (waiting : List Pending) (fates : List (List Fate)) (t : Ticket) → (t.thread.0 ≡ number.0 → ⊥) → Tells limits number h waiting fates
     → has t (open_in fates (asked_in number h)) ≡ false
 not_mine limits number h waiting fates t e s = grind (arith, nat_tests, has-open t fates (asked_in number h), s.listed t, e)

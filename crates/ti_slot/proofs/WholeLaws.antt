@@ -52,7 +52,7 @@ use Rattle.ti_slot.proofs.FateLaws.{by-said, fate-said, length-said, said-with_f
 use Rattle.ti_ops.proofs.StepLaws.{opens}
 use Rattle.ti_slot.proofs.TicketLaws.{asked_stay, asked-steps}
 use Rattle.ti_slot.proofs.TellLaws.{is_plain, is_call, no_ticket, hand_free, tells_plain, open_now, open_later, tells_now, tells_later}
-use Rattle.ti_slot.proofs.OpenLaws.{tells_hand, tells_less, collected_is, not_mine, open_hand, open_taken}
+use Rattle.ti_slot.proofs.OpenLaws.{tells_hand, tells_less, collected_is, out_is, not_mine, open_hand, open_taken}
 
 none_by : (n i : ℕ) → get_or {A = List Fate} (replicate n []) i [] ≡ []
 none_by zero i = refl
@@ -262,6 +262,16 @@ pub collected : (a : Inside) (t : Ticket) (r : Option Answer) → IsWhole a → 
 collected a t r s e er =
     ap (option_map said) er ∙ told_said (fate_of t a.ops.fates) ∙ ap told_by (sym (fate-said t a.ops.fates))
     ∙ collected_is a.limits a.number a.history.items a.ops.waiting (said_in a.ops.fates) t e s.1
+
+open_fate : (x : Fate) → is_open (said_fate x) ≡ is_open x
+open_fate Waiting = refl
+open_fate (Told a) = refl
+open_fate Gone = refl
+
+pub out_here : (a : Inside) (t : Ticket) → IsWhole a → t.thread.0 ≡ a.number.0 → is_open (fate_of t a.ops.fates) ≡ has t (thread_in a).uncollected
+out_here a t s e =
+    sym (open_fate (fate_of t a.ops.fates)) ∙ ap is_open (sym (fate-said t a.ops.fates))
+    ∙ out_is a.limits a.number a.history.items a.ops.waiting (said_in a.ops.fates) t e s.1
 
 pub collected_none : (a : Inside) (t : Ticket) → IsWhole a → (t.thread.0 ≡ a.number.0 → ⊥) → has t (thread_in a).uncollected ≡ false
 collected_none a t s e = not_mine a.limits a.number a.history.items a.ops.waiting (said_in a.ops.fates) t e s.1

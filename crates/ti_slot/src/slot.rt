@@ -287,6 +287,17 @@ impl Slot {
         }
     }
 
+    /// Whether a call waits, or has an answer that is not collected.
+    pub fn is_out(&self, ticket: Ticket) -> bool
+        ensures { result ≡ has ticket self.now.uncollected }
+    {
+        if ticket.thread.0 == self.number.0 {
+            self.ops.is_out(ticket)
+        } else {
+            false
+        }
+    }
+
     /// Takes the answer to a call that waited, once it is there: the reply of the history to the ticket. `None` before,
     /// and for a ticket that was collected, answered at once or never given; then nothing changes.
     pub fn collect(&mut self, ticket: Ticket) -> Option<Answer>

@@ -1,7 +1,7 @@
 //! Documents that are read, and texts that are made.
 use std::alloc::Global;
 use std::test::*;
-use ti_script::{Names, ScriptFault, line_text, read_history, read_walk};
+use ti_script::{MemberName, Names, Part, ScriptFault, line_text, read_history, read_walk};
 use ti_types::{Answer, Caps, Frame, MethodNo, Outcome, Place, TiError, TraceBuf};
 
 const HEAD: &str =
@@ -26,32 +26,43 @@ fn a_walk_is_read(rt: HostRuntime) -> Result<(), Fail> {
     Ok(())
 }
 
+/// A wrong shape of this element.
+fn shape(item: u32, element: u32) -> ScriptFault {
+    ScriptFault::Shape {
+        item,
+        part: Part::Element(element),
+    }
+}
+
+/// A wrong name in this element.
+fn name(item: u32, element: u32) -> ScriptFault {
+    ScriptFault::Name {
+        item,
+        part: Part::Element(element),
+    }
+}
+
 #[test]
 fn the_first_fault_is_reported(rt: HostRuntime) -> Result<(), Fail> {
+    let too_many = ScriptFault::Shape {
+        item: 1,
+        part: Part::Whole,
+    };
+    let no_array = ScriptFault::Shape {
+        item: 0,
+        part: Part::Member(MemberName::Events),
+    };
     let faults = [
-        ("[[\"t9\",\"start\"]]", ScriptFault::Name { item: 1 }),
-        (
-            "[[\"t0\",\"start\"],[\"t0\",\"jump\"]]",
-            ScriptFault::Shape { item: 2 },
-        ),
-        (
-            "[[\"e\",\"trace\",\"zz\",1.5,1]]",
-            ScriptFault::Name { item: 1 },
-        ),
-        (
-            "[[\"e\",\"add\",[\"zz\",5]]]",
-            ScriptFault::Shape { item: 1 },
-        ),
-        ("[[\"e\",\"add\",[\"zz\"]]]", ScriptFault::Name { item: 1 }),
-        (
-            "[[\"t0\",\"block\",\"nap\"]]",
-            ScriptFault::Shape { item: 1 },
-        ),
-        (
-            "[[\"t0\",\"at\",4294967296]]",
-            ScriptFault::Shape { item: 1 },
-        ),
-        ("{}", ScriptFault::Shape { item: 0 }),
+        ("[[\"t9\",\"start\"]]", name(1, 0)),
+        ("[[\"t0\",\"start\"],[\"t0\",\"jump\"]]", shape(2, 1)),
+        ("[[\"e\",\"trace\",\"zz\",1.5,1]]", name(1, 2)),
+        ("[[\"e\",\"trace\",\"t0\",0,1.5]]", shape(1, 4)),
+        ("[[\"e\",\"add\",[\"zz\",5]]]", shape(1, 2)),
+        ("[[\"e\",\"add\",[\"zz\"]]]", name(1, 2)),
+        ("[[\"t0\",\"block\",\"nap\"]]", shape(1, 2)),
+        ("[[\"t0\",\"at\",4294967296]]", shape(1, 2)),
+        ("[[\"t0\",\"start\",0]]", too_many),
+        ("{}", no_array),
         ("[", ScriptFault::Json),
     ];
     for (events, fault) in faults {

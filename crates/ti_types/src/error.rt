@@ -56,6 +56,8 @@ pub enum TiError {
     NotStopped,
     /// 213: a read of a thread that still runs.
     StillRunning,
+    /// 214: the time that a call was given is over, and it was given up. It may still take place.
+    TimedOut,
 }
 
 impl TiError {
@@ -88,6 +90,7 @@ impl TiError {
             TiError::AlreadyStopped => 211,
             TiError::NotStopped => 212,
             TiError::StillRunning => 213,
+            TiError::TimedOut => 214,
         }
     }
 }

@@ -1,8 +1,10 @@
 -- A global operation at the threads of a list.
-use Rattle.std.specs.Prelude.{ℕ, ℤ, ◌≡◌, ◌+◌, ◌-◌, ◌^◌, ◌≤◌, Bool, true, false, if◌then◌else◌, ◌==◌, nat_lt, List, [], ◌∷◌, ◌++◌, length, Some, slice_get}
+use Rattle.std.specs.Prelude.{ℕ, ℤ, ◌≡◌, ◌+◌, ◌-◌, ◌^◌, ◌≤◌, Bool, true, false, if◌then◌else◌, ◌==◌, nat_lt, List, [], ◌∷◌, ◌++◌, length, take, drop, Some, slice_get}
 use Rattle.std.specs.List.{fold, list_any, list_all}
 use Rattle.ti_types.specs.declared.entry.Entry.{Entry}
-use Rattle.ti_types.specs.declared.entry.Entry.TheVariants.{Read}
+use Rattle.ti_types.specs.declared.entry.Entry.TheVariants.{Stop, Read, Go}
+use Rattle.ti_types.specs.declared.error.TiError.{TiError}
+use Rattle.ti_types.specs.declared.error.TiError.TheVariants.{CallsSpent, TimedOut}
 use Rattle.ti_types.specs.declared.limits.Limits.{Limits}
 use Rattle.ti_types.specs.declared.numbers.EnvNo.{EnvNo}
 use Rattle.ti_types.specs.declared.numbers.ThreadNo.{ThreadNo}
@@ -64,6 +66,35 @@ abbrev pub AtEach : Listed → List Place → List Place → (EnvNo → List Ent
 AtEach threads old new more =
     (length new ≡ length old)
     × ((i : ℕ) (p q : Place) → slice_get old i ≡ Some p → slice_get new i ≡ Some q → AtDesk (is_listed i threads) p q (more p.env))
+
+-- the first n of a list were stopped, one after another. The next one, if there is one, was waited for at most
+pub record StopsUpTo (n : ℕ) (threads : Listed) (old new : List Place) : Type 0 where
+  pub stopped : List Place
+  pub stops : AtEach (take n threads) old stopped (λ e. Stop e ∷ [])
+  pub waits : AtEach (take 1 (drop n threads)) stopped new (λ e. [])
+
+-- some of a list, the first first, were waited for
+pub record WaitsForSome (threads : Listed) (old new : List Place) : Type 0 where
+  pub count : ℕ
+  pub waits : AtEach (take count threads) old new (λ e. [])
+
+-- a time was over: the first of a list were stopped, some of it were waited for, and those that were stopped were let go.
+-- Each of these spent one call
+pub record LetsGo (threads : Listed) (old new : List Place) (s z : EnvValue) : Type 0 where
+  pub count : ℕ
+  pub few : count ≤ length threads
+  pub stopped : List Place
+  pub waited : List Place
+  pub stops : StopsUpTo count threads old stopped
+  pub waits : WaitsForSome threads stopped waited
+  pub goes : AtEach (take count threads) waited new (λ e. Go e ∷ [])
+  pub spent : z ≡ spend_all s (take count threads)
+
+-- why no threads stand: a budget does not do, and then nothing has changed; or the time is over
+abbrev pub IsNotStopped : Listed → List Place → List Place → EnvValue → EnvValue → TiError → Type 0
+IsNotStopped threads old new s z CallsSpent = (are_paid s threads ≡ false) × (new ≡ old) × (z ≡ s)
+IsNotStopped threads old new s z TimedOut = (are_paid s threads ≡ true) × LetsGo threads old new s z
+IsNotStopped threads old new s z _ = ⊥
 
 -- each listed desk has seen its thread stand for its environment
 abbrev pub AllStand : Listed → List Place → Type 0

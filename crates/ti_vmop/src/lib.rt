@@ -13,9 +13,11 @@
 //! That `stop_all` answers is not promised: it waits for each thread to hand over.
 #![tactic(auto)]
 
+mod giving_up;
 mod laws;
 mod one;
 mod standing;
 
+pub use giving_up::stop_all_within;
 pub use laws::desks_stay;
 pub use standing::{Round, Standing, VmTurn, stop_all};

@@ -1,5 +1,5 @@
 //! What a global operation does at one thread.
-ghost use Rattle.std.specs.Prelude.{◌≡◌, ◌<◌, true, false, [], ◌∷◌, length, Some};
+ghost use Rattle.std.specs.Prelude.{◌≡◌, ◌<◌, true, false, [], ◌∷◌, if◌then◌else◌, length, Some};
 ghost use Rattle.ti_types.specs.Answer.{said};
 ghost use Rattle.ti_types.specs.declared.entry.Entry.TheVariants as entry;
 ghost use Rattle.ti_replay.specs.Answers.{or_zero as or_zero_of};
@@ -12,12 +12,13 @@ ghost use Rattle.ti_handshake.specs.Call.{Waits, Holds, found};
 ghost use Rattle.ti_handshake.specs.Desk.{IsSame};
 ghost use Rattle.ti_replay.specs.Fronts.{stops_by, TellsOf};
 
+use std::rt::Clock;
 use std::sync::Wait;
-use ti_handshake::Desk;
+use ti_handshake::{Deadline, Desk};
 use ti_types::{Answer, TraceBuf};
 
 /// Stops a thread at which this environment has no stop.
-pub fn stop_one<R: Wait>(rt: &R, desk: &mut Desk<'_>)
+pub fn stop_one<R: Wait>(rt: &R, desk: &mut Desk)
     requires calls { calls_spent desk.old.env desk.old.view.mine < desk.old.view.subject.limits.calls }
     requires free { stops_by desk.old.env desk.old.view.mine ≡ false }
     ensures same { IsSame desk.old desk.new }
@@ -28,8 +29,21 @@ pub fn stop_one<R: Wait>(rt: &R, desk: &mut Desk<'_>)
     desk.facts();
 }
 
+/// The same until the deadline: whether it was stopped. Else nothing was added.
+pub fn stop_one_until<R: Wait + Clock>(rt: &R, desk: &mut Desk, deadline: &Deadline) -> bool
+    requires calls { calls_spent desk.old.env desk.old.view.mine < desk.old.view.subject.limits.calls }
+    requires free { stops_by desk.old.env desk.old.view.mine ≡ false }
+    ensures same { IsSame desk.old desk.new }
+    ensures hold { Waits desk.old.view desk.new.view (if result then entry.Stop desk.old.env ∷ [] else []) }
+{
+    desk.facts();
+    let answer = desk.stop_until(rt, deadline);
+    desk.facts();
+    answer.is_some()
+}
+
 /// Waits until the thread stands for the desk's environment: by a hold, and by looks until the history has grown.
-pub fn await_one<R: Wait>(rt: &R, desk: &mut Desk<'_>)
+pub fn await_one<R: Wait>(rt: &R, desk: &mut Desk)
     ensures same { IsSame desk.old desk.new }
     ensures hold { Waits desk.old.view desk.new.view [] }
     ensures stands { is_standing desk.old.view.subject.limits desk.new.view.seen desk.old.env ≡ true }
@@ -44,8 +58,26 @@ pub fn await_one<R: Wait>(rt: &R, desk: &mut Desk<'_>)
     unreachable!()
 }
 
+/// The same until the deadline: whether the thread stands. Nothing was added.
+pub fn await_one_until<R: Wait + Clock>(rt: &R, desk: &mut Desk, deadline: &Deadline) -> bool
+    ensures same { IsSame desk.old desk.new }
+    ensures hold { Waits desk.old.view desk.new.view [] }
+    ensures stands { result ≡ true → is_standing desk.old.view.subject.limits desk.new.view.seen desk.old.env ≡ true }
+{
+    desk.facts();
+    for _ in rt.forever() {
+        if desk.standing(rt) {
+            return true;
+        }
+        if !desk.await_news_until(rt, deadline) {
+            return false;
+        }
+    }
+    unreachable!()
+}
+
 /// Reads a thread that was seen to stand.
-pub fn read_one<R: Wait>(rt: &R, desk: &mut Desk<'_>, max_count: i32, buf: TraceBuf) -> Answer
+pub fn read_one<R: Wait>(rt: &R, desk: &mut Desk, max_count: i32, buf: TraceBuf) -> Answer
     requires count { is_not_negative max_count ≡ true }
     requires calls { calls_spent desk.old.env desk.old.view.mine < desk.old.view.subject.limits.calls }
     requires buf { HasRoomFor desk.old.view.subject.limits (or_zero_of max_count) buf }
@@ -61,11 +93,22 @@ pub fn read_one<R: Wait>(rt: &R, desk: &mut Desk<'_>, max_count: i32, buf: Trace
 }
 
 /// Lets a thread go that was seen to stand.
-pub fn go_one<R: Wait>(rt: &R, desk: &mut Desk<'_>)
+pub fn go_one<R: Wait>(rt: &R, desk: &mut Desk)
     requires stands { is_standing desk.old.view.subject.limits desk.old.view.seen desk.old.env ≡ true }
     ensures same { IsSame desk.old desk.new }
     ensures hold { Holds desk.old.view desk.new.view (entry.Go desk.old.env ∷ []) }
 {
     desk.facts();
     let _answer = desk.go(rt);
+}
+
+/// Lets a thread go at which this environment's stop stands, whether it was seen to stand or not.
+pub fn go_again<R: Wait>(rt: &R, desk: &mut Desk)
+    requires stopped { stops_by desk.old.env desk.old.view.mine ≡ true }
+    ensures same { IsSame desk.old desk.new }
+    ensures hold { Holds desk.old.view desk.new.view (entry.Go desk.old.env ∷ []) }
+{
+    desk.facts();
+    let _answer = desk.go(rt);
+    desk.facts();
 }

@@ -29,10 +29,10 @@ impl VmTurn {
 /// Threads that stand for an environment, each listed with the reads that were to come. It has to be spent: `go` lets them
 /// go. Until then it has the turn, so that no other operation begins by that turn.
 pub struct Standing<'t, 'l> {
-    turn: &'t mut VmTurn,
-    env: EnvNo,
-    threads: &'l [(ThreadNo, u64)],
-    reads: u64,
+    pub(crate) turn: &'t mut VmTurn,
+    pub(crate) env: EnvNo,
+    pub(crate) threads: &'l [(ThreadNo, u64)],
+    pub(crate) reads: u64,
 }
 
 impl<'t, 'l> Model for Standing<'t, 'l> {
@@ -77,7 +77,7 @@ impl Round {
 }
 
 /// Whether each thread has a call left for its stop and each read.
-fn are_paid_for(state: &EnvState, threads: &[(ThreadNo, u64)]) -> bool
+pub(crate) fn are_paid_for(state: &EnvState, threads: &[(ThreadNo, u64)]) -> bool
     requires there { AreThere (length state.now.spent) threads.now }
     ensures { result ≡ are_paid state.now threads.now }
 {
@@ -91,12 +91,7 @@ fn are_paid_for(state: &EnvState, threads: &[(ThreadNo, u64)]) -> bool
 }
 
 /// Stops each thread, in the order of the list, and spends a call for each.
-fn stop_each<R: Wait>(
-    rt: &R,
-    desks: &mut [Desk<'_>],
-    state: &mut EnvState,
-    threads: &[(ThreadNo, u64)],
-)
+fn stop_each<R: Wait>(rt: &R, desks: &mut [Desk], state: &mut EnvState, threads: &[(ThreadNo, u64)])
     requires there { AreThere (length desks.old) threads.now × (length state.old.spent ≡ length desks.old) }
     requires distinct { AreDistinct threads.now }
     requires paid { are_paid state.old threads.now ≡ true }
@@ -112,7 +107,7 @@ fn stop_each<R: Wait>(
 }
 
 /// Waits until each thread stands.
-fn await_each<R: Wait>(rt: &R, desks: &mut [Desk<'_>], threads: &[(ThreadNo, u64)])
+fn await_each<R: Wait>(rt: &R, desks: &mut [Desk], threads: &[(ThreadNo, u64)])
     requires there { AreThere (length desks.old) threads.now }
     requires distinct { AreDistinct threads.now }
     ensures desks { AtEach threads.now desks.old desks.new (λ e. []) }
@@ -134,7 +129,7 @@ fn await_each<R: Wait>(rt: &R, desks: &mut [Desk<'_>], threads: &[(ThreadNo, u64
 pub fn stop_all<'t, 'l, R: Wait>(
     rt: &R,
     turn: &'t mut VmTurn,
-    desks: &mut [Desk<'_>],
+    desks: &mut [Desk],
     state: &mut EnvState,
     threads: &'l [(ThreadNo, u64)],
 ) -> Result<Standing<'t, 'l>, TiError>
@@ -174,7 +169,7 @@ impl<'t, 'l> Standing<'t, 'l> {
     pub fn read<R: Wait>(
         &mut self,
         rt: &R,
-        desks: &mut [Desk<'_>],
+        desks: &mut [Desk],
         state: &mut EnvState,
         thread: ThreadNo,
         max_count: i32,
@@ -199,7 +194,7 @@ impl<'t, 'l> Standing<'t, 'l> {
 
     /// Lets each listed thread go, in the order of the list, and tells of the round. It costs nothing. The desks are those
     /// of `stop_all`.
-    pub fn go<R: Wait>(self, rt: &R, desks: &mut [Desk<'_>]) -> Round
+    pub fn go<R: Wait>(self, rt: &R, desks: &mut [Desk]) -> Round
         requires there { AreThere (length desks.old) self.threads }
         requires stand { AllStand self.threads desks.old }
         requires env { (i : ℕ) (p : Place) → slice_get desks.old i ≡ Some p → is_listed i self.threads ≡ true → p.env ≡ self.env }
@@ -224,7 +219,7 @@ impl<'t, 'l> Standing<'t, 'l> {
 }
 
 /// Lets each thread go, in the order of the list.
-fn go_each<R: Wait>(rt: &R, desks: &mut [Desk<'_>], threads: &[(ThreadNo, u64)])
+fn go_each<R: Wait>(rt: &R, desks: &mut [Desk], threads: &[(ThreadNo, u64)])
     requires there { AreThere (length desks.old) threads.now }
     requires distinct { AreDistinct threads.now }
     requires stand { AllStand threads.now desks.old }

@@ -1,5 +1,5 @@
--- New cells, the seats at them, and the threads that stations and desks are at.
-use Rattle.std.specs.Prelude.{ℕ, ◌≡◌, ◌<◌, ◌≤◌, ◌-◌, List, [], Some, slice_get}
+-- New seats, and the threads that stations and desks are at.
+use Rattle.std.specs.Prelude.{ℕ, ◌≡◌, ◌<◌, ◌≤◌, List, [], Some, slice_get}
 use Rattle.atomic_table.specs.Seated.{TableId}
 use Rattle.ti_types.specs.declared.limits.Limits.{Limits}
 use Rattle.ti_types.specs.declared.numbers.EnvNo.{EnvNo}
@@ -15,18 +15,9 @@ pub record IsNewSeat (cell : TableId) (subject : Subject) (s : Sitting) : Type 0
   pub there : s.view.number ≤ subject.limits.envs
   pub view : s.view ≡ newcomer subject s.view.number 0
 
--- a cell, and what it is about
-pub record Post : Type 0 where
-  pub cell : TableId
-  pub subject : Subject
-
--- post i is at cell i, which is thread i's
-abbrev pub ArePosts : Limits → List TableId → List Post → Type 0
-ArePosts limits cells posts = (i : ℕ) (p : Post) → slice_get posts i ≡ Some p → (slice_get cells i ≡ Some p.cell) × (p.subject ≡ subject_of limits (record { 0 = i }))
-
--- of n threads, station i is at the one that is i-th from the last
+-- station i is at thread i
 abbrev pub AreStations : Limits → List Subject → Type 0
-AreStations limits stations = (i : ℕ) (s : Subject) → slice_get stations i ≡ Some s → s ≡ subject_of limits (record { 0 = limits.threads - 1 - i })
+AreStations limits stations = (i : ℕ) (s : Subject) → slice_get stations i ≡ Some s → s ≡ subject_of limits (record { 0 = i })
 
 -- a desk of the environment at a thread, at which nothing was done
 pub record IsNewDesk (limits : Limits) (env : EnvNo) (thread : ℕ) (p : Place) : Type 0 where

@@ -44,7 +44,7 @@ impl Asking {
     pub fn sample<R: Wait + AllocGlobal>(
         &mut self,
         rt: &R,
-        env: &mut Env<'_>,
+        env: &mut Env,
         taken: &mut Taken,
     ) -> Option<()> {
         for at in 0..self.owed.len() {
@@ -60,7 +60,7 @@ impl Asking {
     pub fn finish<R: Wait + Clock + AllocGlobal>(
         self,
         rt: &R,
-        env: &mut Env<'_>,
+        env: &mut Env,
         taken: &mut Taken,
     ) -> Option<()> {
         for owed in &self.owed {
@@ -77,7 +77,7 @@ impl Asking {
 /// Takes what a thread owes, and asks it again. If it still owes that, it counts for one sample more.
 fn sample_one<R: Wait + AllocGlobal>(
     rt: &R,
-    env: &mut Env<'_>,
+    env: &mut Env,
     taken: &mut Taken,
     thread: u32,
     owed: &mut Option<Owed>,
@@ -97,7 +97,7 @@ fn sample_one<R: Wait + AllocGlobal>(
 /// Asks a thread for its stack. One that is in native code or blocked answers at once, and owes none.
 fn ask<R: Wait + AllocGlobal>(
     rt: &R,
-    env: &mut Env<'_>,
+    env: &mut Env,
     taken: &mut Taken,
     thread: u32,
 ) -> Option<Option<Owed>> {
@@ -118,7 +118,7 @@ fn ask<R: Wait + AllocGlobal>(
 pub fn standing<R: Wait + AllocGlobal>(
     rt: &R,
     turn: &Mutex<VmTurn>,
-    env: &mut Env<'_>,
+    env: &mut Env,
     taken: &mut Taken,
 ) -> Option<()> {
     let (infos, _round) = env.get_all_stack_traces(rt, rt.alloc(), turn, FRAMES).ok()?;

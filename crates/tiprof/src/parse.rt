@@ -100,7 +100,7 @@ impl<'t> Reader<'t> {
 /// Goes past the rest of a string. Whether it ends.
 fn parse_string<R: Wait>(
     rt: &R,
-    worker: &mut Worker<'_>,
+    worker: &mut Worker,
     reader: &mut Reader<'_>,
 ) -> Result<bool, Spent>
     ensures same { worker.new ≡ worker.old }
@@ -129,7 +129,7 @@ fn parse_string<R: Wait>(
 /// Goes past the rest of an array. Whether it is well formed.
 fn parse_array<R: Wait>(
     rt: &R,
-    worker: &mut Worker<'_>,
+    worker: &mut Worker,
     reader: &mut Reader<'_>,
     depth: u32,
 ) -> Result<bool, Spent>
@@ -157,7 +157,7 @@ fn parse_array<R: Wait>(
 /// Goes past the rest of an object. Whether it is well formed.
 fn parse_object<R: Wait>(
     rt: &R,
-    worker: &mut Worker<'_>,
+    worker: &mut Worker,
     reader: &mut Reader<'_>,
     depth: u32,
 ) -> Result<bool, Spent>
@@ -185,7 +185,7 @@ fn parse_object<R: Wait>(
 /// Goes past a value. Whether it is well formed, and no deeper than that.
 fn parse_value<R: Wait>(
     rt: &R,
-    worker: &mut Worker<'_>,
+    worker: &mut Worker,
     reader: &mut Reader<'_>,
     depth: u32,
 ) -> Result<bool, Spent>
@@ -217,7 +217,7 @@ fn parse_value<R: Wait>(
 }
 
 /// Parses a document.
-pub fn parse<R: Wait>(rt: &R, worker: &mut Worker<'_>, text: &[u8]) -> Result<Found, Spent>
+pub fn parse<R: Wait>(rt: &R, worker: &mut Worker, text: &[u8]) -> Result<Found, Spent>
     ensures same { worker.new ≡ worker.old }
 {
     worker.enter(Method::Parse)?;

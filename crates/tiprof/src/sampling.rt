@@ -89,7 +89,7 @@ impl Pace {
 pub fn sample<R: Wait + Clock + Eprint + AllocGlobal>(
     rt: &R,
     shared: &Shared,
-    env: Env<'_>,
+    env: Env,
     options: Options,
 ) -> Option<Sampled> {
     let sampled = sample_on(rt, shared, env, options);
@@ -101,7 +101,7 @@ pub fn sample<R: Wait + Clock + Eprint + AllocGlobal>(
 fn sample_on<R: Wait + Clock + Eprint + AllocGlobal>(
     rt: &R,
     shared: &Shared,
-    env: Env<'_>,
+    env: Env,
     options: Options,
 ) -> Option<Sampled> {
     let mut env = env;

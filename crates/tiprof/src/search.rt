@@ -40,12 +40,7 @@ impl Attacked {
 }
 
 /// The ways to place queens in the rows that are left.
-fn place<R: Wait>(
-    rt: &R,
-    worker: &mut Worker<'_>,
-    attacked: Attacked,
-    left: u32,
-) -> Result<u32, Spent>
+fn place<R: Wait>(rt: &R, worker: &mut Worker, attacked: Attacked, left: u32) -> Result<u32, Spent>
     ensures same { worker.new ≡ worker.old }
 {
     if left == 0 {
@@ -69,7 +64,7 @@ fn place<R: Wait>(
 }
 
 /// The ways to place as many queens as the board is wide.
-pub fn search<R: Wait>(rt: &R, worker: &mut Worker<'_>) -> Result<u32, Spent>
+pub fn search<R: Wait>(rt: &R, worker: &mut Worker) -> Result<u32, Spent>
     ensures same { worker.new ≡ worker.old }
 {
     worker.enter(Method::Search)?;

@@ -1,13 +1,13 @@
 //! A run: workers on threads of their own, and an environment that samples them.
 ghost use Rattle.std.specs.Prelude.{◌≡◌, length, IfSome};
 ghost use Rattle.ti_cell.specs.View.{subject_of};
-ghost use Rattle.tiprof.specs.Stations.{ArePosts, AreStations, AreDesks, IsNewDesk};
+ghost use Rattle.tiprof.specs.Stations.{AreStations, AreDesks, IsNewDesk};
 
 use crate::asking::DEPTH;
 use crate::options::Options;
 use crate::sampling::{Sampled, sample};
 use crate::shared::Shared;
-use crate::station::{Post, Station};
+use crate::station::Station;
 use crate::working::{NewWorker, Task, work_all};
 use std::alloc::Global;
 use std::io::Input;
@@ -16,10 +16,9 @@ use std::sync::Wait;
 use std::thread::{Threads, join};
 use std::time::CpuClock;
 use ti_agent::Env;
-use ti_cell::ThreadCell;
 use ti_env::EnvState;
 use ti_handshake::Desk;
-use ti_types::{EnvNo, Limits, ThreadNo};
+use ti_types::{EnvNo, Limits};
 
 /// What came of a run.
 #[derive(Drop)]
@@ -31,12 +30,7 @@ pub struct Ran {
 }
 
 /// The next desk of a station at a thread, where it is the environment's.
-fn desk_at<'a>(
-    station: &mut Station<'a>,
-    limits: Limits,
-    thread: u32,
-    env: EnvNo,
-) -> Option<Desk<'a>>
+fn desk_at(station: &mut Station, limits: Limits, thread: u32, env: EnvNo) -> Option<Desk>
     requires at { station.old ≡ subject_of limits (record { 0 = thread }) }
     ensures same { station.new ≡ station.old }
     ensures new { IfSome result (λ p. IsNewDesk limits env thread p) }
@@ -47,13 +41,13 @@ fn desk_at<'a>(
     if desk.env() == env { Some(desk) } else { None }
 }
 
-/// The desks of an environment at all threads, in the order of their numbers. The last thread's station is the first.
-fn desks_of<'a>(
+/// The desks of an environment at all threads, in the order of their numbers.
+fn desks_of(
     alloc: Global,
     limits: Limits,
     env: EnvNo,
-    stations: &mut Vec<Station<'a>>,
-) -> Option<Vec<Desk<'a>>>
+    stations: &mut Vec<Station>,
+) -> Option<Vec<Desk>>
     requires at { AreStations limits stations.old.items }
     requires count { length stations.old.items ≡ limits.threads }
     ensures at { AreStations limits stations.new.items }
@@ -63,19 +57,18 @@ fn desks_of<'a>(
 {
     let mut desks = Vec::with_capacity(alloc, limits.threads as usize).ok()?;
     for thread in 0..limits.threads {
-        let at = (limits.threads - 1 - thread) as usize;
-        desks.push_reserved(desk_at(&mut stations[at], limits, thread, env)?);
+        desks.push_reserved(desk_at(&mut stations[thread as usize], limits, thread, env)?);
     }
     Some(desks)
 }
 
 /// The environment, with a desk at each thread. `None` where memory runs out, or no seat is left.
-fn environment<'a>(
+fn environment(
     alloc: Global,
     limits: Limits,
     env: EnvNo,
-    stations: &mut Vec<Station<'a>>,
-) -> Option<Env<'a>>
+    stations: &mut Vec<Station>,
+) -> Option<Env>
     requires at { AreStations limits stations.old.items }
     requires count { length stations.old.items ≡ limits.threads }
     ensures at { AreStations limits stations.new.items }
@@ -86,42 +79,15 @@ fn environment<'a>(
     Some(Env::new(env, state, desks))
 }
 
-/// The new cells of all threads, and the seats at them.
-fn make_cells(alloc: Global, limits: Limits) -> Option<(Vec<ThreadCell>, Vec<Post>)>
-    ensures posts { IfSome result (λ m. ArePosts limits m.0.items m.1.items) }
-    ensures cells { IfSome result (λ m. length m.0.items ≡ limits.threads) }
-    ensures count { IfSome result (λ m. length m.1.items ≡ limits.threads) }
-{
-    let mut cells = Vec::with_capacity(alloc, limits.threads as usize).ok()?;
-    let mut posts = Vec::with_capacity(alloc, limits.threads as usize).ok()?;
-    for thread in 0..limits.threads {
-        let (cell, post) = Post::make(alloc, limits, ThreadNo(thread))?;
-        cells.push_reserved(cell);
-        posts.push_reserved(post);
-    }
-    Some((cells, posts))
-}
-
-/// The stations and the workers at new cells, the last thread's first.
-fn occupy<'a>(
-    alloc: Global,
-    limits: Limits,
-    cells: &'a [ThreadCell],
-    posts: Vec<Post>,
-) -> Option<(Vec<Station<'a>>, Vec<NewWorker<'a>>)>
-    requires posts { ArePosts limits cells.now posts.items }
-    requires cells { length cells.now ≡ limits.threads }
-    requires count { length posts.items ≡ limits.threads }
+/// The stations and the workers at new cells, in the order of the threads' numbers. `None` where memory runs out.
+fn make_all(alloc: Global, limits: Limits) -> Option<(Vec<Station>, Vec<NewWorker>)>
     ensures at { IfSome result (λ m. AreStations limits m.0.items) }
     ensures count { IfSome result (λ m. length m.0.items ≡ limits.threads) }
 {
-    let mut posts = posts;
     let mut stations = Vec::with_capacity(alloc, limits.threads as usize).ok()?;
     let mut workers = Vec::with_capacity(alloc, limits.threads as usize).ok()?;
-    for i in 0..limits.threads {
-        let post = posts.pop()?;
-        let number = limits.threads - 1 - i;
-        let (station, worker) = post.occupy(&cells[number as usize], number);
+    for thread in 0..limits.threads {
+        let (station, worker) = Station::make(alloc, limits, thread)?;
         stations.push_reserved(station);
         workers.push_reserved(worker);
     }
@@ -132,7 +98,7 @@ fn occupy<'a>(
 fn sample_beside<R: Threads + Wait + Sync + Clock + Input + Eprint + AllocGlobal>(
     rt: &R,
     shared: &Shared,
-    env: Env<'_>,
+    env: Env,
     options: Options,
 ) -> Option<Sampled> {
     if options.is_bounded() {
@@ -151,8 +117,8 @@ fn run_at<R: Threads + Wait + Sync + Clock + CpuClock + Input + Eprint + AllocGl
     rt: &R,
     limits: Limits,
     options: Options,
-    stations: Vec<Station<'_>>,
-    works: Vec<NewWorker<'_>>,
+    stations: Vec<Station>,
+    works: Vec<NewWorker>,
     text: &[u8],
 ) -> Option<Ran>
     requires at { AreStations limits stations.items }
@@ -186,7 +152,6 @@ pub fn run<R: Threads + Wait + Sync + Clock + CpuClock + Input + Eprint + AllocG
     text: &[u8],
 ) -> Option<Ran> {
     let limits = Limits::lasting(options.threads, 1, DEPTH)?;
-    let (cells, posts) = make_cells(rt.alloc(), limits)?;
-    let (stations, workers) = occupy(rt.alloc(), limits, &cells, posts)?;
+    let (stations, workers) = make_all(rt.alloc(), limits)?;
     run_at(rt, limits, options, stations, workers, text)
 }

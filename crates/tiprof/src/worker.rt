@@ -8,8 +8,8 @@ use std::rt::Clock;
 use std::sync::Wait;
 use std::thread;
 use std::time::Duration;
-use ti_cell::{OwnSeat, ThreadCell};
-use ti_handshake::{AtSafe, Fresh, Polled, Running};
+use ti_cell::OwnSeat;
+use ti_handshake::{AtSafe, Fresh, Polled, Running, SharedCell};
 use ti_types::{Kind, Step};
 
 /// The thread has no entries left (208), is too deep (201), or has no memory: it computes no more.
@@ -18,28 +18,28 @@ pub struct Spent;
 
 /// A thread that computes. Contracts see it as its cell.
 #[derive(Drop)]
-pub struct Worker<'a> {
-    cell: &'a ThreadCell,
+pub struct Worker {
+    cell: SharedCell,
     /// `None` while it is in native code or blocked.
-    running: Option<Running<'a>>,
+    running: Option<Running>,
 }
 
-impl<'a> Model for Worker<'a> {
+impl Model for Worker {
     ghost use Rattle.atomic_table.specs.Seated.{TableId};
     ghost use Rattle.tiprof.specs.Workers.{RunsAt};
 
     ghost Value = { TableId };
 
-    ghost view = { λ w. w.cell.now };
+    ghost view = { λ w. w.cell };
 
-    ghost invariant = { λ w. RunsAt w.cell.now w.running };
+    ghost invariant = { λ w. RunsAt w.cell w.running };
 }
 
-impl<'a> Worker<'a> {
+impl Worker {
     /// Starts the thread of a cell. It waits while a stop stands.
-    pub fn start<R: Wait>(rt: &R, cell: &'a ThreadCell, fresh: Fresh<'a>) -> Worker<'a>
-        requires cell { fresh.cell ≡ cell.now }
-        ensures cell { result ≡ cell.now }
+    pub fn start<R: Wait>(rt: &R, cell: SharedCell, fresh: Fresh) -> Worker
+        requires cell { fresh.cell ≡ cell }
+        ensures cell { result ≡ cell }
     {
         Worker {
             cell,
@@ -102,7 +102,7 @@ impl<'a> Worker<'a> {
 
     /// Enters a native method and goes into native code. The thread may be stopped and read from here on, until it
     /// comes back.
-    pub fn native<R: Wait>(&mut self, rt: &R, method: Method) -> Result<AtSafe<'a>, Spent>
+    pub fn native<R: Wait>(&mut self, rt: &R, method: Method) -> Result<AtSafe, Spent>
         ensures same { self.new ≡ self.old }
         ensures cell { IfOk result (λ away. away.cell ≡ self.old) }
     {
@@ -120,7 +120,7 @@ impl<'a> Worker<'a> {
     }
 
     /// Comes back out of native code, or from a block, once it may.
-    pub fn back<R: Wait>(&mut self, rt: &R, away: AtSafe<'a>)
+    pub fn back<R: Wait>(&mut self, rt: &R, away: AtSafe)
         requires cell { away.cell ≡ self.old }
         ensures same { self.new ≡ self.old }
     {
@@ -149,7 +149,7 @@ impl<'a> Worker<'a> {
 
     /// Ends the thread. Its seat, which has seen the thread's history up to the end: that is legal.
     pub fn end<R: Wait>(self, rt: &R) -> Option<OwnSeat>
-        ensures cell { IfSome result (λ s. s.cell ≡ self.entry) }
+        ensures cell { IfSome result (λ s. s.cell ≡ self) }
         ensures legal { IfSome result (λ s. is_legal s.view.subject.limits s.view.seen ≡ true) }
     {
         let Worker { cell: _, running } = self;

@@ -12,16 +12,15 @@ use std::sync::Wait;
 use std::thread;
 use std::thread::Threads;
 use std::time::{CpuClock, Duration};
-use ti_cell::ThreadCell;
-use ti_handshake::Fresh;
+use ti_handshake::{Fresh, SharedCell};
 
 /// A worker that has not started.
 #[derive(Drop)]
-pub struct NewWorker<'a> {
-    pub cell: &'a ThreadCell,
-    pub fresh: Fresh<'a>,
+pub struct NewWorker {
+    pub cell: SharedCell,
+    pub fresh: Fresh,
     pub number: u32,
-    pub ghost here: { fresh.cell ≡ cell.now },
+    pub ghost here: { fresh.cell ≡ cell },
 }
 
 /// What a worker is to do.
@@ -59,7 +58,7 @@ const ROUND: u64 = 4;
 /// One job: whether it came to what it should.
 fn job<R: Wait + Clock + AllocGlobal>(
     rt: &R,
-    worker: &mut Worker<'_>,
+    worker: &mut Worker,
     turn: u64,
     text: &[u8],
 ) -> Result<bool, Spent>
@@ -83,7 +82,7 @@ fn job<R: Wait + Clock + AllocGlobal>(
 fn jobs<R: Wait + Clock + AllocGlobal>(
     rt: &R,
     shared: &Shared,
-    worker: &mut Worker<'_>,
+    worker: &mut Worker,
     task: Task<'_>,
     number: u32,
 ) -> u64
@@ -105,7 +104,7 @@ fn jobs<R: Wait + Clock + AllocGlobal>(
 fn work<R: Wait + Clock + CpuClock + AllocGlobal>(
     rt: &R,
     shared: &Shared,
-    work: NewWorker<'_>,
+    work: NewWorker,
     task: Task<'_>,
 ) -> Worked {
     let NewWorker {
@@ -132,13 +131,13 @@ fn work<R: Wait + Clock + CpuClock + AllocGlobal>(
 pub fn work_all<R: Threads + Wait + Sync + Clock + CpuClock + AllocGlobal>(
     rt: &R,
     shared: &Shared,
-    works: Vec<NewWorker<'_>>,
+    works: Vec<NewWorker>,
     task: Task<'_>,
 ) -> Option<(u64, u64)> {
     let worked = thread::map_vec(
         rt,
         works,
-        &|one: NewWorker<'_>| -> Worked { work(rt, shared, one, task) },
+        &|one: NewWorker| -> Worked { work(rt, shared, one, task) },
     )
     .ok()?;
     let mut jobs: u64 = 0;

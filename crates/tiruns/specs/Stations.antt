@@ -1,4 +1,4 @@
--- A new cell, and seats and desks from which nothing was done.
+-- Seats and desks from which nothing was done.
 use Rattle.std.specs.Prelude.{◌≡◌, ◌<◌, ◌≤◌, []}
 use Rattle.atomic_table.specs.Seated.{TableId}
 use Rattle.ti_types.specs.declared.numbers.EnvNo.{EnvNo}
@@ -13,11 +13,6 @@ pub record IsNewSeat (cell : TableId) (subject : Subject) (s : Sitting) : Type 0
   pub some : 0 < s.view.number
   pub there : s.view.number ≤ subject.limits.envs
   pub view : s.view ≡ newcomer subject s.view.number 0
-
--- a cell, and what it is about
-pub record Post : Type 0 where
-  pub cell : TableId
-  pub subject : Subject
 
 -- the desk of an environment at a cell that is about this, at which nothing was done
 pub record IsNewDesk (subject : Subject) (env : EnvNo) (p : Place) : Type 0 where

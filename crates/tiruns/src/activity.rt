@@ -23,7 +23,7 @@ pub const TURNS: u32 = u32::MAX;
 const LOOK: u64 = 4096;
 
 /// Enters this many methods.
-pub fn enter(running: &mut Running<'_>, frames: u32) -> Option<()> {
+pub fn enter(running: &mut Running, frames: u32) -> Option<()> {
     for method in 0..frames {
         running.step(Step::Enter(MethodNo(method))).ok()?;
     }
@@ -31,19 +31,19 @@ pub fn enter(running: &mut Running<'_>, frames: u32) -> Option<()> {
 }
 
 /// Starts a thread, which enters this many methods.
-pub fn start<'a, R: Wait>(rt: &R, fresh: Fresh<'a>, frames: u32) -> Option<Running<'a>> {
+pub fn start<R: Wait>(rt: &R, fresh: Fresh, frames: u32) -> Option<Running> {
     let mut running = fresh.try_start(rt).ok()?;
     enter(&mut running, frames)?;
     Some(running)
 }
 
 /// Starts a thread that then blocks.
-pub fn park<'a, R: Wait>(rt: &R, fresh: Fresh<'a>, frames: u32) -> Option<AtSafe<'a>> {
+pub fn park<R: Wait>(rt: &R, fresh: Fresh, frames: u32) -> Option<AtSafe> {
     start(rt, fresh, frames)?.block(rt, Kind::ObjectWait).ok()
 }
 
 /// Enters and leaves a method, until it took this many steps.
-pub fn take_steps<R: Clock + CpuClock>(rt: &R, running: Running<'_>, steps: u32) -> Option<Spent> {
+pub fn take_steps<R: Clock + CpuClock>(rt: &R, running: Running, steps: u32) -> Option<Spent> {
     let mut running = running;
     let began = Began::now(rt)?;
     for method in 0..steps / 2 {
@@ -54,7 +54,7 @@ pub fn take_steps<R: Clock + CpuClock>(rt: &R, running: Running<'_>, steps: u32)
 }
 
 /// Polls, again and again. Nobody asks, so that each poll is clear.
-pub fn take_polls<R: Clock + CpuClock>(rt: &R, running: Running<'_>) -> Option<Spent> {
+pub fn take_polls<R: Clock + CpuClock>(rt: &R, running: Running) -> Option<Spent> {
     let mut running = running;
     let began = Began::now(rt)?;
     for _ in 0..POLLS {
@@ -66,13 +66,13 @@ pub fn take_polls<R: Clock + CpuClock>(rt: &R, running: Running<'_>) -> Option<S
 }
 
 /// Makes a step and polls. Nobody asks, so that the poll is clear.
-fn step_and_poll(running: &mut Running<'_>, step: Step) -> Option<()> {
+fn step_and_poll(running: &mut Running, step: Step) -> Option<()> {
     running.step(step).ok()?;
     if running.poll_clear() { Some(()) } else { None }
 }
 
 /// Enters and leaves a method, again and again, and polls after each step.
-pub fn work_beside<R: Clock + CpuClock>(rt: &R, running: Running<'_>) -> Option<Spent> {
+pub fn work_beside<R: Clock + CpuClock>(rt: &R, running: Running) -> Option<Spent> {
     let mut running = running;
     let began = Began::now(rt)?;
     for method in 0..STEPS / 2 {
@@ -83,7 +83,7 @@ pub fn work_beside<R: Clock + CpuClock>(rt: &R, running: Running<'_>) -> Option<
 }
 
 /// Hands over and goes on. `None` if it is held.
-fn go_on<'a, R: Wait>(rt: &R, running: Running<'a>) -> Option<Running<'a>> {
+fn go_on<R: Wait>(rt: &R, running: Running) -> Option<Running> {
     match running.poll(rt) {
         Polled::Go(again) => Some(again),
         Polled::Held(_) => None,
@@ -94,7 +94,7 @@ fn go_on<'a, R: Wait>(rt: &R, running: Running<'a>) -> Option<Running<'a>> {
 pub fn poll_until_done<R: Wait>(
     rt: &R,
     shared: &Shared,
-    running: Running<'_>,
+    running: Running,
     others: u32,
 ) -> Option<()> {
     let mut running = running;
@@ -113,7 +113,7 @@ pub fn poll_until_done<R: Wait>(
 pub fn work_until_done<R: Wait>(
     rt: &R,
     shared: &Shared,
-    running: Running<'_>,
+    running: Running,
     others: u32,
 ) -> Option<()> {
     let mut running = running;
@@ -135,7 +135,7 @@ pub fn work_until_done<R: Wait>(
 }
 
 /// Polls until it is held. `None` if nobody holds it; then it has ended.
-pub fn poll_until_held<'a, R: Wait>(rt: &R, running: Running<'a>) -> Option<AtSafe<'a>> {
+pub fn poll_until_held<R: Wait>(rt: &R, running: Running) -> Option<AtSafe> {
     let mut running = running;
     for _ in 0..TURNS {
         if !running.poll_clear() {
@@ -150,7 +150,7 @@ pub fn poll_until_held<'a, R: Wait>(rt: &R, running: Running<'a>) -> Option<AtSa
 }
 
 /// What a thread spends from where it is held until it may go on. Then it ends.
-pub fn wait_suspended<R: Wait + Clock + CpuClock>(rt: &R, running: Running<'_>) -> Option<Spent> {
+pub fn wait_suspended<R: Wait + Clock + CpuClock>(rt: &R, running: Running) -> Option<Spent> {
     let held = poll_until_held(rt, running)?;
     let began = Began::now(rt)?;
     let back = held.back(rt);
@@ -163,7 +163,7 @@ pub fn wait_suspended<R: Wait + Clock + CpuClock>(rt: &R, running: Running<'_>) 
 pub fn poll_late<R: Wait + Clock>(
     rt: &R,
     shared: &Shared,
-    running: Running<'_>,
+    running: Running,
     others: u32,
 ) -> Option<()> {
     thread::sleep(rt, Duration::from_millis(WAIT));

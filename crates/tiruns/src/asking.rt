@@ -53,7 +53,7 @@ impl Work {
         self,
         rt: &R,
         shared: &Shared,
-        env: &mut Env<'_>,
+        env: &mut Env,
     ) -> Result<(), TiError> {
         let thread = ThreadNo(0);
         match self {
@@ -81,7 +81,7 @@ impl Work {
 pub fn ask_on<R: Wait + Clock + CpuClock + AllocGlobal>(
     rt: &R,
     shared: &Shared,
-    env: Env<'_>,
+    env: Env,
     work: Work,
     times: u32,
 ) -> Option<Spent> {
@@ -99,7 +99,7 @@ pub fn ask_on<R: Wait + Clock + CpuClock + AllocGlobal>(
 fn ask<R: Wait + Clock + CpuClock + AllocGlobal>(
     rt: &R,
     shared: &Shared,
-    env: Env<'_>,
+    env: Env,
     work: Work,
 ) -> Option<Spent> {
     let spent = ask_on(rt, shared, env, work, work.times());
@@ -115,7 +115,7 @@ fn both(one: Option<Spent>, two: Option<Spent>) -> Option<Spent> {
 fn ask_two<R: Threads + Wait + Sync + Clock + CpuClock + AllocGlobal>(
     rt: &R,
     shared: &Shared,
-    envs: (Env<'_>, Env<'_>),
+    envs: (Env, Env),
     work: Work,
 ) -> Option<Spent> {
     let (first, second) = envs;
@@ -131,7 +131,7 @@ fn ask_two<R: Threads + Wait + Sync + Clock + CpuClock + AllocGlobal>(
 pub fn ask_all<R: Threads + Wait + Sync + Clock + CpuClock + AllocGlobal>(
     rt: &R,
     shared: &Shared,
-    envs: ((Env<'_>, Env<'_>), (Env<'_>, Env<'_>)),
+    envs: ((Env, Env), (Env, Env)),
     work: Work,
     crowd: Crowd,
 ) -> Option<Spent> {
@@ -152,7 +152,7 @@ pub fn ask_all<R: Threads + Wait + Sync + Clock + CpuClock + AllocGlobal>(
 }
 
 /// Suspends thread 0 for a while.
-pub fn suspend<R: Wait + Clock>(rt: &R, env: Env<'_>) -> Option<()> {
+pub fn suspend<R: Wait + Clock>(rt: &R, env: Env) -> Option<()> {
     let mut env = env;
     env.add_capabilities(Caps::CAN_SUSPEND).ok()?;
     env.suspend_thread(rt, ThreadNo(0)).ok()?;
@@ -161,11 +161,7 @@ pub fn suspend<R: Wait + Clock>(rt: &R, env: Env<'_>) -> Option<()> {
 }
 
 /// Asks for one count of thread 0's frames, and then notes that it is done.
-pub fn count_once<R: Wait + Clock + CpuClock>(
-    rt: &R,
-    shared: &Shared,
-    env: Env<'_>,
-) -> Option<Spent> {
+pub fn count_once<R: Wait + Clock + CpuClock>(rt: &R, shared: &Shared, env: Env) -> Option<Spent> {
     let mut env = env;
     let began = Began::now(rt);
     let count = env.get_frame_count(rt, ThreadNo(0)).ok();

@@ -16,17 +16,17 @@ use ti_agent::Env;
 use ti_handshake::{Fresh, Running};
 
 /// The threads of the four cells, by pairs.
-pub type Fours<'a> = ((Fresh<'a>, Fresh<'a>), (Fresh<'a>, Fresh<'a>));
+pub type Fours = ((Fresh, Fresh), (Fresh, Fresh));
 
 /// The four environments, by pairs.
-pub type Envs<'a> = ((Env<'a>, Env<'a>), (Env<'a>, Env<'a>));
+pub type Envs = ((Env, Env), (Env, Env));
 
 /// Asks of four parked threads, each of this many frames.
 fn ask_parked<R: Threads + Wait + Sync + Clock + CpuClock + AllocGlobal>(
     rt: &R,
-    threads: Fours<'_>,
+    threads: Fours,
     frames: u32,
-    envs: Envs<'_>,
+    envs: Envs,
     work: Work,
     crowd: Crowd,
 ) -> Option<Spent> {
@@ -42,8 +42,8 @@ fn ask_parked<R: Threads + Wait + Sync + Clock + CpuClock + AllocGlobal>(
 /// Counts the frames of a thread that runs and polls.
 fn ask_running<R: Threads + Wait + Sync + Clock + CpuClock + AllocGlobal>(
     rt: &R,
-    running: Running<'_>,
-    envs: Envs<'_>,
+    running: Running,
+    envs: Envs,
     crowd: Crowd,
 ) -> Option<Spent> {
     let shared = Shared::new();
@@ -61,8 +61,8 @@ fn ask_running<R: Threads + Wait + Sync + Clock + CpuClock + AllocGlobal>(
 /// A thread takes steps and polls, while others ask a parked thread beside it for traces. What the first spent.
 fn work_on<R: Threads + Wait + Sync + Clock + CpuClock + AllocGlobal>(
     rt: &R,
-    running: Running<'_>,
-    envs: Envs<'_>,
+    running: Running,
+    envs: Envs,
     crowd: Crowd,
 ) -> Option<Spent> {
     let shared = Shared::new();
@@ -79,8 +79,8 @@ fn work_on<R: Threads + Wait + Sync + Clock + CpuClock + AllocGlobal>(
 /// A thread is suspended for a while. What its wait took.
 fn ask_suspended<R: Threads + Wait + Sync + Clock + CpuClock + AllocGlobal>(
     rt: &R,
-    running: Running<'_>,
-    env: Env<'_>,
+    running: Running,
+    env: Env,
 ) -> Option<Spent> {
     let (spent, suspended) = join(
         rt,
@@ -94,8 +94,8 @@ fn ask_suspended<R: Threads + Wait + Sync + Clock + CpuClock + AllocGlobal>(
 /// Counts once the frames of a thread that does not poll for a while. What the wait took.
 fn ask_unpolled<R: Threads + Wait + Sync + Clock + CpuClock + AllocGlobal>(
     rt: &R,
-    running: Running<'_>,
-    env: Env<'_>,
+    running: Running,
+    env: Env,
 ) -> Option<Spent> {
     let shared = Shared::new();
     let shared = &shared;
@@ -111,8 +111,8 @@ fn ask_unpolled<R: Threads + Wait + Sync + Clock + CpuClock + AllocGlobal>(
 /// Posts traces of a thread that runs and polls, and collects them.
 fn ask_posts<R: Threads + Wait + Sync + Clock + CpuClock + AllocGlobal>(
     rt: &R,
-    running: Running<'_>,
-    env: Env<'_>,
+    running: Running,
+    env: Env,
     batches: u32,
 ) -> Option<Spent> {
     let shared = Shared::new();
@@ -129,8 +129,8 @@ fn ask_posts<R: Threads + Wait + Sync + Clock + CpuClock + AllocGlobal>(
 /// Asks a parked thread for its state, so many times.
 fn ask_calls<R: Wait + Clock + CpuClock + AllocGlobal>(
     rt: &R,
-    thread: Fresh<'_>,
-    env: Env<'_>,
+    thread: Fresh,
+    env: Env,
     times: u32,
 ) -> Option<Spent> {
     let _parked = park(rt, thread, 4)?;
@@ -139,11 +139,7 @@ fn ask_calls<R: Wait + Clock + CpuClock + AllocGlobal>(
 }
 
 /// What a thread does that nobody asks.
-fn measure_alone<R: Wait + Clock + CpuClock>(
-    rt: &R,
-    alone: Alone,
-    thread: Fresh<'_>,
-) -> Option<Spent> {
+fn measure_alone<R: Wait + Clock + CpuClock>(rt: &R, alone: Alone, thread: Fresh) -> Option<Spent> {
     let running = start(rt, thread, 0)?;
     match alone {
         Alone::Steps => take_steps(rt, running, STEPS),
@@ -156,8 +152,8 @@ fn measure_alone<R: Wait + Clock + CpuClock>(
 fn measure_single<R: Threads + Wait + Sync + Clock + CpuClock + AllocGlobal>(
     rt: &R,
     single: Single,
-    thread: Fresh<'_>,
-    env: Env<'_>,
+    thread: Fresh,
+    env: Env,
 ) -> Option<Spent> {
     match single {
         Single::Suspended => ask_suspended(rt, start(rt, thread, 4)?, env),
@@ -171,9 +167,9 @@ fn measure_single<R: Threads + Wait + Sync + Clock + CpuClock + AllocGlobal>(
 /// A thread works beside one that is parked, which others ask for traces.
 fn measure_beside<R: Threads + Wait + Sync + Clock + CpuClock + AllocGlobal>(
     rt: &R,
-    parked: Fresh<'_>,
-    working: Fresh<'_>,
-    envs: Envs<'_>,
+    parked: Fresh,
+    working: Fresh,
+    envs: Envs,
     crowd: Crowd,
 ) -> Option<Spent> {
     let _parked = park(rt, parked, 256)?;
@@ -185,8 +181,8 @@ pub fn measure<R: Threads + Wait + Sync + Clock + CpuClock + AllocGlobal>(
     rt: &R,
     task: Task,
     crowd: Crowd,
-    threads: Fours<'_>,
-    envs: Envs<'_>,
+    threads: Fours,
+    envs: Envs,
 ) -> Option<Spent> {
     let (front, back) = threads;
     let (zero, one) = front;

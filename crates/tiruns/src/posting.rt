@@ -24,7 +24,7 @@ fn trace_in(answer: Answer) -> Option<()> {
 }
 
 /// Posts a trace: its ticket.
-fn post<R: Wait + AllocGlobal>(rt: &R, env: &mut Env<'_>) -> Option<Ticket> {
+fn post<R: Wait + AllocGlobal>(rt: &R, env: &mut Env) -> Option<Ticket> {
     match env.post(rt, rt.alloc(), ThreadNo(0), TRACE) {
         Ok(Asked::Waiting(ticket)) => Some(ticket),
         _ => None,
@@ -32,7 +32,7 @@ fn post<R: Wait + AllocGlobal>(rt: &R, env: &mut Env<'_>) -> Option<Ticket> {
 }
 
 /// Posts a trace, and waits for its answer.
-fn post_and_wait<R: Wait + AllocGlobal>(rt: &R, env: &mut Env<'_>) -> Option<()> {
+fn post_and_wait<R: Wait + AllocGlobal>(rt: &R, env: &mut Env) -> Option<()> {
     match env.post(rt, rt.alloc(), ThreadNo(0), TRACE) {
         Ok(Asked::Waiting(ticket)) => trace_in(env.collect(rt, ticket)),
         _ => None,
@@ -40,7 +40,7 @@ fn post_and_wait<R: Wait + AllocGlobal>(rt: &R, env: &mut Env<'_>) -> Option<()>
 }
 
 /// Posts a batch, waits for the last answer, and then finds the others there: one hand-over answers all that wait.
-fn batch<R: Wait + AllocGlobal>(rt: &R, env: &mut Env<'_>) -> Option<()> {
+fn batch<R: Wait + AllocGlobal>(rt: &R, env: &mut Env) -> Option<()> {
     let mut tickets = Vec::with_capacity(rt.alloc(), BATCH as usize).ok()?;
     for _ in 1..BATCH {
         tickets.push(post(rt, env)?).ok()?;
@@ -55,7 +55,7 @@ fn batch<R: Wait + AllocGlobal>(rt: &R, env: &mut Env<'_>) -> Option<()> {
 /// So many batches.
 fn post_batches<R: Wait + Clock + CpuClock + AllocGlobal>(
     rt: &R,
-    env: Env<'_>,
+    env: Env,
     batches: u32,
 ) -> Option<Spent> {
     let mut env = env;
@@ -70,7 +70,7 @@ fn post_batches<R: Wait + Clock + CpuClock + AllocGlobal>(
 pub fn post_all<R: Wait + Clock + CpuClock + AllocGlobal>(
     rt: &R,
     shared: &Shared,
-    env: Env<'_>,
+    env: Env,
     batches: u32,
 ) -> Option<Spent> {
     let spent = post_batches(rt, env, batches);

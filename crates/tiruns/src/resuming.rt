@@ -33,7 +33,7 @@ fn steps_of<R: Wait + Clock>(
     rt: &R,
     alloc: Global,
     shared: &Shared,
-    running: Running<'_>,
+    running: Running,
 ) -> Option<Vec<Instant>> {
     let mut running = running;
     let mut steps = Vec::with_capacity(alloc, TIMES as usize).ok()?;
@@ -63,7 +63,7 @@ fn resumptions_of<R: Wait + Clock>(
     rt: &R,
     alloc: Global,
     shared: &Shared,
-    env: Env<'_>,
+    env: Env,
 ) -> Option<Vec<Instant>> {
     let mut env = env;
     env.add_capabilities(Caps::CAN_SUSPEND).ok()?;
@@ -91,8 +91,8 @@ fn median(alloc: Global, from: &[Instant], to: &[Instant]) -> Option<u64> {
 /// A thread is suspended and resumed, again and again: the median of the times to its next step.
 pub fn ask_resumed<R: Threads + Wait + Sync + Clock + AllocGlobal>(
     rt: &R,
-    running: Running<'_>,
-    env: Env<'_>,
+    running: Running,
+    env: Env,
 ) -> Option<Spent> {
     let shared = Shared::new();
     let shared = &shared;

@@ -6,20 +6,20 @@ ghost use Rattle.tiruns.specs.Stations.{IsNewDesk};
 
 use std::alloc::Global;
 use std::marker::Model;
-use ti_cell::{EnvSeat, OwnSeat, ThreadCell};
-use ti_handshake::{Desk, Fresh};
+use ti_cell::EnvSeat;
+use ti_handshake::{Desk, Fresh, SharedCell};
 use ti_types::{EnvNo, Limits, ThreadNo};
 
 /// The seats of environments at one thread, from which nothing was done. Contracts see it as the thread and its limits.
 #[derive(Drop)]
-pub struct Station<'a> {
-    cell: &'a ThreadCell,
+pub struct Station {
+    cell: SharedCell,
     limits: Limits,
     thread: ThreadNo,
     seats: Vec<EnvSeat>,
 }
 
-impl<'a> Model for Station<'a> {
+impl Model for Station {
     ghost use Rattle.std.specs.List.{All};
     ghost use Rattle.ti_cell.specs.declared.view.Subject.{Subject};
     ghost use Rattle.ti_cell.specs.View.{subject_of};
@@ -29,18 +29,22 @@ impl<'a> Model for Station<'a> {
 
     ghost view = { λ s. subject_of s.limits s.thread };
 
-    ghost invariant = { λ s. All (IsNewSeat s.cell.now (subject_of s.limits s.thread)) s.seats.items };
+    ghost invariant = { λ s. All (IsNewSeat s.cell (subject_of s.limits s.thread)) s.seats.items };
 }
 
-impl<'a> Station<'a> {
+impl Station {
+    /// A thread at a new cell, and the seats of all environments there. `None` if memory runs out.
+    pub fn make(alloc: Global, limits: Limits, thread: ThreadNo) -> Option<(Station, Fresh)>
+        ensures about { IfSome result (λ m. m.0 ≡ subject_of limits thread) }
+    {
+        let (cell, own, seats) = SharedCell::make(alloc, limits, thread).ok()?;
+        let fresh = Fresh::new(cell.share().ok()?, own);
+        Some((Station::new(cell, limits, thread, seats), fresh))
+    }
+
     /// The seats of all environments at a thread's new cell.
-    fn new(
-        cell: &'a ThreadCell,
-        limits: Limits,
-        thread: ThreadNo,
-        seats: Vec<EnvSeat>,
-    ) -> Station<'a>
-        requires seats { seats.items ≡ env_seats cell.now (subject_of limits thread) limits.envs }
+    fn new(cell: SharedCell, limits: Limits, thread: ThreadNo, seats: Vec<EnvSeat>) -> Station
+        requires seats { seats.items ≡ env_seats cell (subject_of limits thread) limits.envs }
         ensures { result ≡ subject_of limits thread }
     {
         Station {
@@ -51,84 +55,23 @@ impl<'a> Station<'a> {
         }
     }
 
-    /// The desk of one more environment, from the last to the first. `None` if all have theirs.
+    /// The desk of one more environment, from the last to the first. `None` if all have theirs, or memory runs out.
     #[tactic(auto, using(crate::proofs::StationLaws::popped))]
-    fn next_desk(&mut self) -> Option<Desk<'a>>
+    fn next_desk(&mut self) -> Option<Desk>
         ensures same { self.new ≡ self.old }
         ensures about { IfSome result (λ p. p.view.subject ≡ self.old) }
         ensures none { IfSome result (λ p. p.view.mine ≡ []) }
     {
         let seat = self.seats.pop()?;
-        Some(Desk::new(self.cell, seat))
+        Some(Desk::new(self.cell.share().ok()?, seat))
     }
 
     /// The next desk, if it is this environment's.
-    pub fn desk_of(&mut self, env: EnvNo) -> Option<Desk<'a>>
+    pub fn desk_of(&mut self, env: EnvNo) -> Option<Desk>
         ensures same { self.new ≡ self.old }
         ensures new { IfSome result (λ p. IsNewDesk self.old env p) }
     {
         let desk = self.next_desk()?;
         if desk.env() == env { Some(desk) } else { None }
-    }
-}
-
-/// The seats at a new cell: the thread's own, and those of all environments. Contracts see it as its cell, and what that
-/// is about.
-#[derive(Drop)]
-pub struct Post {
-    limits: Limits,
-    thread: ThreadNo,
-    own: OwnSeat,
-    seats: Vec<EnvSeat>,
-}
-
-impl Model for Post {
-    ghost use Rattle.std.specs.Prelude.{◌≡◌, []};
-    ghost use Rattle.ti_cell.specs.View.{subject_of};
-    ghost use Rattle.ti_cell.specs.Seats.{env_seats};
-    ghost use Rattle.tiruns.specs.Stations.{Post as PostOf};
-
-    ghost Value = { PostOf };
-
-    ghost view = { λ p. record { cell = p.own.cell; subject = subject_of p.limits p.thread } };
-
-    ghost invariant = { λ p. (p.own.view.number ≡ 0) × (p.own.view.mine ≡ []) × (p.seats.items ≡ env_seats p.own.cell (subject_of p.limits p.thread) p.limits.envs) };
-}
-
-impl Post {
-    /// A new cell of a thread, and the seats at it. `None` if memory runs out.
-    pub fn make(alloc: Global, limits: Limits, thread: ThreadNo) -> Option<(ThreadCell, Post)>
-        ensures here { IfSome result (λ m. m.1.cell ≡ m.0) }
-        ensures about { IfSome result (λ m. m.1.subject ≡ subject_of limits thread) }
-    {
-        match ThreadCell::make(alloc, limits, thread) {
-            Ok((cell, own, seats)) => Some((
-                cell,
-                Post {
-                    limits,
-                    thread,
-                    own,
-                    seats,
-                },
-            )),
-            Err(_) => None,
-        }
-    }
-
-    /// The environments' station and the thread, at the post's own cell.
-    pub fn occupy<'a>(self, cell: &'a ThreadCell) -> (Station<'a>, Fresh<'a>)
-        requires here { self.cell ≡ cell.now }
-        ensures about { result.0 ≡ self.subject }
-    {
-        let Post {
-            limits,
-            thread,
-            own,
-            seats,
-        } = self;
-        (
-            Station::new(cell, limits, thread, seats),
-            Fresh::new(cell, own),
-        )
     }
 }

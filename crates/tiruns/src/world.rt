@@ -5,7 +5,7 @@ ghost use Rattle.tiruns.specs.Stations.{IsNewDesk};
 
 use crate::measuring::{Envs, measure};
 use crate::spent::Spent;
-use crate::station::{Post, Station};
+use crate::station::Station;
 use crate::task::{Crowd, Task};
 use std::alloc::Global;
 use std::rt::Clock;
@@ -19,12 +19,12 @@ use ti_types::{EnvNo, Limits, ThreadNo};
 
 /// The stations of the four threads.
 #[derive(Drop)]
-struct Stations<'a> {
+struct Stations {
     limits: Limits,
-    zero: Station<'a>,
-    one: Station<'a>,
-    two: Station<'a>,
-    three: Station<'a>,
+    zero: Station,
+    one: Station,
+    two: Station,
+    three: Station,
     ghost four: { limits.threads ≡ 4 },
     ghost zeroth: { zero ≡ subject_of limits (record { 0 = 0 }) },
     ghost first: { one ≡ subject_of limits (record { 0 = 1 }) },
@@ -33,13 +33,13 @@ struct Stations<'a> {
 }
 
 /// The environment of four desks, at the four threads.
-fn environment<'a>(
+fn environment(
     alloc: Global,
     limits: Limits,
     env: EnvNo,
-    front: (Desk<'a>, Desk<'a>),
-    back: (Desk<'a>, Desk<'a>),
-) -> Option<Env<'a>>
+    front: (Desk, Desk),
+    back: (Desk, Desk),
+) -> Option<Env>
     requires four { limits.threads ≡ 4 }
     requires zero { IsNewDesk (subject_of limits (record { 0 = 0 })) env front.0 }
     requires one { IsNewDesk (subject_of limits (record { 0 = 1 })) env front.1 }
@@ -55,16 +55,16 @@ fn environment<'a>(
     Some(Env::new(env, state, desks))
 }
 
-impl<'a> Stations<'a> {
+impl Stations {
     /// One more environment, from the last to the first. `None` if memory runs out, or it is not the next.
-    fn environment(&mut self, alloc: Global, env: EnvNo) -> Option<Env<'a>> {
+    fn environment(&mut self, alloc: Global, env: EnvNo) -> Option<Env> {
         let front = (self.zero.desk_of(env)?, self.one.desk_of(env)?);
         let back = (self.two.desk_of(env)?, self.three.desk_of(env)?);
         environment(alloc, self.limits, env, front, back)
     }
 
     /// Four environments.
-    fn environments(self, alloc: Global) -> Option<Envs<'a>> {
+    fn environments(self, alloc: Global) -> Option<Envs> {
         let mut stations = self;
         let fourth = stations.environment(alloc, EnvNo(3))?;
         let third = stations.environment(alloc, EnvNo(2))?;
@@ -82,14 +82,10 @@ pub fn round<R: Threads + Wait + Sync + Clock + CpuClock + AllocGlobal>(
 ) -> Option<Spent> {
     let limits = task.limits()?;
     let alloc = rt.alloc();
-    let (cell_0, post_0) = Post::make(alloc, limits, ThreadNo(0))?;
-    let (cell_1, post_1) = Post::make(alloc, limits, ThreadNo(1))?;
-    let (cell_2, post_2) = Post::make(alloc, limits, ThreadNo(2))?;
-    let (cell_3, post_3) = Post::make(alloc, limits, ThreadNo(3))?;
-    let (zero, thread_0) = post_0.occupy(&cell_0);
-    let (one, thread_1) = post_1.occupy(&cell_1);
-    let (two, thread_2) = post_2.occupy(&cell_2);
-    let (three, thread_3) = post_3.occupy(&cell_3);
+    let (zero, thread_0) = Station::make(alloc, limits, ThreadNo(0))?;
+    let (one, thread_1) = Station::make(alloc, limits, ThreadNo(1))?;
+    let (two, thread_2) = Station::make(alloc, limits, ThreadNo(2))?;
+    let (three, thread_3) = Station::make(alloc, limits, ThreadNo(3))?;
     let stations = Stations {
         limits,
         zero,

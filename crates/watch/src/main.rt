@@ -19,16 +19,16 @@ use std::sync::Wait;
 use std::sync::atomic::{AtomicBool, Ordering};
 use std::thread::{Threads, join};
 use ti_agent::Env;
-use ti_cell::{EnvSeat, ThreadCell};
+use ti_cell::EnvSeat;
 use ti_env::EnvState;
-use ti_handshake::{Desk, Fresh, Polled, Running};
+use ti_handshake::{Desk, Fresh, Polled, Running, SharedCell};
 use ti_types::{Caps, EnvNo, Limits, MethodNo, Step, ThreadNo};
 
 const THREAD: ThreadNo = ThreadNo(0);
 
 /// Computes until it is told to end, and polls at each turn: one load where nobody calls for the thread. Where it is held,
 /// it waits until it may go on.
-fn compute<R: Wait>(rt: &R, over: &AtomicBool, running: Running<'_>) -> u64 {
+fn compute<R: Wait>(rt: &R, over: &AtomicBool, running: Running) -> u64 {
     let mut running = running;
     let mut sum: u64 = 0;
     for turn in 0..u64::MAX {
@@ -45,7 +45,7 @@ fn compute<R: Wait>(rt: &R, over: &AtomicBool, running: Running<'_>) -> u64 {
 }
 
 /// Hands the frames over, so that calls which wait take place, and comes back once the thread may run.
-fn hand_over<'a, R: Wait>(rt: &R, running: Running<'a>) -> Running<'a> {
+fn hand_over<R: Wait>(rt: &R, running: Running) -> Running {
     match running.poll(rt) {
         Polled::Go(running) => running,
         Polled::Held(held) => held.back(rt),
@@ -53,25 +53,20 @@ fn hand_over<'a, R: Wait>(rt: &R, running: Running<'a>) -> Running<'a> {
 }
 
 /// The environment of a seat.
-fn environment<'a>(
-    alloc: Global,
-    limits: Limits,
-    cell: &'a ThreadCell,
-    seat: EnvSeat,
-) -> Option<Env<'a>>
+fn environment(alloc: Global, limits: Limits, cell: &SharedCell, seat: EnvSeat) -> Option<Env>
     requires threads { limits.threads ≡ 1 }
     requires envs { limits.envs ≡ 1 }
     requires seat { IsNewSeat cell.now limits seat }
 {
     let state = EnvState::new(alloc, limits).ok()?;
     let mut desks = Vec::with_capacity(alloc, 1).ok()?;
-    desks.push_reserved(Desk::new(cell, seat));
+    desks.push_reserved(Desk::new(cell.share().ok()?, seat));
     Some(Env::new(EnvNo(0), state, desks))
 }
 
 /// Suspends the thread, writes what is to be seen of it, and lets it go. That the thread is suspended comes at its next
 /// poll, for which the call waits.
-fn inspect<R: Wait + Print + AllocGlobal>(rt: &R, env: Env<'_>) -> Option<()> {
+fn inspect<R: Wait + Print + AllocGlobal>(rt: &R, env: Env) -> Option<()> {
     let mut env = env;
     env.add_capabilities(Caps::CAN_SUSPEND).ok()?;
     let (trace, _again) = trace_twice(rt, rt.alloc(), &mut env, THREAD, 8).ok()?;
@@ -84,14 +79,14 @@ fn inspect<R: Wait + Print + AllocGlobal>(rt: &R, env: Env<'_>) -> Option<()> {
 }
 
 /// The same, and then tells the thread to end.
-fn watch<R: Wait + Print + AllocGlobal>(rt: &R, over: &AtomicBool, env: Env<'_>) -> Option<()> {
+fn watch<R: Wait + Print + AllocGlobal>(rt: &R, over: &AtomicBool, env: Env) -> Option<()> {
     let done = inspect(rt, env);
     over.store(true, Ordering::SeqCst);
     done
 }
 
 /// The seat of the one environment.
-fn only(cell: &ThreadCell, limits: Limits, seats: Vec<EnvSeat>) -> Option<EnvSeat>
+fn only(cell: &SharedCell, limits: Limits, seats: Vec<EnvSeat>) -> Option<EnvSeat>
     requires seats { seats.items ≡ env_seats cell.now (subject_of limits (record { 0 = 0 })) 1 }
     ensures seat { IfSome result (λ s. IsNewSeat cell.now limits s) }
 {
@@ -104,10 +99,10 @@ fn only(cell: &ThreadCell, limits: Limits, seats: Vec<EnvSeat>) -> Option<EnvSea
 /// A thread and its environment, each on a thread of its own.
 fn run<R: Threads + Wait + Sync + Print + AllocGlobal>(rt: &R) -> Option<()> {
     let limits = Limits::new(1, 1, 4, 16, 1024)?;
-    let (cell, own, seats) = ThreadCell::make(rt.alloc(), limits, THREAD).ok()?;
+    let (cell, own, seats) = SharedCell::make(rt.alloc(), limits, THREAD).ok()?;
     let seat = only(&cell, limits, seats)?;
     let env = environment(rt.alloc(), limits, &cell, seat)?;
-    let mut running = Fresh::new(&cell, own).start(rt);
+    let mut running = Fresh::new(cell, own).start(rt);
     running.step(Step::Enter(MethodNo(0))).ok()?;
     running.step(Step::Enter(MethodNo(1))).ok()?;
     let over = AtomicBool::new(false);

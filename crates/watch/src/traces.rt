@@ -14,7 +14,7 @@ use ti_types::{ThreadNo, TiError, TraceBuf};
 pub fn trace_twice<R: Wait>(
     rt: &R,
     alloc: Global,
-    env: &mut Env<'_>,
+    env: &mut Env,
     thread: ThreadNo,
     max_count: i32,
 ) -> Result<(TraceBuf, TraceBuf), TiError>

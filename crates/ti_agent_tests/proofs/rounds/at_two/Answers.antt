@@ -2,12 +2,12 @@ use Rattle.std.proofs.Common.{rules, ◌≡◌, [], ◌∷◌, ◌++◌, ap, sym
 use Rattle.ti_env.specs.Env.{new_env}
 use Rattle.ti_handshake.specs.Desk.{Place}
 use Rattle.ti_agent.specs.Env.{AreNewDesks, IsWhole}
-use Rattle.ti_agent_tests.proofs.Stops.{two_new, two_whole}
+use Rattle.ti_agent_tests.proofs.Stops.{made, two_new, two_whole}
 use Rattle.ti_agent_tests.proofs.rounds.at_two.Goals as goal
 
 pub returns-clause-whole : goal.returns-clause-whole
 returns-clause-whole c =
-    let state : c.in_ok-state.state ≡ new_env c.args.limits = search rules in
+    let state : c.in_ok-state.state ≡ new_env c.args.limits = made c.new.result c.args.limits c.in_ok-state.state c.in_ok-state.ensures.value c.new.ensures.new in
     let none : c.in_ok-desks.desks.items ≡ [] = search rules in
     let items : c.push_reserved-2.new.self.items ≡ c.new-2.result ∷ c.new-3.result ∷ [] =
     c.push_reserved-2.ensures.items ∙ (ap (λ (l : List Place). l ++ c.new-3.result ∷ []) (c.push_reserved.ensures.items ∙ ap (λ (l : List Place). l ++ c.new-2.result ∷ []) none)) in
@@ -18,7 +18,7 @@ returns-clause-whole c =
 
 pub returns-clause-new : goal.returns-clause-new
 returns-clause-new c =
-    let state : c.in_ok-state.state ≡ new_env c.args.limits = search rules in
+    let state : c.in_ok-state.state ≡ new_env c.args.limits = made c.new.result c.args.limits c.in_ok-state.state c.in_ok-state.ensures.value c.new.ensures.new in
     let none : c.in_ok-desks.desks.items ≡ [] = search rules in
     let items : c.push_reserved-2.new.self.items ≡ c.new-2.result ∷ c.new-3.result ∷ [] =
     c.push_reserved-2.ensures.items ∙ (ap (λ (l : List Place). l ++ c.new-3.result ∷ []) (c.push_reserved.ensures.items ∙ ap (λ (l : List Place). l ++ c.new-2.result ∷ []) none)) in

@@ -24,18 +24,18 @@ loop-thread-preserved c =
     let at = c.loop-thread in
     let cells = c.args.cells.now in
     let grown = ap length c.push_reserved.ensures.items in
-    let desk = c.take_desk.ensures.desk in
+    let desk = c.in_ok-desk.ensures.desk in
     let left = c.take_desk.ensures.rest in
     let here : (cell : TableId) → slice_get cells at.thread ≡ Some cell → c.index-cells-k.result ≡ cell = λ cell there. search (rules, get_or_from_slice_get cells at.thread cell c.index-cells-k.result there) in
     let half = half_more c.args.limits c.args.env.0 at.thread cells (map (λ v. v.items) at.seats) c.take_desk.new.seats.items at.invariant.2
     (λ cell there. left ∙ ap (λ z. env_seats z (subject_of c.args.limits (record { 0 = at.thread })) c.args.env.0) (here cell there))
     (length-set (map (λ v. v.items) at.seats) at.thread c.take_desk.new.seats.items) in (
-      omega (arith, at.invariant.0, grown, length-append at.desks.items (c.take_desk.result ∷ [])),
+      omega (arith, at.invariant.0, grown, length-append at.desks.items (c.in_ok-desk.desk ∷ [])),
       search rules,
       subst (AreHalf c.args.limits c.args.env.0 (at.thread + 1) cells) (sym (map-set (λ v. v.items) at.seats at.thread c.take_desk.new.seats)) half,
-      (let all = pairs_grow (λ k p b. IsNewDesk b c.args.limits (record { 0 = k }) c.args.env p) at.desks.items cells c.take_desk.result at.invariant.3
-          (λ b there. subst (λ n. IsNewDesk b c.args.limits (record { 0 = n }) c.args.env c.take_desk.result) (sym at.invariant.0)
-          (subst (λ z. IsNewDesk z c.args.limits (record { 0 = at.thread }) c.args.env c.take_desk.result) (here b (subst (λ n. slice_get cells n ≡ Some b) at.invariant.0 there)) desk)) in
+      (let all = pairs_grow (λ k p b. IsNewDesk b c.args.limits (record { 0 = k }) c.args.env p) at.desks.items cells c.in_ok-desk.desk at.invariant.3
+          (λ b there. subst (λ n. IsNewDesk b c.args.limits (record { 0 = n }) c.args.env c.in_ok-desk.desk) (sym at.invariant.0)
+          (subst (λ z. IsNewDesk z c.args.limits (record { 0 = at.thread }) c.args.env c.in_ok-desk.desk) (here b (subst (λ n. slice_get cells n ≡ Some b) at.invariant.0 there)) desk)) in
           subst (λ l. (k : ℕ) (p : _) (b : TableId) → slice_get l k ≡ Some p → slice_get cells k ≡ Some b → IsNewDesk b c.args.limits (record { 0 = k }) c.args.env p) (sym c.push_reserved.ensures.items) all),
     )
 

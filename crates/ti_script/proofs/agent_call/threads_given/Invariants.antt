@@ -5,4 +5,4 @@ use Rattle.ti_script.proofs.EventLaws.{after}
 use Rattle.ti_script.proofs.agent_call.threads_given.Given as goal
 
 abbrev pub invariant-loop-value : goal.invariant-loop-value
-invariant-loop-value l = after l.threads (threads_given l.cast l.fn.item (map view (drop l.value-index l.values))) ≡ threads_given l.cast l.fn.item (map view l.values)
+invariant-loop-value l = after l.threads (threads_given l.cast l.fn.spot (map view (drop l.value-index l.values))) ≡ threads_given l.cast l.fn.spot (map view l.values)

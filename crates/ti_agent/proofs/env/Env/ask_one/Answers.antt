@@ -33,7 +33,7 @@ invariant_of-self g c =
     let s : Environment = record { env = c.self.inside.env; state = c.self.inside.state; desks = c.self.inside.desks.items } in
     let free : call_refusal s.state c.args.thread c.args.call ≡ None = subst (λ (x : Environment). call_refusal x.state c.args.thread c.args.call ≡ None) (sym c.self.view_is) c.requires.admitted in
     let e = c.call.ensures in
-    whole_after s c.args.thread c.args.call c.index_mut.result.now c.call.new.self c.spend.new.self c.self.invariant free c.index_mut.ensures.value c.spend.ensures e.same e.goes e.mine
+    whole_after s c.args.thread c.args.call c.index_mut.result.now c.call.new.self c.spend.new.self c.self.invariant free c.index_mut.ensures.value c.spend.ensures e.same.env e.goes e.mine
     (omega (arith, ap (λ (t : List Ticket). length t) e.posted, has_room s c.args.thread c.args.call c.index_mut.result.now c.self.invariant free c.index_mut.ensures.value, ap (λ x. x.limits.window) (desk_about s c.args.thread c.args.call c.index_mut.result.now c.self.invariant free c.index_mut.ensures.value)))
 
 pub returns-clause-went : goal.returns-clause-went

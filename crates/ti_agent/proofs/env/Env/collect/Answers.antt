@@ -14,13 +14,13 @@ index_mut-requires g c =
 pub collect-requires : goal.collect-requires
 collect-requires g c =
     let s : Environment = record { env = c.self.inside.env; state = c.self.inside.state; desks = c.self.inside.desks.items } in
-    record { posted = (out_at s c.args.ticket c.index_mut.result.now (subst (λ (x : Environment). IsOut x c.args.ticket) (sym c.self.view_is) c.requires.out) c.index_mut.ensures.value).1 }
+    record { out = (out_at s c.args.ticket c.index_mut.result.now (subst (λ (x : Environment). IsOut x c.args.ticket) (sym c.self.view_is) c.requires.out) c.index_mut.ensures.value).1 }
 
 pub invariant_of-self : goal.invariant_of-self
 invariant_of-self g c =
     let s : Environment = record { env = c.self.inside.env; state = c.self.inside.state; desks = c.self.inside.desks.items } in
     let at = (out_at s c.args.ticket c.index_mut.result.now (subst (λ (x : Environment). IsOut x c.args.ticket) (sym c.self.view_is) c.requires.out) c.index_mut.ensures.value).0 in
-    whole_seen s c.args.ticket.thread.0 c.index_mut.result.now c.collect.new.self _ c.self.invariant at c.collect.ensures.same c.collect.ensures.hold (fewer c.args.ticket c.index_mut.result.now.view.posted)
+    whole_seen s c.args.ticket.thread.0 c.index_mut.result.now c.collect.new.self _ c.self.invariant at c.collect.ensures.same.env c.collect.ensures.hold (fewer c.args.ticket c.index_mut.result.now.view.posted)
 
 pub returns : goal.returns
 returns g c =

@@ -14,7 +14,7 @@ invariant_of-self g c =
     let t = c.args.ticket.thread.0 in
     let within : t < length s.desks = grind (arith, nat_tests, c.if-at-len.false, c.len.ensures) in
     let at = desk_there s t c.index_mut.result.now within c.index_mut.ensures.value in
-    whole_seen s t c.index_mut.result.now c.collect_within.new.self _ c.self.invariant at c.collect_within.ensures.same c.collect_within.ensures.hold (fewer_if (is_some c.collect_within.result) c.args.ticket c.index_mut.result.now.view.posted)
+    whole_seen s t c.index_mut.result.now c.collect_within.new.self _ c.self.invariant at c.collect_within.ensures.same.env c.collect_within.ensures.hold (fewer_if (is_some c.collect_within.result) c.args.ticket c.index_mut.result.now.view.posted)
 
 pub returns-clause-waits : goal.returns-clause-waits
 returns-clause-waits g c = λ _.

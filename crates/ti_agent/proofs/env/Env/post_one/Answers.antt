@@ -48,7 +48,7 @@ invariant_of-self g c =
     let s : Environment = record { env = c.self.inside.env; state = c.self.inside.state; desks = c.self.inside.desks.items } in
     let free : call_refusal s.state c.args.thread c.args.call ≡ None = subst (λ (x : Environment). call_refusal x.state c.args.thread c.args.call ≡ None) (sym c.self.view_is) c.requires.admitted in
     let e = c.post.ensures in
-    whole_after s c.args.thread c.args.call c.index_mut.result.now c.post.new.self c.spend.new.self c.self.invariant free c.index_mut.ensures.value c.spend.ensures e.same e.hold.waits.goes e.hold.waits.mine
+    whole_after s c.args.thread c.args.call c.index_mut.result.now c.post.new.self c.spend.new.self c.self.invariant free c.index_mut.ensures.value c.spend.ensures e.same.env e.hold.waits.goes e.hold.waits.mine
     (omega (arith, ap (λ (t : List Ticket). length t) e.hold.waits.posted, one_more c.index_mut.result.now.view.posted c.args.call c.post.result c.self.inside.state.limits.window (within g (goal.at.invariant_of-self g c).After-index_mut) (stays g (goal.at.invariant_of-self g c).After-index_mut) c.post.ensures.late))
 
 pub returns : goal.returns
@@ -58,5 +58,5 @@ returns g c =
     let e = c.post.ensures in
     record {
       posts = subst (λ (x : Environment). Posts x (after_call s c.args.thread c.spend.new.self c.post.new.self) c.args.thread c.args.call c.post.result) c.self.view_is
-          (posts s (after_call s c.args.thread c.spend.new.self c.post.new.self) c.args.thread c.args.call c.index_mut.result.now c.post.new.self c.post.result c.spend.new.self c.self.invariant free c.index_mut.ensures.value c.spend.ensures e.same e.hold e.told refl);
+          (posts s (after_call s c.args.thread c.spend.new.self c.post.new.self) c.args.thread c.args.call c.index_mut.result.now c.post.new.self c.post.result c.spend.new.self c.self.invariant free c.index_mut.ensures.value c.spend.ensures e.same e.hold e.told e.out refl);
     }

@@ -14,7 +14,7 @@ invariant_of-self g c =
     let t = c.args.ticket.thread.0 in
     let within : t < length s.desks = grind (arith, nat_tests, c.if-at-len.false, c.len.ensures) in
     let at = desk_there s t c.index_mut.result.now within c.index_mut.ensures.value in
-    whole_seen s t c.index_mut.result.now c.try_collect.new.self _ c.self.invariant at c.try_collect.ensures.same c.try_collect.ensures.hold.waits (fewer_if (is_some c.try_collect.result) c.args.ticket c.index_mut.result.now.view.posted)
+    whole_seen s t c.index_mut.result.now c.try_collect.new.self _ c.self.invariant at c.try_collect.ensures.same.env c.try_collect.ensures.hold.waits (fewer_if (is_some c.try_collect.result) c.args.ticket c.index_mut.result.now.view.posted)
 
 pub returns-clause-looks : goal.returns-clause-looks
 returns-clause-looks g c = λ _.

@@ -1,4 +1,4 @@
-use Rattle.std.proofs.Common.{[], ◌∷◌, ◌++◌, refl, sym, subst}
+use Rattle.std.proofs.Common.{[], ◌∷◌, ◌++◌, refl, sym, ◌∙◌, subst}
 use Rattle.ti_types.specs.declared.entry.Entry.TheVariants.{End}
 use Rattle.ti_replay.specs.LateTickets.{steps_of}
 use Rattle.ti_cell.specs.Seats.{Sitting}
@@ -32,7 +32,7 @@ pub of-requires : goal.of-requires
 of-requires g c =
     let k = taken g (goal.at.of-requires g c).After-slot in
     let s = c.store-seat.ensures in
-    let at = leaves _ c.store-seat.result _ _ _ c.end.new.self.history _ k c.self.invariant.here c.hold-hold.ensures.cell s.cell s.view s.mine in
+    let at = leaves _ c.store-seat.result _ _ _ c.end.new.self.history _ k c.self.invariant.here (c.hold-hold.ensures.cell ∙ c.deref.ensures) s.cell s.view s.mine in
     record { ended = ended _ _ _ _ _ c.end.new.self c.self.inside.log.steps k at c.self.invariant.here c.end.ensures.thread }
 
 pub returns-clause-hold : goal.returns-clause-hold

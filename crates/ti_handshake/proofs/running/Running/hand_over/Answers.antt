@@ -1,4 +1,4 @@
-use Rattle.std.proofs.Common.{◌≡◌, [], ◌∷◌, ◌++◌, refl, sym, subst, Some, None}
+use Rattle.std.proofs.Common.{◌≡◌, [], ◌∷◌, ◌++◌, refl, sym, ◌∙◌, subst, Some, None}
 use Rattle.ti_types.specs.declared.entry.Entry.TheVariants.{Hand}
 use Rattle.ti_replay.specs.LateTickets.{steps_of}
 use Rattle.ti_cell.specs.Seats.{Sitting}
@@ -37,7 +37,7 @@ pub of-requires : goal.of-requires
 of-requires g c =
     let k = taken g (goal.at.of-requires g c).After-slot in
     let s = c.store-seat.ensures in
-    let at = leaves _ c.store-seat.result _ _ _ c.hand_over.new.self.history _ k c.self.invariant.here c.hold-hold.ensures.cell s.cell s.view s.mine in
+    let at = leaves _ c.store-seat.result _ _ _ c.hand_over.new.self.history _ k c.self.invariant.here (c.hold-hold.ensures.cell ∙ c.deref.ensures) s.cell s.view s.mine in
     record { rests = rests _ _ _ _ _ c.hand_over.new.self _ _ _ _ _ c.self.invariant k at c.in-Ok.ensures.thread c.in-Ok.ensures.log }
 
 pub store-seat-requires-in-Err-clause-adds : goal.store-seat-requires-in-Err-clause-adds
@@ -49,7 +49,7 @@ pub of-requires-in-Err : goal.of-requires-in-Err
 of-requires-in-Err g c =
     let k = taken g (goal.at.of-requires-in-Err g c).After-slot in
     let s = c.store-seat-in-Err.ensures in
-    let at = leaves _ c.store-seat-in-Err.result _ _ _ c.hand_over.new.self.history _ k c.self.invariant.here c.hold-hold.ensures.cell s.cell s.view s.mine in
+    let at = leaves _ c.store-seat-in-Err.result _ _ _ c.hand_over.new.self.history _ k c.self.invariant.here (c.hold-hold.ensures.cell ∙ c.deref.ensures) s.cell s.view s.mine in
     record { runs = runs_on _ _ _ _ _ _ _ _ _ _ c.self.invariant k (left_at _ _ _ _ (same_history c.slot.result.now c.hand_over.new.self c.in-Err.ensures.thread) at) c.in-Err.ensures.back c.in-Err.ensures.log }
 
 pub returns-in-Ok-clause-hold : goal.returns-in-Ok-clause-hold

@@ -26,7 +26,7 @@ pub of-requires : goal.of-requires
 of-requires g c =
     let k = taken g (goal.at.of-requires g c).After-slot-slot in
     let s = c.store-seat.ensures in
-    let at = leaves _ c.store-seat.result _ _ _ c.slot-slot.result.now.history _ k c.self.invariant.here c.hold-hold.ensures.cell s.cell s.view s.mine in
+    let at = leaves _ c.store-seat.result _ _ _ c.slot-slot.result.now.history _ k c.self.invariant.here (c.hold-hold.ensures.cell ∙ c.deref.ensures) s.cell s.view s.mine in
     record { runs = runs_on _ _ _ _ _ _ _ _ _ _ c.self.invariant k at refl refl }
 
 pub hand_over-requires-clause-running : goal.hand_over-requires-clause-running
@@ -65,7 +65,7 @@ pub of-requires-in-Err-back : goal.of-requires-in-Err-back
 of-requires-in-Err-back g c =
     let k = taken g (goal.at.of-requires-in-Err-back g c).After-slot-slot in
     let s = c.store-seat-in-Err-back.ensures in
-    let at = leaves _ c.store-seat-in-Err-back.result _ _ _ c.back.new.self.history _ k c.self.invariant.here c.hold-hold.ensures.cell s.cell s.view s.mine in
+    let at = leaves _ c.store-seat-in-Err-back.result _ _ _ c.back.new.self.history _ k c.self.invariant.here (c.hold-hold.ensures.cell ∙ c.deref.ensures) s.cell s.view s.mine in
     record { rests = rests _ _ _ _ _ c.hand_over.new.self _ _ _ _ _ c.self.invariant k (left_at _ _ _ _ (same_history c.hand_over.new.self c.back.new.self c.in-Err-back.ensures.thread) at) c.in-Ok.ensures.thread c.in-Ok.ensures.log }
 
 pub returns-in-Ok-back-clause-polled : goal.returns-in-Ok-back-clause-polled
@@ -73,7 +73,7 @@ returns-in-Ok-back-clause-polled g c =
     let k = taken g (goal.at.returns-in-Ok-back-clause-polled g c).After-slot-slot in
     let l = c.self.inside.log.steps in
     let s = c.store-seat-in-Ok-back.ensures in
-    let at = leaves _ c.store-seat-in-Ok-back.result _ _ _ c.back.new.self.history _ k c.self.invariant.here c.hold-hold.ensures.cell s.cell s.view s.mine in
+    let at = leaves _ c.store-seat-in-Ok-back.result _ _ _ c.back.new.self.history _ k c.self.invariant.here (c.hold-hold.ensures.cell ∙ c.deref.ensures) s.cell s.view s.mine in
     let gone : HasGone (runner_in c.self.inside.seat c.self.inside.frames c.self.inside.log) (runner_in c.store-seat-in-Ok-back.result c.in-Ok-back.frames c.hand_over.new.log) = record {
       cell = at.cell;
       hold = stores _ _ c.slot-slot.result.now c.back.new.self _ (steps_of l ++ Hand AtPoll ∷ Back ∷ []) k s.view (gone_thread c.slot-slot.result.now c.hand_over.new.self c.back.new.self l c.in-Ok.ensures.thread c.in-Ok-back.ensures.thread) s.legal s.mine;
@@ -87,7 +87,7 @@ returns-in-Err-back-clause-polled g c =
     let l = c.self.inside.log.steps in
     let s = c.store-seat-in-Err-back.ensures in
     let same = same_history c.hand_over.new.self c.back.new.self c.in-Err-back.ensures.thread in
-    let at = leaves _ c.store-seat-in-Err-back.result _ _ _ c.back.new.self.history _ k c.self.invariant.here c.hold-hold.ensures.cell s.cell s.view s.mine in
+    let at = leaves _ c.store-seat-in-Err-back.result _ _ _ c.back.new.self.history _ k c.self.invariant.here (c.hold-hold.ensures.cell ∙ c.deref.ensures) s.cell s.view s.mine in
     let held : IsHeld (runner_in c.self.inside.seat c.self.inside.frames c.self.inside.log) c.store-seat-in-Err-back.result = record {
       cell = at.cell;
       hold = stores _ _ c.slot-slot.result.now c.back.new.self _ (steps_of l ++ Hand AtPoll ∷ []) k s.view (c.in-Err-back.ensures.thread ∙ c.in-Ok.ensures.thread) s.legal s.mine;
@@ -142,7 +142,7 @@ returns-then-not-armed-clause-polled g c =
     let i = c.self.inside in
     let w = c.store-seat.result in
     let s = c.store-seat.ensures in
-    let at = leaves _ w _ _ _ c.slot-slot.result.now.history _ k c.self.invariant.here c.hold-hold.ensures.cell s.cell s.view s.mine in
+    let at = leaves _ w _ _ _ c.slot-slot.result.now.history _ k c.self.invariant.here (c.hold-hold.ensures.cell ∙ c.deref.ensures) s.cell s.view s.mine in
     let clear : IsClear (runner_in i.seat i.frames i.log) (runner_in w i.frames i.log) = record {
       hold = stores _ _ c.slot-slot.result.now c.slot-slot.result.now _ [] k s.view (nothing c.slot-slot.result.now c.slot-slot.result.now refl) s.legal s.mine;
       calm = (λ j. is_armed (sym k.taken.about.0 j) (at.seen j)) ∙ (sym c.armed.ensures ∙ c.if-not-armed.true);

@@ -1,4 +1,4 @@
-use Rattle.std.proofs.Common.{◌≡◌, [], true, subst}
+use Rattle.std.proofs.Common.{◌≡◌, [], true, ◌∙◌, subst}
 use Rattle.ti_types.specs.declared.error.TiError.TheVariants.{Barred}
 use Rattle.ti_replay.specs.View.{view, is_barred}
 use Rattle.ti_cell.specs.Seats.{Sitting}
@@ -20,14 +20,14 @@ pub invariant_of-result : goal.invariant_of-result
 invariant_of-result g c =
     let k = taken g (goal.at.invariant_of-result g c).After-slot-slot in
     let s = c.store-seat-in-Err.ensures in
-    let at = leaves _ c.store-seat-in-Err.result _ _ _ c.back.new.self.history _ k c.self.invariant.here c.hold-hold.ensures.cell s.cell s.view s.mine in
+    let at = leaves _ c.store-seat-in-Err.result _ _ _ c.back.new.self.history _ k c.self.invariant.here (c.hold-hold.ensures.cell ∙ c.deref.ensures) s.cell s.view s.mine in
     still_safe _ _ _ _ _ _ c.self.invariant k (left_at _ _ _ _ (same_history c.slot-slot.result.now c.back.new.self c.in-Err.ensures.thread) at)
 
 pub returns-in-Err-clause-barred : goal.returns-in-Err-clause-barred
 returns-in-Err-clause-barred g c =
     let k = taken g (goal.at.returns-in-Err-clause-barred g c).After-slot-slot in
     let s = c.store-seat-in-Err.ensures in
-    let at = leaves _ c.store-seat-in-Err.result _ _ _ c.back.new.self.history _ k c.self.invariant.here c.hold-hold.ensures.cell s.cell s.view s.mine in
+    let at = leaves _ c.store-seat-in-Err.result _ _ _ c.back.new.self.history _ k c.self.invariant.here (c.hold-hold.ensures.cell ∙ c.deref.ensures) s.cell s.view s.mine in
     let b = back_barred _ _ _ _ _ _ _ c.self.invariant k (left_at _ _ _ _ (same_history c.slot-slot.result.now c.back.new.self c.in-Err.ensures.thread) at) c.in-Err.ensures.when in
     subst (λ (s : Sitting). (c.in-Err.error ≡ Barred) × (is_barred (view s.view.subject.limits c.store-seat-in-Err.result.view.seen) ≡ true)) c.self.view_is b
 

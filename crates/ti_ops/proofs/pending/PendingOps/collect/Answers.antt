@@ -11,7 +11,7 @@ use Rattle.ti_ops.specs.Fates.{is_at, fate_of, told_by, is_open, with_fate}
 use Rattle.ti_ops.specs.Ops.{Ops, with_fates}
 use Rattle.ti_ops.specs.Kept.{fate_in, has_answer, count_of, lists_of, pending_in, ops_in, IsKept}
 use Rattle.ti_ops.proofs.TableLaws.{env_within}
-use Rattle.ti_ops.proofs.StepLaws.{nobody, none_found, fate_found, no_answer, some_held, u_asked, drop-remove, lists_less, kept_less}
+use Rattle.ti_ops.proofs.StepLaws.{nobody, none_found, fate_found, no_answer, opens_in, some_held, u_asked, drop-remove, lists_less, kept_less}
 use Rattle.ti_ops.proofs.pending.PendingOps.collect.Goals.{After-index_mut}
 use Rattle.ti_ops.proofs.pending.PendingOps.collect.Goals as goal
 
@@ -30,12 +30,6 @@ returns-then-not-is_told-clause-answer c =
     sym (ap (λ (o : Ops). told_by (fate_of c.args.ticket o.fates)) (sym c.self.view_is)
     ∙ ap told_by (fate_found i.window i.taken i.kept.cap i.counts.items i.kept.items c.find-at.result k c.args.ticket c.self.invariant below (c.find-at.ensures.there k below))
     ∙ no_answer (get_or i.kept.items c.find-at.result k).stage none)
-
--- a call that is kept is open
-opens_in : (x : Stage) → is_open (fate_in x) ≡ true
-opens_in (Posted a b) = refl
-opens_in Taken = refl
-opens_in (Told a) = refl
 
 -- the call that is found, and what its environment is counted for
 record Has (c : After-index_mut) (k : Kept) : Type 0 where

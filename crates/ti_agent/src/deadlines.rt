@@ -1,0 +1,185 @@
+//! Calls with a deadline, and calls that are given up.
+ghost use Rattle.std.specs.Prelude.{◌≡◌, ◌<◌, ◌≤◌, ◌&&◌, false, length, None, IfErr, OnOk, OnErr};
+ghost use Rattle.ti_types.specs.Answer.{said};
+ghost use Rattle.ti_types.specs.declared.call.Call.TheVariants as call;
+ghost use Rattle.ti_types.specs.declared.error.TiError.TheVariants.{OutOfMemory};
+ghost use Rattle.ti_env.specs.Env.{call_refusal};
+ghost use Rattle.ti_replay.specs.Settling.{waits};
+ghost use Rattle.ti_agent.specs.Buffers.{IsJustBufferOf};
+ghost use Rattle.ti_agent.specs.Env.{is_full};
+ghost use Rattle.ti_agent.specs.Asks.{IsKind, in_count, in_location, in_trace, in_done};
+ghost use Rattle.ti_agent.specs.Deadlines.{Cancels, DiscardsAt, ComesTo, IsCalledWithin};
+
+use crate::answers::{count_in, done_in, location_in, trace_in};
+use crate::env::Env;
+use crate::posts::buffer_for;
+use std::alloc::Global;
+use std::rt::Clock;
+use std::sync::Wait;
+use std::time::Duration;
+use ti_types::{Answer, Call, Frame, ThreadNo, TiError, Ticket, TraceBuf};
+
+impl Env {
+    /// Gives a call up that was posted and not collected, by one hold (this profile). It takes place as before if it comes to
+    /// that, a suspension and a pop too. Its answer is thrown away, once it is there, by `discard`; until then it is out.
+    ///
+    /// A ticket that is not out at this environment, or was given up before, is left as it is. 110 OUT_OF_MEMORY if there is
+    /// no memory to keep in mind that it was given up. Then nothing changes.
+    pub fn cancel<R: Wait>(&mut self, rt: &R, alloc: Global, ticket: Ticket) -> Result<(), TiError>
+        ensures cancels { OnOk result (ticket.thread.0 < length self.old.desks → Cancels self.old self.new ticket) }
+        ensures nobody { OnOk result (length self.old.desks ≤ ticket.thread.0 → self.new ≡ self.old) }
+        ensures memory { IfErr result (λ e. e ≡ OutOfMemory) }
+        ensures unchanged { OnErr result (self.new ≡ self.old) }
+    {
+        let at = ticket.thread.0 as usize;
+        if at >= self.desks.len() {
+            return Ok(());
+        }
+        self.desks[at].cancel(rt, alloc, ticket)
+    }
+
+    /// Throws away the answer to the call that was given up first at a thread, if it is there, by one hold (this profile).
+    /// The call is out no more then. Whether it was there: `false` if none was given up there, and if there is no such
+    /// thread.
+    pub fn discard<R: Wait>(&mut self, rt: &R, thread: ThreadNo) -> bool
+        ensures discards { thread.0 < length self.old.desks → DiscardsAt self.old self.new thread result }
+        ensures nobody { length self.old.desks ≤ thread.0 → (self.new ≡ self.old) × (result ≡ false) }
+    {
+        let at = thread.0 as usize;
+        if at >= self.desks.len() {
+            return false;
+        }
+        self.desks[at].discard(rt)
+    }
+
+    /// Asks the thread a call that was admitted, for which there is room, and waits no longer than this for its answer. The
+    /// buffer has no more room than the call takes.
+    fn ask_one_within<R: Wait + Clock>(
+        &mut self,
+        rt: &R,
+        alloc: Global,
+        thread: ThreadNo,
+        call: Call,
+        buf: TraceBuf,
+        time: Duration,
+    ) -> Answer
+        requires admitted { call_refusal self.old.state thread call ≡ None }
+        requires room { (waits call && is_full self.old thread) ≡ false }
+        requires buf { IsJustBufferOf self.old.state.limits call buf }
+        ensures comes { ComesTo self.old self.new thread call (said result) }
+        ensures kind { IsKind call (said result) }
+    {
+        let answer = match self.desks[thread.0 as usize].call_within(rt, alloc, call, buf, time) {
+            Ok(answer) => answer,
+            Err(error) => return Answer::Refused(error),
+        };
+        self.state.spend(thread);
+        answer.unwrap_or(Answer::Refused(TiError::TimedOut))
+    }
+
+    /// Asks the thread a call, and waits no longer than this for its answer.
+    fn ask_within<R: Wait + Clock>(
+        &mut self,
+        rt: &R,
+        alloc: Global,
+        thread: ThreadNo,
+        call: Call,
+        time: Duration,
+    ) -> Answer
+        ensures called { IsCalledWithin self.old self.new thread call (said result) }
+        ensures kind { IsKind call (said result) }
+    {
+        if let Err(error) = self.admit(thread, call) {
+            return Answer::Refused(error);
+        }
+        let _thrown = self.discard(rt, thread);
+        if self.has_no_room(thread, call) {
+            return Answer::Refused(TiError::OutOfMemory);
+        }
+        match buffer_for(alloc, self.state.limits(), call) {
+            Ok(buf) => self.ask_one_within(rt, alloc, thread, call, buf, time),
+            Err(error) => Answer::Refused(error),
+        }
+    }
+
+    /// GetFrameCount (JVM TI 11), but no longer than this. 214 (this profile) when the time is over, or the clock can't be
+    /// read: then the call is given up, as by `cancel`. 110 if `window` calls are out at the thread, and if there is no
+    /// memory to keep in mind that it is given up; then nothing was asked. This is so for each call with a deadline. Before
+    /// it asks, each throws away one answer to a call that was given up there, if it is there, as by `discard`.
+    pub fn get_frame_count_within<R: Wait + Clock>(
+        &mut self,
+        rt: &R,
+        alloc: Global,
+        thread: ThreadNo,
+        time: Duration,
+    ) -> Result<u32, TiError>
+        ensures { IsCalledWithin self.old self.new thread call.FrameCount (in_count result) }
+    {
+        count_in(self.ask_within(rt, alloc, thread, Call::FrameCount, time))
+    }
+
+    /// GetFrameLocation (JVM TI 11), but no longer than this.
+    pub fn get_frame_location_within<R: Wait + Clock>(
+        &mut self,
+        rt: &R,
+        alloc: Global,
+        thread: ThreadNo,
+        depth: i32,
+        time: Duration,
+    ) -> Result<Frame, TiError>
+        ensures { IsCalledWithin self.old self.new thread (call.Location depth) (in_location result) }
+    {
+        location_in(
+            self.ask_within(rt, alloc, thread, Call::Location { depth }, time),
+            depth,
+        )
+    }
+
+    /// GetStackTrace (JVM TI 11), but no longer than this. 110 also where there is no memory for the frames.
+    pub fn get_stack_trace_within<R: Wait + Clock>(
+        &mut self,
+        rt: &R,
+        alloc: Global,
+        thread: ThreadNo,
+        start: i32,
+        max_count: i32,
+        time: Duration,
+    ) -> Result<TraceBuf, TiError>
+        ensures { IsCalledWithin self.old self.new thread (call.Trace start max_count) (in_trace result) }
+    {
+        let call = Call::Trace { start, max_count };
+        trace_in(
+            self.ask_within(rt, alloc, thread, call, time),
+            start,
+            max_count,
+        )
+    }
+
+    /// SuspendThread (JVM TI 11), but no longer than this. A suspension that was given up still takes hold if the thread
+    /// comes to it (this profile).
+    pub fn suspend_thread_within<R: Wait + Clock>(
+        &mut self,
+        rt: &R,
+        alloc: Global,
+        thread: ThreadNo,
+        time: Duration,
+    ) -> Result<(), TiError>
+        ensures { IsCalledWithin self.old self.new thread call.Suspend (in_done result) }
+    {
+        done_in(self.ask_within(rt, alloc, thread, Call::Suspend, time))
+    }
+
+    /// PopFrame (JVM TI 11), but no longer than this. A pop that was given up still takes place if the thread comes to it
+    /// (this profile).
+    pub fn pop_frame_within<R: Wait + Clock>(
+        &mut self,
+        rt: &R,
+        alloc: Global,
+        thread: ThreadNo,
+        time: Duration,
+    ) -> Result<(), TiError>
+        ensures { IsCalledWithin self.old self.new thread call.Pop (in_done result) }
+    {
+        done_in(self.ask_within(rt, alloc, thread, Call::Pop, time))
+    }
+}

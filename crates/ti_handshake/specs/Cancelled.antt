@@ -1,0 +1,19 @@
+-- Calls that were given up.
+use Rattle.std.specs.Prelude.{ℕ, ◌≡◌, true, List, [], Option, Some, None, vec_capacity}
+use Rattle.std.specs.Global.{Vec}
+use Rattle.ti_types.specs.declared.event.Ticket.{Ticket}
+use Rattle.ti_slot.specs.Tickets.{has, AreOnce}
+
+-- the tickets, and for how many there is room
+pub record Given : Type 0 where
+  pub tickets : List Ticket
+  pub room : ℕ
+
+abbrev pub given_in : Option (Vec Ticket) → Given
+given_in None = record { tickets = []; room = 0 }
+given_in (Some v) = record { tickets = v.items; room = vec_capacity v }
+
+-- each of those that were given up is out, and none is there twice
+pub record AreGivenUp (cancelled posted : List Ticket) : Type 0 where
+  pub once : AreOnce cancelled
+  pub out : (k : Ticket) → has k cancelled ≡ true → has k posted ≡ true

@@ -1,0 +1,97 @@
+//! Calls that were given up.
+ghost use Rattle.std.specs.Prelude.{◌≡◌, ◌<◌, [], ◌∷◌, ◌++◌, length, drop, slice_get, IfErr, OnOk};
+ghost use Rattle.ti_types.specs.declared.error.TiError.TheVariants.{OutOfMemory};
+ghost use Rattle.ti_slot.specs.Tickets.{same, has};
+
+use std::alloc::Global;
+use std::marker::Model;
+use ti_types::{TiError, Ticket};
+
+/// The tickets of calls that were given up and are still out, the one that was given up first at the start.
+#[derive(Drop)]
+pub struct Cancelled {
+    /// `None` until there is one.
+    tickets: Option<Vec<Ticket>>,
+}
+
+impl Model for Cancelled {
+    ghost use Rattle.ti_handshake.specs.Cancelled.{Given, given_in};
+
+    ghost Value = { Given };
+
+    ghost view = { λ c. given_in c.tickets };
+}
+
+impl Cancelled {
+    /// None. It takes no memory.
+    pub fn none() -> Cancelled
+        ensures { result.tickets ≡ [] }
+    {
+        Cancelled { tickets: None }
+    }
+
+    /// Whether this call was given up.
+    pub fn has(&self, ticket: Ticket) -> bool
+        ensures { result ≡ has ticket self.now.tickets }
+    {
+        match &self.tickets {
+            None => false,
+            Some(tickets) => tickets.iter().any(|one| is_same(*one, ticket)),
+        }
+    }
+
+    /// The one that was given up first.
+    pub fn first(&self) -> Option<Ticket>
+        ensures { result ≡ slice_get self.now.tickets 0 }
+    {
+        match &self.tickets {
+            None => None,
+            Some(tickets) => tickets.first().copied(),
+        }
+    }
+
+    /// Makes room for one more. 110 if there is no memory for it.
+    pub fn reserve(&mut self, alloc: Global) -> Result<(), TiError>
+        ensures tickets { self.new.tickets ≡ self.old.tickets }
+        ensures room { OnOk result (length self.new.tickets < self.new.room) }
+        ensures memory { IfErr result (λ e. e ≡ OutOfMemory) }
+    {
+        if let Some(tickets) = &mut self.tickets {
+            tickets.reserve(1)?;
+            return Ok(());
+        }
+        self.tickets = Some(Vec::with_capacity(alloc, 4)?);
+        Ok(())
+    }
+
+    /// One more, for which there is room.
+    pub fn add(&mut self, ticket: Ticket)
+        requires { length self.old.tickets < self.old.room }
+        ensures { self.new.tickets ≡ self.old.tickets ++ ticket ∷ [] }
+    {
+        match &mut self.tickets {
+            None => unreachable!(),
+            Some(tickets) => tickets.push_reserved(ticket),
+        }
+    }
+
+    /// Without the one that was given up first.
+    pub fn remove_first(&mut self)
+        requires { 0 < length self.old.tickets }
+        ensures { self.new.tickets ≡ drop 1 self.old.tickets }
+    {
+        match &mut self.tickets {
+            None => unreachable!(),
+            Some(tickets) => {
+                let _first = tickets.remove(0);
+            }
+        }
+    }
+}
+
+/// Whether two tickets are one.
+fn is_same(a: Ticket, b: Ticket) -> bool
+    ensures { result ≡ same a b }
+{
+    a.no == b.no && a.env.0 == b.env.0 && a.thread.0 == b.thread.0
+}
