@@ -1,7 +1,7 @@
-//! `peek`: where is a thread? One trace that waits for the thread's next poll, asked through a core.
+//! `peek`: where is a thread? It asks a core for one trace, which waits for the thread's next poll.
 //!
-//! It writes the methods of the thread's stack, the newest first. The status is 0, or 1 where memory runs out, something
-//! was refused, or the lines cannot be written.
+//! It writes the methods of the thread's stack, the newest first. The status is 0, or 1 if memory runs out, something was
+//! refused, or the lines cannot be written.
 #![tactic(auto)]
 
 use std::process::ExitCode;
@@ -10,13 +10,14 @@ use ti_types::{Answer, Call, EnvNo, Event, Limits, MethodNo, Outcome, Step, Thre
 
 const THREAD: ThreadNo = ThreadNo(0);
 
-/// The thread runs in method 7 of method 3, an environment asks for its trace, and the answer comes at the thread's poll.
+/// The thread runs in method 7, called by method 3. An environment asks for its trace, and the answer comes at the thread's
+/// poll.
 fn trace<R: AllocGlobal>(rt: &R) -> Option<TraceBuf> {
     let alloc = rt.alloc();
     let mut core = Core::new(alloc, Limits::new(1, 1, 16, 100, 10)?).ok()?;
     let _started = core.step(alloc, Event::Start(THREAD));
-    let _outer = core.step(alloc, Event::Own(THREAD, Step::Enter(MethodNo(3))));
-    let _inner = core.step(alloc, Event::Own(THREAD, Step::Enter(MethodNo(7))));
+    let _outer = core.step(alloc, Event::Stepped(THREAD, Step::Enter(MethodNo(3))));
+    let _inner = core.step(alloc, Event::Stepped(THREAD, Step::Enter(MethodNo(7))));
     let call = Call::Trace {
         start: 0,
         max_count: 4,

@@ -11,9 +11,9 @@ use Rattle.ti_types.specs.declared.numbers.EnvNo.{EnvNo}
 use Rattle.ti_types.specs.declared.numbers.ThreadNo.{ThreadNo}
 use Rattle.ti_types.specs.declared.stack.StackInfo.{StackInfo}
 use Rattle.ti_agent.specs.Posts.{posting_refusal}
-use Rattle.ti_handshake.specs.Desk.{Place}
+use Rattle.ti_handshake.specs.Desk.{DeskState}
 use Rattle.ti_vmop.specs.Turns.{Listed, AtDesk, AtEach, is_listed}
-use Rattle.ti_vmop.specs.declared.standing.Round.{Round}
+use Rattle.ti_vmop.specs.declared.global_stops.Round.{Round}
 use Rattle.ti_agent.specs.Env.{Environment, cells_at}
 use Rattle.ti_agent.specs.Asks.{IsCalled, IsCalledBy, refusal_of}
 use Rattle.ti_agent.specs.Lists.{IsPosted, IsPostedBy, PostsEach, IsCollected, CollectsEach, WentEach}
@@ -22,15 +22,15 @@ use Rattle.ti_agent.specs.declared.lists.Posted.TheVariants.{Code, Waits}
 use Rattle.ti_agent.specs.Traces.{Telling, ReadsEach, IsTraced, TracesAlive}
 
 -- one desk, in the place of another at the same cell
-set_cells : (desks : List Place) (i : ℕ) (p q : Place) → slice_get desks i ≡ Some p → q.cell ≡ p.cell → cells_at (slice_set desks i q) ≡ cells_at desks
+set_cells : (desks : List DeskState) (i : ℕ) (p q : DeskState) → slice_get desks i ≡ Some p → q.cell ≡ p.cell → cells_at (slice_set desks i q) ≡ cells_at desks
 set_cells [] i p q there same = cc
 set_cells (x ∷ desks) zero p q there same =
     let first : x ≡ p = cc there in
-    ap (λ (c : TableId). c ∷ cells_at desks) (same ∙ ap (λ (y : Place). y.cell) (sym first))
+    ap (λ (c : TableId). c ∷ cells_at desks) (same ∙ ap (λ (y : DeskState). y.cell) (sym first))
 set_cells (x ∷ desks) (suc i) p q there same = ap (λ (l : List TableId). x.cell ∷ l) (set_cells desks i p q there same)
 
 -- desks that are at the same cells one by one
-each_cell : (old new : List Place) → length new ≡ length old → ((i : ℕ) (p q : Place) → slice_get old i ≡ Some p → slice_get new i ≡ Some q → q.cell ≡ p.cell) → cells_at new ≡ cells_at old
+each_cell : (old new : List DeskState) → length new ≡ length old → ((i : ℕ) (p q : DeskState) → slice_get old i ≡ Some p → slice_get new i ≡ Some q → q.cell ≡ p.cell) → cells_at new ≡ cells_at old
 each_cell [] [] len same = refl
 each_cell [] (q ∷ new) len same = cc
 each_cell (p ∷ old) [] len same = cc
@@ -38,12 +38,12 @@ each_cell (p ∷ old) (q ∷ new) len same =
     let rest = each_cell old new (omega (arith, len)) (λ i a b. same (suc i) a b) in
     ap (λ (c : TableId). c ∷ cells_at new) (same 0 p q refl refl) ∙ ap (λ (l : List TableId). p.cell ∷ l) rest
 
-at_cells : (threads : Listed) (old new : List Place) (more : EnvNo → List Entry) → AtEach threads old new more → cells_at new ≡ cells_at old
+at_cells : (threads : Listed) (old new : List DeskState) (more : EnvNo → List Entry) → AtEach threads old new more → cells_at new ≡ cells_at old
 at_cells threads old new more k = each_cell old new k.0 (λ i p q a b. one (is_listed i threads) p q (k.1 i p q a b))
   where
-    one : (b : Bool) (p q : Place) → AtDesk b p q (more p.env) → q.cell ≡ p.cell
+    one : (b : Bool) (p q : DeskState) → AtDesk b p q (more p.env) → q.cell ≡ p.cell
     one true p q h = h.same.cell
-    one false p q h = ap (λ (x : Place). x.cell) h
+    one false p q h = ap (λ (x : DeskState). x.cell) h
 
 pub called_cells : (old new : Environment) (thread : ThreadNo) (c : Call) (a : Answer) → IsCalled old new thread c a → cells_at new.desks ≡ cells_at old.desks
 called_cells old new thread c a k = one (refusal_of old.state thread c a) k

@@ -16,7 +16,7 @@ use Rattle.ti_env.specs.Env.{EnvValue, call_refusal, with_spent}
 use Rattle.ti_replay.specs.Settling.{waits}
 use Rattle.ti_slot.specs.Tickets.{without_ticket}
 use Rattle.ti_handshake.specs.Call.{GoesOn, Holds, next_call, next_ticket}
-use Rattle.ti_handshake.specs.Desk.{Place, Discards, DiscardsOf, GivesUp, IsInTime, is_out}
+use Rattle.ti_handshake.specs.Desk.{DeskState, Discards, DiscardsOf, GivesUp, IsInTime, is_out}
 use Rattle.ti_agent.specs.Env.{Environment, IsWhole, is_full}
 use Rattle.ti_agent.specs.Asks.{Asks, Went, IsKind, is_for_memory, is_timed_out}
 use Rattle.ti_agent.specs.Deadlines.{Cancels, DiscardsAt, GivesUpAt, ComesAs, ComesTo, IsCalledWithin, IsCalledWithinBy}
@@ -25,35 +25,35 @@ use Rattle.ti_agent.proofs.Whole.{desk_at, may_stay, fewer_if, whole_after, afte
 
 -- a desk in its own place
 
-set_back : (l : List Place) (t : ℕ) (p : Place) → slice_get l t ≡ Some p → slice_set l t p ≡ l
+set_back : (l : List DeskState) (t : ℕ) (p : DeskState) → slice_get l t ≡ Some p → slice_set l t p ≡ l
 set_back [] t p at = refl
-set_back (x ∷ l) zero p at = ap (λ (y : Place). y ∷ l) (let e : Some x ≡ Some p = at in sym cc)
-set_back (x ∷ l) (suc t) p at = ap (λ (m : List Place). x ∷ m) (set_back l t p at)
+set_back (x ∷ l) zero p at = ap (λ (y : DeskState). y ∷ l) (let e : Some x ≡ Some p = at in sym cc)
+set_back (x ∷ l) (suc t) p at = ap (λ (m : List DeskState). x ∷ m) (set_back l t p at)
 
-pub seen_same : (s : Environment) (t : ℕ) (p q : Place) → slice_get s.desks t ≡ Some p → q ≡ p → seen_call s t q ≡ s
+pub seen_same : (s : Environment) (t : ℕ) (p q : DeskState) → slice_get s.desks t ≡ Some p → q ≡ p → seen_call s t q ≡ s
 seen_same s t p q at e =
     let desks : slice_set s.desks t q ≡ s.desks = ap (slice_set s.desks t) e ∙ set_back s.desks t p at in
     λ i. record { env = s.env; state = s.state; desks = desks i }
 
 -- a call that is given up
 
-pub cancel_whole : (s : Environment) (t : ℕ) (p q : Place) (r : Result (Unit {0}) TiError) → IsWhole s → slice_get s.desks t ≡ Some p → q.env ≡ p.env → OnOk r (Holds p.view q.view []) → OnErr r (q ≡ p)
+pub cancel_whole : (s : Environment) (t : ℕ) (p q : DeskState) (r : Result (Unit {0}) TiError) → IsWhole s → slice_get s.desks t ≡ Some p → q.env ≡ p.env → OnOk r (Holds p.view q.view []) → OnErr r (q ≡ p)
     → IsWhole (seen_call s t q)
 cancel_whole s t p q (Ok u) whole at env hold same = whole_seen s t p q p.view.posted whole at env hold.waits (omega arith)
 cancel_whole s t p q (Err e) whole at env hold same = subst (λ (z : Environment). IsWhole z) (sym (seen_same s t p q at same)) whole
 
-pub cancels : (s : Environment) (k : Ticket) (p q : Place) (r : Result (Unit {0}) TiError) → slice_get s.desks k.thread.0 ≡ Some p → (q.cell ≡ p.cell) × (q.env ≡ p.env) → OnOk r (Holds p.view q.view [])
+pub cancels : (s : Environment) (k : Ticket) (p q : DeskState) (r : Result (Unit {0}) TiError) → slice_get s.desks k.thread.0 ≡ Some p → (q.cell ≡ p.cell) × (q.env ≡ p.env) → OnOk r (Holds p.view q.view [])
     → OnOk r (q.cancelled ≡ (if is_out p k then p.cancelled ++ k ∷ [] else p.cancelled)) → OnOk r (k.thread.0 < length s.desks → Cancels s (seen_call s k.thread.0 q) k)
 cancels s k p q (Ok u) at here hold cancelled = λ _. record { before = p; after = q; there = at; cell = here.0; env = here.1; hold = hold; cancelled = cancelled; new_is = refl }
 cancels s k p q (Err e) at here hold cancelled = tt
 
-pub cancel_kept : (s : Environment) (t : ℕ) (p q : Place) (r : Result (Unit {0}) TiError) → slice_get s.desks t ≡ Some p → OnErr r (q ≡ p) → OnErr r (seen_call s t q ≡ s)
+pub cancel_kept : (s : Environment) (t : ℕ) (p q : DeskState) (r : Result (Unit {0}) TiError) → slice_get s.desks t ≡ Some p → OnErr r (q ≡ p) → OnErr r (seen_call s t q ≡ s)
 cancel_kept s t p q (Ok u) at same = tt
 cancel_kept s t p q (Err e) at same = seen_same s t p q at same
 
 -- an answer that is thrown away
 
-pub discard_whole : (s : Environment) (t : ℕ) (p q : Place) (thrown : Bool) → IsWhole s → slice_get s.desks t ≡ Some p → Discards p q thrown → IsWhole (seen_call s t q)
+pub discard_whole : (s : Environment) (t : ℕ) (p q : DeskState) (thrown : Bool) → IsWhole s → slice_get s.desks t ≡ Some p → Discards p q thrown → IsWhole (seen_call s t q)
 discard_whole s t p q thrown whole at d = by_list p.cancelled d
   where
     by_list : (l : List Ticket) → DiscardsOf l p q thrown → IsWhole (seen_call s t q)
@@ -62,7 +62,7 @@ discard_whole s t p q thrown whole at d = by_list p.cancelled d
 
 -- a call with a deadline
 
-pub in_time_whole : (s : Environment) (thread : ThreadNo) (c : Call) (p q : Place) (r : Option Answer) (state : EnvValue) → IsWhole s → call_refusal s.state thread c ≡ None → p ≡ slice_index_or s.desks thread.0 p
+pub in_time_whole : (s : Environment) (thread : ThreadNo) (c : Call) (p q : DeskState) (r : Option Answer) (state : EnvValue) → IsWhole s → call_refusal s.state thread c ≡ None → p ≡ slice_index_or s.desks thread.0 p
     → state ≡ with_spent s.state thread → (waits c && is_full s thread) ≡ false → GoesOn p.view q.view → q.view.mine ≡ p.view.mine ++ next_call p.view p.env c ∷ [] → IsInTime p q c r → IsWhole (after_call s thread state q)
 in_time_whole s thread c p q (Some a) state whole h e spend free goes mine k =
     let old = whole.desks thread.0 p (desk_at s thread c p whole h e) in
@@ -76,7 +76,7 @@ abbrev pub or_late : Option Answer → Answer
 or_late (Some a) = a
 or_late None = answer.Refused TimedOut
 
-pub in_time_comes : (s : Environment) (thread : ThreadNo) (c : Call) (p q : Place) (r : Option Answer) (a : Answer) (state : EnvValue) → IsWhole s → call_refusal s.state thread c ≡ None → p ≡ slice_index_or s.desks thread.0 p
+pub in_time_comes : (s : Environment) (thread : ThreadNo) (c : Call) (p q : DeskState) (r : Option Answer) (a : Answer) (state : EnvValue) → IsWhole s → call_refusal s.state thread c ≡ None → p ≡ slice_index_or s.desks thread.0 p
     → state ≡ with_spent s.state thread → GoesOn p.view q.view → q.view.mine ≡ p.view.mine ++ next_call p.view p.env c ∷ [] → IsInTime p q c r → a ≡ or_late r → ComesTo s (after_call s thread state q) thread c a
 in_time_comes s thread c p q (Some b) a state whole h e spend goes mine k is =
     let asks : Asks p q c b = record { same = k.0; goes = goes; mine = mine; posted = k.1.posted; answer = k.1.answered } in
@@ -97,7 +97,7 @@ in_time_comes s thread c p q None a state whole h e spend goes mine k is =
     } in
     subst (λ (x : Answer). ComesTo s (after_call s thread state q) thread c x) (sym is) gives
 
-pub in_time_kind : (c : Call) (p q : Place) (r : Option Answer) (a : Answer) → IsInTime p q c r → a ≡ or_late r → IsKind c a
+pub in_time_kind : (c : Call) (p q : DeskState) (r : Option Answer) (a : Answer) → IsInTime p q c r → a ≡ or_late r → IsKind c a
 in_time_kind c p q (Some b) a k is = subst (λ (x : Answer). IsKind c x) (sym is) (answered_kind _ _ _ c b k.1.answered)
 in_time_kind c p q None a k is = subst (λ (x : Answer). IsKind c x) (sym is) (late_kind c)
   where

@@ -14,7 +14,7 @@ use Rattle.ti_slot.specs.Tickets.{same, has, without_ticket}
 use Rattle.ti_env.specs.Env.{call_refusal}
 use Rattle.ti_types.specs.declared.error.TiError.{TiError}
 use Rattle.ti_handshake.specs.Call.{ticket_told}
-use Rattle.ti_handshake.specs.Desk.{Place}
+use Rattle.ti_handshake.specs.Desk.{DeskState}
 use Rattle.ti_vmop.proofs.Each.{at_index}
 use Rattle.ti_agent.specs.Env.{Environment}
 use Rattle.ti_agent.specs.declared.lists.Posted.{Posted}
@@ -31,7 +31,7 @@ use Rattle.ti_agent.specs.Lists.{IsPosted, IsPostedBy, PostsEach, IsCollected, C
 
 -- a desk that is there
 
-get_range : (l : List Place) (i : ℕ) (p : Place) → slice_get l i ≡ Some p → i < length l
+get_range : (l : List DeskState) (i : ℕ) (p : DeskState) → slice_get l i ≡ Some p → i < length l
 get_range [] i p e = absurd (none e)
   where
     none : slice_get [] i ≡ Some p → ⊥
@@ -42,21 +42,21 @@ get_range (x ∷ xs) (suc i) p e = let h = get_range xs i p e in omega (arith, h
 pub in_range_of : (s : Environment) (k : Ticket) → IsOut s k → k.thread.0 < length s.desks
 in_range_of s k o = get_range s.desks k.thread.0 o.desk o.there
 
-some_same : (x y : Place) → Some x ≡ Some y → x ≡ y
+some_same : (x y : DeskState) → Some x ≡ Some y → x ≡ y
 some_same x y e = cc
 
-pub out_at : (s : Environment) (k : Ticket) (p : Place) → IsOut s k → p ≡ slice_index_or s.desks k.thread.0 p → (slice_get s.desks k.thread.0 ≡ Some p) × (is_out p k ≡ true)
+pub out_at : (s : Environment) (k : Ticket) (p : DeskState) → IsOut s k → p ≡ slice_index_or s.desks k.thread.0 p → (slice_get s.desks k.thread.0 ≡ Some p) × (is_out p k ≡ true)
 out_at s k p o e =
-    let there : slice_get s.desks k.thread.0 ≡ Some p = at_index s.desks k.thread.0 p (in_range_of s k o) ∙ ap (λ (x : Place). Some x) (sym e) in
+    let there : slice_get s.desks k.thread.0 ≡ Some p = at_index s.desks k.thread.0 p (in_range_of s k o) ∙ ap (λ (x : DeskState). Some x) (sym e) in
     let is : o.desk ≡ p = some_same o.desk p (sym o.there ∙ there) in
-    (there, ap (λ (x : Place). is_out x k) (sym is) ∙ o.out)
+    (there, ap (λ (x : DeskState). is_out x k) (sym is) ∙ o.out)
 
-set_at : (l : List Place) (i : ℕ) (x : Place) → i < length l → slice_get (slice_set l i x) i ≡ Some x
+set_at : (l : List DeskState) (i : ℕ) (x : DeskState) → i < length l → slice_get (slice_set l i x) i ≡ Some x
 set_at [] i x h = absurd (omega (arith, h))
 set_at (y ∷ ys) zero x h = refl
 set_at (y ∷ ys) (suc i) x h = set_at ys i x (omega (arith, h))
 
-set_apart : (l : List Place) (i j : ℕ) (x : Place) → i ≢ j → slice_get (slice_set l i x) j ≡ slice_get l j
+set_apart : (l : List DeskState) (i j : ℕ) (x : DeskState) → i ≢ j → slice_get (slice_set l i x) j ≡ slice_get l j
 set_apart [] i j x n = refl
 set_apart (y ∷ ys) zero zero x n = absurd (n refl)
 set_apart (y ∷ ys) zero (suc j) x n = refl
@@ -94,31 +94,31 @@ has_without j k (u ∷ ts) h =
 
 -- what was posted before stays out
 
-out_apart : (s s' : Environment) (t : ℕ) (q : Place) (k : Ticket) → s'.desks ≡ slice_set s.desks t q → t ≢ k.thread.0 → IsOut s k → IsOut s' k
+out_apart : (s s' : Environment) (t : ℕ) (q : DeskState) (k : Ticket) → s'.desks ≡ slice_set s.desks t q → t ≢ k.thread.0 → IsOut s k → IsOut s' k
 out_apart s s' t q k e n o = record {
   desk = o.desk;
-  there = ap (λ (l : List Place). slice_get l k.thread.0) e ∙ (set_apart s.desks t k.thread.0 q n ∙ o.there);
+  there = ap (λ (l : List DeskState). slice_get l k.thread.0) e ∙ (set_apart s.desks t k.thread.0 q n ∙ o.there);
   out = o.out;
 }
 
-out_here : (s s' : Environment) (t : ℕ) (p q : Place) (k : Ticket) → s'.desks ≡ slice_set s.desks t q → slice_get s.desks t ≡ Some p → t ≡ k.thread.0 → is_out q k ≡ true → IsOut s' k
+out_here : (s s' : Environment) (t : ℕ) (p q : DeskState) (k : Ticket) → s'.desks ≡ slice_set s.desks t q → slice_get s.desks t ≡ Some p → t ≡ k.thread.0 → is_out q k ≡ true → IsOut s' k
 out_here s s' t p q k e there same h = record {
   desk = q;
-  there = ap (λ (l : List Place). slice_get l k.thread.0) e ∙ (ap (slice_get (slice_set s.desks t q)) (sym same) ∙ set_at s.desks t q (get_range s.desks t p there));
+  there = ap (λ (l : List DeskState). slice_get l k.thread.0) e ∙ (ap (slice_get (slice_set s.desks t q)) (sym same) ∙ set_at s.desks t q (get_range s.desks t p there));
   out = h;
 }
 
-desk_is : (s : Environment) (t : ℕ) (p : Place) (k : Ticket) (o : IsOut s k) → slice_get s.desks t ≡ Some p → t ≡ k.thread.0 → is_out p k ≡ true
+desk_is : (s : Environment) (t : ℕ) (p : DeskState) (k : Ticket) (o : IsOut s k) → slice_get s.desks t ≡ Some p → t ≡ k.thread.0 → is_out p k ≡ true
 desk_is s t p k o there e =
     let is : o.desk ≡ p = some_same o.desk p (sym o.there ∙ (ap (slice_get s.desks) (sym e) ∙ there)) in
-    ap (λ (x : Place). is_out x k) (sym is) ∙ o.out
+    ap (λ (x : DeskState). is_out x k) (sym is) ∙ o.out
 
 -- a call that is out is among those that were posted
-out_posted : (p : Place) (k : Ticket) → is_out p k ≡ true → has k p.view.posted ≡ true
+out_posted : (p : DeskState) (k : Ticket) → is_out p k ≡ true → has k p.view.posted ≡ true
 out_posted p k o = grind (arith, o)
 
 -- and stays out while it is, since nobody gave it up
-out_still : (p q : Place) (k : Ticket) → is_out p k ≡ true → IsSame p q → has k q.view.posted ≡ true → is_out q k ≡ true
+out_still : (p q : DeskState) (k : Ticket) → is_out p k ≡ true → IsSame p q → has k q.view.posted ≡ true → is_out q k ≡ true
 out_still p q k o same h = let given : has k q.cancelled ≡ has k p.cancelled = ap (has k) same.cancelled in grind (arith, o, given, h)
 
 out_kept : (s s' : Environment) (t : ThreadNo) (c : Call) (r : AskedOf) (k : Ticket) → Posts s s' t c r → IsOut s k → IsOut s' k
@@ -245,7 +245,7 @@ collects_more s m m' [] (n ∷ codes) x code h k = absurd h
 collects_more s m m' (y ∷ xs) [] x code h k = absurd h
 
 -- a desk looked for an answer
-pub looked_for : (s : Environment) (k : Ticket) (p q : Place) (r : Option Answer) → slice_get s.desks k.thread.0 ≡ Some p → IsSame p q
+pub looked_for : (s : Environment) (k : Ticket) (p q : DeskState) (r : Option Answer) → slice_get s.desks k.thread.0 ≡ Some p → IsSame p q
     → HoldsWith p.view q.view [] (if is_some r then without_ticket k p.view.posted else p.view.posted)
     → IfSome r (λ a. has k q.view.posted ≡ false) → option_map said r ≡ (if is_out p k then reply_to p.view.subject.limits q.view.seen k else None)
     → IfSome r (λ a. ReplyAtPlace p.view.subject.limits q.view.seen k (said a)) → LooksFor s (seen_call s k.thread.0 q) k (option_map said r)
@@ -253,7 +253,7 @@ looked_for s k p q None at same hold once is place = record { before = p; after 
 looked_for s k p q (Some a) at same hold once is place = record { before = p; after = q; there = at; same = same; hold = hold; once = once; answer = is; place = place; new_is = refl }
 
 -- a desk waited for one
-pub waited_for : (s : Environment) (k : Ticket) (p q : Place) (r : Option Answer) → slice_get s.desks k.thread.0 ≡ Some p → IsSame p q
+pub waited_for : (s : Environment) (k : Ticket) (p q : DeskState) (r : Option Answer) → slice_get s.desks k.thread.0 ≡ Some p → IsSame p q
     → WaitsWith p.view q.view [] (if is_some r then without_ticket k p.view.posted else p.view.posted)
     → IfSome r (λ a. has k q.view.posted ≡ false) → option_map said r ≡ (if is_out p k then reply_to p.view.subject.limits q.view.seen k else None)
     → IfSome r (λ a. ReplyAtPlace p.view.subject.limits q.view.seen k (said a)) → WaitsFor s (seen_call s k.thread.0 q) k (option_map said r)

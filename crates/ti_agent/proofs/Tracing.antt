@@ -19,13 +19,13 @@ use Rattle.ti_replay.specs.Legal.{calls_spent, call_cost}
 use Rattle.ti_replay.specs.Standing.{is_standing}
 use Rattle.ti_cell.specs.View.{subject_of}
 use Rattle.ti_slot.specs.Waiting.{HasRoomFor}
-use Rattle.ti_handshake.specs.Desk.{Place}
+use Rattle.ti_handshake.specs.Desk.{DeskState}
 use Rattle.ti_replay.specs.Fronts.{stops_by, stops_after}
 use Rattle.ti_vmop.specs.Turns.{Listed, is_listed, AreDistinct, AreThere, are_paid, MayStop, MayRead, AreOneEnvironments, spend_all, AtEach, AllStand, IsRead}
 use Rattle.ti_vmop.proofs.Each.{in_range, untouched}
 use Rattle.ti_vmop.proofs.Uses.{was_there, has_added, unlisted_stays, spent_then, more_spent}
 use Rattle.ti_agent.specs.Env.{Environment, IsDesk, IsWhole}
-use Rattle.ti_agent.specs.Traces.{Telling, ReadsOne, ReadsEach, told_stack, told_each, Told, IsHeld, AreHeld, times, are_there, is_stack, each_once, AreLeft, AreListed, HasRead, told_info}
+use Rattle.ti_agent.specs.Traces.{Telling, ReadsOne, ReadsEach, told_stack, told_each, Told, IsStopped, AreStopped, times, are_there, is_stack, each_once, AreLeft, AreListed, HasRead, told_info}
 use Rattle.ti_agent.specs.Buffers.{AreRoomy, HasJustRoomFor}
 use Rattle.std.proofs.lemmas.List.{map-append}
 use Rattle.ti_vmop.specs.Turns.{Stood, with_reads, one_read_more}
@@ -36,7 +36,7 @@ use Rattle.ti_agent.proofs.Listing.{times_high, times_here, listed_once, distinc
 
 -- Before the stops
 
-pub may_stop : (s : Environment) (i : ℕ) (p : Place) → IsWhole s → slice_get s.desks i ≡ Some p → MayStop p.view.subject.limits s.state p (record { 0 = i })
+pub may_stop : (s : Environment) (i : ℕ) (p : DeskState) → IsWhole s → slice_get s.desks i ≡ Some p → MayStop p.view.subject.limits s.state p (record { 0 = i })
 may_stop s i p whole at =
     let d = whole.desks i p at in
     let left = left_is s.state (record { 0 = i }) (let r = in_range s.desks i p at in omega (arith, r, whole.count)) in
@@ -50,12 +50,12 @@ one_environment s whole i p q first at =
     let limits : s.state.limits ≡ q.view.subject.limits = sym (ap (λ x. x.limits) o.about) in
     (d.env_is ∙ sym o.env_is, d.about ∙ ap (λ (l : Limits). subject_of l (record { 0 = i })) limits)
 
-first_desk : (l : List Place) → 0 < length l → (p : Place) × (slice_get l 0 ≡ Some p)
+first_desk : (l : List DeskState) → 0 < length l → (p : DeskState) × (slice_get l 0 ≡ Some p)
 first_desk [] h = absurd (omega (arith, h))
 first_desk (x ∷ l) h = (x, refl)
 
 -- the number that the first desk has is the environment's
-pub same_env : (s : Environment) (e : EnvNo) → IsWhole s → ((p : Place) → slice_get s.desks 0 ≡ Some p → e ≡ p.env) → e ≡ s.env
+pub same_env : (s : Environment) (e : EnvNo) → IsWhole s → ((p : DeskState) → slice_get s.desks 0 ≡ Some p → e ≡ p.env) → e ≡ s.env
 same_env s e whole is =
     let f = first_desk s.desks whole.some in
     is f.0 f.1 ∙ (whole.desks 0 f.0 f.1).env_is
@@ -123,11 +123,11 @@ go_costs env mine = sum_by-append (call_cost env) mine (Go env ∷ []) ∙ omega
 
 -- After the stops
 
-abbrev pub with_desks : Environment → EnvValue → List Place → Environment
+abbrev pub with_desks : Environment → EnvValue → List DeskState → Environment
 with_desks s state desks = record { env = s.env; state = state; desks = desks }
 
-pub held_after_stops : (s : Environment) (l : Listed) (z : EnvValue) (ds : List Place) → IsWhole s → AreDistinct l → AreThere (length s.desks) l → are_paid s.state l ≡ true → z ≡ spend_all s.state l
-    → AtEach l s.desks ds (λ e. Stop e ∷ []) → AllStand l ds → AreHeld (with_desks s z ds) l
+pub held_after_stops : (s : Environment) (l : Listed) (z : EnvValue) (ds : List DeskState) → IsWhole s → AreDistinct l → AreThere (length s.desks) l → are_paid s.state l ≡ true → z ≡ spend_all s.state l
+    → AtEach l s.desks ds (λ e. Stop e ∷ []) → AllStand l ds → AreStopped (with_desks s z ds) l
 held_after_stops s l z ds whole distinct there paid spends each stand = record {
   count = ap (λ (v : EnvValue). length v.spent) spends ∙ (count_spent s.state l ∙ (whole.count ∙ sym each.0));
   some = omega (arith, whole.some, each.0);
@@ -137,7 +137,7 @@ held_after_stops s l z ds whole distinct there paid spends each stand = record {
     limits : z.limits ≡ s.state.limits
     limits = ap (λ (v : EnvValue). v.limits) spends ∙ limits_all s.state l
 
-    listed : (i : ℕ) (p q : Place) → is_listed i l ≡ true → slice_get s.desks i ≡ Some p → slice_get ds i ≡ Some q → IsHeld (with_desks s z ds) l i q
+    listed : (i : ℕ) (p q : DeskState) → is_listed i l ≡ true → slice_get s.desks i ≡ Some p → slice_get ds i ≡ Some q → IsStopped (with_desks s z ds) l i q
     listed i p q is at e =
         let h = has_added l s.desks ds (λ e. Stop e ∷ []) i p q each is at e in
         let old = whole.desks i p at in
@@ -154,14 +154,14 @@ held_after_stops s l z ds whole distinct there paid spends each stand = record {
           within = omega (arith, old.within, ap (λ (t : List Ticket). length t) h.posted, ap (λ (v : Limits). v.window) limits);
         }
 
-    unlisted : (i : ℕ) (p q : Place) → is_listed i l ≡ false → slice_get s.desks i ≡ Some p → slice_get ds i ≡ Some q → IsHeld (with_desks s z ds) l i q
+    unlisted : (i : ℕ) (p q : DeskState) → is_listed i l ≡ false → slice_get s.desks i ≡ Some p → slice_get ds i ≡ Some q → IsStopped (with_desks s z ds) l i q
     unlisted i p q is at e =
         let still : q ≡ p = unlisted_stays l s.desks ds (λ e. Stop e ∷ []) i p q each is at e in
         let old = whole.desks i p at in
         let u = untouched s.state l (record { 0 = i }) is in
         let spent : spent_at z (record { 0 = i }) ≡ spent_at s.state (record { 0 = i }) = ap (λ (v : EnvValue). spent_at v (record { 0 = i })) spends ∙ u.spent in
         let most : z.limits.calls ≡ s.state.limits.calls = ap (λ (v : Limits). v.calls) limits in
-        let was : IsHeld (with_desks s z ds) l i p = record {
+        let was : IsStopped (with_desks s z ds) l i p = record {
           env_is = old.env_is;
           about = old.about ∙ ap (λ (v : Limits). subject_of v (record { 0 = i })) (sym limits);
           stands = λ yes'. (let o : true ≡ false = sym yes' ∙ is in cc);
@@ -169,9 +169,9 @@ held_after_stops s l z ds whole distinct there paid spends each stand = record {
           paid = omega (arith, old.paid, spent, most);
           within = omega (arith, old.within, ap (λ (v : Limits). v.window) limits);
         } in
-        subst (λ (x : Place). IsHeld (with_desks s z ds) l i x) (sym still) was
+        subst (λ (x : DeskState). IsStopped (with_desks s z ds) l i x) (sym still) was
 
-    one : (i : ℕ) (q : Place) → slice_get ds i ≡ Some q → IsHeld (with_desks s z ds) l i q
+    one : (i : ℕ) (q : DeskState) → slice_get ds i ≡ Some q → IsStopped (with_desks s z ds) l i q
     one i q e =
         let w = was_there l s.desks ds (λ e. Stop e ∷ []) i q each e in
         elim (cases_Bool (is_listed i l)) [
@@ -210,7 +210,7 @@ left_in s z l stopping is there paid spends i =
 
 -- Reads
 
-pub may_read : (s : Environment) (l : Listed) (t : ThreadNo) (p : Place) (m : ℤ) (b : buffer.Trace) → AreHeld s l → is_listed t.0 l ≡ true → slice_get s.desks t.0 ≡ Some p → HasRoomFor s.state.limits (or_zero m) b
+pub may_read : (s : Environment) (l : Listed) (t : ThreadNo) (p : DeskState) (m : ℤ) (b : buffer.Trace) → AreStopped s l → is_listed t.0 l ≡ true → slice_get s.desks t.0 ≡ Some p → HasRoomFor s.state.limits (or_zero m) b
     → MayRead s.env s.state p t m b
 may_read s l t p m b held listed at room =
     let d = held.desks t.0 p at in
@@ -223,7 +223,7 @@ may_read s l t p m b held listed at room =
       room = subst (λ (x : Limits). HasRoomFor x (or_zero m) b) (sym (ap (λ x. x.limits) d.about)) room;
     }
 
-pub held_after_read : (s n : Environment) (l : Listed) (m : ℤ) (x : Telling) → AreHeld s l → is_listed x.thread.0 l ≡ true → 0 < left_at s.state x.thread → x.thread.0 < length s.desks → ReadsOne s n m x → AreHeld n l
+pub held_after_read : (s n : Environment) (l : Listed) (m : ℤ) (x : Telling) → AreStopped s l → is_listed x.thread.0 l ≡ true → 0 < left_at s.state x.thread → x.thread.0 < length s.desks → ReadsOne s n m x → AreStopped n l
 held_after_read s n l m x held is_in left there r = record {
   count = ap (λ (v : EnvValue). length v.spent) r.state_is ∙ (length-set s.state.spent x.thread.0 (spent_at s.state x.thread + 1) ∙ (held.count ∙ sym r.desks.0));
   some = omega (arith, held.some, r.desks.0);
@@ -239,7 +239,7 @@ held_after_read s n l m x held is_in left there r = record {
     most : n.state.limits.calls ≡ s.state.limits.calls
     most = ap (λ (v : Limits). v.calls) limits
 
-    read : (i : ℕ) (p q : Place) → x.thread.0 ≡ i → slice_get s.desks i ≡ Some p → slice_get n.desks i ≡ Some q → IsHeld n l i q
+    read : (i : ℕ) (p q : DeskState) → x.thread.0 ≡ i → slice_get s.desks i ≡ Some p → slice_get n.desks i ≡ Some q → IsStopped n l i q
     read i p q same at e =
         let listed : is_listed i ((x.thread, 0) ∷ []) ≡ true = grind (arith, eq-eqb x.thread.0 i same) in
         let h = has_added ((x.thread, 0) ∷ []) s.desks n.desks (λ e. Read e m ∷ []) i p q r.desks listed at e in
@@ -258,13 +258,13 @@ held_after_read s n l m x held is_in left there r = record {
           within = omega (arith, old.within, ap (λ (t : List Ticket). length t) h.posted, ap (λ (v : Limits). v.window) limits);
         }
 
-    other_desk : (i : ℕ) (p q : Place) → x.thread.0 ≢ i → slice_get s.desks i ≡ Some p → slice_get n.desks i ≡ Some q → IsHeld n l i q
+    other_desk : (i : ℕ) (p q : DeskState) → x.thread.0 ≢ i → slice_get s.desks i ≡ Some p → slice_get n.desks i ≡ Some q → IsStopped n l i q
     other_desk i p q apart at e =
         let unlisted : is_listed i ((x.thread, 0) ∷ []) ≡ false = grind (arith, ne_eqb x.thread.0 i apart) in
         let still : q ≡ p = unlisted_stays ((x.thread, 0) ∷ []) s.desks n.desks (λ e. Read e m ∷ []) i p q r.desks unlisted at e in
         let old = held.desks i p at in
         let spent : slice_index n.state.spent i ≡ slice_index s.state.spent i = ap (λ (v : EnvValue). slice_index v.spent i) r.state_is ∙ set_other s.state.spent x.thread.0 i (spent_at s.state x.thread + 1) apart in
-        let was : IsHeld n l i p = record {
+        let was : IsStopped n l i p = record {
           env_is = old.env_is ∙ sym r.env_is;
           about = old.about ∙ ap (λ (v : Limits). subject_of v (record { 0 = i })) (sym limits);
           stands = old.stands;
@@ -272,9 +272,9 @@ held_after_read s n l m x held is_in left there r = record {
           paid = omega (arith, old.paid, spent, most);
           within = omega (arith, old.within, ap (λ (v : Limits). v.window) limits);
         } in
-        subst (λ (v : Place). IsHeld n l i v) (sym still) was
+        subst (λ (v : DeskState). IsStopped n l i v) (sym still) was
 
-    one : (i : ℕ) (q : Place) → slice_get n.desks i ≡ Some q → IsHeld n l i q
+    one : (i : ℕ) (q : DeskState) → slice_get n.desks i ≡ Some q → IsStopped n l i q
     one i q e =
         let w = was_there ((x.thread, 0) ∷ []) s.desks n.desks (λ e. Read e m ∷ []) i q r.desks e in
         elim (cases_eq x.thread.0 i) [
@@ -328,14 +328,14 @@ has_read_more old now new m ts x infos info done one tells same = record {
   each = map-append (λ y. y.thread) infos (info ∷ []) ∙ (λ j. done.each j ++ same j ∷ []);
 }
 
-desk_at : (l : List Place) (i : ℕ) → i < length l → (p : Place) × (slice_get l i ≡ Some p)
+desk_at : (l : List DeskState) (i : ℕ) → i < length l → (p : DeskState) × (slice_get l i ≡ Some p)
 desk_at [] i h = absurd (omega (arith, h))
 desk_at (x ∷ l) zero h = (x, refl)
 desk_at (x ∷ l) (suc i) h = desk_at l i (omega (arith, h))
 
 -- a read tells of a stack
-pub tells_stack : (old new : List Place) (i : ℕ) (m : ℤ) (a : Answer) → i < length old → length new ≡ length old
-    → ((p q : Place) → slice_get old i ≡ Some p → slice_get new i ≡ Some q → IsRead p q m a) → is_stack a ≡ true
+pub tells_stack : (old new : List DeskState) (i : ℕ) (m : ℤ) (a : Answer) → i < length old → length new ≡ length old
+    → ((p q : DeskState) → slice_get old i ≡ Some p → slice_get new i ≡ Some q → IsRead p q m a) → is_stack a ≡ true
 tells_stack old new i m a here same read =
     let p = desk_at old i here in
     let q = desk_at new i (omega (arith, here, same)) in
@@ -370,14 +370,14 @@ roomy_last limits m all rest b roomy is =
 
 -- After the gos
 
-pub whole_after_go : (s : Environment) (l : Listed) (ds : List Place) → AreHeld s l → AtEach l s.desks ds (λ e. Go e ∷ []) → IsWhole (with_desks s s.state ds)
+pub whole_after_go : (s : Environment) (l : Listed) (ds : List DeskState) → AreStopped s l → AtEach l s.desks ds (λ e. Go e ∷ []) → IsWhole (with_desks s s.state ds)
 whole_after_go s l ds held each = record {
   count = held.count ∙ sym each.0;
   some = omega (arith, held.some, each.0);
   desks = one;
 }
   where
-    listed : (i : ℕ) (p q : Place) → is_listed i l ≡ true → slice_get s.desks i ≡ Some p → slice_get ds i ≡ Some q → IsDesk (with_desks s s.state ds) i q
+    listed : (i : ℕ) (p q : DeskState) → is_listed i l ≡ true → slice_get s.desks i ≡ Some p → slice_get ds i ≡ Some q → IsDesk (with_desks s s.state ds) i q
     listed i p q is at e =
         let h = has_added l s.desks ds (λ e. Go e ∷ []) i p q each is at e in
         let old = held.desks i p at in
@@ -390,14 +390,14 @@ whole_after_go s l ds held each = record {
           within = omega (arith, old.within, ap (λ (t : List Ticket). length t) h.posted);
         }
 
-    unlisted : (i : ℕ) (p q : Place) → is_listed i l ≡ false → slice_get s.desks i ≡ Some p → slice_get ds i ≡ Some q → IsDesk (with_desks s s.state ds) i q
+    unlisted : (i : ℕ) (p q : DeskState) → is_listed i l ≡ false → slice_get s.desks i ≡ Some p → slice_get ds i ≡ Some q → IsDesk (with_desks s s.state ds) i q
     unlisted i p q is at e =
         let still : q ≡ p = unlisted_stays l s.desks ds (λ e. Go e ∷ []) i p q each is at e in
         let old = held.desks i p at in
         let was : IsDesk (with_desks s s.state ds) i p = record { env_is = old.env_is; about = old.about; free = old.free is; paid = old.paid; within = old.within } in
-        subst (λ (v : Place). IsDesk (with_desks s s.state ds) i v) (sym still) was
+        subst (λ (v : DeskState). IsDesk (with_desks s s.state ds) i v) (sym still) was
 
-    one : (i : ℕ) (q : Place) → slice_get ds i ≡ Some q → IsDesk (with_desks s s.state ds) i q
+    one : (i : ℕ) (q : DeskState) → slice_get ds i ≡ Some q → IsDesk (with_desks s s.state ds) i q
     one i q e =
         let w = was_there l s.desks ds (λ e. Go e ∷ []) i q each e in
         elim (cases_Bool (is_listed i l)) [
@@ -406,10 +406,10 @@ whole_after_go s l ds held each = record {
         ]
 
 -- a list of as many desks in the place of another
-pub desks_are : (later old : List Place) (n : ℕ) → length later ≡ n → length old ≡ n → take n (later ++ drop (length later) old) ≡ later
+pub desks_are : (later old : List DeskState) (n : ℕ) → length later ≡ n → length old ≡ n → take n (later ++ drop (length later) old) ≡ later
 desks_are [] [] zero h k = refl
 desks_are [] (y ∷ old) n h k = absurd (omega (arith, h, k))
 desks_are [] [] (suc n) h k = absurd (omega (arith, h))
 desks_are (x ∷ later) old zero h k = absurd (omega (arith, h))
 desks_are (x ∷ later) [] (suc n) h k = absurd (omega (arith, k))
-desks_are (x ∷ later) (y ∷ old) (suc n) h k = ap (λ (l : List Place). x ∷ l) (desks_are later old n (omega (arith, h)) (omega (arith, k)))
+desks_are (x ∷ later) (y ∷ old) (suc n) h k = ap (λ (l : List DeskState). x ∷ l) (desks_are later old n (omega (arith, h)) (omega (arith, k)))

@@ -26,7 +26,7 @@ use Rattle.ti_slot.specs.declared.asked.Asked.TheVariants as asked
 use Rattle.ti_slot.specs.Thread.{IsLate}
 use Rattle.ti_slot.specs.Tickets.{same, without_ticket}
 use Rattle.ti_agent.specs.Posts.{Posts}
-use Rattle.ti_handshake.specs.Desk.{Place, IsSame, IsTicketOut}
+use Rattle.ti_handshake.specs.Desk.{DeskState, IsSame, IsTicketOut}
 use Rattle.ti_replay.specs.Fronts.{stops_by, stops_after}
 use Rattle.ti_vmop.proofs.Each.{at_index, set_here}
 use Rattle.ti_agent.specs.Env.{Environment, IsDesk, IsWhole, out_of, is_full}
@@ -43,10 +43,10 @@ pub there : (s : EnvValue) (thread : ThreadNo) (c : Call) → call_refusal s thr
 there s thread c h = (grind (arith, nat_tests, h), grind (arith, nat_tests, h))
 
 -- the desk at a thread that a call reaches
-pub desk_at : (s : Environment) (thread : ThreadNo) (c : Call) (p : Place) → IsWhole s → call_refusal s.state thread c ≡ None → p ≡ slice_index_or s.desks thread.0 p → slice_get s.desks thread.0 ≡ Some p
-desk_at s thread c p whole h e = at_index s.desks thread.0 p (omega (arith, (there s.state thread c h).0, whole.count)) ∙ ap (λ (x : Place). Some x) (sym e)
+pub desk_at : (s : Environment) (thread : ThreadNo) (c : Call) (p : DeskState) → IsWhole s → call_refusal s.state thread c ≡ None → p ≡ slice_index_or s.desks thread.0 p → slice_get s.desks thread.0 ≡ Some p
+desk_at s thread c p whole h e = at_index s.desks thread.0 p (omega (arith, (there s.state thread c h).0, whole.count)) ∙ ap (λ (x : DeskState). Some x) (sym e)
 
-pub may_call : (s : Environment) (thread : ThreadNo) (c : Call) (p : Place) → IsWhole s → call_refusal s.state thread c ≡ None → p ≡ slice_index_or s.desks thread.0 p
+pub may_call : (s : Environment) (thread : ThreadNo) (c : Call) (p : DeskState) → IsWhole s → call_refusal s.state thread c ≡ None → p ≡ slice_index_or s.desks thread.0 p
     → calls_spent p.env p.view.mine < p.view.subject.limits.calls
 may_call s thread c p whole h e =
     let k = whole.desks thread.0 p (desk_at s thread c p whole h e) in
@@ -70,22 +70,22 @@ just_buffer limits (call.SetWord word) b h = tt
 just_buffer limits call.Pop b h = tt
 
 -- the desk there is about the thread, under the environment's limits
-pub desk_about : (s : Environment) (thread : ThreadNo) (c : Call) (p : Place) → IsWhole s → call_refusal s.state thread c ≡ None → p ≡ slice_index_or s.desks thread.0 p
+pub desk_about : (s : Environment) (thread : ThreadNo) (c : Call) (p : DeskState) → IsWhole s → call_refusal s.state thread c ≡ None → p ≡ slice_index_or s.desks thread.0 p
     → p.view.subject ≡ subject_of s.state.limits (record { 0 = thread.0 })
 desk_about s thread c p whole h e = (whole.desks thread.0 p (desk_at s thread c p whole h e)).about
 
 -- its desk has room for one call more
-pub has_room : (s : Environment) (thread : ThreadNo) (c : Call) (p : Place) → IsWhole s → call_refusal s.state thread c ≡ None → p ≡ slice_index_or s.desks thread.0 p
+pub has_room : (s : Environment) (thread : ThreadNo) (c : Call) (p : DeskState) → IsWhole s → call_refusal s.state thread c ≡ None → p ≡ slice_index_or s.desks thread.0 p
     → length p.view.posted ≤ p.view.subject.limits.window
 has_room s thread c p whole h e =
     let k = whole.desks thread.0 p (desk_at s thread c p whole h e) in
     omega (arith, k.within, ap (λ x. x.limits.window) k.about)
 
 -- and for one that stays out, if it may wait and not as many are out as may be
-pub may_stay : (s : Environment) (thread : ThreadNo) (c : Call) (p : Place) → IsWhole s → call_refusal s.state thread c ≡ None → p ≡ slice_index_or s.desks thread.0 p
+pub may_stay : (s : Environment) (thread : ThreadNo) (c : Call) (p : DeskState) → IsWhole s → call_refusal s.state thread c ≡ None → p ≡ slice_index_or s.desks thread.0 p
     → (waits c && is_full s thread) ≡ false → waits c ≡ true → length p.view.posted < s.state.limits.window
 may_stay s thread c p whole h e free may =
-    let less : nat_le s.state.limits.window (length p.view.posted) ≡ false = ap (λ (o : Option Place). nat_le s.state.limits.window (out_of o)) (sym (desk_at s thread c p whole h e)) ∙ grind (arith, free, may) in
+    let less : nat_le s.state.limits.window (length p.view.posted) ≡ false = ap (λ (o : Option DeskState). nat_le s.state.limits.window (out_of o)) (sym (desk_at s thread c p whole h e)) ∙ grind (arith, free, may) in
     grind (arith, nat_tests, less)
 
 -- a call that may stay out is at most one ticket more
@@ -106,13 +106,13 @@ pub fewer_if : (b : Bool) (t : Ticket) (tickets : List Ticket) → length (if b 
 fewer_if true t tickets = fewer t tickets
 fewer_if false t tickets = omega arith
 
-pub has_buffer : (s : Environment) (thread : ThreadNo) (c : Call) (p : Place) (b : buffer.Trace) → IsWhole s → call_refusal s.state thread c ≡ None → p ≡ slice_index_or s.desks thread.0 p
+pub has_buffer : (s : Environment) (thread : ThreadNo) (c : Call) (p : DeskState) (b : buffer.Trace) → IsWhole s → call_refusal s.state thread c ≡ None → p ≡ slice_index_or s.desks thread.0 p
     → IsJustBufferOf s.state.limits c b → IsBufferOf p.view.subject.limits c b
 has_buffer s thread c p b whole h e has =
     let k = whole.desks thread.0 p (desk_at s thread c p whole h e) in
     subst (λ (x : Limits). IsBufferOf x c b) (sym (ap (λ x. x.limits) k.about)) (just_buffer s.state.limits c b has)
 
-pub set_there : (l : List Place) (t i : ℕ) (x w : Place) → t ≢ i → slice_get (slice_set l t x) i ≡ Some w → slice_get l i ≡ Some w
+pub set_there : (l : List DeskState) (t i : ℕ) (x w : DeskState) → t ≢ i → slice_get (slice_set l t x) i ≡ Some w → slice_get l i ≡ Some w
 set_there [] t i x w n e = e
 set_there (y ∷ ys) zero zero x w n e = absurd (n refl)
 set_there (y ∷ ys) zero (suc i) x w n e = e
@@ -136,10 +136,10 @@ stops_call : (env : EnvNo) (mine : List Entry) (n : ℕ) (c : Call) → stops_by
 stops_call env mine n c = fold-append (stops_after env) false mine (Asked env n c ∷ [])
 
 -- the environment after a call
-abbrev pub after_call : Environment → ThreadNo → EnvValue → Place → Environment
+abbrev pub after_call : Environment → ThreadNo → EnvValue → DeskState → Environment
 after_call s thread state q = record { env = s.env; state = state; desks = slice_set s.desks thread.0 q }
 
-pub whole_after : (s : Environment) (thread : ThreadNo) (c : Call) (p q : Place) (state : EnvValue) → IsWhole s → call_refusal s.state thread c ≡ None → p ≡ slice_index_or s.desks thread.0 p
+pub whole_after : (s : Environment) (thread : ThreadNo) (c : Call) (p q : DeskState) (state : EnvValue) → IsWhole s → call_refusal s.state thread c ≡ None → p ≡ slice_index_or s.desks thread.0 p
     → state ≡ with_spent s.state thread → q.env ≡ p.env → GoesOn p.view q.view → q.view.mine ≡ p.view.mine ++ next_call p.view p.env c ∷ [] → length q.view.posted ≤ s.state.limits.window
     → IsWhole (after_call s thread state q)
 whole_after s thread c p q state whole h e spend same_place goes_on more within = subst (λ (z : EnvValue). IsWhole (after_call s thread z q)) (sym spend) done
@@ -161,11 +161,11 @@ whole_after s thread c p q state whole h e spend same_place goes_on more within 
         } in
         subst (λ (j : ℕ). IsDesk (after_call s thread (with_spent s.state thread) q) j q) same there
 
-    desks : (i : ℕ) (w : Place) → slice_get (slice_set s.desks thread.0 q) i ≡ Some w → IsDesk (after_call s thread (with_spent s.state thread) q) i w
+    desks : (i : ℕ) (w : DeskState) → slice_get (slice_set s.desks thread.0 q) i ≡ Some w → IsDesk (after_call s thread (with_spent s.state thread) q) i w
     desks i w f = elim (cases_eq thread.0 i) [
       | inl same ↦
           let is : q ≡ w = set_here s.desks thread.0 q w (ap (slice_get (slice_set s.desks thread.0 q)) same ∙ f) in
-          subst (λ (x : Place). IsDesk (after_call s thread (with_spent s.state thread) q) i x) is (here i same)
+          subst (λ (x : DeskState). IsDesk (after_call s thread (with_spent s.state thread) q) i x) is (here i same)
       | inr other ↦
           let old = whole.desks i w (set_there s.desks thread.0 i q w other f) in
           let spent : slice_index (with_spent s.state thread).spent i ≡ slice_index s.state.spent i = set_other s.state.spent thread.0 i (spent_at s.state thread + 1) other in
@@ -179,7 +179,7 @@ whole_after s thread c p q state whole h e spend same_place goes_on more within 
       desks = desks;
     }
 
-pub went : (s new : Environment) (thread : ThreadNo) (c : Call) (p q : Place) (a : Answer) (state : EnvValue) → IsWhole s → call_refusal s.state thread c ≡ None → p ≡ slice_index_or s.desks thread.0 p
+pub went : (s new : Environment) (thread : ThreadNo) (c : Call) (p q : DeskState) (a : Answer) (state : EnvValue) → IsWhole s → call_refusal s.state thread c ≡ None → p ≡ slice_index_or s.desks thread.0 p
     → state ≡ with_spent s.state thread → Asks p q c a → new ≡ after_call s thread state q → Went s new thread c a
 went s new thread c p q a state whole h e spend k is = record {
   before = p;
@@ -218,7 +218,7 @@ pub caps_whole : (s : Environment) (state : EnvValue) (r : Result (Unit {0}) TiE
 caps_whole s state (Ok u) caps whole added same = subst (λ (z : EnvValue). IsWhole (record { env = s.env; state = z; desks = s.desks })) (sym added) (whole_with s (with_caps s.state caps) whole refl refl)
 caps_whole s state (Err e) caps whole added same = subst (λ (z : EnvValue). IsWhole (record { env = s.env; state = z; desks = s.desks })) (sym same) (whole_with s s.state whole refl refl)
 
-pub posts : (s new : Environment) (thread : ThreadNo) (c : Call) (p q : Place) (r : AskedOf) (state : EnvValue) → IsWhole s → call_refusal s.state thread c ≡ None → p ≡ slice_index_or s.desks thread.0 p
+pub posts : (s new : Environment) (thread : ThreadNo) (c : Call) (p q : DeskState) (r : AskedOf) (state : EnvValue) → IsWhole s → call_refusal s.state thread c ≡ None → p ≡ slice_index_or s.desks thread.0 p
     → state ≡ with_spent s.state thread → IsSame p q → HoldsWith p.view q.view (next_call p.view p.env c ∷ []) (p.view.posted ++ ticket_told r) → IsTold p.view q.view p.env c r → IsTicketOut q r → new ≡ after_call s thread state q → Posts s new thread c r
 posts s new thread c p q r state whole h e spend same hold told out is = record {
   before = p;
@@ -233,7 +233,7 @@ posts s new thread c p q r state whole h e spend same hold told out is = record 
 }
 
 -- a desk saw more, and added nothing
-pub whole_seen : (s : Environment) (t : ℕ) (p q : Place) (tickets : List Ticket) → IsWhole s → slice_get s.desks t ≡ Some p → q.env ≡ p.env → WaitsWith p.view q.view [] tickets → length tickets ≤ length p.view.posted
+pub whole_seen : (s : Environment) (t : ℕ) (p q : DeskState) (tickets : List Ticket) → IsWhole s → slice_get s.desks t ≡ Some p → q.env ≡ p.env → WaitsWith p.view q.view [] tickets → length tickets ≤ length p.view.posted
     → IsWhole (record { env = s.env; state = s.state; desks = slice_set s.desks t q })
 whole_seen s t p q tickets whole at same hold fewer = record {
   count = whole.count ∙ sym (length-set s.desks t q);
@@ -254,19 +254,19 @@ whole_seen s t p q tickets whole at same hold fewer = record {
           within = omega (arith, old.within, fewer, ap (λ (l : List Ticket). length l) hold.posted);
         }
 
-    desks : (i : ℕ) (w : Place) → slice_get (slice_set s.desks t q) i ≡ Some w → IsDesk (record { env = s.env; state = s.state; desks = slice_set s.desks t q }) i w
+    desks : (i : ℕ) (w : DeskState) → slice_get (slice_set s.desks t q) i ≡ Some w → IsDesk (record { env = s.env; state = s.state; desks = slice_set s.desks t q }) i w
     desks i w f = elim (cases_eq t i) [
       | inl e ↦
           let is : q ≡ w = set_here s.desks t q w (ap (slice_get (slice_set s.desks t q)) e ∙ f) in
-          let there : IsDesk s i w = subst (λ (z : ℕ × Place). IsDesk s z.0 z.1) (λ j. (e j, is j)) here in
+          let there : IsDesk s i w = subst (λ (z : ℕ × DeskState). IsDesk s z.0 z.1) (λ j. (e j, is j)) here in
           record { env_is = there.env_is; about = there.about; free = there.free; paid = there.paid; within = there.within }
       | inr other ↦
           let old = whole.desks i w (set_there s.desks t i q w other f) in
           record { env_is = old.env_is; about = old.about; free = old.free; paid = old.paid; within = old.within }
     ]
 
-pub desk_there : (s : Environment) (t : ℕ) (p : Place) → t < length s.desks → p ≡ slice_index_or s.desks t p → slice_get s.desks t ≡ Some p
-desk_there s t p h e = at_index s.desks t p h ∙ ap (λ (x : Place). Some x) (sym e)
+pub desk_there : (s : Environment) (t : ℕ) (p : DeskState) → t < length s.desks → p ≡ slice_index_or s.desks t p → slice_get s.desks t ≡ Some p
+desk_there s t p h e = at_index s.desks t p h ∙ ap (λ (x : DeskState). Some x) (sym e)
 
-abbrev pub seen_call : Environment → ℕ → Place → Environment
+abbrev pub seen_call : Environment → ℕ → DeskState → Environment
 seen_call s t q = record { env = s.env; state = s.state; desks = slice_set s.desks t q }

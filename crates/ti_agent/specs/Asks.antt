@@ -1,4 +1,4 @@
--- What one call of an environment comes to.
+-- The result of one call of an environment.
 use Rattle.std.specs.Prelude.{ℕ, ◌≡◌, Bool, true, false, ◌&&◌, not, [], ◌∷◌, ◌++◌, Option, Some, None, slice_get, slice_set, Result, Ok, Err}
 use Rattle.ti_types.specs.Frames as buffer
 use Rattle.ti_types.specs.Frames.{bare_trace}
@@ -14,36 +14,36 @@ use Rattle.ti_types.specs.Refusing.{or_else, unless}
 use Rattle.ti_env.specs.Env.{EnvValue, call_refusal, with_spent}
 use Rattle.ti_replay.specs.Admission.{takes_buffer}
 use Rattle.ti_handshake.specs.Call.{GoesOn, IsAnswered, next_call}
-use Rattle.ti_handshake.specs.Desk.{Place, IsSame}
+use Rattle.ti_handshake.specs.Desk.{DeskState, IsSame}
 use Rattle.ti_agent.specs.Env.{Environment}
 
--- a desk went on with one call, and this is the reply
-pub record Asks (old new : Place) (c : Call) (a : Answer) : Type 0 where
+-- a desk made one call, and this is the reply
+pub record Asks (old new : DeskState) (c : Call) (a : Answer) : Type 0 where
   pub same : IsSame old new
   pub goes : GoesOn old.view new.view
   pub mine : new.view.mine ≡ old.view.mine ++ next_call old.view old.env c ∷ []
   pub posted : new.view.posted ≡ old.view.posted
   pub answer : IsAnswered old.view new.view (next_call old.view old.env c) a
 
--- one call is spent at the thread, its desk went on with it, and nothing else changed
+-- one call is spent at the thread, and its desk there made the call. Nothing else changed
 pub record Went (old new : Environment) (thread : ThreadNo) (c : Call) (a : Answer) : Type 0 where
-  pub before : Place
-  pub after : Place
+  pub before : DeskState
+  pub after : DeskState
   pub there : slice_get old.desks thread.0 ≡ Some before
   pub asks : Asks before after c a
   pub new_is : new ≡ record { env = old.env; state = with_spent old.state thread; desks = slice_set old.desks thread.0 after }
 
+-- whether an answer says that there was no memory
 abbrev pub is_for_memory : Answer → Bool
 is_for_memory (answer.Refused OutOfMemory) = true
 is_for_memory _ = false
 
--- and that says that a time was over
+-- whether an answer says that a time was over
 abbrev pub is_timed_out : Answer → Bool
 is_timed_out (answer.Refused TimedOut) = true
 is_timed_out _ = false
 
--- why a call does not reach its thread: 99, 10, 103, 209, and 110 where it takes memory and there is none. No thread
--- answers 110
+-- why a call does not reach its thread: 99, 10, 103, 209, or 110 if it takes memory and there is none. No thread answers 110
 abbrev pub refusal_of : EnvValue → ThreadNo → Call → Answer → Option TiError
 refusal_of state thread c a = or_else (call_refusal state thread c) (unless (not (takes_buffer c && is_for_memory a)) OutOfMemory)
 
@@ -51,11 +51,11 @@ abbrev pub IsCalledBy : Option TiError → Environment → Environment → Threa
 IsCalledBy (Some e) old new thread c a = (new ≡ old) × (a ≡ answer.Refused e)
 IsCalledBy None old new thread c a = Went old new thread c a
 
--- a call at a thread: refused from what the environment keeps, with nothing changed, or answered by its desk there
+-- a call at a thread: refused from what the environment keeps, and then nothing changed; or answered by its desk there
 abbrev pub IsCalled : Environment → Environment → ThreadNo → Call → Answer → Type 0
 IsCalled old new thread c a = IsCalledBy (refusal_of old.state thread c a) old new thread c a
 
--- an answer to this call
+-- an answer of a kind that this call may have
 abbrev pub IsKind : Call → Answer → Type 0
 IsKind c (answer.Refused e) = Unit {0}
 IsKind call.State (answer.State bits) = Unit {0}
@@ -69,7 +69,7 @@ IsKind (call.SetWord word) answer.Done = Unit {0}
 IsKind call.Pop answer.Done = Unit {0}
 IsKind _ _ = ⊥
 
--- the answers that calls give, read off what they return
+-- the answers of calls, taken from what their methods return
 abbrev pub in_state : Result ℕ TiError → Answer
 in_state (Ok bits) = answer.State bits
 in_state (Err e) = answer.Refused e

@@ -1,4 +1,4 @@
--- The buffers that an environment makes for what is told.
+-- The buffers that an environment makes for frames.
 use Rattle.std.specs.Prelude.{ℤ, ◌≡◌, List, [], min}
 use Rattle.std.specs.List.{All}
 use Rattle.ti_types.specs.declared.call.Call.{Call}
@@ -11,7 +11,7 @@ use Rattle.ti_types.specs.Numbers.{or_zero}
 abbrev pub HasJustRoomFor : Limits → ℤ → buffer.Trace → Type 0
 HasJustRoomFor limits max_count b = (b.frames ≡ []) × (b.room ≡ min (or_zero max_count) limits.depth)
 
--- the buffer of a call: a trace takes that, and other calls take none
+-- the buffer of a call: a trace takes such a buffer, and other calls take none
 abbrev pub IsJustBufferOf : Limits → Call → buffer.Trace → Type 0
 IsJustBufferOf limits (Trace start max_count) b = HasJustRoomFor limits max_count b
 IsJustBufferOf limits _ b = (b.frames ≡ []) × (b.room ≡ 0)

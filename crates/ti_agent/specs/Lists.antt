@@ -1,4 +1,4 @@
--- What a call at each thread of a list comes to: it is posted at one thread after another, and then each that waits is
+-- The result of a call at each thread of a list. It is posted at one thread after another. Then each call that waits is
 -- collected, in the same order.
 use Rattle.std.specs.Prelude.{ℕ, ◌≡◌, false, List, [], ◌∷◌, Option, Some, None}
 use Rattle.ti_types.specs.Answer.{said}
@@ -21,7 +21,7 @@ abbrev pub code_of : Answer → ℕ
 code_of (answer.Refused e) = number_of e
 code_of _ = 0
 
--- a call at one thread: refused by the environment itself, with nothing changed; or posted, and answered or waiting
+-- a call at one thread: refused by the environment itself, and then nothing changed; or posted, and answered or waiting
 abbrev pub IsPostedBy : Option TiError → Environment → Environment → Call → ThreadNo → Posted → Type 0
 IsPostedBy (Some e) old new c t (Code n) = (new ≡ old) × (n ≡ number_of e)
 IsPostedBy (Some e) old new c t (Waits k) = ⊥
@@ -31,18 +31,18 @@ IsPostedBy None old new c t (Waits k) = Posts old new t c (Waiting k)
 abbrev pub IsPosted : Environment → Environment → Call → ThreadNo → Posted → Type 0
 IsPosted old new c t x = IsPostedBy (posting_refusal old t c) old new c t x
 
--- one at each thread after another
+-- a call is posted at one thread after another
 abbrev pub PostsEach : Environment → Environment → Call → List ThreadNo → List Posted → Type 0
 PostsEach old new c [] [] = new ≡ old
 PostsEach old new c (t ∷ ts) (x ∷ xs) = (next : Environment) × IsPosted old next c t x × PostsEach next new c ts xs
 PostsEach old new c _ _ = ⊥
 
--- what was posted has a code already, or is collected
+-- a posted call has a code already, or is collected
 abbrev pub IsCollected : Environment → Environment → Posted → ℕ → Type 0
 IsCollected old new (Code n) code = (new ≡ old) × (code ≡ n)
 IsCollected old new (Waits k) code = (a : Answer) × Collects old new k a × (code ≡ code_of a)
 
--- one after another
+-- one call is collected after another
 abbrev pub CollectsEach : Environment → Environment → List Posted → List ℕ → Type 0
 CollectsEach old new [] [] = new ≡ old
 CollectsEach old new (x ∷ xs) (code ∷ codes) = (next : Environment) × IsCollected old next x code × CollectsEach next new xs codes
@@ -59,7 +59,7 @@ abbrev pub IsOpen : Environment → Posted → Type 0
 IsOpen s (Code n) = Unit {0}
 IsOpen s (Waits k) = IsOut s k
 
--- no ticket among these is this one
+-- none of these has this ticket
 abbrev pub AreOthers : Ticket → List Posted → Type 0
 AreOthers k [] = Unit {0}
 AreOthers k (Code n ∷ xs) = AreOthers k xs
@@ -69,7 +69,7 @@ abbrev pub NoneTwice : Posted → List Posted → Type 0
 NoneTwice (Code n) xs = Unit {0}
 NoneTwice (Waits k) xs = AreOthers k xs
 
--- all that wait are out, each once
+-- all tickets that wait are out, each once
 abbrev pub AreOpen : Environment → List Posted → Type 0
 AreOpen s [] = Unit {0}
 AreOpen s (x ∷ xs) = IsOpen s x × NoneTwice x xs × AreOpen s xs

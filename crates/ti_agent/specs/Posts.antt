@@ -14,17 +14,17 @@ use Rattle.ti_slot.specs.declared.asked.Asked.{Asked as AskedOf}
 use Rattle.ti_slot.specs.declared.asked.Asked.TheVariants.{Answered, Waiting}
 use Rattle.ti_slot.specs.Tickets.{has, without_ticket}
 use Rattle.ti_handshake.specs.Call.{HoldsWith, WaitsWith, IsTold, next_call, ticket_told}
-use Rattle.ti_handshake.specs.Desk.{Place, IsSame, IsTicketOut, ReplyAtPlace, is_out}
+use Rattle.ti_handshake.specs.Desk.{DeskState, IsSame, IsTicketOut, ReplyAtPlace, is_out}
 use Rattle.ti_agent.specs.Env.{Environment, is_full}
 
--- why a call is not posted at a thread: the environment refuses it; or it may wait, and as many are out there as may be
+-- why a call is not posted at a thread: the environment refuses it, or it may wait and the window there is full
 abbrev pub posting_refusal : Environment → ThreadNo → Call → Option TiError
 posting_refusal s t c = or_else (call_refusal s.state t c) (if waits c && is_full s t then Some OutOfMemory else None)
 
--- one call is spent at the thread, its desk posted it by one hold, and nothing else changed
+-- one call is spent at the thread, and its desk posted the call by one hold. Nothing else changed
 pub record Posts (old new : Environment) (thread : ThreadNo) (c : Call) (r : AskedOf) : Type 0 where
-  pub before : Place
-  pub after : Place
+  pub before : DeskState
+  pub after : DeskState
   pub there : slice_get old.desks thread.0 ≡ Some before
   pub about : before.view.subject.thread ≡ thread
   pub same : IsSame before after
@@ -33,11 +33,11 @@ pub record Posts (old new : Environment) (thread : ThreadNo) (c : Call) (r : Ask
   pub out : IsTicketOut after r
   pub new_is : new ≡ record { env = old.env; state = with_spent old.state thread; desks = slice_set old.desks thread.0 after }
 
--- the desk at the ticket's thread collected it: the answer is the reply to it, at the place of its call; it is out no
--- more, and nothing else changed
+-- The desk at the ticket's thread collected the call. The answer is the reply to the ticket, at the place of its call. The
+-- ticket is no longer out, and nothing else changed
 pub record Collects (old new : Environment) (ticket : Ticket) (a : Answer) : Type 0 where
-  pub before : Place
-  pub after : Place
+  pub before : DeskState
+  pub after : DeskState
   pub there : slice_get old.desks ticket.thread.0 ≡ Some before
   pub same : IsSame before after
   pub hold : WaitsWith before.view after.view [] (without_ticket ticket before.view.posted)
@@ -46,11 +46,11 @@ pub record Collects (old new : Environment) (ticket : Ticket) (a : Answer) : Typ
   pub place : ReplyAtPlace before.view.subject.limits after.view.seen ticket a
   pub new_is : new ≡ record { env = old.env; state = old.state; desks = slice_set old.desks ticket.thread.0 after }
 
--- the desk at the ticket's thread looked for its answer by one hold: if the ticket was out there and the answer is there,
--- it was collected. Nothing else changed
+-- The desk at the ticket's thread looked for the answer by one hold. If the ticket was out there and the answer is there,
+-- the call was collected. Nothing else changed
 pub record LooksFor (old new : Environment) (ticket : Ticket) (r : Option Answer) : Type 0 where
-  pub before : Place
-  pub after : Place
+  pub before : DeskState
+  pub after : DeskState
   pub there : slice_get old.desks ticket.thread.0 ≡ Some before
   pub same : IsSame before after
   pub hold : HoldsWith before.view after.view [] (if is_some r then without_ticket ticket before.view.posted else before.view.posted)
@@ -59,11 +59,11 @@ pub record LooksFor (old new : Environment) (ticket : Ticket) (r : Option Answer
   pub place : IfSome r (λ a. ReplyAtPlace before.view.subject.limits after.view.seen ticket a)
   pub new_is : new ≡ record { env = old.env; state = old.state; desks = slice_set old.desks ticket.thread.0 after }
 
--- the desk at the ticket's thread looked for its answer, by holds and looks between them: if the ticket was out there and
--- the answer was there at last, it was collected. Nothing else changed
+-- The desk at the ticket's thread looked for the answer, by holds and looks between them. If the ticket was out there and
+-- the answer came, the call was collected. Nothing else changed
 pub record WaitsFor (old new : Environment) (ticket : Ticket) (r : Option Answer) : Type 0 where
-  pub before : Place
-  pub after : Place
+  pub before : DeskState
+  pub after : DeskState
   pub there : slice_get old.desks ticket.thread.0 ≡ Some before
   pub same : IsSame before after
   pub hold : WaitsWith before.view after.view [] (if is_some r then without_ticket ticket before.view.posted else before.view.posted)
@@ -74,11 +74,11 @@ pub record WaitsFor (old new : Environment) (ticket : Ticket) (r : Option Answer
 
 -- the ticket is out at the desk of its thread, and was not given up
 pub record IsOut (s : Environment) (k : Ticket) : Type 0 where
-  pub desk : Place
+  pub desk : DeskState
   pub there : slice_get s.desks k.thread.0 ≡ Some desk
   pub out : is_out desk k ≡ true
 
--- so is the ticket of a call that waits
+-- if a call waits, its ticket is out
 abbrev pub IsOutIfWaiting : Environment → AskedOf → Type 0
 IsOutIfWaiting s (Answered a) = Unit {0}
 IsOutIfWaiting s (Waiting k) = IsOut s k

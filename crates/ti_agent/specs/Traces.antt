@@ -14,10 +14,10 @@ use Rattle.ti_env.specs.Env.{EnvValue, spent_at, left_at, with_spent}
 use Rattle.ti_replay.specs.Legal.{calls_spent}
 use Rattle.ti_replay.specs.Standing.{is_standing}
 use Rattle.ti_cell.specs.View.{subject_of}
-use Rattle.ti_handshake.specs.Desk.{Place}
+use Rattle.ti_handshake.specs.Desk.{DeskState}
 use Rattle.ti_replay.specs.Fronts.{stops_by}
 use Rattle.ti_vmop.specs.Turns.{Listed, is_listed, are_paid, spend_all, AtEach, AllStand, IsRead}
-use Rattle.ti_vmop.specs.declared.standing.Round.{Round}
+use Rattle.ti_vmop.specs.declared.global_stops.Round.{Round}
 use Rattle.ti_agent.specs.Env.{Environment}
 use Rattle.ti_types.specs.declared.stack.StackInfo.{StackInfo}
 
@@ -26,7 +26,7 @@ abbrev pub each_thread : ℕ → List ThreadNo
 each_thread zero = []
 each_thread (suc n) = each_thread n ++ (record { 0 = n }) ∷ []
 
--- the same, each with one read to come
+-- the same threads, each with one read to come
 abbrev pub all_once : ℕ → Listed
 all_once zero = []
 all_once (suc n) = all_once n ++ (record { 0 = n }, 1) ∷ []
@@ -36,38 +36,38 @@ abbrev pub times : ℕ → List ThreadNo → ℕ
 times i [] = 0
 times i (x ∷ threads) = if x.0 == i then suc (times i threads) else times i threads
 
--- a thread with this many reads to come, where there is one
+-- a thread with this many reads to come; nothing if there are none
 abbrev pub where_some : ℕ → ℕ → Listed
 where_some i reads = if reads == 0 then [] else (record { 0 = i }, reads) ∷ []
 
--- the threads of a list whose numbers are below one, each once, in the order of their numbers, with as many reads to come
--- as it is often in the list
+-- the threads of a list whose numbers are below this one, each once, in the order of their numbers. Each has as many reads
+-- to come as it has elements in the list
 abbrev pub each_once : ℕ → List ThreadNo → Listed
 each_once zero threads = []
 each_once (suc n) threads = each_once n threads ++ where_some n (times n threads)
 
--- whether there are all threads of a list
+-- whether all threads of a list exist, when there are this many threads
 abbrev pub are_there : ℕ → List ThreadNo → Bool
 are_there count threads = list_all (λ x. nat_lt x.0 count) threads
 
--- why no thread is traced, but for the memory of what is told
+-- why no thread is traced, lack of memory for the result aside
 abbrev pub refusal_of_all : EnvValue → ℤ → Option TiError
 refusal_of_all state max_count =
     or_else (unless (is_not_negative max_count) IllegalArgument)
     (unless (are_paid state (all_once (length state.spent))) CallsSpent)
 
--- why the threads of a list are not traced, before it is counted how often each is in it
+-- why the threads of a list are not traced, before each thread's elements are counted
 abbrev pub refusal_of_list : EnvValue → List ThreadNo → ℤ → Option TiError
 refusal_of_list state threads max_count =
     or_else (unless (are_there (length state.spent) threads) InvalidThread)
     (unless (is_not_negative max_count) IllegalArgument)
 
--- why they are not, once it was counted
+-- why they are not traced, once they were counted
 abbrev pub refusal_of_counted : EnvValue → List ThreadNo → Option TiError
 refusal_of_counted state threads = unless (are_paid state (each_once (length state.spent) threads)) CallsSpent
 
--- A list was refused. Memory ran out where no other refusal comes first; those of the calls that are left come only
--- where there was memory to count
+-- A list was refused. A lack of memory is reported if no other refusal comes first. The refusal for too few calls left comes
+-- only if there was memory to count
 pub record IsListRefused (state : EnvValue) (threads : List ThreadNo) (max_count : ℤ) (e : TiError) : Type 0 where
   pub counted : Bool
   pub first : Some e ≡ or_else (refusal_of_list state threads max_count) (or_else (if counted then refusal_of_counted state threads else None) (Some OutOfMemory))
@@ -76,7 +76,7 @@ pub record IsListRefused (state : EnvValue) (threads : List ThreadNo) (max_count
 abbrev pub is_alive : ℕ → Bool
 is_alive bits = bit_and bits 1 == 1
 
--- what a read told of a thread
+-- the answer to a read, and the thread that was read
 pub record Telling : Type 0 where
   pub thread : ThreadNo
   pub answer : Answer
@@ -94,29 +94,29 @@ abbrev pub told_stack : ThreadNo → Answer → List Told
 told_stack thread (answer.Stack bits b) = record { thread = thread; state = bits; frames = b.frames } ∷ []
 told_stack thread _ = []
 
--- whether an answer tells of a thread's stack
+-- whether an answer has a thread's stack
 abbrev pub is_stack : Answer → Bool
 is_stack (answer.Stack bits b) = true
 is_stack _ = false
 
--- one after another
+-- the stacks of all these answers, one after another
 abbrev pub told_each : List Telling → List Told
 told_each [] = []
 told_each (x ∷ more) = told_stack x.thread x.answer ++ told_each more
 
--- one call is spent at the thread, its desk read it by one hold, and nothing else changed
+-- one call is spent at the thread, and its desk read it by one hold. Nothing else changed
 pub record ReadsOne (old new : Environment) (max_count : ℤ) (x : Telling) : Type 0 where
   pub env_is : new.env ≡ old.env
   pub state_is : new.state ≡ with_spent old.state x.thread
   pub desks : AtEach ((x.thread, 0) ∷ []) old.desks new.desks (λ e. Read e max_count ∷ [])
-  pub answer_is : (p q : Place) → slice_get old.desks x.thread.0 ≡ Some p → slice_get new.desks x.thread.0 ≡ Some q → IsRead p q max_count x.answer
+  pub answer_is : (p q : DeskState) → slice_get old.desks x.thread.0 ≡ Some p → slice_get new.desks x.thread.0 ≡ Some q → IsRead p q max_count x.answer
 
--- one thread after another
+-- one thread is read after another
 abbrev pub ReadsEach : Environment → Environment → ℤ → List Telling → Type 0
 ReadsEach old new max_count [] = new ≡ old
 ReadsEach old new max_count (x ∷ more) = (next : Environment) × ReadsOne old next max_count x × ReadsEach next new max_count more
 
--- the threads of a list were read, one after another, each as often as it is in the list, and this is what they told
+-- the threads of a list were read, one after another, each as often as it is in the list; these are the results
 pub record HasRead (old new : Environment) (max_count : ℤ) (threads : List ThreadNo) (infos : List StackInfo) : Type 0 where
   pub tellings : List Telling
   pub reads : ReadsEach old new max_count tellings
@@ -124,7 +124,7 @@ pub record HasRead (old new : Environment) (max_count : ℤ) (threads : List Thr
   pub told : map told_info infos ≡ told_each tellings
   pub each : map (λ x. x.thread) infos ≡ threads
 
--- the threads of a list are stopped, and all of them stand
+-- the threads of a list are stopped, and all of them are standing
 pub record Stops (old new : Environment) (threads : Listed) : Type 0 where
   pub env_is : new.env ≡ old.env
   pub state_is : new.state ≡ spend_all old.state threads
@@ -137,8 +137,8 @@ pub record LetsGo (old new : Environment) (threads : Listed) : Type 0 where
   pub state_is : new.state ≡ old.state
   pub desks : AtEach threads old.desks new.desks (λ e. Go e ∷ [])
 
--- The threads of a list are stopped, each once; then each is read as often as it is in the list, in its order; and then all
--- are let go. The round is the environment's, over all of them
+-- Each thread of a list is stopped once. Then each is read as often as it is in the list, in the list's order. Then all are
+-- let go. The round is the environment's, over all of them
 pub record IsTraced (old new : Environment) (max_count : ℤ) (stopping : Listed) (threads : List ThreadNo) (infos : List StackInfo) (round : Round) : Type 0 where
   pub stopped : Environment
   pub seen : Environment
@@ -155,8 +155,8 @@ pub record TracesAlive (old new : Environment) (max_count : ℤ) (infos : List S
   pub traced : IsTraced old new max_count (all_once (length old.desks)) (each_thread (length old.desks)) all round
   pub alive : infos ≡ filter (λ x. is_alive x.state) all
 
--- A desk between the stops and the gos: the environment's, at thread i. A listed thread stands
-pub record IsHeld (s : Environment) (threads : Listed) (i : ℕ) (p : Place) : Type 0 where
+-- The environment's desk at thread i, between the stops and the gos. A thread of the list is standing
+pub record IsStopped (s : Environment) (threads : Listed) (i : ℕ) (p : DeskState) : Type 0 where
   pub env_is : p.env ≡ s.env
   pub about : p.view.subject ≡ subject_of s.state.limits (record { 0 = i })
   pub stands : is_listed i threads ≡ true → is_standing p.view.subject.limits p.view.seen p.env ≡ true
@@ -165,10 +165,10 @@ pub record IsHeld (s : Environment) (threads : Listed) (i : ℕ) (p : Place) : T
   pub within : length p.view.posted ≤ s.state.limits.window
 
 -- an environment between the stops and the gos
-pub record AreHeld (s : Environment) (threads : Listed) : Type 0 where
+pub record AreStopped (s : Environment) (threads : Listed) : Type 0 where
   pub count : length s.state.spent ≡ length s.desks
   pub some : 0 < length s.desks
-  pub desks : (i : ℕ) (p : Place) → slice_get s.desks i ≡ Some p → IsHeld s threads i p
+  pub desks : (i : ℕ) (p : DeskState) → slice_get s.desks i ≡ Some p → IsStopped s threads i p
 
 -- each thread has a call left for each time that it is in a list
 abbrev pub AreLeft : EnvValue → List ThreadNo → Type 0
@@ -178,7 +178,7 @@ AreLeft state threads = (i : ℕ) → times i threads ≤ left_at state (record 
 abbrev pub AreListed : Listed → List ThreadNo → Type 0
 AreListed stopping threads = list_all (λ x. is_listed x.0 stopping) threads ≡ true
 
--- The threads of a list were not counted: there was no memory to count them, or a thread has fewer calls left than its stop
+-- The threads of a list were not counted. There was no memory to count them, or a thread has fewer calls left than its stop
 -- and its reads cost
 pub record IsNotCounted (state : EnvValue) (threads : List ThreadNo) (e : TiError) : Type 0 where
   pub counted : Bool

@@ -1,14 +1,4 @@
 //! Calls with a deadline, and calls that are given up.
-ghost use Rattle.std.specs.Prelude.{◌≡◌, ◌<◌, ◌≤◌, ◌&&◌, false, length, None, IfErr, OnOk, OnErr};
-ghost use Rattle.ti_types.specs.Answer.{said};
-ghost use Rattle.ti_types.specs.declared.call.Call.TheVariants as call;
-ghost use Rattle.ti_types.specs.declared.error.TiError.TheVariants.{OutOfMemory};
-ghost use Rattle.ti_env.specs.Env.{call_refusal};
-ghost use Rattle.ti_replay.specs.Settling.{waits};
-ghost use Rattle.ti_agent.specs.Buffers.{IsJustBufferOf};
-ghost use Rattle.ti_agent.specs.Env.{is_full};
-ghost use Rattle.ti_agent.specs.Asks.{IsKind, in_count, in_location, in_trace, in_done};
-ghost use Rattle.ti_agent.specs.Deadlines.{Cancels, DiscardsAt, ComesTo, IsCalledWithin};
 
 use crate::answers::{count_in, done_in, location_in, trace_in};
 use crate::env::Env;
@@ -20,11 +10,11 @@ use std::time::Duration;
 use ti_types::{Answer, Call, Frame, ThreadNo, TiError, Ticket, TraceBuf};
 
 impl Env {
-    /// Gives a call up that was posted and not collected, by one hold (this profile). It takes place as before if it comes to
-    /// that, a suspension and a pop too. Its answer is thrown away, once it is there, by `discard`; until then it is out.
+    /// Gives up a call that was posted and not collected, by one hold (this profile). The call still takes place when the
+    /// thread reaches it: a suspension suspends, a pop pops. It is out until `discard` throws its answer away.
     ///
     /// A ticket that is not out at this environment, or was given up before, is left as it is. 110 OUT_OF_MEMORY if there is
-    /// no memory to keep in mind that it was given up. Then nothing changes.
+    /// no memory to note that the call was given up. Then nothing changes.
     pub fn cancel<R: Wait>(&mut self, rt: &R, alloc: Global, ticket: Ticket) -> Result<(), TiError>
         ensures cancels { OnOk result (ticket.thread.0 < length self.old.desks → Cancels self.old self.new ticket) }
         ensures nobody { OnOk result (length self.old.desks ≤ ticket.thread.0 → self.new ≡ self.old) }
@@ -38,9 +28,11 @@ impl Env {
         self.desks[at].cancel(rt, alloc, ticket)
     }
 
-    /// Throws away the answer to the call that was given up first at a thread, if it is there, by one hold (this profile).
-    /// The call is out no more then. Whether it was there: `false` if none was given up there, and if there is no such
-    /// thread.
+    /// Looks for the answer to the call that was given up first at a thread, by one hold (this profile). If the answer is
+    /// there, it is thrown away, and the call is no longer out.
+    ///
+    /// `true` if an answer was thrown away. `false` if there is none yet, if no call was given up there, or if there is no
+    /// such thread.
     pub fn discard<R: Wait>(&mut self, rt: &R, thread: ThreadNo) -> bool
         ensures discards { thread.0 < length self.old.desks → DiscardsAt self.old self.new thread result }
         ensures nobody { length self.old.desks ≤ thread.0 → (self.new ≡ self.old) × (result ≡ false) }
@@ -52,8 +44,8 @@ impl Env {
         self.desks[at].discard(rt)
     }
 
-    /// Asks the thread a call that was admitted, for which there is room, and waits no longer than this for its answer. The
-    /// buffer has no more room than the call takes.
+    /// Asks the thread an admitted call for which there is room, and waits for its answer for at most this time. The buffer
+    /// has just the room that the call takes.
     fn ask_one_within<R: Wait + Clock>(
         &mut self,
         rt: &R,
@@ -77,7 +69,7 @@ impl Env {
         answer.unwrap_or(Answer::Refused(TiError::TimedOut))
     }
 
-    /// Asks the thread a call, and waits no longer than this for its answer.
+    /// Asks the thread a call, and waits for its answer for at most this time.
     fn ask_within<R: Wait + Clock>(
         &mut self,
         rt: &R,
@@ -102,10 +94,12 @@ impl Env {
         }
     }
 
-    /// GetFrameCount (JVM TI 11), but no longer than this. 214 (this profile) when the time is over, or the clock can't be
-    /// read: then the call is given up, as by `cancel`. 110 if `window` calls are out at the thread, and if there is no
-    /// memory to keep in mind that it is given up; then nothing was asked. This is so for each call with a deadline. Before
-    /// it asks, each throws away one answer to a call that was given up there, if it is there, as by `discard`.
+    /// GetFrameCount (JVM TI 11), which waits for at most this time. 214 (this profile) when the time is over, or if the
+    /// clock can't be read. Then the call has spent its one call, and is given up as by `cancel`.
+    ///
+    /// 110 OUT_OF_MEMORY if `window` calls are out at the thread, or if there is no memory to note that the call is given
+    /// up. Then nothing was asked. Before it asks, it discards one answer at the thread, as `discard` does. All of this is
+    /// so for each call with a deadline.
     pub fn get_frame_count_within<R: Wait + Clock>(
         &mut self,
         rt: &R,
@@ -118,7 +112,7 @@ impl Env {
         count_in(self.ask_within(rt, alloc, thread, Call::FrameCount, time))
     }
 
-    /// GetFrameLocation (JVM TI 11), but no longer than this.
+    /// GetFrameLocation (JVM TI 11), which waits for at most this time, as `get_frame_count_within` does.
     pub fn get_frame_location_within<R: Wait + Clock>(
         &mut self,
         rt: &R,
@@ -135,7 +129,8 @@ impl Env {
         )
     }
 
-    /// GetStackTrace (JVM TI 11), but no longer than this. 110 also where there is no memory for the frames.
+    /// GetStackTrace (JVM TI 11), which waits for at most this time, as `get_frame_count_within` does. 110 OUT_OF_MEMORY
+    /// also if there is no memory for the frames.
     pub fn get_stack_trace_within<R: Wait + Clock>(
         &mut self,
         rt: &R,
@@ -155,8 +150,8 @@ impl Env {
         )
     }
 
-    /// SuspendThread (JVM TI 11), but no longer than this. A suspension that was given up still takes hold if the thread
-    /// comes to it (this profile).
+    /// SuspendThread (JVM TI 11), which waits for at most this time, as `get_frame_count_within` does. A suspension that was
+    /// given up still suspends the thread when the thread reaches it (this profile).
     pub fn suspend_thread_within<R: Wait + Clock>(
         &mut self,
         rt: &R,
@@ -169,8 +164,8 @@ impl Env {
         done_in(self.ask_within(rt, alloc, thread, Call::Suspend, time))
     }
 
-    /// PopFrame (JVM TI 11), but no longer than this. A pop that was given up still takes place if the thread comes to it
-    /// (this profile).
+    /// PopFrame (JVM TI 11), which waits for at most this time, as `get_frame_count_within` does. A pop that was given up
+    /// still takes place when the thread reaches it (this profile).
     pub fn pop_frame_within<R: Wait + Clock>(
         &mut self,
         rt: &R,
@@ -183,3 +178,14 @@ impl Env {
         done_in(self.ask_within(rt, alloc, thread, Call::Pop, time))
     }
 }
+
+ghost use Rattle.std.specs.Prelude.{◌≡◌, ◌<◌, ◌≤◌, ◌&&◌, false, length, None, IfErr, OnOk, OnErr};
+ghost use Rattle.ti_types.specs.Answer.{said};
+ghost use Rattle.ti_types.specs.declared.call.Call.TheVariants as call;
+ghost use Rattle.ti_types.specs.declared.error.TiError.TheVariants.{OutOfMemory};
+ghost use Rattle.ti_env.specs.Env.{call_refusal};
+ghost use Rattle.ti_replay.specs.Settling.{waits};
+ghost use Rattle.ti_agent.specs.Buffers.{IsJustBufferOf};
+ghost use Rattle.ti_agent.specs.Env.{is_full};
+ghost use Rattle.ti_agent.specs.Asks.{IsKind, in_count, in_location, in_trace, in_done};
+ghost use Rattle.ti_agent.specs.Deadlines.{Cancels, DiscardsAt, ComesTo, IsCalledWithin};

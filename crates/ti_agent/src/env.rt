@@ -1,16 +1,4 @@
-//! An environment, its desks, and its calls at one thread by JVM TI's names.
-ghost use Rattle.std.specs.Prelude.{◌≡◌, ◌&&◌, ◌↔◌, ◌<◌, length, true, false, None, Some, Ok, IfOk, IfErr, OnOk, OnErr, IsOk};
-ghost use Rattle.ti_types.specs.Answer.{said};
-ghost use Rattle.ti_types.specs.Caps.{caps_with, caps_without, can_be_had, holds_all};
-ghost use Rattle.ti_types.specs.declared.call.Call.TheVariants as call;
-ghost use Rattle.ti_types.specs.declared.error.TiError.TheVariants.{NotAvailable};
-ghost use Rattle.ti_env.specs.Env.{call_refusal, with_caps, with_word};
-ghost use Rattle.ti_replay.specs.Admission.{takes_buffer};
-ghost use Rattle.ti_replay.specs.Settling.{waits};
-ghost use Rattle.ti_agent.specs.Buffers.{IsJustBufferOf};
-ghost use Rattle.ti_agent.specs.Env.{Environment, AreNewDesks, is_full};
-ghost use Rattle.ti_agent.specs.Posts.{Posts};
-ghost use Rattle.ti_agent.specs.Asks.{Went, IsCalled, IsKind, is_for_memory, in_state, in_count, in_word, in_location, in_trace, in_done};
+//! An environment, its desks, and its calls at one thread under their JVM TI names.
 
 use crate::answers::{count_in, done_in, location_in, state_in, trace_in, word_in};
 use std::alloc::Global;
@@ -23,11 +11,50 @@ use ti_slot::Asked;
 use ti_types::{Answer, Call, Caps, EnvNo, Frame, ThreadNo, TiError, TraceBuf};
 
 /// An agent's environment, with a desk at each thread.
+///
+/// A call at a thread may be refused before it reaches the thread, with the first of these errors that fits:
+///
+/// - 99 MUST_POSSESS_CAPABILITY: it needs a capability that the environment does not have.
+/// - 10 INVALID_THREAD: there is no thread of this number.
+/// - 103 ILLEGAL_ARGUMENT: its count or depth is negative.
+/// - 209 CALLS_SPENT (this profile): the environment has no call left at this thread.
+///
+/// Then nothing changes. Otherwise the call spends one call at the thread, and gives the thread's answer, an error included.
+///
+/// # Examples
+///
+/// ```rattle
+/// # use ti_agent::Env;
+/// # use ti_env::EnvState;
+/// # use ti_handshake::{Desk, Fresh, SharedCell};
+/// # use ti_types::{Caps, EnvNo, Kind, Limits, MethodNo, Step, ThreadNo, TiError};
+/// # let (alloc, thread) = (rt.alloc(), ThreadNo(0));
+/// # let limits = Limits::new(1, 1, 4, 16, 8).ok_or("the limits are in range")?;
+/// # let (cell, own, mut seats) = SharedCell::make(alloc, limits, thread)?;
+/// # let seat = seats.pop().ok_or("there is one environment")?;
+/// # let desk = Desk::new(cell.share()?, seat);
+/// # let mut running = Fresh::new(cell, own).start(&rt);
+/// running.step(Step::Enter(MethodNo(3)))?;
+/// let state = EnvState::new(alloc, limits)?;
+/// let mut env = Env::new(EnvNo(0), state, vec![in alloc; desk]?);
+/// // A thread that sleeps answers at once. One that runs answers at its next poll.
+/// let Ok(_asleep) = running.block(&rt, Kind::Sleep) else {
+///     return Err("the thread has 2 left to spend".into());
+/// };
+/// assert!(rt; env.get_frame_count(&rt, thread) == Ok(1));
+/// let trace = env.get_stack_trace(&rt, alloc, thread, 0, 8)?;
+/// assert!(rt; trace.frames().len() == 1 && trace.frames()[0].method == MethodNo(3));
+/// match env.suspend_thread(&rt, thread) {
+///     Err(TiError::MustPossessCapability) => env.add_capabilities(Caps::CAN_SUSPEND)?,
+///     _ => return Err("can_suspend is not held".into()),
+/// }
+/// env.suspend_thread(&rt, thread)?;
+/// ```
 #[derive(Drop)]
 pub struct Env {
     pub(crate) env: EnvNo,
     pub(crate) state: EnvState,
-    /// By the thread's number.
+    /// In the order of the threads' numbers.
     pub(crate) desks: Vec<Desk>,
 }
 
@@ -42,8 +69,8 @@ impl Model for Env {
 }
 
 impl Env {
-    /// An environment of these desks, desk i at thread i. All are under the limits of the state, and none has made a
-    /// call.
+    /// Makes an environment of these desks. Desk i is the one at thread i. All desks are under the limits of the state, and
+    /// none has made a call.
     pub fn new(env: EnvNo, state: EnvState, desks: Vec<Desk>) -> Env
         requires count { length state.spent ≡ length desks.items }
         requires some { 0 < length desks.items }
@@ -56,8 +83,8 @@ impl Env {
         Env { env, state, desks }
     }
 
-    /// Its desks, in the order of the threads' numbers. Their seats may go back to the owners' (`ThreadCell::rejoin`), and
-    /// what the environment kept for itself is gone (JVM TI 11, DisposeEnvironment, in so far).
+    /// The desks of the environment, in the order of the threads' numbers. Their seats may go back to the owners'
+    /// (`ThreadCell::rejoin`). What the environment kept for itself is gone, as after DisposeEnvironment (JVM TI 11).
     pub fn into_desks(self) -> Vec<Desk>
         ensures { result.items ≡ self.desks }
     {
@@ -69,8 +96,8 @@ impl Env {
         desks
     }
 
-    /// Asks the thread a call that was admitted, and waits for its answer if it has to. The buffer has no more room than the
-    /// call takes.
+    /// Asks the thread an admitted call, and waits for its answer if the call has to wait. The buffer has just the room that
+    /// the call takes.
     fn ask_one<R: Wait>(&mut self, rt: &R, thread: ThreadNo, call: Call, buf: TraceBuf) -> Answer
         requires admitted { call_refusal self.old.state thread call ≡ None }
         requires buf { IsJustBufferOf self.old.state.limits call buf }
@@ -91,7 +118,7 @@ impl Env {
         self.state.admit(thread, call)
     }
 
-    /// Whether a call may wait, and as many of the environment's are out at the thread as may be.
+    /// Whether a call may wait while the environment's window at the thread is full.
     pub(crate) fn has_no_room(&self, thread: ThreadNo, call: Call) -> bool
         requires there { thread.0 < length self.now.desks }
         ensures { result ≡ (waits call && is_full self.now thread) }
@@ -99,14 +126,14 @@ impl Env {
         may_wait(call) && self.desks[thread.0 as usize].out() >= self.state.limits().window
     }
 
-    /// Whether these capabilities are held.
+    /// Whether the environment has all of these capabilities.
     pub(crate) fn holds(&self, caps: Caps) -> bool
-        ensures { result ≡ holds_all self.now.state.caps caps }
+        ensures { result ≡ has_all self.now.state.caps caps }
     {
         self.state.caps().has(caps)
     }
 
-    /// Posts a call that was admitted, for which there is room. The buffer has no more room than the call takes.
+    /// Posts an admitted call for which there is room. The buffer has just the room that the call takes.
     pub(crate) fn post_one<R: Wait>(
         &mut self,
         rt: &R,
@@ -135,21 +162,28 @@ impl Env {
         self.ask_one(rt, thread, call, TraceBuf::none())
     }
 
-    /// GetThreadState (JVM TI 11).
+    /// GetThreadState (JVM TI 11): the thread's state bits, in any mode. It never waits.
+    ///
+    /// Errors: 10, 209.
     pub fn get_thread_state<R: Wait>(&mut self, rt: &R, thread: ThreadNo) -> Result<u32, TiError>
         ensures { IsCalled self.old self.new thread call.State (in_state result) }
     {
         state_in(self.ask(rt, thread, Call::State))
     }
 
-    /// GetFrameCount (JVM TI 11).
+    /// GetFrameCount (JVM TI 11): the number of the thread's frames. It waits if the thread runs.
+    ///
+    /// Errors: 10, 209, 15 THREAD_NOT_ALIVE.
     pub fn get_frame_count<R: Wait>(&mut self, rt: &R, thread: ThreadNo) -> Result<u32, TiError>
         ensures { IsCalled self.old self.new thread call.FrameCount (in_count result) }
     {
         count_in(self.ask(rt, thread, Call::FrameCount))
     }
 
-    /// GetFrameLocation (JVM TI 11).
+    /// GetFrameLocation (JVM TI 11): the frame at a depth, 0 for the newest. It waits if the thread runs.
+    ///
+    /// Errors: 10, 103 if `depth` is negative, 209, 15 THREAD_NOT_ALIVE, and 31 NO_MORE_FRAMES if there is no frame at this
+    /// depth.
     pub fn get_frame_location<R: Wait>(
         &mut self,
         rt: &R,
@@ -161,7 +195,12 @@ impl Env {
         location_in(self.ask(rt, thread, Call::Location { depth }), depth)
     }
 
-    /// GetStackTrace (JVM TI 11). 110 where there is no memory for the frames; then nothing was posted.
+    /// GetStackTrace (JVM TI 11): at most `max_count` frames from `start` on, the newest first. A negative `start` counts
+    /// from the oldest frame, -1 for the oldest. It waits if the thread runs.
+    ///
+    /// Errors: 10, 103 if `max_count` is negative, 209, and 110 OUT_OF_MEMORY if there is no memory for the frames. Then
+    /// nothing was posted. From the thread: 15 THREAD_NOT_ALIVE, and 103 if there is no frame at `start`. But 0 fits an
+    /// empty stack.
     pub fn get_stack_trace<R: Wait>(
         &mut self,
         rt: &R,
@@ -182,28 +221,37 @@ impl Env {
         }
     }
 
-    /// SuspendThread (JVM TI 11).
+    /// SuspendThread (JVM TI 11): suspends the thread. It waits if the thread runs, and needs `can_suspend`.
+    ///
+    /// Errors: 99, 10, 209, 15 THREAD_NOT_ALIVE, and 14 THREAD_SUSPENDED if the thread is suspended already.
     pub fn suspend_thread<R: Wait>(&mut self, rt: &R, thread: ThreadNo) -> Result<(), TiError>
         ensures { IsCalled self.old self.new thread call.Suspend (in_done result) }
     {
         done_in(self.ask(rt, thread, Call::Suspend))
     }
 
-    /// ResumeThread (JVM TI 11).
+    /// ResumeThread (JVM TI 11): the thread is no longer suspended. It never waits, and needs `can_suspend`.
+    ///
+    /// Errors: 99, 10, 209, 15 THREAD_NOT_ALIVE, and 13 THREAD_NOT_SUSPENDED.
     pub fn resume_thread<R: Wait>(&mut self, rt: &R, thread: ThreadNo) -> Result<(), TiError>
         ensures { IsCalled self.old self.new thread call.Resume (in_done result) }
     {
         done_in(self.ask(rt, thread, Call::Resume))
     }
 
-    /// PopFrame (JVM TI 11).
+    /// PopFrame (JVM TI 11): the newest frame goes. It waits if the thread runs, and needs `can_pop_frame`.
+    ///
+    /// Errors: 99, 10, 209, 15 THREAD_NOT_ALIVE, 13 THREAD_NOT_SUSPENDED, and 31 NO_MORE_FRAMES if there are fewer than two
+    /// frames. 32 OPAQUE_FRAME if one of the two newest is native.
     pub fn pop_frame<R: Wait>(&mut self, rt: &R, thread: ThreadNo) -> Result<(), TiError>
         ensures { IsCalled self.old self.new thread call.Pop (in_done result) }
     {
         done_in(self.ask(rt, thread, Call::Pop))
     }
 
-    /// GetThreadLocalStorage (JVM TI 11).
+    /// GetThreadLocalStorage (JVM TI 11): the environment's word at the thread, 0 until it is set. It never waits.
+    ///
+    /// Errors: 10, 209, 15 THREAD_NOT_ALIVE.
     pub fn get_thread_local_storage<R: Wait>(
         &mut self,
         rt: &R,
@@ -214,7 +262,9 @@ impl Env {
         word_in(self.ask(rt, thread, Call::GetWord))
     }
 
-    /// SetThreadLocalStorage (JVM TI 11).
+    /// SetThreadLocalStorage (JVM TI 11): sets the environment's word at the thread. It never waits.
+    ///
+    /// Errors: 10, 209, 15 THREAD_NOT_ALIVE.
     pub fn set_thread_local_storage<R: Wait>(
         &mut self,
         rt: &R,
@@ -226,14 +276,14 @@ impl Env {
         done_in(self.ask(rt, thread, Call::SetWord(word)))
     }
 
-    /// GetEnvironmentLocalStorage (JVM TI 11): the environment's own word, 0 until it is set.
+    /// GetEnvironmentLocalStorage (JVM TI 11): the environment's own word, 0 until it is set. It has no error.
     pub fn get_environment_local_storage(&self) -> Result<u64, TiError>
         ensures { result ≡ Ok self.now.state.word }
     {
         Ok(self.state.word())
     }
 
-    /// SetEnvironmentLocalStorage (JVM TI 11).
+    /// SetEnvironmentLocalStorage (JVM TI 11): sets the environment's own word. It has no error.
     pub fn set_environment_local_storage(&mut self, word: u64) -> Result<(), TiError>
         ensures ok { IsOk result }
         ensures set { self.new ≡ record { env = self.old.env; state = with_word self.old.state word; desks = self.old.desks } }
@@ -242,7 +292,8 @@ impl Env {
         Ok(())
     }
 
-    /// AddCapabilities (JVM TI 11): all of them or, with 98, none.
+    /// AddCapabilities (JVM TI 11): adds all of these capabilities. 98 NOT_AVAILABLE if one of them cannot be had. Then
+    /// nothing changes.
     pub fn add_capabilities(&mut self, caps: Caps) -> Result<(), TiError>
         ensures available { IsOk result ↔ (can_be_had caps ≡ true) }
         ensures added { OnOk result (self.new ≡ record { env = self.old.env; state = with_caps self.old.state (caps_with self.old.state.caps caps); desks = self.old.desks }) }
@@ -252,7 +303,8 @@ impl Env {
         self.state.add(caps)
     }
 
-    /// RelinquishCapabilities (JVM TI 11): one that is not held is no error.
+    /// RelinquishCapabilities (JVM TI 11): takes these capabilities away. One that the environment does not have is no
+    /// error.
     pub fn relinquish_capabilities(&mut self, caps: Caps) -> Result<(), TiError>
         ensures ok { IsOk result }
         ensures gone { self.new ≡ record { env = self.old.env; state = with_caps self.old.state (caps_without self.old.state.caps caps); desks = self.old.desks } }
@@ -261,10 +313,23 @@ impl Env {
         Ok(())
     }
 
-    /// GetCapabilities (JVM TI 11).
+    /// GetCapabilities (JVM TI 11): the capabilities that the environment has. It has no error.
     pub fn get_capabilities(&self) -> Result<Caps, TiError>
         ensures { result ≡ Ok self.now.state.caps }
     {
         Ok(self.state.caps())
     }
 }
+
+ghost use Rattle.std.specs.Prelude.{◌≡◌, ◌&&◌, ◌↔◌, ◌<◌, length, true, false, None, Some, Ok, IfOk, IfErr, OnOk, OnErr, IsOk};
+ghost use Rattle.ti_types.specs.Answer.{said};
+ghost use Rattle.ti_types.specs.Caps.{caps_with, caps_without, can_be_had, has_all};
+ghost use Rattle.ti_types.specs.declared.call.Call.TheVariants as call;
+ghost use Rattle.ti_types.specs.declared.error.TiError.TheVariants.{NotAvailable};
+ghost use Rattle.ti_env.specs.Env.{call_refusal, with_caps, with_word};
+ghost use Rattle.ti_replay.specs.Admission.{takes_buffer};
+ghost use Rattle.ti_replay.specs.Settling.{waits};
+ghost use Rattle.ti_agent.specs.Buffers.{IsJustBufferOf};
+ghost use Rattle.ti_agent.specs.Env.{Environment, AreNewDesks, is_full};
+ghost use Rattle.ti_agent.specs.Posts.{Posts};
+ghost use Rattle.ti_agent.specs.Asks.{Went, IsCalled, IsKind, is_for_memory, in_state, in_count, in_word, in_location, in_trace, in_done};

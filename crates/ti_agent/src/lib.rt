@@ -1,20 +1,20 @@
 //! The JVM TI calls of an environment over running threads.
 //!
-//! Below stand `ti_env`, which says what reaches a thread, `ti_handshake`, whose desks the environment keeps, and
-//! `ti_vmop`. Upward this crate promises:
+//! This crate depends on three others. `ti_env` says what reaches a thread, and `ti_handshake` has the desks that the
+//! environment keeps. `ti_vmop` stops threads, reads them and lets them go. The crates above may rely on this:
 //!
 //! - A call that reaches no thread is refused from what the environment itself keeps, and changes nothing.
-//! - Any other adds its one entry to the desk of its thread, spends one call there, and answers what that desk answered.
-//! - A trace of all threads stops each of them before it reads the first, lets none go before it has read the last, and
-//!   takes all of its memory before any stop.
+//! - Any other call adds its one entry at the desk of its thread, and spends one call there. Its answer is the desk's.
+//! - A trace of several threads stops each of them before it reads the first. It lets none go before it has read the last.
+//! - Such a trace takes all of its memory before any stop.
 #![tactic(auto)]
 
 mod answers;
-mod counting;
 mod deadlines;
 mod env;
 mod lists;
 mod posts;
+mod thread_counts;
 mod traces;
 
 pub use env::Env;

@@ -1,12 +1,4 @@
-//! Calls for a list of threads: all are posted, and only then collected.
-ghost use Rattle.std.specs.Prelude.{◌≡◌, ◌≤◌, [], length, vec_capacity, true, false, None, Some, IfOk, IfErr, OnOk, if◌then◌else◌};
-ghost use Rattle.ti_types.specs.Answer.{said};
-ghost use Rattle.ti_types.specs.Call.{needed_by};
-ghost use Rattle.ti_types.specs.Caps.{holds_all};
-ghost use Rattle.ti_types.specs.declared.call.Call.TheVariants as call;
-ghost use Rattle.ti_types.specs.declared.error.TiError.TheVariants.{OutOfMemory, MustPossessCapability};
-ghost use Rattle.ti_replay.specs.Admission.{takes_buffer};
-ghost use Rattle.ti_agent.specs.Lists.{IsPosted, PostsEach, IsCollected, CollectsEach, WentEach, IsOpen, AreOpen, code_of};
+//! Calls for a list of threads: all are posted, and only then the first is collected.
 
 use crate::env::Env;
 use std::alloc::Global;
@@ -14,16 +6,16 @@ use std::sync::Wait;
 use ti_slot::Asked;
 use ti_types::{Answer, Call, ThreadNo, TiError, Ticket, TraceBuf, needs};
 
-/// What came of a call at one thread when it was posted.
+/// The result of posting a call at one thread.
 #[derive(Clone, Copy)]
 pub(crate) enum Posted {
-    /// 0, or the number of its error.
+    /// 0, or the number of the error.
     Code(u32),
-    /// The ticket to collect it by.
+    /// The ticket by which the answer is collected.
     Waits(Ticket),
 }
 
-/// 0, or the number of the error.
+/// The code of an answer: 0, or the number of its error.
 fn code_in(answer: &Answer) -> u32
     ensures { result ≡ code_of (said answer.now) }
 {
@@ -34,7 +26,7 @@ fn code_in(answer: &Answer) -> u32
 }
 
 impl Env {
-    /// Posts a call at a thread, or gives the code of its refusal.
+    /// Posts a call at a thread, or gives the number of the error that refused it.
     fn post_at<R: Wait>(&mut self, rt: &R, thread: ThreadNo, call: Call) -> Posted
         requires bare { takes_buffer call ≡ false }
         ensures posted { IsPosted self.old self.new call thread result }
@@ -71,7 +63,7 @@ impl Env {
         }
     }
 
-    /// The code of a call that was posted, for which it may wait.
+    /// The code of a posted call. It waits for the answer if there is none yet.
     fn collect_at<R: Wait>(&mut self, rt: &R, posted: Posted) -> u32
         requires out { IsOpen self.old posted }
         ensures collected { IsCollected self.old self.new posted result }
@@ -82,7 +74,7 @@ impl Env {
         }
     }
 
-    /// The code of each, in the list's order.
+    /// The code of each posted call, in the list's order.
     fn collect_each<R: Wait>(&mut self, rt: &R, posted: &[Posted], codes: &mut Vec<u32>)
         requires out { AreOpen self.old posted.now }
         requires empty { codes.old.items ≡ [] }
@@ -94,7 +86,7 @@ impl Env {
         }
     }
 
-    /// A call at each thread: posted to all in the list's order, and collected then.
+    /// Posts a call at each thread, in the list's order, and then collects all answers. It gives one code for each element.
     fn call_each<R: Wait>(
         &mut self,
         rt: &R,
@@ -104,8 +96,8 @@ impl Env {
     ) -> Result<Vec<u32>, TiError>
         requires bare { takes_buffer call ≡ false }
         ensures each { IfOk result (λ codes. WentEach self.old self.new call threads.now codes.items) }
-        ensures capable { OnOk result (holds_all self.old.state.caps (needed_by call) ≡ true) }
-        ensures refused { IfErr result (λ e. (e ≡ (if holds_all self.old.state.caps (needed_by call) then OutOfMemory else MustPossessCapability)) × (self.new ≡ self.old)) }
+        ensures capable { OnOk result (has_all self.old.state.caps (needed_by call) ≡ true) }
+        ensures refused { IfErr result (λ e. (e ≡ (if has_all self.old.state.caps (needed_by call) then OutOfMemory else MustPossessCapability)) × (self.new ≡ self.old)) }
     {
         if !self.holds(needs(call)) {
             return Err(TiError::MustPossessCapability);
@@ -117,12 +109,14 @@ impl Env {
         Ok(codes)
     }
 
-    /// SuspendThreadList (JVM TI 11): one code for each element, 0 or the number of its error. All are posted, in the
-    /// list's order, before the first is waited for; a refused element keeps no other from its turn. It spends one call
-    /// for each element that reaches its thread. An element's number is 110 if `window` calls of this environment are out
-    /// at its thread, those of the list included; such an element does not reach it.
+    /// SuspendThreadList (JVM TI 11): one code for each element, 0 or the number of its error. All elements are posted, in
+    /// the list's order, before it waits for the first. A refused element does not stop those after it.
     ///
-    /// 99 MUST_POSSESS_CAPABILITY and then 110 OUT_OF_MEMORY for the whole call; then nothing was posted.
+    /// It spends one call for each element that reaches its thread. An element's code is 110 OUT_OF_MEMORY if `window` calls
+    /// of this environment are out at its thread, those of the list included. Such an element does not reach its thread.
+    ///
+    /// The whole call is refused with 99 MUST_POSSESS_CAPABILITY, and then with 110 if there is no memory for the codes.
+    /// Then nothing was posted.
     pub fn suspend_thread_list<R: Wait>(
         &mut self,
         rt: &R,
@@ -130,13 +124,13 @@ impl Env {
         threads: &[ThreadNo],
     ) -> Result<Vec<u32>, TiError>
         ensures each { IfOk result (λ codes. WentEach self.old self.new call.Suspend threads.now codes.items) }
-        ensures capable { OnOk result (holds_all self.old.state.caps (needed_by call.Suspend) ≡ true) }
-        ensures refused { IfErr result (λ e. (e ≡ (if holds_all self.old.state.caps (needed_by call.Suspend) then OutOfMemory else MustPossessCapability)) × (self.new ≡ self.old)) }
+        ensures capable { OnOk result (has_all self.old.state.caps (needed_by call.Suspend) ≡ true) }
+        ensures refused { IfErr result (λ e. (e ≡ (if has_all self.old.state.caps (needed_by call.Suspend) then OutOfMemory else MustPossessCapability)) × (self.new ≡ self.old)) }
     {
         self.call_each(rt, alloc, Call::Suspend, threads)
     }
 
-    /// ResumeThreadList (JVM TI 11), as `suspend_thread_list`.
+    /// ResumeThreadList (JVM TI 11): one code for each element. Everything else is as for `suspend_thread_list`.
     pub fn resume_thread_list<R: Wait>(
         &mut self,
         rt: &R,
@@ -144,9 +138,18 @@ impl Env {
         threads: &[ThreadNo],
     ) -> Result<Vec<u32>, TiError>
         ensures each { IfOk result (λ codes. WentEach self.old self.new call.Resume threads.now codes.items) }
-        ensures capable { OnOk result (holds_all self.old.state.caps (needed_by call.Resume) ≡ true) }
-        ensures refused { IfErr result (λ e. (e ≡ (if holds_all self.old.state.caps (needed_by call.Resume) then OutOfMemory else MustPossessCapability)) × (self.new ≡ self.old)) }
+        ensures capable { OnOk result (has_all self.old.state.caps (needed_by call.Resume) ≡ true) }
+        ensures refused { IfErr result (λ e. (e ≡ (if has_all self.old.state.caps (needed_by call.Resume) then OutOfMemory else MustPossessCapability)) × (self.new ≡ self.old)) }
     {
         self.call_each(rt, alloc, Call::Resume, threads)
     }
 }
+
+ghost use Rattle.std.specs.Prelude.{◌≡◌, ◌≤◌, [], length, vec_capacity, true, false, None, Some, IfOk, IfErr, OnOk, if◌then◌else◌};
+ghost use Rattle.ti_types.specs.Answer.{said};
+ghost use Rattle.ti_types.specs.Call.{needed_by};
+ghost use Rattle.ti_types.specs.Caps.{has_all};
+ghost use Rattle.ti_types.specs.declared.call.Call.TheVariants as call;
+ghost use Rattle.ti_types.specs.declared.error.TiError.TheVariants.{OutOfMemory, MustPossessCapability};
+ghost use Rattle.ti_replay.specs.Admission.{takes_buffer};
+ghost use Rattle.ti_agent.specs.Lists.{IsPosted, PostsEach, IsCollected, CollectsEach, WentEach, IsOpen, AreOpen, code_of};

@@ -1,13 +1,4 @@
-//! Calls that are posted and collected later, so that an agent asks many threads and goes on.
-ghost use Rattle.std.specs.Prelude.{◌≡◌, ◌<◌, ◌≤◌, true, length, None, Some, IfOk, IfErr, if◌then◌else◌};
-ghost use Rattle.std.specs.Option.{option_map};
-ghost use Rattle.ti_types.specs.Answer.{said};
-ghost use Rattle.ti_types.specs.Refusing.{or_else};
-ghost use Rattle.ti_types.specs.declared.error.TiError.TheVariants.{OutOfMemory};
-ghost use Rattle.ti_replay.specs.Admission.{takes_buffer};
-ghost use Rattle.ti_replay.specs.Legal.{is_well_formed};
-ghost use Rattle.ti_agent.specs.Buffers.{IsJustBufferOf};
-ghost use Rattle.ti_agent.specs.Posts.{posting_refusal, Posts, Collects, LooksFor, WaitsFor, IsOut, IsOutIfWaiting};
+//! Calls that are posted and collected later, so that an agent can ask many threads before it waits.
 
 use crate::env::Env;
 use std::alloc::Global;
@@ -17,7 +8,7 @@ use std::time::Duration;
 use ti_slot::Asked;
 use ti_types::{Answer, Call, Limits, ThreadNo, TiError, Ticket, TraceBuf};
 
-/// The buffer that a call takes.
+/// Makes the buffer that a call takes. 110 OUT_OF_MEMORY if a trace's buffer cannot be had. Other calls take none.
 pub(crate) fn buffer_for(alloc: Global, limits: Limits, call: Call) -> Result<TraceBuf, TiError>
     requires { is_well_formed call ≡ true }
     ensures room { IfOk result (λ b. IsJustBufferOf limits call b) }
@@ -33,15 +24,21 @@ pub(crate) fn buffer_for(alloc: Global, limits: Limits, call: Call) -> Result<Tr
 }
 
 impl Env {
-    /// Posts a call at a thread, by one hold: its answer, or a ticket if it waits for the running thread (JEP 312). Such
-    /// are the calls that read frames, SuspendThread and PopFrame. It spends one call, also if its answer is never
-    /// collected. Other calls of this environment go on beside it.
+    /// Posts a call at a thread, by one hold. It gives the answer, or a ticket if the call waits for the running thread (JEP
+    /// 312). The calls that read frames wait, and so do SuspendThread and PopFrame. It spends one call, also if the answer
+    /// is never collected. The environment may make other calls meanwhile.
     ///
-    /// The answer is the thread's own, an error included: 13, 14, 15, 31, 32, and 103 for a trace's start (JVM TI 11).
+    /// The answer is the thread's own, an error included: 13, 14, 15, 31, 32, and 103 for a trace's `start` (JVM TI 11).
     ///
-    /// Refused before it reaches the thread with 99 MUST_POSSESS_CAPABILITY, 10 INVALID_THREAD, 103 ILLEGAL_ARGUMENT for a
-    /// negative count or depth, 209 (this profile) if the environment has no call left there, and then 110 OUT_OF_MEMORY
-    /// if the call may wait and `window` are out there, and for a trace's frames. Then nothing changes.
+    /// Some calls are refused before they reach the thread, with the first of these that fits:
+    ///
+    /// - 99 MUST_POSSESS_CAPABILITY: it needs a capability that the environment does not have.
+    /// - 10 INVALID_THREAD: there is no thread of this number.
+    /// - 103 ILLEGAL_ARGUMENT: its count or depth is negative.
+    /// - 209 CALLS_SPENT (this profile): the environment has no call left at this thread.
+    /// - 110 OUT_OF_MEMORY: the call may wait and `window` calls are out there, or there is no memory for a trace's frames.
+    ///
+    /// Then nothing changes.
     pub fn post<R: Wait>(
         &mut self,
         rt: &R,
@@ -67,10 +64,11 @@ impl Env {
         }
     }
 
-    /// The answer to a call that was posted, by one hold, if it is there: the reply of the thread's history to the ticket.
-    /// The ticket is out no more then, so that it is answered once.
+    /// The answer to a posted call, by one hold, if it is there. It is the reply of the thread's history to the ticket. The
+    /// ticket is then no longer out, so it is answered once.
     ///
-    /// `None` while the answer is not there, and for a ticket that is not out at this environment. Then nothing changes.
+    /// `None` while the answer is not there, and for a ticket that is not out at this environment. Then nothing is
+    /// collected.
     pub fn try_collect<R: Wait>(&mut self, rt: &R, ticket: Ticket) -> Option<Answer>
         ensures looks { ticket.thread.0 < length self.old.desks → LooksFor self.old self.new ticket (option_map said result) }
         ensures nobody { length self.old.desks ≤ ticket.thread.0 → (self.new ≡ self.old) × (result ≡ None) }
@@ -82,10 +80,10 @@ impl Env {
         self.desks[at].try_collect(rt, ticket)
     }
 
-    /// The same, by holds until the answer is there or the time is over. Meanwhile it sleeps.
+    /// The answer to a posted call, as `try_collect` gives it. It waits for at most this time, and sleeps between its holds.
     ///
-    /// `None` when the time is over, or the clock can't be read. Then the ticket is out as before, so that a call can be
-    /// given more time, or be left. A ticket that is not out at this environment is waited for in vain.
+    /// `None` when the time is over, or if the clock can't be read. The ticket is then out as before, so the call can be
+    /// given more time. For a ticket that is not out at this environment, it waits in vain.
     pub fn collect_within<R: Wait + Clock>(
         &mut self,
         rt: &R,
@@ -102,7 +100,8 @@ impl Env {
         self.desks[at].collect_within(rt, ticket, time)
     }
 
-    /// The answer to a call that was posted and not collected, for which it may wait. The ticket is out no more then.
+    /// The answer to a posted call that was not collected. It waits until the answer is there. The ticket is then no longer
+    /// out.
     pub fn collect<R: Wait>(&mut self, rt: &R, ticket: Ticket) -> Answer
         requires out { IsOut self.old ticket }
         ensures collects { Collects self.old self.new ticket (said result) }
@@ -110,3 +109,13 @@ impl Env {
         self.desks[ticket.thread.0 as usize].collect(rt, ticket)
     }
 }
+
+ghost use Rattle.std.specs.Prelude.{◌≡◌, ◌<◌, ◌≤◌, true, length, None, Some, IfOk, IfErr, if◌then◌else◌};
+ghost use Rattle.std.specs.Option.{option_map};
+ghost use Rattle.ti_types.specs.Answer.{said};
+ghost use Rattle.ti_types.specs.Refusing.{or_else};
+ghost use Rattle.ti_types.specs.declared.error.TiError.TheVariants.{OutOfMemory};
+ghost use Rattle.ti_replay.specs.Admission.{takes_buffer};
+ghost use Rattle.ti_replay.specs.Legal.{is_well_formed};
+ghost use Rattle.ti_agent.specs.Buffers.{IsJustBufferOf};
+ghost use Rattle.ti_agent.specs.Posts.{posting_refusal, Posts, Collects, LooksFor, WaitsFor, IsOut, IsOutIfWaiting};

@@ -1,19 +1,9 @@
 //! Stack traces of several threads at once, under one turn.
-ghost use Rattle.std.specs.Prelude.{◌≡◌, ◌≤◌, ◌∷◌, true, [], length, vec_capacity, Some, None, IfOk, IfErr, OnOk, OnErr};
-ghost use Rattle.ti_types.specs.Answer.{said};
-ghost use Rattle.ti_types.specs.Numbers.{is_not_negative};
-ghost use Rattle.ti_types.specs.declared.error.TiError.TheVariants.{OutOfMemory};
-ghost use Rattle.ti_types.specs.Refusing.{or_else};
-ghost use Rattle.ti_types.specs.declared.limits.Limits.{Limits};
-ghost use Rattle.ti_vmop.specs.Turns.{AreThere, are_paid, with_reads};
-ghost use Rattle.ti_agent.specs.Buffers.{AreRoomy};
-ghost use Rattle.ti_agent.specs.Env.{IsWhole};
-ghost use Rattle.ti_agent.specs.Traces.{are_there, each_once, is_stack, told_info, told_stack, refusal_of_all, refusal_of_list, refusal_of_counted, AreHeld, AreLeft, AreListed, HasRead, IsListRefused, IsTraced, TracesAlive};
 
-use crate::counting::{
+use crate::env::Env;
+use crate::thread_counts::{
     all_threads, all_with_one_read, are_all_paid, are_all_there, count_each, counted_threads,
 };
-use crate::env::Env;
 use std::alloc::Global;
 use std::sync::{Mutex, Wait};
 use ti_env::EnvState;
@@ -21,7 +11,8 @@ use ti_handshake::Desk;
 use ti_types::{Answer, EnvNo, StackInfo, ThreadNo, TiError, TraceBuf};
 use ti_vmop::{Round, Standing, VmTurn, stop_all};
 
-/// This many empty buffers, with just the room for `max_count` frames or, if that is less, for the depth.
+/// Makes `count` empty buffers. Each has room for the lesser of `max_count` frames and the depth limit. 110 OUT_OF_MEMORY if
+/// there is no memory for them.
 fn buffers(
     alloc: Global,
     count: usize,
@@ -40,7 +31,7 @@ fn buffers(
     Ok(bufs)
 }
 
-/// What the answer to a read tells of a thread.
+/// The state and the frames of a thread, from the answer to a read.
 fn told_of(thread: ThreadNo, answer: Answer) -> StackInfo
     requires stack { is_stack (said answer) ≡ true }
     ensures told { told_info result ∷ [] ≡ told_stack thread (said answer) }
@@ -56,7 +47,7 @@ fn told_of(thread: ThreadNo, answer: Answer) -> StackInfo
     }
 }
 
-/// Reads each thread of a list of those that stand, in the list's order, and keeps what it tells.
+/// Reads each thread of a list, in the list's order, and keeps each answer. All of them are standing.
 fn read_each<R: Wait>(
     rt: &R,
     standing: &mut Standing<'_, '_>,
@@ -67,7 +58,7 @@ fn read_each<R: Wait>(
     bufs: Vec<TraceBuf>,
     infos: &mut Vec<StackInfo>,
 )
-    requires held { AreHeld (record { env = standing.old.env; state = state.old; desks = desks.old }) standing.old.threads }
+    requires held { AreStopped (record { env = standing.old.env; state = state.old; desks = desks.old }) standing.old.threads }
     requires there { AreThere (length desks.old) standing.old.threads }
     requires listed { AreListed standing.old.threads threads.now }
     requires none { standing.old.reads ≡ 0 }
@@ -76,7 +67,7 @@ fn read_each<R: Wait>(
     requires bufs { (length bufs.items ≡ length threads.now) × AreRoomy state.old.limits max_count bufs.items }
     requires empty { infos.old.items ≡ [] }
     requires room { length threads.now ≤ vec_capacity infos.old }
-    ensures held { AreHeld (record { env = standing.old.env; state = state.new; desks = desks.new }) standing.old.threads }
+    ensures held { AreStopped (record { env = standing.old.env; state = state.new; desks = desks.new }) standing.old.threads }
     ensures reads { HasRead (record { env = standing.old.env; state = state.old; desks = desks.old }) (record { env = standing.old.env; state = state.new; desks = desks.new }) max_count threads.now infos.new.items }
     ensures standing { standing.new ≡ with_reads standing.old (length threads.now) }
 {
@@ -92,7 +83,7 @@ fn read_each<R: Wait>(
     }
 }
 
-/// Stops the threads of a list, each once, reads each as often as it is in the list, and lets them go.
+/// Stops each thread of a list once, reads it as often as it is in the list, and lets all go.
 fn trace_each<R: Wait>(
     rt: &R,
     turn: &mut VmTurn,
@@ -134,7 +125,8 @@ fn trace_each<R: Wait>(
 }
 
 impl Env {
-    /// How many threads there are, where all may be traced but for memory.
+    /// How many threads there are, if all may be traced. It does not try the memory. 103 ILLEGAL_ARGUMENT if `max_count` is
+    /// negative, and 209 CALLS_SPENT if a thread has fewer than two calls left.
     fn admit_all(&self, max_count: i32) -> Result<u32, TiError>
         ensures count { IfOk result (λ n. n ≡ length self.now.state.spent) }
         ensures desks { IfOk result (λ n. n ≡ length self.now.desks) }
@@ -151,7 +143,8 @@ impl Env {
         Ok(count)
     }
 
-    /// Whether the threads of a list may be traced, but for what is left to them and memory.
+    /// Whether the threads of a list may be traced. It tries neither their calls nor the memory. 10 INVALID_THREAD if one of
+    /// the list is no thread, and 103 ILLEGAL_ARGUMENT if `max_count` is negative.
     fn admit_list(&self, threads: &[ThreadNo], max_count: i32) -> Result<(), TiError>
         ensures admitted { OnOk result (refusal_of_list self.now.state threads.now max_count ≡ None) }
         ensures refused { IfErr result (λ e. refusal_of_list self.now.state threads.now max_count ≡ Some e) }
@@ -165,8 +158,8 @@ impl Env {
         Ok(())
     }
 
-    /// Traces the threads of a list, each of which is stopped once, with all memory taken before. 110 where there is none,
-    /// and then nothing has changed.
+    /// Traces the threads of a list, and stops each of them once. All memory is taken before any stop. 110 OUT_OF_MEMORY if
+    /// there is none; then nothing has changed.
     fn trace<R: Wait>(
         &mut self,
         rt: &R,
@@ -202,14 +195,20 @@ impl Env {
         Ok((infos, round))
     }
 
-    /// GetAllStackTraces (JVM TI 11): what is told of the threads that are alive, in the order of their numbers, with at
-    /// most `max_count` of the newest frames of each, and the round that was made. All threads are stopped before the
-    /// first is read, and all are read before the first is let go, under the turn, for which it waits. It spends two
-    /// calls at each thread: one for its stop and one for its read.
+    /// GetAllStackTraces (JVM TI 11): the state and frames of each thread that is alive, in the order of their numbers.
+    /// There are at most `max_count` frames of each, the newest first. Also given is the round that was made.
     ///
-    /// The errors, in this order, all before any stop: 103 ILLEGAL_ARGUMENT, where `max_count` is negative; 209
-    /// CALLS_SPENT, where a thread has fewer than two calls left; 110 OUT_OF_MEMORY, where there is no memory for what
-    /// is told. Then nothing has changed. The order, and that no memory is taken while threads stand, is this profile's.
+    /// It waits for the turn. Under it, all threads are stopped before the first is read. All are read before the first is
+    /// let go. It spends two calls at each thread: one for its stop and one for its read.
+    ///
+    /// The errors, in this order, all before any stop:
+    ///
+    /// - 103 ILLEGAL_ARGUMENT: `max_count` is negative.
+    /// - 209 CALLS_SPENT: a thread has fewer than two calls left.
+    /// - 110 OUT_OF_MEMORY: there is no memory for the result.
+    ///
+    /// Then nothing has changed. The order of the errors is this profile's. So is the rule that no memory is taken while
+    /// threads are standing.
     pub fn get_all_stack_traces<R: Wait>(
         &mut self,
         rt: &R,
@@ -230,17 +229,23 @@ impl Env {
         Ok((infos, round))
     }
 
-    /// GetThreadListStackTraces (JVM TI 11): what is told of each thread of a list, in the list's order, with at most
-    /// `max_count` of the newest frames of each, and the round that was made. A thread that is not alive has no frames. One
-    /// that is in the list more than once is stopped once, and read and told of as often as it is there. All are
-    /// stopped before the first is read, and all are read before the first is let go, under the turn, for which it
-    /// waits. It spends a call at each thread for its stop, and one for each of its reads.
+    /// GetThreadListStackTraces (JVM TI 11): the state and frames of each thread of a list, in the list's order. There are
+    /// at most `max_count` frames of each, the newest first. Also given is the round that was made.
     ///
-    /// The errors, in this order, all before any stop: 10 INVALID_THREAD, where one of the list is no thread; 103
-    /// ILLEGAL_ARGUMENT, where `max_count` is negative; 110 OUT_OF_MEMORY, where there is no memory to count how often
-    /// each thread is in the list; 209 CALLS_SPENT, where a thread has fewer calls left than it would cost; 110 where
-    /// there is no memory for what is told. Then nothing has changed. The order, that a thread is told of more than
-    /// once, and that no memory is taken while threads stand, is this profile's.
+    /// A thread that is not alive has no frames. A thread that is in the list more than once is stopped once, and read for
+    /// each element. It waits for the turn. Under it, all threads are stopped before the first is read. All are read before
+    /// the first is let go. It spends one call at each thread for its stop, and one for each of its reads.
+    ///
+    /// The errors, in this order, all before any stop:
+    ///
+    /// - 10 INVALID_THREAD: one of the list is no thread.
+    /// - 103 ILLEGAL_ARGUMENT: `max_count` is negative.
+    /// - 110 OUT_OF_MEMORY: there is no memory to count how often each thread is in the list.
+    /// - 209 CALLS_SPENT: a thread has fewer calls left than its stop and its reads cost.
+    /// - 110 OUT_OF_MEMORY: there is no memory for the result.
+    ///
+    /// Then nothing has changed. This profile chose the order of the errors, and that a repeated thread is reported again.
+    /// It also chose that no memory is taken while threads are standing.
     pub fn get_thread_list_stack_traces<R: Wait>(
         &mut self,
         rt: &R,
@@ -261,3 +266,14 @@ impl Env {
         self.trace(rt, alloc, turn, &stopping, threads, max_count)
     }
 }
+
+ghost use Rattle.std.specs.Prelude.{◌≡◌, ◌≤◌, ◌∷◌, true, [], length, vec_capacity, Some, None, IfOk, IfErr, OnOk, OnErr};
+ghost use Rattle.ti_types.specs.Answer.{said};
+ghost use Rattle.ti_types.specs.Numbers.{is_not_negative};
+ghost use Rattle.ti_types.specs.declared.error.TiError.TheVariants.{OutOfMemory};
+ghost use Rattle.ti_types.specs.Refusing.{or_else};
+ghost use Rattle.ti_types.specs.declared.limits.Limits.{Limits};
+ghost use Rattle.ti_vmop.specs.Turns.{AreThere, are_paid, with_reads};
+ghost use Rattle.ti_agent.specs.Buffers.{AreRoomy};
+ghost use Rattle.ti_agent.specs.Env.{IsWhole};
+ghost use Rattle.ti_agent.specs.Traces.{are_there, each_once, is_stack, told_info, told_stack, refusal_of_all, refusal_of_list, refusal_of_counted, AreStopped, AreLeft, AreListed, HasRead, IsListRefused, IsTraced, TracesAlive};

@@ -9,7 +9,7 @@ use Rattle.ti_cell.proofs.Goes.{spent_more}
 use Rattle.ti_slot.specs.declared.asked.Asked.{Asked}
 use Rattle.ti_slot.specs.declared.asked.Asked.TheVariants.{Answered, Waiting}
 use Rattle.ti_handshake.specs.Call.{GoesOn, next_call, ticket_told}
-use Rattle.ti_handshake.specs.Desk.{Place, IsSame}
+use Rattle.ti_handshake.specs.Desk.{DeskState, IsSame}
 use Rattle.ti_agent_tests.specs.HandOvers.{MayCall}
 
 -- what is told is one ticket at most
@@ -18,7 +18,7 @@ told_one old (Answered a) = omega (arith, length-append old [])
 told_one old (Waiting k) = omega (arith, length-append old (k ∷ []))
 
 -- one call was spent
-pub one_less : (old new : Place) (call : Call) (cell : TableId) (left : ℕ) → IsSame old new → GoesOn old.view new.view → new.view.mine ≡ old.view.mine ++ next_call old.view old.env call ∷ []
+pub one_less : (old new : DeskState) (call : Call) (cell : TableId) (left : ℕ) → IsSame old new → GoesOn old.view new.view → new.view.mine ≡ old.view.mine ++ next_call old.view old.env call ∷ []
     → length new.view.posted ≤ length old.view.posted + 1 → MayCall cell (left + 1) old → MayCall cell left new
 one_less old new call cell left is goes mine posted may =
     let spent : calls_spent new.env new.view.mine ≡ calls_spent old.env old.view.mine + 1 = (λ i. calls_spent (is.env i) (mine i)) ∙ spent_more old.env old.view.mine _ _ in
@@ -29,7 +29,7 @@ one_less old new call cell left is goes mine posted may =
     record { here = is.cell ∙ may.here; left = omega (arith, spent, limits, left_is); room = omega (arith, posted, window, room_is) }
 
 -- none was spent
-pub none_less : (old new : Place) (cell : TableId) (left : ℕ) → IsSame old new → GoesOn old.view new.view → new.view.mine ≡ old.view.mine ++ [] → length new.view.posted ≤ length old.view.posted → MayCall cell left old
+pub none_less : (old new : DeskState) (cell : TableId) (left : ℕ) → IsSame old new → GoesOn old.view new.view → new.view.mine ≡ old.view.mine ++ [] → length new.view.posted ≤ length old.view.posted → MayCall cell left old
     → MayCall cell left new
 none_less old new cell left is goes mine posted may =
     let spent : calls_spent new.env new.view.mine ≡ calls_spent old.env old.view.mine = (λ i. calls_spent (is.env i) (mine i)) ∙ ap (calls_spent old.env) (append-nil old.view.mine) in

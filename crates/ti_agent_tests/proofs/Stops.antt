@@ -24,20 +24,20 @@ use Rattle.ti_cell.specs.declared.view.View.{View}
 use Rattle.ti_cell.specs.Seats.{Sitting}
 use Rattle.ti_cell.specs.View.{newcomer, subject_of}
 use Rattle.ti_handshake.specs.Call.{Holds}
-use Rattle.ti_handshake.specs.Desk.{Place, IsSame}
+use Rattle.ti_handshake.specs.Desk.{DeskState, IsSame}
 use Rattle.ti_replay.specs.Fronts.{stops_by}
 use Rattle.ti_vmop.specs.Turns.{Listed, is_listed, are_paid, spend_all, AtEach, AllStand, MayRead}
 use Rattle.ti_agent.specs.Env.{Environment, IsDesk, IsWhole, AreNewDesks}
-use Rattle.ti_agent.specs.Traces.{AreHeld, AreLeft, ReadsOne, each_once, are_there}
+use Rattle.ti_agent.specs.Traces.{AreStopped, AreLeft, ReadsOne, each_once, are_there}
 use Rattle.ti_agent.proofs.Tracing.{limits_all, left_in, left_one, left_then, distinct_in, there_in, held_after_stops, held_after_read, may_read}
 use Rattle.ti_agent_tests.specs.HandOvers.{MayCall}
 
 -- desks that have made no call
-pub new_whole : (env : EnvNo) (state : EnvValue) (desks : List Place) → length state.spent ≡ length desks → 0 < length desks → AreNewDesks env state desks
-    → ((i : ℕ) (p : Place) → slice_get desks i ≡ Some p → p.view.posted ≡ []) → IsWhole (record { env = env; state = state; desks = desks })
+pub new_whole : (env : EnvNo) (state : EnvValue) (desks : List DeskState) → length state.spent ≡ length desks → 0 < length desks → AreNewDesks env state desks
+    → ((i : ℕ) (p : DeskState) → slice_get desks i ≡ Some p → p.view.posted ≡ []) → IsWhole (record { env = env; state = state; desks = desks })
 new_whole env state desks count some are none_out = record { count = count; some = some; desks = one }
   where
-    one : (i : ℕ) (p : Place) → slice_get desks i ≡ Some p → IsDesk (record { env = env; state = state; desks = desks }) i p
+    one : (i : ℕ) (p : DeskState) → slice_get desks i ≡ Some p → IsDesk (record { env = env; state = state; desks = desks }) i p
     one i p at =
         let a = are i p at in
         let none : calls_spent p.env p.view.mine ≡ 0 = ap (calls_spent p.env) a.2 in
@@ -49,16 +49,16 @@ new_whole env state desks count some are none_out = record { count = count; some
           within = omega (arith, ap (λ (l : List Ticket). length l) (none_out i p at));
         }
 
-some_same : (x y : Place) → Some x ≡ Some y → x ≡ y
+some_same : (x y : DeskState) → Some x ≡ Some y → x ≡ y
 some_same x y e = cc
 
 -- a desk after a new seat of environment 0
-pub record IsNewDesk (limits : Limits) (thread : ThreadNo) (seat : Sitting) (p : Place) : Type 0 where
+pub record IsNewDesk (limits : Limits) (thread : ThreadNo) (seat : Sitting) (p : DeskState) : Type 0 where
   pub seat_is : seat.view ≡ newcomer (subject_of limits thread) 1 0
   pub number : p.env.0 + 1 ≡ seat.view.number
   pub view : p.view ≡ seat.view
 
-new_desk : (limits : Limits) (i : ℕ) (seat : Sitting) (p : Place) (state : EnvValue) → state.limits ≡ limits → IsNewDesk limits (record { 0 = i }) seat p
+new_desk : (limits : Limits) (i : ℕ) (seat : Sitting) (p : DeskState) (state : EnvValue) → state.limits ≡ limits → IsNewDesk limits (record { 0 = i }) seat p
     → (p.env ≡ record { 0 = 0 }) × (p.view.subject ≡ subject_of state.limits (record { 0 = i })) × (p.view.mine ≡ [])
 new_desk limits i seat p state same is =
     let view : p.view ≡ newcomer (subject_of limits (record { 0 = i })) 1 0 = is.view ∙ is.seat_is in
@@ -70,7 +70,7 @@ new_desk limits i seat p state same is =
     )
 
 -- nothing of it is out
-new_out : (limits : Limits) (i : ℕ) (seat : Sitting) (p : Place) → IsNewDesk limits (record { 0 = i }) seat p → p.view.posted ≡ []
+new_out : (limits : Limits) (i : ℕ) (seat : Sitting) (p : DeskState) → IsNewDesk limits (record { 0 = i }) seat p → p.view.posted ≡ []
 new_out limits i seat p is = ap (λ (v : View). v.posted) (is.view ∙ is.seat_is)
 
 new_spent : (state : EnvValue) (limits : Limits) → state ≡ new_env limits → length state.spent ≡ limits.threads
@@ -81,45 +81,45 @@ pub made : (r : Result EnvValue TiError) (limits : Limits) (state : EnvValue) �
 made (Ok s) limits state is new = let same : state ≡ s = cc in same ∙ new
 made (Err e) limits state is new = cc
 
-pub one_whole : (limits : Limits) (state : EnvValue) (seat : Sitting) (p : Place) → limits.threads ≡ 1 → state ≡ new_env limits → IsNewDesk limits (record { 0 = 0 }) seat p
+pub one_whole : (limits : Limits) (state : EnvValue) (seat : Sitting) (p : DeskState) → limits.threads ≡ 1 → state ≡ new_env limits → IsNewDesk limits (record { 0 = 0 }) seat p
     → IsWhole (record { env = record { 0 = 0 }; state = state; desks = p ∷ [] })
 one_whole limits state seat p threads is new =
     new_whole (record { 0 = 0 }) state (p ∷ []) (new_spent state limits is ∙ threads) (omega arith) are none_out
   where
-    none_out : (i : ℕ) (q : Place) → slice_get (p ∷ []) i ≡ Some q → q.view.posted ≡ []
-    none_out zero q at = subst (λ (x : Place). x.view.posted ≡ []) (some_same p q at) (new_out limits 0 seat p new)
+    none_out : (i : ℕ) (q : DeskState) → slice_get (p ∷ []) i ≡ Some q → q.view.posted ≡ []
+    none_out zero q at = subst (λ (x : DeskState). x.view.posted ≡ []) (some_same p q at) (new_out limits 0 seat p new)
     none_out (suc i) q at = absurd (none at)
       where
         none : slice_get [] i ≡ Some q → ⊥
         none e = cc
 
     are : AreNewDesks (record { 0 = 0 }) state (p ∷ [])
-    are zero q at = subst (λ (x : Place). (x.env ≡ record { 0 = 0 }) × (x.view.subject ≡ subject_of state.limits (record { 0 = 0 })) × (x.view.mine ≡ [])) (some_same p q at) (new_desk limits 0 seat p state (ap (λ (s : EnvValue). s.limits) is) new)
+    are zero q at = subst (λ (x : DeskState). (x.env ≡ record { 0 = 0 }) × (x.view.subject ≡ subject_of state.limits (record { 0 = 0 })) × (x.view.mine ≡ [])) (some_same p q at) (new_desk limits 0 seat p state (ap (λ (s : EnvValue). s.limits) is) new)
     are (suc i) q at = absurd (none at)
       where
         none : slice_get [] i ≡ Some q → ⊥
         none e = cc
 
-pub two_new : (limits : Limits) (state : EnvValue) (one two : Sitting) (p r : Place) → state ≡ new_env limits → IsNewDesk limits (record { 0 = 0 }) one p → IsNewDesk limits (record { 0 = 1 }) two r
+pub two_new : (limits : Limits) (state : EnvValue) (one two : Sitting) (p r : DeskState) → state ≡ new_env limits → IsNewDesk limits (record { 0 = 0 }) one p → IsNewDesk limits (record { 0 = 1 }) two r
     → AreNewDesks (record { 0 = 0 }) state (p ∷ r ∷ [])
 two_new limits state one two p r is first second = are
   where
     are : AreNewDesks (record { 0 = 0 }) state (p ∷ r ∷ [])
-    are zero q at = subst (λ (x : Place). (x.env ≡ record { 0 = 0 }) × (x.view.subject ≡ subject_of state.limits (record { 0 = 0 })) × (x.view.mine ≡ [])) (some_same p q at) (new_desk limits 0 one p state (ap (λ (s : EnvValue). s.limits) is) first)
-    are (suc zero) q at = subst (λ (x : Place). (x.env ≡ record { 0 = 0 }) × (x.view.subject ≡ subject_of state.limits (record { 0 = 1 })) × (x.view.mine ≡ [])) (some_same r q at) (new_desk limits 1 two r state (ap (λ (s : EnvValue). s.limits) is) second)
+    are zero q at = subst (λ (x : DeskState). (x.env ≡ record { 0 = 0 }) × (x.view.subject ≡ subject_of state.limits (record { 0 = 0 })) × (x.view.mine ≡ [])) (some_same p q at) (new_desk limits 0 one p state (ap (λ (s : EnvValue). s.limits) is) first)
+    are (suc zero) q at = subst (λ (x : DeskState). (x.env ≡ record { 0 = 0 }) × (x.view.subject ≡ subject_of state.limits (record { 0 = 1 })) × (x.view.mine ≡ [])) (some_same r q at) (new_desk limits 1 two r state (ap (λ (s : EnvValue). s.limits) is) second)
     are (suc (suc i)) q at = absurd (none at)
       where
         none : slice_get [] i ≡ Some q → ⊥
         none e = cc
 
-pub two_whole : (limits : Limits) (state : EnvValue) (one two : Sitting) (p r : Place) → limits.threads ≡ 2 → state ≡ new_env limits → IsNewDesk limits (record { 0 = 0 }) one p → IsNewDesk limits (record { 0 = 1 }) two r
+pub two_whole : (limits : Limits) (state : EnvValue) (one two : Sitting) (p r : DeskState) → limits.threads ≡ 2 → state ≡ new_env limits → IsNewDesk limits (record { 0 = 0 }) one p → IsNewDesk limits (record { 0 = 1 }) two r
     → IsWhole (record { env = record { 0 = 0 }; state = state; desks = p ∷ r ∷ [] })
 two_whole limits state one two p r threads is first second =
     new_whole (record { 0 = 0 }) state (p ∷ r ∷ []) (new_spent state limits is ∙ threads) (omega arith) (two_new limits state one two p r is first second) none_out
   where
-    none_out : (i : ℕ) (q : Place) → slice_get (p ∷ r ∷ []) i ≡ Some q → q.view.posted ≡ []
-    none_out zero q at = subst (λ (x : Place). x.view.posted ≡ []) (some_same p q at) (new_out limits 0 one p first)
-    none_out (suc zero) q at = subst (λ (x : Place). x.view.posted ≡ []) (some_same r q at) (new_out limits 1 two r second)
+    none_out : (i : ℕ) (q : DeskState) → slice_get (p ∷ r ∷ []) i ≡ Some q → q.view.posted ≡ []
+    none_out zero q at = subst (λ (x : DeskState). x.view.posted ≡ []) (some_same p q at) (new_out limits 0 one p first)
+    none_out (suc zero) q at = subst (λ (x : DeskState). x.view.posted ≡ []) (some_same r q at) (new_out limits 1 two r second)
     none_out (suc (suc i)) q at = absurd (none at)
       where
         none : slice_get [] i ≡ Some q → ⊥
@@ -132,7 +132,7 @@ costs_one env None =
     omega (arith, one)
 costs_one env (Some e) = omega arith
 
-pub stop_tried : (old new : Place) (refusal : Option TiError) (cell : TableId) (left : ℕ) → IsSame old new → Holds old.view new.view (if_none refusal (Stop old.env ∷ [])) → MayCall cell (left + 1) old → MayCall cell left new
+pub stop_tried : (old new : DeskState) (refusal : Option TiError) (cell : TableId) (left : ℕ) → IsSame old new → Holds old.view new.view (if_none refusal (Stop old.env ∷ [])) → MayCall cell (left + 1) old → MayCall cell left new
 stop_tried old new refusal cell left is hold may =
     let more = if_none refusal (Stop old.env ∷ []) in
     let sum : calls_spent new.env new.view.mine ≡ calls_spent old.env old.view.mine + calls_spent old.env more = (λ i. calls_spent (is.env i) (hold.waits.mine i)) ∙ sum_by-append (call_cost old.env) old.view.mine more in
@@ -144,13 +144,13 @@ stop_tried old new refusal cell left is hold may =
 
 -- After the stops of an environment: the threads of a list stand, and there are calls left for these reads
 pub record Stand (old now : Environment) (stopped : Listed) (reads : List ThreadNo) : Type 0 where
-  pub held : AreHeld now stopped
+  pub held : AreStopped now stopped
   pub left : AreLeft now.state reads
   pub limits : now.state.limits ≡ old.state.limits
   pub count : length now.desks ≡ length old.desks
 
 -- threads that are stopped, each once, in the order of their numbers
-pub stops_stand : (s : Environment) (z : EnvValue) (ds : List Place) (stopped : Listed) (reads : List ThreadNo) → IsWhole s → stopped ≡ each_once (length s.desks) reads → are_there (length s.desks) reads ≡ true
+pub stops_stand : (s : Environment) (z : EnvValue) (ds : List DeskState) (stopped : Listed) (reads : List ThreadNo) → IsWhole s → stopped ≡ each_once (length s.desks) reads → are_there (length s.desks) reads ≡ true
     → are_paid s.state stopped ≡ true → z ≡ spend_all s.state stopped → AtEach stopped s.desks ds (λ e. Stop e ∷ []) → AllStand stopped ds → Stand s (record { env = s.env; state = z; desks = ds }) stopped reads
 stops_stand s z ds stopped reads whole is there paid spends each stand = record {
   held = held_after_stops s stopped z ds whole (distinct_in stopped (length s.desks) reads is) (there_in stopped (length s.desks) (length s.desks) reads is refl) paid spends each stand;
@@ -173,7 +173,7 @@ reads_stand old now new stopped t rest m a k listed there one =
 
 -- what the next read requires
 pub stand_may : (old now : Environment) (stopped : Listed) (t : ThreadNo) (rest : List ThreadNo) (m : ℤ) (b : buffer.Trace) (env : EnvNo) → Stand old now stopped (t ∷ rest) → is_listed t.0 stopped ≡ true → env ≡ now.env
-    → HasRoomFor old.state.limits (or_zero m) b → (p : Place) → slice_get now.desks t.0 ≡ Some p → MayRead env now.state p t m b
+    → HasRoomFor old.state.limits (or_zero m) b → (p : DeskState) → slice_get now.desks t.0 ≡ Some p → MayRead env now.state p t m b
 stand_may old now stopped t rest m b env k listed same room p at =
     subst (λ (v : EnvNo). MayRead v now.state p t m b) (sym same)
     (may_read now stopped t p m b k.held listed at (subst (λ (v : Limits). HasRoomFor v (or_zero m) b) (sym k.limits) room))

@@ -1,8 +1,4 @@
 //! Environments at running threads: calls, suspensions, traces.
-ghost use Rattle.std.specs.Prelude.{◌≡◌, ◌+◌, ◌<◌, IfSome};
-ghost use Rattle.ti_cell.specs.View.{subject_of, newcomer};
-ghost use Rattle.ti_cell.specs.Seats.{env_seats};
-ghost use Rattle.ti_agent_tests.specs.Agents.{HasDeskAt, IsNewSeat};
 
 use std::alloc::Global;
 use std::sync::{Mutex, Wait};
@@ -16,13 +12,13 @@ use ti_handshake::{AtSafe, Desk, Fresh, Polled, Running, SharedCell};
 use ti_types::{Caps, EnvNo, Limits, MethodNo, Place, Step, ThreadNo, TiError};
 use ti_vmop::VmTurn;
 
-/// How often a loop turns before it gives up.
+/// How many turns a loop takes at most.
 pub(crate) const TURNS: u32 = 100_000_000;
 
 /// How often the second environment asks for the thread's state.
 const STATES: u32 = 100;
 
-/// The environment of a seat, under limits of one thread. `None` where memory runs out.
+/// The environment of a seat, under limits of one thread. `None` if memory runs out.
 pub(crate) fn environment(
     alloc: Global,
     limits: Limits,
@@ -61,14 +57,14 @@ pub(crate) fn both(
     Some((one, two))
 }
 
-/// Polls until the thread is held. Where that does not come, the thread ends, so that nobody waits for it.
+/// Polls until the thread is held. If that does not happen, the thread ends, so that nobody waits for it.
 pub(crate) fn await_held<R: Wait>(rt: &R, running: Running) -> Option<AtSafe> {
     let mut running = running;
     for _ in 0..TURNS {
         if !running.poll_clear() {
             match running.poll(rt) {
                 Polled::Go(again) => running = again,
-                Polled::Held(safe) => return Some(safe),
+                Polled::Stays(safe) => return Some(safe),
             }
         }
         thread::yield_now();
@@ -90,7 +86,7 @@ fn await_let_go<R: Wait>(rt: &R, held: AtSafe) -> Option<Running> {
     None
 }
 
-/// How many frames the thread has, up to 8: it leaves them.
+/// How many frames the thread has, up to 8. It leaves them.
 fn frames_of(running: &mut Running) -> u32 {
     for frames in 0..8 {
         if running.step(Step::Leave).is_err() {
@@ -100,7 +96,7 @@ fn frames_of(running: &mut Running) -> u32 {
     8
 }
 
-/// What the thread does: it polls until it is held and runs on once it is let go. How many frames it has then.
+/// The thread polls until it is held, and runs on when it may. It gives how many frames the thread has then.
 fn run_thread<R: Wait>(rt: &R, running: Running) -> Option<u32> {
     let held = await_held(rt, running)?;
     let mut running = await_let_go(rt, held)?;
@@ -109,7 +105,7 @@ fn run_thread<R: Wait>(rt: &R, running: Running) -> Option<u32> {
     Some(frames)
 }
 
-/// Whether a global trace tells of the one thread, which is suspended with one frame.
+/// Whether a trace of all threads reports the one thread, which is suspended and has one frame.
 fn is_traced<R: Wait + AllocGlobal>(rt: &R, env: &mut Env) -> bool {
     let turn = Mutex::new(VmTurn::new());
     match env.get_all_stack_traces(rt, rt.alloc(), &turn, 8) {
@@ -124,8 +120,8 @@ fn is_traced<R: Wait + AllocGlobal>(rt: &R, env: &mut Env) -> bool {
     }
 }
 
-/// Whether these are the codes of a list that names the thread, one that there is not, and the thread again. The second
-/// time it is not suspended (13), or it has already ended (15).
+/// Whether these are the codes of a list of the thread, one that does not exist, and the thread again. The second time, the
+/// thread is not suspended (13), or has ended already (15).
 fn are_of_the_resumed(codes: &[u32]) -> bool {
     match codes {
         [first, none, again] => *first == 0 && *none == 10 && (*again == 13 || *again == 15),
@@ -133,8 +129,8 @@ fn are_of_the_resumed(codes: &[u32]) -> bool {
     }
 }
 
-/// What the first environment is told of a thread that runs with two frames, and what it does there: it counts its frames,
-/// suspends it, reads it, pops a frame, and resumes it. The first call whose answer is not the right one.
+/// The first environment inspects a thread that runs with two frames. It counts the frames, suspends the thread, reads it,
+/// pops a frame, and resumes it. The error is the number of the first call with a wrong answer.
 fn inspect<R: Wait + AllocGlobal>(rt: &R, env: Env) -> Result<(), u32> {
     let mut env = env;
     let thread = ThreadNo(0);
@@ -193,8 +189,7 @@ fn inspect<R: Wait + AllocGlobal>(rt: &R, env: Env) -> Result<(), u32> {
     Ok(())
 }
 
-/// What the second environment does meanwhile: it asks for the thread's state, again and again. Whether it was told one
-/// each time.
+/// The second environment asks for the thread's state meanwhile, again and again. It gives whether each call got a state.
 fn watch<R: Wait>(rt: &R, env: Env) -> bool {
     let mut env = env;
     for _ in 0..STATES {
@@ -205,8 +200,8 @@ fn watch<R: Wait>(rt: &R, env: Env) -> bool {
     true
 }
 
-/// A thread runs with two frames, one environment inspects it, and another holds the cell in between: what each came to.
-/// `None` where memory runs out.
+/// A thread runs with two frames. One environment inspects it, and another holds the cell in between. It gives the result of
+/// each, or `None` if memory runs out.
 fn inspected<R: Threads + Wait + Sync + AllocGlobal>(
     rt: &R,
     limits: Limits,
@@ -239,7 +234,8 @@ fn inspected<R: Threads + Wait + Sync + AllocGlobal>(
     Some((frames, told, states))
 }
 
-/// A call that waits is answered at the thread's poll, and to the one that asked, whoever else holds the cell in between.
+/// A call that waits is answered at the thread's poll. The answer goes to the environment that asked, whoever else holds the
+/// cell in between.
 #[test]
 fn an_environment_inspects_a_running_thread(rt: HostRuntime) -> Result<(), Fail> {
     let Some(limits) = Limits::new(1, 2, 4, 16, 128) else {
@@ -253,3 +249,8 @@ fn an_environment_inspects_a_running_thread(rt: HostRuntime) -> Result<(), Fail>
     assert!(rt; states);
     Ok(())
 }
+
+ghost use Rattle.std.specs.Prelude.{◌≡◌, ◌+◌, ◌<◌, IfSome};
+ghost use Rattle.ti_cell.specs.View.{subject_of, newcomer};
+ghost use Rattle.ti_cell.specs.Seats.{env_seats};
+ghost use Rattle.ti_agent_tests.specs.Agents.{HasDeskAt, IsNewSeat};

@@ -1,5 +1,4 @@
-//! Calls that are given up, by hand and when a deadline is over.
-ghost use Rattle.std.specs.Prelude.{◌≡◌, []};
+//! Calls that are given up, by `cancel` and when a deadline is over.
 
 use crate::agents::{both, environment};
 use crate::hand_overs::expect;
@@ -13,7 +12,7 @@ use ti_agent::Env;
 use ti_handshake::{Polled, Running, SharedCell};
 use ti_types::{Call, Caps, EnvNo, Limits, MethodNo, ThreadNo, TiError, Ticket};
 
-/// The thread that is asked.
+/// The thread at which the calls are made.
 const THREAD: ThreadNo = ThreadNo(0);
 
 /// How long an environment waits for a thread that does not poll.
@@ -21,7 +20,7 @@ fn some_time() -> Duration {
     Duration::from_millis(5)
 }
 
-/// A call that was not asked yet can't be given up: it is answered as others are.
+/// A call that was not asked yet can't be given up. It is answered as others are.
 fn give_up_the_next<R: Wait + AllocGlobal>(
     rt: &R,
     env: &mut Env,
@@ -41,7 +40,7 @@ fn give_up_the_next<R: Wait + AllocGlobal>(
     Ok(running)
 }
 
-/// The window is full while a call is out that was given up.
+/// Whether the window is full. It is full while a call that was given up is out.
 fn is_full<R: Wait + AllocGlobal>(rt: &R, env: &mut Env) -> bool {
     matches!(
         env.post(rt, rt.alloc(), THREAD, Call::FrameCount),
@@ -49,7 +48,7 @@ fn is_full<R: Wait + AllocGlobal>(rt: &R, env: &mut Env) -> bool {
     )
 }
 
-/// The answer to a call that was given up is not had, and makes room when it is thrown away.
+/// The answer to a call that was given up cannot be collected. When it is thrown away, the window has room again.
 fn give_up<R: Wait + AllocGlobal>(
     rt: &R,
     env: &mut Env,
@@ -70,7 +69,7 @@ fn give_up<R: Wait + AllocGlobal>(
     Ok(running)
 }
 
-/// A count that the thread does not answer in time is given up, and the next one throws its answer away.
+/// A count that the thread does not answer in time is given up. The next one throws its answer away.
 fn count_in_vain<R: Wait + Clock + AllocGlobal>(
     rt: &R,
     env: &mut Env,
@@ -88,7 +87,8 @@ fn count_in_vain<R: Wait + Clock + AllocGlobal>(
     Ok(running)
 }
 
-/// A suspension that was given up takes hold at the thread's next poll. Calls at a thread that stands are in time.
+/// A suspension that was given up still suspends the thread at its next poll. A call at a thread that does not run is
+/// answered in time.
 fn suspend_in_vain<R: Wait + Clock + AllocGlobal>(
     rt: &R,
     env: &mut Env,
@@ -100,7 +100,7 @@ fn suspend_in_vain<R: Wait + Clock + AllocGlobal>(
     )?;
     let told = env.suspend_thread_within(rt, rt.alloc(), THREAD, some_time());
     expect(told == Err(TiError::TimedOut), "it polls for no suspension")?;
-    let Polled::Held(held) = running.poll(rt) else {
+    let Polled::Stays(held) = running.poll(rt) else {
         return Err("it is suspended".into());
     };
     let told = env.get_frame_count_within(rt, rt.alloc(), THREAD, some_time());
@@ -113,7 +113,7 @@ fn suspend_in_vain<R: Wait + Clock + AllocGlobal>(
     Ok(())
 }
 
-/// An environment with a window of one at a thread that runs.
+/// Tests an environment with a window of one, at a thread that runs.
 fn ask_one<R: Wait + Clock + AllocGlobal>(rt: &R, limits: Limits) -> Result<(), Fail>
     requires threads { limits.threads ≡ 1 }
     requires envs { limits.envs ≡ 2 }
@@ -144,3 +144,5 @@ fn calls_are_given_up(rt: HostRuntime) -> Result<(), Fail> {
     };
     ask_one(&rt, limits)
 }
+
+ghost use Rattle.std.specs.Prelude.{◌≡◌, []};

@@ -1,18 +1,10 @@
 //! Cells that two threads share.
-ghost use Rattle.std.specs.Prelude.{ℕ, ◌≡◌, ◌+◌, ◌-◌, ◌<◌, ◌≤◌, ◌^◌, IfSome, true, if◌then◌else◌, [], ◌∷◌, ◌++◌};
-ghost use Rattle.ti_types.specs.declared.call.Call.TheVariants.{SetWord};
-ghost use Rattle.ti_types.specs.declared.entry.Entry.TheVariants.{Asked, Start};
-ghost use Rattle.ti_replay.specs.Legal.{is_legal, asked_by};
-ghost use Rattle.ti_replay.specs.Makers.{made_by, StartsWith};
-ghost use Rattle.ti_cell.specs.View.{subject_of};
-ghost use Rattle.ti_cell.specs.Seats.{env_seats};
-ghost use Rattle.ti_agent_tests.specs.Cells.{IsReady, HasSet, IsOwner, sets};
 
 use std::alloc::Global;
 use std::sync::Wait;
 use std::test::*;
 use std::thread::{Threads, join};
-use ti_cell::{EnvSeat, OwnSeat, ThreadCell};
+use ti_cell::{EnvSeat, OwnerSeat, ThreadCell};
 use ti_replay::replay;
 use ti_slot::Slot;
 use ti_types::{Call, EnvNo, Limits, ThreadNo, TraceBuf};
@@ -20,8 +12,8 @@ use ti_types::{Call, EnvNo, Limits, ThreadNo, TraceBuf};
 /// How often each of the two environments holds the cell.
 const HOLDS: u32 = 100;
 
-/// Starts the thread by one hold, and says whether it started.
-fn start<R: Wait>(rt: &R, cell: &ThreadCell, seat: OwnSeat) -> (bool, OwnSeat)
+/// Starts the thread by one hold, and gives whether it started.
+fn start<R: Wait>(rt: &R, cell: &ThreadCell, seat: OwnerSeat) -> (bool, OwnerSeat)
     requires owner { IsOwner cell.now 3 seat }
     ensures owner { IsOwner cell.now 3 result.1 }
     ensures mine { result.1.view.mine ≡ seat.view.mine ++ (if result.0 then Start ∷ [] else []) }
@@ -84,7 +76,7 @@ fn set_both<R: Threads + Wait + Sync>(
     )
 }
 
-/// The seats of two environments, which may make a hundred calls each.
+/// The seats of two environments. Each may make a hundred calls.
 fn both(cell: &ThreadCell, limits: Limits, seats: Vec<EnvSeat>) -> Option<(EnvSeat, EnvSeat)>
     requires seats { seats.items ≡ env_seats cell.now (subject_of limits (record { 0 = 0 })) 2 }
     requires envs { limits.envs ≡ 2 }
@@ -100,8 +92,8 @@ fn both(cell: &ThreadCell, limits: Limits, seats: Vec<EnvSeat>) -> Option<(EnvSe
     Some((one, two))
 }
 
-/// The slot of a cell with two environments, whose seats have come back.
-fn finish(cell: ThreadCell, own: OwnSeat, one: EnvSeat, two: EnvSeat) -> Slot
+/// The slot of a cell of two environments, after their seats have come back.
+fn finish(cell: ThreadCell, own: OwnerSeat, one: EnvSeat, two: EnvSeat) -> Slot
     requires here { (one.cell ≡ cell) × (two.cell ≡ cell) }
     requires owner { IsOwner cell 3 own }
     requires others { (one.view.number ≡ 1) × (two.view.number ≡ 2) }
@@ -121,9 +113,9 @@ fn finish(cell: ThreadCell, own: OwnSeat, one: EnvSeat, two: EnvSeat) -> Slot
     slot
 }
 
-/// A cell's owner starts the thread and two environments hold the cell a hundred times each, and all seats come back:
-/// whether the thread started, and the slot, which has the calls of each in their order, for every schedule. `None`
-/// where memory runs out.
+/// A cell's owner starts the thread, two environments hold the cell a hundred times each, and all seats come back. It gives
+/// whether the thread started, and the slot. For every schedule, the slot has the calls of each in their order. `None` if
+/// memory runs out.
 fn shared_by_two<R: Threads + Wait + Sync>(
     rt: &R,
     alloc: Global,
@@ -146,7 +138,7 @@ fn shared_by_two<R: Threads + Wait + Sync>(
     Some((started, finish(cell, own, one, two)))
 }
 
-/// That the thread starts, that there are 201 entries, and the words at the end, are what no clause says.
+/// No clause says that the thread starts, that there are 201 entries, or which words there are at the end.
 #[test]
 fn two_threads_share_a_cell(rt: HostRuntime) -> Result<(), Fail> {
     let Some(limits) = Limits::new(1, 2, 1, 1, 100) else {
@@ -166,3 +158,12 @@ fn two_threads_share_a_cell(rt: HostRuntime) -> Result<(), Fail> {
     assert!(rt; view.words.get(0) == 99 && view.words.get(1) == 199);
     Ok(())
 }
+
+ghost use Rattle.std.specs.Prelude.{ℕ, ◌≡◌, ◌+◌, ◌-◌, ◌<◌, ◌≤◌, ◌^◌, IfSome, true, if◌then◌else◌, [], ◌∷◌, ◌++◌};
+ghost use Rattle.ti_types.specs.declared.call.Call.TheVariants.{SetWord};
+ghost use Rattle.ti_types.specs.declared.entry.Entry.TheVariants.{Asked, Start};
+ghost use Rattle.ti_replay.specs.Legal.{is_legal, asked_by};
+ghost use Rattle.ti_replay.specs.Makers.{made_by, StartsWith};
+ghost use Rattle.ti_cell.specs.View.{subject_of};
+ghost use Rattle.ti_cell.specs.Seats.{env_seats};
+ghost use Rattle.ti_agent_tests.specs.Cells.{IsReady, HasSet, IsOwner, sets};

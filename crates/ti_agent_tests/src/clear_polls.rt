@@ -1,17 +1,15 @@
-//! What a poll that was clear tells of the history, once the cell is closed.
-ghost use Rattle.std.specs.Prelude.{◌≡◌, [], true, IfSome};
-ghost use Rattle.ti_agent_tests.specs.ClearPolls.{HasPolled, WasCalm};
+//! What a clear poll says about the history, once the cell is closed.
 
 use std::alloc::Global;
 use std::sync::Wait;
 use std::test::*;
-use ti_cell::{OwnSeat, ThreadCell};
+use ti_cell::{OwnerSeat, ThreadCell};
 use ti_handshake::{Fresh, SharedCell};
 use ti_slot::Slot;
 use ti_types::{Limits, ThreadNo};
 
-/// Starts the thread, polls by one load, and ends it: whether the poll was clear, and the thread's seat.
-fn poll_once<R: Wait>(rt: &R, cell: SharedCell, own: OwnSeat) -> (bool, OwnSeat)
+/// Starts the thread, polls by one load, and ends the thread. It gives whether the poll was clear, and the thread's seat.
+fn poll_once<R: Wait>(rt: &R, cell: SharedCell, own: OwnerSeat) -> (bool, OwnerSeat)
     requires cell { own.cell ≡ cell }
     requires owner { own.view.number ≡ 0 }
     requires none { own.view.mine ≡ [] }
@@ -24,9 +22,9 @@ fn poll_once<R: Wait>(rt: &R, cell: SharedCell, own: OwnSeat) -> (bool, OwnSeat)
     (clear, ended.into_seat())
 }
 
-/// The slot of a cell whose thread polled. If that poll was clear, the history has a front after which nobody waited for
+/// The slot of a cell whose thread polled. If that poll was clear, the history has a prefix after which nobody waited for
 /// the thread, whoever else was at the cell.
-fn finish(cell: ThreadCell, own: OwnSeat, clear: bool) -> Option<Slot>
+fn finish(cell: ThreadCell, own: OwnerSeat, clear: bool) -> Option<Slot>
     requires cell { own.cell ≡ cell }
     requires polled { HasPolled clear own.view }
     ensures calm { clear ≡ true → IfSome result (λ s. WasCalm s.limits s.history) }
@@ -35,7 +33,7 @@ fn finish(cell: ThreadCell, own: OwnSeat, clear: bool) -> Option<Slot>
     cell.close(own)
 }
 
-/// A thread starts, polls once and ends: whether the poll was clear, and the slot. `None` if memory runs out.
+/// A thread starts, polls once and ends. It gives whether the poll was clear, and the slot. `None` if memory runs out.
 fn polled_once<R: Wait>(rt: &R, alloc: Global, limits: Limits) -> Option<(bool, Slot)>
     ensures calm { IfSome result (λ s. s.0 ≡ true → WasCalm s.1.limits s.1.history) }
 {
@@ -47,7 +45,7 @@ fn polled_once<R: Wait>(rt: &R, alloc: Global, limits: Limits) -> Option<(bool, 
     Some((clear, slot))
 }
 
-/// That the poll is clear if nobody calls for the thread is what no clause says.
+/// No clause says that the poll is clear if nobody calls for the thread.
 #[test]
 fn a_poll_is_clear_if_nobody_waits(rt: HostRuntime) -> Result<(), Fail> {
     let Some(limits) = Limits::new(1, 1, 1, 1, 1) else {
@@ -59,3 +57,6 @@ fn a_poll_is_clear_if_nobody_waits(rt: HostRuntime) -> Result<(), Fail> {
     assert!(rt; clear && slot.len() == 2);
     Ok(())
 }
+
+ghost use Rattle.std.specs.Prelude.{◌≡◌, [], true, IfSome};
+ghost use Rattle.ti_agent_tests.specs.ClearPolls.{HasPolled, WasCalm};

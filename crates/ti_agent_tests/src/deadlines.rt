@@ -1,5 +1,4 @@
 //! Deadlines: how long an environment waits for an answer.
-ghost use Rattle.std.specs.Prelude.{◌≡◌, []};
 
 use crate::agents::{both, environment};
 use crate::hand_overs::expect;
@@ -18,7 +17,7 @@ fn some_time() -> Duration {
     Duration::from_millis(20)
 }
 
-/// The environment waits until its time is over, and the call is out as before.
+/// The environment waits until its time is over. Then the call is out as before.
 fn wait_in_vain<R: Wait + Clock>(rt: &R, env: &mut Env, ticket: Ticket) -> Result<(), Fail> {
     let Ok(began) = Instant::now(rt) else {
         return Err("there is a clock".into());
@@ -50,7 +49,7 @@ fn wait_in_turn<R: Wait + Clock + AllocGlobal>(
     Ok(running)
 }
 
-/// An environment at a thread that runs.
+/// Tests an environment at a thread that runs.
 fn ask_one<R: Wait + Clock + AllocGlobal>(rt: &R, limits: Limits) -> Result<(), Fail>
     requires threads { limits.threads ≡ 1 }
     requires envs { limits.envs ≡ 2 }
@@ -77,3 +76,5 @@ fn a_deadline_leaves_the_call_out(rt: HostRuntime) -> Result<(), Fail> {
     };
     ask_one(&rt, limits)
 }
+
+ghost use Rattle.std.specs.Prelude.{◌≡◌, []};

@@ -1,26 +1,19 @@
-//! Typed hand-overs with calls and holds in between.
-ghost use Rattle.std.specs.Prelude.{ℕ, ◌≡◌, ◌+◌, ◌≤◌, true, [], IfOk};
-ghost use Rattle.atomic_table.specs.Seated.{TableId};
-ghost use Rattle.ti_types.specs.Frames.{Trace};
-ghost use Rattle.ti_replay.specs.Legal.{is_well_formed};
-ghost use Rattle.ti_slot.specs.Waiting.{IsBufferOf};
-ghost use Rattle.ti_handshake.specs.Desk.{is_out};
-ghost use Rattle.ti_agent_tests.specs.HandOvers.{MayCall};
+//! Typed hand-overs, with calls and holds in between.
 
 use crate::agents::both;
 use std::sync::Wait;
 use std::test::*;
-use ti_cell::{EnvSeat, OwnSeat};
+use ti_cell::{EnvSeat, OwnerSeat};
 use ti_handshake::{AtSafe, Desk, Fresh, Polled, Running, SharedCell};
 use ti_slot::{Asked, Slot};
 use ti_types::{Answer, Call, Limits, MethodNo, Step, ThreadNo, TiError, Ticket, TraceBuf};
 
-/// A failure where this does not hold.
+/// A failure with this text, if the condition is false.
 pub(crate) fn expect(holds: bool, what: &'static str) -> Result<(), Fail> {
     if holds { Ok(()) } else { Err(what.into()) }
 }
 
-/// Asks the thread a call that waits for it: the ticket.
+/// Asks the thread a call that waits for it, and gives the ticket.
 fn ask<R: Wait>(rt: &R, desk: &mut Desk, call: Call) -> Result<Ticket, Fail>
     requires well_formed { is_well_formed call ≡ true }
     requires no_buffer { (b : Trace) → IsBufferOf desk.old.view.subject.limits call b }
@@ -34,7 +27,7 @@ fn ask<R: Wait>(rt: &R, desk: &mut Desk, call: Call) -> Result<Ticket, Fail>
     Ok(ticket)
 }
 
-/// A hold of another environment, where there is one: it asks whether its stop stands, and adds nothing.
+/// A hold of another environment, if there is one. It asks whether the thread is standing, and adds nothing.
 fn hold_between<R: Wait>(rt: &R, other: &mut Option<Desk>) {
     if let Some(desk) = other {
         let _stands = desk.standing(rt);
@@ -57,8 +50,8 @@ fn resume<R: Wait>(rt: &R, desk: &mut Desk) -> Answer
     desk.call(rt, Call::Resume, TraceBuf::none())
 }
 
-/// The thread starts and enters a method, while nobody calls for it. It may not go into native code from there (207).
-fn start<R: Wait>(rt: &R, cell: SharedCell, own: OwnSeat) -> Result<Running, Fail>
+/// The thread starts and enters a method, while nobody calls for it. It may not enter native code from there (207).
+fn start<R: Wait>(rt: &R, cell: SharedCell, own: OwnerSeat) -> Result<Running, Fail>
     requires cell { own.cell ≡ cell }
     requires owner { own.view.number ≡ 0 }
     requires none { own.view.mine ≡ [] }
@@ -79,7 +72,7 @@ fn start<R: Wait>(rt: &R, cell: SharedCell, own: OwnSeat) -> Result<Running, Fai
     Ok(running)
 }
 
-/// The thread enters another method and polls. It is called for, and goes on at once.
+/// The thread enters another method and polls. It is called for, and returns at once.
 fn enter_and_poll<R: Wait>(rt: &R, running: Running) -> Result<Running, Fail>
     ensures cell { IfOk result (λ r. r.cell ≡ running.cell) }
 {
@@ -91,7 +84,7 @@ fn enter_and_poll<R: Wait>(rt: &R, running: Running) -> Result<Running, Fail>
     )?;
     match running.poll(rt) {
         Polled::Go(running) => Ok(running),
-        Polled::Held(_) => Err("nobody holds the thread".into()),
+        Polled::Stays(_) => Err("nobody holds the thread".into()),
     }
 }
 
@@ -100,12 +93,12 @@ fn poll_and_rest<R: Wait>(rt: &R, running: Running) -> Result<AtSafe, Fail>
     ensures cell { IfOk result (λ s. s.cell ≡ running.cell) }
 {
     match running.poll(rt) {
-        Polled::Held(held) => Ok(held),
+        Polled::Stays(held) => Ok(held),
         Polled::Go(_) => Err("the thread is suspended".into()),
     }
 }
 
-/// A call that waits is answered where the thread polls, as the thread is then.
+/// A call that waits is answered when the thread polls, as the thread is then.
 fn count_frames<R: Wait>(
     rt: &R,
     running: Running,
@@ -129,7 +122,7 @@ fn count_frames<R: Wait>(
     Ok(running)
 }
 
-/// A thread that is suspended rests at its poll.
+/// A thread that is suspended is held at its poll.
 fn suspend<R: Wait>(
     rt: &R,
     running: Running,
@@ -154,13 +147,13 @@ fn suspend<R: Wait>(
     Ok(held)
 }
 
-/// The thread may not return (206) until it is resumed, and then ends: its seat.
+/// The thread may not return (206) until it is resumed, and then ends. It gives the thread's seat.
 fn resume_and_end<R: Wait>(
     rt: &R,
     held: AtSafe,
     desk: &mut Desk,
     other: &mut Option<Desk>,
-) -> Result<OwnSeat, Fail>
+) -> Result<OwnerSeat, Fail>
     requires desk { MayCall desk.old.cell 1 desk.old }
     ensures desk { IfOk result (λ _. desk.new.cell ≡ desk.old.cell) }
     ensures cell { IfOk result (λ s. s.cell ≡ held.cell) }
@@ -182,14 +175,14 @@ fn resume_and_end<R: Wait>(
     Ok(running.end(rt).into_seat())
 }
 
-/// What the thread and an environment do in turn, with another's holds in between: the seats that they have then.
+/// The thread and an environment act in turn, with another environment's holds in between. It gives their seats at the end.
 fn in_turn<R: Wait>(
     rt: &R,
     cell: &SharedCell,
-    own: OwnSeat,
+    own: OwnerSeat,
     seat: EnvSeat,
     other: Option<Desk>,
-) -> Result<(OwnSeat, EnvSeat), Fail>
+) -> Result<(OwnerSeat, EnvSeat), Fail>
     requires own { (own.cell ≡ cell.now) × (own.view.number ≡ 0) × (own.view.mine ≡ []) }
     requires seat { (seat.cell ≡ cell.now) × (seat.view.number ≡ 1) × (seat.view.mine ≡ []) × (seat.view.posted ≡ []) }
     requires limits { (1 ≤ seat.view.subject.limits.envs) × (3 ≤ seat.view.subject.limits.calls) × (3 ≤ seat.view.subject.limits.window) }
@@ -208,8 +201,8 @@ fn in_turn<R: Wait>(
     Ok((own, desk.into_seat()))
 }
 
-/// The slot of a cell whose seats come back.
-pub(crate) fn close(cell: SharedCell, own: OwnSeat, seat: EnvSeat) -> Option<Slot>
+/// The slot of a cell, after its seats have come back.
+pub(crate) fn close(cell: SharedCell, own: OwnerSeat, seat: EnvSeat) -> Option<Slot>
     requires own { (own.cell ≡ cell) × (own.view.number ≡ 0) }
     requires seat { seat.cell ≡ cell }
 {
@@ -219,7 +212,7 @@ pub(crate) fn close(cell: SharedCell, own: OwnSeat, seat: EnvSeat) -> Option<Slo
     cell.close(own)
 }
 
-/// One thread and one environment, each call in its turn: how many entries are seen after each, and in the end.
+/// One thread and one environment act in turn. It tests how many entries are seen after each call, and at the end.
 #[test]
 fn a_thread_hands_over_to_one_environment(rt: HostRuntime) -> Result<(), Fail> {
     let limits = Limits::new(2, 1, 4, 32, 8).ok_or("the limits are in range")?;
@@ -233,7 +226,7 @@ fn a_thread_hands_over_to_one_environment(rt: HostRuntime) -> Result<(), Fail> {
     Ok(())
 }
 
-/// Another environment's holds in between change none of it.
+/// Another environment's holds in between change nothing of this.
 #[test]
 fn another_environment_holds_in_between(rt: HostRuntime) -> Result<(), Fail> {
     let Some(limits) = Limits::new(2, 2, 4, 32, 8) else {
@@ -251,3 +244,11 @@ fn another_environment_holds_in_between(rt: HostRuntime) -> Result<(), Fail> {
     assert_eq!(rt; slot.len(), 11);
     Ok(())
 }
+
+ghost use Rattle.std.specs.Prelude.{ℕ, ◌≡◌, ◌+◌, ◌≤◌, true, [], IfOk};
+ghost use Rattle.atomic_table.specs.Seated.{TableId};
+ghost use Rattle.ti_types.specs.Frames.{Trace};
+ghost use Rattle.ti_replay.specs.Legal.{is_well_formed};
+ghost use Rattle.ti_slot.specs.Waiting.{IsBufferOf};
+ghost use Rattle.ti_handshake.specs.Desk.{is_out};
+ghost use Rattle.ti_agent_tests.specs.HandOvers.{MayCall};

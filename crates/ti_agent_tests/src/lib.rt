@@ -1,7 +1,7 @@
-//! Tests of what no clause says of running threads, from a cell to an agent: that calls go through if nothing is in their
-//! way, and that who waits is woken.
+//! Tests of what no clause says about running threads, from a cell to an agent.
 //!
-//! Nothing uses it.
+//! They test that a call goes through if nothing is in its way, and that whoever waits is woken. Nothing depends on this
+//! crate.
 #![tactic(auto)]
 
 #[cfg(test)]

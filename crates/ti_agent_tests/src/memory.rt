@@ -1,7 +1,7 @@
-//! What a refused allocation leaves of running threads. Each of these tests passes with ample memory and with any one
-//! allocation refused (`ci/refused_tests.py`): then the call says 110, and everything is as it was.
-ghost use Rattle.std.specs.Prelude.{◌≡◌, IfSome, IfOk};
-ghost use Rattle.ti_agent_tests.specs.Agents.{HasDeskAt};
+//! What running threads are like after a refused allocation.
+//!
+//! Each of these tests passes with ample memory, and with any one allocation refused (`ci/refused_tests.py`). Then the call
+//! is refused with 110, and everything is as it was.
 
 use crate::agents::environment;
 use crate::hand_overs::{close, expect};
@@ -18,7 +18,7 @@ const E: EnvNo = EnvNo(0);
 
 const T: ThreadNo = ThreadNo(0);
 
-/// Traces all threads: the environment's seat where memory ran out, and else `None`.
+/// Traces all threads. It gives the environment's seat if memory ran out, and otherwise `None`.
 fn trace_all<R: Wait + AllocGlobal>(
     rt: &R,
     cell: &SharedCell,
@@ -45,7 +45,7 @@ fn trace_all<R: Wait + AllocGlobal>(
     }
 }
 
-/// Traces the thread twice: the environment's seat where memory ran out, and else `None`.
+/// Traces the thread twice. It gives the environment's seat if memory ran out, and otherwise `None`.
 fn trace_twice<R: Wait + AllocGlobal>(
     rt: &R,
     cell: &SharedCell,
@@ -111,3 +111,6 @@ fn a_refused_trace_of_a_list_stops_nobody(rt: HostRuntime) -> Result<(), Fail> {
     assert_eq!(rt; slot.len(), 0);
     Ok(())
 }
+
+ghost use Rattle.std.specs.Prelude.{◌≡◌, IfSome, IfOk};
+ghost use Rattle.ti_agent_tests.specs.Agents.{HasDeskAt};

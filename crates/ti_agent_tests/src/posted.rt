@@ -1,5 +1,4 @@
 //! Calls that are posted and collected later: an agent asks two threads that run, and goes on.
-ghost use Rattle.std.specs.Prelude.{◌≡◌, []};
 
 use crate::agents::both;
 use crate::hand_overs::expect;
@@ -7,7 +6,7 @@ use crate::together::environment;
 use std::sync::Wait;
 use std::test::*;
 use ti_agent::Env;
-use ti_cell::OwnSeat;
+use ti_cell::OwnerSeat;
 use ti_handshake::{Fresh, Polled, Running, SharedCell};
 use ti_slot::Asked;
 use ti_types::{Answer, Call, EnvNo, Limits, MethodNo, Step, ThreadNo, TiError, Ticket};
@@ -30,7 +29,7 @@ fn post_trace<R: Wait + AllocGlobal>(
     }
 }
 
-/// Whether the answer is there, and tells of a thread in just this method.
+/// Whether the answer is there, and is the trace of a thread in just this method.
 fn is_in(answer: &Option<Answer>, method: MethodNo) -> bool {
     match answer {
         Some(Answer::Trace(trace)) => match trace.frames() {
@@ -41,11 +40,11 @@ fn is_in(answer: &Option<Answer>, method: MethodNo) -> bool {
     }
 }
 
-/// The thread polls, answers who waits, and goes on.
+/// The thread polls, answers all calls that wait, and returns.
 pub(crate) fn answer_all<R: Wait>(rt: &R, running: Running) -> Result<Running, Fail> {
     match running.poll(rt) {
         Polled::Go(running) => Ok(running),
-        Polled::Held(_) => Err("nothing bars it".into()),
+        Polled::Stays(_) => Err("nothing bars it".into()),
     }
 }
 
@@ -53,7 +52,7 @@ pub(crate) fn answer_all<R: Wait>(rt: &R, running: Running) -> Result<Running, F
 pub(crate) fn start_in<R: Wait>(
     rt: &R,
     cell: SharedCell,
-    own: OwnSeat,
+    own: OwnerSeat,
     method: MethodNo,
 ) -> Result<Running, Fail>
     requires cell { own.cell ≡ cell }
@@ -70,7 +69,7 @@ pub(crate) fn start_in<R: Wait>(
     Ok(running)
 }
 
-/// Both traces are out at once, and each is there once its own thread has polled, and is given once.
+/// Both traces are out at once. The answer to each is there once its own thread has polled, and is given once.
 fn trace_both<R: Wait + AllocGlobal>(
     rt: &R,
     env: &mut Env,
@@ -134,7 +133,7 @@ fn count_later<R: Wait + AllocGlobal>(
     }
 }
 
-/// A state is told at once, and what may not be asked reaches no thread.
+/// A state is answered at once, and a call that is refused reaches no thread.
 fn ask_at_once<R: Wait + AllocGlobal>(rt: &R, env: &mut Env) -> Result<(), Fail> {
     match env.post(rt, rt.alloc(), ThreadNo(0), Call::State) {
         Ok(Asked::Answered(Answer::State(5))) => {}
@@ -158,7 +157,7 @@ fn ask_at_once<R: Wait + AllocGlobal>(rt: &R, env: &mut Env) -> Result<(), Fail>
     }
 }
 
-/// An environment asks two threads that run in a method each, under limits of four calls.
+/// An environment asks two threads, under limits of four calls. Each thread runs in a method.
 fn ask_both<R: Wait + AllocGlobal>(rt: &R, limits: Limits) -> Result<(), Fail>
     requires threads { limits.threads ≡ 2 }
     requires envs { limits.envs ≡ 2 }
@@ -194,8 +193,8 @@ fn ask_both<R: Wait + AllocGlobal>(rt: &R, limits: Limits) -> Result<(), Fail>
     }
 }
 
-/// An agent posts calls at two threads, is told at once what a thread need not be safe for, and collects the others when
-/// their threads have polled, in any order. What was refused or asked in vain has cost nothing.
+/// An agent posts calls at two threads. A call that does not wait is answered at once. The others are collected when their
+/// threads have polled, in any order. A call that was refused, and a look in vain, cost nothing.
 #[test]
 fn an_agent_asks_two_threads_and_goes_on(rt: HostRuntime) -> Result<(), Fail> {
     let Some(limits) = Limits::new(2, 2, 4, 32, 4) else {
@@ -203,3 +202,5 @@ fn an_agent_asks_two_threads_and_goes_on(rt: HostRuntime) -> Result<(), Fail> {
     };
     ask_both(&rt, limits)
 }
+
+ghost use Rattle.std.specs.Prelude.{◌≡◌, []};

@@ -1,17 +1,11 @@
-//! Stops, reads and gos by hand, with the threads' own calls in between.
-ghost use Rattle.std.specs.Prelude.{ℕ, ◌≡◌, ◌+◌, ◌<◌, ◌≤◌, length, [], IfSome, IfOk};
-ghost use Rattle.atomic_table.specs.Seated.{TableId};
-ghost use Rattle.ti_slot.specs.Waiting.{HasRoomFor};
-ghost use Rattle.ti_agent.specs.Env.{AreNewDesks, IsWhole};
-ghost use Rattle.ti_agent_tests.specs.Agents.{IsNewSeat};
-ghost use Rattle.ti_agent_tests.specs.HandOvers.{MayCall};
+//! Stops, reads and gos one by one, with the threads' own calls in between.
 
 use crate::agents::both;
 use crate::hand_overs::expect;
 use std::alloc::Global;
 use std::sync::Wait;
 use std::test::*;
-use ti_cell::{EnvSeat, OwnSeat};
+use ti_cell::{EnvSeat, OwnerSeat};
 use ti_env::EnvState;
 use ti_handshake::{AtSafe, Desk, Fresh, Running, SharedCell};
 use ti_types::{
@@ -19,10 +13,10 @@ use ti_types::{
 };
 use ti_vmop::{VmTurn, stop_all};
 
-/// How many frames a read may tell.
+/// How many frames a read may give.
 const FRAMES: i32 = 4;
 
-/// Whether an answer tells of a stack of these bits and frames.
+/// Whether an answer is a stack with these bits and frames.
 fn tells(answer: &Answer, bits: u32, frames: &[Frame]) -> bool {
     match answer {
         Answer::Stack {
@@ -37,7 +31,7 @@ fn tells(answer: &Answer, bits: u32, frames: &[Frame]) -> bool {
 pub(crate) fn waiting_thread<R: Wait>(
     rt: &R,
     cell: SharedCell,
-    own: OwnSeat,
+    own: OwnerSeat,
 ) -> Result<AtSafe, Fail>
     requires cell { own.cell ≡ cell }
     requires owner { own.view.number ≡ 0 }
@@ -57,7 +51,7 @@ pub(crate) fn waiting_thread<R: Wait>(
 }
 
 /// A thread starts and ends.
-pub(crate) fn run_out<R: Wait>(rt: &R, cell: SharedCell, own: OwnSeat) -> Result<(), Fail>
+pub(crate) fn run_out<R: Wait>(rt: &R, cell: SharedCell, own: OwnerSeat) -> Result<(), Fail>
     requires cell { own.cell ≡ cell }
     requires owner { own.view.number ≡ 0 }
     requires none { own.view.mine ≡ [] }
@@ -69,8 +63,8 @@ pub(crate) fn run_out<R: Wait>(rt: &R, cell: SharedCell, own: OwnSeat) -> Result
     Ok(())
 }
 
-/// Stops both threads, reads each once, and lets them go, while the first, which waits for an object, tries to return: it
-/// may not (206). The second has ended.
+/// Stops both threads, reads each once, and lets them go. Meanwhile the first, which waits for an object, tries to return,
+/// and may not (206). The second has ended.
 fn stop_and_read<R: Wait>(
     rt: &R,
     desks: &mut [Desk],
@@ -112,7 +106,7 @@ fn stop_and_read<R: Wait>(
     Ok(waiting)
 }
 
-/// What an environment keeps for itself, and its desk at each of two threads. `None` where memory runs out.
+/// What an environment keeps for itself, and its desk at each of two threads. `None` if memory runs out.
 pub(crate) fn at_two(
     alloc: Global,
     limits: Limits,
@@ -136,7 +130,7 @@ pub(crate) fn at_two(
     Some((state, desks))
 }
 
-/// What an environment keeps for itself, and its desk at the one thread. `None` where memory runs out.
+/// What an environment keeps for itself, and its desk at the one thread. `None` if memory runs out.
 fn at_one(
     alloc: Global,
     limits: Limits,
@@ -155,8 +149,8 @@ fn at_one(
     Some((state, desks))
 }
 
-/// Two threads, one of which waits for an object and the other has ended, are stopped, read and let go: what each read tells,
-/// that the first may not return meanwhile and may then, and that two calls were spent at each.
+/// Two threads are stopped, read and let go. One waits for an object, and the other has ended. The first may not return
+/// meanwhile, and may afterwards. Two calls are spent at each.
 #[test]
 fn a_round_over_two_threads(rt: HostRuntime) -> Result<(), Fail> {
     let Some(limits) = Limits::new(2, 1, 4, 32, 8) else {
@@ -193,7 +187,7 @@ fn a_round_over_two_threads(rt: HostRuntime) -> Result<(), Fail> {
     Ok(())
 }
 
-/// Tries to stop the thread, without waiting for another's stop.
+/// Tries to stop the thread, and does not wait for another environment's stop.
 fn try_stop<R: Wait>(rt: &R, desk: &mut Desk) -> Answer
     requires desk { MayCall desk.old.cell 1 desk.old }
     ensures desk { (cell : TableId) (left : ℕ) → MayCall cell (left + 1) desk.old → MayCall cell left desk.new }
@@ -201,8 +195,8 @@ fn try_stop<R: Wait>(rt: &R, desk: &mut Desk) -> Answer
     desk.try_stop(rt)
 }
 
-/// An environment's stop at a thread that has not started, and what another's desk and the thread come to meanwhile: the
-/// thread again, and what was read of it.
+/// An environment stops a thread that has not started. Meanwhile another environment's stop is refused (211), and the thread
+/// may not start (206). A read says that it has not started. It gives the thread back.
 fn stop_before_start<R: Wait>(
     rt: &R,
     desks: &mut [Desk],
@@ -238,7 +232,7 @@ fn stop_before_start<R: Wait>(
     Ok(fresh)
 }
 
-/// Another environment's stop, where the first one's is gone: the thread may start once it is gone too.
+/// Another environment stops the thread after the first one's stop is over. The thread may start when this stop is over too.
 fn start_behind_stop<R: Wait>(rt: &R, other: &mut Desk, fresh: Fresh) -> Result<Running, Fail>
     requires other { MayCall other.old.cell 1 other.old }
 {
@@ -257,7 +251,7 @@ fn start_behind_stop<R: Wait>(rt: &R, other: &mut Desk, fresh: Fresh) -> Result<
     }
 }
 
-/// Two environments' stops, one after the other, at a thread that has not started: it starts when both are gone.
+/// Two environments stop a thread that has not started, one after the other. It starts when both stops are over.
 #[test]
 fn two_stops_before_a_start(rt: HostRuntime) -> Result<(), Fail> {
     let Some(limits) = Limits::new(1, 2, 4, 32, 8) else {
@@ -281,3 +275,10 @@ fn two_stops_before_a_start(rt: HostRuntime) -> Result<(), Fail> {
     let _ended = running.end(&rt);
     Ok(())
 }
+
+ghost use Rattle.std.specs.Prelude.{ℕ, ◌≡◌, ◌+◌, ◌<◌, ◌≤◌, length, [], IfSome, IfOk};
+ghost use Rattle.atomic_table.specs.Seated.{TableId};
+ghost use Rattle.ti_slot.specs.Waiting.{HasRoomFor};
+ghost use Rattle.ti_agent.specs.Env.{AreNewDesks, IsWhole};
+ghost use Rattle.ti_agent_tests.specs.Agents.{IsNewSeat};
+ghost use Rattle.ti_agent_tests.specs.HandOvers.{MayCall};

@@ -1,7 +1,6 @@
-//! An environment's calls at two threads that run: both are asked before the first is waited for, and both stand before the
-//! first is read.
-ghost use Rattle.std.specs.Prelude.{◌≡◌};
-ghost use Rattle.ti_agent_tests.specs.Agents.{IsNewSeat};
+//! Calls of an environment at two threads that run.
+//!
+//! Both are asked before it waits for the first, and both are standing before the first is read.
 
 use crate::agents::{TURNS, await_held, both};
 use crate::hand_overs::expect;
@@ -18,13 +17,13 @@ use ti_handshake::{AtSafe, Fresh, Running, SharedCell};
 use ti_types::{Caps, EnvNo, Limits, StackInfo, ThreadNo, TiError};
 use ti_vmop::VmTurn;
 
-/// How often a thread tries to return while a stop stands.
+/// How often a thread tries to return while a stop is in force.
 const TRIES: u32 = 1_000;
 
 /// Both threads.
 const BOTH: [ThreadNo; 2] = [ThreadNo(0), ThreadNo(1)];
 
-/// A seat at a thread's cell, from which it is only looked at.
+/// A seat at a thread's cell that is used only to look at the cell.
 #[derive(Drop)]
 struct Watch {
     cell: SharedCell,
@@ -43,7 +42,7 @@ impl Model for Watch {
 }
 
 impl Watch {
-    /// Looks until the thread may not return: whether that came.
+    /// Looks until the thread may not return, and gives whether that happened.
     fn await_barred(&mut self) -> bool {
         for _ in 0..TURNS {
             if self.cell.look(&mut self.seat).barred {
@@ -55,7 +54,7 @@ impl Watch {
     }
 }
 
-/// Two threads that run, the first of which is watched.
+/// Two threads that run. The first is watched.
 #[derive(Drop)]
 struct BothRun {
     watch: Watch,
@@ -63,7 +62,7 @@ struct BothRun {
     second: Running,
 }
 
-/// The same, while the first is held.
+/// The same, while the first thread is held.
 #[derive(Drop)]
 struct OneHeld {
     watch: Watch,
@@ -71,7 +70,7 @@ struct OneHeld {
     second: Running,
 }
 
-/// The same, while both are held.
+/// The same, while both threads are held.
 #[derive(Drop)]
 struct BothHeld {
     watch: Watch,
@@ -86,7 +85,7 @@ enum Which {
     Listed,
 }
 
-/// An environment with a desk at each of two threads. `None` where memory runs out.
+/// An environment with a desk at each of two threads. `None` if memory runs out.
 pub(crate) fn environment(
     alloc: Global,
     limits: Limits,
@@ -103,7 +102,7 @@ pub(crate) fn environment(
     Some(Env::new(EnvNo(0), state, desks))
 }
 
-/// Both threads poll until they are held, the second first. Where one is not, both end, so far as they run.
+/// Both threads poll until they are held, the second first. If one is not held, the threads that still run end.
 fn hold_both<R: Wait>(rt: &R, threads: BothRun) -> Option<BothHeld> {
     let BothRun {
         watch,
@@ -122,7 +121,7 @@ fn hold_both<R: Wait>(rt: &R, threads: BothRun) -> Option<BothHeld> {
     })
 }
 
-/// The second of two threads that are held returns. `None` where something bars it.
+/// The second of two held threads returns. `None` if something bars it.
 fn back<R: Wait>(rt: &R, threads: BothHeld) -> Option<OneHeld> {
     let BothHeld {
         watch,
@@ -139,7 +138,7 @@ fn back<R: Wait>(rt: &R, threads: BothHeld) -> Option<OneHeld> {
     }
 }
 
-/// A thread tries to return, again and again, and may not (206). Where it may, it ends.
+/// A thread tries to return, again and again, and may not (206). If it may, it ends.
 fn try_often<R: Wait>(rt: &R, held: AtSafe) -> Option<AtSafe> {
     let mut held = held;
     for _ in 0..TRIES {
@@ -156,8 +155,8 @@ fn try_often<R: Wait>(rt: &R, held: AtSafe) -> Option<AtSafe> {
     Some(held)
 }
 
-/// What the threads do while they are stopped: the first, which is held already, tries to return after its stop, and only
-/// then the second polls until it is held. Where one of it does not come, the second ends.
+/// What the threads do while they are stopped. The first, which is held already, tries to return after its stop. Only then
+/// the second polls until it is held. If any of this fails, the second ends.
 fn stand_in_turn<R: Wait>(rt: &R, threads: OneHeld) -> Option<BothHeld> {
     let OneHeld {
         mut watch,
@@ -181,12 +180,12 @@ fn stand_in_turn<R: Wait>(rt: &R, threads: OneHeld) -> Option<BothHeld> {
     })
 }
 
-/// Whether it tells that the thread is held at a poll, without frames.
+/// Whether this stack is of this thread, held at a poll without frames.
 fn is_at_poll(info: &StackInfo, thread: ThreadNo) -> bool {
     info.thread == thread && info.state == 0x5 && info.frames.frames().is_empty()
 }
 
-/// Whether both threads are told of, in the order of their numbers.
+/// Whether these are the stacks of both threads, in the order of their numbers.
 fn are_at_poll(infos: &[StackInfo]) -> bool {
     match infos {
         [first, second] => is_at_poll(first, BOTH[0]) && is_at_poll(second, BOTH[1]),
@@ -194,7 +193,7 @@ fn are_at_poll(infos: &[StackInfo]) -> bool {
     }
 }
 
-/// Traces both threads: whether it was told that they are held at a poll, without frames.
+/// Traces both threads, and gives whether both are reported as held at a poll, without frames.
 fn trace<R: Wait + AllocGlobal>(rt: &R, env: Env, which: Which) -> (Env, bool) {
     let mut env = env;
     let turn = Mutex::new(VmTurn::new());
@@ -209,7 +208,7 @@ fn trace<R: Wait + AllocGlobal>(rt: &R, env: Env, which: Which) -> (Env, bool) {
     (env, are_right)
 }
 
-/// Suspends both threads by one call: whether the codes are 0.
+/// Suspends both threads by one call, and gives whether the codes are 0.
 fn suspend_both<R: Wait + AllocGlobal>(rt: &R, env: Env) -> (Env, bool) {
     let mut env = env;
     let done = match env.suspend_thread_list(rt, rt.alloc(), &BOTH) {
@@ -219,7 +218,7 @@ fn suspend_both<R: Wait + AllocGlobal>(rt: &R, env: Env) -> (Env, bool) {
     (env, done)
 }
 
-/// Resumes both threads by one call: whether the codes are 0.
+/// Resumes both threads by one call, and gives whether the codes are 0.
 fn resume_both<R: Wait + AllocGlobal>(rt: &R, env: &mut Env) -> bool {
     match env.resume_thread_list(rt, rt.alloc(), &BOTH) {
         Ok(codes) => codes.as_slice() == [0, 0].as_slice(),
@@ -227,7 +226,7 @@ fn resume_both<R: Wait + AllocGlobal>(rt: &R, env: &mut Env) -> bool {
     }
 }
 
-/// An environment suspends both threads by one call while they run, and resumes them. The second runs again then.
+/// An environment suspends both threads by one call while they run, and resumes them. Then the second runs again.
 fn suspend_together<R: Threads + Wait + Sync + AllocGlobal>(
     rt: &R,
     env: Env,
@@ -250,8 +249,8 @@ fn suspend_together<R: Threads + Wait + Sync + AllocGlobal>(
     Ok((env, threads))
 }
 
-/// An environment traces both threads, of which the first is held and the second runs until the first has tried to return.
-/// The second runs again then.
+/// An environment traces both threads. The first is held, and the second runs until the first has tried to return. Then the
+/// second runs again.
 fn trace_together<R: Threads + Wait + Sync + AllocGlobal>(
     rt: &R,
     env: Env,
@@ -273,7 +272,7 @@ fn trace_together<R: Threads + Wait + Sync + AllocGlobal>(
     Ok((env, threads))
 }
 
-/// An environment suspends, resumes and traces two threads, and another has a seat at the first.
+/// An environment suspends, resumes and traces two threads. Another environment has a seat at the first.
 fn in_turn<R: Threads + Wait + Sync + AllocGlobal>(rt: &R, limits: Limits) -> Result<(), Fail>
     requires threads { limits.threads ≡ 2 }
     requires envs { limits.envs ≡ 2 }
@@ -316,8 +315,9 @@ fn in_turn<R: Threads + Wait + Sync + AllocGlobal>(rt: &R, limits: Limits) -> Re
     Ok(())
 }
 
-/// A list call asks both threads before it waits for the first: the second is held first. A trace stops both before it reads
-/// the first, and lets none go before both were read: the first, which stands, may not return until the second stands.
+/// A list call asks both threads before it waits for the first, since the second is held first. A trace stops both threads
+/// before it reads the first, and lets none go before both were read. The first is standing, and may not return until the
+/// second is standing.
 #[test]
 fn two_threads_are_suspended_and_traced_together(rt: HostRuntime) -> Result<(), Fail> {
     let Some(limits) = Limits::new(2, 2, 4, 32, 8) else {
@@ -325,3 +325,6 @@ fn two_threads_are_suspended_and_traced_together(rt: HostRuntime) -> Result<(), 
     };
     in_turn(&rt, limits)
 }
+
+ghost use Rattle.std.specs.Prelude.{◌≡◌};
+ghost use Rattle.ti_agent_tests.specs.Agents.{IsNewSeat};

@@ -1,7 +1,4 @@
-//! Traces of threads that stand, or that nobody may stop any more.
-ghost use Rattle.std.specs.Prelude.{◌≡◌, IfSome, IfOk};
-ghost use Rattle.atomic_table.specs.Seated.{TableId};
-ghost use Rattle.ti_agent_tests.specs.Agents.{HasDeskAt};
+//! Traces of threads that are stopped, or that no trace may stop any more.
 
 use crate::hand_overs::{close, expect};
 use crate::rounds::{run_out, waiting_thread};
@@ -14,13 +11,13 @@ use ti_handshake::SharedCell;
 use ti_types::{Call, Entry, EnvNo, Frame, Limits, MethodNo, Place, StackInfo, ThreadNo, TiError};
 use ti_vmop::VmTurn;
 
-/// Whether it tells of this thread with these bits and frames.
+/// Whether this stack is of this thread, with these bits and frames.
 fn tells(info: &StackInfo, thread: ThreadNo, bits: u32, frames: &[Frame]) -> bool {
     info.thread == thread && info.state == bits && info.frames.frames() == frames
 }
 
-/// Traces the second thread, which has ended, the first, which waits for an object, and the second again: three calls are
-/// spent at it, and two at the first.
+/// Traces the second thread, the first, and the second again. The second has ended, and the first waits for an object. Three
+/// calls are spent at the second, and two at the first.
 fn trace_one_twice<R: Wait + AllocGlobal>(rt: &R, env: &mut Env) -> Result<(), Fail> {
     let turn = Mutex::new(VmTurn::new());
     let (first, second) = (ThreadNo(0), ThreadNo(1));
@@ -60,7 +57,7 @@ fn trace_one_twice<R: Wait + AllocGlobal>(rt: &R, env: &mut Env) -> Result<(), F
     )
 }
 
-/// A list that names a thread twice gets two answers of it, under one stop.
+/// A list that names a thread twice gets two stacks of it, under one stop.
 #[test]
 fn a_thread_is_traced_as_often_as_it_is_named(rt: HostRuntime) -> Result<(), Fail> {
     let Some(limits) = Limits::new(2, 1, 4, 32, 3) else {
@@ -101,7 +98,7 @@ pub(crate) fn seat_of(env: Env) -> Option<EnvSeat>
     Some(desk.into_seat())
 }
 
-/// With one call for the thread neither trace takes place (209), and then its state is asked, which costs that call.
+/// With one call left at the thread, both traces are refused (209). Then its state is asked, which costs this call.
 fn ask_behind_traces<R: Wait + AllocGlobal>(
     rt: &R,
     cell: &SharedCell,
@@ -129,7 +126,7 @@ fn ask_behind_traces<R: Wait + AllocGlobal>(
     Ok(seat)
 }
 
-/// A trace that is refused for its calls leaves nothing in the thread's history, and the one call is still there.
+/// A trace that is refused for lack of calls leaves nothing in the thread's history, and costs nothing.
 #[test]
 fn traces_without_calls_left_cost_nothing(rt: HostRuntime) -> Result<(), Fail> {
     let Some(limits) = Limits::new(1, 1, 4, 32, 1) else {
@@ -150,3 +147,7 @@ fn traces_without_calls_left_cost_nothing(rt: HostRuntime) -> Result<(), Fail> {
     assert!(rt; history == [Entry::Asked(EnvNo(0), 0, Call::State)].as_slice());
     Ok(())
 }
+
+ghost use Rattle.std.specs.Prelude.{◌≡◌, IfSome, IfOk};
+ghost use Rattle.atomic_table.specs.Seated.{TableId};
+ghost use Rattle.ti_agent_tests.specs.Agents.{HasDeskAt};

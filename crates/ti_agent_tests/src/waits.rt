@@ -1,5 +1,4 @@
-//! Who waits sleeps: what long waits take of the processor.
-ghost use Rattle.std.specs.Prelude.{◌≡◌};
+//! Whoever waits sleeps: how much processor time long waits take.
 
 use crate::agents::{TURNS, await_held, both, environment};
 use std::rt::Clock;
@@ -16,10 +15,10 @@ use ti_types::{Caps, EnvNo, Limits, ThreadNo};
 /// How many milliseconds a wait lasts.
 const WAIT: u64 = 300;
 
-/// How many of them it may take of the processor. Who looks all the time takes what others leave of it.
+/// How many milliseconds of processor time a wait may take. A loop that looks all the time takes all that others leave.
 const MOST: u64 = 30;
 
-/// Polls until it handed over once and went on. Whether it did.
+/// Polls until the thread has handed over once and returned, and gives whether that happened.
 fn answer_one<R: Wait>(rt: &R, running: Running) -> bool {
     let mut running = running;
     for _ in 0..TURNS {
@@ -29,7 +28,7 @@ fn answer_one<R: Wait>(rt: &R, running: Running) -> bool {
                     let _ended = again.end(rt);
                     return true;
                 }
-                Polled::Held(_) => return false,
+                Polled::Stays(_) => return false,
             }
         }
         thread::yield_now();
@@ -38,8 +37,8 @@ fn answer_one<R: Wait>(rt: &R, running: Running) -> bool {
     false
 }
 
-/// The thread is held at a poll, and waits until it may go on. Then it runs without a poll for a while, and answers one
-/// call. What its wait took of the processor. `None` where that does not come, here and below.
+/// The thread is held at a poll, and waits until it may return. Then it runs for a while without a poll, and answers one
+/// call. It gives the processor time of the thread's wait. `None` if any of this fails, here and below.
 fn run_thread<R: Wait + Clock + CpuClock>(
     rt: &R,
     running: Running,
@@ -58,8 +57,8 @@ fn run_thread<R: Wait + Clock + CpuClock>(
     }
 }
 
-/// The environment suspends the thread for a while. Then it asks a call of the thread that does not poll. What that wait
-/// took of the processor.
+/// The environment suspends the thread for a while. Then it asks a call of the thread, which does not poll. It gives the
+/// processor time of that wait.
 fn run_environment<R: Wait + Clock + CpuClock>(
     rt: &R,
     env: Env,
@@ -82,7 +81,7 @@ fn run_environment<R: Wait + Clock + CpuClock>(
     Some(after.saturating_sub(before))
 }
 
-/// What the two waits took.
+/// The processor time of the two waits.
 fn waited<R: Threads + Wait + Sync + Clock + CpuClock + AllocGlobal>(
     rt: &R,
     limits: Limits,
@@ -107,8 +106,8 @@ fn waited<R: Threads + Wait + Sync + Clock + CpuClock + AllocGlobal>(
     ))
 }
 
-/// A thread that is suspended sleeps, and is woken once it is resumed; an environment that waits for a thread which does not
-/// poll sleeps, and is woken once it hands over.
+/// A thread that is suspended sleeps, and is woken when it is resumed. An environment that waits for a thread that does not
+/// poll sleeps, and is woken when the thread hands over.
 #[test]
 fn who_waits_sleeps(rt: HostRuntime) -> Result<(), Fail> {
     let Some(limits) = Limits::new(1, 2, 4, 16, 128) else {
@@ -127,3 +126,5 @@ fn who_waits_sleeps(rt: HostRuntime) -> Result<(), Fail> {
     assert!(rt; asking < Duration::from_millis(MOST));
     Ok(())
 }
+
+ghost use Rattle.std.specs.Prelude.{◌≡◌};

@@ -1,5 +1,4 @@
 //! A window: how many calls may be out at once.
-ghost use Rattle.std.specs.Prelude.{◌≡◌, []};
 
 use crate::agents::{both, environment};
 use crate::hand_overs::expect;
@@ -19,7 +18,7 @@ pub(crate) fn post_count<R: Wait + AllocGlobal>(rt: &R, env: &mut Env) -> Result
     }
 }
 
-/// A call that may wait is refused, and one that is told at once goes through.
+/// A call that may wait is refused, and one that is answered at once goes through.
 fn ask_at_a_full_window<R: Wait + AllocGlobal>(rt: &R, env: &mut Env) -> Result<(), Fail> {
     match env.post(rt, rt.alloc(), ThreadNo(0), Call::FrameCount) {
         Err(TiError::OutOfMemory) => {}
@@ -54,7 +53,7 @@ fn fill_and_collect<R: Wait + AllocGlobal>(
     Ok(running)
 }
 
-/// An environment with a window of one at a thread that runs.
+/// Tests an environment with a window of one, at a thread that runs.
 fn ask_one<R: Wait + AllocGlobal>(rt: &R, limits: Limits) -> Result<(), Fail>
     requires threads { limits.threads ≡ 1 }
     requires envs { limits.envs ≡ 2 }
@@ -74,7 +73,7 @@ fn ask_one<R: Wait + AllocGlobal>(rt: &R, limits: Limits) -> Result<(), Fail>
     Ok(())
 }
 
-/// A post past the window is refused with 110, under limits that last, until an answer is collected.
+/// A post beyond the window is refused with 110 until an answer is collected. The limits are lasting ones.
 #[test]
 fn a_post_past_the_window_is_refused(rt: HostRuntime) -> Result<(), Fail> {
     let Some(limits) = Limits::lasting(1, 2, 4) else {
@@ -85,3 +84,5 @@ fn a_post_past_the_window_is_refused(rt: HostRuntime) -> Result<(), Fail> {
     };
     ask_one(&rt, limits)
 }
+
+ghost use Rattle.std.specs.Prelude.{◌≡◌, []};

@@ -1,4 +1,4 @@
--- The rule of a cell, and what each step tells.
+-- The rule of a cell, and what each step shows.
 use Rattle.std.specs.Prelude.{ℕ, suc, ◌≡◌, ◌≢◌, ◌≤◌, ◌+◌, ◌⊎◌, if◌then◌else◌, Bool, true, false, List, [], ◌∷◌, length, Option, Some, None}
 use mathlib.Core.Option.{some, none}
 use mathlib.Core.Option as maybe
@@ -20,7 +20,7 @@ abbrev pub Each : {A : Type 0} → (A → Type 0) → List A → Type 0
 Each P [] = Unit {0}
 Each P (x ∷ xs) = P x × Each P xs
 
--- what the seat j knows of the history, where `count` seats were made
+-- what the seat j knows of the history, when `count` seats were made
 pub record Knows (subject : Subject) (history : List Entry) (tickets : List Ticket) (count j : ℕ) (v : View) : Type 0 where
   pub numbered : v.number ≡ j
   pub made : j ≡ 0 → v.made ≡ count
@@ -30,12 +30,13 @@ pub record Knows (subject : Subject) (history : List Entry) (tickets : List Tick
   pub posted : v.posted ≡ tickets_of j tickets
   pub looks : Each (IsLook subject.limits history) v.looked
 
--- at most the holder holds, while the lock bit is set, and it has seen the history
+-- A seat holds only if it is the holder and the lock bit is set. Then it has seen the whole history and all tickets, and has
+-- not come back
 abbrev pub Holds : List Entry → List Ticket → Bool → ℕ → ℕ → View → Type 0
 Holds history tickets locked holder j v = v.holds ≡ true → (locked ≡ true) × (j ≡ holder) × (v.seen ≡ history) × (v.found ≡ tickets) × (v.gone ≡ false)
 
--- what a user knows is so of this history and these tickets: the history begins with all that it had seen, and has of its
--- number just the entries that it made
+-- What a user knows is true of this history and these tickets. The history begins with all that the user had seen. Its
+-- entries with the user's number are exactly those that the user made
 pub record IsSo (limits : Limits) (history : List Entry) (tickets : List Ticket) (u : User) : Type 0 where
   pub begins : StartsWith history u.seen
   pub all_mine : u.mine ≡ made_by u.number history
@@ -68,22 +69,22 @@ abbrev pub WasSeen : List Entry → List User → Type 0
 WasSeen history [] = ⊥
 WasSeen history (u ∷ us) = (u.seen ≡ history) ⊎ WasSeen history us
 
--- so has a seat that is there
+-- a seat that is there has seen this history
 abbrev pub IsSeen : List Entry → List View → Type 0
 IsSeen history views = (j : ℕ) × (v : View) × (get_elem? views j ≡ some v) × (v.gone ≡ false) × (v.seen ≡ history)
 
--- the slot with this history is at its place where the lock bit is clear; where it is set the place is the holder's
+-- If the lock bit is clear, the slot with this history is at its place. If it is set, the place is the holder's
 abbrev pub Placed : Subject → List Entry → List Ticket → Bool → List (maybe.Option (Option Thread)) → Type 0
 Placed subject history tickets false homes = (t : Thread) × (homes ≡ some (Some t) ∷ []) × (t.history ≡ history) × (t.uncollected ≡ tickets) × IsAbout subject t
 Placed subject history tickets true homes = homes ≡ none ∷ []
 
--- where the lock bit is set there is a seat that holds
+-- if the lock bit is set, the holder's seat holds the cell
 abbrev pub Held : Bool → ℕ → List View → Type 0
 Held false holder views = Unit {0}
 Held true holder views = (v : View) × (get_elem? views holder ≡ some v) × (v.holds ≡ true)
 
--- There is one legal history, whose length and bits the word has. Seats are numbered as they were made, and a number
--- from there on has no entry
+-- There is one legal history, and the word has its length and bits. Seats are numbered as they were made. A number that no
+-- seat has yet has no entry and no ticket
 pub record Kept (subject : Subject) (s : State (Option Thread) View) : Type 0 where
   pub history : List Entry
   pub tickets : List Ticket
@@ -101,15 +102,15 @@ pub record Kept (subject : Subject) (s : State (Option Thread) View) : Type 0 wh
   pub unmade : (n : ℕ) → length s.views ≤ n → made_by n history ≡ []
   pub unasked : (n : ℕ) → length s.views ≤ n → tickets_of n tickets ≡ []
 
--- the tickets are those that were found, but for the seat's own
+-- the tickets of all other seats are those that were found
 abbrev pub Keeps : ℕ → List Ticket → List Ticket → Type 0
 Keeps n found tickets = tickets_but n tickets ≡ tickets_but n found
 
 abbrev Mine : Type 0
 Mine = Me (Option Thread) View
 
--- the slot that is taken: its history is legal, begins with what was seen, has of the seat's number just the entries that
--- were made from it, and had the bits that were looked at when it had that length
+-- The slot that is taken. Its history is legal, and begins with what was seen. Its entries with the seat's number are
+-- exactly those made from the seat. At the length of each look, it had the bits that the look showed
 pub record IsTaken (v : View) (t : Thread) : Type 0 where
   pub legal : is_legal v.subject.limits t.history ≡ true
   pub begins : StartsWith t.history v.seen
@@ -118,7 +119,7 @@ pub record IsTaken (v : View) (t : Thread) : Type 0 where
   pub about : IsAbout v.subject t
   pub looks : Each (IsLook v.subject.limits t.history) v.looked
 
--- the lock bit was set by this step, and the slot is out; or nothing changed
+-- this step set the lock bit, and the slot is out; or nothing changed
 abbrev pub locks : Step (Option Thread) → Mine → ℕ → Mine → Type 0
 locks st m found m' = (found ≡ st.first → (t : Thread) × (m' ≡ (holding m.0 t.history t.uncollected, (0, Some t) ∷ m.1)) × IsTaken m.0 t) × (found ≢ st.first → m' ≡ m)
 
@@ -126,25 +127,25 @@ locks st m found m' = (found ≡ st.first → (t : Thread) × (m' ≡ (holding m
 abbrev pub frees : Step (Option Thread) → Mine → ℕ → Mine → Type 0
 frees st m found m' = (t : Thread) → m.1 ≡ (0, Some t) ∷ [] → (m' ≡ (stored m.0 t.history t.uncollected, [])) × ((stored m.0 t.history t.uncollected).mine ≡ made_by m.0.number t.history)
 
--- the word was read; as many entries as were seen, or more, were counted
+-- the word was read, and counts at least as many entries as were seen
 abbrev pub glances : Step (Option Thread) → Mine → ℕ → Mine → Type 0
 glances st m found m' = (m' ≡ (glanced m.0 (look_of found), m.1)) × (length m.0.seen ≤ (look_of found).count)
 
--- the slot with the history, or none where the lock bit is set
+-- the slot with the history, or none if the lock bit is set
 abbrev pub Left : Subject → List Entry → List Ticket → Bool → Option Thread → Type 0
 Left subject history tickets false slot = (t : Thread) × (slot ≡ Some t) × (t.history ≡ history) × (t.uncollected ≡ tickets) × IsAbout subject t
 Left subject history tickets true slot = slot ≡ None
 
--- How a cell ends for a seat with this view: some state keeps the rule, the seat sits there, and the slot is given just
--- where that state's lock bit is clear. It is the table's last state, and by `Kept` it has what each seat knew that came
--- back; nothing here ties it to seats that did not
+-- How a cell ends for a seat with this view. Some state keeps the rule, and the seat sits there. The slot is given exactly
+-- if that state's lock bit is clear. The state is the table's last one. By `Kept` it has what each seat that came back knew.
+-- Nothing here ties it to seats that did not
 pub record Ends (v : View) (slot : Option Thread) : Type 0 where
   pub state : State (Option Thread) View
   pub kept : Kept v.subject state
   pub sits : get_elem? state.views v.number ≡ some v
   pub left : Left v.subject kept.history kept.tickets kept.locked slot
 
--- The whole slot: it is there, and of each number it has just the entries that a user of this number made, and the
--- tickets of its calls; of a number with no such user it has none
+-- The whole slot. It is there. Its entries with each number are exactly those that a user of this number made, and its
+-- tickets those of that user's calls. A number with no such user has none
 abbrev pub IsWhole : List User → Option Thread → Type 0
 IsWhole us slot = (t : Thread) × (slot ≡ Some t) × ((n : ℕ) → (made_by n t.history ≡ made_from n us) × (tickets_of n t.uncollected ≡ posted_from n us))

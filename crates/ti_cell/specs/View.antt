@@ -37,15 +37,15 @@ splitter v = record { number = v.number; seen = v.seen; mine = v.mine; looked = 
 abbrev pub split_off : View → View
 split_off v = newcomer v.subject v.made 0
 
--- the view with a history seen whole, which it holds
+-- the view of a seat that holds the cell, and has seen this history whole
 abbrev pub holding : View → List Entry → List Ticket → View
 holding v history tickets = record { number = v.number; seen = history; mine = v.mine; looked = v.looked; posted = v.posted; found = tickets; taken = v.taken + 1; holds = true; made = v.made; back = v.back; gone = v.gone; subject = v.subject }
 
--- the view with the history that it stored, whose further entries are its own
+-- the view after a store: this history was seen, and its further entries are the seat's own
 abbrev pub stored : View → List Entry → List Ticket → View
 stored v history tickets = record { number = v.number; seen = history; mine = v.mine ++ drop (length v.seen) history; looked = v.looked; posted = tickets_of v.number tickets; found = []; taken = v.taken; holds = false; made = v.made; back = v.back; gone = v.gone; subject = v.subject }
 
--- the view with one more load
+-- the view with one more look
 abbrev pub glanced : View → Look → View
 glanced v look = record { number = v.number; seen = v.seen; mine = v.mine; looked = v.looked ++ look ∷ []; posted = v.posted; found = v.found; taken = v.taken; holds = v.holds; made = v.made; back = v.back; gone = v.gone; subject = v.subject }
 
@@ -57,7 +57,7 @@ as_user v = record { number = v.number; seen = v.seen; mine = v.mine; looked = v
 abbrev pub rejoined : View → View → View
 rejoined v w = record { number = v.number; seen = v.seen; mine = v.mine; looked = v.looked; posted = v.posted; found = v.found; taken = v.taken; holds = v.holds; made = v.made; back = v.back ++ as_user w ∷ []; gone = v.gone; subject = v.subject }
 
--- some subject
+-- some subject, for a view that has none
 abbrev nothing : Subject
 nothing = record { limits = least; thread = record { 0 = 0 } }
 
@@ -73,7 +73,7 @@ users v = as_user v ∷ v.back
 abbrev pub IsAlone : View → Type 0
 IsAlone v = (v.number ≡ 0) × (v.made ≡ length v.back + 1)
 
--- what the user with the number n made, where it is among these
+-- what the user with the number n made, if it is among these
 abbrev pub made_from : ℕ → List User → List Entry
 made_from n [] = []
 made_from n (u ∷ us) = if u.number == n then u.mine else made_from n us

@@ -1,16 +1,9 @@
 //! The cell of a thread: how it is made, looked at and closed, and how seats come back to it.
-ghost use Rattle.std.specs.Prelude.{◌≡◌, ◌+◌, true, false, [], ◌∷◌, length, ◌≤◌, IfOk, IfErr, IfSome, IfNone, None};
-ghost use Rattle.ti_types.specs.declared.error.TiError.TheVariants as TiError;
-ghost use Rattle.ti_replay.specs.Legal.{is_legal};
-ghost use Rattle.ti_replay.specs.Makers.{made_by, Adds, StartsWith};
-ghost use Rattle.ti_cell.specs.View.{subject_of, newcomer, splitter, split_off, holding, stored, glanced, rejoined, users, IsAbout, IsAlone};
-ghost use Rattle.ti_cell.specs.Rule.{IsTaken, Ends, Each, IsSo, IsWhole, WasSeen, Keeps};
-ghost use Rattle.ti_cell.specs.Seats.{env_seats};
 
 use crate::hold::Hold;
 use crate::look::Look;
 use crate::parked::{Parked, unpark};
-use crate::seat::{CellSeat, EnvSeat, OwnSeat, Pass};
+use crate::seat::{CellSeat, EnvSeat, OwnerSeat, Pass};
 use crate::sleepers::{Sleepers, Wish};
 use crate::view::{CellRule, Frees, Glances, Locks, Returns, Seats, Subject, View};
 use crate::word::Word;
@@ -25,7 +18,28 @@ use ti_types::{Limits, ThreadNo, TiError};
 
 /// One thread's slot behind one word.
 ///
-/// Contracts see it as the name of its table, which each of its seats has too: a seat is used with its own cell.
+/// Contracts see it as the name of its table. Each of its seats has that name too, so that a seat is used with its own cell.
+///
+/// # Examples
+///
+/// ```rattle
+/// # use ti_cell::ThreadCell;
+/// # use ti_slot::Asked;
+/// # use ti_types::{Answer, Call, EnvNo, Limits, ThreadNo, TraceBuf};
+/// # let limits = Limits::new(1, 1, 4, 16, 8).ok_or("the limits are in range")?;
+/// let (cell, own, mut seats) = ThreadCell::make(rt.alloc(), limits, ThreadNo(0))?;
+/// let mut hold = cell.hold(&rt, own);
+/// assert!(rt; hold.slot().start().is_ok());
+/// let mut own = hold.store();
+/// // An environment holds the cell by its own seat.
+/// let mut hold = cell.hold(&rt, seats.pop().ok_or("there is one environment")?);
+/// let asked = hold.slot().ask(EnvNo(0), Call::State, TraceBuf::none());
+/// let seat = hold.store();
+/// assert!(rt; matches!(asked, Asked::Answered(Answer::State(0x5))));
+/// assert_eq!(rt; cell.look(&mut own).count, 2, "a start and a call");
+/// cell.rejoin(&mut own, seat);
+/// assert!(rt; cell.close(own).is_some());
+/// ```
 #[derive(Drop)]
 pub struct ThreadCell {
     table: Table<Option<Parked>, View, Subject, CellRule, Global>,
@@ -46,15 +60,15 @@ impl Model for ThreadCell {
 }
 
 impl ThreadCell {
-    /// A cell with the slot of a thread that has not started, the thread's own seat, and one seat for each environment,
-    /// in the order of their numbers.
+    /// Makes a cell with the slot of a thread that has not started. With it come the thread's own seat and one seat for each
+    /// environment, in the order of their numbers.
     ///
-    /// Fails with `OutOfMemory` (110) where there is no memory for all that, and in no other case (this profile).
+    /// Fails with `OutOfMemory` (110) if there is no memory for all that, and in no other case (this profile).
     pub fn make(
         alloc: Global,
         limits: Limits,
         number: ThreadNo,
-    ) -> Result<(ThreadCell, OwnSeat, Vec<EnvSeat>), TiError>
+    ) -> Result<(ThreadCell, OwnerSeat, Vec<EnvSeat>), TiError>
         ensures own { IfOk result (λ m. (m.1.cell ≡ m.0) × (m.1.view ≡ newcomer (subject_of limits number) 0 (limits.envs + 1))) }
         ensures others { IfOk result (λ m. m.2.items ≡ env_seats m.0 (subject_of limits number) limits.envs) }
         ensures memory { IfErr result (λ e. e ≡ TiError.OutOfMemory) }
@@ -77,7 +91,7 @@ impl ThreadCell {
         Ok((cell, own, seats))
     }
 
-    /// A cell with the owner's pass alone.
+    /// Makes a cell with the owner's pass alone.
     fn open(alloc: Global, limits: Limits, number: ThreadNo) -> Result<(ThreadCell, Pass), TiError>
         ensures pass { IfOk result (λ m. (m.1.table_id ≡ m.0) × (m.1.me ≡ (newcomer (subject_of limits number) 0 1, []))) }
         ensures memory { IfErr result (λ e. e ≡ TiError.OutOfMemory) }
@@ -101,7 +115,7 @@ impl ThreadCell {
         }
     }
 
-    /// A seat of the next number, which is given, split off the owner's.
+    /// Splits a seat off the owner's. It gets the next number, which is given.
     fn split(&self, pass: &mut Pass, number: u32) -> EnvSeat
         requires pass { pass.old.table_id ≡ self.now }
         requires owner { (pass.old.me.0.number ≡ 0) × (pass.old.me.0.gone ≡ false) }
@@ -119,12 +133,13 @@ impl ThreadCell {
         }
     }
 
-    /// Sets the lock bit and moves the slot out, once nobody holds the cell. Between its looks it pauses, then yields its
-    /// processor, and then it sleeps.
+    /// Sets the lock bit and moves the slot out, once nobody holds the cell. Between its looks it first pauses, then yields
+    /// its processor, and then sleeps.
     ///
-    /// The slot has one legal history, which begins with all that the seat has seen and has of its number just the
-    /// entries that were made from it. What the seat looked at was that history, when it had the length of the look.
-    /// The seat is this cell's; it comes back when the hold is stored.
+    /// The seat is this cell's. It comes back when the hold is stored.
+    ///
+    /// The slot has one legal history, which begins with all that the seat has seen. Its entries with the seat's number are
+    /// exactly those made from the seat. What the seat looked at was this history, when it had the length of the look.
     pub fn hold<'a, K, R: Wait>(&'a self, rt: &R, seat: CellSeat<K>) -> Hold<'a, K>
         requires cell { seat.cell ≡ self.now }
         ensures cell { result.cell ≡ self.now }
@@ -148,8 +163,8 @@ impl ThreadCell {
         }
     }
 
-    /// Takes the lock bit and the slot. While another has it, `Backoff` paces the looks: first pauses, since a hold is
-    /// short, then yields. When it has had enough, the holder does not run, and whoever looks goes to sleep.
+    /// Takes the lock bit and the slot. While another user has them, `Backoff` paces the looks: first pauses, since a hold
+    /// is short, and then yields. When it has had enough, the holder does not run, and the one who looks goes to sleep.
     fn take<R: Wait>(&self, rt: &R, seat: &mut Pass) -> Parked
         requires { (seat.old.table_id ≡ self.now) × (seat.old.me.1 ≡ []) × (seat.old.me.0.gone ≡ false) }
         ensures seat { (seat.new.table_id ≡ seat.old.table_id) × (seat.new.me ≡ (holding seat.old.me.0 result.history result.uncollected, (0, None) ∷ [])) }
@@ -170,7 +185,8 @@ impl ThreadCell {
         unreachable!()
     }
 
-    /// The same by one try, which never waits: the seat comes back as it was when another holds the cell, or came first.
+    /// The same as `hold`, but it tries once and never waits. If another user holds the cell, or comes first, the seat comes
+    /// back as it was.
     pub fn try_hold<'a, K>(&'a self, seat: CellSeat<K>) -> Result<Hold<'a, K>, CellSeat<K>>
         requires cell { seat.cell ≡ self.now }
         ensures cell { IfOk result (λ h. h.cell ≡ self.now) }
@@ -203,7 +219,8 @@ impl ThreadCell {
         }
     }
 
-    /// Takes the lock bit and the slot by one load and one exchange of the word, unless another has them.
+    /// Takes the lock bit and the slot, by one load and one exchange of the word. `None` if another user has them, or comes
+    /// first.
     #[inline]
     fn try_take(&self, seat: &mut Pass) -> Option<Parked>
         requires { (seat.old.table_id ≡ self.now) × (seat.old.me.1 ≡ []) × (seat.old.me.0.gone ≡ false) }
@@ -231,25 +248,25 @@ impl ThreadCell {
         Some(slot)
     }
 
-    /// Sleeps where the thread's history has no more entries than the seat has seen, until somebody stores. It may return
+    /// Sleeps until somebody stores, if the thread's history has no more entries than the seat has seen. It may return
     /// sooner.
     pub fn sleep_without_news<K, R: Wait>(&self, rt: &R, seat: &CellSeat<K>) {
         self.sleep(rt, Wish::More(seat.count as u64), None);
     }
 
-    /// The same, for no longer than this.
+    /// The same as `sleep_without_news`, but for at most this time.
     pub fn sleep_without_news_for<K, R: Wait>(&self, rt: &R, seat: &CellSeat<K>, time: Duration) {
         self.sleep(rt, Wish::More(seat.count as u64), Some(time));
     }
 
-    /// Sleeps where the thread is barred, until a store leaves it not barred. Other stores do not wake it. It may return
+    /// Sleeps until a store leaves the thread not barred, if it is barred. Other stores do not wake it. It may return
     /// sooner.
     pub fn sleep_while_barred<R: Wait>(&self, rt: &R) {
         self.sleep(rt, Wish::Unbarred, None);
     }
 
-    /// Sleeps on the word where it does not show what is waited for, until somebody is called for it (`Sleepers`), or the
-    /// time is over.
+    /// Sleeps on the word until a store calls for it (`Sleepers`), or the time is over. If the word shows what is waited
+    /// for, it does not sleep.
     #[inline(never)]
     fn sleep<R: Wait>(&self, rt: &R, wish: Wish, time: Option<Duration>) {
         self.sleepers.add(wish);
@@ -271,7 +288,7 @@ impl ThreadCell {
         self.table.shared.wake_all(0);
     }
 
-    /// Puts the slot back, clears the lock bit, and wakes who sleeps, if there is one for whom the store is.
+    /// Puts the slot back and clears the lock bit. Then it wakes the sleepers, if the store matters to one of them.
     pub(crate) fn give(&self, seat: &mut Pass, slot: Parked)
         requires seat { (seat.old.table_id ≡ self.now) × (seat.old.me.1 ≡ (0, None) ∷ []) × (seat.old.me.0.holds ≡ true) × (seat.old.me.0.gone ≡ false) }
         requires adds { Adds seat.old.me.0.number seat.old.me.0.seen slot.history }
@@ -289,8 +306,10 @@ impl ThreadCell {
         }
     }
 
-    /// What the word shows, by one load: the bits of the history as it stands, and its length, which is not below the
-    /// length of what the seat has seen. The seat is this cell's; its next hold tells the history that was looked at.
+    /// What the word shows, by one load: the bits that the history has at that moment, and its length. That is at least the
+    /// length of what the seat has seen.
+    ///
+    /// The seat is this cell's. Its next hold finds a history that had these bits when it had this length.
     pub fn look<K>(&self, seat: &mut CellSeat<K>) -> Look
         requires cell { seat.old.cell ≡ self.now }
         ensures seat { (seat.new.cell ≡ seat.old.cell) × (seat.new.view ≡ glanced seat.old.view result) }
@@ -302,9 +321,9 @@ impl ThreadCell {
         .look()
     }
 
-    /// Takes an environment's seat back to the owner's, by one load. What its user knew is kept there, and `close` tells
-    /// it of the slot. Both seats are this cell's.
-    pub fn rejoin(&self, own: &mut OwnSeat, seat: EnvSeat)
+    /// Takes an environment's seat back to the owner's, by one load. The owner's seat keeps what its user knew, and `close`
+    /// says that it is true of the slot. Both seats are this cell's.
+    pub fn rejoin(&self, own: &mut OwnerSeat, seat: EnvSeat)
         requires cell { own.old.cell ≡ self.now }
         requires other { seat.cell ≡ self.now }
         requires owner { own.old.view.number ≡ 0 }
@@ -321,15 +340,17 @@ impl ThreadCell {
         self.table.shared.join_seat::<Returns>(&mut own.seat, seat);
     }
 
-    /// The slot at the end, with the one history that the rule keeps. It is legal, and of each user whose seat came back,
-    /// and of the thread itself, it begins with all that this user had seen and has just the entries that it made. The
-    /// seat is this cell's.
+    /// The slot at the end, with the one history that the rule keeps. The seat is this cell's.
     ///
-    /// Where all seats came back (`IsAlone`), the slot is there, and has no other entry: its history is what one of its
-    /// users saw last. Else it is `None` where the word
-    /// that the cell ends with has the lock bit, and only there (`Word::unlocked`). Since a hold is stored, and borrows
-    /// the cell, that does not happen, but of seats that are away no clause says so.
-    pub fn close(self, seat: OwnSeat) -> Option<Slot>
+    /// The history is legal. It begins with all that the thread itself and each user whose seat came back had seen. Of each
+    /// of them it has exactly the entries that it made.
+    ///
+    /// If all seats came back (`IsAlone`), the slot is there, and has no other entry. Its history is what one of its users
+    /// saw last.
+    ///
+    /// Otherwise the result is `None` exactly if the word that the cell ends with has the lock bit (`Word::unlocked`). A
+    /// hold has to be stored, and borrows the cell, so that does not happen. But of seats that are away no clause says so.
+    pub fn close(self, seat: OwnerSeat) -> Option<Slot>
         requires cell { seat.cell ≡ self }
         ensures ends { Ends seat.view result }
         ensures legal { IfSome result (λ s. is_legal s.limits s.history ≡ true) }
@@ -357,3 +378,11 @@ impl ThreadCell {
         word.unlocked(unpark(slot))
     }
 }
+
+ghost use Rattle.std.specs.Prelude.{◌≡◌, ◌+◌, true, false, [], ◌∷◌, length, ◌≤◌, IfOk, IfErr, IfSome, IfNone, None};
+ghost use Rattle.ti_types.specs.declared.error.TiError.TheVariants as TiError;
+ghost use Rattle.ti_replay.specs.Legal.{is_legal};
+ghost use Rattle.ti_replay.specs.Makers.{made_by, Adds, StartsWith};
+ghost use Rattle.ti_cell.specs.View.{subject_of, newcomer, splitter, split_off, holding, stored, glanced, rejoined, users, IsAbout, IsAlone};
+ghost use Rattle.ti_cell.specs.Rule.{IsTaken, Ends, Each, IsSo, IsWhole, WasSeen, Keeps};
+ghost use Rattle.ti_cell.specs.Seats.{env_seats};

@@ -1,16 +1,11 @@
-//! A hold: the slot is out of its cell, and with the one who holds.
-ghost use Rattle.std.specs.Prelude.{◌≡◌, true};
-ghost use Rattle.ti_replay.specs.Legal.{is_legal};
-ghost use Rattle.ti_replay.specs.Makers.{made_by, Adds, StartsWith};
-ghost use Rattle.ti_cell.specs.View.{stored, IsAbout};
-ghost use Rattle.ti_cell.specs.Rule.{Keeps};
+//! A hold: the slot is out of its cell, and its user has it.
 
 use crate::cell::ThreadCell;
 use crate::parked::Parked;
 use crate::seat::{CellSeat, Pass};
 use std::marker::{Model, PhantomData};
 
-/// The slot, taken out of its cell. It has to be stored: to let go of it is a compile error.
+/// The slot, taken out of its cell. It has to be stored: dropping it is a compile error.
 ///
 /// Contracts see it as the cell, its seat's view, and the slot.
 pub struct Hold<'a, K> {
@@ -33,9 +28,10 @@ impl<'a, K> Model for Hold<'a, K> {
 }
 
 impl<'a, K> Hold<'a, K> {
-    /// Puts the slot back, clears the lock bit, and gives the seat back, which has now seen the slot's history.
+    /// Puts the slot back, clears the lock bit, and gives the seat back. The seat has now seen the slot's history.
     ///
-    /// The slot is the one that was held, and all that was added to its history since is of this seat's number.
+    /// The slot is the one that was held. All that was added to its history since is of this seat's number. The tickets of
+    /// all other seats are those that were found.
     pub fn store(self) -> CellSeat<K>
         requires adds { Adds self.view.number self.view.seen self.slot.history }
         requires keeps { Keeps self.view.number self.view.found self.slot.uncollected }
@@ -65,3 +61,9 @@ impl<'a, K> Hold<'a, K> {
         }
     }
 }
+
+ghost use Rattle.std.specs.Prelude.{◌≡◌, true};
+ghost use Rattle.ti_replay.specs.Legal.{is_legal};
+ghost use Rattle.ti_replay.specs.Makers.{made_by, Adds, StartsWith};
+ghost use Rattle.ti_cell.specs.View.{stored, IsAbout};
+ghost use Rattle.ti_cell.specs.Rule.{Keeps};

@@ -1,16 +1,13 @@
-//! `slot` has a file of its own: its clause names the row of `Hold`, which the file that declares `Hold` cannot import.
-ghost use Rattle.std.specs.Prelude.{◌≡◌, []};
-ghost use Rattle.std.specs.Borrow.{sem, follows};
-ghost use mir.Syntax.{named};
-ghost use Rattle.ti_slot.specs.contracts.slot.Slot as slot_contracts;
-ghost use Rattle.ti_cell.specs.contracts.hold.Hold.{the_row};
-ghost use Rattle.ti_cell.specs.Seats.{with_slot};
+//! How a hold lends its slot.
+//!
+//! `slot` has a file of its own, since its clause names the row of `Hold`. The file that declares `Hold` cannot import that
+//! row.
 
 use crate::hold::Hold;
 use ti_slot::Slot;
 
 impl<'a, K> Hold<'a, K> {
-    /// The slot that is held: what is done to it is done to the cell's.
+    /// Lends the slot that is held. What is done to it is done to the cell's.
     // The borrow checker reads this `follows` only if the row gives the cell's lifetime as `named 1`, its number in this
     // signature.
     pub fn slot(&mut self) -> &mut Slot
@@ -20,3 +17,10 @@ impl<'a, K> Hold<'a, K> {
         self.slot.slot_mut()
     }
 }
+
+ghost use Rattle.std.specs.Prelude.{◌≡◌, []};
+ghost use Rattle.std.specs.Borrow.{sem, follows};
+ghost use mir.Syntax.{named};
+ghost use Rattle.ti_slot.specs.contracts.slot.Slot as slot_contracts;
+ghost use Rattle.ti_cell.specs.contracts.hold.Hold.{the_row};
+ghost use Rattle.ti_cell.specs.Seats.{with_slot};

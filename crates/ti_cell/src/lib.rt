@@ -1,24 +1,26 @@
 //! A thread's slot behind one word, shared by its owner and every environment.
 //!
-//! A `ThreadCell` has one place, in which the slot lies, and one word: the lock bit, the armed bit, the barred bit and
-//! the number of entries in the slot's history. Who holds the cell has set the lock bit and moved the slot out; who
-//! stores it moves the slot in and clears the bit. Each user has a seat, in which it carries what it knows, and the
-//! calls take the seat: the owner has the number 0, and environment `e` the number `e + 1`.
+//! A `ThreadCell` has one place for the slot, and one word. The word has the lock bit, the armed bit, the barred bit and the
+//! number of entries in the slot's history. To hold the cell is to set the lock bit and move the slot out. To store is to
+//! move the slot back in and clear the bit.
 //!
-//! Below stand `ti_slot`, whose calls are made while the slot is held, and `atomic_table`, which has the word and the
-//! place. Upward this crate promises:
+//! Each user has a seat, which carries what the user knows, and the calls take the seat. The owner has the number 0, and
+//! environment `e` the number `e + 1`.
 //!
-//! - There is one legal history, whatever the threads do. It begins with all that a seat has seen, and has of its
-//!   entries exactly those that it added (`specs/Rule`).
-//! - A hold gives the slot with that history. What it then adds is its seat's own, and is seen by every later hold.
-//! - Where all seats came back to the owner's, the slot at the end has this history whole, whoever stored last: it begins
-//!   with all that each user had seen, and has each of that user's entries once, and no other (`close`).
-//! - A look is one load, and tells the bits of the history as it stands there, with its length.
-//! - A hold is stored: one that is let go of is a compile error. So is a seat that is used twice.
-//! - Only `ThreadCell::make` takes memory, and its only error is want of it.
+//! This crate uses `ti_slot`, whose calls are made while the slot is held, and `atomic_table`, which has the word and the
+//! place. It promises:
 //!
-//! That a hold comes to an end is not promised: it waits as long as others hold the cell, so it takes `Wait`. Who waits
-//! sleeps after some looks, and a store wakes it; no contract says either.
+//! - There is one legal history, whatever the threads do. It begins with all that a seat has seen. Of the seat's entries it
+//!   has exactly those that the seat added (`specs/Rule`).
+//! - A hold gives the slot with that history. What is added in the hold is its seat's own, and every later hold sees it.
+//! - Once all seats came back to the owner's, the slot at the end has this history whole, whoever stored last (`close`). It
+//!   begins with all that each user had seen. It has each entry of each user once, and no other.
+//! - A look is one load. It shows the bits that the history has at that moment, and its length.
+//! - A hold has to be stored: dropping it is a compile error. So is using a seat twice.
+//! - Only `ThreadCell::make` takes memory, and its only error is lack of it.
+//!
+//! It does not promise that `hold` returns. It waits as long as others hold the cell, so it takes `Wait`. One who waits
+//! sleeps after some looks, and a store wakes it. No contract says either.
 #![tactic(auto)]
 
 mod cell;
@@ -35,5 +37,5 @@ mod word;
 pub use cell::ThreadCell;
 pub use hold::Hold;
 pub use look::Look;
-pub use seat::{CellSeat, Env, EnvSeat, Own, OwnSeat};
+pub use seat::{CellSeat, EnvRole, EnvSeat, OwnerRole, OwnerSeat};
 pub use view::{CellRule, Subject, User, View};

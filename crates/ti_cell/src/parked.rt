@@ -1,18 +1,11 @@
 //! A slot as it lies in its cell.
-ghost use Rattle.std.specs.Prelude.{◌≡◌, ◌≤◌, length, true, IfOk, IfErr};
-ghost use Rattle.ti_types.specs.declared.error.TiError.TheVariants as TiError;
-ghost use Rattle.ti_replay.specs.Legal.{is_legal, is_armed};
-ghost use Rattle.ti_replay.specs.Makers.{made_by};
-ghost use Rattle.ti_replay.specs.View.{view, is_barred};
-ghost use Rattle.ti_slot.specs.Thread.{new_slot};
-ghost use Rattle.ti_cell.specs.View.{tickets_of};
 
 use std::alloc::{AllocError, Global};
 use std::marker::Model;
 use ti_slot::Slot;
 use ti_types::{EnvNo, Limits, ThreadNo, TiError};
 
-/// A slot that is moved by a pointer. Contracts see it as the slot.
+/// A slot in a box, so that moving it moves a pointer. Contracts see it as the slot.
 #[derive(Drop)]
 pub struct Parked {
     pub(crate) slot: Box<Slot>,
@@ -27,6 +20,7 @@ impl Model for Parked {
 }
 
 impl Parked {
+    /// The slot of a thread that has not started. Fails with `OutOfMemory` (110) if there is no memory for it.
     pub fn new(alloc: Global, limits: Limits, number: ThreadNo) -> Result<Parked, TiError>
         ensures thread { IfOk result (λ s. s ≡ new_slot limits number) }
         ensures memory { IfErr result (λ e. e ≡ TiError.OutOfMemory) }
@@ -37,6 +31,7 @@ impl Parked {
         }
     }
 
+    /// How many entries the thread's history has.
     pub fn len(&self) -> usize
         ensures len { result ≡ length self.now.history }
         ensures legal { is_legal self.now.limits self.now.history ≡ true }
@@ -44,24 +39,26 @@ impl Parked {
         self.slot.len()
     }
 
-    /// How many calls that were asked from a seat wait, or have an answer that is not collected.
+    /// How many calls that were asked from the seat of this number wait, or have an answer that is not collected.
     pub fn out_of(&self, number: u32) -> u32
         ensures out { result ≡ length (tickets_of number self.now.uncollected) }
         ensures few { length (tickets_of number self.now.uncollected) ≤ length (made_by number self.now.history) }
     {
         self.slot.tickets();
         match number.checked_sub(1) {
-            Some(env) => self.slot.held(EnvNo(env)),
+            Some(env) => self.slot.out(EnvNo(env)),
             None => 0,
         }
     }
 
+    /// Whether the thread has to hand over at its next poll.
     pub fn armed(&self) -> bool
         ensures { result ≡ is_armed self.now.limits self.now.history }
     {
         self.slot.armed()
     }
 
+    /// Whether the thread may not start or return.
     pub fn barred(&self) -> bool
         ensures { result ≡ is_barred (view self.now.limits self.now.history) }
     {
@@ -69,7 +66,7 @@ impl Parked {
     }
 }
 
-/// The slot itself, and its memory is given back.
+/// Takes the slot out of its box, and frees the box.
 pub fn unpark(parked: Option<Parked>) -> Option<Slot>
     ensures { result ≡ parked }
 {
@@ -81,3 +78,11 @@ pub fn unpark(parked: Option<Parked>) -> Option<Slot>
         None => None,
     }
 }
+
+ghost use Rattle.std.specs.Prelude.{◌≡◌, ◌≤◌, length, true, IfOk, IfErr};
+ghost use Rattle.ti_types.specs.declared.error.TiError.TheVariants as TiError;
+ghost use Rattle.ti_replay.specs.Legal.{is_legal, is_armed};
+ghost use Rattle.ti_replay.specs.Makers.{made_by};
+ghost use Rattle.ti_replay.specs.View.{view, is_barred};
+ghost use Rattle.ti_slot.specs.Thread.{new_slot};
+ghost use Rattle.ti_cell.specs.View.{tickets_of};

@@ -1,32 +1,33 @@
 //! The seats at a cell: the owner's, and one for each environment.
-ghost use Rattle.std.specs.Prelude.{◌≡◌, ◌≤◌, [], true, false, length};
-ghost use Rattle.ti_replay.specs.Legal.{is_legal};
-ghost use Rattle.ti_replay.specs.Makers.{made_by};
 
 use crate::parked::Parked;
 use crate::view::View;
 use atomic_table::Seat;
 use std::marker::{Model, PhantomData};
 
-/// A seat of the table below.
+/// A seat of the cell's table.
 pub(crate) type Pass = Seat<Option<Parked>, View>;
 
 /// The role of the thread itself.
-pub struct Own;
+pub struct OwnerRole;
 
 /// The role of an environment.
-pub struct Env;
+pub struct EnvRole;
 
-pub type OwnSeat = CellSeat<Own>;
+/// The seat of the thread itself.
+pub type OwnerSeat = CellSeat<OwnerRole>;
 
-pub type EnvSeat = CellSeat<Env>;
+/// The seat of an environment.
+pub type EnvSeat = CellSeat<EnvRole>;
 
-/// A seat of a cell, in the role `K`: what one user of the cell knows. Of that it has at run time its number, how many
-/// entries it has seen, and how many of its calls are out. It is moved to where its user runs. Contracts see it as its cell and a `View`.
+/// A seat of a cell, in the role `K`: what one user of the cell knows. It is moved to where its user runs.
+///
+/// At run time it has its number, how many entries it has seen, and how many of its calls are out. Contracts see it as its
+/// cell and a `View`.
 #[derive(Drop)]
 pub struct CellSeat<K> {
     pub(crate) seat: Pass,
-    /// The number of the seat: 0 of the owner, `e + 1` of environment `e`.
+    /// The number of the seat: 0 for the owner, `e + 1` for environment `e`.
     pub(crate) number: u32,
     /// How many entries the seat has seen.
     pub(crate) count: usize,
@@ -49,8 +50,9 @@ impl<K> Model for CellSeat<K> {
 }
 
 impl<K> CellSeat<K> {
-    /// What is always true of a seat: it holds nothing and has not come back, and what was seen is legal, and has of the
-    /// seat's entries just those that it made. No more of its calls are out than it made entries.
+    /// What is always true of a seat. It does not hold the cell, and has not come back. What was seen is a legal history.
+    /// Its entries with the seat's number are exactly those made from the seat. No more of its calls are out than it made
+    /// entries.
     pub fn facts(&self)
         ensures rests { (self.now.view.holds ≡ false) × (self.now.view.found ≡ []) }
         ensures there { self.now.view.gone ≡ false }
@@ -61,7 +63,7 @@ impl<K> CellSeat<K> {
         let _ = &self.seat;
     }
 
-    /// The number of the seat: 0 of the owner, `e + 1` of environment `e` (this profile).
+    /// The number of the seat: 0 for the owner, `e + 1` for environment `e` (this profile).
     pub fn number(&self) -> u32
         ensures { result ≡ self.now.view.number }
     {
@@ -82,3 +84,7 @@ impl<K> CellSeat<K> {
         self.out
     }
 }
+
+ghost use Rattle.std.specs.Prelude.{◌≡◌, ◌≤◌, [], true, false, length};
+ghost use Rattle.ti_replay.specs.Legal.{is_legal};
+ghost use Rattle.ti_replay.specs.Makers.{made_by};

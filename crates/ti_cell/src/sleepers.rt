@@ -1,4 +1,4 @@
-//! Who sleeps on a cell's word.
+//! How many sleep on a cell's word, and what for.
 use crate::word::Word;
 use std::sync::atomic::{AtomicU64, Ordering};
 
@@ -7,14 +7,14 @@ use std::sync::atomic::{AtomicU64, Ordering};
 pub enum Wish {
     /// That nobody holds the cell.
     Free,
-    /// That the history has more entries than these.
+    /// That the history has more entries than this.
     More(u64),
     /// That the thread is not barred.
     Unbarred,
 }
 
 impl Wish {
-    /// Whether the word shows it. Else one may sleep.
+    /// Whether the word shows what is waited for. If it does not, one may sleep.
     pub fn is_met(self, word: Word) -> bool {
         match self {
             Wish::Free => word.is_free(),
@@ -23,7 +23,7 @@ impl Wish {
         }
     }
 
-    /// What one with this wish counts.
+    /// What a sleeper with this wish adds to the count.
     fn weight(self) -> u64 {
         match self {
             Wish::Free | Wish::More(_) => 1,
@@ -32,40 +32,42 @@ impl Wish {
     }
 }
 
-/// What one counts who waits that the thread is not barred. Of the others there are fewer, and each counts 1.
+/// What a sleeper adds to the count if it waits until the thread is not barred. Each other one adds 1, and there are fewer
+/// of them than this.
 const UNBARRED: u64 = 1 << 32;
 
-/// How many sleep on a cell's word, or are about to. It is no part of what contracts see.
+/// How many sleep on a cell's word, or are about to. Contracts do not see it.
 ///
-/// Who is about to sleep counts itself first and looks at the word then; who stores changes the word first and loads the
-/// count then. All four steps have one order, so that one of the two sees what the other did: the sleeper finds another
-/// word than it would sleep on, or the storer finds the sleeper and wakes it.
+/// One who is about to sleep first counts itself, and then looks at the word. One who stores first changes the word, and
+/// then loads the count. All four steps have one order, so one of the two sees what the other did. Either the sleeper finds
+/// another word than it would sleep on, or the storer finds the sleeper and wakes it.
 #[derive(Drop)]
 pub struct Sleepers {
     count: AtomicU64,
 }
 
 impl Sleepers {
+    /// Nobody sleeps.
     pub fn nobody() -> Sleepers {
         Sleepers {
             count: AtomicU64::new(0),
         }
     }
 
-    /// Whether somebody has to be woken once this word was stored, by one load. A store that leaves the thread barred is
-    /// nothing to who waits that it is not.
+    /// Whether somebody has to be woken after this word was stored, by one load. If the thread is still barred, the store
+    /// does not matter to one who waits until it is not.
     #[inline(always)]
     pub fn are_called(&self, word: Word) -> bool {
         let count = self.count.load(Ordering::SeqCst);
         count != 0 && (count % UNBARRED != 0 || Wish::Unbarred.is_met(word))
     }
 
-    /// One who is about to sleep.
+    /// Counts one more, who is about to sleep.
     pub fn add(&self, wish: Wish) {
         self.count.fetch_add(wish.weight(), Ordering::SeqCst);
     }
 
-    /// One who sleeps no more.
+    /// Counts one less, who no longer sleeps.
     pub fn remove(&self, wish: Wish) {
         self.count.fetch_sub(wish.weight(), Ordering::SeqCst);
     }

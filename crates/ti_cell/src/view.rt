@@ -1,4 +1,4 @@
-//! What a seat knows, the rule over all seats, and what each step tells.
+//! What a seat knows, the rule over all seats, and what each step shows.
 use crate::look::Look;
 use crate::parked::Parked;
 use atomic_table::{Join, Play, Split, TableRule};
@@ -12,19 +12,19 @@ pub struct Subject {
     pub thread: ThreadNo,
 }
 
-/// What a seat knows. It is for contracts alone: no value of it is made.
+/// What a seat knows. It is for contracts only: no value of it is made.
 pub struct View {
-    /// The seat's number: 0 of the owner, `e + 1` of environment `e`.
+    /// The seat's number: 0 for the owner, `e + 1` for environment `e`.
     pub number: u32,
-    /// A front of the history, which was seen.
+    /// The prefix of the history that the seat has seen.
     pub seen: LinkedList<Entry>,
     /// The entries that were made from this seat, the earliest first.
     pub mine: LinkedList<Entry>,
-    /// What was looked at, the earliest first.
+    /// What the seat's looks showed, the earliest first.
     pub looked: LinkedList<Look>,
     /// The tickets of this seat's calls that wait, or whose answers were not collected, the earliest posted first.
     pub posted: LinkedList<Ticket>,
-    /// While the seat holds the cell: all such tickets, of whatever seat, as it found them.
+    /// While the seat holds the cell: all such tickets, of all seats, as it found them.
     pub found: LinkedList<Ticket>,
     /// How often the seat took the cell.
     pub taken: u64,
@@ -32,14 +32,14 @@ pub struct View {
     pub holds: bool,
     /// At the owner's seat, how many seats were made, itself among them.
     pub made: u32,
-    /// At the owner's seat, what each seat knew that came back, in the order in which they came.
+    /// At the owner's seat, what each seat that came back knew, in the order of their return.
     pub back: LinkedList<User>,
     /// Whether the seat came back to the owner's.
     pub gone: bool,
     pub subject: Subject,
 }
 
-/// What a user of the slot knows of it. It is for contracts alone: no value of it is made.
+/// What a user of the slot knows of it. It is for contracts only: no value of it is made.
 pub struct User {
     /// The number of its seat.
     pub number: u32,

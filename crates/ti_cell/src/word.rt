@@ -1,6 +1,4 @@
 //! The one word of a cell, bit by bit.
-ghost use Rattle.std.specs.Prelude.{◌≡◌, ◌≢◌, ◌+◌, ◌^◌, ◌<◌, ◌≤◌, ◌%◌, ◌==◌, false, None};
-ghost use Rattle.ti_cell.specs.Word.{word_at, look_of};
 
 use crate::look::Look;
 use ti_slot::Slot;
@@ -12,7 +10,7 @@ pub struct Word {
 }
 
 impl Word {
-    /// The word of a cell that nobody holds.
+    /// The word of a cell that nobody holds. The count is below 2^61.
     pub fn free(count: usize, armed: bool, barred: bool) -> Word
         requires count { count < 2 ^ 61 }
         ensures bits { result.bits ≡ word_at count barred armed false }
@@ -29,7 +27,7 @@ impl Word {
         self.bits % 2 == 0
     }
 
-    /// The same word with the lock bit, which is clear.
+    /// The same word with the lock bit set. It was clear.
     pub fn locked(self) -> Word
         requires free { self.bits % 2 ≡ 0 }
         ensures bits { result.bits ≡ self.bits + 1 }
@@ -39,13 +37,13 @@ impl Word {
         }
     }
 
-    /// The half of the word on which who waits sleeps: a change of the other half alone is no change for them. Its count
-    /// comes round after 2^29 entries.
+    /// The half of the word that sleepers sleep on. A change of the other half alone is no change for them. The count in
+    /// this half comes round after 2^29 entries.
     pub fn low_half(self) -> u32 {
         (self.bits & 0xffff_ffff) as u32
     }
 
-    /// What lies in the cell's place, where the lock bit is clear; else nothing, since the place is the holder's.
+    /// What lies in the cell's place, if the lock bit is clear. Otherwise nothing, since the place is the holder's.
     pub fn unlocked(self, slot: Option<Slot>) -> Option<Slot>
         ensures clear { self.bits % 2 ≡ 0 → result ≡ slot }
         ensures locked { self.bits % 2 ≢ 0 → result ≡ None }
@@ -64,3 +62,6 @@ impl Word {
         }
     }
 }
+
+ghost use Rattle.std.specs.Prelude.{◌≡◌, ◌≢◌, ◌+◌, ◌^◌, ◌<◌, ◌≤◌, ◌%◌, ◌==◌, false, None};
+ghost use Rattle.ti_cell.specs.Word.{word_at, look_of};

@@ -11,7 +11,7 @@ use Rattle.ti_types.specs.declared.call.Call.{Call}
 use Rattle.ti_types.specs.declared.entry.Entry.{Entry}
 use Rattle.ti_types.specs.declared.entry.Entry.TheVariants as entry
 use Rattle.ti_types.specs.declared.event.Event.{Event}
-use Rattle.ti_types.specs.declared.event.Event.TheVariants.{Start, Own, Poll, ToNative, ToBlocked, Back, End, Ask, Stop, Read, Go, AddCaps, Relinquish, GetCaps, SetEnvWord, GetEnvWord}
+use Rattle.ti_types.specs.declared.event.Event.TheVariants.{Start, Stepped, Poll, ToNative, ToBlocked, Back, End, Ask, Stop, Read, Go, AddCaps, Relinquish, GetCaps, SetEnvWord, GetEnvWord}
 use Rattle.ti_types.specs.declared.event.Ticket.{Ticket}
 use Rattle.ti_types.specs.declared.event.Outcome.{Outcome}
 use Rattle.ti_types.specs.declared.event.Outcome.TheVariants as outcome
@@ -32,10 +32,10 @@ use Rattle.ti_slot.specs.Tickets.{has, same, without_ticket, AreOnce}
 use Rattle.ti_slot.specs.Thread.{Thread, ticket_of}
 use Rattle.ti_core.specs.Thread.{ThreadState, own_next, entered_unless, refusal_at, poll_next, reply_now, tickets_after, ask_next, taken}
 use Rattle.ti_core.specs.Threads.{IfPosted, is_ticket_of}
-use Rattle.ti_core.specs.Core.{CoreState, Stepped, thread_at, no_thread, stepped_by, core_told, core_taken, is_uncollected, posts, refused_or_else, stepped_own, IsTicketOf}
+use Rattle.ti_core.specs.Core.{CoreState, StepResult, thread_at, no_thread, stepped_by, core_told, core_taken, is_uncollected, posts, refused_or_else, stepped_own, IsTicketOf}
 use Rattle.ti_replay.specs.Legal.{asked_by}
 use Rattle.ti_core.specs.Runs.{IsTicketBy}
-use Rattle.ti_core.specs.Stands.{Stands}
+use Rattle.ti_core.specs.Mirrors.{Mirrors}
 use Rattle.ti_core.proofs.ThreadLaws.{entered_tickets}
 use Rattle.ti_core.proofs.StepLaws.{env_threads, is_alone, happened, whys, in_core, ask_there, stop_there, read_there, go_there}
 
@@ -91,7 +91,7 @@ and_false : (b : Bool) → (b && false) ≡ false
 and_false true = refl
 and_false false = refl
 
-ask_kept : (events : List Happening) (s : CoreState) (w : Bool) (e : EnvNo) (u : ThreadNo) (call : Call) (k : Ticket) → Stands events s → is_none (whys s w (Ask e u call)) ≡ true → u.0 < length s.threads
+ask_kept : (events : List Happening) (s : CoreState) (w : Bool) (e : EnvNo) (u : ThreadNo) (call : Call) (k : Ticket) → Mirrors events s → is_none (whys s w (Ask e u call)) ≡ true → u.0 < length s.threads
     → has k (thread_at s.limits (slice_set s.threads u.0 (ask_next (thread_at s.limits s.threads u).thread.limits (thread_at s.limits s.threads u) e call)) k.thread).thread.uncollected
     ≡ (has k (thread_at s.limits s.threads k.thread).thread.uncollected || (is_none (given (reply_now (thread_at s.limits s.threads u).thread.limits (thread_at s.limits s.threads u) e call)) && same (ticket_of (thread_at s.limits s.threads u).thread e) k))
 ask_kept events s w e u call k st free there =
@@ -101,12 +101,12 @@ ask_kept events s w e u call k st free there =
     moved_kept s.limits s.threads u (ask_next t.thread.limits t e call) k (is_none (given r) && same (ticket_of t.thread e) k) there
     (λ h. tickets_has t.thread e r k) (λ h. ap (λ b. is_none (given r) && b) (other_thread t.thread e u k n h) ∙ and_false (is_none (given r)))
 
-refused_kept : (s : CoreState) (why : Option TiError) (other : Stepped) (k : Ticket) (b : Bool) → (why ≡ None → has k (thread_at s.limits other.threads k.thread).thread.uncollected ≡ (has k (thread_at s.limits s.threads k.thread).thread.uncollected || (is_none other.told && b)))
+refused_kept : (s : CoreState) (why : Option TiError) (other : StepResult) (k : Ticket) (b : Bool) → (why ≡ None → has k (thread_at s.limits other.threads k.thread).thread.uncollected ≡ (has k (thread_at s.limits s.threads k.thread).thread.uncollected || (is_none other.told && b)))
     → has k (thread_at s.limits (refused_or_else s.envs s.threads why other).threads k.thread).thread.uncollected ≡ (has k (thread_at s.limits s.threads k.thread).thread.uncollected || (is_none (refused_or_else s.envs s.threads why other).told && b))
 refused_kept s None other k b h = h refl
 refused_kept s (Some error) other k b h = sym (or_false (has k (thread_at s.limits s.threads k.thread).thread.uncollected))
 
-held_kept : (s : CoreState) (why : Option TiError) (other : Stepped) (u : ThreadNo) (x : ThreadState) (k : Ticket) → (why ≡ None → u.0 < length s.threads) → other.threads ≡ slice_set s.threads u.0 x → x.thread.uncollected ≡ (thread_at s.limits s.threads u).thread.uncollected
+held_kept : (s : CoreState) (why : Option TiError) (other : StepResult) (u : ThreadNo) (x : ThreadState) (k : Ticket) → (why ≡ None → u.0 < length s.threads) → other.threads ≡ slice_set s.threads u.0 x → x.thread.uncollected ≡ (thread_at s.limits s.threads u).thread.uncollected
     → has k (thread_at s.limits (refused_or_else s.envs s.threads why other).threads k.thread).thread.uncollected ≡ (has k (thread_at s.limits s.threads k.thread).thread.uncollected || false)
 held_kept s None other u x k there e same_ts = still_kept s.limits s.threads other.threads u x k true (λ h. there refl) e same_ts
 held_kept s (Some error) other u x k there e same_ts = sym (or_false (has k (thread_at s.limits s.threads k.thread).thread.uncollected))
@@ -116,10 +116,10 @@ alone_kept : (s : CoreState) (w : Bool) (event : Event) (k : Ticket) → is_alon
 alone_kept s w event k h = ap (λ ts. has k (thread_at s.limits ts k.thread).thread.uncollected) (env_threads s w event h) ∙ sym (or_false (has k (thread_at s.limits s.threads k.thread).thread.uncollected))
 
 -- an event posts its ticket, and takes none away
-pub kept_goes : (events : List Happening) (s : CoreState) (w : Bool) (event : Event) (k : Ticket) → Stands events s
+pub kept_goes : (events : List Happening) (s : CoreState) (w : Bool) (event : Event) (k : Ticket) → Mirrors events s
     → has k (thread_at s.limits (stepped_by s.limits s.envs s.threads w event).threads k.thread).thread.uncollected ≡ (has k (thread_at s.limits s.threads k.thread).thread.uncollected || posts s (happened event w) event k)
 kept_goes events s w (Start u) k st = own_kept s u entry.Start k
-kept_goes events s w (Own u step) k st = own_kept s u (entry.Own step) k
+kept_goes events s w (Stepped u step) k st = own_kept s u (entry.Stepped step) k
 kept_goes events s w (ToNative u) k st = own_kept s u (entry.Hand Native) k
 kept_goes events s w (ToBlocked u kind) k st = own_kept s u (entry.Hand (Blocked kind)) k
 kept_goes events s w (Back u) k st = own_kept s u entry.Back k
@@ -144,7 +144,7 @@ not_ticket : (o : Outcome) (k : Ticket) {P : Ticket → Type 0} → ((v : Ticket
 not_ticket outcome.Done k n p = refl
 not_ticket outcome.Clear k n p = refl
 not_ticket outcome.Went k n p = refl
-not_ticket outcome.Held k n p = refl
+not_ticket outcome.Stays k n p = refl
 not_ticket (outcome.Refused error) k n p = refl
 not_ticket (outcome.Gave a) k n p = refl
 not_ticket (outcome.Posted ticket) k n p = absurd (n ticket p)
@@ -153,7 +153,7 @@ ask_posted : (t : Ticket) (o : Outcome) (told : Option Outcome) (k : Ticket) →
 ask_posted t outcome.Done told k e A B p = rw (sym e) refl
 ask_posted t outcome.Clear told k e A B p = rw (sym e) refl
 ask_posted t outcome.Went told k e A B p = rw (sym e) refl
-ask_posted t outcome.Held told k e A B p = rw (sym e) refl
+ask_posted t outcome.Stays told k e A B p = rw (sym e) refl
 ask_posted t (outcome.Refused error) told k e A B p = rw (sym e) refl
 ask_posted t (outcome.Gave a) told k e A B p = rw (sym e) refl
 ask_posted t (outcome.Posted ticket) told k e A B p = rw (sym e) (ap (λ u. same u k) (sym p.1.1))
@@ -161,7 +161,7 @@ ask_posted t (outcome.Posted ticket) told k e A B p = rw (sym e) (ap (λ u. same
 -- what was posted is what the outcome says
 pub posted_is : (s : CoreState) (h : Happening) (event : Event) (o : Outcome) (k : Ticket) → told_now o ≡ core_told s h → IfPosted o (λ u. IsTicketOf s.limits s.envs s.threads event u) → posts s h event k ≡ is_ticket_of o k
 posted_is s h (Start u) o k e p = not_ticket o k (λ v q. q) p
-posted_is s h (Own u step) o k e p = not_ticket o k (λ v q. q) p
+posted_is s h (Stepped u step) o k e p = not_ticket o k (λ v q. q) p
 posted_is s h (ToNative u) o k e p = not_ticket o k (λ v q. q) p
 posted_is s h (ToBlocked u kind) o k e p = not_ticket o k (λ v q. q) p
 posted_is s h (Back u) o k e p = not_ticket o k (λ v q. q) p
@@ -210,7 +210,7 @@ taken_there s t k found lt once =
           ap (λ (y : ThreadState). has k y.thread.uncollected) q ∙ (let b = is_uncollected s k in grind (arith, n))
     ]
 
-pub taken_kept : (events : List Happening) (s : CoreState) (t k : Ticket) (found : Bool) → Stands events s → (found ≡ true → t.thread.0 < length s.threads)
+pub taken_kept : (events : List Happening) (s : CoreState) (t k : Ticket) (found : Bool) → Mirrors events s → (found ≡ true → t.thread.0 < length s.threads)
     → is_uncollected (core_taken s t found) k ≡ (is_uncollected s k && not (same t k && found))
 taken_kept events s t k found st there =
     elim (cases_Bool (nat_lt t.thread.0 (length s.threads))) [
@@ -226,7 +226,7 @@ taken_kept events s t k found st there =
     ]
 
 -- a ticket that is given out was none before
-fresh_posted : (events : List Happening) (s : CoreState) (event : Event) (k : Ticket) → Stands events s → IsTicketOf s.limits s.envs s.threads event k → is_uncollected s k ≡ false
+fresh_posted : (events : List Happening) (s : CoreState) (event : Event) (k : Ticket) → Mirrors events s → IsTicketOf s.limits s.envs s.threads event k → is_uncollected s k ≡ false
 fresh_posted events s (Ask e t call) k st p =
     let u = thread_at s.limits s.threads t in
     let l : t.0 < s.limits.threads = (let q = p.0 in omega (arith, q, st.thread_count)) in
@@ -234,7 +234,7 @@ fresh_posted events s (Ask e t call) k st p =
     let at : k.thread ≡ t = ap (λ (z : Ticket). z.thread) p.1.1 ∙ here.number_is in
     ap (λ (v : ThreadNo). has k (thread_at s.limits s.threads v).thread.uncollected) at ∙ ap (λ z. has z u.thread.uncollected) p.1.1 ∙ fresh_ticket u e here.known
 fresh_posted events s (Start u) k st p = absurd p
-fresh_posted events s (Own u step) k st p = absurd p
+fresh_posted events s (Stepped u step) k st p = absurd p
 fresh_posted events s (ToNative u) k st p = absurd p
 fresh_posted events s (ToBlocked u kind) k st p = absurd p
 fresh_posted events s (Back u) k st p = absurd p
@@ -249,17 +249,17 @@ fresh_posted events s (GetCaps f) k st p = absurd p
 fresh_posted events s (SetEnvWord f v) k st p = absurd p
 fresh_posted events s (GetEnvWord f) k st p = absurd p
 
-pub ticket_fresh : (events : List Happening) (s : CoreState) (event : Event) (o : Outcome) → Stands events s → IfPosted o (λ k. IsTicketOf s.limits s.envs s.threads event k) → IfPosted o (λ k. is_uncollected s k ≡ false)
+pub ticket_fresh : (events : List Happening) (s : CoreState) (event : Event) (o : Outcome) → Mirrors events s → IfPosted o (λ k. IsTicketOf s.limits s.envs s.threads event k) → IfPosted o (λ k. is_uncollected s k ≡ false)
 ticket_fresh events s event outcome.Done st p = tt
 ticket_fresh events s event outcome.Clear st p = tt
 ticket_fresh events s event outcome.Went st p = tt
-ticket_fresh events s event outcome.Held st p = tt
+ticket_fresh events s event outcome.Stays st p = tt
 ticket_fresh events s event (outcome.Refused error) st p = tt
 ticket_fresh events s event (outcome.Gave a) st p = tt
 ticket_fresh events s event (outcome.Posted k) st p = fresh_posted events s event k st p
 
 -- its number is the definitions'
-ticket_by : (events : List Happening) (s : CoreState) (event : Event) (k : Ticket) → Stands events s → IsTicketOf s.limits s.envs s.threads event k → IsTicketBy s.limits events event k
+ticket_by : (events : List Happening) (s : CoreState) (event : Event) (k : Ticket) → Mirrors events s → IsTicketOf s.limits s.envs s.threads event k → IsTicketBy s.limits events event k
 ticket_by events s (Ask e t call) k st p =
     let u = thread_at s.limits s.threads t in
     let l : t.0 < s.limits.threads = (let q = p.0 in omega (arith, q, st.thread_count)) in
@@ -268,7 +268,7 @@ ticket_by events s (Ask e t call) k st p =
     let n = asked_same s.limits t (history_of s.limits t events) u e here le in
     p.1.1 ∙ ap (λ (v : ThreadNo). record { env = e; thread = v; no = asked_by e u.thread.history }) here.number_is ∙ ap (λ (m : ℕ). record { env = e; thread = t; no = m }) n
 ticket_by events s (Start u) k st p = absurd p
-ticket_by events s (Own u step) k st p = absurd p
+ticket_by events s (Stepped u step) k st p = absurd p
 ticket_by events s (ToNative u) k st p = absurd p
 ticket_by events s (ToBlocked u kind) k st p = absurd p
 ticket_by events s (Back u) k st p = absurd p
@@ -283,17 +283,17 @@ ticket_by events s (GetCaps f) k st p = absurd p
 ticket_by events s (SetEnvWord f v) k st p = absurd p
 ticket_by events s (GetEnvWord f) k st p = absurd p
 
-pub ticket_as : (events : List Happening) (s : CoreState) (event : Event) (o : Outcome) → Stands events s → IfPosted o (λ k. IsTicketOf s.limits s.envs s.threads event k) → IfPosted o (λ k. IsTicketBy s.limits events event k)
+pub ticket_as : (events : List Happening) (s : CoreState) (event : Event) (o : Outcome) → Mirrors events s → IfPosted o (λ k. IsTicketOf s.limits s.envs s.threads event k) → IfPosted o (λ k. IsTicketBy s.limits events event k)
 ticket_as events s event outcome.Done st p = tt
 ticket_as events s event outcome.Clear st p = tt
 ticket_as events s event outcome.Went st p = tt
-ticket_as events s event outcome.Held st p = tt
+ticket_as events s event outcome.Stays st p = tt
 ticket_as events s event (outcome.Refused error) st p = tt
 ticket_as events s event (outcome.Gave a) st p = tt
 ticket_as events s event (outcome.Posted k) st p = ticket_by events s event k st p
 
 -- what is taken is what the definition's history replies to the ticket
-pub taken_is : (events : List Happening) (s : CoreState) (k : Ticket) → Stands events s
+pub taken_is : (events : List Happening) (s : CoreState) (k : Ticket) → Mirrors events s
     → cond (is_uncollected s k) (reply_to (thread_at s.limits s.threads k.thread).thread.limits (thread_at s.limits s.threads k.thread).thread.history k) None
     ≡ cond (is_uncollected s k) (reply_to s.limits (history_of s.limits k.thread events) k) None
 taken_is events s k st =
@@ -311,7 +311,7 @@ taken_is events s k st =
           rw none refl
     ]
 
-pub standing_is : (events : List Happening) (s : CoreState) (e : EnvNo) (t : ThreadNo) → Stands events s
+pub standing_is : (events : List Happening) (s : CoreState) (e : EnvNo) (t : ThreadNo) → Mirrors events s
     → is_standing (thread_at s.limits s.threads t).thread.limits (thread_at s.limits s.threads t).thread.history e ≡ (nat_lt t.0 s.limits.threads && is_standing s.limits (history_of s.limits t events) e)
 standing_is events s e t st =
     let u = thread_at s.limits s.threads t in

@@ -10,7 +10,7 @@ use Rattle.ti_types.specs.declared.call.Call.{Call}
 use Rattle.ti_types.specs.declared.entry.Entry.{Entry}
 use Rattle.ti_types.specs.declared.entry.Entry.TheVariants as entry
 use Rattle.ti_types.specs.declared.event.Event.{Event}
-use Rattle.ti_types.specs.declared.event.Event.TheVariants.{Start, Own, Poll, ToNative, ToBlocked, Back, End, Ask, Stop, Read, Go, AddCaps, Relinquish, GetCaps, SetEnvWord, GetEnvWord}
+use Rattle.ti_types.specs.declared.event.Event.TheVariants.{Start, Stepped, Poll, ToNative, ToBlocked, Back, End, Ask, Stop, Read, Go, AddCaps, Relinquish, GetCaps, SetEnvWord, GetEnvWord}
 use Rattle.ti_types.specs.declared.event.Ticket.{Ticket}
 use Rattle.ti_types.specs.declared.event.Outcome.{Outcome}
 use Rattle.ti_types.specs.declared.event.Outcome.TheVariants as outcome
@@ -18,7 +18,7 @@ use Rattle.ti_types.specs.declared.answer.Answer.{Answer}
 use Rattle.ti_types.specs.declared.answer.Answer.TheVariants as answer
 use Rattle.ti_types.specs.declared.error.TiError.{TiError}
 use Rattle.ti_replay.specs.Admission.{Happening, dealings, refusal}
-use Rattle.ti_replay.specs.Events.{history_of, history_from, history_behind, left_by, reaches, given, refused_or, read_outcome, hold_refusal}
+use Rattle.ti_replay.specs.Events.{history_of, history_from, history_behind, left_by, reaches, given, refused_or, read_outcome, stopping_refusal}
 use Rattle.ti_replay.specs.Legal.{asked_by, is_legal}
 use Rattle.ti_replay.specs.View.{view}
 use Rattle.ti_replay.specs.Replies.{reply}
@@ -30,7 +30,7 @@ use Rattle.ti_replay.proofs.ReplyLaws.{reply_stays}
 use Rattle.ti_slot.specs.Tickets.{has, same, AreOnce}
 use Rattle.ti_core.specs.Core.{CoreState, is_uncollected}
 use Rattle.ti_core.specs.Threads.{IfPosted, is_ticket_of}
-use Rattle.ti_core.specs.Stands.{Stands}
+use Rattle.ti_core.specs.Mirrors.{Mirrors}
 use Rattle.ti_core.specs.Runs.{IsTicketBy, IsSeen, AreSeen, tickets, are_uncollected, HasSeen, IsDue, AreDue}
 use Rattle.ti_core.proofs.CallLaws.{once_more}
 use Rattle.ti_core.proofs.ToldLaws.{history_now}
@@ -83,7 +83,7 @@ ask_out limits all front w e t c = rw (self t.0) refl
 -- what an event has come to stays as more happens
 pub out_stays : (limits : Limits) (all more front : List Happening) (w : Bool) (event : Event) (x : Outcome) → out_of limits all front (record { event = event; wanting = w }) ≡ Some x → out_of limits (all ++ more) front (record { event = event; wanting = w }) ≡ Some x
 out_stays limits all more front w (Start u) x e = e
-out_stays limits all more front w (Own u step) x e = e
+out_stays limits all more front w (Stepped u step) x e = e
 out_stays limits all more front w (Poll u) x e = e
 out_stays limits all more front w (ToNative u) x e = e
 out_stays limits all more front w (ToBlocked u kind) x e = e
@@ -95,7 +95,7 @@ out_stays limits all more front w (Ask f u c) x e =
 out_stays limits all more front w (Stop f u) x e = e
 out_stays limits all more front w (Read f u n) x e =
     rw (self u.0) (refused_stays (refusal limits (dealings limits f u front) (record { event = Read f u n; wanting = w })) _ _ x
-    (read_stays (hold_refusal (view limits (history_of limits u front)) (Read f u n)) _ _ x (given_stays limits u all more (length (history_of limits u front)) x)) (rw (self u.0) at e))
+    (read_stays (stopping_refusal (view limits (history_of limits u front)) (Read f u n)) _ _ x (given_stays limits u all more (length (history_of limits u front)) x)) (rw (self u.0) at e))
 out_stays limits all more front w (Go f u) x e = e
 out_stays limits all more front w (AddCaps f caps) x e = e
 out_stays limits all more front w (Relinquish f caps) x e = e
@@ -129,7 +129,7 @@ ticket_due : (limits : Limits) (front more : List Happening) (w : Bool) (event :
     → out_of limits ((front ++ record { event = event; wanting = w } ∷ []) ++ more) front (record { event = event; wanting = w }) ≡ given (reply_to limits (history_of limits k.thread ((front ++ record { event = event; wanting = w } ∷ []) ++ more)) k)
 ticket_due limits front more w (Ask e t c) k n p = posted_due limits front more w e t c k n p
 ticket_due limits front more w (Start u) k n p = absurd p
-ticket_due limits front more w (Own u step) k n p = absurd p
+ticket_due limits front more w (Stepped u step) k n p = absurd p
 ticket_due limits front more w (Poll u) k n p = absurd p
 ticket_due limits front more w (ToNative u) k n p = absurd p
 ticket_due limits front more w (ToBlocked u kind) k n p = absurd p
@@ -151,7 +151,7 @@ one_due limits front more h (Some (outcome.Posted k)) s = ticket_due limits fron
 one_due limits front more h (Some outcome.Done) s = sym (out_stays limits (front ++ h ∷ []) more front h.wanting h.event outcome.Done (sym s.0))
 one_due limits front more h (Some outcome.Clear) s = sym (out_stays limits (front ++ h ∷ []) more front h.wanting h.event outcome.Clear (sym s.0))
 one_due limits front more h (Some outcome.Went) s = sym (out_stays limits (front ++ h ∷ []) more front h.wanting h.event outcome.Went (sym s.0))
-one_due limits front more h (Some outcome.Held) s = sym (out_stays limits (front ++ h ∷ []) more front h.wanting h.event outcome.Held (sym s.0))
+one_due limits front more h (Some outcome.Stays) s = sym (out_stays limits (front ++ h ∷ []) more front h.wanting h.event outcome.Stays (sym s.0))
 one_due limits front more h (Some (outcome.Refused error)) s = sym (out_stays limits (front ++ h ∷ []) more front h.wanting h.event (outcome.Refused error) (sym s.0))
 one_due limits front more h (Some (outcome.Gave a)) s = sym (out_stays limits (front ++ h ∷ []) more front h.wanting h.event _ (sym s.0))
 
@@ -174,7 +174,7 @@ pub told_memory : (o : Outcome) → was_for_memory (told_now o) ≡ is_for_memor
 told_memory outcome.Done = refl
 told_memory outcome.Clear = refl
 told_memory outcome.Went = refl
-told_memory outcome.Held = refl
+told_memory outcome.Stays = refl
 told_memory (outcome.Refused error) = refl
 told_memory (outcome.Posted k) = refl
 told_memory (outcome.Gave answer.Done) = refl
@@ -235,7 +235,7 @@ tickets-append (None ∷ os) ps = tickets-append os ps
 tickets-append (Some outcome.Done ∷ os) ps = tickets-append os ps
 tickets-append (Some outcome.Clear ∷ os) ps = tickets-append os ps
 tickets-append (Some outcome.Went ∷ os) ps = tickets-append os ps
-tickets-append (Some outcome.Held ∷ os) ps = tickets-append os ps
+tickets-append (Some outcome.Stays ∷ os) ps = tickets-append os ps
 tickets-append (Some (outcome.Refused error) ∷ os) ps = tickets-append os ps
 tickets-append (Some (outcome.Gave a) ∷ os) ps = tickets-append os ps
 tickets-append (Some (outcome.Posted k) ∷ os) ps = ap (λ ks. k ∷ ks) (tickets-append os ps)
@@ -263,26 +263,26 @@ tickets_on : (s s' : CoreState) (ks : List Ticket) (o : Outcome) → HasTickets 
 tickets_on s s' ks outcome.Done h f fresh = no_more s s' ks (λ u. false) h f
 tickets_on s s' ks outcome.Clear h f fresh = no_more s s' ks (λ u. false) h f
 tickets_on s s' ks outcome.Went h f fresh = no_more s s' ks (λ u. false) h f
-tickets_on s s' ks outcome.Held h f fresh = no_more s s' ks (λ u. false) h f
+tickets_on s s' ks outcome.Stays h f fresh = no_more s s' ks (λ u. false) h f
 tickets_on s s' ks (outcome.Refused error) h f fresh = no_more s s' ks (λ u. false) h f
 tickets_on s s' ks (outcome.Gave a) h f fresh = no_more s s' ks (λ u. false) h f
 tickets_on s s' ks (outcome.Posted k) h f fresh = one_more s s' ks k h f fresh
 
 -- a run has seen one more event
-pub seen_on : (hs : List Happening) (os : List (Option Outcome)) (s s' : CoreState) (h : Happening) (o : Outcome) → HasSeen hs os s → Stands (hs ++ h ∷ []) s' → s'.limits ≡ s.limits → IsSeen s.limits hs h (Some o)
+pub seen_on : (hs : List Happening) (os : List (Option Outcome)) (s s' : CoreState) (h : Happening) (o : Outcome) → HasSeen hs os s → Mirrors (hs ++ h ∷ []) s' → s'.limits ≡ s.limits → IsSeen s.limits hs h (Some o)
     → ((u : Ticket) → is_uncollected s' u ≡ (is_uncollected s u || is_ticket_of o u)) → IfPosted o (λ k. is_uncollected s k ≡ false) → HasSeen (hs ++ h ∷ []) (os ++ Some o ∷ []) s'
 seen_on hs os s s' h o k st l seen f fresh =
     let ts = tickets_on s s' (tickets os) o (record { kept = k.kept; once = k.once }) f fresh in
     let e = sym (tickets-append os (Some o ∷ [])) in
     record {
-      stands = st;
+      mirrors = st;
       seen = subst (λ m. AreSeen m [] (hs ++ h ∷ []) (os ++ Some o ∷ [])) (sym l) (seen-snoc s.limits [] hs os h (Some o) k.seen seen);
       kept = subst (λ z. are_uncollected s' z ≡ true) e ts.kept;
       once = subst AreOnce e ts.once;
     }
 
-pub nothing_seen : (s : CoreState) → Stands [] s → HasSeen [] [] s
-nothing_seen s st = record { stands = st; seen = tt; kept = refl; once = tt }
+pub nothing_seen : (s : CoreState) → Mirrors [] s → HasSeen [] [] s
+nothing_seen s st = record { mirrors = st; seen = tt; kept = refl; once = tt }
 
 pub told_happening : (x : Event) (o : Outcome) → happening x (told_now o) ≡ happening x (Some o)
 told_happening x o = ap (λ (w : Bool). record { event = x; wanting = w }) (told_memory o)

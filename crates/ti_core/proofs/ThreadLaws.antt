@@ -7,7 +7,7 @@ use Rattle.ti_types.specs.declared.numbers.EnvNo.{EnvNo}
 use Rattle.ti_types.specs.declared.numbers.ThreadNo.{ThreadNo}
 use Rattle.ti_types.specs.declared.state.Safe.TheVariants.{AtPoll}
 use Rattle.ti_types.specs.declared.entry.Entry.{Entry}
-use Rattle.ti_types.specs.declared.entry.Entry.TheVariants.{Start, Own, Hand, Back, End, Asked, Stop, Read, Go}
+use Rattle.ti_types.specs.declared.entry.Entry.TheVariants.{Start, Stepped, Hand, Back, End, Asked, Stop, Read, Go}
 use Rattle.ti_replay.specs.Answers.{is_running}
 use Rattle.ti_replay.specs.Settling.{unanswered}
 use Rattle.ti_replay.specs.View.{view, is_barred}
@@ -19,13 +19,13 @@ use Rattle.ti_replay.specs.LateTickets.{AreAlike, steps_of}
 use Rattle.ti_replay.proofs.LateTicketLaws.{alike-snoc}
 use Rattle.ti_slot.specs.Tickets.{has, AreOnce}
 use Rattle.ti_core.specs.Thread.{ThreadState, entries, seen, entered, at_poll, refusal_at, entered_unless, own_next, poll_next, poll_said}
-use Rattle.ti_core.specs.Stands.{ThreadStands}
+use Rattle.ti_core.specs.Mirrors.{ThreadMirrors}
 use Rattle.ti_core.proofs.WholeLaws.{runs-snoc}
 use Rattle.ti_core.proofs.PollLaws.{entries-snoc, handed_at}
 
 entered_limits : (s : ThreadState) (x : Entry) → (entered s x).thread.limits ≡ s.thread.limits
 entered_limits s Start = refl
-entered_limits s (Own step) = refl
+entered_limits s (Stepped step) = refl
 entered_limits s (Hand safe) = refl
 entered_limits s Back = refl
 entered_limits s End = refl
@@ -36,7 +36,7 @@ entered_limits s (Go env) = refl
 
 entered_number : (s : ThreadState) (x : Entry) → (entered s x).thread.number ≡ s.thread.number
 entered_number s Start = refl
-entered_number s (Own step) = refl
+entered_number s (Stepped step) = refl
 entered_number s (Hand safe) = refl
 entered_number s Back = refl
 entered_number s End = refl
@@ -47,7 +47,7 @@ entered_number s (Go env) = refl
 
 pub entered_tickets : (s : ThreadState) (x : Entry) → (entered s x).thread.uncollected ≡ s.thread.uncollected
 entered_tickets s Start = refl
-entered_tickets s (Own step) = refl
+entered_tickets s (Stepped step) = refl
 entered_tickets s (Hand safe) = refl
 entered_tickets s Back = refl
 entered_tickets s End = refl
@@ -62,7 +62,7 @@ asked_more env h more = omega (arith, sum_by-append (ask_count env) h more)
 
 entered_asked : (env : EnvNo) (s : ThreadState) (x : Entry) → asked_by env s.thread.history ≤ asked_by env (entered s x).thread.history
 entered_asked env s Start = asked_more env s.thread.history (steps_of s.steps ++ Start ∷ [])
-entered_asked env s (Own step) = omega arith
+entered_asked env s (Stepped step) = omega arith
 entered_asked env s (Hand safe) = asked_more env s.thread.history (steps_of s.steps ++ Hand safe ∷ [])
 entered_asked env s Back = asked_more env s.thread.history (steps_of s.steps ++ Back ∷ [])
 entered_asked env s End = asked_more env s.thread.history (steps_of s.steps ++ End ∷ [])
@@ -73,9 +73,9 @@ entered_asked env s (Go e) = asked_more env s.thread.history (steps_of s.steps +
 
 -- a thread whose last entry is no step has logged nothing
 entered_rests : (limits : Limits) (L : List Entry) (s : ThreadState) (x : Entry) → own_refusal limits (view limits L) (own_spent L) x ≡ None → is_running (view limits (L ++ x ∷ [])).mode ≡ false → (entered s x).steps ≡ []
-entered_rests limits L s (Own step) r h =
+entered_rests limits L s (Stepped step) r h =
     let runs : is_running (view limits L).mode ≡ true = grind (arith, r) in
-    let o : true ≡ false = sym runs ∙ sym (runs-snoc limits L (Own step)) ∙ h in
+    let o : true ≡ false = sym runs ∙ sym (runs-snoc limits L (Stepped step)) ∙ h in
     cc
 entered_rests limits L s Start r h = refl
 entered_rests limits L s (Hand safe) r h = refl
@@ -87,8 +87,8 @@ entered_rests limits L s (Read env n) r h = refl
 entered_rests limits L s (Go env) r h = refl
 
 -- one more entry of the thread's own
-pub entered_stands : (limits : Limits) (t : ThreadNo) (L : List Entry) (s : ThreadState) (x : Entry) → ThreadStands limits t L s → own_refusal limits (view limits L) (own_spent L) x ≡ None
-    → ThreadStands limits t (L ++ x ∷ []) (entered s x)
+pub entered_stands : (limits : Limits) (t : ThreadNo) (L : List Entry) (s : ThreadState) (x : Entry) → ThreadMirrors limits t L s → own_refusal limits (view limits L) (own_spent L) x ≡ None
+    → ThreadMirrors limits t (L ++ x ∷ []) (entered s x)
 entered_stands limits t L s x k r = record {
   limits_are = entered_limits s x ∙ k.limits_are;
   number_is = entered_number s x ∙ k.number_is;
@@ -101,20 +101,20 @@ entered_stands limits t L s x k r = record {
 }
 
 -- what the thread refuses is what the definitions refuse
-pub same_refusal : (limits : Limits) (t : ThreadNo) (L : List Entry) (s : ThreadState) (x : Entry) → ThreadStands limits t L s → refusal_at limits s x ≡ own_refusal limits (view limits L) (own_spent L) x
+pub same_refusal : (limits : Limits) (t : ThreadNo) (L : List Entry) (s : ThreadState) (x : Entry) → ThreadMirrors limits t L s → refusal_at limits s x ≡ own_refusal limits (view limits L) (own_spent L) x
 same_refusal limits t L s x k = ap (λ (z : HistoryState). own_refusal limits z.view z.own x) (sym k.alike.state)
 
-pub own_stands : (limits : Limits) (t : ThreadNo) (L : List Entry) (s : ThreadState) (x : Entry) → ThreadStands limits t L s
-    → ThreadStands limits t (L ++ left_own limits L (Some x)) (own_next s.thread.limits s x)
+pub own_stands : (limits : Limits) (t : ThreadNo) (L : List Entry) (s : ThreadState) (x : Entry) → ThreadMirrors limits t L s
+    → ThreadMirrors limits t (L ++ left_own limits L (Some x)) (own_next s.thread.limits s x)
 own_stands limits t L s x k =
     let e = same_refusal limits t L s x k in
-    subst (λ l. ThreadStands limits t (L ++ left_own limits L (Some x)) (own_next l s x)) (sym k.limits_are) (elim (own_refusal limits (view limits L) (own_spent L) x)
-    as (λ o. own_refusal limits (view limits L) (own_spent L) x ≡ o → refusal_at limits s x ≡ o → ThreadStands limits t (L ++ if_none o (x ∷ [])) (entered_unless (refusal_at limits s x) s x)) [
+    subst (λ l. ThreadMirrors limits t (L ++ left_own limits L (Some x)) (own_next l s x)) (sym k.limits_are) (elim (own_refusal limits (view limits L) (own_spent L) x)
+    as (λ o. own_refusal limits (view limits L) (own_spent L) x ≡ o → refusal_at limits s x ≡ o → ThreadMirrors limits t (L ++ if_none o (x ∷ [])) (entered_unless (refusal_at limits s x) s x)) [
       | None ↦ λ p r. rw r (entered_stands limits t L s x k p)
       | Some error ↦ λ p r. rw (r, append-nil) k
     ] refl e)
 
-pub own_told : (limits : Limits) (t : ThreadNo) (L : List Entry) (s : ThreadState) (x : Entry) → ThreadStands limits t L s
+pub own_told : (limits : Limits) (t : ThreadNo) (L : List Entry) (s : ThreadState) (x : Entry) → ThreadMirrors limits t L s
     → done_unless (refusal_at s.thread.limits s x) ≡ own_outcome limits L (Some x)
 own_told limits t L s x k = subst (λ l. done_unless (refusal_at l s x) ≡ own_outcome limits L (Some x)) (sym k.limits_are) (ap done_unless (same_refusal limits t L s x k))
 
@@ -130,11 +130,11 @@ alike_armed limits a b k =
     grind (arith, n, v)
 
 -- what a poll leaves
-pub poll_stands : (limits : Limits) (t : ThreadNo) (L : List Entry) (s : ThreadState) → ThreadStands limits t L s → ThreadStands limits t (L ++ left_by_poll limits L) (poll_next s.thread.limits s)
+pub poll_stands : (limits : Limits) (t : ThreadNo) (L : List Entry) (s : ThreadState) → ThreadMirrors limits t L s → ThreadMirrors limits t (L ++ left_by_poll limits L) (poll_next s.thread.limits s)
 poll_stands limits t L s k =
     let v : view limits (entries s) ≡ view limits L = ap (λ (z : HistoryState). z.view) (sym k.alike.state) in
     let a = alike_armed limits L (entries s) k.alike in
-    subst (λ l. ThreadStands limits t (L ++ left_by_poll limits L) (poll_next l s)) (sym k.limits_are) (elim (cases_Bool (is_running (view limits L).mode)) [
+    subst (λ l. ThreadMirrors limits t (L ++ left_by_poll limits L) (poll_next l s)) (sym k.limits_are) (elim (cases_Bool (is_running (view limits L).mode)) [
       | inl runs ↦
           let rs : is_running (seen limits s).mode ≡ true = ap (λ z. is_running z.mode) v ∙ runs in
           elim (cases_Bool (is_armed limits L)) [
@@ -165,7 +165,7 @@ poll_stands limits t L s k =
     back_free : (limits : Limits) (L : List Entry) → is_barred (view limits (L ++ Hand AtPoll ∷ [])) ≡ false → own_refusal limits (view limits (L ++ Hand AtPoll ∷ [])) (own_spent (L ++ Hand AtPoll ∷ [])) Back ≡ None
     back_free limits L b = let m = handed_at limits L AtPoll in grind (arith, m, b)
 
-pub poll_told : (limits : Limits) (t : ThreadNo) (L : List Entry) (s : ThreadState) → ThreadStands limits t L s → poll_said s.thread.limits s ≡ poll_outcome limits L
+pub poll_told : (limits : Limits) (t : ThreadNo) (L : List Entry) (s : ThreadState) → ThreadMirrors limits t L s → poll_said s.thread.limits s ≡ poll_outcome limits L
 poll_told limits t L s k =
     let v : view limits (entries s) ≡ view limits L = ap (λ (z : HistoryState). z.view) (sym k.alike.state) in
     let a = alike_armed limits L (entries s) k.alike in

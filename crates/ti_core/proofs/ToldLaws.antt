@@ -1,4 +1,4 @@
--- What a core says is what the definitions say, and the core stands for one more event.
+-- What a core says is what the definitions say, and the core mirrors for one more event.
 use Rattle.std.proofs.Common.{◌≡◌, ◌≢◌, ℕ, ◌<◌, Bool, true, false, ◌==◌, nat_lt, cond, List, [], ◌∷◌, ◌++◌, length, refl, ap, sym, ◌∙◌, arith, Option, Some, None, is_none, slice_set, length-set, get_or-set_same, get_or-set_other, inl, inr, ltb-true, bit_or}
 use Rattle.std.proofs.lemmas.List.{get_or-replicate, length-replicate}
 use Rattle.std.proofs.lemmas.Bool.Decides.{nat_tests}
@@ -9,7 +9,7 @@ use Rattle.ti_types.specs.declared.numbers.ThreadNo.{ThreadNo}
 use Rattle.ti_types.specs.declared.entry.Entry.{Entry}
 use Rattle.ti_types.specs.declared.entry.Entry.TheVariants as entry
 use Rattle.ti_types.specs.declared.event.Event.{Event}
-use Rattle.ti_types.specs.declared.event.Event.TheVariants.{Start, Own, Poll, ToNative, ToBlocked, Back, End, Ask, Stop, Read, Go, AddCaps, Relinquish, GetCaps, SetEnvWord, GetEnvWord}
+use Rattle.ti_types.specs.declared.event.Event.TheVariants.{Start, Stepped, Poll, ToNative, ToBlocked, Back, End, Ask, Stop, Read, Go, AddCaps, Relinquish, GetCaps, SetEnvWord, GetEnvWord}
 use Rattle.ti_types.specs.declared.event.Ticket.{Ticket}
 use Rattle.ti_types.specs.declared.event.Outcome.{Outcome}
 use Rattle.ti_types.specs.declared.event.Outcome.TheVariants as outcome
@@ -20,12 +20,12 @@ use Rattle.ti_replay.specs.Outcomes.{out_of}
 use Rattle.ti_replay.specs.Replies.{reply}
 use Rattle.ti_replay.specs.View.{view}
 use Rattle.ti_replay.specs.Admission.{Happening, dealings_by, refusal, agent_of, is_aimed_at, is_own_of}
-use Rattle.ti_replay.specs.Events.{left_by, history_of, own_outcome, refused_or, read_outcome, hold_refusal, given}
+use Rattle.ti_replay.specs.Events.{left_by, history_of, own_outcome, refused_or, read_outcome, stopping_refusal, given}
 use Rattle.ti_replay.proofs.AgreementLaws.{history_of-snoc, caps_are}
 use Rattle.ti_env.specs.Env.{EnvValue, new_env, with_caps}
 use Rattle.ti_core.specs.Thread.{ThreadState, new_state, own_next, poll_next, taken}
-use Rattle.ti_core.specs.Core.{CoreState, Stepped, thread_at, env_at, stepped_by, refused_or_else, stepped_own, core_next, core_taken, no_thread, with_env}
-use Rattle.ti_core.specs.Stands.{ThreadStands, EnvStands, Stands, IsNext}
+use Rattle.ti_core.specs.Core.{CoreState, StepResult, thread_at, env_at, stepped_by, refused_or_else, stepped_own, core_next, core_taken, no_thread, with_env}
+use Rattle.ti_core.specs.Mirrors.{ThreadMirrors, EnvMirrors, Mirrors, IsNext}
 use Rattle.ti_core.proofs.ThreadLaws.{own_told, poll_told}
 use Rattle.ti_core.proofs.CallLaws.{ask_told_is, stop_told_is, go_told_is, read_told_is, taken_stands}
 use Rattle.ti_core.proofs.StepLaws.{happened, same_thread, whys, whys_is_ask, whys_is_stop, whys_is_read, whys_is_go, ask_there, stop_there, read_there, go_there, thread_goes, env_threads}
@@ -34,7 +34,7 @@ use Rattle.ti_core.proofs.EnvLaws.{env_goes, own_envs}
 self : (n : ℕ) → (n == n) ≡ true
 self n = grind (arith, nat_tests)
 
-own_told_goes : (events : List Happening) (s : CoreState) (u : ThreadNo) (x : Entry) → Stands events s
+own_told_goes : (events : List Happening) (s : CoreState) (u : ThreadNo) (x : Entry) → Mirrors events s
     → (stepped_own s.limits s.envs s.threads u x).told ≡ cond (nat_lt u.0 s.limits.threads) (own_outcome s.limits (history_of s.limits u events) (Some x)) (Some (outcome.Refused InvalidThread))
 own_told_goes events s u x k =
     elim (cases_Bool (nat_lt u.0 s.limits.threads)) [
@@ -52,7 +52,7 @@ pub history_now : (events : List Happening) (limits : Limits) (u : ThreadNo) (h 
 history_now events limits u h o a r = history_of-snoc limits u events h ∙ rw (o, a, r) refl
 
 -- what is said of a call, where it is known of one that goes through
-agent_told : (envs : List EnvValue) (threads : List ThreadState) (why r : Option TiError) (other : Stepped) (there : Option Outcome) → why ≡ r → (r ≡ None → other.told ≡ there)
+agent_told : (envs : List EnvValue) (threads : List ThreadState) (why r : Option TiError) (other : StepResult) (there : Option Outcome) → why ≡ r → (r ≡ None → other.told ≡ there)
     → (refused_or_else envs threads why other).told ≡ refused_or r there
 agent_told envs threads why r other there e h =
     elim r as (λ (o : Option TiError). why ≡ o → (o ≡ None → other.told ≡ there) → (refused_or_else envs threads why other).told ≡ refused_or o there) [
@@ -60,10 +60,10 @@ agent_told envs threads why r other there e h =
       | Some error ↦ λ q g. rw q refl
     ] e h
 
-pub told_goes : (events : List Happening) (s : CoreState) (w : Bool) (event : Event) → Stands events s
+pub told_goes : (events : List Happening) (s : CoreState) (w : Bool) (event : Event) → Mirrors events s
     → (stepped_by s.limits s.envs s.threads w event).told ≡ out_of s.limits (events ++ happened event w ∷ []) events (happened event w)
 told_goes events s w (Start u) k = rw (self u.0) (own_told_goes events s u entry.Start k)
-told_goes events s w (Own u step) k = rw (self u.0) (own_told_goes events s u (entry.Own step) k)
+told_goes events s w (Stepped u step) k = rw (self u.0) (own_told_goes events s u (entry.Stepped step) k)
 told_goes events s w (ToNative u) k = rw (self u.0) (own_told_goes events s u (entry.Hand Native) k)
 told_goes events s w (ToBlocked u kind) k = rw (self u.0) (own_told_goes events s u (entry.Hand (Blocked kind)) k)
 told_goes events s w (Back u) k = rw (self u.0) (own_told_goes events s u entry.Back k)
@@ -107,7 +107,7 @@ told_goes events s w (Read e u n) k =
     let l = read_there events s w e u n k on in
     let m = history_now events s.limits u (happened (Read e u n) w) refl (self u.0) none in
     read_told_is s.limits u u history (thread_at s.limits s.threads u) e n (k.threads u l)
-    ∙ ap (λ m. read_outcome (hold_refusal (view s.limits history) (Read e u n)) (reply s.limits m (length history))) (sym m)))
+    ∙ ap (λ m. read_outcome (stopping_refusal (view s.limits history) (Read e u n)) (reply s.limits m (length history))) (sym m)))
 told_goes events s w (Go e u) k =
     let history = history_of s.limits u events in
     let why = whys s w (Go e u) in
@@ -138,12 +138,12 @@ cond_length : {X : Type 0} → (b : Bool) (xs : List X) (i : ℕ) (x : X) → le
 cond_length true xs i x = length-set xs i x
 cond_length false xs i x = refl
 
-agent_length : (envs : List EnvValue) (threads : List ThreadState) (why : Option TiError) (other : Stepped) → length other.threads ≡ length threads
+agent_length : (envs : List EnvValue) (threads : List ThreadState) (why : Option TiError) (other : StepResult) → length other.threads ≡ length threads
     → length (refused_or_else envs threads why other).threads ≡ length threads
 agent_length envs threads None other h = h
 agent_length envs threads (Some error) other h = refl
 
-agent_env_length : (envs : List EnvValue) (threads : List ThreadState) (why : Option TiError) (other : Stepped) → length other.envs ≡ length envs
+agent_env_length : (envs : List EnvValue) (threads : List ThreadState) (why : Option TiError) (other : StepResult) → length other.envs ≡ length envs
     → length (refused_or_else envs threads why other).envs ≡ length envs
 agent_env_length envs threads None other h = h
 agent_env_length envs threads (Some error) other h = refl
@@ -153,7 +153,7 @@ with_length envs threads e env told = grind (arith, length-set envs e.0 env)
 
 thread_length : (s : CoreState) (w : Bool) (event : Event) → length (stepped_by s.limits s.envs s.threads w event).threads ≡ length s.threads
 thread_length s w (Start u) = own_length s u entry.Start
-thread_length s w (Own u step) = own_length s u (entry.Own step)
+thread_length s w (Stepped u step) = own_length s u (entry.Stepped step)
 thread_length s w (ToNative u) = own_length s u (entry.Hand Native)
 thread_length s w (ToBlocked u kind) = own_length s u (entry.Hand (Blocked kind))
 thread_length s w (Back u) = own_length s u entry.Back
@@ -171,7 +171,7 @@ thread_length s w (GetEnvWord e) = refl
 
 env_length : (s : CoreState) (w : Bool) (event : Event) → length (stepped_by s.limits s.envs s.threads w event).envs ≡ length s.envs
 env_length s w (Start u) = ap (λ (x : List EnvValue). length x) (own_envs s w (Start u) u entry.Start)
-env_length s w (Own u step) = ap (λ (x : List EnvValue). length x) (own_envs s w (Own u step) u (entry.Own step))
+env_length s w (Stepped u step) = ap (λ (x : List EnvValue). length x) (own_envs s w (Stepped u step) u (entry.Stepped step))
 env_length s w (ToNative u) = ap (λ (x : List EnvValue). length x) (own_envs s w (ToNative u) u (entry.Hand Native))
 env_length s w (ToBlocked u kind) = ap (λ (x : List EnvValue). length x) (own_envs s w (ToBlocked u kind) u (entry.Hand (Blocked kind)))
 env_length s w (Back u) = ap (λ (x : List EnvValue). length x) (own_envs s w (Back u) u entry.Back)
@@ -187,8 +187,8 @@ env_length s w (GetCaps e) = refl
 env_length s w (SetEnvWord e v) = with_length s.envs s.threads e _ _
 env_length s w (GetEnvWord e) = refl
 
--- a thread that has not started stands for nothing
-pub new_thread_stands : (limits : Limits) (t : ThreadNo) → ThreadStands limits t [] (new_state limits t)
+-- a thread that has not started mirrors for nothing
+pub new_thread_stands : (limits : Limits) (t : ThreadNo) → ThreadMirrors limits t [] (new_state limits t)
 new_thread_stands limits t = record {
   limits_are = refl;
   number_is = refl;
@@ -198,7 +198,7 @@ new_thread_stands limits t = record {
   known = λ k h. cc;
 }
 
-pub new_env_stands : (limits : Limits) (e : EnvNo) → EnvStands limits e [] (new_env limits)
+pub new_env_stands : (limits : Limits) (e : EnvNo) → EnvMirrors limits e [] (new_env limits)
 new_env_stands limits e = record {
   caps = λ t. refl;
   spent = λ t h. get_or-replicate limits.threads t.0 0 0 h;
@@ -208,7 +208,7 @@ new_env_stands limits e = record {
 }
 
 -- the core after one more event
-pub stands_on : (events : List Happening) (s : CoreState) (h : Happening) → Stands events s → Stands (events ++ h ∷ []) (core_next s h)
+pub stands_on : (events : List Happening) (s : CoreState) (h : Happening) → Mirrors events s → Mirrors (events ++ h ∷ []) (core_next s h)
 stands_on events s h k = record {
   thread_count = thread_length s h.wanting h.event ∙ k.thread_count;
   env_count = env_length s h.wanting h.event ∙ k.env_count;
@@ -216,12 +216,12 @@ stands_on events s h k = record {
   envs = λ e l. env_goes events s h.wanting h.event e k l;
 }
 
--- one event: the core stands for it too, and what it comes to is what the definitions say
-pub steps : (events : List Happening) (s : CoreState) (h : Happening) → Stands events s → IsNext events s h
-steps events s h k = record { stands = stands_on events s h k; told = told_goes events s h.wanting h.event k }
+-- one event: the core mirrors for it too, and what it comes to is what the definitions say
+pub steps : (events : List Happening) (s : CoreState) (h : Happening) → Mirrors events s → IsNext events s h
+steps events s h k = record { mirrors = stands_on events s h k; told = told_goes events s h.wanting h.event k }
 
 -- taking an answer changes nothing of what has happened
-pub take_stands : (events : List Happening) (s : CoreState) (ticket : Ticket) (found : Bool) → Stands events s → Stands events (core_taken s ticket found)
+pub take_stands : (events : List Happening) (s : CoreState) (ticket : Ticket) (found : Bool) → Mirrors events s → Mirrors events (core_taken s ticket found)
 take_stands events s ticket found k =
     let x = taken (thread_at s.limits s.threads ticket.thread) ticket found in
     record {

@@ -19,7 +19,7 @@ use Rattle.ti_replay.specs.Tickets.{reply_in, reply_to, is_call_of}
 use Rattle.ti_replay.specs.Outcomes.{out_of, outs, outs_from, told_later, was_for_memory, happenings}
 use Rattle.ti_slot.specs.Tickets.{has, same, AreOnce}
 use Rattle.ti_core.specs.Core.{CoreState, is_uncollected}
-use Rattle.ti_core.specs.Stands.{Stands}
+use Rattle.ti_core.specs.Mirrors.{Mirrors}
 use Rattle.ti_core.specs.Runs.{tickets, are_uncollected, HasSeen, IsDue, AreDue, IsFinished, is_posted, AtTurn}
 use Rattle.ti_core.proofs.MemoryLaws.{or_memory, if_memory, entry_memory}
 use Rattle.ti_core.proofs.RunLaws.{all_due, told_memory, same_is}
@@ -39,7 +39,7 @@ finished_told limits hs front h s None r l d f u = ap told_later f ∙ d
 finished_told limits hs front h s (Some outcome.Done) r l d f u = ap told_later f ∙ d
 finished_told limits hs front h s (Some outcome.Clear) r l d f u = ap told_later f ∙ d
 finished_told limits hs front h s (Some outcome.Went) r l d f u = ap told_later f ∙ d
-finished_told limits hs front h s (Some outcome.Held) r l d f u = ap told_later f ∙ d
+finished_told limits hs front h s (Some outcome.Stays) r l d f u = ap told_later f ∙ d
 finished_told limits hs front h s (Some (outcome.Refused error)) r l d f u = ap told_later f ∙ d
 finished_told limits hs front h s (Some (outcome.Gave a)) r l d f u = ap told_later f ∙ d
 finished_told limits hs front h s (Some (outcome.Posted k)) r l d f u =
@@ -51,7 +51,7 @@ finished_marks hs s None r f u = ap was_for_memory f
 finished_marks hs s (Some outcome.Done) r f u = ap was_for_memory f
 finished_marks hs s (Some outcome.Clear) r f u = ap was_for_memory f
 finished_marks hs s (Some outcome.Went) r f u = ap was_for_memory f
-finished_marks hs s (Some outcome.Held) r f u = ap was_for_memory f
+finished_marks hs s (Some outcome.Stays) r f u = ap was_for_memory f
 finished_marks hs s (Some (outcome.Refused error)) r f u = ap was_for_memory f
 finished_marks hs s (Some (outcome.Gave a)) r f u = ap was_for_memory f
 finished_marks hs s (Some (outcome.Posted k)) r f u =
@@ -64,7 +64,7 @@ head_kept s None os k h p = cc
 head_kept s (Some outcome.Done) os k h p = cc
 head_kept s (Some outcome.Clear) os k h p = cc
 head_kept s (Some outcome.Went) os k h p = cc
-head_kept s (Some outcome.Held) os k h p = cc
+head_kept s (Some outcome.Stays) os k h p = cc
 head_kept s (Some (outcome.Refused error)) os k h p = cc
 head_kept s (Some (outcome.Gave a)) os k h p = cc
 head_kept s (Some (outcome.Posted t)) os k h p =
@@ -82,7 +82,7 @@ tail_left s None os h a = record { kept = h; once = a; apart = λ k p. refl }
 tail_left s (Some outcome.Done) os h a = record { kept = h; once = a; apart = λ k p. refl }
 tail_left s (Some outcome.Clear) os h a = record { kept = h; once = a; apart = λ k p. refl }
 tail_left s (Some outcome.Went) os h a = record { kept = h; once = a; apart = λ k p. refl }
-tail_left s (Some outcome.Held) os h a = record { kept = h; once = a; apart = λ k p. refl }
+tail_left s (Some outcome.Stays) os h a = record { kept = h; once = a; apart = λ k p. refl }
 tail_left s (Some (outcome.Refused error)) os h a = record { kept = h; once = a; apart = λ k p. refl }
 tail_left s (Some (outcome.Gave x)) os h a = record { kept = h; once = a; apart = λ k p. refl }
 tail_left s (Some (outcome.Posted t)) os h a = record {
@@ -127,7 +127,7 @@ drop_at j os lt = rw (add-one, drop-cons os j None) refl
 
 -- one turn
 pub turn : (limits : Limits) (hs : List Happening) (first : List (Option Outcome)) (j : ℕ) (os : List (Option Outcome)) (s s' : CoreState) (r : Option Outcome) → AtTurn limits hs first j os s → j < length os
-    → IsFinished hs s (get_or os j None) r → ((k : Ticket) → is_uncollected s k ≡ true → is_posted (get_or os j None) k ≡ false → is_uncollected s' k ≡ true) → Stands hs s' → s'.limits ≡ s.limits
+    → IsFinished hs s (get_or os j None) r → ((k : Ticket) → is_uncollected s k ≡ true → is_posted (get_or os j None) k ≡ false → is_uncollected s' k ≡ true) → Mirrors hs s' → s'.limits ≡ s.limits
     → AtTurn limits hs first (j + 1) (slice_set os j r) s'
 turn limits hs first j os s s' r a lt fin others st l =
     let o = get_or os j None in
@@ -143,7 +143,7 @@ turn limits hs first j os s s' r a lt fin others st l =
       front = a.front ++ step.h ∷ [];
       rest = step.later_rest;
       limits_are = l ∙ a.limits_are;
-      stands = st;
+      mirrors = st;
       told =
           let t = finished_told limits hs a.front step.h s o r a.limits_are step.due fin posted in
           ap (λ z. map told_later z ++ outs_from limits hs (a.front ++ step.h ∷ []) step.later_rest) (take_more_set os j r lt)
@@ -165,7 +165,7 @@ first_turn hs os s k = record {
   front = [];
   rest = hs;
   limits_are = refl;
-  stands = k.stands;
+  mirrors = k.mirrors;
   told = refl;
   due = all_due s.limits hs [] hs os refl k.seen;
   kept = k.kept;

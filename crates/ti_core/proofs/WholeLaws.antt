@@ -11,7 +11,7 @@ use Rattle.ti_types.specs.declared.state.Safe.{Safe}
 use Rattle.ti_types.specs.declared.answer.Answer.{Answer}
 use Rattle.ti_types.specs.declared.event.Outcome.TheVariants.{Gave}
 use Rattle.ti_types.specs.declared.entry.Entry.{Entry}
-use Rattle.ti_types.specs.declared.entry.Entry.TheVariants.{Start, Own, Hand, Back, End, Asked, Stop, Read, Go}
+use Rattle.ti_types.specs.declared.entry.Entry.TheVariants.{Start, Stepped, Hand, Back, End, Asked, Stop, Read, Go}
 use Rattle.ti_types.specs.declared.event.Event.TheVariants as event
 use Rattle.ti_types.specs.declared.error.TiError.{TiError}
 use Rattle.ti_types.specs.declared.error.TiError.TheVariants.{OwnSpent}
@@ -20,7 +20,7 @@ use Rattle.ti_replay.specs.Settling.{placed, runs_behind, runs_after, is_hand_ov
 use Rattle.ti_replay.specs.View.{view}
 use Rattle.ti_replay.specs.Legal.{is_legal, is_new, goes_on, may_follow, own_spent, step_fits}
 use Rattle.ti_replay.specs.Refusals.{own_refusal}
-use Rattle.ti_replay.specs.Events.{hold_refusal, if_none}
+use Rattle.ti_replay.specs.Events.{stopping_refusal, if_none}
 use Rattle.ti_replay.specs.HistoryState.{HistoryState, history_state}
 use Rattle.ti_replay.specs.LateSteps.{is_passed}
 use Rattle.ti_replay.specs.LateTickets.{steps_of}
@@ -104,10 +104,10 @@ parts_read limits h None l env n r k =
 parts_read limits h (Some f) None env n r k = k
 parts_read limits h (Some f) (Some l) env n r k = let o : true ≡ false = sym k.runs ∙ r in cc
 
-read_rests : (limits : Limits) (h : List Entry) (env : EnvNo) (t : Thread) (n : ℤ) → hold_refusal (view limits h) (event.Read env t.number n) ≡ None → is_running (view limits h).mode ≡ false
+read_rests : (limits : Limits) (h : List Entry) (env : EnvNo) (t : Thread) (n : ℤ) → stopping_refusal (view limits h) (event.Read env t.number n) ≡ None → is_running (view limits h).mode ≡ false
 read_rests limits h env t n e = grind (arith, e)
 
-pub whole_read : (t u : Thread) (f : Option Stack) (l : Option Steps) (env : EnvNo) (n : ℤ) (r : Option TiError) → r ≡ hold_refusal (view t.limits t.history) (event.Read env t.number n) → IsWhole t f l
+pub whole_read : (t u : Thread) (f : Option Stack) (l : Option Steps) (env : EnvNo) (n : ℤ) (r : Option TiError) → r ≡ stopping_refusal (view t.limits t.history) (event.Read env t.number n) → IsWhole t f l
     → u ≡ with_more t (if_none r (Read env n ∷ [])) → is_legal u.limits u.history ≡ true → IsWhole u f l
 whole_read t u f l env n None er k e legal = record {
   legal = legal;
@@ -175,7 +175,7 @@ whole_home t u x steps l hand e none room wide legal =
   where
     hand_stops : (r : Bool) (x : Entry) → is_hand_over x ≡ true → runs_after r x ≡ false
     hand_stops r Start h = cc
-    hand_stops r (Own step) h = cc
+    hand_stops r (Stepped step) h = cc
     hand_stops r (Hand safe) h = refl
     hand_stops r Back h = cc
     hand_stops r End h = refl
@@ -194,11 +194,11 @@ fault_here t f l step k = rw (k.parts.depth, k.parts.newest) refl
 runs_here : (t : Thread) (f : Stack) (l : Steps) → IsWhole t (Some f) (Some l) → is_running (view t.limits (t.history ++ steps_of l.steps)).mode ≡ true
 runs_here t f l k = logged_runs t.limits t.history l.steps ∙ k.parts.runs
 
-pub step_refused : (t : Thread) (f : Stack) (l : Steps) (step : Step) (error : TiError) → IsWhole t (Some f) (Some l) → step_refusal f.depth f.frames step ≡ Some error → refusal_at t.limits (state_in t (Some l)) (Own step) ≡ Some error
+pub step_refused : (t : Thread) (f : Stack) (l : Steps) (step : Step) (error : TiError) → IsWhole t (Some f) (Some l) → step_refusal f.depth f.frames step ≡ Some error → refusal_at t.limits (state_in t (Some l)) (Stepped step) ≡ Some error
 step_refused t f l step error k e = let q = sym (fault_here t f l step k) ∙ e in grind (arith, runs_here t f l k, q)
 
 pub step_spent : (t : Thread) (f : Stack) (l : Steps) (step : Step) (left : ℕ) → IsWhole t (Some f) (Some l) → step_refusal f.depth f.frames step ≡ None → left + own_spent t.history ≡ t.limits.own → left ≤ length l.steps
-    → refusal_at t.limits (state_in t (Some l)) (Own step) ≡ Some OwnSpent
+    → refusal_at t.limits (state_in t (Some l)) (Stepped step) ≡ Some OwnSpent
 step_spent t f l step left k e is few =
     let q = sym (fault_here t f l step k) ∙ e in
     let o = logged_own t.history l.steps in
@@ -206,29 +206,29 @@ step_spent t f l step left k e is few =
     grind (arith, runs_here t f l k, q, n)
 
 pub step_free : (t : Thread) (f : Stack) (l : Steps) (step : Step) (left : ℕ) → IsWhole t (Some f) (Some l) → step_refusal f.depth f.frames step ≡ None → left + own_spent t.history ≡ t.limits.own → length l.steps < left
-    → refusal_at t.limits (state_in t (Some l)) (Own step) ≡ None
+    → refusal_at t.limits (state_in t (Some l)) (Stepped step) ≡ None
 step_free t f l step left k e is few =
     let q = sym (fault_here t f l step k) ∙ e in
     let o = logged_own t.history l.steps in
     let n : nat_lt (own_spent (t.history ++ steps_of l.steps)) t.limits.own ≡ true = grind (arith, nat_tests, o, is, few) in
     grind (arith, runs_here t f l k, q, n)
 
-step_may : (t : Thread) (steps : List Step) (step : Step) → own_refusal t.limits (view t.limits (t.history ++ steps_of steps)) (own_spent (t.history ++ steps_of steps)) (Own step) ≡ None
-    → may_follow t.limits (t.history ++ steps_of steps) (Own step) ≡ true
+step_may : (t : Thread) (steps : List Step) (step : Step) → own_refusal t.limits (view t.limits (t.history ++ steps_of steps)) (own_spent (t.history ++ steps_of steps)) (Stepped step) ≡ None
+    → may_follow t.limits (t.history ++ steps_of steps) (Stepped step) ≡ true
 step_may t steps step h =
     let frames = (view t.limits (t.history ++ steps_of steps)).frames in
     let free : step_refusal t.limits.depth frames step ≡ None = grind (arith, h) in
     grind (arith, h, fits_is t.limits frames step free)
 
-own_frames : (limits : Limits) (h : List Entry) (step : Step) → (view limits (h ++ Own step ∷ [])).frames ≡ frames_after (view limits h).frames step
-own_frames limits h step = ap (λ (z : HistoryState). z.view.frames) (history_state-snoc limits h (Own step)) ∙ grind arith
+own_frames : (limits : Limits) (h : List Entry) (step : Step) → (view limits (h ++ Stepped step ∷ [])).frames ≡ frames_after (view limits h).frames step
+own_frames limits h step = ap (λ (z : HistoryState). z.view.frames) (history_state-snoc limits h (Stepped step)) ∙ grind arith
 
 -- a step that is logged
-pub whole_stepped : (t : Thread) (f g : Stack) (l m : Steps) (step : Step) → IsWhole t (Some f) (Some l) → refusal_at t.limits (state_in t (Some l)) (Own step) ≡ None
+pub whole_stepped : (t : Thread) (f g : Stack) (l m : Steps) (step : Step) → IsWhole t (Some f) (Some l) → refusal_at t.limits (state_in t (Some l)) (Stepped step) ≡ None
     → g ≡ with_frames f (frames_after f.frames step) → m ≡ with_steps l (l.steps ++ step ∷ []) → IsWhole t (Some g) (Some m)
 whole_stepped t f g l m step k free eg em =
     let h = t.history ++ steps_of l.steps in
-    let one : t.history ++ steps_of m.steps ≡ h ++ Own step ∷ [] = ap (λ (z : Steps). t.history ++ steps_of z.steps) em ∙ steps-snoc t.history l.steps step in
+    let one : t.history ++ steps_of m.steps ≡ h ++ Stepped step ∷ [] = ap (λ (z : Steps). t.history ++ steps_of z.steps) em ∙ steps-snoc t.history l.steps step in
     record {
       legal = k.legal;
       parts = record {
@@ -240,7 +240,7 @@ whole_stepped t f g l m step k free eg em =
         goes =
             ap (λ (z : Steps). goes_on t.limits t.history (steps_of z.steps)) em
             ∙ ap (λ z. goes_on t.limits t.history z) (steps-snoc [] l.steps step)
-            ∙ goes_on-append t.limits t.history (steps_of l.steps) (Own step ∷ [])
+            ∙ goes_on-append t.limits t.history (steps_of l.steps) (Stepped step ∷ [])
             ∙ grind (arith, k.parts.goes, step_may t l.steps step free);
         room = ap (λ (z : Steps). z.room) em ∙ k.parts.room;
         kept = ap (λ (z : Steps). z.kept) em ∙ k.parts.kept;
@@ -265,14 +265,14 @@ outcome_of None x a e = rw e refl
 outcome_of (Some error) x a e = cc
 
 pub read_said : (t u : Thread) (steps : List Step) (env : EnvNo) (n m : ℤ) (a : Answer) → m ≡ n
-    → u ≡ with_more t (if_none (hold_refusal (view t.limits t.history) (event.Read env t.number m)) (Read env m ∷ []))
-    → read_answer (hold_refusal (view t.limits t.history) (event.Read env t.number m)) (reply u.limits u.history (length t.history)) ≡ Some a
+    → u ≡ with_more t (if_none (stopping_refusal (view t.limits t.history) (event.Read env t.number m)) (Read env m ∷ []))
+    → read_answer (stopping_refusal (view t.limits t.history) (event.Read env t.number m)) (reply u.limits u.history (length t.history)) ≡ Some a
     → Some (Gave a) ≡ read_told t.limits (record { thread = t; steps = steps }) env t.number n
 read_said t u steps env n m a en eu e =
     let s : ThreadState = record { thread = t; steps = steps } in
     let same : reply u.limits u.history (length t.history) ≡ reply t.limits (read_next t.limits s env t.number m).thread.history (length t.history) = ap (λ (z : Thread). reply z.limits z.history (length t.history)) eu in
-    outcome_of (hold_refusal (view t.limits t.history) (event.Read env t.number m)) (reply u.limits u.history (length t.history)) a e
-    ∙ ap (read_outcome (hold_refusal (view t.limits t.history) (event.Read env t.number m))) same
+    outcome_of (stopping_refusal (view t.limits t.history) (event.Read env t.number m)) (reply u.limits u.history (length t.history)) a e
+    ∙ ap (read_outcome (stopping_refusal (view t.limits t.history) (event.Read env t.number m))) same
     ∙ ap (λ k. read_told t.limits s env t.number k) en
 
 -- what the frames of a running thread say of its history

@@ -7,7 +7,7 @@ use Rattle.ti_types.specs.declared.caps.Caps.{Caps}
 use Rattle.ti_types.specs.declared.call.Call.{Call}
 use Rattle.ti_types.specs.declared.entry.Entry.{Entry}
 use Rattle.ti_types.specs.declared.event.Event.{Event}
-use Rattle.ti_types.specs.declared.event.Event.TheVariants.{Start, Own, Poll, ToNative, ToBlocked, Back, End, Ask, Stop, Read, Go, AddCaps, Relinquish, GetCaps, SetEnvWord, GetEnvWord}
+use Rattle.ti_types.specs.declared.event.Event.TheVariants.{Start, Stepped, Poll, ToNative, ToBlocked, Back, End, Ask, Stop, Read, Go, AddCaps, Relinquish, GetCaps, SetEnvWord, GetEnvWord}
 use Rattle.ti_types.specs.declared.event.Ticket.{Ticket}
 use Rattle.ti_types.specs.declared.event.Outcome.{Outcome}
 use Rattle.ti_types.specs.declared.event.Outcome.TheVariants as outcome
@@ -33,8 +33,8 @@ pub record CoreState : Type 0 where
 abbrev pub core_of : Limits → List EnvValue → List ThreadState → CoreState
 core_of limits envs threads = record { limits = limits; envs = envs; threads = threads }
 
--- what an event leaves, and what it comes to at once. None: the call was posted
-pub record Stepped : Type 0 where
+-- what an event leaves, and its outcome at once. None: the call was posted
+pub record StepResult : Type 0 where
   pub envs : List EnvValue
   pub threads : List ThreadState
   pub told : Option Outcome
@@ -59,30 +59,30 @@ error_told error = Some (outcome.Gave (answer.Refused error))
 abbrev pub spending : List EnvValue → EnvNo → ThreadNo → List EnvValue
 spending envs e t = slice_set envs e.0 (with_spent (env_at envs e) t)
 
--- an own event but for a poll
-abbrev pub stepped_own : Limits → List EnvValue → List ThreadState → ThreadNo → Entry → Stepped
+-- an event of a thread's own that is no poll
+abbrev pub stepped_own : Limits → List EnvValue → List ThreadState → ThreadNo → Entry → StepResult
 stepped_own limits envs threads t x =
     let s = thread_at limits threads t in
     if nat_lt t.0 (length threads)
     then record { envs = envs; threads = slice_set threads t.0 (own_next s.thread.limits s x); told = done_unless (refusal_at s.thread.limits s x) }
     else record { envs = envs; threads = threads; told = Some (outcome.Refused InvalidThread) }
 
-abbrev pub stepped_poll : Limits → List EnvValue → List ThreadState → ThreadNo → Stepped
+abbrev pub stepped_poll : Limits → List EnvValue → List ThreadState → ThreadNo → StepResult
 stepped_poll limits envs threads t =
     let s = thread_at limits threads t in
     if nat_lt t.0 (length threads)
     then record { envs = envs; threads = slice_set threads t.0 (poll_next s.thread.limits s); told = Some (poll_said s.thread.limits s) }
     else record { envs = envs; threads = threads; told = Some (outcome.Refused InvalidThread) }
 
--- why a call does not reach its thread, where its environment refuses so by itself
+-- why a call does not reach its thread, if its environment refuses it so by itself
 abbrev pub why_not : List EnvValue → EnvNo → Option TiError → Bool → Option TiError
 why_not envs e by_itself wanting = admitting_refusal (nat_lt e.0 (length envs)) by_itself wanting
 
-abbrev pub refused_or_else : List EnvValue → List ThreadState → Option TiError → Stepped → Stepped
+abbrev pub refused_or_else : List EnvValue → List ThreadState → Option TiError → StepResult → StepResult
 refused_or_else envs threads (Some error) other = record { envs = envs; threads = threads; told = error_told error }
 refused_or_else envs threads None other = other
 
-abbrev pub stepped_ask : Limits → List EnvValue → List ThreadState → Bool → EnvNo → ThreadNo → Call → Stepped
+abbrev pub stepped_ask : Limits → List EnvValue → List ThreadState → Bool → EnvNo → ThreadNo → Call → StepResult
 stepped_ask limits envs threads wanting e t call =
     let s = thread_at limits threads t in
     refused_or_else envs threads (why_not envs e (call_refusal (env_at envs e) t call) (wanting && takes_buffer call))
@@ -92,13 +92,13 @@ stepped_ask limits envs threads wanting e t call =
       told = given (reply_now s.thread.limits s e call);
     })
 
-abbrev pub stepped_stop : Limits → List EnvValue → List ThreadState → EnvNo → ThreadNo → Stepped
+abbrev pub stepped_stop : Limits → List EnvValue → List ThreadState → EnvNo → ThreadNo → StepResult
 stepped_stop limits envs threads e t =
     let s = thread_at limits threads t in
     refused_or_else envs threads (why_not envs e (stop_refusal (env_at envs e) t) false)
     (record { envs = spending envs e t; threads = slice_set threads t.0 (stop_next s.thread.limits s e s.thread.number); told = stop_told s.thread.limits s e s.thread.number })
 
-abbrev pub stepped_read : Limits → List EnvValue → List ThreadState → Bool → EnvNo → ThreadNo → ℤ → Stepped
+abbrev pub stepped_read : Limits → List EnvValue → List ThreadState → Bool → EnvNo → ThreadNo → ℤ → StepResult
 stepped_read limits envs threads wanting e t max_count =
     let s = thread_at limits threads t in
     refused_or_else envs threads (why_not envs e (read_refusal (env_at envs e) t max_count) wanting)
@@ -108,38 +108,38 @@ stepped_read limits envs threads wanting e t max_count =
       told = read_told s.thread.limits s e s.thread.number max_count;
     })
 
-abbrev pub stepped_go : Limits → List EnvValue → List ThreadState → EnvNo → ThreadNo → Stepped
+abbrev pub stepped_go : Limits → List EnvValue → List ThreadState → EnvNo → ThreadNo → StepResult
 stepped_go limits envs threads e t =
     let s = thread_at limits threads t in
     refused_or_else envs threads (why_not envs e (going_refusal (nat_lt t.0 (length threads))) false)
     (record { envs = envs; threads = slice_set threads t.0 (go_next s.thread.limits s e s.thread.number); told = go_told s.thread.limits s e s.thread.number })
 
-abbrev pub with_env : List EnvValue → List ThreadState → EnvNo → EnvValue → Option Outcome → Stepped
+abbrev pub with_env : List EnvValue → List ThreadState → EnvNo → EnvValue → Option Outcome → StepResult
 with_env envs threads e env told =
     if nat_lt e.0 (length envs)
     then record { envs = slice_set envs e.0 env; threads = threads; told = told }
     else record { envs = envs; threads = threads; told = error_told InvalidEnvironment }
 
-abbrev pub stepped_add : List EnvValue → List ThreadState → EnvNo → Caps → Stepped
+abbrev pub stepped_add : List EnvValue → List ThreadState → EnvNo → Caps → StepResult
 stepped_add envs threads e caps =
     let env = env_at envs e in
     if can_be_had caps then with_env envs threads e (with_caps env (caps_with env.caps caps)) (Some (outcome.Gave answer.Done))
     else with_env envs threads e env (error_told NotAvailable)
 
-abbrev pub stepped_relinquish : List EnvValue → List ThreadState → EnvNo → Caps → Stepped
+abbrev pub stepped_relinquish : List EnvValue → List ThreadState → EnvNo → Caps → StepResult
 stepped_relinquish envs threads e caps =
     let env = env_at envs e in
     with_env envs threads e (with_caps env (caps_without env.caps caps)) (Some (outcome.Gave answer.Done))
 
-abbrev pub stepped_tell : List EnvValue → List ThreadState → EnvNo → Answer → Stepped
+abbrev pub stepped_tell : List EnvValue → List ThreadState → EnvNo → Answer → StepResult
 stepped_tell envs threads e a =
     record { envs = envs; threads = threads; told = if nat_lt e.0 (length envs) then Some (outcome.Gave a) else error_told InvalidEnvironment }
 
-abbrev pub stepped_own_if : Limits → List EnvValue → List ThreadState → ThreadNo → Option Entry → Stepped
+abbrev pub stepped_own_if : Limits → List EnvValue → List ThreadState → ThreadNo → Option Entry → StepResult
 stepped_own_if limits envs threads t (Some x) = stepped_own limits envs threads t x
 stepped_own_if limits envs threads t None = record { envs = envs; threads = threads; told = Some outcome.Done }
 
-abbrev pub stepped_by : Limits → List EnvValue → List ThreadState → Bool → Event → Stepped
+abbrev pub stepped_by : Limits → List EnvValue → List ThreadState → Bool → Event → StepResult
 stepped_by limits envs threads wanting (Poll t) = stepped_poll limits envs threads t
 stepped_by limits envs threads wanting (Ask e t call) = stepped_ask limits envs threads wanting e t call
 stepped_by limits envs threads wanting (Stop e t) = stepped_stop limits envs threads e t
@@ -151,13 +151,13 @@ stepped_by limits envs threads wanting (GetCaps e) = stepped_tell envs threads e
 stepped_by limits envs threads wanting (SetEnvWord e word) = with_env envs threads e (with_word (env_at envs e) word) (Some (outcome.Gave answer.Done))
 stepped_by limits envs threads wanting (GetEnvWord e) = stepped_tell envs threads e (answer.Word (env_at envs e).word)
 stepped_by limits envs threads wanting (Start t) = stepped_own_if limits envs threads t (own_entry (Start t))
-stepped_by limits envs threads wanting (Own t step) = stepped_own_if limits envs threads t (own_entry (Own t step))
+stepped_by limits envs threads wanting (Stepped t step) = stepped_own_if limits envs threads t (own_entry (Stepped t step))
 stepped_by limits envs threads wanting (ToNative t) = stepped_own_if limits envs threads t (own_entry (ToNative t))
 stepped_by limits envs threads wanting (ToBlocked t kind) = stepped_own_if limits envs threads t (own_entry (ToBlocked t kind))
 stepped_by limits envs threads wanting (Back t) = stepped_own_if limits envs threads t (own_entry (Back t))
 stepped_by limits envs threads wanting (End t) = stepped_own_if limits envs threads t (own_entry (End t))
 
-abbrev pub stepped : CoreState → Happening → Stepped
+abbrev pub stepped : CoreState → Happening → StepResult
 stepped s h = stepped_by s.limits s.envs s.threads h.wanting h.event
 
 -- the core after an event
@@ -171,7 +171,7 @@ core_told s h = (stepped s h).told
 abbrev pub is_uncollected : CoreState → Ticket → Bool
 is_uncollected s ticket = has ticket (thread_at s.limits s.threads ticket.thread).thread.uncollected
 
--- the core after an answer is taken, or is not there
+-- the core after an answer was looked for, and taken if it was found
 abbrev pub core_taken : CoreState → Ticket → Bool → CoreState
 core_taken s ticket found = record s { threads = slice_set s.threads ticket.thread.0 (taken (thread_at s.limits s.threads ticket.thread) ticket found) }
 

@@ -1,4 +1,4 @@
--- What a call at each thread of a list comes to: what one event for each of them does, in the list's order.
+-- What a call at each thread of a list does: one event for each of them, in the list's order.
 use Rattle.std.specs.Prelude.{◌≡◌, Bool, true, false, ◌||◌, List, [], ◌∷◌, ◌++◌}
 use Rattle.ti_types.specs.declared.limits.Limits.{Limits}
 use Rattle.ti_types.specs.declared.numbers.EnvNo.{EnvNo}
@@ -15,7 +15,7 @@ use Rattle.ti_core.specs.declared.lists.AtEach.{AtEach}
 use Rattle.ti_core.specs.declared.lists.AtEach.TheVariants as each
 use Rattle.ti_core.specs.Threads.{IfPosted, is_ticket_of}
 use Rattle.ti_core.specs.Core.{CoreState, is_uncollected}
-use Rattle.ti_core.specs.Stands.{Stands}
+use Rattle.ti_core.specs.Mirrors.{Mirrors}
 use Rattle.ti_core.specs.Runs.{IsTicketBy}
 
 -- the event for one thread of the list
@@ -26,13 +26,13 @@ event_at env each.Stop t = event.Stop env t
 event_at env (each.Read max_count) t = event.Read env t max_count
 event_at env each.Go t = event.Go env t
 
--- the events for these threads, with the places where memory ran out read off the outcomes
+-- the events for these threads, with the outcomes saying at which of them memory ran out
 abbrev pub each_happened : (ThreadNo → Event) → List ThreadNo → List Outcome → List Happening
 each_happened event (t ∷ ts) (o ∷ os) = happening (event t) (told_now o) ∷ each_happened event ts os
 each_happened event [] os = []
 each_happened event (t ∷ ts) [] = []
 
--- an event after those in front comes to this at once: what the definitions say, or its ticket
+-- the outcome of an event at once, after a prefix of events: what the definitions say, or its ticket
 abbrev pub IsSaid : Limits → List Happening → Event → Outcome → Type 0
 IsSaid limits front x o =
     (told_now o ≡ out_of limits (front ++ happening x (told_now o) ∷ []) front (happening x (told_now o))) × IfPosted o (λ k. IsTicketBy limits front x k)
@@ -44,7 +44,7 @@ AreSaid limits front event [] (o ∷ os) = ⊥
 AreSaid limits front event (t ∷ ts) [] = ⊥
 AreSaid limits front event (t ∷ ts) (o ∷ os) = IsSaid limits front (event t) o × AreSaid limits (front ++ happening (event t) (told_now o) ∷ []) event ts os
 
--- where one of them is refused when it comes, it changes nothing else
+-- if one of them is refused when it comes, it changes nothing else
 abbrev pub AreUnchanged : Limits → List Happening → (ThreadNo → Event) → List ThreadNo → List Outcome → Type 0
 AreUnchanged limits front event (t ∷ ts) (o ∷ os) =
     (is_refusal (told_now o) ≡ true → IsUnchanged limits front (happening (event t) (told_now o)))
@@ -65,8 +65,8 @@ AreFresh s (o ∷ os) = IfPosted o (λ k. is_uncollected s k ≡ false) × AreFr
 -- from one core to another by an event for each of these threads, each after those before it
 pub record HappenedAtEach (event : ThreadNo → Event) (threads : List ThreadNo) (s new : CoreState) (os : List Outcome) : Type 0 where
   pub limits : new.limits ≡ s.limits
-  pub stands : (events : List Happening) → Stands events s → Stands (events ++ each_happened event threads os) new
-  pub outcomes : (events : List Happening) → Stands events s → AreSaid s.limits events event threads os
-  pub refused : (events : List Happening) → Stands events s → AreUnchanged s.limits events event threads os
+  pub mirrors : (events : List Happening) → Mirrors events s → Mirrors (events ++ each_happened event threads os) new
+  pub outcomes : (events : List Happening) → Mirrors events s → AreSaid s.limits events event threads os
+  pub refused : (events : List Happening) → Mirrors events s → AreUnchanged s.limits events event threads os
   pub fresh : AreFresh s os
   pub kept : (k : Ticket) → is_uncollected new k ≡ (is_uncollected s k || are_tickets_of os k)

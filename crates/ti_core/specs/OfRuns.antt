@@ -35,8 +35,7 @@ picked_from limits env thread front (h ∷ hs) (o ∷ os) =
 abbrev pub picked : Limits → EnvNo → ThreadNo → List Event → List (Option Outcome) → List (Option Outcome)
 picked limits env thread events os = picked_from limits env thread [] (happenings events os) os
 
--- two runs under the same limits in which the same is kept for an environment and a thread: their outcomes at the
--- events that are kept are equal
+-- two runs under the same limits, with the same kept for an environment and a thread, have equal outcomes at the kept events
 abbrev pub RunsAgree : Type 0
 RunsAgree =
     (limits : Limits) (env : EnvNo) (thread : ThreadNo) (one other : List Event) (os ps : List (Option Outcome)) →
@@ -44,8 +43,8 @@ RunsAgree =
     kept limits env thread (happenings one os) ≡ kept limits env thread (happenings other ps) →
     picked limits env thread one os ≡ picked limits env thread other ps
 
--- a call for a word comes to its refusal before the thread, else to 15 where the thread has not started or has ended,
--- else to the word that the environment set last
+-- The outcome of a call for a word is its refusal before the thread. Otherwise it is 15 if the thread has not started or has
+-- ended. Otherwise it is the word that the environment set last
 abbrev pub WordsAreTold : Type 0
 WordsAreTold =
     (limits : Limits) (env : EnvNo) (thread : ThreadNo) (before after : List Event) (os ps : List (Option Outcome)) (o : Option Outcome) →
@@ -53,15 +52,15 @@ WordsAreTold =
     told_later o ≡ refused_or (refusal limits (dealings limits env thread (happenings before os)) (happening (Ask env thread GetWord) o))
     (Some (outcome.Gave (word_answer (history_of limits thread (happenings before os)) env)))
 
--- how many pops at the thread are done, by what these events came to
+-- how many pops at the thread are done, by the outcomes of these events
 abbrev pub pops_told : ThreadNo → List Event → List (Option Outcome) → ℕ
 pops_told thread [] os = 0
 pops_told thread (x ∷ xs) [] = 0
 pops_told thread (x ∷ xs) (o ∷ os) = pop_count thread x (told_later o) + pops_told thread xs os
 
--- an event at a thread that was stopped at an earlier front of the events, and not let go since: one of its own is
--- refused, and a read that is admitted tells of the mode and the frames at that front, but for those that were popped
--- since, the newest first. The suspended flag may change
+-- An event at a thread that has been standing since an earlier prefix of the events. One of its own is refused. An admitted
+-- read shows the mode and the frames at that prefix, but for those that were popped since, the newest first. The suspended
+-- flag may change
 pub record TellsOneState (limits : Limits) (env : EnvNo) (thread : ThreadNo) (front now : List Happening) (popped : ℕ) (event : Event) (o : Option Outcome) : Type 0 where
   pub own : is_own_of thread event ≡ true → was_refused (told_later o) ≡ true
   pub reads : (max_count : ℤ) → event ≡ Read env thread max_count → is_none (refusal limits (dealings limits env thread now) (happening event o)) ≡ true
@@ -69,7 +68,7 @@ pub record TellsOneState (limits : Limits) (env : EnvNo) (thread : ThreadNo) (fr
       ≡ Some (outcome.Gave (answer.Stack (bits_of (view limits (history_of limits thread front)).mode (view limits (history_of limits thread now)).suspended)
       (bare_trace (take (or_zero max_count) (drop popped (view limits (history_of limits thread front)).frames)))))
 
--- from where an environment stands at a thread, and until it lets the thread go, all is of one state
+-- from when a thread is standing for an environment, and until that lets the thread go, all is of one state
 abbrev pub RunsTellOneState : Type 0
 RunsTellOneState =
     (limits : Limits) (env : EnvNo) (thread : ThreadNo) (before more after : List Event) (event : Event)
@@ -78,7 +77,7 @@ RunsTellOneState =
     is_standing limits (history_of limits thread (happenings before os)) env ≡ true → lets_go env thread (happenings more ps) ≡ false →
     TellsOneState limits env thread (happenings before os) (happenings before os ++ happenings more ps) (pops_told thread more ps) event o
 
--- an event that is answered when it comes, and then by a refusal, changes nothing else
+-- an event that is answered with a refusal when it comes changes nothing else
 abbrev pub RefusalsKeepInRuns : Type 0
 RefusalsKeepInRuns =
     (limits : Limits) (before after : List Event) (event : Event) (os ps : List (Option Outcome)) (o : Option Outcome) →

@@ -1,4 +1,4 @@
--- What a whole list of events comes to, while it is run and at its end.
+-- The outcomes of a whole list of events, while it is run and at its end.
 use Rattle.std.specs.Prelude.{◌≡◌, Bool, true, false, List, [], ◌∷◌, ◌++◌, ℕ, map, take, drop, length, Option, Some, None}
 use Rattle.std.specs.List.{list_all}
 use Rattle.ti_types.specs.declared.limits.Limits.{Limits}
@@ -15,14 +15,14 @@ use Rattle.ti_core.specs.Threads.{IfPosted}
 use Rattle.ti_replay.specs.Tickets.{reply_to}
 use Rattle.ti_slot.specs.Tickets.{AreOnce, same}
 use Rattle.ti_core.specs.Core.{CoreState, is_uncollected}
-use Rattle.ti_core.specs.Stands.{Stands}
+use Rattle.ti_core.specs.Mirrors.{Mirrors}
 
--- the ticket that a call is given: its number is that of its environment's calls at the thread before it
+-- the ticket that a call is given: its number is how many calls its environment asked at the thread before it
 abbrev pub IsTicketBy : Limits → List Happening → Event → Ticket → Type 0
 IsTicketBy limits events (Ask e t call) k = k ≡ record { env = e; thread = t; no = asked_by e (history_of limits t events) }
 IsTicketBy limits events _ k = ⊥
 
--- what is seen of an event when it happens: what it comes to at once, or its ticket
+-- what is seen of an event when it happens: its outcome at once, or its ticket
 abbrev pub IsSeen : Limits → List Happening → Happening → Option Outcome → Type 0
 IsSeen limits front h (Some o) = (told_now o ≡ out_of limits (front ++ h ∷ []) front h) × IfPosted o (λ k. IsTicketBy limits front h.event k)
 IsSeen limits front h None = ⊥
@@ -43,9 +43,9 @@ tickets (o ∷ os) = tickets os
 abbrev pub are_uncollected : CoreState → List Ticket → Bool
 are_uncollected s ks = list_all (is_uncollected s) ks
 
--- a core that stands for these events, what was seen of them, and the posted tickets
+-- a core that mirrors for these events, what was seen of them, and the posted tickets
 pub record HasSeen (hs : List Happening) (os : List (Option Outcome)) (s : CoreState) : Type 0 where
-  pub stands : Stands hs s
+  pub mirrors : Mirrors hs s
   pub seen : AreSeen s.limits [] hs os
   pub kept : are_uncollected s (tickets os) ≡ true
   pub once : AreOnce (tickets os)
@@ -75,13 +75,13 @@ abbrev pub is_posted : Option Outcome → Ticket → Bool
 is_posted (Some (Posted t)) k = same t k
 is_posted _ k = false
 
--- a run that is being answered, up to this place: the outcomes before it are what the definitions say at the end of
--- all events, those from it on are due
+-- A run that is being answered, up to this place. The outcomes before it are what the definitions say at the end of all
+-- events. Those from it on are due
 pub record AtTurn (limits : Limits) (hs : List Happening) (first : List (Option Outcome)) (place : ℕ) (os : List (Option Outcome)) (s : CoreState) : Type 0 where
   pub front : List Happening
   pub rest : List Happening
   pub limits_are : s.limits ≡ limits
-  pub stands : Stands hs s
+  pub mirrors : Mirrors hs s
   pub told : map told_later (take place os) ++ outs_from limits hs front rest ≡ outs limits hs
   pub due : AreDue limits hs front rest (drop place os)
   pub kept : are_uncollected s (tickets (drop place os)) ≡ true

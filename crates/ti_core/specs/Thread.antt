@@ -21,7 +21,7 @@ use Rattle.ti_replay.specs.View.{view, is_barred}
 use Rattle.ti_replay.specs.Legal.{own_spent, is_armed}
 use Rattle.ti_replay.specs.Replies.{reply}
 use Rattle.ti_replay.specs.Refusals.{own_refusal}
-use Rattle.ti_replay.specs.Events.{hold_refusal, if_none, gave_unless, read_outcome}
+use Rattle.ti_replay.specs.Events.{stopping_refusal, if_none, gave_unless, read_outcome}
 use Rattle.ti_replay.specs.LateTickets.{steps_of}
 use Rattle.ti_slot.specs.Thread.{Thread, with_more, with_tickets, next_asked, ticket_of, new_slot}
 use Rattle.ti_slot.specs.Tickets.{without_ticket}
@@ -38,9 +38,9 @@ entries s = s.thread.history ++ steps_of s.steps
 abbrev pub seen : Limits → ThreadState → ThreadView
 seen limits s = view limits (entries s)
 
--- a step is logged. Every other entry of the thread's own goes into the slot, the logged steps in front of it
+-- a step is logged. Every other entry of the thread's own goes into the slot, after the logged steps
 abbrev pub entered : ThreadState → Entry → ThreadState
-entered s (entry.Own step) = record { thread = s.thread; steps = s.steps ++ step ∷ [] }
+entered s (entry.Stepped step) = record { thread = s.thread; steps = s.steps ++ step ∷ [] }
 entered s x = record { thread = with_more s.thread (steps_of s.steps ++ x ∷ []); steps = [] }
 
 abbrev pub refusal_at : Limits → ThreadState → Entry → Option TiError
@@ -50,11 +50,11 @@ abbrev pub entered_unless : Option TiError → ThreadState → Entry → ThreadS
 entered_unless None s x = entered s x
 entered_unless (Some error) s x = s
 
--- an own event but for a poll
+-- an event of the thread's own that is no poll
 abbrev pub own_next : Limits → ThreadState → Entry → ThreadState
 own_next limits s x = entered_unless (refusal_at limits s x) s x
 
--- whether an own event but for a poll is made, or why not
+-- whether an own event that is no poll is made, or why not
 abbrev pub own_said : Option TiError → Result (Unit {0}) TiError
 own_said None = Ok tt
 own_said (Some error) = Err error
@@ -72,7 +72,7 @@ abbrev pub poll_said : Limits → ThreadState → Outcome
 poll_said limits s =
     if not (is_running (seen limits s).mode) then outcome.Refused NotRunning
     else if not (is_armed limits (entries s)) then outcome.Clear
-    else if is_barred (seen limits (at_poll s)) then outcome.Held else outcome.Went
+    else if is_barred (seen limits (at_poll s)) then outcome.Stays else outcome.Went
 
 -- the slot with more entries
 abbrev pub more : ThreadState → List Entry → ThreadState
@@ -98,26 +98,26 @@ abbrev pub held_by : Limits → ThreadState → Option TiError → Entry → Thr
 held_by limits s refusal x = more s (if_none refusal (x ∷ []))
 
 abbrev pub stop_next : Limits → ThreadState → EnvNo → ThreadNo → ThreadState
-stop_next limits s env t = held_by limits s (hold_refusal (view limits s.thread.history) (event.Stop env t)) (entry.Stop env)
+stop_next limits s env t = held_by limits s (stopping_refusal (view limits s.thread.history) (event.Stop env t)) (entry.Stop env)
 
 abbrev pub go_next : Limits → ThreadState → EnvNo → ThreadNo → ThreadState
-go_next limits s env t = held_by limits s (hold_refusal (view limits s.thread.history) (event.Go env t)) (entry.Go env)
+go_next limits s env t = held_by limits s (stopping_refusal (view limits s.thread.history) (event.Go env t)) (entry.Go env)
 
 abbrev pub read_next : Limits → ThreadState → EnvNo → ThreadNo → ℤ → ThreadState
-read_next limits s env t n = held_by limits s (hold_refusal (view limits s.thread.history) (event.Read env t n)) (entry.Read env n)
+read_next limits s env t n = held_by limits s (stopping_refusal (view limits s.thread.history) (event.Read env t n)) (entry.Read env n)
 
 abbrev pub stop_told : Limits → ThreadState → EnvNo → ThreadNo → Option Outcome
-stop_told limits s env t = gave_unless (hold_refusal (view limits s.thread.history) (event.Stop env t))
+stop_told limits s env t = gave_unless (stopping_refusal (view limits s.thread.history) (event.Stop env t))
 
 abbrev pub go_told : Limits → ThreadState → EnvNo → ThreadNo → Option Outcome
-go_told limits s env t = gave_unless (hold_refusal (view limits s.thread.history) (event.Go env t))
+go_told limits s env t = gave_unless (stopping_refusal (view limits s.thread.history) (event.Go env t))
 
 abbrev pub read_told : Limits → ThreadState → EnvNo → ThreadNo → ℤ → Option Outcome
 read_told limits s env t n =
-    read_outcome (hold_refusal (view limits s.thread.history) (event.Read env t n))
+    read_outcome (stopping_refusal (view limits s.thread.history) (event.Read env t n))
     (reply limits (read_next limits s env t n).thread.history (length s.thread.history))
 
--- the thread without a ticket
+-- the thread after an answer was looked for: without its ticket, if it was found
 abbrev pub taken : ThreadState → Ticket → Bool → ThreadState
 taken s ticket found =
     record { thread = with_tickets s.thread (if found then without_ticket ticket s.thread.uncollected else s.thread.uncollected); steps = s.steps }
@@ -128,14 +128,14 @@ new_state limits t = record { thread = new_slot limits t; steps = [] }
 -- an entry of a thread's own that no poll leaves
 abbrev pub is_made : Entry → Bool
 is_made entry.Start = true
-is_made (entry.Own step) = true
+is_made (entry.Stepped step) = true
 is_made (entry.Hand Native) = true
 is_made (entry.Hand (Blocked kind)) = true
 is_made entry.Back = true
 is_made entry.End = true
 is_made _ = false
 
--- what comes of an own event
+-- the outcome of an own event
 abbrev pub made_told : Result (Unit {0}) TiError → Option Outcome
 made_told (Ok done) = Some outcome.Done
 made_told (Err error) = Some (outcome.Refused error)

@@ -5,7 +5,7 @@ use Rattle.ti_slot.specs.Tickets.{same}
 use Rattle.ti_types.specs.declared.event.Outcome.{Outcome}
 use Rattle.ti_types.specs.declared.event.Outcome.TheVariants.{Posted}
 
--- what holds of a call's ticket, where it was posted
+-- what is true of a call's ticket, if it was posted
 abbrev pub IfPosted : Outcome → (Ticket → Type 0) → Type 0
 IfPosted (Posted ticket) holds = holds ticket
 IfPosted _ holds = Unit {0}

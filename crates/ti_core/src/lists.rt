@@ -1,8 +1,4 @@
 //! Events for all threads and for lists of them, one after another.
-ghost use Rattle.std.specs.Prelude.{◌≡◌, IfOk, IfErr};
-ghost use Rattle.ti_types.specs.declared.call.Call.TheVariants as call;
-ghost use Rattle.ti_types.specs.declared.event.Event.TheVariants as event;
-ghost use Rattle.ti_core.specs.Lists.{event_at, HappenedAtEach};
 
 use crate::engine::Core;
 use std::alloc::Global;
@@ -33,7 +29,7 @@ impl AtEach {
 }
 
 impl Core {
-    /// One event for each thread, with the room for all outcomes made before the first.
+    /// Makes one event for each thread. The room for all outcomes is made before the first.
     fn each(
         &mut self,
         alloc: Global,
@@ -58,12 +54,19 @@ impl Core {
 
     /// SuspendThreadList (JVM TI 11): a `Suspend` at each thread of the list, in its order, each with its own outcome.
     ///
-    /// What comes of each is what `step` gives on that one event after those before it: 116 where there is no such
-    /// environment, 99 where it does not hold can_suspend, 10 where there is no such thread, 209 where no call is left
-    /// there; then done, 15 at a thread that is not alive, 14 at one that is suspended, or its ticket where the thread
-    /// runs. An element that is refused stops none after it, and a repeated thread is asked again.
+    /// Each outcome is what `step` gives for that one event after those before it. A refused element stops none after it. A
+    /// repeated thread is asked again. The outcome is the first of these that fits:
     ///
-    /// 110 for the whole call where memory for the list of outcomes runs out: then no event has happened, and the
+    /// - 116: there is no such environment.
+    /// - 99: the environment does not have can_suspend.
+    /// - 10: there is no such thread.
+    /// - 209: no call is left there.
+    /// - A ticket: the thread runs.
+    /// - 15: the thread is not alive.
+    /// - 14: the thread is suspended.
+    /// - Done.
+    ///
+    /// The error is 110 for the whole call if memory for the list of outcomes runs out. Then no event has happened, and the
     /// core is as it was.
     pub fn suspend_list(
         &mut self,
@@ -80,7 +83,8 @@ impl Core {
 
     /// ResumeThreadList (JVM TI 11): a `Resume` at each thread of the list, in its order, each with its own outcome.
     ///
-    /// As for `suspend_list`, with 13 at a thread that is not suspended in place of 14; a resumption does not wait.
+    /// As for `suspend_list`, but 13 at a thread that is not suspended in place of 14, and no tickets: a resumption does not
+    /// wait.
     pub fn resume_list(
         &mut self,
         alloc: Global,
@@ -94,9 +98,9 @@ impl Core {
         self.each(alloc, env, AtEach::Resume, threads)
     }
 
-    /// A stop of this environment at each thread of the list, in its order, each with its own outcome (this profile).
+    /// A stop by this environment at each thread of the list, in its order, each with its own outcome (this profile).
     ///
-    /// As for `suspend_list`, with 116, 10, 209, and 211 where a stop stands. It doesn't wait: a thread that runs is
+    /// As for `suspend_list`, but with 116, 10, 209, and 211 if a stop is in force. It doesn't wait: a thread that runs is
     /// not `standing` before its next hand-over.
     pub fn stop_all(
         &mut self,
@@ -111,11 +115,19 @@ impl Core {
         self.each(alloc, env, AtEach::Stop, threads)
     }
 
-    /// A read of at most this many of the newest frames under this environment's stop at each thread of the list, in its
-    /// order, each with its own outcome (this profile).
+    /// A read under this environment's stop at each thread of the list, in its order, each with its own outcome (this
+    /// profile). It gives at most `max_count` of the newest frames.
     ///
-    /// As for `suspend_list`, with 116, 10, 103 where `max_count` is negative, 209, 110 where memory for the frames of
-    /// that read runs out, 212 where the environment's stop does not stand, and 213 where the thread still runs.
+    /// As for `suspend_list`, but the outcome is the first of these that fits:
+    ///
+    /// - 116: there is no such environment.
+    /// - 10: there is no such thread.
+    /// - 103: `max_count` is negative.
+    /// - 209: no call is left there.
+    /// - 110: memory for the frames of that read runs out.
+    /// - 212: the environment's stop is not in force.
+    /// - 213: the thread still runs.
+    /// - The stack.
     pub fn read_all(
         &mut self,
         alloc: Global,
@@ -132,7 +144,7 @@ impl Core {
 
     /// Lets each thread of the list go, in its order, each with its own outcome (this profile).
     ///
-    /// As for `suspend_list`, with 116, 10, and 212 where the environment's stop does not stand.
+    /// As for `suspend_list`, but with 116, 10, and 212 if the environment's stop is not in force.
     pub fn go_all(
         &mut self,
         alloc: Global,
@@ -146,3 +158,8 @@ impl Core {
         self.each(alloc, env, AtEach::Go, threads)
     }
 }
+
+ghost use Rattle.std.specs.Prelude.{◌≡◌, IfOk, IfErr};
+ghost use Rattle.ti_types.specs.declared.call.Call.TheVariants as call;
+ghost use Rattle.ti_types.specs.declared.event.Event.TheVariants as event;
+ghost use Rattle.ti_core.specs.Lists.{event_at, HappenedAtEach};

@@ -1,21 +1,4 @@
 //! A thread of the core: its slot, and its frames and log while it runs.
-ghost use Rattle.std.specs.Prelude.{◌≡◌, ◌≢◌, ◌<◌, if◌then◌else◌, true, false, None, Some, MatchOption, IfOk, IfErr, is_some};
-ghost use Rattle.std.specs.Option.{option_map};
-ghost use Rattle.ti_types.specs.Answer.{said};
-ghost use Rattle.ti_types.specs.declared.entry.Entry.TheVariants as entry;
-ghost use Rattle.ti_replay.specs.Answers.{or_zero as or_zero_of};
-ghost use Rattle.ti_replay.specs.Legal.{is_armed, is_well_formed, is_not_negative, calls_spent};
-ghost use Rattle.ti_replay.specs.Events.{given};
-ghost use Rattle.ti_replay.specs.Outcomes.{told_now};
-ghost use Rattle.ti_replay.specs.Tickets.{reply_to};
-ghost use Rattle.ti_slot.specs.Waiting.{IsBufferOf, HasRoomFor};
-ghost use Rattle.ti_slot.specs.Thread.{ticket_of};
-ghost use Rattle.ti_slot.specs.Tickets.{has};
-ghost use Rattle.ti_core.specs.Thread.{ThreadState, is_made, entries, refusal_at, own_next, own_said, poll_next, poll_said, reply_now, ask_next, stop_next, stop_told, go_next, go_told, read_next, read_told, taken, new_state};
-ghost use Rattle.ti_core.specs.Inside.{state_in, IsWhole};
-ghost use Rattle.ti_core.specs.Threads.{IfPosted};
-ghost use Rattle.ti_replay.specs.Standing.{is_standing};
-ghost use Rattle.ti_types.specs.declared.state.Safe.TheVariants.{AtPoll};
 
 use std::alloc::Global;
 use std::marker::Model;
@@ -48,7 +31,7 @@ impl Model for OneThread {
 impl OneThread {
     /// A thread that has not started, with all the room that it will need.
     ///
-    /// 110 where there is no memory for it, or where an environment may spend more calls than may be out at once.
+    /// The error is 110 if there is no memory for it, or if an environment may spend more calls than may be out at once.
     pub fn new(alloc: Global, limits: Limits, number: ThreadNo) -> Result<Self, TiError>
         ensures new { IfOk result (λ t. t ≡ new_state limits number) }
         ensures memory { IfErr result (λ e. e ≡ TiError.OutOfMemory) }
@@ -64,7 +47,7 @@ impl OneThread {
         })
     }
 
-    /// Start: 210 where the thread is not new, 206 where a stop stands.
+    /// Starts the thread: 210 if it is not new, then 206 if a stop is in force.
     pub fn start(&mut self) -> Result<(), TiError>
         ensures next { self.new ≡ own_next self.old.thread.limits self.old entry.Start }
         ensures said { result ≡ own_said (refusal_at self.old.thread.limits self.old entry.Start) }
@@ -79,7 +62,7 @@ impl OneThread {
         }
     }
 
-    /// The thread's return: 205 where it is not safe, 206 where it is barred.
+    /// Lets the thread return: 205 if it is not safe, then 206 if it is barred.
     pub fn back(&mut self) -> Result<(), TiError>
         ensures next { self.new ≡ own_next self.old.thread.limits self.old entry.Back }
         ensures said { result ≡ own_said (refusal_at self.old.thread.limits self.old entry.Back) }
@@ -93,10 +76,10 @@ impl OneThread {
         }
     }
 
-    /// A step, which the running thread logs.
+    /// Makes a step, which the running thread logs: 204 if it does not run, then 201, 202 or 203 by its frames, then 208.
     pub fn own(&mut self, step: Step) -> Result<(), TiError>
-        ensures next { self.new ≡ own_next self.old.thread.limits self.old (entry.Own step) }
-        ensures said { result ≡ own_said (refusal_at self.old.thread.limits self.old (entry.Own step)) }
+        ensures next { self.new ≡ own_next self.old.thread.limits self.old (entry.Stepped step) }
+        ensures said { result ≡ own_said (refusal_at self.old.thread.limits self.old (entry.Stepped step)) }
     {
         let left = self.slot.own_left() as usize;
         let Some(frames) = &mut self.frames else {
@@ -120,7 +103,8 @@ impl OneThread {
         }
     }
 
-    /// A hand-over: the frames and the log's steps go into the slot, and the waiting calls take place.
+    /// Hands over: the frames and the log's steps go into the slot, and the waiting calls take place. 204 if the thread does
+    /// not run, then 207 or 208.
     pub fn hand_over(&mut self, safe: Safe) -> Result<(), TiError>
         requires armed { safe ≡ AtPoll → is_armed self.old.thread.limits (entries self.old) ≡ true }
         ensures next { self.new ≡ own_next self.old.thread.limits self.old (entry.Hand safe) }
@@ -141,7 +125,7 @@ impl OneThread {
         }
     }
 
-    /// The thread's end: its frames go, and then the waiting calls take place.
+    /// Ends the thread: its frames go, and then the waiting calls take place. 204 if it does not run.
     pub fn end(&mut self) -> Result<(), TiError>
         ensures next { self.new ≡ own_next self.old.thread.limits self.old entry.End }
         ensures said { result ≡ own_said (refusal_at self.old.thread.limits self.old entry.End) }
@@ -156,7 +140,7 @@ impl OneThread {
         Ok(())
     }
 
-    /// An event of the thread's own that leaves this entry, where it is not refused.
+    /// Makes the event of the thread's own that leaves this entry, if it is not refused.
     pub fn make(&mut self, own: Entry) -> Result<(), TiError>
         requires own { is_made own ≡ true }
         ensures next { self.new ≡ own_next self.old.thread.limits self.old own }
@@ -164,7 +148,7 @@ impl OneThread {
     {
         match own {
             Entry::Start => self.start(),
-            Entry::Own(step) => self.own(step),
+            Entry::Stepped(step) => self.own(step),
             Entry::Hand(safe) => self.hand_over(safe),
             Entry::Back => self.back(),
             Entry::End => self.end(),
@@ -173,7 +157,8 @@ impl OneThread {
         }
     }
 
-    /// A poll: nothing where nobody calls for the thread. Else it hands over, and returns where nothing bars it.
+    /// Polls. If nobody calls for the thread, nothing happens. Otherwise it hands over, and returns if nothing bars it. 204
+    /// if the thread does not run.
     pub fn poll(&mut self) -> Outcome
         ensures next { self.new ≡ poll_next self.old.thread.limits self.old }
         ensures said { result ≡ poll_said self.old.thread.limits self.old }
@@ -187,11 +172,11 @@ impl OneThread {
         let _handed = self.hand_over(Safe::AtPoll);
         match self.back() {
             Ok(()) => Outcome::Went,
-            Err(_) => Outcome::Held,
+            Err(_) => Outcome::Stays,
         }
     }
 
-    /// An admitted call: its answer, or its ticket where it waits for the running thread.
+    /// Makes an admitted call: its answer, or its ticket if it waits for the running thread.
     pub fn ask(&mut self, env: EnvNo, call: Call, buf: TraceBuf) -> Outcome
         requires env { env.0 < self.old.thread.limits.envs }
         requires well_formed { is_well_formed call ≡ true }
@@ -208,7 +193,7 @@ impl OneThread {
         }
     }
 
-    /// An admitted stop: 211 where any stop stands.
+    /// An admitted stop: 211 if any stop is in force.
     pub fn stop(&mut self, env: EnvNo) -> Outcome
         requires env { env.0 < self.old.thread.limits.envs }
         requires calls { calls_spent env self.old.thread.history < self.old.thread.limits.calls }
@@ -218,7 +203,7 @@ impl OneThread {
         Outcome::Gave(self.slot.stop(env))
     }
 
-    /// A Go: 212 where this environment's stop does not stand.
+    /// A go: 212 if this environment's stop is not in force.
     pub fn go(&mut self, env: EnvNo) -> Outcome
         requires env { env.0 < self.old.thread.limits.envs }
         ensures next { self.new ≡ go_next self.old.thread.limits self.old env self.old.thread.number }
@@ -227,7 +212,7 @@ impl OneThread {
         Outcome::Gave(self.slot.go(env))
     }
 
-    /// An admitted read: 212 where this environment's stop does not stand, 213 where the thread runs.
+    /// An admitted read: 212 if this environment's stop is not in force, then 213 if the thread runs.
     pub fn read(&mut self, env: EnvNo, max_count: i32, buf: TraceBuf) -> Outcome
         requires env { env.0 < self.old.thread.limits.envs }
         requires count { is_not_negative max_count ≡ true }
@@ -240,7 +225,7 @@ impl OneThread {
         Outcome::Gave(self.slot.read(env, max_count, buf))
     }
 
-    /// The answer to a call that waited, once, where it is there.
+    /// The answer to a call that waited, once, if it is there.
     pub fn take(&mut self, ticket: Ticket) -> Option<Answer>
         ensures answer { option_map said result ≡ (if has ticket self.old.thread.uncollected then reply_to self.old.thread.limits self.old.thread.history ticket else None) }
         ensures next { self.new ≡ taken self.old ticket (is_some result) }
@@ -248,10 +233,28 @@ impl OneThread {
         self.slot.collect(ticket)
     }
 
-    /// Whether this environment's stop stands and the thread does not run.
+    /// Whether this environment's stop is in force and the thread does not run.
     pub fn standing(&self, env: EnvNo) -> bool
         ensures { result ≡ is_standing self.now.thread.limits self.now.thread.history env }
     {
         self.slot.standing(env)
     }
 }
+
+ghost use Rattle.std.specs.Prelude.{◌≡◌, ◌≢◌, ◌<◌, if◌then◌else◌, true, false, None, Some, MatchOption, IfOk, IfErr, is_some};
+ghost use Rattle.std.specs.Option.{option_map};
+ghost use Rattle.ti_types.specs.Answer.{said};
+ghost use Rattle.ti_types.specs.declared.entry.Entry.TheVariants as entry;
+ghost use Rattle.ti_replay.specs.Answers.{or_zero as or_zero_of};
+ghost use Rattle.ti_replay.specs.Legal.{is_armed, is_well_formed, is_not_negative, calls_spent};
+ghost use Rattle.ti_replay.specs.Events.{given};
+ghost use Rattle.ti_replay.specs.Outcomes.{told_now};
+ghost use Rattle.ti_replay.specs.Tickets.{reply_to};
+ghost use Rattle.ti_slot.specs.Waiting.{IsBufferOf, HasRoomFor};
+ghost use Rattle.ti_slot.specs.Thread.{ticket_of};
+ghost use Rattle.ti_slot.specs.Tickets.{has};
+ghost use Rattle.ti_core.specs.Thread.{ThreadState, is_made, entries, refusal_at, own_next, own_said, poll_next, poll_said, reply_now, ask_next, stop_next, stop_told, go_next, go_told, read_next, read_told, taken, new_state};
+ghost use Rattle.ti_core.specs.Inside.{state_in, IsWhole};
+ghost use Rattle.ti_core.specs.Threads.{IfPosted};
+ghost use Rattle.ti_replay.specs.Standing.{is_standing};
+ghost use Rattle.ti_types.specs.declared.state.Safe.TheVariants.{AtPoll};

@@ -1,4 +1,4 @@
--- The text of a fault and the status that it ends with.
+-- The text of a fault, and the status with which it ends.
 use Rattle.std.specs.Prelude.{ℕ, Bool, List, [], ◌++◌, codes, decimal, Result, Ok, Err, if◌then◌else◌}
 use Rattle.ti_script.specs.LimitNames.{limit_text}
 use Rattle.ti_script.specs.Members.{member_text}
@@ -30,7 +30,7 @@ fault_text Write = codes "write"
 fault_text Cell = codes "cell"
 fault_text Usage = codes "usage: tiwalk [walk|live|check] < DOCUMENT"
 
--- the line on standard error
+-- the fault line on standard error
 abbrev pub fault_line : Fault → List ℕ
 fault_line fault = codes "tiwalk: " ++ (fault_text fault ++ codes "\n")
 
@@ -43,7 +43,7 @@ status_of Write = 4
 status_of Cell = 4
 status_of Usage = 2
 
--- the status that a run ends with: what it came to is true but where a history is illegal
+-- the status with which a run ends; without a fault it is 0, or 1 if a history is illegal
 abbrev pub end_status : Result Bool Fault → ℕ
 end_status (Ok legal) = if legal then 0 else 1
 end_status (Err fault) = status_of fault

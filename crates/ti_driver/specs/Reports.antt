@@ -1,4 +1,4 @@
--- A live run, and what is written of it.
+-- A live run, and the text that is written for it.
 use Rattle.std.specs.Prelude.{◌≡◌, ◌⊎◌, ◌+◌, ◌<◌, ℕ, false, true, ◌++◌, List, [], ◌∷◌, Option, None}
 use Rattle.serde_json.specs.Data.{Data}
 use Rattle.ti_types.specs.declared.limits.Limits.{Limits}
@@ -31,7 +31,7 @@ pub record IsGivenLive (known : Option (List ℕ)) (l : Live) : Type 0 where
   pub faultless : live_fault tree ≡ None
   pub says : IsLive tree l
 
--- what is run of a live script: all but the names
+-- what is run of a live script: everything but the names
 abbrev pub script_of : Live → Script
 script_of l = record { limits = l.limits; walks = l.walks; calls = l.calls }
 
@@ -43,7 +43,7 @@ pub record IsReportOf (script : Script) (report : LiveReport) : Type 0 where
 
 -- ---- the text
 
--- the place of the first illegal entry in the history of the thread of that number
+-- the place of the first illegal entry in the history of the thread of this number
 abbrev pub verdict_at : Limits → List (List Entry) → ℕ → Option ℕ
 verdict_at limits histories number = first_illegal limits [] (history_at histories (record { 0 = number }))
 
@@ -57,7 +57,7 @@ abbrev pub sound_text : Cast → LiveReport → List ℕ
 sound_text names report =
     agents_text names.threads names.agents names.methods 0 report.replies ++ threads_text (λ _. None) names.threads 0 report.refused
 
--- what is written of a live run: the replies of each agent, and then the threads
+-- what is written for a live run: the replies of each agent, and then the threads
 abbrev pub report_text : Live → LiveReport → List ℕ
 report_text l report =
     agents_text l.threads l.agents l.methods 0 report.replies ++ threads_text (verdict_at l.limits report.histories) l.threads 0 report.refused
@@ -69,10 +69,10 @@ abbrev pub fault_of_run : RunFault → Fault
 fault_of_run run.Memory = Memory
 fault_of_run run.Cell = Cell
 
--- why there is no report: memory ran out or a thread could not be started, or a cell was in use or the report does not fit
+-- Why there is no report. Memory ran out or a thread could not be started. Or a cell was in use or the report does not fit
 abbrev pub IsRunFault : Fault → Type 0
 IsRunFault e = (e ≡ Memory) ⊎ (e ≡ Cell)
 
--- why a live run ended before it wrote: as it is for every document, or for a cell, which a script alone comes to
+-- why a live run ended before it wrote: as for every document, or for a cell, once there is a script
 abbrev pub IsLiveFault : Option (List ℕ) → Fault → Type 0
 IsLiveFault known e = IsEarlyFault live_fault known e ⊎ ((e ≡ Cell) × (l : Live) × IsGivenLive known l)

@@ -1,4 +1,4 @@
--- A run of the program on a walk, and on a history.
+-- A run of the program on a walk or on a history.
 use Rattle.std.specs.Prelude.{◌≡◌, ◌⊎◌, ◌<◌, ℕ, ◌++◌, List, codes, decimal, length, map, Option, None, Some, IfSome, ⊤}
 use Rattle.serde_json.specs.Data.{Data}
 use Rattle.ti_replay.specs.Admission.{Happening}
@@ -24,12 +24,12 @@ pub record IsGiven (known : Option (List ℕ)) (w : Walk) : Type 0 where
   pub faultless : walk_fault tree ≡ None
   pub says : IsWalk tree w
 
--- The walk's events happen, each marked for lack of memory exactly where what it comes to says so.
+-- The walk's events happen. An event is marked for lack of memory if, and only if, its outcome says so.
 pub record IsRun (w : Walk) (hs : List Happening) : Type 0 where
   pub events : map (λ h. h.event) hs ≡ w.events
   pub marks : map (λ h. h.wanting) hs ≡ map was_for_memory (outs w.limits hs)
 
--- what is written of a walk
+-- what is written for a walk
 abbrev pub text_of : Walk → List Happening → List ℕ
 text_of w hs = lines_text w.methods 0 (outs w.limits hs)
 
@@ -42,7 +42,7 @@ pub record IsGivenHistory (known : Option (List ℕ)) (h : History) : Type 0 whe
   pub faultless : history_fault tree ≡ None
   pub says : IsHistory tree h
 
--- what is written of a history, by the place of its first illegal entry
+-- what is written for a history, by the place of its first illegal entry
 abbrev pub verdict_text : Option ℕ → List ℕ
 verdict_text None = codes "legal\n"
 verdict_text (Some place) = codes "illegal " ++ decimal place ++ codes "\n"
@@ -60,11 +60,11 @@ IsReadFault known Write = ⊥
 IsReadFault known Cell = ⊥
 IsReadFault known Usage = ⊥
 
--- the reader gave too much, or what it gave is refused so
+-- the reader gave too much, or the document that it gave is refused with this fault
 abbrev pub IsInputRefusal : (Data → Option ScriptFault) → Option (List ℕ) → ScriptFault → Type 0
 IsInputRefusal fault_of known e = IsTooLong known e ⊎ ((input : List ℕ) × IsAllOf known input × IsRefusalBy fault_of e input)
 
--- why a run on a document with these faults ended before it wrote
+-- why a run on a document, with these tests, ended before it wrote
 abbrev pub IsEarlyFault : (Data → Option ScriptFault) → Option (List ℕ) → Fault → Type 0
 IsEarlyFault fault_of known Memory = ⊤
 IsEarlyFault fault_of known Read = ⊤

@@ -1,4 +1,4 @@
--- What a reader gave and what a writer took, where that is known.
+-- What a reader gave and what a writer took, if that is known.
 use Rattle.std.specs.Prelude.{◌≡◌, ℕ, List, ◌++◌, Option, IfSome}
 use Rattle.std.specs.Io.KnownBytes.{Appends}
 
@@ -6,14 +6,14 @@ use Rattle.std.specs.Io.KnownBytes.{Appends}
 abbrev pub IsAllOf : Option (List ℕ) → List ℕ → Type 0
 IsAllOf known bytes = IfSome known (λ xs. xs ≡ bytes)
 
--- the writer took a front of the text
+-- the writer took a prefix of the text
 pub record TakesFront (old new : Option (List ℕ)) (text : List ℕ) : Type 0 where
   pub front : List ℕ
   pub rest : List ℕ
   pub split : text ≡ front ++ rest
   pub taken : Appends old new front
 
--- the writer took what stands before the part that is left
+-- the writer took what comes before the part that is left
 pub record Sends (old new : Option (List ℕ)) (all left : List ℕ) : Type 0 where
   pub sent : List ℕ
   pub split : all ≡ sent ++ left

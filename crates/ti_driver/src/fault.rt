@@ -1,31 +1,29 @@
-//! Why a run came to nothing, and the status that it ends with.
-ghost use Rattle.std.specs.Prelude.{◌≡◌};
-ghost use Rattle.ti_driver.specs.Faults.{status_of};
+//! Why a run has no result, and the status with which it ends.
 
 use std::alloc::AllocError;
 use thiserror::Error;
 use ti_runner::RunFault;
 use ti_script::ScriptFault;
 
-/// Why a run came to nothing. `status` gives the status of each and `put_fault` its text. Source: this profile.
+/// Why a run has no result. `status` gives the status of each fault, and `put_fault` writes its text. Source: this profile.
 #[derive(Clone, Copy, Debug, PartialEq, Eq, Error)]
 pub enum Fault {
-    /// The input is too long, or no script. Its own `Memory` counts as `Memory`.
+    /// The input is too long, or is no script. Its own `Memory` counts as `Memory`.
     #[error("{0}")]
     Script(ScriptFault),
     /// Memory ran out, or a thread could not be started.
     #[error("no memory")]
     Memory,
-    /// The reader answered an error, of whatever kind, or gave no end within 16,777,216 calls.
+    /// The reader gave an error, of whatever kind, or had no end within 16,777,216 calls.
     #[error("the input was not read")]
     Read,
-    /// The writer answered an error, of whatever kind, or took no byte.
+    /// The writer gave an error, of whatever kind, or took no byte.
     #[error("the output was not written")]
     Write,
     /// A thread's cell was still in use, or a live run's report does not fit its script.
     #[error("a cell was in use")]
     Cell,
-    /// The arguments ask for nothing that is there.
+    /// The arguments are none that the program knows.
     #[error("the arguments are not known")]
     Usage,
 }
@@ -66,8 +64,8 @@ impl From<RunFault> for Fault {
     }
 }
 
-/// The status that the program ends with at a fault: 2 for a script's fault and for `Usage`, 3 where memory ran out,
-/// 4 for `Read`, `Write` and `Cell`. Source: this profile.
+/// The status with which the program ends at a fault. It is 2 for a script's fault and for `Usage`, and 3 if memory ran out.
+/// It is 4 for `Read`, `Write` and `Cell`. Source: this profile.
 pub fn status(fault: &Fault) -> u8
     ensures { result ≡ status_of fault.now }
 {
@@ -77,3 +75,6 @@ pub fn status(fault: &Fault) -> u8
         Fault::Read | Fault::Write | Fault::Cell => 4,
     }
 }
+
+ghost use Rattle.std.specs.Prelude.{◌≡◌};
+ghost use Rattle.ti_driver.specs.Faults.{status_of};

@@ -1,23 +1,20 @@
-//! A reader's bytes, up to the greatest length of a document.
-ghost use Rattle.std.specs.Prelude.{◌≤◌, length, IfOk, IfErr};
-ghost use Rattle.ti_driver.specs.Runs.{IsReadFault};
-ghost use Rattle.ti_driver.specs.Streams.{IsAllOf};
+//! Reads all bytes of a reader, up to the greatest length of a document.
 
 use crate::fault::Fault;
 use std::alloc::Global;
 use std::io::Read;
 use ti_script::{LimitName, ScriptFault};
 
-/// The most bytes of a document.
+/// The most bytes that a document may have.
 const MAX_INPUT: usize = 8_388_608;
 
-/// The most calls of the reader.
+/// The most calls of the reader that are made.
 const MAX_READS: u32 = 16_777_216;
 
-/// All the bytes that the reader has, at most 8,388,608 of them, in at most 16,777,216 calls.
+/// All bytes that the reader has: at most 8,388,608, in at most 16,777,216 calls.
 ///
-/// `Script` with the limit `input` where there are more bytes, `Read` at the reader's first error and where the calls do
-/// not suffice, `Memory` where memory runs out. How far the reader was read is then left open. Source: this profile.
+/// `Script` with the limit `input` if there are more bytes. `Read` at the reader's first error, or if the calls do not
+/// suffice. `Memory` if memory runs out. After a fault it is open how far the reader was read. Source: this profile.
 pub fn read_input<R: Read>(alloc: Global, reader: &mut R) -> Result<Vec<u8>, Fault>
     ensures all { IfOk result (λ bytes. IsAllOf (R.remaining reader.old) bytes.items) }
     ensures short { IfOk result (λ bytes. length bytes.items ≤ 8388608) }
@@ -41,3 +38,7 @@ pub fn read_input<R: Read>(alloc: Global, reader: &mut R) -> Result<Vec<u8>, Fau
     }
     Err(Fault::Read)
 }
+
+ghost use Rattle.std.specs.Prelude.{◌≤◌, length, IfOk, IfErr};
+ghost use Rattle.ti_driver.specs.Runs.{IsReadFault};
+ghost use Rattle.ti_driver.specs.Streams.{IsAllOf};

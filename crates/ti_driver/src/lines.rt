@@ -1,12 +1,4 @@
-//! The lines of a walk, written in chunks.
-ghost use Rattle.std.specs.Prelude.{◌≡◌, ◌≢◌, ◌+◌, ◌++◌, ◌≤◌, ◌<◌, [], length, IfOk, OnOk, IfErr, Err, string_bytes};
-ghost use Rattle.std.specs.Io.KnownBytes.{Appends, Keeps};
-ghost use Rattle.std.specs.String.{string_len, string_capacity};
-ghost use Rattle.ti_script.specs.Texts.{line_text, lines_text};
-ghost use Rattle.ti_script.specs.Bounds.{AreNamesWithin};
-ghost use Rattle.ti_driver.specs.declared.fault.Fault.TheVariants.{Memory, Write as NotWritten};
-ghost use Rattle.ti_driver.specs.Lines.{AreWithin, HasRoom};
-ghost use Rattle.ti_driver.specs.Streams.{TakesFront, Sends};
+//! Writes the lines of a walk, in chunks.
 
 use crate::fault::Fault;
 use crate::output::write_whole;
@@ -18,11 +10,11 @@ use ti_types::Outcome;
 /// This many bytes are gathered before they are written.
 pub(crate) const CHUNK: usize = 65_536;
 
-/// A line whose length is known to be at most this needs no measuring.
+/// A line that has at most this many bytes, by its bound, is not made to measure it.
 pub(crate) const ESTIMATE: usize = 1_048_576;
 
-/// A length that the line of an outcome does not exceed, where no method's name is longer than `longest_name`: an estimate
-/// where that is small, else the length itself, for which the line is made.
+/// A length in bytes that the line of an outcome does not exceed. It is the line's bound, if that is small. Otherwise the
+/// line is made and measured. No method's name may be longer than `longest_name` bytes.
 fn line_room(
     line: &mut String,
     methods: &Names,
@@ -43,7 +35,7 @@ fn line_room(
     Ok(line.len())
 }
 
-/// A length that no line of these outcomes exceeds.
+/// A length in bytes that no line of these outcomes exceeds.
 fn longest_line(
     alloc: Global,
     methods: &Names,
@@ -74,7 +66,7 @@ fn add_line(text: &mut String, methods: &Names, index: usize, outcome: &Option<O
     }
 }
 
-/// Writes the text out where it is a chunk.
+/// Writes the text and empties it, if it has a whole chunk.
 #[tactic(auto, using(crate::proofs::StreamLaws::parts))]
 pub(crate) fn send_chunk<W: Write>(writer: &mut W, text: &mut String) -> Result<(), Fault>
     ensures ok { OnOk result (Sends (W.contents writer.old) (W.contents writer.new) (string_bytes text.old) (string_bytes text.new)) }
@@ -91,7 +83,7 @@ pub(crate) fn send_chunk<W: Write>(writer: &mut W, text: &mut String) -> Result<
     Ok(())
 }
 
-/// Writes the lines of the outcomes in chunks, by a text that is empty and has room for a chunk and the longest line.
+/// Writes the lines of the outcomes in chunks. The text is empty, and has room for a chunk and the longest line.
 fn put_lines<W: Write>(
     writer: &mut W,
     methods: &Names,
@@ -112,7 +104,7 @@ fn put_lines<W: Write>(
     write_whole(writer, text.as_bytes())
 }
 
-/// A text that is empty, with room for a chunk and the longest line of these outcomes after it.
+/// An empty text that has room for a chunk and the longest line of these outcomes. The error is lack of memory.
 fn room_for_lines(
     alloc: Global,
     methods: &Names,
@@ -129,8 +121,8 @@ fn room_for_lines(
     String::with_capacity(alloc, room)
 }
 
-/// Writes the lines of the outcomes, in chunks of 64 KB and a line. All the memory that it takes is taken before the
-/// first byte is written.
+/// Writes the lines of the outcomes, in chunks of 64 KB and a line. All of its memory is taken before the first byte is
+/// written.
 pub(crate) fn write_lines<W: Write>(
     alloc: Global,
     writer: &mut W,
@@ -145,3 +137,12 @@ pub(crate) fn write_lines<W: Write>(
     let mut text = room_for_lines(alloc, methods, outcomes)?;
     put_lines(writer, methods, outcomes, &mut text)
 }
+
+ghost use Rattle.std.specs.Prelude.{◌≡◌, ◌≢◌, ◌+◌, ◌++◌, ◌≤◌, ◌<◌, [], length, IfOk, OnOk, IfErr, Err, string_bytes};
+ghost use Rattle.std.specs.Io.KnownBytes.{Appends, Keeps};
+ghost use Rattle.std.specs.String.{string_len, string_capacity};
+ghost use Rattle.ti_script.specs.Texts.{line_text, lines_text};
+ghost use Rattle.ti_script.specs.Bounds.{AreNamesWithin};
+ghost use Rattle.ti_driver.specs.declared.fault.Fault.TheVariants.{Memory, Write as NotWritten};
+ghost use Rattle.ti_driver.specs.Lines.{AreWithin, HasRoom};
+ghost use Rattle.ti_driver.specs.Streams.{TakesFront, Sends};

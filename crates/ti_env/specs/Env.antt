@@ -8,7 +8,7 @@ use Rattle.ti_types.specs.declared.error.TiError.{TiError}
 use Rattle.ti_types.specs.Caps.{no_caps}
 use Rattle.ti_types.specs.Admitting.{asking_refusal, stopping_refusal, reading_refusal}
 
--- the capabilities that are held, the calls spent at each thread, the limits that it was made under, and its own word
+-- the capabilities, the calls spent at each thread, the limits that it was made under, and its own word
 pub record EnvValue : Type 0 where
   pub caps : Caps
   pub spent : List ℕ
@@ -36,7 +36,7 @@ spent_at s thread = slice_index s.spent thread.0
 abbrev pub with_spent : EnvValue → ThreadNo → EnvValue
 with_spent s thread = record s { spent = slice_set s.spent thread.0 (spent_at s thread + 1) }
 
--- how many calls are left at a thread: none where there is no such thread
+-- how many calls are left at a thread: none if there is no such thread
 abbrev pub left_at : EnvValue → ThreadNo → ℕ
 left_at s thread = if is_there s thread then s.limits.calls - spent_at s thread else 0
 

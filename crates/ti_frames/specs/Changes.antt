@@ -1,4 +1,4 @@
--- The steps that lead from a stack to another. Frames are listed newest first.
+-- The steps that lead from one stack to another. Frames are listed newest first.
 use Rattle.std.specs.Prelude.{ℕ, ◌≡◌, ◌≤◌, ◌-◌, ◌==◌, Bool, true, false, ◌&&◌, if◌then◌else◌, List, [], ◌∷◌, ◌++◌, length, take, drop, reverse, is_none}
 use Rattle.std.specs.List.{fold, common_prefix_len}
 use Rattle.ti_types.specs.declared.place.Frame.{Frame}
@@ -20,7 +20,7 @@ is_same_frame f g = (f.method.0 == g.method.0) && is_same_place f.place g.place
 abbrev pub frames_after_all : List Frame → List Step → List Frame
 frames_after_all frames steps = fold frames_after frames steps
 
--- whether each step may be made where it stands, where there may be this many frames
+-- whether each step may be made at its place, when there may be this many frames
 abbrev pub are_accepted : (depth : ℕ) → List Frame → List Step → Bool
 are_accepted depth frames [] = true
 are_accepted depth frames (step ∷ steps) = is_none (step_refusal depth frames step) && are_accepted depth (frames_after frames step) steps
@@ -30,7 +30,7 @@ abbrev pub leaves : List Frame → List Step
 leaves [] = []
 leaves (frame ∷ frames) = Leave ∷ leaves frames
 
--- the steps that a frame at a place takes
+-- the steps that enter a frame at a place
 abbrev pub entry_at : Frame → Place → List Step
 entry_at f Native = EnterNative f.method ∷ []
 entry_at f (Java position) = if position == 0 then Enter f.method ∷ [] else Enter f.method ∷ At position ∷ []
@@ -44,7 +44,7 @@ entries (frame ∷ frames) = entries frames ++ entry_at frame frame.place
 abbrev pub steps_keeping : (keep : ℕ) (old newest : List Frame) → List Step
 steps_keeping keep old newest = leaves (take (length old - keep) old) ++ entries newest
 
--- these frames over the oldest `keep` ones
+-- these frames over the oldest `keep` of the old ones
 abbrev pub frames_keeping : (keep : ℕ) (old newest : List Frame) → List Frame
 frames_keeping keep old newest = newest ++ drop (length old - keep) old
 
@@ -60,12 +60,12 @@ newest_past keep frames = take (length frames - keep) frames
 abbrev pub steps_between : (old new : List Frame) → List Step
 steps_between old new = steps_keeping (shared old new) old (newest_past (shared old new) new)
 
--- what steps make of frames, each of which is accepted
+-- what steps make of frames, when each of them is accepted
 pub record Lead (depth : ℕ) (old : List Frame) (steps : List Step) (new : List Frame) : Type 0 where
   pub accepted : are_accepted depth old steps ≡ true
   pub made : frames_after_all old steps ≡ new
 
--- the steps that keep the oldest frames lead to those under the others
+-- the steps that keep the oldest frames lead to these with the others over them
 abbrev pub KeepingLeads : Type 0
 KeepingLeads =
     (depth keep : ℕ) (old newest : List Frame) → length (frames_keeping keep old newest) ≤ depth →

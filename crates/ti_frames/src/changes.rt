@@ -1,33 +1,28 @@
 //! The steps that lead from the frames of a thread to others.
-ghost use Rattle.std.specs.Prelude.{◌≡◌, ◌≤◌, ◌<◌, ◌^◌, ◌+◌, ◌++◌, length, reverse};
-ghost use Rattle.std.specs.List.{common_prefix_len};
-ghost use Rattle.ti_frames.specs.Log.{with_steps};
-ghost use Rattle.ti_frames.specs.Changes.{KeepingLeads, StepsLead, is_same_frame, entry_at, entries};
 
 use crate::log::Log;
 use ti_types::{Frame, Place, Step};
 
-/// The steps that keep the oldest frames, and enter others over them, lead to those frames. Each is accepted.
+/// The steps that keep the oldest frames, and enter others over them, lead to those frames. Each of them is accepted.
 #[tactic(auto, using(crate::proofs::ChangeLaws::keeping_leads))]
 pub fn kept_frames_stay()
     ensures { KeepingLeads }
 {}
 
-/// The steps between two stacks lead from the one to the other. Each is accepted.
+/// The steps between two stacks lead from the one to the other. Each of them is accepted.
 #[tactic(auto, using(crate::proofs::ChangeLaws::steps_lead))]
 pub fn steps_lead_between()
     ensures { StepsLead }
 {}
 
-/// Whether two frames run one method at one place of it.
+/// Whether two frames are in the same method, at the same place.
 fn is_same(a: Frame, b: Frame) -> bool
     ensures { result ≡ is_same_frame a b }
 {
     a == b
 }
 
-/// How many frames two stacks share from the oldest on, of which the first lists the oldest first, and the other the
-/// newest first.
+/// How many frames two stacks share, counted from the oldest. `old` lists the oldest first, and `new` the newest first.
 pub(crate) fn shared_frames(old: &[Frame], new: &[Frame]) -> usize
     ensures shared { result ≡ common_prefix_len is_same_frame old.now (reverse new.now) }
     ensures old { result ≤ length old.now }
@@ -42,7 +37,7 @@ pub(crate) fn shared_frames(old: &[Frame], new: &[Frame]) -> usize
     most
 }
 
-/// How many steps the entry of a frame takes.
+/// How many steps it takes to enter a frame.
 fn entry_len(frame: Frame) -> usize
     ensures len { result ≡ length (entry_at frame frame.place) }
     ensures few { result ≤ 2 }
@@ -53,7 +48,7 @@ fn entry_len(frame: Frame) -> usize
     }
 }
 
-/// How many steps the entries of frames take.
+/// How many steps it takes to enter these frames.
 pub(crate) fn entries_len(newest: &[Frame]) -> usize
     requires { length newest.now < 2 ^ 32 }
     ensures { result ≡ length (entries newest.now) }
@@ -65,7 +60,7 @@ pub(crate) fn entries_len(newest: &[Frame]) -> usize
     count
 }
 
-/// Logs the entry of a frame.
+/// Logs the steps that enter a frame.
 fn log_entry(frame: Frame, log: &mut Log)
     requires { length log.old.steps + length (entry_at frame frame.place) ≤ log.old.room }
     ensures { log.new ≡ with_steps log.old (log.old.steps ++ entry_at frame frame.place) }
@@ -80,7 +75,7 @@ fn log_entry(frame: Frame, log: &mut Log)
     }
 }
 
-/// Logs the entries of frames.
+/// Logs the steps that enter these frames, the oldest first.
 pub(crate) fn log_entries(newest: &[Frame], log: &mut Log)
     requires { length log.old.steps + length (entries newest.now) ≤ log.old.room }
     ensures { log.new ≡ with_steps log.old (log.old.steps ++ entries newest.now) }
@@ -89,3 +84,8 @@ pub(crate) fn log_entries(newest: &[Frame], log: &mut Log)
         log_entry(newest[newest.len() - 1 - i], log);
     }
 }
+
+ghost use Rattle.std.specs.Prelude.{◌≡◌, ◌≤◌, ◌<◌, ◌^◌, ◌+◌, ◌++◌, length, reverse};
+ghost use Rattle.std.specs.List.{common_prefix_len};
+ghost use Rattle.ti_frames.specs.Log.{with_steps};
+ghost use Rattle.ti_frames.specs.Changes.{KeepingLeads, StepsLead, is_same_frame, entry_at, entries};

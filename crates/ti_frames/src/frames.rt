@@ -1,9 +1,4 @@
-//! A thread's frames, the oldest first.
-ghost use Rattle.std.specs.Prelude.{◌≡◌, ◌≤◌, ◌+◌, ◌-◌, ◌<◌, ◌++◌, [], ◌∷◌, length, IfOk, IfErr, MatchResult, Some, None, slice_get, take, drop, min};
-ghost use Rattle.ti_types.specs.Frames.{without_newest};
-ghost use Rattle.ti_frames.specs.Frames.{with_frames, frames_after, step_refusal};
-ghost use Rattle.ti_frames.specs.Changes.{shared as shared_of, leaves, steps_keeping, frames_keeping};
-ghost use Rattle.ti_frames.specs.Log.{with_steps};
+//! The frames of one thread.
 
 use crate::changes::{entries_len, log_entries, shared_frames};
 use crate::log::Log;
@@ -31,9 +26,9 @@ impl Model for Frames {
 }
 
 impl Frames {
-    /// No frames, with room for `depth` of them.
+    /// An empty stack with room for `depth` frames.
     ///
-    /// Fails with `OutOfMemory` (110) where there is no memory for the room, and in no other case (this profile).
+    /// Fails with `OutOfMemory` (110) if there is no memory for the room, and in no other case (this profile).
     pub fn new(alloc: Global, depth: u32) -> Result<Self, TiError>
         ensures frames { IfOk result (λ f. f.frames ≡ []) }
         ensures depth { IfOk result (λ f. f.depth ≡ depth) }
@@ -58,7 +53,7 @@ impl Frames {
         self.depth
     }
 
-    /// The frame at a depth, 0 for the newest; `None` from the frame count on (JVM TI 11, GetFrameLocation).
+    /// The frame at a depth, 0 for the newest. `None` if there is no such frame (JVM TI 11, GetFrameLocation).
     pub fn top(&self, depth: usize) -> Option<Frame>
         ensures { result ≡ slice_get self.now.frames depth }
     {
@@ -69,11 +64,11 @@ impl Frames {
         }
     }
 
-    /// Why a step may not be made, or `None` where it may (this profile).
+    /// Why a step may not be made. `None` if it may (this profile).
     ///
-    /// To enter a method is refused with `Overflow` (201) at the depth limit. To move the newest frame on is refused
-    /// with `NoFrame` (202) where there is none, and with `NotJavaFrame` (203) where it is native. To leave is refused
-    /// with `NoFrame` (202) where there is no frame.
+    /// - `Overflow` (201): a method is entered at the depth limit.
+    /// - `NoFrame` (202): the newest frame is moved on or left, and there is none.
+    /// - `NotJavaFrame` (203): the newest frame is moved on, and is native.
     pub fn refusal(&self, step: Step) -> Option<TiError>
         ensures { result ≡ step_refusal self.now.depth self.now.frames step }
     {
@@ -99,7 +94,7 @@ impl Frames {
         }
     }
 
-    /// Makes a step, or says why it may not be made, as `refusal` does. A refused step changes nothing.
+    /// Makes a step, unless it is refused as `refusal` says. A refused step changes nothing.
     pub fn apply(&mut self, step: Step) -> Result<(), TiError>
         ensures when { MatchResult result
             (λ _. step_refusal self.old.depth self.old.frames step ≡ None)
@@ -211,10 +206,10 @@ impl Frames {
         }
     }
 
-    /// Puts these frames in place of all, listed newest first. The oldest frames that are the same stay as they are, and
-    /// only the others are written.
+    /// Replaces all frames by these, listed newest first. The oldest frames that are the same stay as they are, and only the
+    /// others are written.
     ///
-    /// Refused with `Overflow` (201) where these are more than the depth. Then nothing changes.
+    /// Refused with `Overflow` (201) if there are more than the depth. Then nothing changes.
     pub fn replace(&mut self, frames: &[Frame]) -> Result<(), TiError>
         ensures when { MatchResult result (λ _. length frames.now ≤ self.old.depth) (λ e. (self.old.depth < length frames.now) × (e ≡ TiError.Overflow)) }
         ensures frames { MatchResult result (λ _. self.new ≡ with_frames self.old frames.now) (λ _. self.new ≡ self.old) }
@@ -227,7 +222,7 @@ impl Frames {
         Ok(())
     }
 
-    /// Puts a newest frame.
+    /// Adds a newest frame.
     fn push(&mut self, frame: Frame)
         requires { length self.old.frames < self.old.depth }
         ensures { self.new ≡ with_frames self.old (frame ∷ self.old.frames) }
@@ -246,8 +241,8 @@ impl Frames {
         let _ = self.items.pop();
     }
 
-    /// Copies the frames from depth `start` on, newest first and at most `count` of them, after those of a buffer
-    /// that has room for them (JVM TI 11, GetStackTrace). The buffer keeps its room.
+    /// Copies the frames from depth `start` on into a buffer that has room for them, after those that it has. They are
+    /// copied newest first, and at most `count` of them (JVM TI 11, GetStackTrace). The buffer keeps its room.
     #[tactic(auto, using(crate::proofs::TraceLaws::take_more))]
     pub fn copy_into(&self, start: usize, count: u32, buf: &mut TraceBuf)
         requires start { start ≤ length self.now.frames }
@@ -262,7 +257,7 @@ impl Frames {
         }
     }
 
-    /// The frame at a depth that is there.
+    /// The frame at a depth below the number of frames.
     fn get(&self, depth: usize) -> Frame
         requires { depth < length self.now.frames }
         ensures { slice_get self.now.frames depth ≡ Some result }
@@ -277,3 +272,9 @@ impl Frames {
         self.items.clear();
     }
 }
+
+ghost use Rattle.std.specs.Prelude.{◌≡◌, ◌≤◌, ◌+◌, ◌-◌, ◌<◌, ◌++◌, [], ◌∷◌, length, IfOk, IfErr, MatchResult, Some, None, slice_get, take, drop, min};
+ghost use Rattle.ti_types.specs.Frames.{without_newest};
+ghost use Rattle.ti_frames.specs.Frames.{with_frames, frames_after, step_refusal};
+ghost use Rattle.ti_frames.specs.Changes.{shared as shared_of, leaves, steps_keeping, frames_keeping};
+ghost use Rattle.ti_frames.specs.Log.{with_steps};

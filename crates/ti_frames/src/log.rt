@@ -1,7 +1,4 @@
 //! The steps that a thread made since it last handed over.
-ghost use Rattle.std.specs.Prelude.{◌≡◌, ◌<◌, ◌≤◌, ◌++◌, [], ◌∷◌, length, IfOk, IfErr, nat_le};
-ghost use Rattle.ti_frames.specs.Log.{with_steps};
-ghost use Rattle.ti_trail.specs.Record.{is_kept};
 
 use std::alloc::Global;
 use std::fmt;
@@ -9,8 +6,8 @@ use std::marker::Model;
 use ti_trail::{Record, Recording};
 use ti_types::{Step, TiError};
 
-/// The steps that a thread has made since it last handed over, in order, with room for as many as it may make at all.
-/// They are counted, and take memory only where they are to be read again.
+/// The steps that a thread has made since it last handed over, in order. There is room for as many as it may make at all.
+/// They are counted, and take memory only if they are to be read again.
 #[derive(Drop)]
 pub struct Log {
     steps: Record<Step>,
@@ -34,8 +31,8 @@ impl fmt::Debug for Log {
 impl Log {
     /// An empty log, with room for `own` steps.
     ///
-    /// Fails with `OutOfMemory` (110) where the steps are to be kept and there is no memory for the room, and in no
-    /// other case (this profile).
+    /// Fails with `OutOfMemory` (110) if the steps are to be kept and there is no memory for the room. It fails in no other
+    /// case (this profile).
     pub fn new(alloc: Global, own: u64, recording: Recording) -> Result<Self, TiError>
         ensures steps { IfOk result (λ l. l.steps ≡ []) }
         ensures room { IfOk result (λ l. l.room ≡ own) }
@@ -69,7 +66,7 @@ impl Log {
         &self.steps
     }
 
-    /// Adds a step at the end, for which there is room: `is_full` is the test.
+    /// Adds a step at the end. There has to be room for it: `is_full` is the test.
     pub fn push(&mut self, step: Step)
         requires { length self.old.steps < self.old.room }
         ensures { self.new ≡ with_steps self.old (self.old.steps ++ step ∷ []) }
@@ -84,3 +81,7 @@ impl Log {
         self.steps.clear();
     }
 }
+
+ghost use Rattle.std.specs.Prelude.{◌≡◌, ◌<◌, ◌≤◌, ◌++◌, [], ◌∷◌, length, IfOk, IfErr, nat_le};
+ghost use Rattle.ti_frames.specs.Log.{with_steps};
+ghost use Rattle.ti_trail.specs.Record.{is_kept};

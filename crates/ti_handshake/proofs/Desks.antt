@@ -34,12 +34,12 @@ use Rattle.ti_cell.proofs.Calls.{has_of, left_of, collect_keeps}
 use Rattle.ti_cell.specs.Seats.{Sitting, Holding}
 use Rattle.ti_cell.proofs.Goes.{asked_more, asked_is, may_ask}
 use Rattle.ti_handshake.specs.Call.{WaitsWith, HoldsWith, Holds, found, IsTold, IsAnswered, next_call, ticket_told}
-use Rattle.ti_handshake.specs.Desk.{Place, Sits, ReplyAtPlace}
+use Rattle.ti_handshake.specs.Desk.{DeskState, Sits, ReplyAtPlace}
 use Rattle.ti_handshake.specs.Seated.{IsThere, place_in}
 use Rattle.ti_handshake.proofs.Holding.{held, held_with, found_held}
 
 -- p is the desk before, s its seat, h the hold, and n the slot as the hold lends it
-pub record Took (p : Place) (env : EnvNo) (s : Sitting) (h : Holding) (n : Thread) : Type 0 where
+pub record Took (p : DeskState) (env : EnvNo) (s : Sitting) (h : Holding) (n : Thread) : Type 0 where
   pub view : p.view ≡ s.view
   pub env_is : p.env ≡ env
   pub number : s.view.number ≡ env.0 + 1
@@ -48,15 +48,15 @@ pub record Took (p : Place) (env : EnvNo) (s : Sitting) (h : Holding) (n : Threa
   pub taken : IsTaken s.view h.slot
   pub lent : n ≡ h.slot
 
-pub took : (cell : TableId) (env : EnvNo) (o r : Option Sitting) (s : Sitting) (g : List Ticket) (p : Place) (h : Holding) (n : Thread)
+pub took : (cell : TableId) (env : EnvNo) (o r : Option Sitting) (s : Sitting) (g : List Ticket) (p : DeskState) (h : Holding) (n : Thread)
     → IsThere cell env o g → place_in cell env o g ≡ p → r ≡ Some s → r ≡ o → h.view ≡ holding s.view h.slot.history h.slot.uncollected → IsTaken s.view h.slot → n ≡ h.slot → Took p env s h n
 took cell env o r s g p h n there is some same holds taken lent =
     let e : o ≡ Some s = sym same ∙ some in
     let sits : Sits cell env s = (subst (λ (x : Option Sitting). IsThere cell env x g) e there).0 in
     let place : place_in cell env (Some s) g ≡ p = ap (λ (x : Option Sitting). place_in cell env x g) (sym e) ∙ is in
     record {
-      view = ap (λ (x : Place). x.view) (sym place);
-      env_is = ap (λ (x : Place). x.env) (sym place);
+      view = ap (λ (x : DeskState). x.view) (sym place);
+      env_is = ap (λ (x : DeskState). x.env) (sym place);
       number = sits.number;
       there = sits.there;
       holds = holds;
@@ -64,56 +64,56 @@ took cell env o r s g p h n there is some same holds taken lent =
       lent = lent;
     }
 
-pub may_call : (p : Place) (env : EnvNo) (s : Sitting) (h : Holding) (n : Thread) → Took p env s h n → calls_spent p.env p.view.mine < p.view.subject.limits.calls → calls_spent env n.history < n.limits.calls
+pub may_call : (p : DeskState) (env : EnvNo) (s : Sitting) (h : Holding) (n : Thread) → Took p env s h n → calls_spent p.env p.view.mine < p.view.subject.limits.calls → calls_spent env n.history < n.limits.calls
 may_call p env s h n k left =
     let here : calls_spent env s.view.mine < s.view.subject.limits.calls = subst (λ (x : EnvNo × View). calls_spent x.0 x.1.mine < x.1.subject.limits.calls) (λ i. (k.env_is i, k.view i)) left in
     subst (λ (t : Thread). calls_spent env t.history < t.limits.calls) (sym k.lent) (may_ask s.view h.slot env k.taken k.number here)
 
-taken_here : (p : Place) (env : EnvNo) (s : Sitting) (h : Holding) (n : Thread) → Took p env s h n → IsTaken s.view n
+taken_here : (p : DeskState) (env : EnvNo) (s : Sitting) (h : Holding) (n : Thread) → Took p env s h n → IsTaken s.view n
 taken_here p env s h n k = subst (λ (t : Thread). IsTaken s.view t) (sym k.lent) k.taken
 
 -- the desk's tickets are those of the slot that are its own
-pub posted_is : (p : Place) (env : EnvNo) (s : Sitting) (h : Holding) (n : Thread) → Took p env s h n → p.view.posted ≡ tickets_of (env.0 + 1) n.uncollected
+pub posted_is : (p : DeskState) (env : EnvNo) (s : Sitting) (h : Holding) (n : Thread) → Took p env s h n → p.view.posted ≡ tickets_of (env.0 + 1) n.uncollected
 posted_is p env s h n k =
     ap (λ (v : View). v.posted) k.view ∙ ((taken_here p env s h n k).posted ∙ ap (λ (i : ℕ). tickets_of i n.uncollected) k.number)
 
 -- there is room in the slot, if there is at the desk
-pub has_room : (p : Place) (env : EnvNo) (s : Sitting) (h : Holding) (n : Thread) → Took p env s h n → length p.view.posted ≤ p.view.subject.limits.window → held_by env n.uncollected ≤ n.limits.window
+pub has_room : (p : DeskState) (env : EnvNo) (s : Sitting) (h : Holding) (n : Thread) → Took p env s h n → length p.view.posted ≤ p.view.subject.limits.window → held_by env n.uncollected ≤ n.limits.window
 has_room p env s h n k few =
     let t = taken_here p env s h n k in
     omega (arith, few, ap (λ (l : List Ticket). length l) (posted_is p env s h n k), out_of_env (env.0 + 1) env refl n.uncollected, ap (λ (l : Limits). l.window) t.about.0, ap (λ (v : View). v.subject.limits.window) k.view)
 
-store_is : (p : Place) (env : EnvNo) (s : Sitting) (h : Holding) (n : Thread) (w : View) (history : List Entry) (left : List Ticket) → Took p env s h n → w ≡ stored h.view history left → w ≡ stored (holding s.view n.history n.uncollected) history left
+store_is : (p : DeskState) (env : EnvNo) (s : Sitting) (h : Holding) (n : Thread) (w : View) (history : List Entry) (left : List Ticket) → Took p env s h n → w ≡ stored h.view history left → w ≡ stored (holding s.view n.history n.uncollected) history left
 store_is p env s h n w history left k store = store ∙ (λ i. stored (k.holds i) history left) ∙ sym (λ i. stored (holding s.view (k.lent i).history (k.lent i).uncollected) history left)
 
 -- what is stored is what was found, with more after it, and other tickets of the desk
-pub stores_with : (p : Place) (env : EnvNo) (s : Sitting) (h : Holding) (n m : Thread) (w : View) (more : List Entry) (tickets : List Ticket) → Took p env s h n
+pub stores_with : (p : DeskState) (env : EnvNo) (s : Sitting) (h : Holding) (n m : Thread) (w : View) (more : List Entry) (tickets : List Ticket) → Took p env s h n
     → w ≡ stored h.view m.history m.uncollected → m.history ≡ n.history ++ more → is_legal w.subject.limits w.seen ≡ true → w.mine ≡ made_by w.number w.seen
     → tickets_of (env.0 + 1) m.uncollected ≡ tickets → HoldsWith p.view w more tickets
 stores_with p env s h n m w more tickets k store longer legal whole posted =
     subst (λ (v : View). HoldsWith v w more tickets) (sym k.view)
     (held_with s.view w n m.history more m.uncollected tickets (taken_here p env s h n k) (store_is p env s h n w m.history m.uncollected k store) longer legal whole (ap (λ (i : ℕ). tickets_of i m.uncollected) k.number ∙ posted))
 
-pub stores : (p : Place) (env : EnvNo) (s : Sitting) (h : Holding) (n m : Thread) (w : View) (more : List Entry) → Took p env s h n
+pub stores : (p : DeskState) (env : EnvNo) (s : Sitting) (h : Holding) (n m : Thread) (w : View) (more : List Entry) → Took p env s h n
     → w ≡ stored h.view m.history m.uncollected → m ≡ with_more n more → is_legal w.subject.limits w.seen ≡ true → w.mine ≡ made_by w.number w.seen → Holds p.view w more
 stores p env s h n m w more k store is legal whole =
     subst (λ (v : View). Holds v w more) (sym k.view)
     (held s.view w n m.history more m.uncollected (taken_here p env s h n k) (store_is p env s h n w m.history m.uncollected k store) (ap (λ (t : Thread). t.history) is) (ap (λ (t : Thread). t.uncollected) is) legal whole)
 
-pub finds : (p : Place) (env : EnvNo) (s : Sitting) (h : Holding) (n m : Thread) (w : View) (more : List Entry) → Took p env s h n
+pub finds : (p : DeskState) (env : EnvNo) (s : Sitting) (h : Holding) (n m : Thread) (w : View) (more : List Entry) → Took p env s h n
     → w ≡ stored h.view m.history m.uncollected → m.history ≡ n.history ++ more → found p.view w ≡ n.history
 finds p env s h n m w more k store longer =
     subst (λ (v : View). found v w ≡ n.history) (sym k.view) (found_held s.view w n m.history more m.uncollected (store_is p env s h n w m.history m.uncollected k store) longer)
 
 -- the tickets of others are left as they were
-pub may_keep : (p : Place) (env : EnvNo) (s : Sitting) (h : Holding) (n m : Thread) → Took p env s h n → Keeps (env.0 + 1) n.uncollected m.uncollected → Keeps h.view.number h.view.found m.uncollected
+pub may_keep : (p : DeskState) (env : EnvNo) (s : Sitting) (h : Holding) (n m : Thread) → Took p env s h n → Keeps (env.0 + 1) n.uncollected m.uncollected → Keeps h.view.number h.view.found m.uncollected
 may_keep p env s h n m k keeps =
     let found : n.uncollected ≡ h.view.found = ap (λ (t : Thread). t.uncollected) k.lent ∙ sym (ap (λ (v : View). v.found) k.holds) in
     let number : env.0 + 1 ≡ h.view.number = sym (ap (λ (v : View). v.number) k.holds ∙ k.number) in
     subst (λ (x : ℕ × List Ticket). Keeps x.0 x.1 m.uncollected) (λ i. (number i, found i)) keeps
 
 -- so they are where all are
-pub keeps_all : (p : Place) (env : EnvNo) (s : Sitting) (h : Holding) (n m : Thread) → Took p env s h n → m.uncollected ≡ n.uncollected → Keeps h.view.number h.view.found m.uncollected
+pub keeps_all : (p : DeskState) (env : EnvNo) (s : Sitting) (h : Holding) (n m : Thread) → Took p env s h n → m.uncollected ≡ n.uncollected → Keeps h.view.number h.view.found m.uncollected
 keeps_all p env s h n m k same = may_keep p env s h n m k (ap (tickets_but (env.0 + 1)) same)
 
 -- what a refusal or an answer of the slot depends on
@@ -126,10 +126,10 @@ pub record Known : Type 0 where
 abbrev pub in_slot : Thread → EnvNo → Known
 in_slot n env = record { limits = n.limits; history = n.history; thread = n.number; env = env }
 
-abbrev pub at_desk : Place → View → Known
+abbrev pub at_desk : DeskState → View → Known
 at_desk p w = record { limits = p.view.subject.limits; history = found p.view w; thread = p.view.subject.thread; env = p.env }
 
-pub knows : (p : Place) (env : EnvNo) (s : Sitting) (h : Holding) (n m : Thread) (w : View) (more : List Entry) → Took p env s h n
+pub knows : (p : DeskState) (env : EnvNo) (s : Sitting) (h : Holding) (n m : Thread) (w : View) (more : List Entry) → Took p env s h n
     → w ≡ stored h.view m.history m.uncollected → m.history ≡ n.history ++ more → in_slot n env ≡ at_desk p w
 knows p env s h n m w more k store longer =
     let t = taken_here p env s h n k in
@@ -140,12 +140,12 @@ knows p env s h n m w more k store longer =
     λ i. record { limits = limits i; history = there i; thread = number i; env = same i }
 
 -- where what is added is said of the slot, it is said of the desk
-pub stores_as : (F : Known → List Entry) (p : Place) (env : EnvNo) (s : Sitting) (h : Holding) (n m : Thread) (w : View) → Took p env s h n
+pub stores_as : (F : Known → List Entry) (p : DeskState) (env : EnvNo) (s : Sitting) (h : Holding) (n m : Thread) (w : View) → Took p env s h n
     → w ≡ stored h.view m.history m.uncollected → m ≡ with_more n (F (in_slot n env)) → is_legal w.subject.limits w.seen ≡ true → w.mine ≡ made_by w.number w.seen → Holds p.view w (F (at_desk p w))
 stores_as F p env s h n m w k store is legal whole =
     subst (λ (x : Known). Holds p.view w (F x)) (knows p env s h n m w (F (in_slot n env)) k store (ap (λ (t : Thread). t.history) is)) (stores p env s h n m w (F (in_slot n env)) k store is legal whole)
 
-next_is : (p : Place) (env : EnvNo) (s : Sitting) (h : Holding) (n : Thread) (call : Call) → Took p env s h n → next_asked n env call ≡ next_call p.view p.env call
+next_is : (p : DeskState) (env : EnvNo) (s : Sitting) (h : Holding) (n : Thread) (call : Call) → Took p env s h n → next_asked n env call ≡ next_call p.view p.env call
 next_is p env s h n call k =
     ap (λ (i : ℕ). Asked env i call) (asked_is s.view n env (taken_here p env s h n k) k.number) ∙ (λ i. Asked (sym k.env_is i) (asked_by (sym k.env_is i) (sym k.view i).mine) call)
 
@@ -169,7 +169,7 @@ own_ticket n m env call (Waiting t) is =
     let own : (suc t.env.0 == env.0 + 1) ≡ true = eq-eqb (suc t.env.0) (env.0 + 1) (omega (arith, ap (λ (u : Ticket). u.env.0) is.2)) in
     ap (λ (b : Bool). cond b (t ∷ []) []) own
 
-pub asks : (p : Place) (env : EnvNo) (s : Sitting) (h : Holding) (n m : Thread) (w : View) (call : Call) (r : asked.Asked) → Took p env s h n → IsAsked n m env call r
+pub asks : (p : DeskState) (env : EnvNo) (s : Sitting) (h : Holding) (n m : Thread) (w : View) (call : Call) (r : asked.Asked) → Took p env s h n → IsAsked n m env call r
     → w ≡ stored h.view m.history m.uncollected → is_legal w.subject.limits w.seen ≡ true → w.mine ≡ made_by w.number w.seen
     → HoldsWith p.view w (next_call p.view p.env call ∷ []) (p.view.posted ++ ticket_told r)
 asks p env s h n m w call r k is store legal whole =
@@ -180,7 +180,7 @@ asks p env s h n m w call r k is store legal whole =
     stores_with p env s h n m w (next_call p.view p.env call ∷ []) (p.view.posted ++ ticket_told r) k store
     ((asked_more n m env call r is).0 ∙ ap (λ (x : Entry). n.history ++ x ∷ []) (next_is p env s h n call k)) legal whole posted
 
-pub told : (p : Place) (env : EnvNo) (s : Sitting) (h : Holding) (n m : Thread) (w : View) (call : Call) (r : asked.Asked) → Took p env s h n → IsAsked n m env call r
+pub told : (p : DeskState) (env : EnvNo) (s : Sitting) (h : Holding) (n m : Thread) (w : View) (call : Call) (r : asked.Asked) → Took p env s h n → IsAsked n m env call r
     → has (ticket_of n env) n.uncollected ≡ false → w ≡ stored h.view m.history m.uncollected → IsTold p.view w p.env call r
 told p env s h n m w call r k is fresh store = by_case r is
   where
@@ -283,7 +283,7 @@ own_answered env t there told (Some a) e =
     some_none h = cc
 
 -- a collection by one hold
-pub collects : (p : Place) (env : EnvNo) (s : Sitting) (h : Holding) (n m : Thread) (w : View) (t : Ticket) (r : Option Answer) → Took p env s h n → IfSome r (λ a. suc t.env.0 ≡ env.0 + 1)
+pub collects : (p : DeskState) (env : EnvNo) (s : Sitting) (h : Holding) (n m : Thread) (w : View) (t : Ticket) (r : Option Answer) → Took p env s h n → IfSome r (λ a. suc t.env.0 ≡ env.0 + 1)
     → m ≡ with_tickets n (if is_some r then without_ticket t n.uncollected else n.uncollected)
     → w ≡ stored h.view m.history m.uncollected → is_legal w.subject.limits w.seen ≡ true → w.mine ≡ made_by w.number w.seen
     → HoldsWith p.view w [] (if is_some r then without_ticket t p.view.posted else p.view.posted)
@@ -296,12 +296,12 @@ collects p env s h n m w t r k own is store legal whole =
     left (Some a) o = left_of (env.0 + 1) t o n.uncollected ∙ ap (without_ticket t) (sym (posted_is p env s h n k))
 
 -- it adds nothing, and leaves the tickets of others
-pub collect_adds : (p : Place) (env : EnvNo) (s : Sitting) (h : Holding) (n m : Thread) (tickets : List Ticket) → Took p env s h n → m ≡ with_tickets n tickets → Adds h.view.number h.view.seen m.history
+pub collect_adds : (p : DeskState) (env : EnvNo) (s : Sitting) (h : Holding) (n m : Thread) (tickets : List Ticket) → Took p env s h n → m ≡ with_tickets n tickets → Adds h.view.number h.view.seen m.history
 collect_adds p env s h n m tickets k is =
     let seen : h.view.seen ≡ m.history = ap (λ (v : View). v.seen) k.holds ∙ (ap (λ (t : Thread). t.history) (sym k.lent) ∙ sym (ap (λ (t : Thread). t.history) is)) in
     ([], sym seen ∙ sym (append-nil h.view.seen), tt)
 
-pub collect_may_keep : (p : Place) (env : EnvNo) (s : Sitting) (h : Holding) (n m : Thread) (t : Ticket) (r : Option Answer) → Took p env s h n → IfSome r (λ a. suc t.env.0 ≡ env.0 + 1)
+pub collect_may_keep : (p : DeskState) (env : EnvNo) (s : Sitting) (h : Holding) (n m : Thread) (t : Ticket) (r : Option Answer) → Took p env s h n → IfSome r (λ a. suc t.env.0 ≡ env.0 + 1)
     → m ≡ with_tickets n (if is_some r then without_ticket t n.uncollected else n.uncollected) → Keeps h.view.number h.view.found m.uncollected
 collect_may_keep p env s h n m t r k own is =
     may_keep p env s h n m k (ap (λ (x : Thread). tickets_but (env.0 + 1) x.uncollected) is ∙ all r own)
@@ -311,7 +311,7 @@ collect_may_keep p env s h n m t r k own is =
     all (Some a) o = collect_keeps (env.0 + 1) t o n.uncollected
 
 -- what is collected is the reply to the ticket, where that is one of the desk's
-pub collected : (p : Place) (env : EnvNo) (s : Sitting) (h : Holding) (n m : Thread) (w : View) (t : Ticket) (a : Option Answer) (tickets : List Ticket) → Took p env s h n
+pub collected : (p : DeskState) (env : EnvNo) (s : Sitting) (h : Holding) (n m : Thread) (w : View) (t : Ticket) (a : Option Answer) (tickets : List Ticket) → Took p env s h n
     → w ≡ stored h.view m.history m.uncollected → m ≡ with_tickets n tickets
     → a ≡ (if t.env.0 == env.0 && has t n.uncollected then reply_to n.limits n.history t else None) → a ≡ (if has t p.view.posted then reply_to p.view.subject.limits w.seen t else None)
 collected p env s h n m w t a tickets k store same is =
@@ -325,14 +325,14 @@ pub told_out : (t : Ticket) (out : Bool) (x : Option Answer) (a : Answer) → ou
 told_out t out x a there is = sym (is ∙ ap (λ (b : Bool). if b then x else None) there)
 
 -- and it is none of the desk's tickets any more
-pub gone_then : (p : Place) (env : EnvNo) (s : Sitting) (h : Holding) (n : Thread) (w : View) (t : Ticket) (r : Option Answer) → Took p env s h n → AreOnce n.uncollected
+pub gone_then : (p : DeskState) (env : EnvNo) (s : Sitting) (h : Holding) (n : Thread) (w : View) (t : Ticket) (r : Option Answer) → Took p env s h n → AreOnce n.uncollected
     → w.posted ≡ (if is_some r then without_ticket t p.view.posted else p.view.posted) → IfSome r (λ a. has t w.posted ≡ false)
 gone_then p env s h n w t None k once is = tt
 gone_then p env s h n w t (Some a) k once is =
     ap (has t) (is ∙ ap (without_ticket t) (posted_is p env s h n k)) ∙ out_once t (tickets_of (env.0 + 1) n.uncollected) (once_of (env.0 + 1) n.uncollected once)
 
 -- what a stop, a read or a go adds is the desk's own
-pub adds_held : (p : Place) (env : EnvNo) (s : Sitting) (h : Holding) (n m : Thread) (r : Option TiError) (x : Entry) → Took p env s h n → maker x ≡ suc env.0 → m ≡ with_more n (if_none r (x ∷ []))
+pub adds_held : (p : DeskState) (env : EnvNo) (s : Sitting) (h : Holding) (n m : Thread) (r : Option TiError) (x : Entry) → Took p env s h n → maker x ≡ suc env.0 → m ≡ with_more n (if_none r (x ∷ []))
     → Adds h.view.number h.view.seen m.history
 adds_held p env s h n m r x k by is =
     let seen : h.view.seen ≡ n.history = ap (λ (v : View). v.seen) k.holds ∙ ap (λ (t : Thread). t.history) (sym k.lent) in
@@ -344,7 +344,7 @@ adds_held p env s h n m r x k by is =
     all (Some e) = tt
 
 -- an answer that is said of the slot is said of the desk
-pub answers_as : (F : Known → Type 0) (p : Place) (env : EnvNo) (s : Sitting) (h : Holding) (n m : Thread) (w : View) (more : List Entry) → Took p env s h n
+pub answers_as : (F : Known → Type 0) (p : DeskState) (env : EnvNo) (s : Sitting) (h : Holding) (n m : Thread) (w : View) (more : List Entry) → Took p env s h n
     → w ≡ stored h.view m.history m.uncollected → m ≡ with_more n more → F (in_slot n env) → F (at_desk p w)
 answers_as F p env s h n m w more k store is f = subst F (knows p env s h n m w more k store (ap (λ (t : Thread). t.history) is)) f
 
@@ -366,7 +366,7 @@ at_place_if limits history t false (Some a) legal is = absurd (never is)
     never h = cc
 
 -- a call that waited, and was collected
-pub answered_later : (p m q : Place) (call : Call) (t : Ticket) (a : Answer) (tickets left : List Ticket) → WaitsWith p.view m.view (next_call p.view p.env call ∷ []) tickets → IsTold p.view m.view p.env call (Waiting t)
+pub answered_later : (p m q : DeskState) (call : Call) (t : Ticket) (a : Answer) (tickets left : List Ticket) → WaitsWith p.view m.view (next_call p.view p.env call ∷ []) tickets → IsTold p.view m.view p.env call (Waiting t)
     → WaitsWith m.view q.view [] left → ReplyAtPlace m.view.subject.limits q.view.seen t a → IsAnswered p.view q.view (next_call p.view p.env call) a
 answered_later p m q call t a tickets left k is l place =
     let front = found p.view m.view in

@@ -17,7 +17,7 @@ use Rattle.ti_cell.specs.declared.view.View.{View}
 use Rattle.ti_cell.specs.Seats.{Sitting}
 use Rattle.ti_handshake.specs.Call.{IsTold, ticket_told}
 use Rattle.ti_handshake.specs.Cancelled.{AreGivenUp}
-use Rattle.ti_handshake.specs.Desk.{Place, Sits, IsTicketOut, is_out}
+use Rattle.ti_handshake.specs.Desk.{DeskState, Sits, IsTicketOut, is_out}
 use Rattle.ti_handshake.specs.Seated.{IsThere, place_in}
 
 -- tickets
@@ -67,33 +67,33 @@ once_more (u ∷ ts) k once n =
 
 -- a desk, by what it has inside
 
-pub place_given : (cell : TableId) (env : EnvNo) (o : Option Sitting) (g : List Ticket) (p : Place) → place_in cell env o g ≡ p → p.cancelled ≡ g
-place_given cell env None g p is = ap (λ (x : Place). x.cancelled) (sym is)
-place_given cell env (Some s) g p is = ap (λ (x : Place). x.cancelled) (sym is)
+pub place_given : (cell : TableId) (env : EnvNo) (o : Option Sitting) (g : List Ticket) (p : DeskState) → place_in cell env o g ≡ p → p.cancelled ≡ g
+place_given cell env None g p is = ap (λ (x : DeskState). x.cancelled) (sym is)
+place_given cell env (Some s) g p is = ap (λ (x : DeskState). x.cancelled) (sym is)
 
-pub given_there : (cell : TableId) (env : EnvNo) (o : Option Sitting) (g : List Ticket) (p : Place) → IsThere cell env o g → place_in cell env o g ≡ p → AreGivenUp g p.view.posted
+pub given_there : (cell : TableId) (env : EnvNo) (o : Option Sitting) (g : List Ticket) (p : DeskState) → IsThere cell env o g → place_in cell env o g ≡ p → AreGivenUp g p.view.posted
 given_there cell env None g p k is = absurd k
-given_there cell env (Some s) g p k is = subst (λ (x : Place). AreGivenUp g x.view.posted) is k.1
+given_there cell env (Some s) g p k is = subst (λ (x : DeskState). AreGivenUp g x.view.posted) is k.1
 
-pub seat_again : (cell : TableId) (env : EnvNo) (o : Option Sitting) (g z : List Ticket) (p : Place) (s : Sitting) → IsThere cell env o g → place_in cell env o g ≡ p
+pub seat_again : (cell : TableId) (env : EnvNo) (o : Option Sitting) (g z : List Ticket) (p : DeskState) (s : Sitting) → IsThere cell env o g → place_in cell env o g ≡ p
     → s.cell ≡ cell → s.view.number ≡ p.view.number → s.view.subject ≡ p.view.subject → AreGivenUp z s.view.posted → IsThere cell env (Some s) z
 seat_again cell env None g z p s k is here number subject given = absurd k
 seat_again cell env (Some t) g z p s k is here number subject given =
-    let view : t.view ≡ p.view = ap (λ (x : Place). x.view) is in
+    let view : t.view ≡ p.view = ap (λ (x : DeskState). x.view) is in
     let same_number : s.view.number ≡ t.view.number = number ∙ sym (ap (λ (v : View). v.number) view) in
     let same_subject : s.view.subject ≡ t.view.subject = subject ∙ sym (ap (λ (v : View). v.subject) view) in
     (record { here = here; number = same_number ∙ k.0.number; there = subst (λ (x : Subject). env.0 < x.limits.envs) (sym same_subject) k.0.there }, given)
 
 -- a call that was not given up is out if it is posted
-pub out_posted : (p : Place) (t : Ticket) → has t p.cancelled ≡ false → is_out p t ≡ has t p.view.posted
+pub out_posted : (p : DeskState) (t : Ticket) → has t p.cancelled ≡ false → is_out p t ≡ has t p.view.posted
 out_posted p t n = grind (arith, n)
 
 -- one that was given up is not
-pub not_out : (p : Place) (t : Ticket) → has t p.cancelled ≡ true → is_out p t ≡ false
+pub not_out : (p : DeskState) (t : Ticket) → has t p.cancelled ≡ true → is_out p t ≡ false
 not_out p t n = grind (arith, n)
 
 -- a new ticket was not given up
-pub ticket_out : (v w : View) (env : EnvNo) (call : Call) (r : asked.Asked) (g : List Ticket) (q : Place) → AreGivenUp g v.posted → w.posted ≡ v.posted ++ ticket_told r → IsTold v w env call r
+pub ticket_out : (v w : View) (env : EnvNo) (call : Call) (r : asked.Asked) (g : List Ticket) (q : DeskState) → AreGivenUp g v.posted → w.posted ≡ v.posted ++ ticket_told r → IsTold v w env call r
     → q.view ≡ w → q.cancelled ≡ g → IsTicketOut q r
 ticket_out v w env call (Answered a) g q given more told view same = tt
 ticket_out v w env call (Waiting k) g q given more told view same =

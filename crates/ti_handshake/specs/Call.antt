@@ -1,4 +1,4 @@
--- What a call through a cell tells a seat.
+-- What a seat knows after a call through a cell.
 use Rattle.std.specs.Prelude.{◌≡◌, ◌+◌, ◌-◌, ◌<◌, true, false, List, [], ◌∷◌, ◌++◌, length, take, drop, Some, None}
 use Rattle.ti_types.specs.Answer.{said}
 use Rattle.ti_types.specs.declared.answer.Answer.{Answer}
@@ -16,8 +16,8 @@ use Rattle.ti_slot.specs.declared.asked.Asked.TheVariants.{Answered, Waiting}
 use Rattle.ti_cell.specs.declared.look.Look.{Look}
 use Rattle.ti_cell.specs.declared.view.View.{View}
 
--- The seat is the same, and holds nothing. What it has looked at was looked at before, but for some at the end. What it
--- has seen is legal, begins with what it had seen before, and has of its number exactly the entries that it made
+-- The seat is the same, and does not hold the cell. Its earlier looks stay, and others may follow them. What it has seen is
+-- legal, and begins with what it had seen before. Its entries with the seat's number are exactly those made from this seat
 pub record GoesOn (old new : View) : Type 0 where
   pub number : new.number ≡ old.number
   pub subject : new.subject ≡ old.subject
@@ -34,12 +34,12 @@ pub record GoesOn (old new : View) : Type 0 where
 abbrev pub added : View → View → List Entry
 added old new = drop (length old.mine) new.mine
 
--- the history that a call found, which is what was seen after it, without what it added
+-- the history that a call found: what was seen after the call, without what the call added
 abbrev pub found : View → View → List Entry
 found old new = take (length new.seen - length (added old new)) new.seen
 
--- Holds that added nothing, with looks between them, and then one hold that added these entries: what was seen is what
--- that hold found, with what was added after it. The seat's tickets are these
+-- Holds that added nothing, if any, with looks between them. Then one hold that added these entries. What was seen is what
+-- that hold found, with what it added. The seat's tickets are these
 pub record WaitsWith (old new : View) (more : List Entry) (tickets : List Ticket) : Type 0 where
   pub goes : GoesOn old new
   pub mine : new.mine ≡ old.mine ++ more
@@ -53,7 +53,7 @@ pub record HoldsWith (old new : View) (more : List Entry) (tickets : List Ticket
   pub looked : new.looked ≡ old.looked
   pub once : new.taken ≡ old.taken + 1
 
--- the same of a call that leaves the seat's tickets as they were
+-- the same for a call that leaves the seat's tickets as they were
 abbrev pub Waits : View → View → List Entry → Type 0
 Waits old new more = WaitsWith old new more old.posted
 
@@ -64,11 +64,11 @@ Holds old new more = HoldsWith old new more old.posted
 abbrev pub with_looks : View → List Look → View
 with_looks v looks = record v { looked = v.looked ++ looks }
 
--- looks alone, of which the last showed entries that were not seen
+-- only looks, and the last one showed entries that had not been seen
 abbrev pub SawNews : View → View → Type 0
 SawNews old new = (looks : List Look) × (last : Look) × (new ≡ with_looks old (looks ++ last ∷ [])) × (length old.seen < last.count)
 
--- what a call that is asked comes to at once: the reply, or the ticket where there is none yet. No ticket was that one
+-- what a call gives at once: the reply, or a ticket if there is no reply yet. The seat did not have that ticket before
 abbrev pub IsTold : View → View → EnvNo → Call → AskedOf → Type 0
 IsTold old new env call (Answered a) = reply old.subject.limits new.seen (length (found old new)) ≡ Some (said a)
 IsTold old new env call (Waiting ticket) =
@@ -76,7 +76,7 @@ IsTold old new env call (Waiting ticket) =
     × (ticket ≡ record { env = env; thread = old.subject.thread; no = asked_by env old.mine })
     × (has ticket old.posted ≡ false)
 
--- the ticket of a call that waits
+-- the ticket of a call, if it waits
 abbrev pub ticket_told : AskedOf → List Ticket
 ticket_told (Answered a) = []
 ticket_told (Waiting ticket) = ticket ∷ []
@@ -85,7 +85,7 @@ ticket_told (Waiting ticket) = ticket ∷ []
 abbrev pub next_call : View → EnvNo → Call → Entry
 next_call v env call = Asked env (asked_by env v.mine) call
 
--- a call stands in the history, after what was seen before, and the answer is the reply at its place
+-- the call is in the history, after what was seen before, and the answer is the reply at its place
 pub record IsAnswered (old new : View) (call : Entry) (answer : Answer) : Type 0 where
   pub front : List Entry
   pub rest : List Entry

@@ -13,7 +13,7 @@ abbrev pub given_in : Option (Vec Ticket) → Given
 given_in None = record { tickets = []; room = 0 }
 given_in (Some v) = record { tickets = v.items; room = vec_capacity v }
 
--- each of those that were given up is out, and none is there twice
+-- each call that was given up is out, and none is listed twice
 pub record AreGivenUp (cancelled posted : List Ticket) : Type 0 where
   pub once : AreOnce cancelled
   pub out : (k : Ticket) → has k cancelled ≡ true → has k posted ≡ true

@@ -11,7 +11,7 @@ use Rattle.ti_types.specs.declared.event.Ticket.{Ticket}
 use Rattle.ti_types.specs.declared.limits.Limits.{Limits}
 use Rattle.ti_types.specs.declared.numbers.EnvNo.{EnvNo}
 use Rattle.ti_types.specs.declared.view.ThreadView.{ThreadView}
-use Rattle.ti_replay.specs.Events.{hold_refusal}
+use Rattle.ti_replay.specs.Events.{stopping_refusal}
 use Rattle.ti_replay.specs.Replies.{reply}
 use Rattle.ti_replay.specs.View.{view}
 use Rattle.ti_cell.specs.declared.view.View.{View}
@@ -24,69 +24,69 @@ use Rattle.ti_slot.specs.declared.asked.Asked.TheVariants.{Answered, Waiting}
 use Rattle.ti_handshake.specs.Call.{HoldsWith, IsAnswered, found, next_call, next_ticket}
 
 -- an environment, its cell, its seat there, and its calls there that were given up and are still out
-pub record Place : Type 0 where
+pub record DeskState : Type 0 where
   pub cell : TableId
   pub env : EnvNo
   pub view : View
   pub cancelled : List Ticket
 
 -- the same place, seen later
-pub record IsSame (old new : Place) : Type 0 where
+pub record IsSame (old new : DeskState) : Type 0 where
   pub cell : new.cell ≡ old.cell
   pub env : new.env ≡ old.env
   pub cancelled : new.cancelled ≡ old.cancelled
 
--- whether a call is out that was not given up
-abbrev pub is_out : Place → Ticket → Bool
+-- whether a call is out and was not given up
+abbrev pub is_out : DeskState → Ticket → Bool
 is_out p k = has k p.view.posted && not (has k p.cancelled)
 
--- so is the call that a ticket was given for
-abbrev pub IsTicketOut : Place → AskedOf → Type 0
+-- if a call got a ticket, it is out and was not given up
+abbrev pub IsTicketOut : DeskState → AskedOf → Type 0
 IsTicketOut p (Answered a) = Unit {0}
 IsTicketOut p (Waiting k) = is_out p k ≡ true
 
--- the call that was given up first was looked for by one hold, and its answer thrown away if it was there
-pub record LooksForFirst (old new : Place) (first : Ticket) (rest : List Ticket) (thrown : Bool) : Type 0 where
+-- one hold looked for the answer to the call that was given up first, and threw it away if it was there
+pub record LooksForFirst (old new : DeskState) (first : Ticket) (rest : List Ticket) (thrown : Bool) : Type 0 where
   pub cell : new.cell ≡ old.cell
   pub env : new.env ≡ old.env
   pub hold : HoldsWith old.view new.view [] (if thrown then without_ticket first old.view.posted else old.view.posted)
   pub thrown_if : thrown ≡ is_some (reply_to old.view.subject.limits new.view.seen first)
   pub cancelled : new.cancelled ≡ (if thrown then rest else old.cancelled)
 
-abbrev pub DiscardsOf : List Ticket → Place → Place → Bool → Type 0
+abbrev pub DiscardsOf : List Ticket → DeskState → DeskState → Bool → Type 0
 DiscardsOf [] old new thrown = (new ≡ old) × (thrown ≡ false)
 DiscardsOf (first ∷ rest) old new thrown = LooksForFirst old new first rest thrown
 
--- nothing is done if none was given up
-abbrev pub Discards : Place → Place → Bool → Type 0
+-- what discarding does: nothing, if no call was given up
+abbrev pub Discards : DeskState → DeskState → Bool → Type 0
 Discards old new thrown = DiscardsOf old.cancelled old new thrown
 
--- the desk with other calls that were given up
-abbrev pub with_cancelled : Place → List Ticket → Place
+-- the desk with this list of calls that were given up
+abbrev pub with_cancelled : DeskState → List Ticket → DeskState
 with_cancelled p tickets = record p { cancelled = tickets }
 
 -- a call that was asked, and was answered
-pub record IsAnsweredAt (old new : Place) (call : Call) (answer : Answer) : Type 0 where
+pub record IsAnsweredAt (old new : DeskState) (call : Call) (answer : Answer) : Type 0 where
   pub posted : new.view.posted ≡ old.view.posted
   pub answered : IsAnswered old.view new.view (next_call old.view old.env call) answer
 
--- a call that was asked is out, and was not answered when it was last looked for
-pub record IsLeft (old new : Place) (call : Call) (ticket : Ticket) : Type 0 where
+-- a call that was asked is out, and had no answer when it was last looked for
+pub record IsLeft (old new : DeskState) (call : Call) (ticket : Ticket) : Type 0 where
   pub late : waits call ≡ true
   pub ticket_is : ticket ≡ next_ticket old.view old.env
   pub new_one : has ticket old.view.posted ≡ false
   pub posted : new.view.posted ≡ old.view.posted ++ ticket ∷ []
   pub unanswered : reply_to old.view.subject.limits new.view.seen ticket ≡ None
 
--- it was given up then
-pub record GivesUp (old new : Place) (call : Call) : Type 0 where
+-- a call that was left so is given up
+pub record GivesUp (old new : DeskState) (call : Call) : Type 0 where
   pub cell : new.cell ≡ old.cell
   pub env : new.env ≡ old.env
   pub left : IsLeft old new call (next_ticket old.view old.env)
   pub cancelled : new.cancelled ≡ old.cancelled ++ next_ticket old.view old.env ∷ []
 
 -- a call with a deadline was answered in time, or given up
-abbrev pub IsInTime : Place → Place → Call → Option Answer → Type 0
+abbrev pub IsInTime : DeskState → DeskState → Call → Option Answer → Type 0
 IsInTime old new call (Some answer) = IsSame old new × IsAnsweredAt old new call answer
 IsInTime old new call None = GivesUp old new call
 
@@ -96,26 +96,26 @@ pub record Sits (cell : TableId) (env : EnvNo) (s : Sitting) : Type 0 where
   pub number : s.view.number ≡ env.0 + 1
   pub there : env.0 < s.view.subject.limits.envs
 
--- the thread where a call found it
-abbrev pub there_found : Place → Place → ThreadView
+-- the thread as a call found it
+abbrev pub there_found : DeskState → DeskState → ThreadView
 there_found old new = view old.view.subject.limits (found old.view new.view)
 
--- why a stop, a read or a go is refused where it found the thread
-abbrev pub stop_refusal : Place → Place → Option TiError
-stop_refusal old new = hold_refusal (there_found old new) (Stop old.env old.view.subject.thread)
+-- why a stop, a read or a go is refused, at the thread as the call found it
+abbrev pub stop_refusal : DeskState → DeskState → Option TiError
+stop_refusal old new = stopping_refusal (there_found old new) (Stop old.env old.view.subject.thread)
 
-abbrev pub read_refusal : Place → Place → ℤ → Option TiError
-read_refusal old new max_count = hold_refusal (there_found old new) (Read old.env old.view.subject.thread max_count)
+abbrev pub read_refusal : DeskState → DeskState → ℤ → Option TiError
+read_refusal old new max_count = stopping_refusal (there_found old new) (Read old.env old.view.subject.thread max_count)
 
-abbrev pub go_refusal : Place → Place → Option TiError
-go_refusal old new = hold_refusal (there_found old new) (Go old.env old.view.subject.thread)
+abbrev pub go_refusal : DeskState → DeskState → Option TiError
+go_refusal old new = stopping_refusal (there_found old new) (Go old.env old.view.subject.thread)
 
 -- the answer is the reply at the place of the ticket's call
 abbrev pub ReplyAtPlace : Limits → List Entry → Ticket → Answer → Type 0
 ReplyAtPlace limits history ticket answer =
     (front rest : List Entry) (call : Call) → history ≡ front ++ Asked ticket.env ticket.no call ∷ rest → reply limits history (length front) ≡ Some answer
 
--- whether it is another environment whose stop stands
+-- whether another environment's stop is in force
 abbrev pub is_anothers : EnvNo → Option EnvNo → Bool
 is_anothers env (Some other) = not (other.0 == env.0)
 is_anothers env None = false

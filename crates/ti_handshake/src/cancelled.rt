@@ -1,16 +1,13 @@
-//! Calls that were given up.
-ghost use Rattle.std.specs.Prelude.{◌≡◌, ◌<◌, [], ◌∷◌, ◌++◌, length, drop, slice_get, IfErr, OnOk};
-ghost use Rattle.ti_types.specs.declared.error.TiError.TheVariants.{OutOfMemory};
-ghost use Rattle.ti_slot.specs.Tickets.{same, has};
+//! The list of a desk's calls that were given up.
 
 use std::alloc::Global;
 use std::marker::Model;
 use ti_types::{TiError, Ticket};
 
-/// The tickets of calls that were given up and are still out, the one that was given up first at the start.
+/// The tickets of calls that were given up and are still out, in the order in which they were given up.
 #[derive(Drop)]
 pub struct Cancelled {
-    /// `None` until there is one.
+    /// `None` until room is made for the first.
     tickets: Option<Vec<Ticket>>,
 }
 
@@ -23,7 +20,7 @@ impl Model for Cancelled {
 }
 
 impl Cancelled {
-    /// None. It takes no memory.
+    /// An empty list. It takes no memory.
     pub fn none() -> Cancelled
         ensures { result.tickets ≡ [] }
     {
@@ -40,7 +37,7 @@ impl Cancelled {
         }
     }
 
-    /// The one that was given up first.
+    /// The ticket of the call that was given up first. `None` if the list is empty.
     pub fn first(&self) -> Option<Ticket>
         ensures { result ≡ slice_get self.now.tickets 0 }
     {
@@ -50,7 +47,8 @@ impl Cancelled {
         }
     }
 
-    /// Makes room for one more. 110 if there is no memory for it.
+    /// Makes room for one more ticket. The tickets stay as they are. The error is 110 OUT_OF_MEMORY if there is no memory
+    /// for it.
     pub fn reserve(&mut self, alloc: Global) -> Result<(), TiError>
         ensures tickets { self.new.tickets ≡ self.old.tickets }
         ensures room { OnOk result (length self.new.tickets < self.new.room) }
@@ -64,7 +62,7 @@ impl Cancelled {
         Ok(())
     }
 
-    /// One more, for which there is room.
+    /// Adds a ticket at the end. There has to be room for it.
     pub fn add(&mut self, ticket: Ticket)
         requires { length self.old.tickets < self.old.room }
         ensures { self.new.tickets ≡ self.old.tickets ++ ticket ∷ [] }
@@ -75,7 +73,7 @@ impl Cancelled {
         }
     }
 
-    /// Without the one that was given up first.
+    /// Removes the ticket of the call that was given up first. There has to be one.
     pub fn remove_first(&mut self)
         requires { 0 < length self.old.tickets }
         ensures { self.new.tickets ≡ drop 1 self.old.tickets }
@@ -89,9 +87,13 @@ impl Cancelled {
     }
 }
 
-/// Whether two tickets are one.
+/// Whether two tickets name the same call.
 fn is_same(a: Ticket, b: Ticket) -> bool
     ensures { result ≡ same a b }
 {
     a.no == b.no && a.env.0 == b.env.0 && a.thread.0 == b.thread.0
 }
+
+ghost use Rattle.std.specs.Prelude.{◌≡◌, ◌<◌, [], ◌∷◌, ◌++◌, length, drop, slice_get, IfErr, OnOk};
+ghost use Rattle.ti_types.specs.declared.error.TiError.TheVariants.{OutOfMemory};
+ghost use Rattle.ti_slot.specs.Tickets.{same, has};

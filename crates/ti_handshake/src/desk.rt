@@ -1,27 +1,8 @@
 //! A desk: an environment's calls at one thread.
-ghost use Rattle.std.specs.Prelude.{List, ◌≡◌, ◌==◌, ◌&&◌, ◌<◌, ◌≤◌, ◌+◌, ◌++◌, true, false, if◌then◌else◌, is_some, [], ◌∷◌, length, Some, None, IfSome, MatchOption};
-ghost use Rattle.std.specs.Option.{option_map};
-ghost use Rattle.ti_types.specs.Answer.{said};
-ghost use Rattle.ti_types.specs.declared.entry.Entry.TheVariants as entry;
-ghost use Rattle.ti_replay.specs.Answers.{done_or, or_zero as or_zero_of};
-ghost use Rattle.ti_replay.specs.Events.{if_none};
-ghost use Rattle.ti_replay.specs.Makers.{made_by};
-ghost use Rattle.ti_replay.specs.Legal.{is_legal, calls_spent, is_well_formed, is_not_negative};
-ghost use Rattle.ti_replay.specs.Replies.{reply};
-ghost use Rattle.ti_replay.specs.Settling.{waits};
-ghost use Rattle.ti_replay.specs.Standing.{is_standing};
-ghost use Rattle.ti_replay.specs.Tickets.{reply_to};
-ghost use Rattle.ti_slot.specs.Thread.{IsLate, read_answer, with_tickets};
-ghost use Rattle.ti_slot.specs.Tickets.{has, without_ticket};
-ghost use Rattle.ti_slot.specs.Waiting.{IsBufferOf, HasRoomFor};
-ghost use Rattle.ti_cell.specs.declared.look.Look.{Look};
-ghost use Rattle.ti_handshake.specs.Call.{GoesOn, Waits, WaitsWith, Holds, HoldsWith, found, IsTold, IsAnswered, SawNews, next_call, ticket_told, with_looks};
-ghost use Rattle.ti_handshake.specs.Cancelled.{AreGivenUp};
-ghost use Rattle.ti_handshake.specs.Desk.{Place, IsSame, IsTicketOut, ReplyAtPlace, is_out, is_anothers, there_found, stop_refusal, read_refusal, go_refusal};
 
 use crate::cancelled::Cancelled;
-use crate::shared::SharedCell;
-use crate::waiting::{Deadline, await_news, await_news_until};
+use crate::shared_cell::SharedCell;
+use crate::waits::{Deadline, await_news, await_news_until};
 use std::marker::Model;
 use std::rt::Clock;
 use std::sync::Wait;
@@ -30,7 +11,32 @@ use ti_cell::EnvSeat;
 use ti_slot::{Asked, Slot};
 use ti_types::{Answer, Call, EnvNo, Ticket, TraceBuf};
 
-/// One environment at one thread. Contracts see it as its cell, its environment, and its seat's view.
+/// One environment at one thread. Contracts see it as a `DeskState`: its cell, its environment, its seat's view, and its calls
+/// that were given up and are still out.
+///
+/// # Examples
+///
+/// ```rattle
+/// # use ti_handshake::{Desk, Fresh, Polled, SharedCell};
+/// # use ti_slot::Asked;
+/// # use ti_types::{Answer, Call, Limits, ThreadNo, TraceBuf};
+/// # let limits = Limits::new(1, 1, 4, 16, 8).ok_or("the limits are in range")?;
+/// # let (cell, own, mut seats) = SharedCell::make(rt.alloc(), limits, ThreadNo(0))?;
+/// # let seat = seats.pop().ok_or("there is one environment")?;
+/// let mut desk = Desk::new(cell.share()?, seat);
+/// let running = Fresh::new(cell, own).start(&rt);
+/// let state = desk.call(&rt, Call::State, TraceBuf::none());
+/// assert!(rt; matches!(state, Answer::State(0x5)));
+/// // The thread has its frames while it runs, so a call about them waits for its next poll.
+/// let Asked::Waiting(ticket) = desk.post(&rt, Call::FrameCount, TraceBuf::none()) else {
+///     return Err("a running thread answers later".into());
+/// };
+/// assert!(rt; desk.try_collect(&rt, ticket).is_none());
+/// let Polled::Go(_running) = running.poll(&rt) else {
+///     return Err("nothing bars the thread".into());
+/// };
+/// assert!(rt; matches!(desk.collect(&rt, ticket), Answer::Count(0)));
+/// ```
 #[derive(Drop)]
 pub struct Desk {
     pub(crate) cell: SharedCell,
@@ -41,10 +47,10 @@ pub struct Desk {
 }
 
 impl Model for Desk {
-    ghost use Rattle.ti_handshake.specs.Desk.{Place};
+    ghost use Rattle.ti_handshake.specs.Desk.{DeskState};
     ghost use Rattle.ti_handshake.specs.Seated.{IsThere, place_in};
 
-    ghost Value = { Place };
+    ghost Value = { DeskState };
 
     ghost view = { λ d. place_in d.cell d.env d.seat d.cancelled.tickets };
 
@@ -52,7 +58,7 @@ impl Model for Desk {
 }
 
 impl Desk {
-    /// The desk of an environment's seat at this cell.
+    /// The desk of the environment that has this seat. The seat is this cell's, and not the owner's.
     pub fn new(cell: SharedCell, seat: EnvSeat) -> Desk
         requires cell { seat.cell ≡ cell }
         requires number { 0 < seat.view.number }
@@ -71,9 +77,9 @@ impl Desk {
         }
     }
 
-    /// What is always true of a desk: its seat is its environment's and holds nothing, and what was seen is legal, and has
-    /// of the seat's entries just those that it made. No more of its calls are out than it made entries, and those that
-    /// were given up are among them.
+    /// What is always true of a desk. Its seat is its environment's, does not hold the cell, and has not come back. What was
+    /// seen is a legal history. Its entries with the seat's number are exactly those made from this seat. No more of its
+    /// calls are out than it made entries. The calls that were given up are among those that are out.
     pub fn facts(&self)
         ensures rests { (self.now.view.holds ≡ false) × (self.now.view.found ≡ []) }
         ensures there_still { self.now.view.gone ≡ false }
@@ -97,7 +103,7 @@ impl Desk {
         self.env
     }
 
-    /// How many entries of the thread's history were seen (this profile).
+    /// How many entries of the thread's history the desk has seen (this profile).
     pub fn seen_len(&self) -> usize
         ensures { result ≡ length self.now.view.seen }
     {
@@ -107,7 +113,7 @@ impl Desk {
         seat.seen_len()
     }
 
-    /// How many of the desk's calls wait, or have an answer that is not collected (this profile).
+    /// How many of the desk's calls are out: they wait, or have an answer that is not collected (this profile).
     pub fn out(&self) -> u32
         ensures { result ≡ length self.now.view.posted }
     {
@@ -117,12 +123,17 @@ impl Desk {
         seat.out()
     }
 
-    /// Asks the thread a call by one hold: its answer, or a new ticket where the call waits for the running thread
-    /// (JEP 312), which is among the desk's tickets from then on. It costs one call.
+    /// Makes a call at the thread, in one hold. It costs one call.
     ///
-    /// The answer is the thread's own, a refusal included, as `Slot::ask` says of each call (JVM TI 11): 13, 14, 15, 31,
-    /// 32, and 103 for a trace's start. A call that is refused changes nothing but the history. The buffer is empty and
-    /// has room for a trace's frames. One call may be out beyond the window, so that `call` has room where it is full.
+    /// The result is the thread's answer, or a new ticket if the call waits for the running thread (JEP 312). From then on
+    /// the ticket is among the desk's.
+    ///
+    /// The answer may be a refusal by the thread, as `Slot::ask` says of each call (JVM TI 11). Its number is 13, 14, 15,
+    /// 31, 32, or 103 for a trace's `start`. A refused call changes nothing but the history.
+    ///
+    /// The call is well formed, and the environment has a call left at the thread. The buffer is empty and has room for a
+    /// trace's frames. For a call that may wait, at most `window` calls are out. So one call may be out beyond the window,
+    /// and `call` has room even when the window is full.
     #[inline(always)]
     pub fn post<R: Wait>(&mut self, rt: &R, call: Call, buf: TraceBuf) -> Asked
         requires well_formed { is_well_formed call ≡ true }
@@ -146,9 +157,11 @@ impl Desk {
         asked
     }
 
-    /// The answer to a call of this desk that waited, by holds until it is there: the reply of the history to the ticket.
-    /// The ticket is one of the desk's that was not given up, and is none from then on, so that it is answered once; the
-    /// others stay. Between its holds it waits by looks (`await_news`).
+    /// Waits for the answer to a call of this desk that waited: the reply of the history to the ticket. It looks for the
+    /// answer by holds until it is there, and waits between them by looks (`await_news`).
+    ///
+    /// The ticket is one of the desk's, and was not given up. Afterwards it is no longer out, so it is answered once. The
+    /// others stay.
     pub fn collect<R: Wait>(&mut self, rt: &R, ticket: Ticket) -> Answer
         requires out { is_out self.old ticket ≡ true }
         ensures same { IsSame self.old self.new }
@@ -167,11 +180,11 @@ impl Desk {
         unreachable!()
     }
 
-    /// The answer to a call of this desk that waited, by one hold, if it is there: the reply of the history to the ticket.
-    /// The ticket is none of the desk's from then on, so that it is answered once; the others stay.
+    /// The answer to a call of this desk that waited, if it is there, in one hold. It is the reply of the history to the
+    /// ticket. Afterwards the ticket is no longer out, so it is answered once. The others stay.
     ///
     /// `None` while the answer is not there, for a ticket that is none of the desk's, and for one that was given up. Then
-    /// nothing changes.
+    /// all tickets stay as they are.
     pub fn try_collect<R: Wait>(&mut self, rt: &R, ticket: Ticket) -> Option<Answer>
         ensures same { IsSame self.old self.new }
         ensures hold { HoldsWith self.old.view self.new.view [] (if is_some result then without_ticket ticket self.old.view.posted else self.old.view.posted) }
@@ -194,7 +207,7 @@ impl Desk {
         answer
     }
 
-    /// Whether a call of this desk is out, by one hold that adds nothing.
+    /// Whether this is the ticket of a call of this desk that is out. It takes one hold, which adds nothing.
     pub(crate) fn has_out<R: Wait>(&mut self, rt: &R, ticket: Ticket) -> bool
         ensures same { IsSame self.old self.new }
         ensures hold { Holds self.old.view self.new.view [] }
@@ -209,10 +222,11 @@ impl Desk {
         out
     }
 
-    /// The same as `try_collect`, by holds until the answer is there or the time is over. Between them it waits by looks.
+    /// The same as `try_collect`, but it waits for the answer for at most this time. It looks for the answer by holds, and
+    /// waits between them by looks.
     ///
-    /// `None` when the time is over, or the clock can't be read. Then the ticket is out as before. A ticket that is none of
-    /// the desk's, or was given up, is waited for in vain.
+    /// `None` when the time is over, or the clock can't be read. Then the ticket is out as before. For a ticket that is none
+    /// of the desk's, or was given up, it waits in vain.
     pub fn collect_within<R: Wait + Clock>(
         &mut self,
         rt: &R,
@@ -239,10 +253,11 @@ impl Desk {
         unreachable!()
     }
 
-    /// Asks the thread a call, and waits for its answer where it has to: the reply at the place of the call, whatever
-    /// others did before it took place. It costs one call, and the desk's tickets stay as they were.
+    /// Makes a call at the thread, and waits for its answer if it has to. It costs one call. The desk's tickets stay as they
+    /// were.
     ///
-    /// The answer is the thread's own, a refusal included, as of `post`.
+    /// The answer is the reply at the place of the call, whatever others did before the call took place. It may be a refusal
+    /// by the thread, as for `post`.
     pub fn call<R: Wait>(&mut self, rt: &R, call: Call, buf: TraceBuf) -> Answer
         requires well_formed { is_well_formed call ≡ true }
         requires calls { calls_spent self.old.env self.old.view.mine < self.old.view.subject.limits.calls }
@@ -260,153 +275,9 @@ impl Desk {
         }
     }
 
-    /// Stops the thread, and waits while another environment's stop stands. It costs one call in all. The thread runs on
-    /// to its next hand-over, and may not start or return (this profile).
-    ///
-    /// Refused with `AlreadyStopped` (211) where this environment's stop stands, and only there (this profile). Then
-    /// nothing changes.
-    pub fn stop<R: Wait>(&mut self, rt: &R) -> Answer
-        requires calls { calls_spent self.old.env self.old.view.mine < self.old.view.subject.limits.calls }
-        ensures same { IsSame self.old self.new }
-        ensures hold { Waits self.old.view self.new.view (if_none (stop_refusal self.old self.new) (entry.Stop self.old.env ∷ [])) }
-        ensures answer { said result ≡ done_or (stop_refusal self.old self.new) }
-        ensures waited { is_anothers self.old.env (there_found self.old self.new).stopper ≡ false }
-    {
-        self.facts();
-        for _ in rt.forever() {
-            if let Some(answer) = self.stop_unless_others(rt) {
-                return answer;
-            }
-            self.await_news(rt);
-        }
-        unreachable!()
-    }
-
-    /// The same as `stop` until the deadline. `None` when that is over while another environment's stop stands, or the clock
-    /// can't be read; then nothing was added.
-    pub fn stop_until<R: Wait + Clock>(&mut self, rt: &R, deadline: &Deadline) -> Option<Answer>
-        requires calls { calls_spent self.old.env self.old.view.mine < self.old.view.subject.limits.calls }
-        ensures same { IsSame self.old self.new }
-        ensures hold { MatchOption result
-            (Waits self.old.view self.new.view [])
-            (λ _. Waits self.old.view self.new.view (if_none (stop_refusal self.old self.new) (entry.Stop self.old.env ∷ []))) }
-        ensures answer { IfSome result (λ a. said a ≡ done_or (stop_refusal self.old self.new)) }
-        ensures waited { IfSome result (λ _. is_anothers self.old.env (there_found self.old self.new).stopper ≡ false) }
-    {
-        self.facts();
-        for _ in rt.forever() {
-            let answer = self.stop_unless_others(rt);
-            if answer.is_some() {
-                return answer;
-            }
-            if !self.await_news_until(rt, deadline) {
-                return None;
-            }
-        }
-        unreachable!()
-    }
-
-    /// Stops the thread by one hold. It costs one call where it is not refused.
-    ///
-    /// Refused with `AlreadyStopped` (211) where any stop stands, this environment's own too (this profile). Then nothing
-    /// changes.
-    pub fn try_stop<R: Wait>(&mut self, rt: &R) -> Answer
-        requires calls { calls_spent self.old.env self.old.view.mine < self.old.view.subject.limits.calls }
-        ensures same { IsSame self.old self.new }
-        ensures hold { Holds self.old.view self.new.view (if_none (stop_refusal self.old self.new) (entry.Stop self.old.env ∷ [])) }
-        ensures answer { said result ≡ done_or (stop_refusal self.old self.new) }
-    {
-        let Some(seat) = self.seat.take() else {
-            unreachable!()
-        };
-        let mut hold = self.cell.hold(rt, seat);
-        let answer = hold.slot().stop(self.env);
-        self.seat = Some(hold.store());
-        answer
-    }
-
-    /// Stops the thread by one hold, but where another environment's stop stands: then nothing changes, and there is no
-    /// answer.
-    fn stop_unless_others<R: Wait>(&mut self, rt: &R) -> Option<Answer>
-        requires calls { calls_spent self.old.env self.old.view.mine < self.old.view.subject.limits.calls }
-        ensures same { IsSame self.old self.new }
-        ensures hold { MatchOption result
-            (Holds self.old.view self.new.view [])
-            (λ _. Holds self.old.view self.new.view (if_none (stop_refusal self.old self.new) (entry.Stop self.old.env ∷ []))) }
-        ensures answer { IfSome result (λ a. said a ≡ done_or (stop_refusal self.old self.new)) }
-        ensures waited { is_anothers self.old.env (there_found self.old self.new).stopper ≡ (if is_some result then false else true) }
-    {
-        let Some(seat) = self.seat.take() else {
-            unreachable!()
-        };
-        let mut hold = self.cell.hold(rt, seat);
-        let slot = hold.slot();
-        if is_others(slot.stopper(), self.env) {
-            self.seat = Some(hold.store());
-            return None;
-        }
-        let answer = slot.stop(self.env);
-        self.seat = Some(hold.store());
-        Some(answer)
-    }
-
-    /// Reads the thread's state and at most `max_count` newest frames under this environment's stop, by one hold (JVM TI
-    /// 11, GetAllStackTraces). A thread that is not alive has no frames. It costs one call where it is not refused. The
-    /// buffer is empty and has room for the frames.
-    ///
-    /// Refused with `NotStopped` (212) where its stop does not stand, and then with `StillRunning` (213) where the thread
-    /// runs (this profile). Then nothing changes.
-    pub fn read<R: Wait>(&mut self, rt: &R, max_count: i32, buf: TraceBuf) -> Answer
-        requires count { is_not_negative max_count ≡ true }
-        requires calls { calls_spent self.old.env self.old.view.mine < self.old.view.subject.limits.calls }
-        requires buf { HasRoomFor self.old.view.subject.limits (or_zero_of max_count) buf }
-        ensures same { IsSame self.old self.new }
-        ensures hold { Holds self.old.view self.new.view (if_none (read_refusal self.old self.new max_count) (entry.Read self.old.env max_count ∷ [])) }
-        ensures answer { read_answer (read_refusal self.old self.new max_count) (reply self.old.view.subject.limits self.new.view.seen (length (found self.old.view self.new.view))) ≡ Some (said result) }
-    {
-        let Some(seat) = self.seat.take() else {
-            unreachable!()
-        };
-        let mut hold = self.cell.hold(rt, seat);
-        let answer = hold.slot().read(self.env, max_count, buf);
-        self.seat = Some(hold.store());
-        answer
-    }
-
-    /// Lets the thread go, by one hold. It costs nothing.
-    ///
-    /// Refused with `NotStopped` (212) where this environment's stop does not stand (this profile). Then nothing changes.
-    pub fn go<R: Wait>(&mut self, rt: &R) -> Answer
-        ensures same { IsSame self.old self.new }
-        ensures hold { Holds self.old.view self.new.view (if_none (go_refusal self.old self.new) (entry.Go self.old.env ∷ [])) }
-        ensures answer { said result ≡ done_or (go_refusal self.old self.new) }
-    {
-        let Some(seat) = self.seat.take() else {
-            unreachable!()
-        };
-        let mut hold = self.cell.hold(rt, seat);
-        let answer = hold.slot().go(self.env);
-        self.seat = Some(hold.store());
-        answer
-    }
-
-    /// Whether this environment's stop stands and the thread does not run, by one hold that adds nothing.
-    pub fn standing<R: Wait>(&mut self, rt: &R) -> bool
-        ensures same { IsSame self.old self.new }
-        ensures hold { Holds self.old.view self.new.view [] }
-        ensures standing { result ≡ is_standing self.old.view.subject.limits self.new.view.seen self.old.env }
-    {
-        let Some(seat) = self.seat.take() else {
-            unreachable!()
-        };
-        let mut hold = self.cell.hold(rt, seat);
-        let standing = hold.slot().standing(self.env);
-        self.seat = Some(hold.store());
-        standing
-    }
-
-    /// Waits until the thread's history has entries that the desk has not seen, by looks alone, so that who holds the cell
-    /// is not held up. Between them it pauses. What a hold would find has not changed before (this profile).
+    /// Waits until the thread's history has entries that the desk has not seen. Until then a hold would find what the last
+    /// one found (this profile). It only looks, so it keeps nobody out of the cell. Between its looks it pauses, and later
+    /// it sleeps.
     pub fn await_news<R: Wait>(&mut self, rt: &R)
         ensures same { IsSame self.old self.new }
         ensures news { SawNews self.old.view self.new.view }
@@ -417,7 +288,8 @@ impl Desk {
         await_news(rt, &self.cell, seat);
     }
 
-    /// The same until the deadline: whether there are such entries. Without them nothing but looks was done.
+    /// The same as `await_news`, but it waits only until the deadline. Returns whether there are such entries. If there are
+    /// none, nothing but looks was done.
     pub fn await_news_until<R: Wait + Clock>(&mut self, rt: &R, deadline: &Deadline) -> bool
         ensures same { IsSame self.old self.new }
         ensures looks { (looks : List Look) × (self.new.view ≡ with_looks self.old.view looks) }
@@ -429,7 +301,7 @@ impl Desk {
         await_news_until(rt, &self.cell, seat, deadline)
     }
 
-    /// The desk's seat, which may go back to the owner's (`ThreadCell::rejoin`).
+    /// Takes the desk apart and gives its seat, which may go back to the owner's (`ThreadCell::rejoin`).
     pub fn into_seat(self) -> EnvSeat
         ensures cell { result.cell ≡ self.cell }
         ensures view { result.view ≡ self.view }
@@ -445,24 +317,14 @@ impl Desk {
     }
 }
 
-/// Whether it is another environment whose stop stands.
-fn is_others(stopper: Option<EnvNo>, env: EnvNo) -> bool
-    ensures { result ≡ is_anothers env stopper }
-{
-    match stopper {
-        Some(other) => other.0 != env.0,
-        None => false,
-    }
-}
-
-/// Whether it is a ticket of this environment that is out.
+/// Whether the ticket is this environment's, and is out.
 fn is_own_out(slot: &Slot, env: EnvNo, ticket: Ticket) -> bool
     ensures { result ≡ (ticket.env.0 == env.0 && has ticket slot.now.uncollected) }
 {
     ticket.env.0 == env.0 && slot.is_out(ticket)
 }
 
-/// Collects the answer to a ticket of this environment. That of another's is left where it is.
+/// Collects the answer to a ticket of this environment. The answer to another environment's ticket is left where it is.
 fn collect_own(slot: &mut Slot, env: EnvNo, ticket: Ticket) -> Option<Answer>
     ensures answer { option_map said result ≡ (if ticket.env.0 == env.0 && has ticket slot.old.uncollected then reply_to slot.old.limits slot.old.history ticket else None) }
     ensures thread { slot.new ≡ with_tickets slot.old (if is_some result then without_ticket ticket slot.old.uncollected else slot.old.uncollected) }
@@ -472,3 +334,18 @@ fn collect_own(slot: &mut Slot, env: EnvNo, ticket: Ticket) -> Option<Answer>
     }
     slot.collect(ticket)
 }
+
+ghost use Rattle.std.specs.Prelude.{List, ◌≡◌, ◌==◌, ◌&&◌, ◌<◌, ◌≤◌, ◌+◌, ◌++◌, true, false, if◌then◌else◌, is_some, [], ◌∷◌, length, Some, None, IfSome};
+ghost use Rattle.std.specs.Option.{option_map};
+ghost use Rattle.ti_types.specs.Answer.{said};
+ghost use Rattle.ti_replay.specs.Makers.{made_by};
+ghost use Rattle.ti_replay.specs.Legal.{is_legal, calls_spent, is_well_formed};
+ghost use Rattle.ti_replay.specs.Settling.{waits};
+ghost use Rattle.ti_replay.specs.Tickets.{reply_to};
+ghost use Rattle.ti_slot.specs.Thread.{IsLate, with_tickets};
+ghost use Rattle.ti_slot.specs.Tickets.{has, without_ticket};
+ghost use Rattle.ti_slot.specs.Waiting.{IsBufferOf};
+ghost use Rattle.ti_cell.specs.declared.look.Look.{Look};
+ghost use Rattle.ti_handshake.specs.Call.{GoesOn, WaitsWith, Holds, HoldsWith, found, IsTold, IsAnswered, SawNews, next_call, ticket_told, with_looks};
+ghost use Rattle.ti_handshake.specs.Cancelled.{AreGivenUp};
+ghost use Rattle.ti_handshake.specs.Desk.{DeskState, IsSame, IsTicketOut, ReplyAtPlace, is_out};

@@ -1,24 +1,39 @@
 //! A thread that has not started.
-ghost use Rattle.std.specs.Prelude.{◌≡◌, true, [], ◌∷◌, Some, None, IfOk, IfErr, MatchResult};
-ghost use Rattle.ti_types.specs.declared.entry.Entry.TheVariants as entry;
-ghost use Rattle.ti_types.specs.declared.error.TiError.TheVariants.{Barred};
-ghost use Rattle.ti_replay.specs.View.{view, is_barred};
-ghost use Rattle.ti_handshake.specs.Call.{Holds, Waits, SawNews, found};
-ghost use Rattle.ti_handshake.specs.Thread.{refused_at};
 
+use crate::idle::Idle;
 use crate::running::Running;
-use crate::shared::SharedCell;
-use crate::waiting::await_unbarred;
+use crate::shared_cell::SharedCell;
+use crate::waits::await_unbarred;
 use std::marker::Model;
 use std::sync::Wait;
-use ti_cell::OwnSeat;
+use ti_cell::OwnerSeat;
 use ti_types::TiError;
 
 /// A thread that has not started. Contracts see it as its seat.
+///
+/// # Examples
+///
+/// ```rattle
+/// # use ti_handshake::{Desk, Fresh, SharedCell};
+/// # use ti_types::{Answer, Limits, ThreadNo, TiError};
+/// # let limits = Limits::new(1, 1, 4, 16, 8).ok_or("the limits are in range")?;
+/// let (cell, own, mut seats) = SharedCell::make(rt.alloc(), limits, ThreadNo(0))?;
+/// let seat = seats.pop().ok_or("there is one environment")?;
+/// let mut desk = Desk::new(cell.share()?, seat);
+/// let fresh = Fresh::new(cell, own);
+/// // The thread does not start while a stop is in force.
+/// assert!(rt; matches!(desk.try_stop(&rt), Answer::Done));
+/// let Err((error, fresh)) = fresh.try_start(&rt) else {
+///     return Err("a stop is in force".into());
+/// };
+/// assert!(rt; error == TiError::Barred);
+/// assert!(rt; matches!(desk.go(&rt), Answer::Done));
+/// let _running = fresh.start(&rt);
+/// ```
 #[derive(Drop)]
 pub struct Fresh {
     cell: SharedCell,
-    seat: OwnSeat,
+    seat: OwnerSeat,
 }
 
 impl Model for Fresh {
@@ -34,8 +49,8 @@ impl Model for Fresh {
 }
 
 impl Fresh {
-    /// The thread of a cell, whose seat has made no entry.
-    pub fn new(cell: SharedCell, seat: OwnSeat) -> Fresh
+    /// The thread of this cell. The seat is the owner's at this cell, and has made no entry.
+    pub fn new(cell: SharedCell, seat: OwnerSeat) -> Fresh
         requires cell { seat.cell ≡ cell }
         requires owner { seat.view.number ≡ 0 }
         requires none { seat.view.mine ≡ [] }
@@ -52,9 +67,10 @@ impl Fresh {
         let _ = &self.seat;
     }
 
-    /// Starts the thread by one hold (JVM TI 11, GetThreadState: alive from here on).
+    /// Starts the thread in one hold. From then on it is alive (JVM TI 11, GetThreadState).
     ///
-    /// Refused with `Barred` (206) where a stop stands, and only there (this profile).
+    /// Refused with `Barred` (206) if a stop is in force, and only then (this profile). Then the thread comes back with the
+    /// error, and has not started.
     pub fn try_start<R: Wait>(self, rt: &R) -> Result<Running, (TiError, Fresh)>
         ensures cell { MatchResult result (λ r. r.cell ≡ self.cell) (λ e. e.1.cell ≡ self.cell) }
         ensures hold { MatchResult result (λ r. Holds self.view r.view (entry.Start ∷ [])) (λ e. Holds self.view e.1.view []) }
@@ -80,37 +96,36 @@ impl Fresh {
         }
     }
 
-    /// Starts the thread, and waits while a stop stands: by looks, until the history has grown, and then by one hold more
-    /// (JVM TI 11, GetThreadState: alive from here on).
+    /// Starts the thread, and waits while a stop is in force. It looks until the thread may start, and then holds the cell
+    /// again. From then on the thread is alive (JVM TI 11, GetThreadState).
     pub fn start<R: Wait>(self, rt: &R) -> Running
         ensures cell { result.cell ≡ self.cell }
         ensures hold { Waits self.view result.view (entry.Start ∷ []) }
         ensures steps { result.steps ≡ [] }
     {
         self.seat.facts();
-        let mut fresh = self;
-        for _ in rt.forever() {
-            match fresh.try_start(rt) {
-                Ok(running) => return running,
-                Err((_error, again)) => fresh = again,
-            }
-            fresh.await_unbarred(rt);
-        }
-        unreachable!()
+        Idle::Fresh(self).run(rt)
     }
 
-    /// Waits until the thread's history has entries that it has not seen, by looks alone.
-    fn await_unbarred<R: Wait>(&mut self, rt: &R)
+    /// Waits until the thread is not barred and its history has entries that its seat has not seen. It only looks.
+    pub(crate) fn await_unbarred<R: Wait>(&mut self, rt: &R)
         ensures cell { self.new.cell ≡ self.old.cell }
         ensures news { SawNews self.old.view self.new.view }
     {
         await_unbarred(rt, &self.cell, &mut self.seat);
     }
 
-    /// The thread's seat.
-    pub fn into_seat(self) -> OwnSeat
+    /// Takes the value apart and gives the thread's seat.
+    pub fn into_seat(self) -> OwnerSeat
         ensures seat { result ≡ self }
     {
         self.seat
     }
 }
+
+ghost use Rattle.std.specs.Prelude.{◌≡◌, true, [], ◌∷◌, Some, None, IfOk, IfErr, MatchResult};
+ghost use Rattle.ti_types.specs.declared.entry.Entry.TheVariants as entry;
+ghost use Rattle.ti_types.specs.declared.error.TiError.TheVariants.{Barred};
+ghost use Rattle.ti_replay.specs.View.{view, is_barred};
+ghost use Rattle.ti_handshake.specs.Call.{Holds, Waits, SawNews, found};
+ghost use Rattle.ti_handshake.specs.Thread.{refused_at};

@@ -1,28 +1,44 @@
-//! A thread at a safe place, and one that has ended.
-ghost use Rattle.std.specs.Prelude.{◌≡◌, true, [], ◌∷◌, Some, None, IfOk, IfErr, MatchResult};
-ghost use Rattle.ti_types.specs.declared.entry.Entry.TheVariants as entry;
-ghost use Rattle.ti_types.specs.declared.error.TiError.TheVariants.{Barred};
-ghost use Rattle.ti_types.specs.declared.state.Mode.TheVariants as mode;
-ghost use Rattle.ti_replay.specs.Legal.{is_safe};
-ghost use Rattle.ti_replay.specs.View.{view, is_barred};
-ghost use Rattle.ti_handshake.specs.Call.{Holds, Waits, SawNews, found};
-ghost use Rattle.ti_handshake.specs.Thread.{RestsWith, HasEnded, refused_at};
+//! A thread that is safe, and one that has ended.
 
+use crate::idle::Idle;
 use crate::running::Running;
-use crate::shared::SharedCell;
-use crate::waiting::await_unbarred;
+use crate::shared_cell::SharedCell;
+use crate::waits::await_unbarred;
 use std::marker::Model;
 use std::sync::Wait;
-use ti_cell::OwnSeat;
+use ti_cell::OwnerSeat;
 use ti_frames::Log;
 use ti_types::TiError;
 
-/// A thread that handed over: in native code, blocked, or held at a poll. Its frames lie in the slot. Contracts see it
-/// as its seat.
+/// A thread that handed over: it is in native code, blocked, or at a poll. Its frames lie in the slot. Contracts see it as
+/// its seat.
+///
+/// # Examples
+///
+/// ```rattle
+/// # use ti_handshake::{Desk, Fresh, SharedCell};
+/// # use ti_types::{Answer, Call, Kind, Limits, ThreadNo, TiError, TraceBuf};
+/// # let limits = Limits::new(1, 1, 4, 16, 8).ok_or("the limits are in range")?;
+/// # let (cell, own, mut seats) = SharedCell::make(rt.alloc(), limits, ThreadNo(0))?;
+/// # let seat = seats.pop().ok_or("there is one environment")?;
+/// # let mut desk = Desk::new(cell.share()?, seat);
+/// let Ok(asleep) = Fresh::new(cell, own).start(&rt).block(&rt, Kind::Sleep) else {
+///     return Err("the thread has 2 left to spend".into());
+/// };
+/// // A suspension of a safe thread takes place at once. The thread may not return until it is resumed.
+/// let suspended = desk.call(&rt, Call::Suspend, TraceBuf::none());
+/// assert!(rt; matches!(suspended, Answer::Done));
+/// let Err((error, asleep)) = asleep.try_back(&rt) else {
+///     return Err("the thread is suspended".into());
+/// };
+/// assert!(rt; error == TiError::Barred);
+/// assert!(rt; matches!(desk.call(&rt, Call::Resume, TraceBuf::none()), Answer::Done));
+/// let _running = asleep.back(&rt);
+/// ```
 #[derive(Drop)]
 pub struct AtSafe {
     cell: SharedCell,
-    seat: OwnSeat,
+    seat: OwnerSeat,
     log: Log,
 }
 
@@ -38,15 +54,15 @@ impl Model for AtSafe {
 }
 
 impl AtSafe {
-    /// A thread that handed over, of its parts.
-    pub(crate) fn of(cell: SharedCell, seat: OwnSeat, log: Log) -> AtSafe
+    /// Makes a safe thread of its parts.
+    pub(crate) fn of(cell: SharedCell, seat: OwnerSeat, log: Log) -> AtSafe
         requires rests { RestsWith cell seat log }
         ensures of { result ≡ seat }
     {
         AtSafe { cell, seat, log }
     }
 
-    /// What is always true of a thread that handed over.
+    /// What is always true of a thread that handed over: it is safe, and its seat is the owner's.
     pub fn facts(&self)
         ensures owner { self.now.view.number ≡ 0 }
         ensures safe { is_safe (view self.now.view.subject.limits self.now.view.seen).mode ≡ true }
@@ -54,10 +70,11 @@ impl AtSafe {
         let _ = &self.seat;
     }
 
-    /// Lets the thread return by one hold: a thread in native or blocked may not return while it is held (HotSpot Runtime
-    /// Overview; JVM TI 11, SuspendThread).
+    /// Lets the thread return in one hold. While it is suspended or stopped, it may not (HotSpot Runtime Overview; JVM TI
+    /// 11, SuspendThread).
     ///
-    /// Refused with `Barred` (206) where it is suspended or a stop stands, and only there.
+    /// Refused with `Barred` (206) if it is suspended or a stop is in force, and only then. Then the thread comes back with
+    /// the error, and is safe as before.
     pub fn try_back<R: Wait>(self, rt: &R) -> Result<Running, (TiError, AtSafe)>
         ensures cell { MatchResult result (λ r. r.cell ≡ self.cell) (λ e. e.1.cell ≡ self.cell) }
         ensures hold { MatchResult result (λ r. Holds self.view r.view (entry.Back ∷ [])) (λ e. Holds self.view e.1.view []) }
@@ -83,35 +100,27 @@ impl AtSafe {
         }
     }
 
-    /// Lets the thread return, and waits while it is barred: by looks, until the history has grown, and then by one hold
-    /// more (HotSpot Runtime Overview).
+    /// Lets the thread return, and waits while it is barred (HotSpot Runtime Overview). It looks until the thread may
+    /// return, and then holds the cell again.
     pub fn back<R: Wait>(self, rt: &R) -> Running
         ensures cell { result.cell ≡ self.cell }
         ensures hold { Waits self.view result.view (entry.Back ∷ []) }
         ensures steps { result.steps ≡ [] }
     {
         self.seat.facts();
-        let mut safe = self;
-        for _ in rt.forever() {
-            match safe.try_back(rt) {
-                Ok(running) => return running,
-                Err((_error, again)) => safe = again,
-            }
-            safe.await_unbarred(rt);
-        }
-        unreachable!()
+        Idle::Safe(self).run(rt)
     }
 
-    /// Waits until the thread's history has entries that it has not seen, by looks alone.
-    fn await_unbarred<R: Wait>(&mut self, rt: &R)
+    /// Waits until the thread is not barred and its history has entries that its seat has not seen. It only looks.
+    pub(crate) fn await_unbarred<R: Wait>(&mut self, rt: &R)
         ensures cell { self.new.cell ≡ self.old.cell }
         ensures news { SawNews self.old.view self.new.view }
     {
         await_unbarred(rt, &self.cell, &mut self.seat);
     }
 
-    /// The thread's seat.
-    pub fn into_seat(self) -> OwnSeat
+    /// Takes the value apart and gives the thread's seat.
+    pub fn into_seat(self) -> OwnerSeat
         ensures seat { result ≡ self }
     {
         self.seat
@@ -122,7 +131,7 @@ impl AtSafe {
 #[derive(Drop)]
 pub struct Ended {
     cell: SharedCell,
-    seat: OwnSeat,
+    seat: OwnerSeat,
 }
 
 impl Model for Ended {
@@ -137,15 +146,15 @@ impl Model for Ended {
 }
 
 impl Ended {
-    /// A thread that has ended, of its parts.
-    pub(crate) fn of(cell: SharedCell, seat: OwnSeat) -> Ended
+    /// Makes an ended thread of its parts.
+    pub(crate) fn of(cell: SharedCell, seat: OwnerSeat) -> Ended
         requires ended { HasEnded cell seat }
         ensures of { result ≡ seat }
     {
         Ended { cell, seat }
     }
 
-    /// What is always true of a thread that has ended.
+    /// What is always true of a thread that has ended: its mode is `Ended`, and its seat is the owner's.
     pub fn facts(&self)
         ensures owner { self.now.view.number ≡ 0 }
         ensures ended { (view self.now.view.subject.limits self.now.view.seen).mode ≡ mode.Ended }
@@ -153,10 +162,19 @@ impl Ended {
         let _ = &self.seat;
     }
 
-    /// The thread's seat.
-    pub fn into_seat(self) -> OwnSeat
+    /// Takes the value apart and gives the thread's seat.
+    pub fn into_seat(self) -> OwnerSeat
         ensures seat { result ≡ self }
     {
         self.seat
     }
 }
+
+ghost use Rattle.std.specs.Prelude.{◌≡◌, true, [], ◌∷◌, Some, None, IfOk, IfErr, MatchResult};
+ghost use Rattle.ti_types.specs.declared.entry.Entry.TheVariants as entry;
+ghost use Rattle.ti_types.specs.declared.error.TiError.TheVariants.{Barred};
+ghost use Rattle.ti_types.specs.declared.state.Mode.TheVariants as mode;
+ghost use Rattle.ti_replay.specs.Legal.{is_safe};
+ghost use Rattle.ti_replay.specs.View.{view, is_barred};
+ghost use Rattle.ti_handshake.specs.Call.{Holds, Waits, SawNews, found};
+ghost use Rattle.ti_handshake.specs.Thread.{RestsWith, HasEnded, refused_at};

@@ -3,10 +3,10 @@ use crate::listed::Listed;
 use ti_types::{Call, Caps, ThreadNo};
 
 /// A call of an agent in a live run (JVM TI 11, the function named at each). A number that no thread has is no fault of the
-/// call: it is refused with 10 INVALID_THREAD.
+/// document. The call is then refused with 10 INVALID_THREAD.
 #[derive(Drop, Debug)]
 pub enum AgentCall {
-    /// A call at one thread, a PopFrame among them.
+    /// A call at one thread, which may be a PopFrame.
     Ask(ThreadNo, Call),
     /// AddCapabilities: all of them or none.
     AddCaps(Caps),
@@ -22,8 +22,8 @@ pub enum AgentCall {
     SuspendList(Listed<ThreadNo>),
     /// ResumeThreadList: a code for each element, in the list's order.
     ResumeList(Listed<ThreadNo>),
-    /// GetAllStackTraces, at most this many of the newest frames of each thread that is alive.
+    /// GetAllStackTraces, with at most this many of the newest frames of each thread that is alive.
     AllStacks(i32),
-    /// GetThreadListStackTraces, at most this many of the newest frames for each element, in the list's order.
+    /// GetThreadListStackTraces, with at most this many of the newest frames for each element, in the list's order.
     ListStacks(Listed<ThreadNo>, i32),
 }

@@ -1,8 +1,8 @@
-//! The values of a live run: an agent's calls, the replies to them, what a run goes by and what it reports.
+//! The values of a live run: its script, an agent's calls, the replies to them, and the report.
 //!
-//! It stands on `ti_types` alone. It has no rules: which calls and which report a script allows is said in `ti_script` and
-//! `ti_report`. Upward it promises that each of these values is the lists, numbers and answers that its fields name, so that
-//! contracts compare them by their meaning.
+//! This crate depends on `ti_types` alone. It has no rules: `ti_script` says which calls a document may have, and
+//! `ti_report` which report fits a script. Contracts compare these values by the lists, numbers and answers that their
+//! fields have.
 #![tactic(auto)]
 
 mod call;

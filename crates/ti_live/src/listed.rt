@@ -1,5 +1,4 @@
 //! A list that contracts compare by its elements.
-ghost use Rattle.std.specs.Prelude.{◌≡◌, ◌++◌, ◌∷◌, [], IfOk, OnOk, OnErr};
 
 use std::alloc::{AllocError, AllocFailed, Global};
 use std::marker::Model;
@@ -19,7 +18,7 @@ impl<T: Drop> Model for Listed<T> {
 }
 
 impl<T: Drop> Listed<T> {
-    /// No items. It takes no memory until an item is added.
+    /// Makes an empty list. It takes no memory until an item is added.
     pub fn new(alloc: Global) -> Self
         ensures { result ≡ [] }
     {
@@ -28,7 +27,7 @@ impl<T: Drop> Listed<T> {
         }
     }
 
-    /// No items, with room for this many, so that adding them takes no memory. The error is lack of memory.
+    /// Makes an empty list with room for `count` items, so that adding them takes no memory. The error is lack of memory.
     pub fn with_room(alloc: Global, count: usize) -> Result<Self, AllocError>
         ensures { IfOk result (λ items. items ≡ []) }
     {
@@ -37,7 +36,7 @@ impl<T: Drop> Listed<T> {
         })
     }
 
-    /// Adds an item at the end. The only error is lack of memory; then nothing changes, and the error gives the item back.
+    /// Adds an item at the end. The only error is lack of memory. Then nothing changes, and the error gives the item back.
     pub fn push(&mut self, item: T) -> Result<(), AllocFailed<T>>
         ensures ok { OnOk result (self.new ≡ self.old ++ item ∷ []) }
         ensures err { OnErr result (self.new ≡ self.old) }
@@ -46,7 +45,7 @@ impl<T: Drop> Listed<T> {
         Ok(())
     }
 
-    /// The items in their order.
+    /// The items, in their order.
     pub fn as_slice(&self) -> &[T]
         ensures { result.now ≡ self.now }
     {
@@ -63,3 +62,5 @@ impl<T: Drop> From<Vec<T>> for Listed<T> {
         Listed { items }
     }
 }
+
+ghost use Rattle.std.specs.Prelude.{◌≡◌, ◌++◌, ◌∷◌, [], IfOk, OnOk, OnErr};

@@ -14,8 +14,8 @@ use Rattle.ti_ops.specs.declared.fate.Fate.TheVariants as fate
 use Rattle.ti_ops.specs.declared.kept.Kept.{Kept}
 use Rattle.ti_ops.specs.declared.kept.Count.{Count}
 use Rattle.ti_ops.specs.declared.kept.Stage.{Stage}
-use Rattle.ti_ops.specs.declared.kept.Stage.TheVariants.{Posted, Taken, Told}
-use Rattle.ti_ops.specs.Fates.{is_at, is_awaited, is_open, told_by, fates_by, fate_of, open_by, with_call, with_fate}
+use Rattle.ti_ops.specs.declared.kept.Stage.TheVariants.{Posted, Taken, Answered}
+use Rattle.ti_ops.specs.Fates.{is_at, is_awaited, is_open, answer_by, fates_by, fate_of, open_by, with_call, with_fate}
 use Rattle.ti_ops.specs.Kept.{fate_in, is_posted, has_answer, pending_in, has, fate_among, ticket_at, count_of, listed, list_of, lists_of, IsKept}
 use Rattle.ti_ops.proofs.Listed.{length-listed, listed_same, listed_all}
 use Rattle.ti_ops.proofs.KeptLaws.{fate_none, fate-append, fate_at, fate-set, fate-remove, same_at, once-set, once-remove, once-append, All-remove}
@@ -120,7 +120,7 @@ room_left window first cap counts kept env s h room =
 pub waits_in : (x : Stage) → is_posted x ≡ true → fate_in x ≡ fate.Waiting
 waits_in (Posted a b) e = refl
 waits_in Taken e = refl
-waits_in (Told a) e = cc
+waits_in (Answered a) e = cc
 
 -- the first that waits
 pub posted_at : (kept : List Kept) (first : ℕ) (d : Kept) → first < length kept → All (λ (k : Kept). is_posted k.stage ≡ true) (drop first kept) → is_posted (get_or kept first d).stage ≡ true
@@ -309,38 +309,38 @@ module _ (window first cap : ℕ) (counts : List Count) (kept : List Kept) (i : 
       next a b e = omega (arith, e)
 
 -- no call that waits has an answer
-none_waiting : (u : Ticket) (kept : List Kept) → All (λ (k : Kept). is_posted k.stage ≡ true) kept → told_by (fate_among u kept) ≡ None
+none_waiting : (u : Ticket) (kept : List Kept) → All (λ (k : Kept). is_posted k.stage ≡ true) kept → answer_by (fate_among u kept) ≡ None
 none_waiting u [] a = refl
 none_waiting u (k ∷ kept) a =
     let here = waits_in k.stage (All-head (λ (k : Kept). is_posted k.stage ≡ true) k kept a) in
     let rest = none_waiting u kept (All-tail (λ (k : Kept). is_posted k.stage ≡ true) k kept a) in
     elim (cases_Bool (is_at k.ticket u)) [
-      | inl it ↦ ap (λ b. told_by (if b then fate_in k.stage else fate_among u kept)) it ∙ ap told_by here
-      | inr other ↦ ap (λ b. told_by (if b then fate_in k.stage else fate_among u kept)) other ∙ rest
+      | inl it ↦ ap (λ b. answer_by (if b then fate_in k.stage else fate_among u kept)) it ∙ ap answer_by here
+      | inr other ↦ ap (λ b. answer_by (if b then fate_in k.stage else fate_among u kept)) other ∙ rest
     ]
 
-pub none_found : (window first cap : ℕ) (counts : List Count) (kept : List Kept) (u : Ticket) → IsKept window first cap counts kept → has u (take first kept) ≡ false → told_by (fate_of u (lists_of counts kept)) ≡ None
+pub none_found : (window first cap : ℕ) (counts : List Count) (kept : List Kept) (u : Ticket) → IsKept window first cap counts kept → has u (take first kept) ≡ false → answer_by (fate_of u (lists_of counts kept)) ≡ None
 none_found window first cap counts kept u s e =
     let a : fate_among u kept ≡ fate_among u (drop first kept) =
     ap (fate_among u) (sym (take-append-drop first kept)) ∙ fate-append u (take first kept) (drop first kept) ∙ grind (arith, e) in
-    ap told_by (fate_is counts kept u s.asked ∙ a) ∙ none_waiting u (drop first kept) s.waits
+    ap answer_by (fate_is counts kept u s.asked ∙ a) ∙ none_waiting u (drop first kept) s.waits
 
 -- a call that is kept has its fate
 pub fate_found : (window first cap : ℕ) (counts : List Count) (kept : List Kept) (i : ℕ) (d : Kept) (u : Ticket) → IsKept window first cap counts kept → i < first → is_at (get_or kept i d).ticket u ≡ true
     → fate_of u (lists_of counts kept) ≡ fate_in (get_or kept i d).stage
 fate_found window first cap counts kept i d u s h it = fate_is counts kept u s.asked ∙ fate_at u kept i d (omega (arith, h, s.taken)) s.once it
 
-pub no_answer : (x : Stage) → has_answer x ≡ false → told_by (fate_in x) ≡ None
+pub no_answer : (x : Stage) → has_answer x ≡ false → answer_by (fate_in x) ≡ None
 no_answer (Posted a b) e = refl
 no_answer Taken e = refl
-no_answer (Told a) e = cc
+no_answer (Answered a) e = cc
 
 -- an environment of which something is left has a count
 -- a call that is kept is open
 pub opens_in : (x : Stage) → is_open (fate_in x) ≡ true
 opens_in (Posted a b) = refl
 opens_in Taken = refl
-opens_in (Told a) = refl
+opens_in (Answered a) = refl
 
 -- whether a call is open, by where it was found among those that are kept
 pub is_found : (window first cap : ℕ) (counts : List Count) (kept : List Kept) (u : Ticket) (all at : ℕ) → IsKept window first cap counts kept → all ≡ length kept → at ≤ all

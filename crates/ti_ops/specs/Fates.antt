@@ -6,18 +6,18 @@ use Rattle.ti_types.specs.declared.event.Ticket.{Ticket}
 use Rattle.ti_types.specs.declared.answer.Answer.{Answer}
 use Rattle.ti_ops.specs.declared.pending.Pending.{Pending}
 use Rattle.ti_ops.specs.declared.fate.Fate.{Fate}
-use Rattle.ti_ops.specs.declared.fate.Fate.TheVariants.{Waiting, Told, Gone}
+use Rattle.ti_ops.specs.declared.fate.Fate.TheVariants.{Waiting, Answered, Gone}
 
 -- the answer that is there to be collected
-abbrev pub told_by : Fate → Option Answer
-told_by (Told a) = Some a
-told_by Waiting = None
-told_by Gone = None
+abbrev pub answer_by : Fate → Option Answer
+answer_by (Answered a) = Some a
+answer_by Waiting = None
+answer_by Gone = None
 
 -- whether the call waits, or its answer is there to be collected
 abbrev pub is_open : Fate → Bool
 is_open Waiting = true
-is_open (Told a) = true
+is_open (Answered a) = true
 is_open Gone = false
 
 -- the fates of the calls of an environment, in a list with a place for each environment
@@ -28,7 +28,7 @@ fates_by env fates = slice_index_or fates env.0 []
 abbrev pub fate_of : Ticket → List (List Fate) → Fate
 fate_of t fates = slice_index_or (fates_by t.env fates) t.no Gone
 
--- of how many calls of an environment something is left
+-- how many calls of an environment have something left
 abbrev pub open_by : EnvNo → List (List Fate) → ℕ
 open_by env fates = count_by is_open (fates_by env fates)
 
@@ -40,7 +40,7 @@ with_call env fate fates = slice_set fates env.0 (fates_by env fates ++ fate ∷
 abbrev pub with_fate : Ticket → Fate → List (List Fate) → List (List Fate)
 with_fate t fate fates = slice_set fates t.env.0 (slice_set (fates_by t.env fates) t.no fate)
 
--- whether two tickets of one thread are one
+-- whether two tickets of one thread name the same call
 abbrev pub is_at : Ticket → Ticket → Bool
 is_at t u = t.no == u.no && t.env.0 == u.env.0
 

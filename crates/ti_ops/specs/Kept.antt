@@ -1,4 +1,4 @@
--- The calls of which something is kept, and the fates that they stand for.
+-- The calls that something is kept of, and their fates.
 use Rattle.std.specs.Prelude.{ℕ, zero, suc, ◌≡◌, ◌<◌, ◌≤◌, ◌*◌, Bool, true, false, if◌then◌else◌, List, [], ◌∷◌, ◌++◌, length, map, drop, slice_index_or}
 use Rattle.std.specs.List.{All, list_any, sum_by}
 use Rattle.ti_types.specs.declared.numbers.EnvNo.{EnvNo}
@@ -12,24 +12,24 @@ use Rattle.ti_ops.specs.declared.fate.Fate.TheVariants as fate
 use Rattle.ti_ops.specs.declared.kept.Kept.{Kept}
 use Rattle.ti_ops.specs.declared.kept.Count.{Count}
 use Rattle.ti_ops.specs.declared.kept.Stage.{Stage}
-use Rattle.ti_ops.specs.declared.kept.Stage.TheVariants.{Posted, Taken, Told}
+use Rattle.ti_ops.specs.declared.kept.Stage.TheVariants.{Posted, Taken, Answered}
 use Rattle.ti_ops.specs.Fates.{is_at, open_by}
 use Rattle.ti_ops.specs.Ops.{Ops}
 
 abbrev pub fate_in : Stage → Fate
 fate_in (Posted c b) = fate.Waiting
 fate_in Taken = fate.Waiting
-fate_in (Told a) = fate.Told a
+fate_in (Answered a) = fate.Answered a
 
 abbrev pub is_posted : Stage → Bool
 is_posted (Posted c b) = true
 is_posted Taken = false
-is_posted (Told a) = false
+is_posted (Answered a) = false
 
 abbrev pub has_answer : Stage → Bool
 has_answer (Posted c b) = false
 has_answer Taken = false
-has_answer (Told a) = true
+has_answer (Answered a) = true
 
 abbrev pub call_in : Stage → Call
 call_in (Posted c b) = c
@@ -55,7 +55,7 @@ abbrev pub AreOnce : List Kept → Type 0
 AreOnce [] = Unit {0}
 AreOnce (k ∷ kept) = (has k.ticket kept ≡ false) × AreOnce kept
 
--- the fate of a ticket's call: nothing is left of those that are not kept
+-- the fate of a ticket's call. Nothing is left of a call that is not kept
 abbrev pub fate_among : Ticket → List Kept → Fate
 fate_among t [] = fate.Gone
 fate_among t (k ∷ kept) = if is_at k.ticket t then fate_in k.stage else fate_among t kept
@@ -79,8 +79,8 @@ lists_of counts kept = listed (list_of counts kept) (length counts)
 abbrev pub ops_in : ℕ → ℕ → List Count → List Kept → Ops
 ops_in window taken counts kept = record { waiting = map pending_in (drop taken kept); fates = lists_of counts kept; window = window }
 
--- The calls that wait come last, each kept call was asked, and of each environment there are as many as its count says,
--- which are not too many.
+-- The calls that wait come last. Each kept call was asked. Each environment has as many kept calls as its count says, and no
+-- more than the window.
 pub record IsKept (window first capacity : ℕ) (counts : List Count) (kept : List Kept) : Type 0 where
   pub taken : first ≤ length kept
   pub waits : All (λ k. is_posted k.stage ≡ true) (drop first kept)

@@ -5,8 +5,8 @@ use Rattle.ti_ops.specs.declared.fate.Fate.{Fate}
 use Rattle.ti_ops.specs.declared.fate.Fate.TheVariants.{Waiting}
 use Rattle.ti_ops.specs.Fates.{with_call}
 
--- the calls that wait, the earliest posted first; the fates of each environment's calls, by number; and of how many
--- calls of an environment something may be left at once
+-- The calls that wait, the earliest posted first. The fates of each environment's calls, by number. And how many calls of an
+-- environment may have something left at once
 pub record Ops : Type 0 where
   pub waiting : List Pending
   pub fates : List (List Fate)

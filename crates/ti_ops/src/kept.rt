@@ -1,15 +1,9 @@
-//! What is kept of a call that waits or was not collected.
-ghost use Rattle.std.specs.Prelude.{◌≡◌, ◌+◌, ◌≤◌, ◌<◌, true, false, length, take, slice_index_or};
-ghost use Rattle.ti_ops.specs.Kept.{has, has_answer};
-ghost use Rattle.ti_ops.specs.declared.kept.Kept.{Kept};
-ghost use Rattle.std.specs.List.{remove};
-ghost use Rattle.std.specs.VecDeque.{deque_capacity};
-ghost use Rattle.ti_ops.specs.Fates.{is_at};
+//! What is kept of a call that waits, or whose answer is not collected.
 
 use std::collections::VecDeque;
 use ti_types::{Answer, Call, Ticket, TraceBuf};
 
-/// A call that waits, or whose answer was not collected.
+/// A call that waits, or whose answer is not collected.
 #[derive(Drop, Debug)]
 pub struct Kept {
     pub ticket: Ticket,
@@ -24,7 +18,7 @@ pub enum Stage {
     /// It was taken, and its answer is not there yet.
     Taken,
     /// The answer is there.
-    Told(Answer),
+    Answered(Answer),
 }
 
 /// How many calls an environment has asked, and how many of them are kept.
@@ -34,7 +28,7 @@ pub struct Count {
     pub held: u32,
 }
 
-/// Whether a call is the ticket's.
+/// Whether this is the call of the ticket.
 #[inline]
 pub fn is_of(kept: &Kept, ticket: Ticket) -> bool
     ensures { result ≡ is_at kept.now.ticket ticket }
@@ -44,13 +38,13 @@ pub fn is_of(kept: &Kept, ticket: Ticket) -> bool
 
 /// Whether a call's answer is there.
 #[inline]
-pub fn is_told(kept: &Kept) -> bool
+pub fn is_answered(kept: &Kept) -> bool
     ensures { result ≡ has_answer kept.now.stage }
 {
-    matches!(kept.stage, Stage::Told(_))
+    matches!(kept.stage, Stage::Answered(_))
 }
 
-/// Where a ticket's call is among the first that are kept, or how many these are where it is not there.
+/// The place of a ticket's call among the first `before` that are kept. If it is not among them, the result is `before`.
 pub fn find(kept: &VecDeque<Kept>, before: usize, ticket: Ticket) -> usize
     requires { before ≤ length kept.now.items }
     ensures within { result ≤ before }
@@ -65,7 +59,7 @@ pub fn find(kept: &VecDeque<Kept>, before: usize, ticket: Ticket) -> usize
     before
 }
 
-/// Where a ticket's call is among the first that are kept. It is there, and mostly the last of them.
+/// The place of a ticket's call among the first `before` that are kept. It is there, and mostly the last of them.
 pub fn find_last(kept: &VecDeque<Kept>, before: usize, ticket: Ticket) -> usize
     requires before { before ≤ length kept.now.items }
     requires there { has ticket (take before kept.now.items) ≡ true }
@@ -79,7 +73,7 @@ pub fn find_last(kept: &VecDeque<Kept>, before: usize, ticket: Ticket) -> usize
     find(kept, before, ticket)
 }
 
-/// Takes one of the kept calls out. Where it is the last one, its place is the next call's.
+/// Takes one of the kept calls out. If it is the last one, the next call gets its place.
 pub fn take_out(kept: &mut VecDeque<Kept>, at: usize) -> Kept
     requires { at < length kept.old.items }
     ensures kept { kept.new.items ≡ remove kept.old.items at }
@@ -103,3 +97,10 @@ pub fn take_out(kept: &mut VecDeque<Kept>, at: usize) -> Kept
     };
     taken
 }
+
+ghost use Rattle.std.specs.Prelude.{◌≡◌, ◌+◌, ◌≤◌, ◌<◌, true, false, length, take, slice_index_or};
+ghost use Rattle.ti_ops.specs.Kept.{has, has_answer};
+ghost use Rattle.ti_ops.specs.declared.kept.Kept.{Kept};
+ghost use Rattle.std.specs.List.{remove};
+ghost use Rattle.std.specs.VecDeque.{deque_capacity};
+ghost use Rattle.ti_ops.specs.Fates.{is_at};

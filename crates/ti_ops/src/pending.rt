@@ -1,10 +1,6 @@
 //! The calls that wait at a thread, and the answers that are not collected yet.
-ghost use Rattle.std.specs.Prelude.{◌≡◌, ◌<◌, ◌+◌, ◌^◌, [], ◌∷◌, false, length, replicate, IfOk, IfErr, MatchOption, is_some, if◌then◌else◌};
-ghost use Rattle.ti_ops.specs.Fates.{fates_by, fate_of, open_by, told_by, is_open, with_call, with_fate, is_awaited};
-ghost use Rattle.ti_ops.specs.Ops.{with_waiting, with_fates, with_posted};
-ghost use Rattle.ti_ops.specs.declared.fate.Fate.TheVariants as fate;
 
-use crate::kept::{Count, Kept, Stage, find, find_last, is_told, take_out};
+use crate::kept::{Count, Kept, Stage, find, find_last, is_answered, take_out};
 use std::alloc::Global;
 use std::collections::VecDeque;
 use std::marker::Model;
@@ -21,13 +17,13 @@ pub struct Pending {
 
 /// The calls that wait at one thread, and the answers that are not collected yet.
 ///
-/// All tickets are of that one thread: only their environments and numbers are looked at. Each call that an
-/// environment asks of the thread is told here by `post` or by `pass`, in the order of the numbers.
+/// All tickets are of that one thread: only their environments and numbers are looked at. `post` or `pass` is called for
+/// each call that an environment asks of the thread, in the order of the numbers.
 #[derive(Drop, Debug)]
 pub struct PendingOps {
     /// The calls that are kept, the earliest posted first.
     kept: VecDeque<Kept>,
-    /// How many of them wait no more: these come first.
+    /// How many of them no longer wait. These come first.
     taken: usize,
     /// What each environment has asked.
     counts: Vec<Count>,
@@ -48,9 +44,9 @@ impl Model for PendingOps {
 }
 
 impl PendingOps {
-    /// No calls of this many environments, of each of which at most `window` calls wait or are not collected at once.
+    /// No calls yet. At most `window` calls of each of `envs` environments may wait or be uncollected at once.
     ///
-    /// Fails with `OutOfMemory` (110) where there is no memory for the room, and in no other case (this profile).
+    /// Fails with `OutOfMemory` (110) if there is no memory for the room, and in no other case (this profile).
     pub fn new(alloc: Global, envs: u32, window: u32) -> Result<Self, TiError>
         ensures waiting { IfOk result (λ o. o.waiting ≡ []) }
         ensures fates { IfOk result (λ o. o.fates ≡ replicate envs []) }
@@ -75,7 +71,7 @@ impl PendingOps {
         self.kept.len() - self.taken
     }
 
-    /// How many calls an environment has asked, which is the number of its next one.
+    /// How many calls an environment has asked. That is the number of its next one.
     pub fn asked(&self, env: EnvNo) -> u64
         requires { env.0 < length self.now.fates }
         ensures { result ≡ length (fates_by env self.now.fates) }
@@ -84,7 +80,7 @@ impl PendingOps {
     }
 
     /// How many calls of an environment wait, or have an answer that is not collected.
-    pub fn held(&self, env: EnvNo) -> u32
+    pub fn out(&self, env: EnvNo) -> u32
         requires { env.0 < length self.now.fates }
         ensures { result ≡ open_by env self.now.fates }
     {
@@ -125,7 +121,7 @@ impl PendingOps {
         self.counts[env.0 as usize].asked += 1;
     }
 
-    /// Takes the call that has waited longest, with its buffer, or `None` where none waits.
+    /// Takes the call that has waited longest, with its buffer. `None` if no call waits.
     pub fn take_first(&mut self) -> Option<Pending>
         ensures first { MatchOption result ((self.old.waiting ≡ []) × (self.new.waiting ≡ [])) (λ p. self.old.waiting ≡ p ∷ self.new.waiting) }
         ensures rest { self.new ≡ with_waiting self.old self.new.waiting }
@@ -147,31 +143,36 @@ impl PendingOps {
     pub fn deliver(&mut self, ticket: Ticket, answer: Answer)
         requires waits { fate_of ticket self.old.fates ≡ fate.Waiting }
         requires taken { is_awaited ticket self.old.waiting ≡ false }
-        ensures { self.new ≡ with_fates self.old (with_fate ticket (fate.Told answer) self.old.fates) }
+        ensures { self.new ≡ with_fates self.old (with_fate ticket (fate.Answered answer) self.old.fates) }
     {
         let at = find_last(&self.kept, self.taken, ticket);
-        self.kept[at].stage = Stage::Told(answer);
+        self.kept[at].stage = Stage::Answered(answer);
     }
 
-    /// Takes the answer to a ticket out, or gives `None` where it is not there: the call is not answered yet, was
-    /// answered at once, was never asked, or its answer was collected before. Then nothing changes.
+    /// Takes the answer to a ticket out. `None` if it is not there: the call is not answered yet, was answered at once, was
+    /// never asked, or its answer was collected before. Then nothing changes.
     pub fn collect(&mut self, ticket: Ticket) -> Option<Answer>
-        ensures answer { result ≡ told_by (fate_of ticket self.old.fates) }
+        ensures answer { result ≡ answer_by (fate_of ticket self.old.fates) }
         ensures fates { self.new ≡ with_fates self.old (if is_some result then with_fate ticket fate.Gone self.old.fates else self.old.fates) }
     {
         let at = find(&self.kept, self.taken, ticket);
         if at == self.taken {
             return None;
         }
-        if !is_told(&self.kept[at]) {
+        if !is_answered(&self.kept[at]) {
             return None;
         }
         let Kept { ticket: _, stage } = take_out(&mut self.kept, at);
         self.taken -= 1;
         self.counts[ticket.env.0 as usize].held -= 1;
         match stage {
-            Stage::Told(answer) => Some(answer),
+            Stage::Answered(answer) => Some(answer),
             _ => unreachable!(),
         }
     }
 }
+
+ghost use Rattle.std.specs.Prelude.{◌≡◌, ◌<◌, ◌+◌, ◌^◌, [], ◌∷◌, false, length, replicate, IfOk, IfErr, MatchOption, is_some, if◌then◌else◌};
+ghost use Rattle.ti_ops.specs.Fates.{fates_by, fate_of, open_by, answer_by, is_open, with_call, with_fate, is_awaited};
+ghost use Rattle.ti_ops.specs.Ops.{with_waiting, with_fates, with_posted};
+ghost use Rattle.ti_ops.specs.declared.fate.Fate.TheVariants as fate;

@@ -15,7 +15,7 @@ use Rattle.ti_types.specs.declared.entry.Entry.{Entry}
 use Rattle.ti_types.specs.declared.entry.Entry.TheVariants as entry
 use Rattle.ti_types.specs.declared.error.TiError.{TiError}
 use Rattle.ti_types.specs.declared.event.Event.{Event}
-use Rattle.ti_types.specs.declared.event.Event.TheVariants.{Start, Own, Poll, ToNative, ToBlocked, Back, End, Ask, Stop, Read, Go, AddCaps, Relinquish, GetCaps, SetEnvWord, GetEnvWord}
+use Rattle.ti_types.specs.declared.event.Event.TheVariants.{Start, Stepped, Poll, ToNative, ToBlocked, Back, End, Ask, Stop, Read, Go, AddCaps, Relinquish, GetCaps, SetEnvWord, GetEnvWord}
 use Rattle.ti_types.specs.declared.event.Outcome.{Outcome}
 use Rattle.ti_types.specs.declared.event.Outcome.TheVariants as outcome
 use Rattle.ti_types.specs.declared.answer.Answer.{Answer}
@@ -32,7 +32,7 @@ use Rattle.ti_replay.specs.Refusals.{own_refusal}
 use Rattle.ti_replay.specs.Replies.{reply}
 use Rattle.ti_replay.specs.HistoryState.{HistoryState, history_state}
 use Rattle.ti_replay.specs.Admission.{Happening, dealings, refusal, is_own_of, is_aimed_at}
-use Rattle.ti_replay.specs.Events.{left_by, left_own, if_none, history_of, reaches, done_unless, outcome_there, outcome_of, hold_refusal, read_outcome, given, refused_or}
+use Rattle.ti_replay.specs.Events.{left_by, left_own, if_none, history_of, reaches, done_unless, outcome_there, outcome_of, stopping_refusal, read_outcome, given, refused_or}
 use Rattle.ti_replay.specs.Outcomes.{out_of}
 use Rattle.ti_replay.specs.Standing.{stands_for, is_standing, is_own_entry, is_go_at, lets_go, was_refused, is_pop_at, was_done, pop_count, pops_done, OneStateUnderAStop}
 use Rattle.ti_replay.proofs.NextStates.{next_state}
@@ -55,7 +55,7 @@ record IsKept (env : EnvNo) (n : ℕ) (v w : ThreadView) : Type 0 where
 -- an entry of the thread's own is refused
 own_refused : (limits : Limits) (v : ThreadView) (own : ℕ) (x : Entry) (env : EnvNo) → stands_for env v ≡ true → is_own_entry x ≡ true → is_none (own_refusal limits v own x) ≡ false
 own_refused limits v own entry.Start env k h = grind (arith, nat_tests)
-own_refused limits v own (entry.Own step) env k h = grind (arith, nat_tests)
+own_refused limits v own (entry.Stepped step) env k h = grind (arith, nat_tests)
 own_refused limits v own (entry.Hand Native) env k h = grind (arith, nat_tests)
 own_refused limits v own (entry.Hand (Blocked kind)) env k h = grind (arith, nat_tests)
 own_refused limits v own (entry.Hand AtPoll) env k h = grind (arith, nat_tests)
@@ -140,7 +140,7 @@ taken_by v event = 0
 left_kept : (limits : Limits) (history : List Entry) (env : EnvNo) (thread : ThreadNo) (event : Event) → stands_for env (view limits history) ≡ true
     → is_go_at env thread event ≡ false → (is_own_of thread event ≡ true) ⊎ (is_aimed_at thread event ≡ true) → IsKept env (taken_by (view limits history) event) (view limits history) (view limits (history ++ left_by limits history event))
 left_kept limits history env thread (Start t) k g at = kept_by_own limits history entry.Start env k refl
-left_kept limits history env thread (Own t step) k g at = kept_by_own limits history (entry.Own step) env k refl
+left_kept limits history env thread (Stepped t step) k g at = kept_by_own limits history (entry.Stepped step) env k refl
 left_kept limits history env thread (Poll t) k g at = kept_by_nothing limits history (left_by limits history (Poll t)) env k (grind (arith, nat_tests))
 left_kept limits history env thread (ToNative t) k g at = kept_by_own limits history (entry.Hand Native) env k refl
 left_kept limits history env thread (ToBlocked t kind) k g at = kept_by_own limits history (entry.Hand (Blocked kind)) env k refl
@@ -148,7 +148,7 @@ left_kept limits history env thread (Back t) k g at = kept_by_own limits history
 left_kept limits history env thread (End t) k g at = kept_by_own limits history entry.End env k refl
 left_kept limits history env thread (Ask e t call) k g at = kept_by_call limits history e (asked_by e history) call env k
 left_kept limits history env thread (Stop e t) k g at = kept_by_nothing limits history (left_by limits history (Stop e t)) env k (grind (arith, nat_tests))
-left_kept limits history env thread (Read e t n) k g at = kept_by_read limits history e n env (hold_refusal (view limits history) (Read e t n)) k
+left_kept limits history env thread (Read e t n) k g at = kept_by_read limits history e n env (stopping_refusal (view limits history) (Read e t n)) k
 left_kept limits history env thread (Go e t) k g (inl own) = cc
 left_kept limits history env thread (Go e t) k g (inr aimed) = kept_by_nothing limits history (left_by limits history (Go e t)) env k (grind (arith, nat_tests))
 left_kept limits history env thread (AddCaps e caps) k g at = kept_by_nothing limits history [] env k refl
@@ -184,7 +184,7 @@ behind_kept limits env thread front h k g =
 own_told : (limits : Limits) (whole history : List Entry) (thread : ThreadNo) (event : Event) (env : EnvNo) → stands_for env (view limits history) ≡ true
     → is_own_of thread event ≡ true → was_refused (outcome_there limits whole history event) ≡ true
 own_told limits whole history thread (Start t) env k h = refused_done _ (own_refused limits (view limits history) (own_spent history) entry.Start env k refl)
-own_told limits whole history thread (Own t step) env k h = refused_done _ (own_refused limits (view limits history) (own_spent history) (entry.Own step) env k refl)
+own_told limits whole history thread (Stepped t step) env k h = refused_done _ (own_refused limits (view limits history) (own_spent history) (entry.Stepped step) env k refl)
 own_told limits whole history thread (Poll t) env k h = grind (arith, nat_tests)
 own_told limits whole history thread (ToNative t) env k h = refused_done _ (own_refused limits (view limits history) (own_spent history) (entry.Hand Native) env k refl)
 own_told limits whole history thread (ToBlocked t kind) env k h = refused_done _ (own_refused limits (view limits history) (own_spent history) (entry.Hand (Blocked kind)) env k refl)
@@ -211,7 +211,7 @@ own_out limits thread all front h env k own =
 own_left : (limits : Limits) (history : List Entry) (thread : ThreadNo) (event : Event) (env : EnvNo) → stands_for env (view limits history) ≡ true
     → is_own_of thread event ≡ true → left_by limits history event ≡ []
 own_left limits history thread (Start t) env k h = none_left _ _ (own_refused limits (view limits history) (own_spent history) entry.Start env k refl)
-own_left limits history thread (Own t step) env k h = none_left _ _ (own_refused limits (view limits history) (own_spent history) (entry.Own step) env k refl)
+own_left limits history thread (Stepped t step) env k h = none_left _ _ (own_refused limits (view limits history) (own_spent history) (entry.Stepped step) env k refl)
 own_left limits history thread (Poll t) env k h = grind (arith, nat_tests)
 own_left limits history thread (ToNative t) env k h = none_left _ _ (own_refused limits (view limits history) (own_spent history) (entry.Hand Native) env k refl)
 own_left limits history thread (ToBlocked t kind) env k h = none_left _ _ (own_refused limits (view limits history) (own_spent history) (entry.Hand (Blocked kind)) env k refl)
@@ -248,7 +248,7 @@ read_out limits env thread front rest n wanting k admitted =
     let v = view limits l in
     let longer = l ++ entry.Read env n ∷ [] in
     let reached : reaches limits thread front h ≡ true = grind (arith, nat_tests) in
-    let holds : hold_refusal v (Read env thread n) ≡ None = grind (arith, nat_tests) in
+    let holds : stopping_refusal v (Read env thread n) ≡ None = grind (arith, nat_tests) in
     let behind : history_of limits thread (front ++ h ∷ []) ≡ longer =
     history_of-snoc limits thread front h ∙ ap (λ b. cond b (l ++ left_by limits l h.event) l) reached ∙ ap (λ r. l ++ if_none r (entry.Read env n ∷ [])) holds in
     let more = history_grows limits thread (front ++ h ∷ []) rest in
@@ -256,7 +256,7 @@ read_out limits env thread front rest n wanting k admitted =
     ap (history_of limits thread) (sym (append_assoc front (h ∷ []) rest)) ∙ more.1 ∙ ap (λ x. x ++ more.0) behind in
     let given_is : reply limits (history_of limits thread (front ++ h ∷ rest)) (length l) ≡ Some (stack_of v n) =
     ap (λ x. reply limits x (length l)) whole ∙ reply_stays limits longer more.0 (length l) (stack_of v n) (read_at_once limits l env n) in
-    let out : out_of limits (front ++ h ∷ rest) front h ≡ read_outcome (hold_refusal v (Read env thread n)) (reply limits (history_of limits thread (front ++ h ∷ rest)) (length l)) = grind (arith, nat_tests) in
+    let out : out_of limits (front ++ h ∷ rest) front h ≡ read_outcome (stopping_refusal v (Read env thread n)) (reply limits (history_of limits thread (front ++ h ∷ rest)) (length l)) = grind (arith, nat_tests) in
     out ∙ ap₂ read_outcome holds given_is
 
 -- a call at a thread that does not run comes to its answer
@@ -350,7 +350,7 @@ event_counted limits thread front rest wanting (Ask e t Pop) still =
       | inr other ↦ grind (arith, other)
     ]
 event_counted limits thread front rest wanting (Start t) still = nothing_gone _
-event_counted limits thread front rest wanting (Own t step) still = nothing_gone _
+event_counted limits thread front rest wanting (Stepped t step) still = nothing_gone _
 event_counted limits thread front rest wanting (Poll t) still = nothing_gone _
 event_counted limits thread front rest wanting (ToNative t) still = nothing_gone _
 event_counted limits thread front rest wanting (ToBlocked t kind) still = nothing_gone _

@@ -9,17 +9,17 @@ use Rattle.ti_types.specs.declared.call.Call.{Call}
 use Rattle.ti_types.specs.declared.call.Call.TheVariants as call
 use Rattle.ti_types.specs.declared.error.TiError.{TiError}
 use Rattle.ti_types.specs.declared.event.Event.{Event}
-use Rattle.ti_types.specs.declared.event.Event.TheVariants.{Start, Own, Poll, ToNative, ToBlocked, Back, End, Ask, Stop, Read, Go, AddCaps, Relinquish, GetCaps, SetEnvWord, GetEnvWord}
+use Rattle.ti_types.specs.declared.event.Event.TheVariants.{Start, Stepped, Poll, ToNative, ToBlocked, Back, End, Ask, Stop, Read, Go, AddCaps, Relinquish, GetCaps, SetEnvWord, GetEnvWord}
 use Rattle.ti_types.specs.Admitting.{admitting_refusal, asking_refusal, stopping_refusal, reading_refusal, going_refusal}
 use Rattle.ti_types.specs.Caps.{no_caps, caps_with, caps_without}
-pub use Rattle.ti_types.specs.Caps.{holds_all, can_be_had}
+pub use Rattle.ti_types.specs.Caps.{has_all, can_be_had}
 
 -- an event, and whether memory ran out for the buffer of its answer
 pub record Happening : Type 0 where
   pub event : Event
   pub wanting : Bool
 
--- what an environment holds, and what it has spent at one thread
+-- an environment's capabilities, and what it has spent at one thread
 pub record Dealings : Type 0 where
   pub caps : Caps
   pub spent : ℕ
@@ -48,7 +48,7 @@ is_aimed_at thread _ = false
 -- whether the event is the thread's own
 abbrev pub is_own_of : ThreadNo → Event → Bool
 is_own_of thread (Start t) = t.0 == thread.0
-is_own_of thread (Own t step) = t.0 == thread.0
+is_own_of thread (Stepped t step) = t.0 == thread.0
 is_own_of thread (Poll t) = t.0 == thread.0
 is_own_of thread (ToNative t) = t.0 == thread.0
 is_own_of thread (ToBlocked t kind) = t.0 == thread.0
@@ -104,7 +104,7 @@ caps_after env held (Relinquish e caps) =
     if e.0 == env.0 then caps_without held caps else held
 caps_after env held _ = held
 
--- the capabilities that an environment holds
+-- the capabilities that an environment has
 abbrev pub caps_of : EnvNo → List Happening → Caps
 caps_of env events = fold (λ held h. caps_after env held h.event) no_caps events
 
@@ -120,14 +120,14 @@ dealt limits env thread d h =
       spent = if spends limits env thread d h then d.spent + 1 else d.spent;
     }
 
--- of an environment for which nothing has happened
+-- the dealings of an environment for which nothing has happened
 abbrev pub no_dealings : Dealings
 no_dealings = record { caps = no_caps; spent = 0 }
 
 abbrev pub dealings : Limits → EnvNo → ThreadNo → List Happening → Dealings
 dealings limits env thread events = fold (dealt limits env thread) no_dealings events
 
--- what the environment of an event holds, where it has one, and what that has spent at one thread
+-- the dealings of an event's environment at one thread, or no dealings if the event has no environment
 abbrev pub dealings_by : Limits → Option EnvNo → ThreadNo → List Happening → Dealings
 dealings_by limits (Some env) thread events = dealings limits env thread events
 dealings_by limits None thread events = no_dealings

@@ -1,4 +1,4 @@
--- What of a list of events an environment's replies about a thread depend on.
+-- On which events of a list an environment's replies about a thread depend.
 use Rattle.std.specs.Prelude.{Bool, true, false, ◌&&◌, ◌||◌, if◌then◌else◌, ◌≡◌, List, [], ◌∷◌, ◌++◌, Option, Some, None, is_none}
 use Rattle.ti_types.specs.declared.limits.Limits.{Limits}
 use Rattle.ti_types.specs.declared.numbers.EnvNo.{EnvNo}
@@ -15,12 +15,12 @@ abbrev pub is_for_want : Option TiError → Bool
 is_for_want (Some OutOfMemory) = true
 is_for_want _ = false
 
--- an event, with memory marked as wanting only where the event is refused for that
+-- an event, marked as lacking memory only if it is refused for that
 abbrev pub marked : Limits → Dealings → Happening → Happening
 marked limits d h = record { event = h.event; wanting = h.wanting && is_for_want (refusal limits d h) }
 
--- an event that is kept: one of the thread's own or an admitted call of another environment; or one of the
--- environment's own calls, with whether it was refused for lack of memory
+-- An event that is kept. `Taken` is one of the thread's own, or an admitted call of another environment. `Called` is one of
+-- the environment's own calls, with whether it was refused for lack of memory
 pub data Kept : Type 0 where
   Taken : (event : Event) → Kept
   Called : (happening : Happening) → Kept
@@ -46,7 +46,7 @@ kept_from limits env thread front (h ∷ events) =
 abbrev pub kept : Limits → EnvNo → ThreadNo → List Happening → List Kept
 kept limits env thread events = kept_from limits env thread [] events
 
--- what the kept events come to
+-- the outcomes of the kept events
 abbrev pub if_kept : Option Kept → Option Outcome → List (Option Outcome) → List (Option Outcome)
 if_kept (Some k) first rest = first ∷ rest
 if_kept None first rest = rest
@@ -59,7 +59,7 @@ told_from limits env thread all front (h ∷ events) =
 abbrev pub told : Limits → EnvNo → ThreadNo → List Happening → List (Option Outcome)
 told limits env thread events = told_from limits env thread events [] events
 
--- two runs in which the same is kept tell the same
+-- two runs with the same kept events give the same outcomes for them
 abbrev pub TellsTheKept : Type 0
 TellsTheKept =
     (limits : Limits) (env : EnvNo) (thread : ThreadNo) (run other : List Happening) →

@@ -33,7 +33,7 @@ is_alive Running = true
 is_alive (AtSafe safe) = true
 is_alive _ = false
 
--- where a trace of this many frames starts. A negative start counts from the oldest
+-- the depth at which a trace of this many frames starts. A negative start counts from the oldest
 abbrev pub first_of_trace : ℤ → ℕ → Option ℕ
 first_of_trace (pos start) count = if start == 0 || nat_lt start count then Some start else None
 first_of_trace (negsuc back) count = if nat_lt back count then Some (count - (back + 1)) else None
@@ -46,7 +46,7 @@ abbrev pub location_of : Option Frame → Answer
 location_of (Some frame) = answer.Location frame
 location_of None = answer.Refused NoMoreFrames
 
--- an answer, and a refusal where there is one
+-- done, or the refusal if there is one
 abbrev pub done_or : Option TiError → Answer
 done_or None = answer.Done
 done_or (Some error) = answer.Refused error
@@ -63,7 +63,7 @@ answer_alive v env call.GetWord = answer.Word (slice_index v.words env.0)
 answer_alive v env (call.SetWord word) = answer.Done
 answer_alive v env call.Pop = done_or (pop_refusal v.suspended v.frames)
 
--- the state is told of every thread, all else of one that is alive
+-- every thread answers with its state. All else is answered by one that is alive
 abbrev pub answer_of : ThreadView → EnvNo → Call → Answer
 answer_of v env call.State = answer.State (bits_of v.mode v.suspended)
 answer_of v env call = if is_alive v.mode then answer_alive v env call else answer.Refused ThreadNotAlive

@@ -13,7 +13,7 @@ no_costs = record { asked = 0; calls = 0 }
 abbrev pub costs_at : List Costs → EnvNo → Costs
 costs_at costs env = slice_index_or costs env.0 no_costs
 
--- of the environment of an entry, and none where it has none
+-- the costs of an entry's environment, or no costs if the entry has none
 abbrev pub costs_of : List Costs → Option EnvNo → Costs
 costs_of costs (Some env) = costs_at costs env
 costs_of costs None = no_costs

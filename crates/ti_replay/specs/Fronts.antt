@@ -1,5 +1,5 @@
--- An environment's stop at one thread: which entries say that it stands, and what stays from there until the environment
--- lets the thread go.
+-- An environment's stop at one thread: which entries say that it is in force, and what stays until the environment lets the
+-- thread go.
 use Rattle.std.specs.Prelude.{ℕ, ℤ, ◌≡◌, ◌+◌, Bool, true, false, if◌then◌else◌, ◌==◌, List, [], ◌∷◌, ◌++◌, take, drop}
 use Rattle.std.specs.List.{fold, list_any}
 use Rattle.ti_types.specs.Frames.{bare_trace}
@@ -18,17 +18,17 @@ use Rattle.ti_replay.specs.Makers.{made_by, StartsWith}
 use Rattle.ti_replay.specs.Standing.{is_standing, is_go_of}
 use Rattle.ti_replay.specs.View.{view}
 
--- whether an environment's stop stands after an entry of its own
+-- whether an environment's stop is in force after an entry of its own
 abbrev pub stops_after : EnvNo → Bool → Entry → Bool
 stops_after env stands (Stop other) = if other.0 == env.0 then true else stands
 stops_after env stands (Go other) = if other.0 == env.0 then false else stands
 stops_after env stands _ = stands
 
--- whether an environment's stop stands after these
+-- whether an environment's stop is in force after these entries
 abbrev pub stops_by : EnvNo → List Entry → Bool
 stops_by env entries = fold (stops_after env) false entries
 
--- whether an environment's stop stands, its own entries say alone
+-- an environment's own entries alone say whether its stop is in force
 abbrev pub StopsAreOwn : Type 0
 StopsAreOwn =
     (limits : Limits) (env : EnvNo) (history : List Entry) → is_legal limits history ≡ true
@@ -37,18 +37,18 @@ StopsAreOwn =
 abbrev pub lets_go : EnvNo → List Entry → Bool
 lets_go env entries = list_any (is_go_of env) entries
 
--- how many frames an entry takes away from a thread that does not run: one where it is a pop that is done
+-- how many frames an entry takes from a thread that does not run: one if it is a pop that is done
 abbrev pub frames_popped : Limits → List Entry → Entry → ℕ
 frames_popped limits history (Asked env number Pop) = if is_done (answer_of (view limits history) env Pop) then 1 else 0
 frames_popped limits history _ = 0
 
--- how many the entries after a front take away
+-- how many frames the entries after a prefix take
 abbrev pub popped_behind : Limits → List Entry → List Entry → ℕ
 popped_behind limits front [] = 0
 popped_behind limits front (x ∷ more) = frames_popped limits front x + popped_behind limits (front ++ x ∷ []) more
 
--- After a front that stands for an environment, up to its go: no entry of the thread's own, one mode, and the frames of
--- the front, but for those that were popped, the newest first
+-- After a prefix that leaves the thread standing for an environment, up to that environment's go. The thread makes no entry
+-- of its own, and stays in its mode. Its frames are those of the prefix, without those that were popped, the newest first
 pub record IsStill (limits : Limits) (env : EnvNo) (front more : List Entry) : Type 0 where
   pub none : made_by 0 more ≡ []
   pub stands : is_standing limits (front ++ more) env ≡ true
@@ -60,21 +60,21 @@ FrontsStay =
     (limits : Limits) (env : EnvNo) (front more : List Entry) → is_legal limits (front ++ more) ≡ true → is_standing limits front env ≡ true → lets_go env more ≡ false
     → IsStill limits env front more
 
--- An answer tells of the mode and the frames of a front, after the pops of the entries after it. The suspended flag may
--- have changed since
+-- An answer shows the mode and the frames of a prefix, after the pops of the entries since. The suspended flag may have
+-- changed
 abbrev pub TellsOf : Limits → List Entry → List Entry → ℤ → Answer → Type 0
 TellsOf limits front more max_count a =
     (suspended : Bool)
     × (a ≡ answer.Stack (bits_of (view limits front).mode suspended) (bare_trace (take (or_zero max_count) (drop (popped_behind limits front more) (view limits front).frames))))
 
--- what tells of a later front tells of the first: its mode, and its frames after all pops after it
+-- an answer that shows a later prefix also shows the first: its mode, and its frames after all pops since
 abbrev pub FrontsTell : Type 0
 FrontsTell =
     (limits : Limits) (env : EnvNo) (front more rest : List Entry) (max_count : ℤ) (a : Answer) → IsStill limits env front more → TellsOf limits (front ++ more) rest max_count a
     → TellsOf limits front (more ++ rest) max_count a
 
--- The same of whoever knows the entries of the environment alone: of a history that goes on after a front that stands, no
--- more has to be known than that the environment let nobody go by an entry of its own
+-- The same for one who knows only the environment's own entries. After a prefix that leaves the thread standing, it is
+-- enough that none of these lets the thread go
 abbrev pub FrontsStayByOwn : Type 0
 FrontsStayByOwn =
     (limits : Limits) (env : EnvNo) (front history : List Entry) → is_legal limits history ≡ true → is_standing limits front env ≡ true

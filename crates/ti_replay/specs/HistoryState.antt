@@ -1,5 +1,7 @@
--- All of a history that later entries depend on, without the places of entries: so it may be the same for two
--- histories in which a step stands earlier or later. PlacedState is the same with the places, as `replay` keeps it.
+-- All of a history that later entries depend on, without the places of entries.
+--
+-- So it may be the same for two histories, if a step comes earlier in the one than in the other. PlacedState is the same
+-- with the places, as `replay` keeps it.
 use Rattle.std.specs.Prelude.{ℕ, List, map, replicate}
 use Rattle.std.specs.List.{fold}
 use Rattle.ti_types.specs.declared.limits.Limits.{Limits}
@@ -11,7 +13,7 @@ use Rattle.ti_replay.specs.View.{view}
 use Rattle.ti_replay.specs.Legal.{own_spent}
 use Rattle.ti_replay.specs.Costs.{no_costs, charged}
 
--- the view, the calls that are not answered, what the thread has spent, and what each environment has
+-- the view, the calls that are not answered, what the thread has spent, and the costs of each environment
 pub record HistoryState : Type 0 where
   pub view : ThreadView
   pub waiting : List Entry

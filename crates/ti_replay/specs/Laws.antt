@@ -48,7 +48,7 @@ abbrev pub is_done : Answer → Bool
 is_done answer.Done = true
 is_done _ = false
 
--- what a call changes that is done
+-- what a call changes when it is done
 abbrev pub changed : ThreadView → EnvNo → Call → ThreadView
 changed v env Suspend = record v { suspended = true }
 changed v env Resume = record v { suspended = false }
@@ -56,6 +56,6 @@ changed v env (SetWord word) = record v { words = slice_set v.words env.0 word }
 changed v env Pop = record v { frames = frames_after v.frames Leave }
 changed v env _ = v
 
--- a call changes the view only where the answer is that it is done
+-- a call changes the view only if the answer is that it is done
 abbrev pub CallsChangeWhereDone : Type 0
 CallsChangeWhereDone = (v : ThreadView) (env : EnvNo) (call : Call) → called v env call ≡ (if is_done (answer_of v env call) then changed v env call else v)

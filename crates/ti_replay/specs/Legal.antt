@@ -7,7 +7,7 @@ use Rattle.ti_types.specs.declared.place.Frame.{Frame}
 use Rattle.ti_types.specs.declared.state.Safe.TheVariants.{Native, Blocked, AtPoll}
 use Rattle.ti_types.specs.declared.step.Step.{Step}
 use Rattle.ti_types.specs.declared.entry.Entry.{Entry}
-use Rattle.ti_types.specs.declared.entry.Entry.TheVariants.{Own, Hand, Asked, Stop, Read, Go}
+use Rattle.ti_types.specs.declared.entry.Entry.TheVariants.{Stepped, Hand, Asked, Stop, Read, Go}
 use Rattle.ti_types.specs.declared.view.ThreadView.{ThreadView}
 pub use Rattle.ti_types.specs.Numbers.{is_not_negative}
 pub use Rattle.ti_types.specs.Call.{is_well_formed}
@@ -22,7 +22,7 @@ use Rattle.ti_replay.specs.View.{view}
 
 -- what an entry costs its thread
 abbrev pub own_cost : Entry → ℕ
-own_cost (Own step) = 1
+own_cost (Stepped step) = 1
 own_cost (Hand Native) = 2
 own_cost (Hand (Blocked kind)) = 2
 own_cost _ = 0
@@ -55,7 +55,7 @@ calls_spent env history = sum_by (call_cost env) history
 abbrev pub asked_by : EnvNo → List Entry → ℕ
 asked_by env history = sum_by (ask_count env) history
 
--- a waiting call is unanswered, or a stop stands
+-- a waiting call is unanswered, or a stop is in force
 abbrev pub is_armed : Limits → List Entry → Bool
 is_armed limits history = nat_lt 0 (length (unanswered history)) || is_some (view limits history).stopper
 
@@ -63,8 +63,8 @@ is_armed limits history = nat_lt 0 (length (unanswered history)) || is_some (vie
 abbrev pub step_fits : Limits → List Frame → Step → Bool
 step_fits limits frames step = is_none (step_refusal limits.depth frames step)
 
--- what is known of a history before an entry: the view, whether the thread is called for, what the thread has
--- spent, and what the entry's environment has spent and asked
+-- What is known of a history before an entry: the view, whether the thread is called for, and what the thread has spent.
+-- Also what the entry's environment has spent and asked
 pub record Situation : Type 0 where
   pub view : ThreadView
   pub armed : Bool
@@ -72,13 +72,13 @@ pub record Situation : Type 0 where
   pub calls : ℕ
   pub asked : ℕ
 
--- whether an environment is there and lets a call at the thread through, which needs no capability
+-- whether an environment is there and lets a call at the thread through. This asks for no capability
 abbrev pub lets_through : Limits → Situation → EnvNo → (well_formed : Bool) → Bool
 lets_through limits s env well_formed = nat_lt env.0 limits.envs && is_none (reaching_refusal true well_formed s.calls limits.calls)
 
--- whether an entry may come: one of the thread's own where it is not refused, and a poll's hand-over only where the thread
--- is called for; an environment's where that lets it through, a call has its number, and the thread does not refuse a
--- stop, a read or a go
+-- Whether an entry may come. One of the thread's own may if it is not refused, and a poll's hand-over only if the thread is
+-- called for. One of an environment's may if that lets it through. A call also needs its number. A stop, a read or a go must
+-- not be refused by the thread
 abbrev pub fits : Limits → Situation → Entry → Bool
 fits limits s (Hand AtPoll) = is_none (own_refusal limits s.view s.own (Hand AtPoll)) && s.armed
 fits limits s (Asked env number call) = lets_through limits s env (is_well_formed call) && (number == s.asked)
@@ -95,7 +95,7 @@ env_of (Read env max_count) = Some env
 env_of (Go env) = Some env
 env_of _ = None
 
--- what is counted of an environment, and 0 where there is none
+-- what is counted of an environment, and 0 if there is none
 abbrev pub counted : Option EnvNo → (EnvNo → ℕ) → ℕ
 counted (Some env) count = count env
 counted None count = 0
@@ -115,13 +115,13 @@ situation limits history env =
 abbrev pub may_follow : Limits → List Entry → Entry → Bool
 may_follow limits history x = fits limits (situation limits history (env_of x)) x
 
--- the first entry that may not come where it stands, after a front of the history
+-- the place of the first entry that may not come there, after a prefix of the history
 abbrev pub first_illegal : Limits → List Entry → List Entry → Option ℕ
 first_illegal limits front [] = None
 first_illegal limits front (x ∷ rest) =
     if may_follow limits front x then first_illegal limits (front ++ x ∷ []) rest else Some (length front)
 
--- each entry of the rest may come where it stands
+-- each entry of the rest may come at its place
 abbrev pub goes_on : Limits → List Entry → List Entry → Bool
 goes_on limits front [] = true
 goes_on limits front (x ∷ rest) = may_follow limits front x && goes_on limits (front ++ x ∷ []) rest

@@ -1,10 +1,10 @@
--- What each event of a whole list comes to.
+-- The outcome of each event of a whole list.
 use Rattle.std.specs.Prelude.{Bool, true, false, ◌==◌, nat_lt, if◌then◌else◌, ℕ, List, [], ◌∷◌, ◌++◌, Option, Some, None}
 use Rattle.std.specs.List.{fold}
 use Rattle.ti_types.specs.declared.limits.Limits.{Limits}
 use Rattle.ti_types.specs.declared.numbers.EnvNo.{EnvNo}
 use Rattle.ti_types.specs.declared.event.Event.{Event}
-use Rattle.ti_types.specs.declared.event.Event.TheVariants.{Start, Own, Poll, ToNative, ToBlocked, Back, End, Ask, Stop, Read, Go, AddCaps, Relinquish, GetCaps, SetEnvWord, GetEnvWord}
+use Rattle.ti_types.specs.declared.event.Event.TheVariants.{Start, Stepped, Poll, ToNative, ToBlocked, Back, End, Ask, Stop, Read, Go, AddCaps, Relinquish, GetCaps, SetEnvWord, GetEnvWord}
 use Rattle.ti_types.specs.declared.event.Outcome.{Outcome}
 use Rattle.ti_types.specs.declared.event.Outcome.TheVariants as outcome
 use Rattle.ti_types.specs.declared.answer.Answer.{Answer}
@@ -22,17 +22,18 @@ word_set env word _ = word
 abbrev pub env_word_after : EnvNo → ℕ → Happening → ℕ
 env_word_after env word h = word_set env word h.event
 
--- the word that the environment set last, and 0 where it set none
+-- the word that the environment set last, and 0 if it set none
 abbrev pub env_word : EnvNo → List Happening → ℕ
 env_word env events = fold (env_word_after env) 0 events
 
 abbrev pub word_outcome : Limits → EnvNo → Answer → Option Outcome
 word_outcome limits e a = Some (outcome.Gave (if nat_lt e.0 limits.envs then a else answer.Refused InvalidEnvironment))
 
--- an event at a thread by what it comes to there, one about an environment alone by that one's own events
+-- the outcome of an event at a thread is its outcome there; that of one about an environment alone is by that environment's
+-- own events
 abbrev pub out_by : Limits → List Happening → List Happening → Happening → Event → Option Outcome
 out_by limits all front h (Start t) = outcome_of limits t all front h
-out_by limits all front h (Own t step) = outcome_of limits t all front h
+out_by limits all front h (Stepped t step) = outcome_of limits t all front h
 out_by limits all front h (Poll t) = outcome_of limits t all front h
 out_by limits all front h (ToNative t) = outcome_of limits t all front h
 out_by limits all front h (ToBlocked t kind) = outcome_of limits t all front h
@@ -48,16 +49,16 @@ out_by limits all front h (GetCaps e) = caps_outcome limits (caps_of e front) h.
 out_by limits all front h (SetEnvWord e w) = word_outcome limits e answer.Done
 out_by limits all front h (GetEnvWord e) = word_outcome limits e (answer.Word (env_word e front))
 
--- what an event comes to among all events, after a front of them. None: it is not answered
+-- the outcome of an event among all events, after a prefix of them. None: it is not answered
 abbrev pub out_of : Limits → List Happening → List Happening → Happening → Option Outcome
 out_of limits all front h = out_by limits all front h h.event
 
--- what each of these comes to among all events, after a front of them
+-- the outcome of each of these among all events, after a prefix of them
 abbrev pub outs_from : Limits → List Happening → List Happening → List Happening → List (Option Outcome)
 outs_from limits all front [] = []
 outs_from limits all front (h ∷ hs) = out_of limits all front h ∷ outs_from limits all (front ++ h ∷ []) hs
 
--- what each event comes to
+-- the outcome of each event
 abbrev pub outs : Limits → List Happening → List (Option Outcome)
 outs limits events = outs_from limits events [] events
 
@@ -70,11 +71,11 @@ abbrev pub was_for_memory : Option Outcome → Bool
 was_for_memory (Some o) = is_for_memory o
 was_for_memory None = false
 
--- an event with this outcome: where memory ran out is read off the outcome
+-- an event with this outcome, which says whether memory ran out
 abbrev pub happening : Event → Option Outcome → Happening
 happening event o = record { event = event; wanting = was_for_memory o }
 
--- the events, with the places where memory ran out read off the outcomes
+-- the events with these outcomes, which say at which of them memory ran out
 abbrev pub happenings : List Event → List (Option Outcome) → List Happening
 happenings (x ∷ xs) (o ∷ os) = happening x o ∷ happenings xs os
 happenings [] os = []
@@ -87,10 +88,10 @@ told_now (outcome.Gave a) = Some (outcome.Gave (said a))
 told_now outcome.Done = Some outcome.Done
 told_now outcome.Clear = Some outcome.Clear
 told_now outcome.Went = Some outcome.Went
-told_now outcome.Held = Some outcome.Held
+told_now outcome.Stays = Some outcome.Stays
 told_now (outcome.Refused error) = Some (outcome.Refused error)
 
--- an outcome without the rooms of buffers. None where there is none
+-- an outcome without the rooms of buffers. None if there is none
 abbrev pub told_later : Option Outcome → Option Outcome
 told_later (Some o) = told_now o
 told_later None = None

@@ -66,7 +66,7 @@ situation_in s env =
 abbrev pub may_enter : Limits → PlacedState → Entry → Bool
 may_enter limits s x = fits limits (situation_in s (env_of x)) x
 
--- what takes place when an entry comes: with a hand-over the waiting calls too, and nothing where the entry waits
+-- what takes place when an entry comes: with a hand-over the waiting calls too, and nothing if the entry waits
 abbrev pub settling_of : ThreadView → List Placed → ℕ → Entry → List Placed
 settling_of v waiting next x =
     if is_hand_over x then (next, x) ∷ waiting else if is_waiting_call x && is_running v.mode then [] else (next, x) ∷ []

@@ -31,15 +31,15 @@ asked_entry history _ = []
 abbrev pub asked_there : Limits → ThreadNo → List Happening → Happening → List Entry
 asked_there limits t events h = if reaches limits t events h then asked_entry (history_of limits t events) h.event else []
 
--- what an event costs an environment at a thread: 1 where it is the environment's call, stop or read and reaches the
--- thread. So a call that is not admitted costs nothing, one that is admitted and then refused by the thread costs 1, and a
--- go costs nothing
+-- What an event costs an environment at a thread: 1 if it is the environment's call, stop or read, and reaches the thread.
+-- So a call that is not admitted costs nothing. One that is admitted and then refused by the thread costs 1. A go costs
+-- nothing
 abbrev pub cost_there : Limits → EnvNo → ThreadNo → List Happening → Happening → ℕ
 cost_there limits e t events h = if reaches limits t events h && is_by e h.event && is_paid h.event then 1 else 0
 
--- no thread's mode, frames, suspended flag, stop or words change, nor which calls wait at it, nor its history but for
--- the entry of an admitted call; and no environment's capabilities or word, nor what it has spent at a thread but for an
--- admitted call, stop or read
+-- No thread's mode, frames, suspended flag, stop or words change, nor which calls wait at it. Its history gets no more than
+-- the entry of an admitted call. No environment's capabilities or word change. What it has spent at a thread changes only by
+-- an admitted call, stop or read
 pub record IsUnchanged (limits : Limits) (events : List Happening) (h : Happening) : Type 0 where
   pub views : (t : ThreadNo) → view limits (history_of limits t (events ++ h ∷ [])) ≡ view limits (history_of limits t events)
   pub waiting : (t : ThreadNo) → unanswered (history_of limits t (events ++ h ∷ [])) ≡ unanswered (history_of limits t events)

@@ -1,5 +1,6 @@
--- When each entry of a history takes place. A waiting call at a running thread takes place just after the
--- thread's next hand-over or end.
+-- When each entry of a history takes place.
+--
+-- A waiting call at a running thread takes place just after the thread's next hand-over or end.
 use Rattle.std.specs.Prelude.{ℕ, Bool, true, false, not, ◌&&◌, if◌then◌else◌, List, [], ◌∷◌}
 use Rattle.std.specs.List.{fold, list_any, enumerate_from}
 use Rattle.ti_types.specs.declared.call.Call.{Call}
@@ -48,7 +49,7 @@ hands_over p = is_hand_over p.1
 abbrev pub runs_behind : Bool → List Placed → Bool
 runs_behind runs entries = fold (λ r p. runs_after r p.1) runs entries
 
--- the entries with a call put just after the first hand-over or end. Where there is none, the call is left out
+-- the entries with a call put just after the first hand-over or end. If there is none, the call is left out
 abbrev pub put_behind : Placed → List Placed → List Placed
 put_behind call [] = []
 put_behind call (p ∷ entries) = if hands_over p then p ∷ call ∷ entries else p ∷ put_behind call entries

@@ -5,7 +5,7 @@ use Rattle.ti_types.specs.declared.limits.Limits.{Limits}
 use Rattle.ti_types.specs.declared.numbers.EnvNo.{EnvNo}
 use Rattle.ti_types.specs.declared.call.Call.TheVariants.{Pop}
 use Rattle.ti_types.specs.declared.entry.Entry.{Entry}
-use Rattle.ti_types.specs.declared.entry.Entry.TheVariants.{Start, Own, Hand, Back, End, Go}
+use Rattle.ti_types.specs.declared.entry.Entry.TheVariants.{Start, Stepped, Hand, Back, End, Go}
 use Rattle.ti_types.specs.declared.view.ThreadView.{ThreadView}
 use Rattle.ti_types.specs.declared.numbers.ThreadNo.{ThreadNo}
 use Rattle.ti_types.specs.declared.event.Event.{Event}
@@ -22,7 +22,7 @@ use Rattle.ti_replay.specs.Admission.{Happening, dealings, refusal, is_own_of}
 use Rattle.ti_replay.specs.Events.{history_of}
 use Rattle.ti_replay.specs.Outcomes.{out_of}
 
--- the environment's stop stands, and the thread does not run
+-- the environment's stop is in force, and the thread does not run
 abbrev pub stands_for : EnvNo → ThreadView → Bool
 stands_for env v = is_stopper v.stopper env && not (is_running v.mode)
 
@@ -31,7 +31,7 @@ is_standing limits history env = stands_for env (view limits history)
 
 abbrev pub is_own_entry : Entry → Bool
 is_own_entry Start = true
-is_own_entry (Own step) = true
+is_own_entry (Stepped step) = true
 is_own_entry (Hand safe) = true
 is_own_entry Back = true
 is_own_entry End = true
@@ -46,7 +46,7 @@ abbrev pub is_still : EnvNo → List Entry → Bool
 is_still env [] = true
 is_still env (x ∷ history) = if is_go_of env x then true else not (is_own_entry x) && is_still env history
 
--- what comes after a history that stands for an environment
+-- what comes after a history that leaves the thread standing for an environment
 abbrev pub StandsStill : Type 0
 StandsStill =
     (limits : Limits) (history more : List Entry) (env : EnvNo) →
@@ -71,7 +71,7 @@ abbrev pub is_pop_at : ThreadNo → Event → Bool
 is_pop_at thread (event.Ask e t Pop) = t.0 == thread.0
 is_pop_at thread _ = false
 
--- whether a call came to being done
+-- whether a call was done
 abbrev pub was_done : Option Outcome → Bool
 was_done (Some (outcome.Gave answer.Done)) = true
 was_done _ = false
@@ -80,15 +80,15 @@ was_done _ = false
 abbrev pub pop_count : ThreadNo → Event → Option Outcome → ℕ
 pop_count thread event o = if is_pop_at thread event && was_done o then 1 else 0
 
--- how many pops at the thread are done, among events after a front of all events
+-- how many pops at the thread are done, among events after a prefix of all events
 abbrev pub pops_done : Limits → ThreadNo → List Happening → List Happening → List Happening → ℕ
 pops_done limits thread all front [] = 0
 pops_done limits thread all front (h ∷ more) =
     pop_count thread h.event (out_of limits all front h) + pops_done limits thread all (front ++ h ∷ []) more
 
--- a thread is as it was at an earlier front of the events, and stays so after more of them: the environment's stop
--- stands, each own event is refused and leaves nothing, and an admitted read tells of the earlier mode and frames. Of
--- the frames only those are gone that were popped since, the newest first. The suspended flag may change
+-- A thread is as it was at an earlier prefix of the events, and stays so after more of them. The environment's stop is in
+-- force, and each own event is refused and leaves nothing. An admitted read shows the earlier mode and frames. Of the frames
+-- only those are gone that were popped since, the newest first. The suspended flag may change
 pub record IsHeld (limits : Limits) (env : EnvNo) (thread : ThreadNo) (front more now : List Happening) : Type 0 where
   pub stands : is_standing limits (history_of limits thread now) env ≡ true
   pub mode : (view limits (history_of limits thread now)).mode ≡ (view limits (history_of limits thread front)).mode
@@ -103,7 +103,7 @@ pub record IsHeld (limits : Limits) (env : EnvNo) (thread : ThreadNo) (front mor
       (bare_trace (take (or_zero max_count) (drop (pops_done limits thread (now ++ record { event = event.Read env thread max_count; wanting = wanting } ∷ rest) front more)
       (view limits (history_of limits thread front)).frames)))))
 
--- from a front at which an environment stands at a thread, and until it lets the thread go, all is of one state
+-- after a prefix that leaves a thread standing for an environment, and until that lets the thread go, all is of one state
 abbrev pub OneStateUnderAStop : Type 0
 OneStateUnderAStop =
     (limits : Limits) (env : EnvNo) (thread : ThreadNo) (front more : List Happening) →

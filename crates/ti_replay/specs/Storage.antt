@@ -81,12 +81,12 @@ is_end _ = false
 abbrev pub has_life : List Entry → Bool
 has_life history = list_any is_start history && not (list_any is_end history)
 
--- what a call for the word is answered after a history
+-- the answer to a call for the word after a history
 abbrev pub word_answer : List Entry → EnvNo → Answer
 word_answer history env = if has_life history then answer.Word (word_of history env) else answer.Refused ThreadNotAlive
 
--- an admitted call for the word gives the word that was stored, and 15 where the history before it has no start or
--- has an end, whatever comes after it
+-- An admitted call for the word gives the word that was stored, whatever comes after it. It gives 15 if the history before
+-- it has no start or has an end
 abbrev pub WordIsGiven : Type 0
 WordIsGiven =
     (limits : Limits) (front rest : List Happening) (env : EnvNo) (thread : ThreadNo) (wanting : Bool) →
@@ -108,7 +108,7 @@ abbrev pub env_word_calls : EnvNo → List Happening → List Event
 env_word_calls env [] = []
 env_word_calls env (h ∷ events) = if is_env_word_call env h.event then h.event ∷ env_word_calls env events else env_word_calls env events
 
--- what these calls come to among all events, after a front of them
+-- the outcomes of these calls among all events, after a prefix of them
 abbrev pub env_words_told_from : Limits → EnvNo → List Happening → List Happening → List Happening → List (Option Outcome)
 env_words_told_from limits env all front [] = []
 env_words_told_from limits env all front (h ∷ events) =
@@ -118,7 +118,7 @@ env_words_told_from limits env all front (h ∷ events) =
 abbrev pub env_words_told : Limits → EnvNo → List Happening → List (Option Outcome)
 env_words_told limits env events = env_words_told_from limits env events [] events
 
--- what an environment is told of its own word depends on its own calls about it alone
+-- what an environment learns of its own word depends only on its own calls about it
 abbrev pub EnvWordsFollowTheirCalls : Type 0
 EnvWordsFollowTheirCalls =
     (limits : Limits) (env : EnvNo) (run other : List Happening) →

@@ -1,4 +1,4 @@
--- A suspended thread that does not run: when it comes to that, and what stays until somebody resumes it.
+-- A suspended thread that does not run: how it gets there, and what stays until somebody resumes it.
 use Rattle.std.specs.Prelude.{ℕ, ℤ, ◌≡◌, Bool, true, false, ◌&&◌, List, [], ◌∷◌, ◌++◌, length, drop, Some}
 use Rattle.std.specs.List.{list_any}
 use Rattle.ti_types.specs.declared.limits.Limits.{Limits}
@@ -24,7 +24,7 @@ is_resumption _ = false
 abbrev pub rests : ThreadView → Bool
 rests v = v.suspended && is_safe v.mode
 
--- after a prefix at which the thread rests, when nobody asks for a resumption
+-- what stays after a prefix at which the thread rests, while nobody asks for a resumption
 pub record StaysSuspended (limits : Limits) (before more : List Entry) : Type 0 where
   pub none : made_by 0 more ≡ []
   pub still : rests (view limits (before ++ more)) ≡ true
@@ -55,7 +55,7 @@ suspending before env number more = (before ++ Asked env number Suspend ∷ []) 
 abbrev pub IsSuspended : Limits → List Entry → EnvNo → ℕ → List Entry → Type 0
 IsSuspended limits before env number more = reply limits (suspending before env number more) (length before) ≡ Some answer.Done
 
--- of what comes after the suspension, a part up to its answer, and the rest. When it is answered, the thread rests
+-- what comes after the suspension: a part up to its answer, and the rest. When it is answered, the thread rests
 pub record TakesHold (limits : Limits) (before : List Entry) (env : EnvNo) (number : ℕ) (more : List Entry) : Type 0 where
   pub until : List Entry
   pub later : List Entry
@@ -63,18 +63,18 @@ pub record TakesHold (limits : Limits) (before : List Entry) (env : EnvNo) (numb
   pub done : IsSuspended limits before env number until
   pub still : rests (view limits (suspending before env number until)) ≡ true
 
--- a suspension that is done found the thread alive, and leaves it suspended where it does not run
+-- a suspension that is done found the thread alive, and leaves it suspended and not running
 abbrev pub SuspensionsTakeHold : Type 0
 SuspensionsTakeHold =
     (limits : Limits) (before : List Entry) (env : EnvNo) (number : ℕ) (more : List Entry) → IsSuspended limits before env number more → TakesHold limits before env number more
 
--- and there it still rests, when nobody asked for a resumption since
+-- the thread still rests there, if nobody has asked for a resumption since
 abbrev pub SuspendedRest : Type 0
 SuspendedRest =
     (limits : Limits) (before : List Entry) (env : EnvNo) (number : ℕ) (more : List Entry) → is_legal limits (suspending before env number more) ≡ true
     → IsSuspended limits before env number more → list_any is_resumption more ≡ false → rests (view limits (suspending before env number more)) ≡ true
 
--- one who knows that its suspension was done, and that nobody asked for a resumption, traces twice
+-- two traces agree for one who knows that its suspension was done, and that nobody asked for a resumption
 abbrev pub SuspendedTracesAgree : Type 0
 SuspendedTracesAgree =
     (limits : Limits) (before : List Entry) (env : EnvNo) (number : ℕ) (more one two rest_one rest_two : List Entry) (e f : EnvNo) (m n : ℕ) (start max_count : ℤ) (a b : Answer)

@@ -18,9 +18,9 @@ use Rattle.ti_replay.specs.Settling.{Placed, settled}
 abbrev pub new_thread : Limits → ThreadView
 new_thread limits = record { mode = mode.New; frames = []; suspended = false; stopper = None; words = replicate limits.envs 0 }
 
--- what a call changes. A call that is refused changes nothing: at a suspended thread a suspension sets what is set
--- already, and a resumption clears what is clear at one that is not. A pop takes the newest frame where it may be
--- popped, and the frames below stay as they are. Laws.CallsChangeWhereDone says so of all calls
+-- What a call changes. A refused call changes nothing. A suspension at a suspended thread sets what is set already. A
+-- resumption at one that is not suspended clears what is clear. A pop takes the newest frame if it may be popped, and the
+-- frames below stay as they are. Laws.CallsChangeWhereDone says so of all calls
 abbrev pub called : ThreadView → EnvNo → Call → ThreadView
 called v env Suspend = if is_alive v.mode then record v { suspended = true } else v
 called v env Resume = if is_alive v.mode then record v { suspended = false } else v
@@ -32,7 +32,7 @@ called v env _ = v
 abbrev pub after : ThreadView → Entry → ThreadView
 after v entry.Start = record v { mode = mode.Running }
 after v entry.Back = record v { mode = mode.Running }
-after v (entry.Own step) = record v { frames = frames_after v.frames step }
+after v (entry.Stepped step) = record v { frames = frames_after v.frames step }
 after v (entry.Hand safe) = record v { mode = mode.AtSafe safe }
 after v entry.End = record v { mode = mode.Ended; frames = [] }
 after v (entry.Asked env number call) = called v env call

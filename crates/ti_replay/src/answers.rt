@@ -1,9 +1,4 @@
 //! What a thread answers.
-ghost use Rattle.std.specs.Prelude.{◌≡◌, IfOk, IfSome, take, drop, length, ◌≤◌, ◌<◌, ◌^◌};
-ghost use Rattle.std.specs.Option.{option_map};
-ghost use Rattle.ti_types.specs.Answer.{said};
-ghost use Rattle.ti_replay.specs.Answers.{answer_of, answer_alive as alive_answer_of, or_zero as or_zero_of, first_of_trace, done_or as done_or_of};
-ghost use Rattle.ti_replay.specs.Replies.{answer_to};
 
 use crate::rules::is_alive;
 use crate::view::pop_refusal;
@@ -11,7 +6,8 @@ use std::alloc::{AllocError, Global};
 use ti_types::{Answer, Call, Entry, EnvNo, FrameList, ThreadView, TiError, TraceBuf, state_bits};
 
 #[tactic(auto, using(crate::proofs::TraceLaws::take_more))]
-/// At most this many frames from the one at a depth on, and none where the number is negative.
+/// At most `max_count` frames, from the one at the depth `start` on. None if `max_count` is negative. The error is lack of
+/// memory.
 fn trace(
     alloc: Global,
     frames: &FrameList,
@@ -37,9 +33,10 @@ fn trace(
     Ok(buf)
 }
 
-/// The depth at which a trace of `count` frames starts. A `start` of 0 or more counts from the newest frame, and a
-/// negative one from the oldest, -1 for the oldest. None where there is no such frame, which is refused with 103;
-/// start 0 is there on an empty stack too (JVM TI 11, GetStackTrace).
+/// The depth at which a trace of a stack of `count` frames starts (JVM TI 11, GetStackTrace). A `start` of 0 or more counts
+/// from the newest frame, and a negative one from the oldest, -1 for the oldest.
+///
+/// `None` if there is no such frame, which is refused with 103. On an empty stack a `start` of 0 is there too.
 pub fn trace_start(start: i32, count: usize) -> Option<usize>
     ensures start { result ≡ first_of_trace start count }
     ensures within { IfSome result (λ s. s ≤ count) }
@@ -58,7 +55,7 @@ pub fn trace_start(start: i32, count: usize) -> Option<usize>
     }
 }
 
-/// `Done`, or the refusal where there is one.
+/// `Done`, or the refusal if there is one.
 pub fn done_or(refusal: Option<TiError>) -> Answer
     ensures { said result ≡ done_or_of refusal }
 {
@@ -109,14 +106,14 @@ fn answer_alive(
     })
 }
 
-/// A number, and 0 for a negative one, which no call that is well formed has (this profile).
+/// The number, or 0 for a negative one. No call that is well formed has a negative count or depth (this profile).
 pub fn or_zero(n: i32) -> u32
     ensures { result ≡ or_zero_of n }
 {
     if n >= 0 { n as u32 } else { 0 }
 }
 
-/// What a thread of this view answers.
+/// What a thread of this view answers. The error is lack of memory.
 #[inline(always)]
 fn answer(alloc: Global, view: &ThreadView, env: EnvNo, call: Call) -> Result<Answer, AllocError>
     requires { length view.now.frames < 2 ^ 32 }
@@ -129,9 +126,11 @@ fn answer(alloc: Global, view: &ThreadView, env: EnvNo, call: Call) -> Result<An
     }
 }
 
-/// What is answered where an entry takes place at a thread of this view: a call's answer (JVM TI 11, the function
-/// named at each `Call`), with 15, 103, 31, 14 or 13 where the thread refuses it; the state and the newest frames at
-/// a read; and None at every other entry. The error is lack of memory for the frames of a trace or a read.
+/// What is answered when an entry takes place at a thread of this view.
+///
+/// A call has its answer (JVM TI 11, the function named at each `Call`). If the thread refuses it, that is 15, 103, 31, 14,
+/// 13 or 32. A read has the state and the newest frames. Every other entry has `None`. The error is lack of memory for the
+/// frames of a trace or a read.
 #[inline(always)]
 pub fn answer_entry(
     alloc: Global,
@@ -150,3 +149,9 @@ pub fn answer_entry(
         _ => None,
     })
 }
+
+ghost use Rattle.std.specs.Prelude.{◌≡◌, IfOk, IfSome, take, drop, length, ◌≤◌, ◌<◌, ◌^◌};
+ghost use Rattle.std.specs.Option.{option_map};
+ghost use Rattle.ti_types.specs.Answer.{said};
+ghost use Rattle.ti_replay.specs.Answers.{answer_of, answer_alive as alive_answer_of, or_zero as or_zero_of, first_of_trace, done_or as done_or_of};
+ghost use Rattle.ti_replay.specs.Replies.{answer_to};

@@ -1,7 +1,4 @@
 //! What entries cost, and a table of it with a row for each environment.
-ghost use Rattle.std.specs.Prelude.{◌≡◌, ◌<◌};
-ghost use Rattle.ti_replay.specs.Legal.{env_of as env_of_entry, own_cost as own_cost_of};
-ghost use Rattle.ti_replay.specs.Costs.{charged, ArePaid, IsDue};
 
 use ti_types::{Entry, EnvNo, Safe};
 
@@ -10,11 +7,11 @@ use ti_types::{Entry, EnvNo, Safe};
 pub struct Costs {
     /// How many calls it has asked.
     pub asked: u64,
-    /// How many calls, stops and reads of it there are.
+    /// How many calls, stops and reads it has made.
     pub calls: u64,
 }
 
-/// The environment of an entry, and none for the thread's own entries, which cost no environment anything.
+/// The environment of an entry. `None` for the thread's own entries, which cost no environment anything.
 pub fn env_of(entry: Entry) -> Option<EnvNo>
     ensures { result ≡ env_of_entry entry }
 {
@@ -26,22 +23,21 @@ pub fn env_of(entry: Entry) -> Option<EnvNo>
     }
 }
 
-/// What an entry costs its thread, of its own entries: 1 for a step, 2 for a hand-over to native or blocked,
-/// which pays for the return, and 0 for others (this profile).
+/// What an entry costs of its thread's own budget (this profile). A step costs 1. A hand-over to native or blocked costs 2,
+/// which pays for the return. All others cost 0.
 pub fn own_cost(entry: Entry) -> u64
     ensures cost { result ≡ own_cost_of entry }
     ensures small { result < 3 }
 {
     match entry {
-        Entry::Own(_) => 1,
+        Entry::Stepped(_) => 1,
         Entry::Hand(Safe::Native) | Entry::Hand(Safe::Blocked(_)) => 2,
         _ => 0,
     }
 }
 
-/// Charges an entry to its environment: 1 for a call, a stop or a read (this profile). A call must have the number that
-/// the table says, and its environment a call left of at most 2^52; nothing changes where the table has no such
-/// environment.
+/// Charges an entry to its environment: 1 for a call, a stop or a read (this profile). If the table has no such environment,
+/// nothing changes. A call must have the number that the table says. Its environment must have a call left of at most 2^52.
 #[tactic(auto, using(crate::proofs::Charging::charging))]
 pub fn charge(costs: &mut [Costs], entry: Entry)
     requires due { IsDue costs.old entry }
@@ -68,7 +64,15 @@ pub fn charge(costs: &mut [Costs], entry: Entry)
                 };
             }
         }
-        Entry::Start | Entry::Own(_) | Entry::Hand(_) | Entry::Back | Entry::End | Entry::Go(_) =>
-            (),
+        Entry::Start
+        | Entry::Stepped(_)
+        | Entry::Hand(_)
+        | Entry::Back
+        | Entry::End
+        | Entry::Go(_) => (),
     }
 }
+
+ghost use Rattle.std.specs.Prelude.{◌≡◌, ◌<◌};
+ghost use Rattle.ti_replay.specs.Legal.{env_of as env_of_entry, own_cost as own_cost_of};
+ghost use Rattle.ti_replay.specs.Costs.{charged, ArePaid, IsDue};

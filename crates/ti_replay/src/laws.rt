@@ -1,16 +1,6 @@
-//! Laws of histories, and of lists of events: each function's contract is a law, which stands as a definition in
-//! `specs/`, and its body does nothing.
-ghost use Rattle.ti_replay.specs.Laws.{WordIsLast, HistoryIsBounded, HistoryIsLegal, SettledStays, ReplyStays, CallsChangeWhereDone};
-ghost use Rattle.ti_replay.specs.Agreement.{TellsTheKept};
-ghost use Rattle.ti_replay.specs.Alone.{LeftAlone};
-ghost use Rattle.ti_replay.specs.Fronts.{StopsAreOwn, FrontsStay, FrontsStayByOwn, FrontsTell};
-ghost use Rattle.ti_replay.specs.LateSteps.{StepsMayBeLate};
-ghost use Rattle.ti_replay.specs.LateTickets.{StepsComeLate, StepsStayLegal, TicketIsPlace};
-ghost use Rattle.ti_replay.specs.Makers.{ModeIsOwn, OwnCostsAreOwn, CallCostsAreItsOwn, NumbersAreItsOwn};
-ghost use Rattle.ti_replay.specs.Refused.{RefusalsKeep};
-ghost use Rattle.ti_replay.specs.Standing.{StandsStill, OneStateUnderAStop};
-ghost use Rattle.ti_replay.specs.Suspensions.{SuspensionsStay, TracesAgree, SuspensionsTakeHold, SuspendedRest, SuspendedTracesAgree};
-ghost use Rattle.ti_replay.specs.Storage.{WordsReplyAlike, WordIsGiven, EnvWordsFollowTheirCalls};
+//! Laws of histories and of lists of events.
+//!
+//! The contract of each function is a law, which is defined in `specs/`. The body does nothing.
 
 /// What has taken place in a history stays, and so does each reply that is given.
 #[tactic(auto, using(crate::proofs::ReplyLaws::settled_stays))]
@@ -19,7 +9,7 @@ pub fn replies_stay()
     ensures replies { ReplyStays }
 {}
 
-/// What an environment is told of a thread depends only on the events that are kept for the two.
+/// What an environment learns of a thread depends only on the events that are kept for the two.
 pub fn runs_agree()
     ensures { TellsTheKept }
 {}
@@ -47,25 +37,25 @@ pub fn words_are_last_set()
     ensures { WordIsLast }
 {}
 
-/// A thread that an environment has stopped makes no entry of its own until that environment lets it go.
+/// A thread that is standing for an environment makes no entry of its own until that environment lets it go.
 #[tactic(auto, using(crate::proofs::StandingLaws::stands_still))]
 pub fn stopped_threads_stand_still()
     ensures { StandsStill }
 {}
 
-/// A suspended thread that does not run makes no entry of its own until somebody asks for its resumption: it stays
-/// suspended, in its mode, and loses just the frames that are popped.
+/// A suspended thread that does not run makes no entry of its own until somebody asks for its resumption. It stays
+/// suspended, and stays in its mode. It loses only the frames that are popped.
 pub fn suspended_threads_stand_still()
     ensures { SuspensionsStay }
 {}
 
-/// Two traces of a thread that rests suspended are equal, when nobody asked for its resumption and as many frames were popped
-/// before the one as before the other.
+/// Two equal calls for a trace of a thread that rests suspended have equal answers, if nobody asked for its resumption. As
+/// many frames must be popped before the one as before the other.
 pub fn traces_agree()
     ensures { TracesAgree }
 {}
 
-/// A suspension that is answered Done takes hold: at its answer the thread is suspended and does not run. There it rests
+/// A suspension that is answered `Done` takes effect: at its answer the thread is suspended and does not run. It rests there
 /// until somebody asks for its resumption, and two traces of it are equal.
 pub fn suspensions_take_hold()
     ensures hold { SuspensionsTakeHold }
@@ -79,7 +69,7 @@ pub fn steps_come_late()
     ensures { StepsComeLate }
 {}
 
-/// What a thread has logged may still come, where a call, a stop or a go came before it.
+/// The steps that a thread has logged may still come after a call, a stop or a go.
 #[tactic(auto, using(crate::proofs::StepsStay::steps_stay))]
 pub fn logged_steps_stay_legal()
     ensures { StepsStayLegal }
@@ -91,79 +81,92 @@ pub fn tickets_are_places()
     ensures { TicketIsPlace }
 {}
 
-/// A call changes what is known of a thread only where the thread's answer is that it is done.
+/// A call changes what is known of a thread only if the thread answers that it is done.
 #[tactic(auto, using(crate::proofs::DoneLaws::change_where_done))]
 pub fn calls_change_where_done()
     ensures { CallsChangeWhereDone }
 {}
 
-/// An event that is refused when it comes changes no thread's mode, frames, suspended flag, stop, words or waiting calls,
-/// and no environment's capabilities or word. A history gets no more than the entry of an admitted call. A call, stop or
-/// read that was admitted has cost its environment 1 at its thread; nothing else is spent.
+/// An event that is refused when it comes changes no thread's mode, frames, suspended flag, stop, words or waiting calls. It
+/// changes no environment's capabilities or word. A history gets no more than the entry of an admitted call. An admitted
+/// call, stop or read has cost its environment 1 at its thread. Nothing else is spent.
 pub fn refusals_keep()
     ensures { RefusalsKeep }
 {}
 
-/// Two legal histories with the same starts and ends and the same calls of an environment about its word reply
+/// Take two legal histories with the same starts and ends, and the same calls of an environment about its word. They reply
 /// equally to these calls, whatever else is in them.
 #[tactic(auto, using(crate::proofs::StorageReplies::words_reply_alike))]
 pub fn words_reply_alike()
     ensures { WordsReplyAlike }
 {}
 
-/// An admitted call for an environment's word at a thread is answered by the word that was stored, and by 15 where
-/// the thread has not started or has ended.
+/// An admitted call for an environment's word at a thread is answered with the word that was stored. If the thread has not
+/// started or has ended, the answer is 15.
 #[tactic(auto, using(crate::proofs::WordAnswers::word_is_given))]
 pub fn words_are_given()
     ensures { WordIsGiven }
 {}
 
-/// What an environment is told of its own word depends only on its own calls about it.
+/// What an environment learns of its own word depends only on its own calls about it.
 #[tactic(auto, using(crate::proofs::WordAnswers::env_words_follow))]
 pub fn env_words_follow_their_calls()
     ensures { EnvWordsFollowTheirCalls }
 {}
 
-/// From where an environment has stopped a thread until it lets the thread go, whatever else happens: no event of the
-/// thread's own is accepted, its mode and frames stay, but for one frame for each pop that is done there, the newest
-/// first, and all reads of the environment tell of the one mode and these frames.
+/// From when a thread is standing for an environment until that environment lets it go, it stays as it is. No event of the
+/// thread's own is accepted, and its mode stays. Its frames stay too, but for one frame for each pop that is done, the
+/// newest first. All reads of the environment show the one mode and these frames.
 pub fn one_state_under_a_stop()
     ensures { OneStateUnderAStop }
 {}
 
-/// What mode a thread is in, and what it has spent, its own entries say alone.
+/// A thread's own entries alone say what mode it is in, and what it has spent.
 pub fn own_entries_say_the_mode()
     ensures mode { ModeIsOwn }
     ensures costs { OwnCostsAreOwn }
 {}
 
-/// What an environment has spent at a thread, and the number of its next call there, its own entries say alone.
+/// An environment's own entries alone say what it has spent at a thread, and the number of its next call there.
 pub fn environments_count_apart()
     ensures costs { CallCostsAreItsOwn }
     ensures numbers { NumbersAreItsOwn }
 {}
 
-/// What others do at a thread changes neither its mode, nor what it has spent, nor whether the steps that it has logged
-/// may come; nor, while it runs, its frames.
+/// What others do at a thread changes neither its mode, nor what it has spent, nor whether its logged steps may come. While
+/// it runs, it does not change its frames either.
 pub fn threads_are_left_alone()
     ensures { LeftAlone }
 {}
 
-/// Whether an environment's stop stands at a thread, its own entries say alone.
+/// An environment's own entries alone say whether its stop is in force at a thread.
 #[tactic(auto, using(crate::proofs::FrontLaws::stops_are_own))]
 pub fn stops_are_own()
     ensures { StopsAreOwn }
 {}
 
-/// After a front that stands for an environment, up to its go: no entry of the thread's own, one mode, and the frames of
-/// the front after the pops after it. That the environment let nobody go, its own entries say.
+/// A prefix of a history leaves the thread standing for an environment. Until that environment lets it go, the thread makes
+/// no entry of its own, and stays in its mode. Its frames are those of the prefix, after the pops since. The environment's
+/// own entries alone say that it has not let the thread go.
 pub fn fronts_stay()
     ensures fronts { FrontsStay }
     ensures own { FrontsStayByOwn }
 {}
 
-/// What a read tells of a later front, it tells of the one that stood first: its mode, and its frames after all pops
-/// after it. So all reads of an environment between its stop and its go tell of one front.
+/// What a read shows of a later prefix, it shows of the first that left the thread standing. That is its mode, and its
+/// frames after all pops since. So all reads of an environment between its stop and its go show one prefix.
 pub fn fronts_tell()
     ensures { FrontsTell }
 {}
+
+ghost use Rattle.ti_replay.specs.Laws.{WordIsLast, HistoryIsBounded, HistoryIsLegal, SettledStays, ReplyStays, CallsChangeWhereDone};
+ghost use Rattle.ti_replay.specs.Agreement.{TellsTheKept};
+ghost use Rattle.ti_replay.specs.Alone.{LeftAlone};
+ghost use Rattle.ti_replay.specs.Fronts.{StopsAreOwn, FrontsStay, FrontsStayByOwn, FrontsTell};
+ghost use Rattle.ti_replay.specs.LateSteps.{StepsMayBeLate};
+ghost use Rattle.ti_replay.specs.LateTickets.{StepsComeLate, StepsStayLegal, TicketIsPlace};
+ghost use Rattle.ti_replay.specs.Makers.{ModeIsOwn, OwnCostsAreOwn, CallCostsAreItsOwn, NumbersAreItsOwn};
+ghost use Rattle.ti_replay.specs.Refused.{RefusalsKeep};
+ghost use Rattle.ti_replay.specs.Standing.{StandsStill, OneStateUnderAStop};
+ghost use Rattle.ti_replay.specs.Suspensions.{SuspensionsStay, TracesAgree, SuspensionsTakeHold, SuspendedRest, SuspendedTracesAgree};
+ghost use Rattle.ti_replay.specs.Storage.{WordsReplyAlike, WordIsGiven, EnvWordsFollowTheirCalls};

@@ -1,24 +1,27 @@
-//! The plain meaning of a thread's history, and programs that compute it: which histories are legal, what they leave
-//! of a thread, and what they reply; which history a list of events leaves of each thread, and what each event comes
-//! to. The definitions are in `specs/` (each file's head says of what), short and slow; the code goes over a history
-//! once.
+//! The plain meaning of a thread's history, and programs that compute it.
 //!
-//! It stands on `ti_types` alone. Upward it promises that `replay` and `reply_at` are the definitions, that the tests
-//! of `rules` and the tables of `costs` and `answers` are the definitions' parts, which slots and cores share, and,
-//! in `laws`, what holds of all histories and all lists of events.
+//! The definitions say which histories are legal, what they leave of a thread, and what they reply. They also say which
+//! history a list of events leaves of each thread, and what the outcome of each event is. They are in `specs/`, and the head
+//! of each file says what it has. They are short and slow. The code goes over a history once.
+//!
+//! This crate uses `ti_types` alone. It promises:
+//!
+//! - `replay` and `reply_at` compute what the definitions say.
+//! - The tests of `rules` and the tables of `costs` and `answers` are parts of the definitions. Slots and cores share them.
+//! - `laws` says what is true of all histories and all lists of events.
 #![tactic(auto)]
 
+mod all_answers;
 pub mod answers;
-mod asking;
 pub mod costs;
 mod fault;
 pub mod laws;
+mod one_answer;
 mod progress;
-mod replaying;
+mod replays;
 pub mod rules;
-mod telling;
 mod view;
 
 pub use costs::Costs;
 pub use fault::ReplayFault;
-pub use replaying::{replay, replies, reply_at};
+pub use replays::{replay, replies, reply_at};

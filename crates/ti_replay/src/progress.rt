@@ -1,27 +1,18 @@
-//! How far a replay has come.
-ghost use Rattle.std.specs.Prelude.{◌≡◌, ℕ, ◌+◌, ◌<◌, ◌^◌, ◌∷◌, [], ◌++◌, true, length, IfOk, OnOk, replicate};
-ghost use Rattle.ti_replay.specs.Costs.{no_costs, charged};
-ghost use Rattle.ti_replay.specs.View.{new_thread, after, after_all};
-ghost use Rattle.ti_replay.specs.PlacedState.{placed_state, may_enter, entered, view_behind, waiting_behind, settled_by, settling_of, all_calls, are_below};
-ghost use Rattle.ti_replay.specs.Settling.{is_hand_over as hand_over_is};
-ghost use Rattle.ti_replay.specs.Replies.{reply_from, told_at};
-ghost use Rattle.std.specs.Option.{option_map, option_or};
-ghost use Rattle.ti_types.specs.Answer.{said};
-ghost use Rattle.ti_types.specs.declared.entry.Entry.TheVariants as entry;
+//! The state of a replay, after some entries of a history.
 
-use crate::asking::{take_entries_asking, take_entry_asking};
+use crate::all_answers::{tell_entries, tell_next};
 use crate::costs::{Costs, charge, env_of, own_cost};
+use crate::one_answer::{take_entries_asking, take_entry_asking};
 use crate::rules::{
     fits, is_hand_over, is_running, is_safe, is_stopper, is_waiting_call, newest_is_native,
     step_fits,
 };
-use crate::telling::{tell_entries, tell_next};
 use crate::view::{take_entries, take_entry, take_step};
 use std::alloc::{AllocError, Global};
 use std::marker::Model;
 use ti_types::{Answer, Entry, EnvNo, FrameList, Limits, Mode, Safe, Step, ThreadView, WordList};
 
-/// What a history has left so far, as all later entries need it: the view, the calls that wait, the place of the next
+/// What a history has left so far, as all later entries need it. It has the view, the calls that wait, the place of the next
 /// entry, and what the thread and each environment have spent.
 #[derive(Drop, Debug)]
 pub struct Progress {
@@ -44,7 +35,7 @@ impl Model for Progress {
 }
 
 impl Progress {
-    /// Of a history with no entry. The error is lack of memory for a word and a row of costs per environment.
+    /// The state of a history with no entry. The error is lack of memory for a word and a row of costs for each environment.
     #[tactic(auto, using(crate::proofs::CostLaws::paid_at_first))]
     pub fn new(alloc: Global, limits: &Limits) -> Result<Self, AllocError>
         ensures { IfOk result (λ p. p ≡ placed_state limits.now []) }
@@ -95,13 +86,13 @@ impl Progress {
         Ok(())
     }
 
-    /// Adds a step of the thread, where it may come next, and says whether it may; else nothing changes. The error is want
-    /// of memory.
+    /// Adds a step of the thread if it may come next, and says whether it may. If it may not, nothing changes. The error is
+    /// lack of memory.
     #[tactic(auto, using(crate::proofs::Charging::charged_free))]
     fn advance_by_step(&mut self, limits: &Limits, step: Step) -> Result<bool, AllocError>
         requires room { self.old.next + 1 < 2 ^ 64 }
-        ensures may { IfOk result (λ may. may ≡ may_enter limits.now self.old (entry.Own step)) }
-        ensures state { IfOk result (λ may. may ≡ true → self.new ≡ entered self.old (entry.Own step)) }
+        ensures may { IfOk result (λ may. may ≡ may_enter limits.now self.old (entry.Stepped step)) }
+        ensures state { IfOk result (λ may. may ≡ true → self.new ≡ entered self.old (entry.Stepped step)) }
     {
         let fits = is_running(self.view.mode)
             && step_fits(limits, &self.view.frames, step)
@@ -114,7 +105,7 @@ impl Progress {
         Ok(fits)
     }
 
-    /// Adds a hand-over, where it may come next, and says whether it may; else nothing changes. The error is want of
+    /// Adds a hand-over if it may come next, and says whether it may. If it may not, nothing changes. The error is lack of
     /// memory.
     #[tactic(auto, using(crate::proofs::Charging::charged_free))]
     fn advance_by_hand(&mut self, limits: &Limits, safe: Safe) -> Result<bool, AllocError>
@@ -141,7 +132,7 @@ impl Progress {
         Ok(fits)
     }
 
-    /// Adds a return, where it may come next, and says whether it may; else nothing changes.
+    /// Adds a return if it may come next, and says whether it may. If it may not, nothing changes.
     #[tactic(auto, using(crate::proofs::Charging::charged_free))]
     fn advance_by_back(&mut self, limits: &Limits) -> bool
         requires room { self.old.next + 1 < 2 ^ 64 }
@@ -157,7 +148,7 @@ impl Progress {
         fits
     }
 
-    /// Adds a go, where it may come next, and says whether it may; else nothing changes.
+    /// Adds a go if it may come next, and says whether it may. If it may not, nothing changes.
     #[tactic(auto, using(crate::proofs::Charging::charged_free))]
     fn advance_by_go(&mut self, limits: &Limits, env: EnvNo) -> bool
         requires room { self.old.next + 1 < 2 ^ 64 }
@@ -174,14 +165,15 @@ impl Progress {
         fits
     }
 
-    /// Adds an entry, where it may come next, and says whether it may; else nothing changes. The error is lack of memory.
+    /// Adds an entry if it may come next, and says whether it may. If it may not, nothing changes. The error is lack of
+    /// memory.
     pub fn advance(&mut self, limits: &Limits, entry: Entry) -> Result<bool, AllocError>
         requires room { self.old.next + 1 < 2 ^ 64 }
         ensures may { IfOk result (λ may. may ≡ may_enter limits.now self.old entry) }
         ensures state { IfOk result (λ may. may ≡ true → self.new ≡ entered self.old entry) }
     {
         // Most entries are steps, and most others are these.
-        if let Entry::Own(step) = entry {
+        if let Entry::Stepped(step) = entry {
             return self.advance_by_step(limits, step);
         }
         match entry {
@@ -197,8 +189,8 @@ impl Progress {
         Ok(true)
     }
 
-    /// Adds an entry that may come next, and says what is answered to the one of a place, where none was answered
-    /// before. The error is lack of memory.
+    /// Adds an entry that may come next, and gives the answer to the entry at `place`. That is `given` if there is one. The
+    /// error is lack of memory.
     #[tactic(auto, using(crate::proofs::CostLaws::due, crate::proofs::CostLaws::still_paid))]
     pub fn enter_asking(
         &mut self,
@@ -231,8 +223,8 @@ impl Progress {
         Ok(given)
     }
 
-    /// Adds an entry that may come next, and writes what is answered to each entry that takes place then at its place.
-    /// There is a place for each earlier entry, and one more is added. The error is lack of memory.
+    /// Adds an entry that may come next. Each entry that takes place then has its answer written at its place. There is a
+    /// place for each earlier entry, and one more is added. The error is lack of memory.
     #[tactic(auto, using(crate::proofs::CostLaws::due, crate::proofs::CostLaws::still_paid))]
     #[inline(always)]
     pub fn enter_telling(
@@ -282,7 +274,7 @@ impl Progress {
     }
 }
 
-/// Lets an entry take place, or wait.
+/// Lets an entry take place, or wait. The error is lack of memory.
 fn settle(
     view: &mut ThreadView,
     waiting: &mut Vec<(usize, Entry)>,
@@ -304,7 +296,8 @@ fn settle(
     Ok(())
 }
 
-/// Lets an entry take place, or wait, and says what is answered to the one of a place.
+/// Lets an entry take place, or wait, and gives the answer to the entry at `place`. That is `given` if there is one. The
+/// error is lack of memory.
 fn settle_asking(
     alloc: Global,
     view: &mut ThreadView,
@@ -333,7 +326,8 @@ fn settle_asking(
     }
 }
 
-/// Lets a hand-over take place and then what waits, and writes what is answered to each call that waited at its place.
+/// Lets a hand-over take place, and then the calls that wait. The answer to each of these is written at its place. The error
+/// is lack of memory.
 #[tactic(auto, using(crate::proofs::TellingLaws::below_all, crate::proofs::AskingLaws::hand_frames))]
 fn hand_telling(
     alloc: Global,
@@ -355,7 +349,8 @@ fn hand_telling(
     Ok(())
 }
 
-/// Lets an entry take place, or wait, and writes what is answered to each that takes place. One place is added.
+/// Lets an entry take place, or wait, and writes the answer to each that takes place. One place is added. The error is lack
+/// of memory.
 #[inline(always)]
 #[tactic(auto, using(crate::proofs::TellingLaws::told_more))]
 fn settle_telling(
@@ -386,3 +381,13 @@ fn settle_telling(
     }
     Ok(())
 }
+
+ghost use Rattle.std.specs.Prelude.{◌≡◌, ℕ, ◌+◌, ◌<◌, ◌^◌, ◌∷◌, [], ◌++◌, true, length, IfOk, OnOk, replicate};
+ghost use Rattle.ti_replay.specs.Costs.{no_costs, charged};
+ghost use Rattle.ti_replay.specs.View.{new_thread, after, after_all};
+ghost use Rattle.ti_replay.specs.PlacedState.{placed_state, may_enter, entered, view_behind, waiting_behind, settled_by, settling_of, all_calls, are_below};
+ghost use Rattle.ti_replay.specs.Settling.{is_hand_over as hand_over_is};
+ghost use Rattle.ti_replay.specs.Replies.{reply_from, told_at};
+ghost use Rattle.std.specs.Option.{option_map, option_or};
+ghost use Rattle.ti_types.specs.Answer.{said};
+ghost use Rattle.ti_types.specs.declared.entry.Entry.TheVariants as entry;

@@ -1,8 +1,4 @@
 //! The tests that a history's rules are made of, on plain values.
-ghost use Rattle.std.specs.Prelude.{◌≡◌, ◌&&◌};
-ghost use Rattle.ti_replay.specs.Answers.{is_running as running_is, is_alive as alive_is};
-ghost use Rattle.ti_replay.specs.Legal.{fits as fits_by, step_fits as step_fits_by, newest_is_native as newest_native_is, is_well_formed as well_formed_is, is_stopper as stopper_is, is_new as new_is, is_safe as safe_is};
-ghost use Rattle.ti_replay.specs.Settling.{waits as waits_is, is_waiting_call as waiting_call_is, is_hand_over as hand_over_is};
 
 use crate::costs::Costs;
 use ti_types::{Call, Entry, EnvNo, FrameList, Limits, Mode, Place, Safe, Step, ThreadView};
@@ -21,8 +17,7 @@ pub fn is_new(mode: Mode) -> bool
     matches!(mode, Mode::New)
 }
 
-/// Whether a thread of this mode is in native code, blocked, or held at a poll, so that its frames do not change
-/// (JEP 312).
+/// Whether a thread of this mode is in native code, blocked or at a poll, so that its frames do not change (JEP 312).
 pub fn is_safe(mode: Mode) -> bool
     ensures { result ≡ safe_is mode }
 {
@@ -43,8 +38,8 @@ pub fn is_hand_over(entry: Entry) -> bool
     matches!(entry, Entry::Hand(_) | Entry::End)
 }
 
-/// Whether a call waits for a running thread: those that read frames, a suspension, and a pop (this profile, after
-/// JEP 312: the operation runs once the thread is safe).
+/// Whether a call waits for a running thread: the calls that read frames do, and so do a suspension and a pop. This profile,
+/// after JEP 312: the operation runs once the thread is safe.
 pub fn waits(call: Call) -> bool
     ensures { result ≡ waits_is call }
 {
@@ -71,7 +66,7 @@ pub fn is_waiting_call(entry: Entry) -> bool
     }
 }
 
-/// Whether there is a frame and the newest is native, as a hand-over to native code needs (else 207).
+/// Whether there is a frame and the newest is native. A hand-over to native code needs that (otherwise 207).
 pub fn newest_is_native(frames: &FrameList) -> bool
     ensures { result ≡ newest_native_is frames.now }
 {
@@ -81,8 +76,8 @@ pub fn newest_is_native(frames: &FrameList) -> bool
     }
 }
 
-/// Whether frames allow a step: room below the depth to enter a method (else 201), a newest frame to leave or to go on
-/// in (else 202), and one that is not native to go on in (else 203). This profile.
+/// Whether frames allow a step (this profile). To enter a method, there must be room below the depth (otherwise 201). To
+/// leave a frame or go on in it, there must be one (otherwise 202). To go on in it, it must not be native (otherwise 203).
 pub fn step_fits(limits: &Limits, frames: &FrameList, step: Step) -> bool
     ensures { result ≡ step_fits_by limits.now frames.now step }
 {
@@ -96,14 +91,14 @@ pub fn step_fits(limits: &Limits, frames: &FrameList, step: Step) -> bool
     }
 }
 
-/// Whether no `max_count` or `depth` of a call is negative (else 103; JVM TI 11).
+/// Whether no `max_count` or `depth` of a call is negative (otherwise 103; JVM TI 11).
 pub fn is_well_formed(call: Call) -> bool
     ensures { result ≡ well_formed_is call }
 {
     call.is_well_formed()
 }
 
-/// Whether a stop stands and is this environment's (else a read or a go is refused with 212).
+/// Whether a stop is in force and is this environment's. A read and a go need that (otherwise 212).
 pub fn is_stopper(stopper: Option<EnvNo>, env: EnvNo) -> bool
     ensures { result ≡ stopper_is stopper env }
 {
@@ -113,9 +108,10 @@ pub fn is_stopper(stopper: Option<EnvNo>, env: EnvNo) -> bool
     }
 }
 
-/// Whether an entry may come where the history has left this view, whether the thread is called for, what the thread has
-/// spent, and what the entry's environment has asked and spent. It is the table of legal entries (this profile,
-/// `specs/Legal`).
+/// Whether an entry may come next: the table of legal entries (this profile, `specs/Legal`).
+///
+/// It is given the view that the history has left, whether the thread is called for (`armed`), and what the thread has spent
+/// (`own`). `costs` is what the entry's environment has asked and spent.
 #[inline(always)]
 pub fn fits(
     limits: &Limits,
@@ -131,7 +127,7 @@ pub fn fits(
     let runs = is_running(view.mode);
     match entry {
         Entry::Start => matches!(view.mode, Mode::New) && view.stopper.is_none(),
-        Entry::Own(step) => runs && step_fits(limits, &view.frames, step) && own < limits.own,
+        Entry::Stepped(step) => runs && step_fits(limits, &view.frames, step) && own < limits.own,
         Entry::Hand(Safe::Native) => {
             runs && newest_is_native(&view.frames) && limits.own.saturating_sub(own) >= 2
         }
@@ -160,3 +156,8 @@ pub fn fits(
         Entry::Go(env) => env.0 < limits.envs && is_stopper(view.stopper, env),
     }
 }
+
+ghost use Rattle.std.specs.Prelude.{◌≡◌, ◌&&◌};
+ghost use Rattle.ti_replay.specs.Answers.{is_running as running_is, is_alive as alive_is};
+ghost use Rattle.ti_replay.specs.Legal.{fits as fits_by, step_fits as step_fits_by, newest_is_native as newest_native_is, is_well_formed as well_formed_is, is_stopper as stopper_is, is_new as new_is, is_safe as safe_is};
+ghost use Rattle.ti_replay.specs.Settling.{waits as waits_is, is_waiting_call as waiting_call_is, is_hand_over as hand_over_is};

@@ -6,7 +6,7 @@ use Rattle.ti_types.specs.declared.numbers.EnvNo.{EnvNo}
 use Rattle.ti_types.specs.declared.numbers.ThreadNo.{ThreadNo}
 use Rattle.ti_types.specs.declared.entry.Entry.{Entry}
 use Rattle.ti_types.specs.declared.event.Event.{Event}
-use Rattle.ti_types.specs.declared.event.Event.TheVariants.{Start, Own, Poll, ToNative, ToBlocked, Back, End, Ask, Stop, Read, Go, AddCaps, Relinquish, GetCaps, SetEnvWord, GetEnvWord}
+use Rattle.ti_types.specs.declared.event.Event.TheVariants.{Start, Stepped, Poll, ToNative, ToBlocked, Back, End, Ask, Stop, Read, Go, AddCaps, Relinquish, GetCaps, SetEnvWord, GetEnvWord}
 use Rattle.ti_types.specs.declared.call.Call.TheVariants.{Suspend, Resume}
 use Rattle.ti_types.specs.declared.answer.Answer.{Answer}
 use Rattle.ti_types.specs.declared.answer.Answer.TheVariants.{Done, State, Count, Trace, Location, Word, Caps, Stack, Refused}
@@ -18,7 +18,7 @@ use Rattle.ti_live.specs.declared.reply.Reply.{Reply}
 use Rattle.ti_live.specs.declared.reply.Reply.TheVariants.{Plain, Codes, Stacks}
 use Rattle.ti_types.specs.declared.error.TiError.{TiError}
 use Rattle.ti_types.specs.declared.error.TiError.TheVariants.{MustPossessCapability, InvalidThread, IllegalArgument, CallsSpent, OutOfMemory}
-use Rattle.ti_types.specs.Caps.{holds_all}
+use Rattle.ti_types.specs.Caps.{has_all}
 use Rattle.ti_types.specs.Call.{needed_by}
 use Rattle.ti_types.specs.Numbers.{is_not_negative}
 use Rattle.ti_types.specs.Refusing.{or_else, unless}
@@ -152,7 +152,7 @@ no_done (Some (Refused e)) h = refl
 pub undone_stack : (x : Event) (told : Option Answer) → NoRead x → (told ≡ Some Done → ⊥) → stack_told x told ≡ None ∷ []
 undone_stack (Read e t n) told h k = absurd (h e t n refl)
 undone_stack (Start t) told h k = no_done told k
-undone_stack (Own t step) told h k = no_done told k
+undone_stack (Stepped t step) told h k = no_done told k
 undone_stack (Poll t) told h k = no_done told k
 undone_stack (ToNative t) told h k = no_done told k
 undone_stack (ToBlocked t kind) told h k = no_done told k
@@ -230,8 +230,8 @@ module _ (limits : Limits) (histories : List (List Entry)) (e : EnvNo) (pages : 
 
 pub whole_is : (limits : Limits) (e : EnvNo) (done : List Happening) (a : AccountValue) (w : Bool) (call : AgentCall) → Accounts limits e done a
     → whole_now limits a w call ≡ refused_whole limits e done w call
-whole_is limits e done a w (call.SuspendList ts) k = ap (λ c. or_else (unless (holds_all c (needed_by Suspend)) MustPossessCapability) (unless (not w) OutOfMemory)) (k.caps (record { 0 = 0 }))
-whole_is limits e done a w (call.ResumeList ts) k = ap (λ c. or_else (unless (holds_all c (needed_by Suspend)) MustPossessCapability) (unless (not w) OutOfMemory)) (k.caps (record { 0 = 0 }))
+whole_is limits e done a w (call.SuspendList ts) k = ap (λ c. or_else (unless (has_all c (needed_by Suspend)) MustPossessCapability) (unless (not w) OutOfMemory)) (k.caps (record { 0 = 0 }))
+whole_is limits e done a w (call.ResumeList ts) k = ap (λ c. or_else (unless (has_all c (needed_by Suspend)) MustPossessCapability) (unless (not w) OutOfMemory)) (k.caps (record { 0 = 0 }))
 whole_is limits e done a w (call.AllStacks n) k =
     let q = all_from (λ t. can_pay_now limits a t 1) (λ t. can_pay limits e done t 1) 0 limits.threads limits.threads (omega arith) (λ t l. ap (λ s. nat_le (s + (1 + 1)) limits.calls) (k.spent t l)) in
     ap (λ b. or_else (unless (is_not_negative n) IllegalArgument) (or_else (unless b CallsSpent) (unless (not w) OutOfMemory))) q

@@ -1,4 +1,5 @@
--- What an agent's doings come to, kept as a few numbers: the same as `Doings` and `Told` say of the list of all of them.
+-- What an agent has done, as a few numbers. They say the same as `Doings` and `Told` say about the list of all that it has
+-- done.
 use Rattle.std.specs.Prelude.{ℕ, not, nat_le, nat_lt, ◌≡◌, ◌<◌, ◌≤◌, ◌+◌, Bool, true, false, ◌&&◌, ◌^◌, List, [], ◌∷◌, ◌++◌, map, length, if◌then◌else◌, Option, Some, None, is_none, slice_get, slice_set, slice_index, replicate}
 use Rattle.std.specs.List.{fold, filter, list_all}
 use Rattle.ti_types.specs.declared.limits.Limits.{Limits}
@@ -23,7 +24,7 @@ use Rattle.ti_report.specs.Doings.{wants, times, every_thread, events_of}
 use Rattle.ti_types.specs.declared.event.Event.{Event}
 use Rattle.ti_types.specs.declared.event.Event.TheVariants.{AddCaps, Relinquish, GetCaps, SetEnvWord, GetEnvWord}
 use Rattle.ti_types.specs.Refusing.{or_else, unless}
-use Rattle.ti_replay.specs.Admission.{holds_all, Happening, dealings, refusal_of, caps_after, can_be_had, is_paid}
+use Rattle.ti_replay.specs.Admission.{has_all, Happening, dealings, refusal_of, caps_after, can_be_had, is_paid}
 use Rattle.ti_replay.specs.Legal.{calls_spent}
 use Rattle.ti_replay.specs.Outcomes.{env_word, env_word_after}
 use Rattle.ti_report.specs.Told.{thread_of, is_call, is_due, refused_or_got, got_by, got, used, history_at}
@@ -32,7 +33,8 @@ use Rattle.ti_types.specs.Limits.{most_calls}
 use Rattle.ti_report.specs.Books.{Row}
 use Rattle.ti_report.specs.Fits.{code_of, stack_told, is_live, said_info, Sort, single, coded, live_stacks, stacks, sort_of}
 
--- the environment, its capabilities and word, and by thread what it has spent and how many of its entries it has used
+-- The environment, its capabilities and its word. For each thread, how many calls it has spent there, and how many of its
+-- entries it has used
 pub record AccountValue : Type 0 where
   pub env : EnvNo
   pub caps : Caps
@@ -47,7 +49,7 @@ why_now limits a wanting event = refusal_of limits (record { caps = a.caps; spen
 abbrev pub counted : Bool → List ℕ → ℕ → List ℕ
 counted yes' numbers index = if yes' then slice_set numbers index (slice_index numbers index + 1) else numbers
 
--- the account after an event, where this is why it does not reach its thread
+-- the account after an event; `why` says why the event does not reach its thread
 abbrev pub accounted_with : AccountValue → Option TiError → Event → AccountValue
 accounted_with a why event =
     let goes = is_none why in
@@ -67,7 +69,7 @@ abbrev pub done_unless : Option TiError → Answer
 done_unless None = answer.Done
 done_unless (Some error) = answer.Refused error
 
--- what an event about the environment is answered. Others are not
+-- the answer to an event about the environment; other events have none
 abbrev pub own_answer : AccountValue → Event → Option Answer
 own_answer a (AddCaps e caps) = Some (done_unless (unless (can_be_had caps) NotAvailable))
 own_answer a (Relinquish e caps) = Some answer.Done
@@ -76,8 +78,8 @@ own_answer a (SetEnvWord e word) = Some answer.Done
 own_answer a (GetEnvWord e) = Some (answer.Word a.word)
 own_answer a event = None
 
--- what an event is told, where these are by thread the agent's rows and what it has spent in all, and this is why the event
--- does not reach its thread
+-- The answer to an event. `pages` has, by thread, the agent's rows, and what it has spent there in the whole history. `why`
+-- says why the event does not reach its thread
 abbrev pub told_with : Limits → (ℕ → List Row × ℕ) → AccountValue → Option TiError → Event → Option Answer
 told_with limits pages a why event =
     let t = (thread_of event).0 in
@@ -85,11 +87,11 @@ told_with limits pages a why event =
     then refused_or_got why (is_due limits.calls (pages t).1) (got_by event (slice_get (pages t).0 (slice_index a.used t)))
     else own_answer a event
 
--- what an event is told
+-- the answer to an event
 abbrev pub told_now : Limits → (ℕ → List Row × ℕ) → AccountValue → Bool → Event → Option Answer
 told_now limits pages a wanting event = told_with limits pages a (why_now limits a wanting event) event
 
--- the account is that of an agent that has done these
+-- the account is that of an agent that has done this
 pub record Accounts (limits : Limits) (e : EnvNo) (done : List Happening) (a : AccountValue) : Type 0 where
   pub env : a.env ≡ e
   pub caps : (t : ThreadNo) → a.caps ≡ (dealings limits e t done).caps
@@ -104,7 +106,7 @@ abbrev pub ArePages : Limits → List (List Entry) → EnvNo → (ℕ → List R
 ArePages limits histories e pages =
     (t : ThreadNo) → t.0 < limits.threads → ((pages t.0).0 ≡ got limits e (history_at histories t)) × ((pages t.0).1 ≡ calls_spent e (history_at histories t))
 
--- what these events are told, one after another
+-- the codes of these events, one after another; `stacks_now` gives their stacks
 abbrev pub codes_now : Limits → (ℕ → List Row × ℕ) → AccountValue → Bool → List Event → List (Option ℕ)
 codes_now limits pages a wanting [] = []
 codes_now limits pages a wanting (x ∷ xs) = code_of (told_now limits pages a wanting x) ∷ codes_now limits pages (accounted limits a wanting x) wanting xs
@@ -124,11 +126,11 @@ pub record IsWithin (used spent : List ℕ) : Type 0 where
   pub alike : length used ≡ length spent
   pub few : (k : ℕ) → slice_index spent k ≤ most_calls
 
--- one more used entry can be counted, where the event uses one
+-- one more used entry can be counted, if the event uses one
 abbrev pub CanCount : AccountValue → Option TiError → Event → Type 0
 CanCount a why event = (is_call event && is_none why) ≡ true → slice_index a.used (thread_of event).0 + 1 < 2 ^ 64
 
--- one more call can be paid, where the event is paid
+-- one more call can be paid for, if the event is paid for
 abbrev pub IsFew : AccountValue → Option TiError → Event → Type 0
 IsFew a why event = (is_paid event && is_none why) ≡ true → slice_index a.spent (thread_of event).0 < most_calls
 
@@ -145,8 +147,8 @@ can_pay_now limits a t reads = nat_le (slice_index a.spent t.0 + (1 + reads)) li
 
 -- why a call is refused as a whole
 abbrev pub whole_now : Limits → AccountValue → Bool → AgentCall → Option TiError
-whole_now limits a wanting (call.SuspendList threads) = or_else (unless (holds_all a.caps (needed_by Suspend)) MustPossessCapability) (unless (not wanting) OutOfMemory)
-whole_now limits a wanting (call.ResumeList threads) = or_else (unless (holds_all a.caps (needed_by Suspend)) MustPossessCapability) (unless (not wanting) OutOfMemory)
+whole_now limits a wanting (call.SuspendList threads) = or_else (unless (has_all a.caps (needed_by Suspend)) MustPossessCapability) (unless (not wanting) OutOfMemory)
+whole_now limits a wanting (call.ResumeList threads) = or_else (unless (has_all a.caps (needed_by Suspend)) MustPossessCapability) (unless (not wanting) OutOfMemory)
 whole_now limits a wanting (call.AllStacks max_count) =
     or_else (unless (is_not_negative max_count) IllegalArgument)
     (or_else (unless (list_all (λ t. can_pay_now limits a t 1) (every_thread limits)) CallsSpent)
@@ -158,7 +160,7 @@ whole_now limits a wanting (call.ListStacks threads max_count) =
     (unless (list_all (λ t. can_pay_now limits a t (times t threads)) threads) CallsSpent)))
 whole_now limits a wanting _ = None
 
--- what a call that stands for one event is told
+-- the answer to a call that makes one event
 abbrev pub told_one : Limits → (ℕ → List Row × ℕ) → AccountValue → Bool → List Event → Option Answer
 told_one limits pages a wanting (x ∷ []) = told_now limits pages a wanting x
 told_one limits pages a wanting _ = None
@@ -185,7 +187,7 @@ CallNow limits pages a call reply =
 abbrev pub called_now : Limits → AccountValue → AgentCall → Reply → AccountValue
 called_now limits a call reply = if is_none (whole_now limits a (wants reply) call) then accounted_all limits a (wants reply) (events_of limits a.env call) else a
 
--- the replies of some first calls, one after another
+-- the replies to the first of these calls, one after another
 abbrev pub CallsNow : Limits → (ℕ → List Row × ℕ) → AccountValue → List AgentCall → List Reply → Type 0
 CallsNow limits pages a calls [] = Unit {0}
 CallsNow limits pages a [] (reply ∷ replies) = ⊥
@@ -200,6 +202,6 @@ all_called limits a [] (reply ∷ replies) = a
 abbrev pub UsedUp : Limits → (ℕ → List Row × ℕ) → AccountValue → Type 0
 UsedUp limits pages a = (t : ThreadNo) → t.0 < limits.threads → slice_index a.used t.0 ≡ length (pages t.0).0
 
--- of an agent that has done nothing
+-- the account of an agent that has done nothing
 abbrev pub new_account : Limits → EnvNo → AccountValue
 new_account limits e = record { env = e; caps = no_caps; word = 0; spent = replicate limits.threads 0; used = replicate limits.threads 0 }

@@ -13,13 +13,13 @@ use Rattle.ti_types.specs.declared.event.Event.TheVariants.{Ask, Stop, Read, Go,
 use Rattle.ti_types.specs.Call.{needed_by}
 use Rattle.ti_types.specs.Numbers.{is_not_negative}
 use Rattle.ti_types.specs.Refusing.{or_else, unless}
-use Rattle.ti_replay.specs.Admission.{Happening, dealings, holds_all}
+use Rattle.ti_replay.specs.Admission.{Happening, dealings, has_all}
 use Rattle.ti_live.specs.declared.call.AgentCall.{AgentCall}
 use Rattle.ti_live.specs.declared.call.AgentCall.TheVariants as call
 use Rattle.ti_live.specs.declared.reply.Reply.{Reply}
 use Rattle.ti_live.specs.declared.reply.Reply.TheVariants.{Plain}
 
--- this many threads, by number from this one on
+-- this many threads, from this number on
 abbrev pub threads_from : ℕ → ℕ → List ThreadNo
 threads_from first zero = []
 threads_from first (suc n) = record { 0 = first } ∷ threads_from (first + 1) n
@@ -27,7 +27,7 @@ threads_from first (suc n) = record { 0 = first } ∷ threads_from (first + 1) n
 abbrev pub every_thread : Limits → List ThreadNo
 every_thread limits = threads_from 0 limits.threads
 
--- how often a thread stands in a list
+-- how often a thread is in a list
 abbrev pub times : ThreadNo → List ThreadNo → ℕ
 times thread threads = sum_by (λ t. if t.0 == thread.0 then 1 else 0) threads
 
@@ -35,12 +35,12 @@ times thread threads = sum_by (λ t. if t.0 == thread.0 then 1 else 0) threads
 abbrev pub once : Limits → List ThreadNo → List ThreadNo
 once limits threads = filter (λ t. nat_lt 0 (times t threads)) (every_thread limits)
 
--- stops threads, reads each as often as it is listed, and lets them go
+-- a stop of each thread of a list, a read for each element, and a go of each thread
 abbrev pub looks : Limits → EnvNo → List ThreadNo → ℤ → List Event
 looks limits e threads max_count =
     map (λ t. Stop e t) (once limits threads) ++ (map (λ t. Read e t max_count) threads ++ map (λ t. Go e t) (once limits threads))
 
--- the events that a call stands for, where it is not refused as a whole
+-- the events that a call makes, if it is not refused as a whole
 abbrev pub events_of : Limits → EnvNo → AgentCall → List Event
 events_of limits e (call.Ask t c) = Ask e t c ∷ []
 events_of limits e (call.AddCaps caps) = AddCaps e caps ∷ []
@@ -58,9 +58,9 @@ abbrev pub can_pay : Limits → EnvNo → List Happening → ThreadNo → ℕ �
 can_pay limits e done t reads = nat_le ((dealings limits e t done).spent + (1 + reads)) limits.calls
 
 abbrev pub may_suspend : Limits → EnvNo → List Happening → Bool
-may_suspend limits e done = holds_all (dealings limits e (record { 0 = 0 }) done).caps (needed_by Suspend)
+may_suspend limits e done = has_all (dealings limits e (record { 0 = 0 }) done).caps (needed_by Suspend)
 
--- why a call is refused as a whole, after what its agent has done. One with an answer of its own never is
+-- why a call is refused as a whole, after what its agent has done; a call with an answer of its own never is
 abbrev pub refused_whole : Limits → EnvNo → List Happening → (wanting : Bool) → AgentCall → Option TiError
 refused_whole limits e done wanting (call.SuspendList threads) = or_else (unless (may_suspend limits e done) MustPossessCapability) (unless (not wanting) OutOfMemory)
 refused_whole limits e done wanting (call.ResumeList threads) = or_else (unless (may_suspend limits e done) MustPossessCapability) (unless (not wanting) OutOfMemory)
@@ -80,8 +80,8 @@ abbrev pub wants : Reply → Bool
 wants (Plain (Refused OutOfMemory)) = true
 wants _ = false
 
--- what the agent has done by a call that got this reply, after what it did before: nothing where the call was refused
--- as a whole
+-- What the agent has done by a call that got this reply, after what it did before. It is nothing if the call was refused as
+-- a whole
 abbrev pub done_by : Limits → EnvNo → List Happening → AgentCall → Reply → List Happening
 done_by limits e done call reply =
     if is_none (refused_whole limits e done (wants reply) call)

@@ -26,20 +26,20 @@ use Rattle.ti_report.specs.Doings.{refused_whole, wants, done_by, all_done}
 use Rattle.ti_report.specs.Told.{told, used, got, history_at}
 use Rattle.ti_report.specs.Walks.{WalkFits}
 
--- ---- the replies that a list call is made of
+-- ---- the parts of the reply to a list call
 
--- 0 where it is done, and the number of a refusal
+-- 0 if it is done, or the number of the error
 abbrev pub code_of : Option Answer → Option ℕ
 code_of (Some Done) = Some 0
 code_of (Some (Refused error)) = Some (number_of error)
 code_of _ = None
 
--- the stack that a read was told
+-- the stack that a read gave
 abbrev pub stack_of : ThreadNo → Option Answer → Option StackInfo
 stack_of t (Some (Stack state trace)) = Some (record { thread = t; state = state; frames = trace })
 stack_of t _ = None
 
--- no stack, where an event is done. No list of stacks fits one that is not
+-- no stack if an event is done; if it is not done, a stack that no list has
 abbrev pub no_stack_of : Option Answer → List (Option StackInfo)
 no_stack_of (Some Done) = []
 no_stack_of _ = None ∷ []
@@ -48,17 +48,17 @@ abbrev pub stack_told : Event → Option Answer → List (Option StackInfo)
 stack_told (Read e t max_count) answer = stack_of t answer ∷ []
 stack_told _ answer = no_stack_of answer
 
--- whether the stack is of a thread that is alive, by the state's bit for it
+-- whether the stack is of a thread that is alive, by the bit of the state
 abbrev pub is_live : Option StackInfo → Bool
 is_live (Some info) = bit_and info.state 1 == 1
 is_live None = true
 
--- without the room of its buffer
+-- the stack without the room of its buffer
 abbrev pub said_info : StackInfo → StackInfo
 said_info info = record { thread = info.thread; state = info.state; frames = bare_trace info.frames.frames }
 
--- what a call is replied with: an answer of its own, a code for each of its events, the stacks of the threads that are
--- alive, or those of all that it reads
+-- The kind of reply to a call: an answer of its own, a code for each of its events, or stacks. The stacks are those of the
+-- threads that are alive, or of all that it reads
 pub data Sort : Type 0 where
   single : Sort
   coded : Sort
@@ -73,22 +73,22 @@ sort_of (ListStacks threads max_count) = stacks
 sort_of _ = single
 
 module _ (limits : Limits) (histories : List (List Entry)) (e : EnvNo) where
-  -- the code of each of these, after what was done
+  -- the code of each of these, after what was done before
   abbrev pub codes_from : List Happening → List Happening → List (Option ℕ)
   codes_from done [] = []
   codes_from done (h ∷ hs) = code_of (told limits histories e done h) ∷ codes_from (done ++ h ∷ []) hs
 
-  -- the stack of each read among these, whose stops and gos are done
+  -- the stack of each read among these, if their stops and gos are done
   abbrev pub stacks_from : List Happening → List Happening → List (Option StackInfo)
   stacks_from done [] = []
   stacks_from done (h ∷ hs) = stack_told h.event (told limits histories e done h) ++ stacks_from (done ++ h ∷ []) hs
 
-  -- what a call that stands for one event is told
+  -- the answer to a call that makes one event
   abbrev pub told_of : List Happening → List Happening → Option Answer
   told_of done (h ∷ []) = told limits histories e done h
   told_of done _ = None
 
-  -- the reply to a call of this sort that is not refused as a whole, where it has done these
+  -- the reply to a call of this sort that is not refused as a whole, and that has done these
   abbrev pub IsReply : List Happening → Sort → List Happening → Reply → Type 0
   IsReply done single hs (Plain answer) = told_of done hs ≡ Some (said answer)
   IsReply done coded hs (Codes codes) = map Some codes ≡ codes_from done hs
@@ -109,7 +109,7 @@ module _ (limits : Limits) (histories : List (List Entry)) (e : EnvNo) where
   CallFits done call reply =
       RefusedOr (refused_whole limits e done (wants reply) call) reply (IsReply done (sort_of call) (done_by limits e done call reply) reply)
 
-  -- the replies of some first calls, one after another
+  -- the replies to the first of these calls, one after another
   abbrev pub CallsFit : List Happening → List AgentCall → List Reply → Type 0
   CallsFit done calls [] = Unit {0}
   CallsFit done [] (reply ∷ replies) = ⊥
@@ -121,7 +121,7 @@ module _ (limits : Limits) (histories : List (List Entry)) (e : EnvNo) where
     pub replies_fit : CallsFit [] calls replies
     pub used_up : (t : ThreadNo) → t.0 < limits.threads → used limits e t (all_done limits e [] calls replies) ≡ length (got limits e (history_at histories t))
 
--- as many lists as the limits say
+-- there are as many lists as the limits say
 pub record HasShape (script : Script) (report : LiveReport) : Type 0 where
   pub calls : length script.calls ≡ script.limits.envs
   pub walks : length script.walks ≡ script.limits.threads

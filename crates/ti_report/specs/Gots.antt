@@ -4,14 +4,14 @@ use Rattle.ti_types.specs.declared.place.Frame.{Frame}
 use Rattle.ti_types.specs.declared.answer.Answer.{Answer}
 use Rattle.ti_types.specs.declared.answer.Answer.TheVariants as answer
 use Rattle.ti_types.specs.Frames.{bare_trace}
-use Rattle.ti_report.specs.declared.got.Span.{Span}
-use Rattle.ti_report.specs.declared.got.Got.{Got}
-use Rattle.ti_report.specs.declared.got.Got.TheVariants.{Nothing, Done, State, Count, Trace, Location, Word, Caps, Stack, Refused}
+use Rattle.ti_report.specs.declared.packed_reply.Span.{Span}
+use Rattle.ti_report.specs.declared.packed_reply.Got.{Got}
+use Rattle.ti_report.specs.declared.packed_reply.Got.TheVariants.{Nothing, Done, State, Count, Trace, Location, Word, Caps, Stack, Refused}
 
 abbrev pub spanned : List Frame → Span → List Frame
 spanned frames span = take span.count (drop span.first frames)
 
--- the answer without the room of its buffer, where these are all frames of the book
+-- the answer without the room of its buffer; these are all frames of the book
 abbrev pub told_in : List Frame → Got → Option Answer
 told_in frames Nothing = None
 told_in frames Done = Some answer.Done

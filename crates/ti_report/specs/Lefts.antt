@@ -1,13 +1,13 @@
--- What an agent left, without its number.
+-- An entry that an agent left, without the agent's number.
 use Rattle.std.specs.Prelude.{List, get_or}
 use Rattle.ti_types.specs.declared.numbers.EnvNo.{EnvNo}
 use Rattle.ti_types.specs.declared.call.Call.TheVariants as call
 use Rattle.ti_types.specs.declared.entry.Entry.{Entry}
 use Rattle.ti_types.specs.declared.entry.Entry.TheVariants as entry
-use Rattle.ti_report.specs.declared.left.Left.{Left}
-use Rattle.ti_report.specs.declared.left.Left.TheVariants.{State, FrameCount, Suspend, Resume, GetWord, Pop, Stop, Read, Go, At}
+use Rattle.ti_report.specs.declared.packed_entry.Left.{Left}
+use Rattle.ti_report.specs.declared.packed_entry.Left.TheVariants.{State, FrameCount, Suspend, Resume, GetWord, Pop, Stop, Read, Go, At}
 
--- the entry, of this agent, where these are all entries of the history
+-- the entry, for this agent; these are all entries of the history
 abbrev pub left_in : EnvNo → List Entry → Left → Entry
 left_in e entries (State number) = entry.Asked e number call.State
 left_in e entries (FrameCount number) = entry.Asked e number call.FrameCount

@@ -1,4 +1,4 @@
--- What the histories tell an agent.
+-- The answers that the histories give an agent.
 use Rattle.std.specs.Prelude.{ℕ, ◌+◌, Bool, true, false, ◌&&◌, if◌then◌else◌, ◌==◌, List, [], ◌∷◌, ◌++◌, map, Option, Some, None, is_none, slice_get, slice_index_or, int_le, ℤ}
 use Rattle.std.specs.List.{filter}
 use Rattle.ti_types.specs.declared.limits.Limits.{Limits}
@@ -44,17 +44,17 @@ same_call _ _ = false
 abbrev pub is_left_by : EnvNo → Entry → Bool
 is_left_by e entry = is_env e (env_of entry)
 
--- what an entry of an agent got: a call and a read their reply. A stop and a go are done
+-- what an entry of an agent got: a call and a read their reply; a stop and a go are done
 abbrev pub granted : Entry → (reply : Option Answer) → Option Answer
 granted (entry.Stop e) reply = Some Done
 granted (entry.Go e) reply = Some Done
 granted _ reply = reply
 
--- the entries that the agent left at a thread with this history, and what each got, in their order
+-- the entries that the agent left at a thread with this history, in their order, and what each got
 abbrev pub got : Limits → EnvNo → List Entry → List (Entry × Option Answer)
 got limits e history = map (λ p. (p.1, granted p.1 (reply limits history p.0))) (filter (λ p. is_left_by e p.1) (placed history))
 
--- whether an entry is what an event leaves
+-- whether an event leaves this entry
 abbrev pub asks_same : Event → Entry → Bool
 asks_same (Ask e t call) (entry.Asked other number call') = same_call call call'
 asks_same (Stop e t) (entry.Stop other) = true
@@ -62,9 +62,9 @@ asks_same (Read e t max_count) (entry.Read other max_count') = same_int max_coun
 asks_same (Go e t) (entry.Go other) = true
 asks_same _ _ = false
 
--- ---- what it does, and is told
+-- ---- what an agent does, and the answers
 
--- the thread of an agent's call at one, and 0 for other events
+-- the thread of a call at a thread, and 0 for other events
 abbrev pub thread_of : Event → ThreadNo
 thread_of (Ask e t call) = t
 thread_of (Stop e t) = t
@@ -72,7 +72,7 @@ thread_of (Read e t max_count) = t
 thread_of (Go e t) = t
 thread_of _ = record { 0 = 0 }
 
--- whether an event is an agent's call at a thread, a stop and a go among them
+-- whether an event is an agent's call at a thread; a stop and a go are such calls
 abbrev pub is_call : Event → Bool
 is_call (Ask e t call) = true
 is_call (Stop e t) = true
@@ -105,17 +105,17 @@ uses_from limits e t done (h ∷ hs) = uses limits e t done h + uses_from limits
 abbrev pub used : Limits → EnvNo → ThreadNo → List Happening → ℕ
 used limits e t done = uses_from limits e t [] done
 
--- what an entry got, where it is what the event leaves
+-- what an entry got, if it is the entry that the event leaves
 abbrev pub got_by : Event → Option (Entry × Option Answer) → Option Answer
 got_by event (Some p) = if asks_same event p.0 then p.1 else None
 got_by event None = None
 
--- whether a refusal is due: 209 only where the agent has spent all its calls at the thread
+-- whether a refusal is due; 209 is due only if the agent has spent all its calls at the thread
 abbrev pub is_due : (calls spent : ℕ) → TiError → Bool
 is_due calls spent CallsSpent = spent == calls
 is_due calls spent _ = true
 
--- the refusal, if there is one that is due, else what an entry got
+-- the refusal, if there is one and it is due; otherwise what an entry got
 abbrev pub refused_or_got : Option TiError → (TiError → Bool) → Option Answer → Option Answer
 refused_or_got (Some error) due answer = if due error then Some (Refused error) else None
 refused_or_got None due answer = answer
@@ -127,10 +127,10 @@ given_by _ = None
 abbrev pub history_at : List (List Entry) → ThreadNo → List Entry
 history_at histories t = slice_index_or histories t.0 []
 
--- What an event is told, after what its agent has done. A call at a thread is refused before it, with 209 only where the
--- agent's calls, stops and reads in the thread's history are as many as it may spend; or it uses the next entry that the
--- agent left there, which is the call's own, and is told what that entry got. A call about the environment is told what it
--- comes to among the agent's own doings
+-- The answer to an event, after what its agent has done. A call at a thread may be refused before it reaches the thread.
+-- With 209 it is refused only if the thread's history has as many calls, stops and reads of the agent as it may spend.
+-- Otherwise the call uses the next entry that the agent left there. That has to be the call's own entry, and the answer is
+-- what it got. The answer to a call about the environment depends on the agent's own doings alone
 abbrev pub told : Limits → List (List Entry) → EnvNo → List Happening → Happening → Option Answer
 told limits histories e done h =
     let t = thread_of h.event in

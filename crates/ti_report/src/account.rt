@@ -1,27 +1,14 @@
-//! What an agent has done so far, kept as a few numbers, and what it is told next.
-ghost use Rattle.std.specs.Prelude.{◌≡◌, ◌↔◌, ◌<◌, ◌+◌, ◌^◌, nat_lt, true, false, Some, None, length, IfOk, IfSome, slice_get, slice_index, option_map, option_and_then};
-ghost use Rattle.ti_types.specs.declared.numbers.EnvNo.{EnvNo};
-ghost use Rattle.ti_types.specs.declared.numbers.ThreadNo.{ThreadNo};
-ghost use Rattle.ti_types.specs.declared.limits.Limits.{Limits};
-ghost use Rattle.ti_types.specs.Answer.{said};
-ghost use Rattle.ti_types.specs.Frames.{bare_trace};
-ghost use Rattle.ti_types.specs.Admitting.{admitting_refusal, asking_refusal, reaching_refusal};
-ghost use Rattle.ti_report.specs.Told.{thread_of, is_call, is_due, got_by};
-ghost use Rattle.ti_report.specs.Gots.{told_in};
-ghost use Rattle.ti_types.specs.Limits.{most_calls};
-ghost use Rattle.ti_report.specs.Books.{rows_in, spent_in, page_in};
-ghost use Rattle.ti_report.specs.Accounts.{AccountValue, CanCount, IsFew, why_now, accounted_with, own_answer, told_with, counted, can_pay_now, new_account};
-ghost use Rattle.ti_report.specs.Fits.{code_of, stack_of};
+//! What an agent has done so far, as a few numbers, and the answer to its next call.
 
 use crate::book::Book;
-use crate::got::{Got, part, same_got};
+use crate::packed_reply::{Got, part, same_got};
 use crate::same::{asks_same, same_answer};
 use std::alloc::{AllocError, Global};
 use std::marker::Model;
 use ti_types::{Answer, Call, Caps, Entry, EnvNo, Event, Frame, Limits, ThreadNo, TiError, needs};
 
-/// What an agent has done so far: its capabilities, its word, and by thread how many of its calls it has spent and how many
-/// of its entries it has used.
+/// What an agent has done so far. It has the agent's capabilities and its own word. For each thread it has how many calls
+/// the agent has spent there, and how many of its entries it has used.
 #[derive(Drop)]
 pub struct Account {
     env: EnvNo,
@@ -41,7 +28,7 @@ impl Model for Account {
     ghost invariant = { λ a. IsWithin a.used.items a.spent.items };
 }
 
-/// The thread of an agent's call at one, and 0 for other events.
+/// The thread of a call at a thread, and 0 for other events.
 fn thread_of(event: Event) -> ThreadNo
     ensures { result ≡ thread_of event }
 {
@@ -52,7 +39,7 @@ fn thread_of(event: Event) -> ThreadNo
 }
 
 impl Account {
-    /// Of an agent that has done nothing.
+    /// The account of an agent that has done nothing. The error is lack of memory.
     pub fn new(alloc: Global, limits: Limits, env: EnvNo) -> Result<Account, AllocError>
         ensures { IfOk result (λ a. a ≡ new_account limits env) }
     {
@@ -74,14 +61,14 @@ impl Account {
         self.env
     }
 
-    /// The capabilities that are held.
+    /// The capabilities that the environment has.
     pub fn caps(&self) -> Caps
         ensures { result ≡ self.now.caps }
     {
         self.caps
     }
 
-    /// Whether a stop and this many reads can be paid for at a thread.
+    /// Whether the agent can pay for a stop and this many reads at a thread.
     pub fn can_pay(&self, limits: Limits, thread: ThreadNo, reads: usize) -> bool
         ensures { result ≡ can_pay_now limits self.now thread reads }
     {
@@ -114,8 +101,8 @@ impl Account {
         }
     }
 
-    /// Why a call, well formed or not, does not reach a thread: 10 where there is none, 103 where it is not well formed,
-    /// 209 where no call is left there, in this order.
+    /// Why a call does not reach a thread, with the first that fits: 10 if there is no such thread, 103 if the call is not
+    /// well formed, and 209 if no call is left there.
     #[inline(always)]
     fn why_reaching(&self, limits: Limits, thread: ThreadNo, well_formed: bool) -> Option<TiError>
         ensures { result ≡ reaching_refusal (nat_lt thread.0 limits.threads) well_formed (slice_index self.now.spent thread.0) limits.calls }
@@ -131,7 +118,7 @@ impl Account {
         }
     }
 
-    /// Why a call does not reach a thread: 99, and then as `why_reaching`.
+    /// Why a call does not reach a thread: first 99 if a capability is missing, and then as `why_reaching`.
     #[inline(always)]
     fn why_asking(&self, limits: Limits, thread: ThreadNo, call: Call) -> Option<TiError>
         ensures { result ≡ asking_refusal self.now.caps (nat_lt thread.0 limits.threads) (slice_index self.now.spent thread.0) limits.calls call }
@@ -142,7 +129,7 @@ impl Account {
         self.why_reaching(limits, thread, call.is_well_formed())
     }
 
-    /// Why an event does not reach its thread, where memory ran out for its answer or not (this profile's order).
+    /// Why an event does not reach its thread, in this profile's order. `wanting` says that memory ran out for its answer.
     #[inline(always)]
     pub fn why(&self, limits: Limits, wanting: bool, event: Event) -> Option<TiError>
         ensures why { result ≡ why_now limits self.now wanting event }
@@ -190,14 +177,14 @@ impl Account {
         }
     }
 
-    /// Whether all entries that the agent left at a thread are used.
+    /// Whether the agent has used all entries that it left at a thread.
     pub fn is_used_up(&self, books: &[Book<'_>], thread: ThreadNo) -> bool
         ensures { (result ≡ true) ↔ (slice_index self.now.used thread.0 ≡ length (rows_in (slice_get books.now thread.0) self.now.env)) }
     {
         self.used_at(thread) == self.rows_there(books, thread)
     }
 
-    /// The next entry that the agent left at a thread, what it got, and the frames of its book.
+    /// The next unused entry that the agent left at a thread, what it got, and the frames of its book.
     #[tactic(auto, using(crate::proofs::BookLaws::row_get))]
     #[inline(always)]
     fn next<'a>(&self, books: &'a [Book<'_>], thread: ThreadNo) -> Option<(Entry, Got, &'a [Frame])>
@@ -216,7 +203,8 @@ impl Account {
         Some((entry, row.got, &book.frames))
     }
 
-    /// What the next entry at an event's thread got, with the frames of its book, where it is what the event leaves.
+    /// What the next unused entry at an event's thread got, with the frames of its book. `None` if it is not the entry that
+    /// the event leaves.
     #[inline(always)]
     fn found<'a>(&self, books: &'a [Book<'_>], event: Event) -> Option<(Got, &'a [Frame])>
         ensures found { option_and_then (λ g. told_in g.1.now g.0) result ≡ got_by event (slice_get (rows_in (slice_get books.now (thread_of event).0) self.now.env) (slice_index self.now.used (thread_of event).0)) }
@@ -230,7 +218,8 @@ impl Account {
         }
     }
 
-    /// Whether a refusal is due: 209 only where the agent has spent all its calls at the thread.
+    /// Whether a refusal is due. 209 is due only if the agent has spent all its calls at the thread, by the thread's
+    /// history.
     fn is_due(&self, limits: Limits, books: &[Book<'_>], event: Event, error: TiError) -> bool
         ensures { result ≡ is_due limits.calls (spent_in (slice_get books.now (thread_of event).0) self.now.env) error }
     {
@@ -240,7 +229,7 @@ impl Account {
         self.spent_in_all(books, thread_of(event)) as u64 == limits.calls
     }
 
-    /// What an event about the environment is answered, and None for others.
+    /// The answer to an event about the environment. `None` for other events.
     fn own_answer(&self, event: Event) -> Option<Answer>
         ensures { option_map said result ≡ own_answer self.now event }
     {
@@ -259,7 +248,7 @@ impl Account {
         }
     }
 
-    /// Whether an event is told this answer, where this is why it does not reach its thread.
+    /// Whether this is the answer to an event. `why` says why the event does not reach its thread.
     pub fn says(
         &self,
         limits: Limits,
@@ -289,8 +278,8 @@ impl Account {
         }
     }
 
-    /// The code of a call at a thread, where this is why it does not reach it: 0 where it is done, and the number of its
-    /// refusal. None where it is told neither.
+    /// The code of a call at a thread: 0 if it is done, or the number of its error. `None` if its answer is neither. `why`
+    /// says why the call does not reach its thread.
     #[inline(always)]
     pub fn code(
         &self,
@@ -319,8 +308,8 @@ impl Account {
         }
     }
 
-    /// The state and the frames that a call at a thread is told, where it is told a stack and this is why it does not reach
-    /// its thread.
+    /// The state and the frames of a call whose answer is a stack. `None` if it is not. `why` says why the call does not
+    /// reach its thread.
     pub fn stack<'a>(
         &self,
         limits: Limits,
@@ -368,7 +357,7 @@ impl Account {
         }
     }
 
-    /// Goes on by an event, where this is why it does not reach its thread.
+    /// Adds an event to the account. `why` says why the event does not reach its thread.
     #[inline(always)]
     pub fn account(&mut self, why: Option<TiError>, event: Event)
         requires few { IsFew self.old why event }
@@ -417,8 +406,8 @@ fn is_call(event: Event) -> bool
     )
 }
 
-/// Why a call of an environment is not admitted: 116, then its own refusal, and 110 where memory runs out for its
-/// answer.
+/// Why a call of an environment is not admitted: 116 if there is no such environment, then its own refusal. Then it is 110,
+/// if memory ran out for its answer.
 fn why_admitting(
     limits: Limits,
     env: EnvNo,
@@ -435,3 +424,17 @@ fn why_admitting(
         wanting.then_some(TiError::OutOfMemory)
     }
 }
+
+ghost use Rattle.std.specs.Prelude.{◌≡◌, ◌↔◌, ◌<◌, ◌+◌, ◌^◌, nat_lt, true, false, Some, None, length, IfOk, IfSome, slice_get, slice_index, option_map, option_and_then};
+ghost use Rattle.ti_types.specs.declared.numbers.EnvNo.{EnvNo};
+ghost use Rattle.ti_types.specs.declared.numbers.ThreadNo.{ThreadNo};
+ghost use Rattle.ti_types.specs.declared.limits.Limits.{Limits};
+ghost use Rattle.ti_types.specs.Answer.{said};
+ghost use Rattle.ti_types.specs.Frames.{bare_trace};
+ghost use Rattle.ti_types.specs.Admitting.{admitting_refusal, asking_refusal, reaching_refusal};
+ghost use Rattle.ti_report.specs.Told.{thread_of, is_call, is_due, got_by};
+ghost use Rattle.ti_report.specs.Gots.{told_in};
+ghost use Rattle.ti_types.specs.Limits.{most_calls};
+ghost use Rattle.ti_report.specs.Books.{rows_in, spent_in, page_in};
+ghost use Rattle.ti_report.specs.Accounts.{AccountValue, CanCount, IsFew, why_now, accounted_with, own_answer, told_with, counted, can_pay_now, new_account};
+ghost use Rattle.ti_report.specs.Fits.{code_of, stack_of};

@@ -1,18 +1,13 @@
-//! One agent's calls with their replies.
-ghost use Rattle.std.specs.Prelude.{◌≡◌, ◌↔◌, ◌<◌, true, List, slice_get, IfOk};
-ghost use Rattle.ti_types.specs.declared.entry.Entry.{Entry};
-ghost use Rattle.ti_report.specs.Books.{page_in, AreBooks};
-ghost use Rattle.ti_report.specs.Fits.{AgentFits};
-ghost use Rattle.ti_report.specs.Accounts.{CallsNow, all_called, UsedUp};
+//! Whether one agent's calls fit their replies.
 
 use crate::account::Account;
 use crate::book::Book;
-use crate::calling::call_fits;
+use crate::one_call::call_fits;
 use std::alloc::{AllocError, Global};
 use ti_live::{AgentCall, Reply};
 use ti_types::{EnvNo, Limits, ThreadNo};
 
-/// Whether some first calls are replied so, one after another.
+/// Whether these are the replies to the first of these calls, one after another.
 fn calls_fit(
     alloc: Global,
     account: &mut Account,
@@ -35,7 +30,7 @@ fn calls_fit(
     Ok(true)
 }
 
-/// Whether all entries that the agent left are used.
+/// Whether the agent has used all entries that it left.
 fn used_up(account: &Account, limits: Limits, books: &[Book<'_>]) -> bool
     ensures { (result ≡ true) ↔ UsedUp limits (λ t. page_in (slice_get books.now t) account.now.env) account.now }
 {
@@ -47,7 +42,8 @@ fn used_up(account: &Account, limits: Limits, books: &[Book<'_>]) -> bool
     true
 }
 
-/// Whether an agent's calls with their replies use up the entries that it left. The error is lack of memory.
+/// Whether an agent's calls, with their replies, use up the entries that it left. If `spent` is false, each call needs a
+/// reply. The error is lack of memory.
 pub fn agent_fits(
     alloc: Global,
     limits: Limits,
@@ -70,3 +66,9 @@ pub fn agent_fits(
     let used = used_up(&account, limits, books);
     Ok(used)
 }
+
+ghost use Rattle.std.specs.Prelude.{◌≡◌, ◌↔◌, ◌<◌, true, List, slice_get, IfOk};
+ghost use Rattle.ti_types.specs.declared.entry.Entry.{Entry};
+ghost use Rattle.ti_report.specs.Books.{page_in, AreBooks};
+ghost use Rattle.ti_report.specs.Fits.{AgentFits};
+ghost use Rattle.ti_report.specs.Accounts.{CallsNow, all_called, UsedUp};

@@ -1,20 +1,7 @@
-//! What a history tells its agents, read off in one pass over its replies.
-ghost use Rattle.std.specs.Prelude.{◌≡◌, get_or, List, Option, ◌++◌, ◌∷◌, ◌^◌, ◌≤◌, ◌<◌, ◌+◌, ℕ, [], true, false, length, IfOk, OnOk, IfSome, IfNone, slice_index, slice_index_or, if◌then◌else◌};
-ghost use Rattle.std.specs.Option.{option_map};
-ghost use Rattle.ti_types.specs.Answer.{said};
-ghost use Rattle.ti_types.specs.declared.place.Frame.{Frame};
-ghost use Rattle.ti_types.specs.declared.entry.Entry.{Entry};
-ghost use Rattle.ti_types.specs.declared.entry.Entry.TheVariants.{Start};
-ghost use Rattle.ti_types.specs.declared.answer.Answer.{Answer};
-ghost use Rattle.ti_report.specs.Gots.{told_in};
-ghost use Rattle.ti_types.specs.declared.numbers.EnvNo.{EnvNo};
-ghost use Rattle.ti_replay.specs.Legal.{is_legal, call_cost, calls_spent};
-ghost use Rattle.ti_replay.specs.Replies.{reply, told_at};
-ghost use Rattle.ti_report.specs.Told.{got, granted, is_left_by};
-ghost use Rattle.ti_report.specs.Books.{rows_at, with_row, is_number, IsBook};
+//! Reads what a history gives its agents, in one pass over its replies.
 
-use crate::got::{Got, got_of};
-use crate::left::Left;
+use crate::packed_entry::Left;
+use crate::packed_reply::{Got, got_of};
 use std::alloc::{AllocError, Global};
 use ti_live::Listed;
 use ti_replay::{ReplayFault, replies};
@@ -23,18 +10,23 @@ use ti_types::{Answer, Entry, EnvNo, Frame, Limits};
 /// An entry that an agent left, and what it got.
 #[derive(Clone, Copy)]
 pub struct Note {
+    /// The entry.
     pub left: Left,
+    /// Its answer, if it has one.
     pub got: Got,
 }
 
-/// What a history tells its agents: for each agent the entries that it left with what they got, and how many of its calls
-/// it has spent. The frames of all answers stand in one list, those of a thread that stands still once.
+/// What a history gives its agents. For each agent, it has the entries that it left and what each got, and how many calls it
+/// has spent. The frames of all answers are in one list. Those of a thread that does not move are there once.
 #[derive(Drop)]
 pub struct Book<'a> {
-    /// The history.
+    /// The entries of the history.
     pub entries: &'a [Entry],
+    /// For each agent, the entries that it left.
     pub rows: Vec<Listed<Note>>,
+    /// The frames of all answers.
     pub frames: Vec<Frame>,
+    /// For each agent, how many calls it has spent.
     pub spent: Vec<usize>,
 }
 
@@ -78,7 +70,7 @@ fn maker(entry: Entry) -> Option<u32>
     }
 }
 
-/// What an entry of an agent got, where this is its reply.
+/// What an entry of an agent got, if this is its reply.
 #[inline(always)]
 fn grant(frames: &mut Vec<Frame>, entry: Entry, reply: &Option<Answer>) -> Result<Got, AllocError>
     ensures grows { OnOk result ((more : List Frame) × (frames.new.items ≡ frames.old.items ++ more)) }
@@ -100,7 +92,7 @@ fn payer(entry: Entry) -> Option<u32>
     }
 }
 
-/// Adds a row to an agent's rows, where there is such an agent.
+/// Adds a row to an agent's rows, if there is such an agent.
 #[inline(always)]
 fn add_row(rows: &mut Vec<Listed<Note>>, index: usize, row: Note) -> Result<(), AllocError>
     ensures length { length rows.new.items ≡ length rows.old.items }
@@ -112,7 +104,7 @@ fn add_row(rows: &mut Vec<Listed<Note>>, index: usize, row: Note) -> Result<(), 
     Ok(())
 }
 
-/// As many agents as there are counts, without rows, but with room for so many each.
+/// Empty rows for as many agents as there are counts. Each has room for its count.
 #[tactic(auto, using(crate::proofs::BookLaws::none_more))]
 fn no_rows(alloc: Global, counts: &[usize]) -> Result<Vec<Listed<Note>>, AllocError>
     ensures length { IfOk result (λ r. length r.items ≡ length counts.now) }
@@ -179,8 +171,8 @@ struct Table {
     frames: Vec<Frame>,
 }
 
-/// What each agent left in this history, and got, where these are the replies of all places. The error is lack of memory,
-/// and a history of more than 2^32 - 1 entries.
+/// What each agent left in this history and got, if these are the replies at all places. The error is lack of memory, or a
+/// history of more than 2^32 - 1 entries.
 #[tactic(auto, using(crate::proofs::BookLaws::rows_of_take))]
 fn noted(
     alloc: Global,
@@ -204,7 +196,7 @@ fn noted(
     Ok(Table { rows, frames })
 }
 
-/// Counts an entry for the agent that pays for it, where none has paid for more than this many.
+/// Counts an entry for the agent that pays for it. No agent has paid for more than `most` before.
 fn pay(spent: &mut Vec<usize>, entry: Entry, most: usize)
     requires few { (k : ℕ) → slice_index spent.old.items k ≤ most }
     requires room { most + 1 < 2 ^ 64 }
@@ -232,7 +224,7 @@ fn spent(alloc: Global, limits: Limits, entries: &[Entry]) -> Result<Vec<usize>,
     Ok(spent)
 }
 
-/// What a history tells its agents, and None where the history is not legal. The error is lack of memory.
+/// What a history gives its agents, or `None` if the history is not legal. The error is lack of memory.
 pub fn read_book<'a>(
     alloc: Global,
     limits: Limits,
@@ -257,3 +249,17 @@ pub fn read_book<'a>(
         Err(ReplayFault::Memory) => Err(AllocError),
     }
 }
+
+ghost use Rattle.std.specs.Prelude.{◌≡◌, get_or, List, Option, ◌++◌, ◌∷◌, ◌^◌, ◌≤◌, ◌<◌, ◌+◌, ℕ, [], true, false, length, IfOk, OnOk, IfSome, IfNone, slice_index, slice_index_or, if◌then◌else◌};
+ghost use Rattle.std.specs.Option.{option_map};
+ghost use Rattle.ti_types.specs.Answer.{said};
+ghost use Rattle.ti_types.specs.declared.place.Frame.{Frame};
+ghost use Rattle.ti_types.specs.declared.entry.Entry.{Entry};
+ghost use Rattle.ti_types.specs.declared.entry.Entry.TheVariants.{Start};
+ghost use Rattle.ti_types.specs.declared.answer.Answer.{Answer};
+ghost use Rattle.ti_report.specs.Gots.{told_in};
+ghost use Rattle.ti_types.specs.declared.numbers.EnvNo.{EnvNo};
+ghost use Rattle.ti_replay.specs.Legal.{is_legal, call_cost, calls_spent};
+ghost use Rattle.ti_replay.specs.Replies.{reply, told_at};
+ghost use Rattle.ti_report.specs.Told.{got, granted, is_left_by};
+ghost use Rattle.ti_report.specs.Books.{rows_at, with_row, is_number, IsBook};

@@ -1,9 +1,4 @@
-//! The events that a call stands for.
-ghost use Rattle.std.specs.Prelude.{◌≡◌, ◌++◌, ◌∷◌, [], OnOk, ◌<◌, ◌≤◌, ◌+◌, ◌^◌, ◌==◌, if◌then◌else◌, ℕ, map, length, nat_lt, IfOk, slice_index};
-ghost use Rattle.std.specs.List.{filter};
-ghost use Rattle.ti_types.specs.declared.numbers.ThreadNo.{ThreadNo};
-ghost use Rattle.ti_types.specs.declared.event.Event.TheVariants.{Ask, Stop, Read, Go};
-ghost use Rattle.ti_report.specs.Doings.{every_thread, times, once, looks, events_of};
+//! The events that a call makes.
 
 use std::alloc::{AllocError, Global};
 use ti_live::AgentCall;
@@ -25,7 +20,7 @@ fn asks(
     Ok(events)
 }
 
-/// Every thread that there is.
+/// All threads, in the order of their numbers. The error is lack of memory.
 #[tactic(auto, using(crate::proofs::EventLaws::threads_next))]
 pub fn every_thread(alloc: Global, limits: Limits) -> Result<Vec<ThreadNo>, AllocError>
     ensures { IfOk result (λ v. v.items ≡ every_thread limits) }
@@ -37,7 +32,7 @@ pub fn every_thread(alloc: Global, limits: Limits) -> Result<Vec<ThreadNo>, Allo
     Ok(threads)
 }
 
-/// One more at a thread, where there is such a thread, and at no thread more than this many.
+/// Counts one more at a thread, if there is such a thread. No thread has more than `most` before.
 fn count_one(counts: &mut Vec<usize>, thread: ThreadNo, most: usize)
     requires few { (k : ℕ) → slice_index counts.old.items k ≤ most }
     requires room { most + 1 < 2 ^ 64 }
@@ -51,7 +46,7 @@ fn count_one(counts: &mut Vec<usize>, thread: ThreadNo, most: usize)
     }
 }
 
-/// How often each thread is listed.
+/// How often each thread is in a list. The error is lack of memory.
 #[tactic(auto, using(crate::proofs::EventLaws::times_take))]
 pub fn counts(alloc: Global, limits: Limits, threads: &[ThreadNo]) -> Result<Vec<usize>, AllocError>
     ensures length { IfOk result (λ v. length v.items ≡ limits.threads) }
@@ -64,7 +59,7 @@ pub fn counts(alloc: Global, limits: Limits, threads: &[ThreadNo]) -> Result<Vec
     Ok(counts)
 }
 
-/// Adds a thread that is counted.
+/// Adds a thread if its count is not 0.
 fn push_counted(listed: &mut Vec<ThreadNo>, n: u32, count: usize) -> Result<(), AllocError>
     ensures { OnOk result (listed.new.items ≡ listed.old.items ++ (if nat_lt 0 count then record { 0 = n } ∷ [] else [])) }
 {
@@ -74,7 +69,7 @@ fn push_counted(listed: &mut Vec<ThreadNo>, n: u32, count: usize) -> Result<(), 
     Ok(())
 }
 
-/// The threads that a table counts.
+/// The threads whose counts are not 0, in the order of their numbers.
 #[tactic(auto, using(crate::proofs::EventLaws::threads_next))]
 fn counted(alloc: Global, limits: Limits, counts: &[usize]) -> Result<Vec<ThreadNo>, AllocError>
     requires { length counts.now ≡ limits.threads }
@@ -87,7 +82,7 @@ fn counted(alloc: Global, limits: Limits, counts: &[usize]) -> Result<Vec<Thread
     Ok(listed)
 }
 
-/// The threads that are listed, each once.
+/// The threads of a list, each once, in the order of their numbers.
 #[tactic(auto, using(crate::proofs::EventLaws::once_is))]
 fn once(alloc: Global, limits: Limits, threads: &[ThreadNo]) -> Result<Vec<ThreadNo>, AllocError>
     ensures { IfOk result (λ v. v.items ≡ once limits threads.now) }
@@ -132,7 +127,7 @@ fn push_gos(events: &mut Vec<Event>, env: EnvNo, threads: &[ThreadNo]) -> Result
     Ok(())
 }
 
-/// Stops threads, reads each as often as it is listed, and lets them go.
+/// The events of a trace: a stop of each thread, a read for each element of the list, and a go of each thread.
 fn looks(
     alloc: Global,
     limits: Limits,
@@ -150,7 +145,7 @@ fn looks(
     Ok(events)
 }
 
-/// The events that a call stands for.
+/// The events that a call makes, if it is not refused as a whole. The error is lack of memory.
 pub fn events_of(
     alloc: Global,
     limits: Limits,
@@ -184,3 +179,9 @@ pub fn events_of(
     events.push(event)?;
     Ok(events)
 }
+
+ghost use Rattle.std.specs.Prelude.{◌≡◌, ◌++◌, ◌∷◌, [], OnOk, ◌<◌, ◌≤◌, ◌+◌, ◌^◌, ◌==◌, if◌then◌else◌, ℕ, map, length, nat_lt, IfOk, slice_index};
+ghost use Rattle.std.specs.List.{filter};
+ghost use Rattle.ti_types.specs.declared.numbers.ThreadNo.{ThreadNo};
+ghost use Rattle.ti_types.specs.declared.event.Event.TheVariants.{Ask, Stop, Read, Go};
+ghost use Rattle.ti_report.specs.Doings.{every_thread, times, once, looks, events_of};

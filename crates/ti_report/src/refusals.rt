@@ -1,7 +1,4 @@
-//! A walk's refused operations.
-ghost use Rattle.std.specs.Prelude.{◌≡◌, ◌≤◌, ◌+◌, ℕ, Option};
-ghost use Rattle.ti_types.specs.declared.error.TiError.{TiError};
-ghost use Rattle.ti_report.specs.Refusals.{mode_refusal, cost_of, is_step_error, is_frame_error, has_made, is_refused_by, is_so, error_of, refusals_behind, mode_behind, own_behind};
+//! Whether the refusals of a walk's operations are right.
 
 use ti_live::Refusal;
 use ti_replay::rules::{is_new, is_running, is_safe};
@@ -18,19 +15,19 @@ fn mode_refusal(mode: Mode, event: Event) -> Option<TiError>
     }
 }
 
-/// What an operation costs that is made.
+/// What an operation costs if it is made.
 fn cost_of(event: Event) -> u64
     ensures cost { result ≡ cost_of event }
     ensures few { result ≤ 2 }
 {
     match event {
-        Event::Own(_, _) => 1,
+        Event::Stepped(_, _) => 1,
         Event::ToNative(_) | Event::ToBlocked(_, _) => 2,
         _ => 0,
     }
 }
 
-/// Whether frames may refuse a step with the error of this number.
+/// Whether the thread's frames may refuse a step with the error of this number.
 fn is_step_error(step: Step, number: u32) -> bool
     ensures { result ≡ is_step_error step number }
 {
@@ -41,18 +38,18 @@ fn is_step_error(step: Step, number: u32) -> bool
     }
 }
 
-/// Whether frames may refuse an operation with the error of this number.
+/// Whether the thread's frames may refuse an operation with the error of this number.
 fn is_frame_error(event: Event, number: u32) -> bool
     ensures { result ≡ is_frame_error event number }
 {
     match event {
-        Event::Own(_, step) => is_step_error(step, number),
+        Event::Stepped(_, step) => is_step_error(step, number),
         Event::ToNative(_) => number == 207,
         _ => false,
     }
 }
 
-/// The mode that an operation leaves which is made.
+/// The thread's mode after an operation that was made.
 fn has_made(mode: Mode, event: Event) -> Mode
     ensures { result ≡ has_made mode event }
 {
@@ -65,7 +62,7 @@ fn has_made(mode: Mode, event: Event) -> Mode
     }
 }
 
-/// Whether a thread may have refused an operation with the error of this number, where this is what its mode says.
+/// Whether a thread may refuse an operation with the error of this number. `why` is the error for the thread's mode.
 fn is_refused_by(limits: Limits, own: u64, why: Option<TiError>, event: Event, number: u32) -> bool
     requires { own ≤ limits.own }
     ensures { result ≡ is_refused_by limits own why event number }
@@ -79,7 +76,7 @@ fn is_refused_by(limits: Limits, own: u64, why: Option<TiError>, event: Event, n
     }
 }
 
-/// Whether an operation may have come to this: refused with an error of that number, or made.
+/// Whether an operation may have been refused with the error of this number, or made if there is none.
 pub fn is_so(limits: Limits, mode: Mode, own: u64, event: Event, error: Option<u32>) -> bool
     requires { own ≤ limits.own }
     ensures { result ≡ is_so limits mode own event error }
@@ -90,7 +87,7 @@ pub fn is_so(limits: Limits, mode: Mode, own: u64, event: Event, error: Option<u
     }
 }
 
-/// The error of the first of these refusals, if it is of the operation of this number.
+/// The error of the first of these refusals, if that is of the operation of this number.
 pub fn error_of(refused: &[Refusal], number: usize) -> Option<u32>
     ensures { result ≡ error_of number refused.now }
 {
@@ -100,7 +97,7 @@ pub fn error_of(refused: &[Refusal], number: usize) -> Option<u32>
     }
 }
 
-/// The refusals behind an operation of this number.
+/// The refusals after those of the operation of this number.
 pub fn refusals_behind(refused: &[Refusal], number: usize) -> &[Refusal]
     ensures { result.now ≡ refusals_behind number refused.now }
 {
@@ -110,7 +107,7 @@ pub fn refusals_behind(refused: &[Refusal], number: usize) -> &[Refusal]
     }
 }
 
-/// The mode behind an operation that was refused with this error, or made.
+/// The thread's mode after an operation that was refused with this error, or made.
 pub fn mode_behind(mode: Mode, event: Event, error: Option<u32>) -> Mode
     ensures { result ≡ mode_behind mode event error }
 {
@@ -120,7 +117,7 @@ pub fn mode_behind(mode: Mode, event: Event, error: Option<u32>) -> Mode
     }
 }
 
-/// What was spent behind an operation that was refused with this error, or made and could be paid.
+/// What the thread has spent after an operation that was refused with this error, or made and paid for.
 pub fn own_behind(limits: Limits, own: u64, event: Event, error: Option<u32>) -> u64
     requires { own ≤ limits.own }
     ensures { result ≡ own_behind own event error }
@@ -131,3 +128,7 @@ pub fn own_behind(limits: Limits, own: u64, event: Event, error: Option<u32>) ->
         None => own + cost_of(event),
     }
 }
+
+ghost use Rattle.std.specs.Prelude.{◌≡◌, ◌≤◌, ◌+◌, ℕ, Option};
+ghost use Rattle.ti_types.specs.declared.error.TiError.{TiError};
+ghost use Rattle.ti_report.specs.Refusals.{mode_refusal, cost_of, is_step_error, is_frame_error, has_made, is_refused_by, is_so, error_of, refusals_behind, mode_behind, own_behind};

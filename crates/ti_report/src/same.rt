@@ -1,7 +1,4 @@
 //! Whether calls, frames and answers are the same.
-ghost use Rattle.std.specs.Prelude.{◌≡◌, ◌↔◌, true};
-ghost use Rattle.ti_types.specs.Answer.{said};
-ghost use Rattle.ti_report.specs.Told.{same_call, asks_same};
 
 use ti_types::{Answer, Call, Entry, Event, Frame};
 
@@ -35,7 +32,7 @@ pub fn same_call(one: Call, other: Call) -> bool
     }
 }
 
-/// Whether an entry is what an event leaves.
+/// Whether an event leaves this entry.
 #[inline(always)]
 pub fn asks_same(event: Event, entry: Entry) -> bool
     ensures { result ≡ asks_same event entry }
@@ -92,3 +89,7 @@ pub fn same_answer(one: &Answer, other: &Answer) -> bool
         _ => false,
     }
 }
+
+ghost use Rattle.std.specs.Prelude.{◌≡◌, ◌↔◌, true};
+ghost use Rattle.ti_types.specs.Answer.{said};
+ghost use Rattle.ti_report.specs.Told.{same_call, asks_same};

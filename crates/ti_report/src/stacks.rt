@@ -1,25 +1,19 @@
-//! The stacks of a call for several threads.
-ghost use Rattle.std.specs.Prelude.{◌≡◌, ◌↔◌, ◌++◌, true, ◌∷◌, Some, drop, slice_get, IfSome, IfNone, List, Option};
-ghost use Rattle.ti_types.specs.declared.stack.StackInfo.{StackInfo};
-ghost use Rattle.ti_report.specs.Books.{page_in};
-ghost use Rattle.ti_report.specs.Fits.{stack_told, said_info};
-ghost use Rattle.ti_report.specs.Accounts.{CanCount, told_with, stacks_now, accounted_all, kept, said_infos};
-ghost use Rattle.ti_types.specs.Frames.{bare_trace};
+//! Whether a trace of several threads fits its stacks.
 
 use crate::account::Account;
 use crate::book::Book;
 use crate::same::same_frames;
 use ti_types::{Answer, Event, Frame, Limits, StackInfo, ThreadNo, TiError};
 
-/// Whether a stack says this of a thread.
+/// Whether a stack has this thread, state and frames.
 fn same_info(info: &StackInfo, thread: ThreadNo, state: u32, frames: &[Frame]) -> bool
     ensures { (result ≡ true) ↔ (said_info info.now ≡ record { thread = thread; state = state; frames = bare_trace frames.now }) }
 {
     info.thread == thread && info.state == state && same_frames(info.frames.frames(), frames)
 }
 
-/// The place after a stack, where the stack at a place is that one, or is left out since the thread is not alive. None
-/// where it is another.
+/// The place after a stack. The stack at the place `next` has to be this one, unless only threads that are alive count and
+/// this one is not. `None` if it is another.
 fn behind_stack(
     thread: ThreadNo,
     state: u32,
@@ -43,8 +37,8 @@ fn behind_stack(
     Some(next + 1)
 }
 
-/// The place after the stack that a call is told, where the stack at a place is that one and this is why the call does not
-/// reach its thread, and the place itself for a stop or a go that is done. None where it is not so.
+/// The place after the stack that an event gives. A stop or a go gives none, and has to be done. `None` if the stack at the
+/// place `next` is another. `why` says why the event does not reach its thread.
 fn next_stack(
     account: &Account,
     limits: Limits,
@@ -71,8 +65,7 @@ fn next_stack(
     }
 }
 
-/// Whether these events, one after another, are told these stacks: those of all that they read, or of those alone that
-/// are alive.
+/// Whether these are the stacks that these events give, one after another. If `live`, only the threads that are alive count.
 pub fn stacks_fit(
     account: &mut Account,
     limits: Limits,
@@ -97,3 +90,10 @@ pub fn stacks_fit(
     }
     next >= infos.len()
 }
+
+ghost use Rattle.std.specs.Prelude.{◌≡◌, ◌↔◌, ◌++◌, true, ◌∷◌, Some, drop, slice_get, IfSome, IfNone, List, Option};
+ghost use Rattle.ti_types.specs.declared.stack.StackInfo.{StackInfo};
+ghost use Rattle.ti_report.specs.Books.{page_in};
+ghost use Rattle.ti_report.specs.Fits.{stack_told, said_info};
+ghost use Rattle.ti_report.specs.Accounts.{CanCount, told_with, stacks_now, accounted_all, kept, said_infos};
+ghost use Rattle.ti_types.specs.Frames.{bare_trace};

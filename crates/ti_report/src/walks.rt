@@ -1,9 +1,4 @@
-//! A thread's own entries and the operations of its walk.
-ghost use Rattle.std.specs.Prelude.{◌≡◌, ◌↔◌, ◌++◌, List, true, IfOk, MatchOption};
-ghost use Rattle.ti_types.specs.declared.entry.Entry.{Entry};
-ghost use Rattle.ti_types.specs.declared.state.Mode.TheVariants as mode;
-ghost use Rattle.ti_replay.specs.Events.{own_entry};
-ghost use Rattle.ti_report.specs.Walks.{is_walked, one_walked, last_of, left_by, listed, walked_in, IsDone, GoneThrough, WalkFits};
+//! Whether a thread's own entries fit the operations of its walk.
 
 use crate::refusals::{error_of, is_so, mode_behind, own_behind, refusals_behind};
 use std::alloc::{AllocError, Global};
@@ -11,14 +6,14 @@ use ti_live::Refusal;
 use ti_replay::rules::is_running;
 use ti_types::{Entry, Event, Limits, Mode, Safe};
 
-/// Whether only its own operation leaves an entry: a start, a step, a hand-over to native or blocked, an end.
+/// Whether only its own operation leaves this entry: a start, a step, a hand-over to native or blocked, an end.
 fn is_walked(entry: Entry) -> bool
     ensures { result ≡ is_walked entry }
 {
     matches!(
         entry,
         Entry::Start
-            | Entry::Own(_)
+            | Entry::Stepped(_)
             | Entry::Hand(Safe::Native)
             | Entry::Hand(Safe::Blocked(_))
             | Entry::End
@@ -31,7 +26,7 @@ fn own_entry(event: Event) -> Option<Entry>
 {
     match event {
         Event::Start(_) => Some(Entry::Start),
-        Event::Own(_, step) => Some(Entry::Own(step)),
+        Event::Stepped(_, step) => Some(Entry::Stepped(step)),
         Event::ToNative(_) => Some(Entry::Hand(Safe::Native)),
         Event::ToBlocked(_, kind) => Some(Entry::Hand(Safe::Blocked(kind))),
         Event::Back(_) => Some(Entry::Back),
@@ -50,7 +45,7 @@ fn one_walked(entry: Option<Entry>) -> Option<Entry>
     }
 }
 
-/// The entry that only this operation leaves, unless it leaves none or was refused.
+/// The entry that only this operation leaves. `None` if it leaves none, or if it was refused.
 fn left_by(error: Option<u32>, event: Event) -> Option<Entry>
     ensures { listed result ≡ left_by error event }
 {
@@ -79,7 +74,7 @@ fn same_entry(one: Entry, other: Entry) -> bool
     one == other
 }
 
-/// The entries behind the one that an operation left, if that comes first. If it left none, all of them.
+/// The entries after the one that an operation left, if that one comes first. If it left none, all entries.
 fn entries_behind(entries: &[Entry], left: Option<Entry>) -> Option<&[Entry]>
     ensures { MatchOption result ((rest : List Entry) → entries.now ≡ listed left ++ rest → ⊥) (λ rest. entries.now ≡ listed left ++ rest.now) }
 {
@@ -96,7 +91,7 @@ fn entries_behind(entries: &[Entry], left: Option<Entry>) -> Option<&[Entry]>
     }
 }
 
-/// Whether the end of a thread that runs is left, and of any other nothing.
+/// Whether just the end is left of a thread that runs, and nothing of any other thread.
 fn is_last(mode: Mode, entries: &[Entry]) -> bool
     ensures { (result ≡ true) ↔ (entries.now ≡ last_of mode) }
 {
@@ -106,14 +101,14 @@ fn is_last(mode: Mode, entries: &[Entry]) -> bool
     entries.len() == 1 && same_entry(entries[0], Entry::End)
 }
 
-/// Whether nothing is left but the end of a thread that runs.
+/// Whether no refusal is left, and no entry but the end of a thread that runs.
 fn is_done(mode: Mode, refused: &[Refusal], entries: &[Entry]) -> bool
     ensures { (result ≡ true) ↔ IsDone mode refused.now entries.now }
 {
     refused.is_empty() && is_last(mode, entries)
 }
 
-/// Whether a new thread that goes through the operations refuses just these, and leaves just these entries.
+/// Whether a new thread that goes through the operations has just these refusals, and leaves just these entries.
 fn goes_through(
     limits: Limits,
     spent: bool,
@@ -147,10 +142,11 @@ fn goes_through(
     is_done(mode, refused, entries)
 }
 
-/// Whether a thread's refusals and entries are those of its walk, or of a prefix of it if lists ended early: an operation
-/// that does not fit the mode in which the walk left its thread is refused for that, another only with an error that its
-/// frames may have, or for its budget if that cannot pay. Which frames the thread has is not looked at, since pops change
-/// them. The error is lack of memory.
+/// Whether a thread's refusals and entries are those of its walk, or of a prefix of it if lists ended early.
+///
+/// An operation that does not fit the mode in which the walk left its thread is refused for that. Any other is refused only
+/// with an error that its frames may cause, or for its budget if that cannot pay. It does not test which frames the thread
+/// has, since pops change them. The error is lack of memory.
 pub fn walk_fits(
     alloc: Global,
     limits: Limits,
@@ -165,3 +161,9 @@ pub fn walk_fits(
     let fits = goes_through(limits, spent, walk, refused, &entries);
     Ok(fits)
 }
+
+ghost use Rattle.std.specs.Prelude.{◌≡◌, ◌↔◌, ◌++◌, List, true, IfOk, MatchOption};
+ghost use Rattle.ti_types.specs.declared.entry.Entry.{Entry};
+ghost use Rattle.ti_types.specs.declared.state.Mode.TheVariants as mode;
+ghost use Rattle.ti_replay.specs.Events.{own_entry};
+ghost use Rattle.ti_report.specs.Walks.{is_walked, one_walked, last_of, left_by, listed, walked_in, IsDone, GoneThrough, WalkFits};

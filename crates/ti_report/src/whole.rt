@@ -1,13 +1,4 @@
 //! Why a list call is refused as a whole.
-ghost use Rattle.std.specs.Prelude.{◌≡◌, true, not, length, IfOk, slice_index, nat_lt};
-ghost use Rattle.std.specs.List.{list_all};
-ghost use Rattle.ti_types.specs.declared.call.Call.TheVariants.{Suspend};
-ghost use Rattle.ti_types.specs.declared.error.TiError.TheVariants.{MustPossessCapability, OutOfMemory};
-ghost use Rattle.ti_types.specs.Call.{needed_by};
-ghost use Rattle.ti_types.specs.Caps.{holds_all};
-ghost use Rattle.ti_types.specs.Refusing.{or_else, unless};
-ghost use Rattle.ti_report.specs.Doings.{every_thread, times};
-ghost use Rattle.ti_report.specs.Accounts.{can_pay_now, whole_now};
 
 use crate::account::Account;
 use crate::events::counts;
@@ -22,7 +13,7 @@ fn are_threads(limits: Limits, threads: &[ThreadNo]) -> bool
     threads.iter().all(|thread| thread.0 < limits.threads)
 }
 
-/// Whether a stop and one read can be paid for at every thread.
+/// Whether the agent can pay for a stop and one read at every thread.
 #[tactic(auto, using(crate::proofs::EventLaws::threads_next))]
 fn can_pay_everywhere(account: &Account, limits: Limits) -> bool
     ensures { result ≡ list_all (λ t. can_pay_now limits account.now t 1) (every_thread limits) }
@@ -35,7 +26,7 @@ fn can_pay_everywhere(account: &Account, limits: Limits) -> bool
     true
 }
 
-/// Whether a stop and this many reads can be paid for at each of these threads.
+/// Whether the agent can pay for a stop and this many reads at each of these threads.
 fn can_pay(account: &Account, limits: Limits, threads: &[ThreadNo], counts: &[usize]) -> bool
     requires { list_all (λ t. nat_lt t.0 (length counts.now)) threads.now ≡ true }
     ensures { result ≡ list_all (λ t. can_pay_now limits account.now t (slice_index counts.now t.0)) threads.now }
@@ -50,7 +41,7 @@ fn can_pay(account: &Account, limits: Limits, threads: &[ThreadNo], counts: &[us
 
 /// Why a list of suspensions or resumptions is refused as a whole.
 fn why_list(account: &Account, wanting: bool) -> Option<TiError>
-    ensures { result ≡ or_else (unless (holds_all account.now.caps (needed_by Suspend)) MustPossessCapability) (unless (not wanting) OutOfMemory) }
+    ensures { result ≡ or_else (unless (has_all account.now.caps (needed_by Suspend)) MustPossessCapability) (unless (not wanting) OutOfMemory) }
 {
     if !account.caps().has(Caps::CAN_SUSPEND) {
         Some(TiError::MustPossessCapability)
@@ -61,9 +52,14 @@ fn why_list(account: &Account, wanting: bool) -> Option<TiError>
     }
 }
 
-/// Why a call is refused as a whole, where memory ran out for it or not. Of `ListStacks` this is 10, 103, 110 and 209 in
-/// this order, of `AllStacks` 103, 209 and 110, of a list of suspensions or resumptions 99 and 110 (JVM TI 11's errors; the
-/// order is this profile's). The error is lack of memory for this test.
+/// Why a call is refused as a whole. `wanting` says that memory ran out for it. The errors are JVM TI 11's, and their order
+/// is this profile's:
+///
+/// - `ListStacks`: 10, 103, 110, 209.
+/// - `AllStacks`: 103, 209, 110.
+/// - a list of suspensions or resumptions: 99, 110.
+///
+/// The error of this function is lack of memory for the test.
 pub fn why_whole(
     alloc: Global,
     account: &Account,
@@ -103,7 +99,7 @@ pub fn why_whole(
     }
 }
 
-/// Whether a stop and a read for each time that it is listed can be paid for at each of these threads.
+/// Whether the agent can pay for a stop, and a read for each element, at each thread of a list.
 fn can_pay_listed(
     alloc: Global,
     account: &Account,
@@ -117,3 +113,13 @@ fn can_pay_listed(
     let can = can_pay(account, limits, threads, &counts);
     Ok(can)
 }
+
+ghost use Rattle.std.specs.Prelude.{◌≡◌, true, not, length, IfOk, slice_index, nat_lt};
+ghost use Rattle.std.specs.List.{list_all};
+ghost use Rattle.ti_types.specs.declared.call.Call.TheVariants.{Suspend};
+ghost use Rattle.ti_types.specs.declared.error.TiError.TheVariants.{MustPossessCapability, OutOfMemory};
+ghost use Rattle.ti_types.specs.Call.{needed_by};
+ghost use Rattle.ti_types.specs.Caps.{has_all};
+ghost use Rattle.ti_types.specs.Refusing.{or_else, unless};
+ghost use Rattle.ti_report.specs.Doings.{every_thread, times};
+ghost use Rattle.ti_report.specs.Accounts.{can_pay_now, whole_now};

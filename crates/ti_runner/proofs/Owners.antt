@@ -12,7 +12,7 @@ use Rattle.std.specs.declared.thread.PromisedHandle.{PromisedHandle}
 use Rattle.std.specs.declared.thread.Promise as Promise
 use Rattle.atomic_table.specs.Seated.{TableId}
 use Rattle.ti_cell.specs.Seats.{Sitting}
-use Rattle.ti_runner.specs.declared.walking.Walked.{Walked}
+use Rattle.ti_runner.specs.declared.thread_walk.Walked.{Walked}
 use Rattle.ti_runner.specs.declared.activities.SeatOf.{SeatOf}
 use Rattle.ti_runner.specs.Cells.{IsNewOwner, IsBack, AreOwners, AreBack, seats_at}
 

@@ -9,7 +9,7 @@ use Rattle.atomic_table.specs.Seated.{TableId}
 use Rattle.ti_types.specs.declared.limits.Limits.{Limits}
 use Rattle.ti_cell.specs.View.{subject_of}
 use Rattle.ti_cell.specs.Seats.{Sitting, env_seats}
-use Rattle.ti_handshake.specs.Desk.{Place}
+use Rattle.ti_handshake.specs.Desk.{DeskState}
 use Rattle.ti_agent.specs.Env.{cells_at}
 use Rattle.ti_runner.specs.Cells.{AreSeats}
 use Rattle.ti_runner.proofs.Pairs.{pairs_push, pairs_set}
@@ -81,7 +81,7 @@ half_all limits env n cells seats k len = record {
     within i cell there = grind (arith, nat_tests, len, slice_get_within cells i cell there)
 
 -- desks at cells, one by one
-pub at_cells : (desks : List Place) (cells : List TableId) → length desks ≡ length cells → ((k : ℕ) (p : Place) (c : TableId) → slice_get desks k ≡ Some p → slice_get cells k ≡ Some c → p.cell ≡ c) → cells_at desks ≡ cells
+pub at_cells : (desks : List DeskState) (cells : List TableId) → length desks ≡ length cells → ((k : ℕ) (p : DeskState) (c : TableId) → slice_get desks k ≡ Some p → slice_get cells k ≡ Some c → p.cell ≡ c) → cells_at desks ≡ cells
 at_cells [] [] len each = refl
 at_cells [] (c ∷ cells) len each = cc
 at_cells (p ∷ desks) [] len each = cc

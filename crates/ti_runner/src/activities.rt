@@ -1,25 +1,21 @@
-//! All lists of a script, each gone through by a thread of its own.
-ghost use Rattle.std.specs.Prelude.{◌≡◌, ◌≤◌, IfOk, [], length, map, vec_capacity};
-ghost use Rattle.std.specs.List.{All};
-ghost use Rattle.ti_agent.specs.Env.{cells_at};
-ghost use Rattle.ti_runner.specs.Cells.{IsNewOwner, IsBack, AreOwners, AreBack, seats_at};
+//! Gives each list of a script to a thread of the operating system, and joins them.
 
-use crate::calling::{Called, call_all};
+use crate::agent_calls::{Called, call_all};
 use crate::fault::RunFault;
 use crate::gate::Gate;
-use crate::walking::{Walked, walk};
+use crate::thread_walk::{Walked, walk};
 use std::alloc::{AllocError, Global};
 use std::sync::{Mutex, Wait};
 use std::thread;
 use std::thread::{Promise, PromisedHandle, Scope, Threads, join_promised};
 use ti_agent::Env;
-use ti_cell::OwnSeat;
+use ti_cell::OwnerSeat;
 use ti_handshake::SharedCell;
 use ti_live::{AgentCall, Listed, Script};
 use ti_types::{EnvNo, Event, ThreadNo};
 use ti_vmop::VmTurn;
 
-/// What a walk leaves is the owner's seat of this cell.
+/// The promise that a walk gives back the owner's seat of this cell.
 #[derive(Clone, Copy)]
 pub(crate) struct SeatOf<'a>(&'a SharedCell);
 
@@ -29,7 +25,7 @@ impl<'a> Promise<Walked> for SeatOf<'a> {
     ghost kept_by = { λ p w. IsBack p.0.now w.seat };
 }
 
-/// What an agent leaves is a seat at each of these cells.
+/// The promise that an agent gives back a seat at each of these cells.
 #[derive(Clone, Copy)]
 pub(crate) struct SeatsAt<'a>(&'a [SharedCell]);
 
@@ -40,17 +36,17 @@ impl<'a> Promise<Called> for SeatsAt<'a> {
     ghost kept_by = { λ p c. seats_at c.seats.items ≡ p.0.now };
 }
 
-/// What all threads and agents leave.
+/// What the walks and the agents give back.
 type Left = (Vec<Walked>, Vec<Called>);
 
-/// Starts the thread of one walk. `refused` of its result has room for all operations.
+/// Starts the thread of one walk. It takes memory for as many refused operations as the walk has operations.
 fn start_walk<'s, E, R: Wait + Sync, G: Gate>(
     scope: &Scope<'s, E>,
     rt: &'s R,
     alloc: Global,
     gate: &'s G,
     cell: &'s SharedCell,
-    seat: OwnSeat,
+    seat: OwnerSeat,
     thread: ThreadNo,
     operations: &'s [Event],
 ) -> Result<PromisedHandle<Walked, SeatOf<'s>>, RunFault>
@@ -114,7 +110,7 @@ fn start_walks<'s, E, R: Wait + Sync, G: Gate>(
     alloc: Global,
     gate: &'s G,
     cells: &'s [SharedCell],
-    owners: Vec<OwnSeat>,
+    owners: Vec<OwnerSeat>,
     walks: &'s [Listed<Event>],
 ) -> Result<Vec<PromisedHandle<Walked, SeatOf<'s>>>, RunFault>
     requires owners { AreOwners cells.now owners.items }
@@ -183,7 +179,7 @@ fn in_scope<'s, E, R: Threads + Wait + Sync, G: Gate>(
     gate: &'s G,
     script: &'s Script,
     cells: &'s [SharedCell],
-    owners: Vec<OwnSeat>,
+    owners: Vec<OwnerSeat>,
     envs: Vec<Env>,
     turn: &'s Mutex<VmTurn>,
 ) -> Result<Left, RunFault>
@@ -216,15 +212,15 @@ fn in_scope<'s, E, R: Threads + Wait + Sync, G: Gate>(
     Ok((join_promised(rt, walkers)?, join_promised(rt, agents)?))
 }
 
-/// Goes through all lists, each in a thread of its own. Where a thread cannot be started, those that were started go through
-/// their lists all the same, since the scope waits for them.
+/// Goes through all lists, each in a thread of its own. If a thread cannot be started, those that were started still go
+/// through their lists, since the scope waits for them.
 pub(crate) fn activities<R: Threads + Wait + Sync, G: Gate>(
     rt: &R,
     alloc: Global,
     gate: &G,
     script: &Script,
     cells: &[SharedCell],
-    owners: Vec<OwnSeat>,
+    owners: Vec<OwnerSeat>,
     envs: Vec<Env>,
     turn: &Mutex<VmTurn>,
 ) -> Result<Left, RunFault>
@@ -248,3 +244,8 @@ pub(crate) fn activities<R: Threads + Wait + Sync, G: Gate>(
         { in_scope(scope, rt, alloc, gate, script, cells, owners, envs, turn) },
     )
 }
+
+ghost use Rattle.std.specs.Prelude.{◌≡◌, ◌≤◌, IfOk, [], length, map, vec_capacity};
+ghost use Rattle.std.specs.List.{All};
+ghost use Rattle.ti_agent.specs.Env.{cells_at};
+ghost use Rattle.ti_runner.specs.Cells.{IsNewOwner, IsBack, AreOwners, AreBack, seats_at};

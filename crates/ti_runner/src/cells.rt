@@ -1,29 +1,24 @@
-//! The cells of a run, their seats, and the environments at them.
-ghost use Rattle.std.specs.Prelude.{ℕ, ◌≡◌, ◌+◌, ◌<◌, IfOk, length, map};
-ghost use Rattle.std.specs.List.{All};
-ghost use Rattle.ti_cell.specs.View.{subject_of};
-ghost use Rattle.ti_cell.specs.Seats.{env_seats};
-ghost use Rattle.ti_agent.specs.Env.{cells_at};
-ghost use Rattle.ti_runner.specs.Cells.{AreOwners, AreSeats, IsNewDesk};
+//! Makes the cells of a run, their seats, and the environments at them.
 
 use std::alloc::Global;
 use ti_agent::Env;
-use ti_cell::{EnvSeat, OwnSeat};
+use ti_cell::{EnvSeat, OwnerSeat};
 use ti_env::EnvState;
 use ti_handshake::{Desk, SharedCell};
 use ti_types::{EnvNo, Limits, ThreadNo, TiError};
 
-/// The cells of a run, by the threads' numbers, with their seats.
+/// The cells of a run, in the order of the threads' numbers, with their seats.
 #[derive(Drop)]
 pub(crate) struct Cells {
+    /// One for each thread.
     pub cells: Vec<SharedCell>,
-    /// The threads' own.
-    pub owners: Vec<OwnSeat>,
-    /// For each thread those of the environments, by their numbers.
+    /// The seats of the threads themselves.
+    pub owners: Vec<OwnerSeat>,
+    /// For each thread the seats of the environments, in the order of their numbers.
     pub seats: Vec<Vec<EnvSeat>>,
 }
 
-/// A cell for each thread. The only error is lack of memory.
+/// Makes a cell for each thread. The only error is lack of memory.
 pub(crate) fn make_cells(alloc: Global, limits: Limits) -> Result<Cells, TiError>
     ensures count { IfOk result (λ m. length m.cells.items ≡ limits.threads) }
     ensures owners { IfOk result (λ m. AreOwners m.cells.items m.owners.items) }
@@ -46,7 +41,7 @@ pub(crate) fn make_cells(alloc: Global, limits: Limits) -> Result<Cells, TiError
     })
 }
 
-/// The desk of the last of these environments. The only error is lack of memory.
+/// Makes the desk of the last of these environments. The only error is lack of memory.
 fn take_desk(
     cell: &SharedCell,
     limits: Limits,
@@ -68,7 +63,7 @@ fn take_desk(
     }
 }
 
-/// The last of these environments, with a desk at each cell. The only error is lack of memory.
+/// Makes the last of these environments, with a desk at each cell. The only error is lack of memory.
 fn environment(
     alloc: Global,
     limits: Limits,
@@ -92,7 +87,7 @@ fn environment(
     Ok(Env::new(env, state, desks))
 }
 
-/// All environments, in the order of their numbers. The only error is lack of memory.
+/// Makes all environments, in the order of their numbers. The only error is lack of memory.
 pub(crate) fn environments(
     alloc: Global,
     limits: Limits,
@@ -113,3 +108,10 @@ pub(crate) fn environments(
     envs.reverse();
     Ok(envs)
 }
+
+ghost use Rattle.std.specs.Prelude.{ℕ, ◌≡◌, ◌+◌, ◌<◌, IfOk, length, map};
+ghost use Rattle.std.specs.List.{All};
+ghost use Rattle.ti_cell.specs.View.{subject_of};
+ghost use Rattle.ti_cell.specs.Seats.{env_seats};
+ghost use Rattle.ti_agent.specs.Env.{cells_at};
+ghost use Rattle.ti_runner.specs.Cells.{AreOwners, AreSeats, IsNewDesk};

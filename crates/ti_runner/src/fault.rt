@@ -7,8 +7,8 @@ use ti_types::TiError;
 pub enum RunFault {
     /// Memory ran out, or a thread could not be started.
     Memory,
-    /// A cell was not there at its end, or the report does not fit the script. A script whose lists are not as many as its
-    /// limits say has no report that fits.
+    /// The script's limits do not keep histories, or do not fit the number of its lists. Or a cell could not be closed at
+    /// the end, or the report does not fit the script.
     Cell,
 }
 

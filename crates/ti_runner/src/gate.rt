@@ -1,19 +1,20 @@
 //! What a run asks before each operation and call.
 use ti_types::{EnvNo, ThreadNo};
 
-/// What a live run asks before each operation and call, and tells after (this profile). The threads and agents of a run call
-/// it from threads of their own, so that it may hold one of them until another is at some place.
+/// What a live run asks before each operation and call, and calls after them (this profile). The threads and agents of a run
+/// call it from threads of their own. So it may make one of them wait until another is at some place.
 pub trait Gate: Sync {
-    /// Before the operation of this number, from 0, of a thread's walk. Where it answers false, the walk ends here.
+    /// Called before an operation of a thread's walk, with its number, counted from 0. If it gives `false`, the walk ends
+    /// here.
     fn before_op(&self, thread: ThreadNo, operation: u32) -> bool;
 
-    /// Before the call of this number, from 0, of an agent's list. Where it answers false, the list ends here.
+    /// Called before a call of an agent's list, with its number, counted from 0. If it gives `false`, the list ends here.
     fn before_call(&self, env: EnvNo, call: u32) -> bool;
 
-    /// After the reply to an agent's call.
+    /// Called after the reply to an agent's call.
     fn answered(&self, env: EnvNo, call: u32);
 
-    /// When a thread's walk is done, or was ended by `before_op`, and the thread has ended if it ran.
+    /// Called when a thread's walk is done, or was ended by `before_op`. If the thread ran, it has ended.
     fn walked(&self, thread: ThreadNo);
 }
 

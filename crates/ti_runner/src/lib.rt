@@ -1,27 +1,28 @@
-//! Live runs: each thread and each agent of a script in a thread of the operating system of its own.
+//! Live runs: each thread and each agent of a script has a thread of the operating system of its own.
 //!
-//! Below stand `ti_handshake`, whose typed hand-overs a walk goes through, `ti_agent`, whose environments make an agent's
-//! calls, and `ti_report`, which says when a report fits its script. Upward this crate promises, for every schedule:
+//! This crate depends on three others. A walk uses the typed hand-overs of `ti_handshake`. An agent's calls are made by the
+//! environments of `ti_agent`. And `ti_report` says when a report fits its script. For every schedule, users may rely on
+//! this:
 //!
-//! - A report that is given fits its script: each reply is what the thread's own history replies to that call, every history
+//! - A report that is given fits its script. Each reply is what the thread's own history replies to that call. Every history
 //!   is legal, and each thread's own entries are its walk's operations.
-//! - All seats are back before a cell is closed, so that its history has the entries of all users, and no other.
+//! - All seats are back before a cell is closed. So its history has the entries of all users, and no other.
 //!
-//! Nothing is promised of when a run ends, or that it does: a thread that is left suspended and wants to return waits for
+//! Nothing is promised about when a run ends, or that it ends. A thread that is left suspended and wants to return waits for
 //! ever.
 #![tactic(auto)]
 
 mod activities;
-mod calling;
+mod agent_calls;
 mod cells;
-mod closing;
+mod closed_cells;
 mod fault;
 mod gate;
-mod running;
+mod live_run;
 #[cfg(test)]
 mod tests;
-mod walking;
+mod thread_walk;
 
 pub use fault::RunFault;
 pub use gate::{Gate, Open};
-pub use running::run_live;
+pub use live_run::run_live;

@@ -1,4 +1,4 @@
-//! Live runs by gates. What a run gives is proved; that it ends, and with the replies worked out here, is only tested.
+//! Live runs by gates. It is proved what a run gives. It is only tested that it ends, with the replies worked out here.
 mod budgets;
 mod expected;
 mod refused;

@@ -5,7 +5,7 @@ use Rattle.ti_types.specs.declared.place.Place.{Place}
 use Rattle.ti_types.specs.declared.place.Place.TheVariants.{Java, Native}
 use Rattle.ti_types.specs.declared.place.Frame.{Frame}
 use Rattle.ti_types.specs.declared.caps.Caps.{Caps}
-use Rattle.ti_types.specs.Caps.{holds_all}
+use Rattle.ti_types.specs.Caps.{has_all}
 use Rattle.ti_types.specs.declared.answer.Answer.{Answer}
 use Rattle.ti_types.specs.declared.answer.Answer.TheVariants as answer
 use Rattle.ti_types.specs.declared.event.Outcome.{Outcome}
@@ -50,7 +50,7 @@ frames_within methods longest (frame ∷ frames) names =
 
 held_within : (held : Caps) (bit : ℕ) (name : List ℕ) → length (held_text held bit name) ≤ 1 + length name
 unfolding held_text
-held_within held bit name = either_within (holds_all held (record { bits = bit })) (codes " " ++ name) [] (1 + length name) (omega arith) (omega arith)
+held_within held bit name = either_within (has_all held (record { bits = bit })) (codes " " ++ name) [] (1 + length name) (omega arith) (omega arith)
 
 caps_within : (held : Caps) → length (caps_text held) ≤ 64
 caps_within held =
@@ -81,7 +81,7 @@ outcome_within methods longest None names = omega arith
 outcome_within methods longest (Some outcome.Done) names = omega arith
 outcome_within methods longest (Some outcome.Clear) names = omega arith
 outcome_within methods longest (Some outcome.Went) names = omega arith
-outcome_within methods longest (Some outcome.Held) names = omega arith
+outcome_within methods longest (Some outcome.Stays) names = omega arith
 outcome_within methods longest (Some (outcome.Refused e)) names = let text = error_within e in omega (arith, text)
 outcome_within methods longest (Some (outcome.Gave a)) names = answer_within methods longest a names
 outcome_within methods longest (Some (outcome.Posted ticket)) names = omega arith

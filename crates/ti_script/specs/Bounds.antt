@@ -1,19 +1,19 @@
--- Lengths that texts do not exceed.
+-- Bounds for the lengths of texts.
 use Rattle.std.specs.Prelude.{ℕ, ◌≤◌, ◌<◌, List, [], length, slice_get, unwrap_or, Option, None, Some}
 use Rattle.ti_types.specs.declared.answer.Answer.{Answer}
 use Rattle.ti_types.specs.declared.answer.Answer.TheVariants as answer
 use Rattle.ti_types.specs.declared.event.Outcome.{Outcome}
 use Rattle.ti_types.specs.declared.event.Outcome.TheVariants as outcome
 
--- no name is longer
+-- no name is longer than this
 abbrev pub AreNamesWithin : ℕ → List (List ℕ) → Type 0
 AreNamesWithin most names = (number : ℕ) → length (unwrap_or (slice_get names number) []) ≤ most
 
--- no name before that number is longer
+-- no name before this number is longer
 abbrev pub AreWithinBelow : ℕ → ℕ → List (List ℕ) → Type 0
 AreWithinBelow most at names = (number : ℕ) → number < at → length (unwrap_or (slice_get names number) []) ≤ most
 
--- how many frames an answer's text names
+-- how many frames an answer's text has
 abbrev pub frames_told : Answer → ℕ
 frames_told (answer.Trace trace) = length trace.frames
 frames_told (answer.Stack bits trace) = length trace.frames
@@ -30,7 +30,7 @@ frames_in_line None = 0
 frames_in_line (Some outcome.Done) = 0
 frames_in_line (Some outcome.Clear) = 0
 frames_in_line (Some outcome.Went) = 0
-frames_in_line (Some outcome.Held) = 0
+frames_in_line (Some outcome.Stays) = 0
 frames_in_line (Some (outcome.Refused e)) = 0
 frames_in_line (Some (outcome.Gave a)) = frames_told a
 frames_in_line (Some (outcome.Posted ticket)) = 0

@@ -1,4 +1,4 @@
--- The entries of a history: a table of words, and what stands after each.
+-- The entries of a history: a table of words, and what comes after each word.
 use Rattle.std.specs.Prelude.{ℕ, List, [], ◌∷◌, ◌+◌, ◌==◌, codes, Option, None, Some, Result, Ok, Err, unwrap_or, option_and_then, if◌then◌else◌}
 use Rattle.std.specs.Option.{option_map, option_or, ok_or}
 use Rattle.std.specs.Str.{bytes_eq}
@@ -13,18 +13,18 @@ use Rattle.ti_types.specs.declared.step.Step.TheVariants.{Enter, EnterNative, At
 use Rattle.ti_types.specs.declared.call.Call.{Call}
 use Rattle.ti_types.specs.declared.call.Call.TheVariants.{State, FrameCount, Trace, Location, Suspend, Resume, GetWord, SetWord, Pop}
 use Rattle.ti_types.specs.declared.entry.Entry.{Entry}
-use Rattle.ti_types.specs.declared.entry.Entry.TheVariants.{Start, Own, Hand, Back, End, Asked, Stop, Read, Go}
+use Rattle.ti_types.specs.declared.entry.Entry.TheVariants.{Start, Stepped, Hand, Back, End, Asked, Stop, Read, Go}
 use Rattle.ti_script.specs.declared.fault.ScriptFault.{ScriptFault}
 use Rattle.ti_script.specs.declared.item.Item.{Item}
 use Rattle.ti_script.specs.Spots.{listed_item, behind_word, shape_of, shape_at}
 use Rattle.ti_script.specs.Tree.{array_in, whole_in}
 use Rattle.ti_script.specs.Events.{◌>>=◌, u32_in, i32_in, kind_named}
 
--- what comes after a word
+-- what is made of the elements after a word
 abbrev pub Behind : Type 0 → Type 0
 Behind A = List Data → Result A ScriptFault
 
--- what a table says of a word and of what comes after it
+-- what a table makes of a word and the elements after it
 abbrev pub by_table : {A : Type 0} → List (List ℕ × Behind A) → List ℕ → List Data → Option (Result A ScriptFault)
 by_table table text ds = option_map (λ behind. behind ds) (lookup (bytes_eq text) table)
 
@@ -45,11 +45,11 @@ abbrev pub safe_in : Data → Option Safe
 safe_in d = option_and_then safe_named (as_str d)
 
 module _ (item : Item) where
-  -- what the element so many places behind the word gives
+  -- what the element this many places after the word gives
   abbrev pub element : {X : Type 0} → (places : ℕ) → (Data → Option X) → Data → Result X ScriptFault
   element places meaning d = ok_or (meaning d) (shape_at (behind_word item places))
 
-  -- nothing, one element or two, from this place behind the word on, read from left to right
+  -- no element, one or two, from this place after the word on, read from left to right
   abbrev pub none : {A : Type 0} → A → Behind A
   none x [] = Ok x
   none x (d ∷ ds) = Err (shape_of item)
@@ -65,20 +65,20 @@ module _ (item : Item) where
   two places first second make (d ∷ e ∷ []) = element places first d >>= λ x. element (places + 1) second e >>= λ y. Ok (make x y)
   two places first second make (d ∷ e ∷ f ∷ ds) = Err (shape_of item)
 
-  -- the entries of a thread's own
+  -- the entries of a thread itself
   abbrev pub own_table : List (List ℕ × Behind Entry)
   own_table =
       (codes "start", none Start)
       ∷ (codes "back", none Back)
       ∷ (codes "end", none End)
-      ∷ (codes "enter", one 1 number_of_method (λ m. Own (Enter m)))
-      ∷ (codes "enter_native", one 1 number_of_method (λ m. Own (EnterNative m)))
-      ∷ (codes "at", one 1 u32_in (λ p. Own (At p)))
-      ∷ (codes "leave", none (Own Leave))
+      ∷ (codes "enter", one 1 number_of_method (λ m. Stepped (Enter m)))
+      ∷ (codes "enter_native", one 1 number_of_method (λ m. Stepped (EnterNative m)))
+      ∷ (codes "at", one 1 u32_in (λ p. Stepped (At p)))
+      ∷ (codes "leave", none (Stepped Leave))
       ∷ (codes "hand", one 1 safe_in Hand)
       ∷ []
 
-  -- the calls of both formats; what they want comes after the environment, the number and the call's word
+  -- the calls of both formats; their elements come after the environment, the number and the call's word
   abbrev pub call_table : List (List ℕ × Behind Call)
   call_table =
       (codes "state", none State)
@@ -120,7 +120,7 @@ module _ (item : Item) where
   listed_entry format (d ∷ ds) =
       element 0 as_str d >>= λ text. unwrap_or (option_or (by_table own_table text ds) (by_table (environment_table format) text ds)) (Err (shape_at (behind_word item 0)))
 
--- the entry of an item of this number
+-- the entry in the item of this number
 abbrev pub entry_in : (format n : ℕ) → Data → Result Entry ScriptFault
 entry_in format n d = ok_or (array_in d) (shape_of (listed_item n)) >>= listed_entry (listed_item n) format
 

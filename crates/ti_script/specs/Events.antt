@@ -7,7 +7,7 @@ use Rattle.std.specs.Map.{lookup}
 use Rattle.serde_json.specs.Data.{Data}
 use Rattle.serde_json.specs.Find.{as_str, as_number, as_i64}
 use Rattle.ti_types.specs.declared.event.Event.{Event}
-use Rattle.ti_types.specs.declared.event.Event.TheVariants.{Start, Own, Poll, ToNative, ToBlocked, Back, End, Ask, Stop, Read, Go, AddCaps, Relinquish, GetCaps, SetEnvWord, GetEnvWord}
+use Rattle.ti_types.specs.declared.event.Event.TheVariants.{Start, Stepped, Poll, ToNative, ToBlocked, Back, End, Ask, Stop, Read, Go, AddCaps, Relinquish, GetCaps, SetEnvWord, GetEnvWord}
 use Rattle.ti_types.specs.declared.step.Step.TheVariants.{Enter, EnterNative, At, Leave}
 use Rattle.ti_types.specs.declared.call.Call.TheVariants.{State, FrameCount, Trace, Location, Suspend, Resume, GetWord, SetWord, Pop}
 use Rattle.ti_types.specs.declared.state.Kind.{Kind}
@@ -52,7 +52,7 @@ Given signed = ℤ
 Given word = ℕ
 Given caps = Caps
 
--- an event, given its further elements
+-- a function that makes an event of its further elements
 abbrev pub Maker : List Element → Type 0
 Maker [] = Event
 Maker (e ∷ es) = Given e → Maker es
@@ -68,10 +68,10 @@ row elements event = record { elements = elements; event = event }
 abbrev pub thread_table : ThreadNo → List (List ℕ × Row)
 thread_table t =
     (codes "start", row [] (Start t))
-    ∷ (codes "enter", row (method ∷ []) (λ m. Own t (Enter m)))
-    ∷ (codes "enter_native", row (method ∷ []) (λ m. Own t (EnterNative m)))
-    ∷ (codes "at", row (number ∷ []) (λ p. Own t (At p)))
-    ∷ (codes "leave", row [] (Own t Leave))
+    ∷ (codes "enter", row (method ∷ []) (λ m. Stepped t (Enter m)))
+    ∷ (codes "enter_native", row (method ∷ []) (λ m. Stepped t (EnterNative m)))
+    ∷ (codes "at", row (number ∷ []) (λ p. Stepped t (At p)))
+    ∷ (codes "leave", row [] (Stepped t Leave))
     ∷ (codes "poll", row [] (Poll t))
     ∷ (codes "native", row [] (ToNative t))
     ∷ (codes "block", row (kind ∷ []) (λ k. ToBlocked t k))
@@ -145,13 +145,13 @@ u32_in d = option_and_then (λ n. if nat_lt n (2 ^ 32) then Some n else None) (w
 abbrev pub i32_in : Data → Option ℤ
 i32_in d = option_and_then (λ z. if int_le (negsuc 2147483647) z && int_le z (pos 2147483647) then Some z else None) (option_and_then as_i64 (as_number d))
 
--- the capabilities of these names, with those that are there
+-- the capabilities of these names, added to these
 abbrev pub caps_named : Caps → List (List ℕ) → Option Caps
 caps_named held [] = Some held
 caps_named held (text ∷ more) = option_and_then (λ cap. caps_named (caps_with held cap) more) (cap_named text)
 
 module _ (cast : Cast) (spot : Spot) where
-  -- a text that names something, and the fault of one that does not
+  -- a text that names something, or the fault if it does not
   abbrev pub named : {A : Type 0} → (List ℕ → Option A) → ScriptFault → Data → Result A ScriptFault
   named meaning fault d = ok_or (as_str d) (shape_at spot) >>= λ text. ok_or (meaning text) fault
 
@@ -175,7 +175,7 @@ module _ (cast : Cast) (spot : Spot) where
   given caps d = ok_or (array_in d) (shape_at spot) >>= caps_in
 
 module _ (cast : Cast) (item : Item) where
-  -- the event, once the elements so many places behind the word have given what they give, from left to right
+  -- the event, once each element has given its value, from left to right; the first is this many places after the word
   abbrev pub filled : (places : ℕ) → (elements : List Element) → Maker elements → List Data → Result Event ScriptFault
   filled places [] event ds = Ok event
   filled places (e ∷ es) event [] = Err (shape_of item)
@@ -191,11 +191,11 @@ module _ (cast : Cast) (item : Item) where
   subject_event subject text ds =
       ok_or (subject_table cast subject) (name_at (subject_of item)) >>= λ table. word_event table text ds
 
-  -- an event: a subject, a word and what the word's row wants
+  -- an event: a subject, a word, and the elements of the word's row
   abbrev pub list_event : List Data → Result Event ScriptFault
   list_event (a ∷ b ∷ ds) = ok_or (as_str a) (shape_at (subject_of item)) >>= λ subject. ok_or (as_str b) (shape_at (behind_word item 0)) >>= λ text. subject_event subject text ds
   list_event ds = Err (shape_of item)
 
--- the event of an item of this number
+-- the event in the item of this number
 abbrev pub event_in : Cast → ℕ → Data → Result Event ScriptFault
 event_in cast n d = ok_or (array_in d) (shape_of (walk_item n)) >>= list_event cast (walk_item n)

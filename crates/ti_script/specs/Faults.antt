@@ -1,4 +1,4 @@
--- Tests in their order, the fault of each, and the first one.
+-- Tests in their order, the fault of each, and the first fault.
 use Rattle.std.specs.Prelude.{◌≡◌, ◌⊎◌, List, [], ◌∷◌, Bool, Option, None, Some, Result, Ok, Err, if◌then◌else◌}
 use Rattle.std.specs.Result.{result_err}
 use Rattle.ti_script.specs.declared.fault.ScriptFault.{ScriptFault}
@@ -13,7 +13,7 @@ member_shape which = Shape 0 (Member which)
 abbrev pub member_name : MemberName → ScriptFault
 member_name which = Name 0 (Member which)
 
--- the fault, unless the test holds
+-- no fault if the test is true, and otherwise this one
 abbrev pub unless : Bool → ScriptFault → Option ScriptFault
 unless test fault = if test then None else Some fault
 
@@ -22,7 +22,7 @@ first_of [] = None
 first_of (None ∷ faults) = first_of faults
 first_of (Some fault ∷ faults) = Some fault
 
--- It ended with this error: the first fault, unless memory was wanted.
+-- It ended with this error: the first fault, unless memory ran out.
 abbrev pub Faults : ScriptFault → Option ScriptFault → Type 0
 Faults e fault = (e ≡ Memory) ⊎ (fault ≡ Some e)
 
@@ -31,7 +31,7 @@ abbrev pub Reads : {X Y : Type 0} → (X → Y) → Result X ScriptFault → Opt
 Reads view (Ok x) fault y = (fault ≡ None) × (view x ≡ y)
 Reads view (Err e) fault y = Faults e fault
 
--- It gave what is given, or the first fault, unless memory was wanted.
+-- It gave what is given, or the first fault, unless memory ran out.
 abbrev pub Gives : {X Y : Type 0} → (X → Y) → Result X ScriptFault → Result Y ScriptFault → Type 0
 Gives view (Ok x) given = given ≡ Ok (view x)
 Gives view (Err e) given = Faults e (result_err given)

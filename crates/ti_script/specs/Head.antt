@@ -1,11 +1,11 @@
--- The head of a walk: its tests in their order, and what it says.
+-- The head of a walk: its tests in their order, and what they read.
 use Rattle.std.specs.Prelude.{ℕ, List, [], ◌∷◌, ◌++◌, length, map, codes, Bool, true, not, ◌&&◌, ◌||◌, ◌==◌, Option, is_some, unwrap_or, option_and_then, nat_le}
 use Rattle.std.specs.List.{list_all, list_any}
 use Rattle.std.specs.Char.{is_ascii_alphanumeric}
 use Rattle.serde_json.specs.Data.{Data}
 use Rattle.serde_json.specs.Find.{get, as_str}
 use Rattle.ti_script.specs.declared.fault.LimitName.{LimitName}
-use Rattle.ti_script.specs.declared.fault.LimitName.TheVariants.{Depth, Own, Calls, Threads, Agents, Methods, Events}
+use Rattle.ti_script.specs.declared.fault.LimitName.TheVariants.{Depth, Stepped, Calls, Threads, Agents, Methods, Events}
 use Rattle.ti_script.specs.declared.fault.ScriptFault.{ScriptFault}
 use Rattle.ti_script.specs.declared.fault.ScriptFault.TheVariants.{Shape, Limit}
 use Rattle.ti_script.specs.declared.fault.MemberName.{MemberName}
@@ -27,16 +27,16 @@ abbrev pub number_at : List ℕ → Data → ℕ
 number_at key d = unwrap_or (whole_at key d) 0
 
 abbrev pub limits_members : List MemberName
-limits_members = member.Depth ∷ member.Own ∷ member.CallLimit ∷ []
+limits_members = member.Depth ∷ member.Stepped ∷ member.CallLimit ∷ []
 
 abbrev pub limits_fault : Data → Option ScriptFault
 limits_fault d = first_of
     (unless (has_exactly limits_members d) (Shape 0 (wrong_member (Member member.Limits) limits_members d))
     ∷ unless (is_some (whole_at (codes "depth") d)) (member_shape member.Depth)
-    ∷ unless (is_some (whole_at (codes "own") d)) (member_shape member.Own)
+    ∷ unless (is_some (whole_at (codes "own") d)) (member_shape member.Stepped)
     ∷ unless (is_some (whole_at (codes "calls") d)) (member_shape member.CallLimit)
     ∷ unless (is_within 1 4096 (number_at (codes "depth") d)) (Limit Depth)
-    ∷ unless (is_within 1 65536 (number_at (codes "own") d)) (Limit Own)
+    ∷ unless (is_within 1 65536 (number_at (codes "own") d)) (Limit Stepped)
     ∷ unless (is_within 1 1024 (number_at (codes "calls") d)) (Limit Calls)
     ∷ [])
 
@@ -61,7 +61,7 @@ is_name_byte b = is_ascii_alphanumeric b || list_any (λ x. x == b) (codes "_.$/
 abbrev pub is_name : List ℕ → Bool
 is_name text = is_within 1 64 (length text) && list_all is_name_byte text
 
--- each is a name, and differs from the earlier ones
+-- each is a name, and differs from those before it
 abbrev pub are_names : List (List ℕ) → List (List ℕ) → Bool
 are_names earlier [] = true
 are_names earlier (text ∷ more) = is_name text && (not (is_among earlier text) && are_names (earlier ++ text ∷ []) more)

@@ -1,4 +1,4 @@
--- What a document says as a history, and which fault it has.
+-- The history that a document says, and the first fault of a document that says none.
 use Rattle.std.specs.Prelude.{◌≡◌, ℕ, List, [], ◌∷◌, codes, Bool, false, ◌||◌, ◌==◌, if◌then◌else◌, Option, is_some, unwrap_or, option_and_then, Result, Ok}
 use Rattle.std.specs.Option.{option_map_or}
 use Rattle.std.specs.Result.{result_err}
@@ -23,7 +23,7 @@ history_members = member.Format ∷ member.Limits ∷ member.Agents ∷ member.E
 abbrev pub is_whole : Data → Bool
 is_whole d = is_some (whole_in d) || is_some (option_and_then as_i64 (as_number d))
 
--- the number of the format: 1, or 2 with more agents and one call more
+-- the number of the format: 1, or 2, which has more agents and one more call
 abbrev pub format_of : Data → ℕ
 format_of d = unwrap_or (whole_in d) 0
 
@@ -55,7 +55,7 @@ history_head_fault d = first_of
 abbrev pub entries_of : Data → Result (List Entry) ScriptFault
 entries_of d = entries_in (format_of (at (codes "format") d)) 1 (elements (at (codes "entries") d))
 
--- the first fault, in the order in which they are looked for
+-- the first fault, in the order of the tests
 abbrev pub history_fault : Data → Option ScriptFault
 history_fault d = first_of (history_head_fault d ∷ result_err (entries_of d) ∷ [])
 

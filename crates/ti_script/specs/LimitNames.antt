@@ -1,4 +1,4 @@
--- The name that a limit has in a document, and in the line of a fault.
+-- The name of a limit in a document and in a fault line.
 use Rattle.std.specs.Prelude.{ℕ, List, codes}
 use Rattle.ti_script.specs.declared.fault.LimitName.{LimitName}
 use Rattle.ti_script.specs.declared.fault.LimitName.TheVariants as limit
@@ -6,7 +6,7 @@ use Rattle.ti_script.specs.declared.fault.LimitName.TheVariants as limit
 abbrev pub limit_text : LimitName → List ℕ
 limit_text limit.Input = codes "input"
 limit_text limit.Depth = codes "depth"
-limit_text limit.Own = codes "own"
+limit_text limit.Stepped = codes "own"
 limit_text limit.Calls = codes "calls"
 limit_text limit.Threads = codes "threads"
 limit_text limit.Agents = codes "agents"

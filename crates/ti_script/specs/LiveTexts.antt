@@ -33,7 +33,7 @@ numbered_text name number = name ++ (codes " " ++ decimal number)
 abbrev pub reply_line : (threads methods : List (List ℕ)) → (agent : List ℕ) → ℕ → Reply → List ℕ
 reply_line threads methods agent number reply = numbered_text agent number ++ (codes " " ++ (reply_text threads methods reply ++ codes "\n"))
 
--- the thread's name, the operation's number and the error's
+-- the thread's name, the operation's number and the error's number
 abbrev pub refusal_line : (thread : List ℕ) → Refusal → List ℕ
 refusal_line thread refusal = numbered_text thread refusal.operation ++ (codes " error " ++ (decimal refusal.error ++ codes "\n"))
 

@@ -1,4 +1,4 @@
--- What a document says as a live script, and which fault it has.
+-- The live script that a document says, and the first fault of a document that says none.
 use Rattle.std.specs.Prelude.{◌≡◌, ◌+◌, ◌==◌, ◌&&◌, ◌||◌, ℕ, Bool, List, [], ◌∷◌, ◌++◌, length, codes, nat_le, is_some, true, if◌then◌else◌, Option, None, Some, Result, Ok, Err}
 use Rattle.std.specs.Option.{ok_or}
 use Rattle.std.specs.Result.{result_err}
@@ -42,7 +42,7 @@ are_lists count d = is_some (array_in d) && (length (elements d) == count && lis
 abbrev pub count_in_all : List Data → ℕ
 count_in_all ds = sum_by (λ x. length (elements x)) ds
 
--- the tests of the two arrays of lists: an array for each thread, an array for each agent, and then the two counts
+-- the tests of the two arrays of lists: one list for each thread, one for each agent, and then the two counts
 abbrev pub lists_fault : Cast → Data → Option ScriptFault
 lists_fault cast d = first_of
     (unless (are_lists (length cast.threads) (at (codes "walks") d)) (member_shape member.Walks)
@@ -53,7 +53,7 @@ lists_fault cast d = first_of
 
 -- ---- the items
 
--- the words of an agent that stand for one event: no stop, no read and no go among them
+-- the words of an agent that also make an event of a walk, without stops, reads and gos
 abbrev pub one_table : EnvNo → List (List ℕ × Row)
 one_table e = ask_table e ++ env_table e
 
@@ -75,7 +75,7 @@ module _ (cast : Cast) (spot : Spot) where
   threads_given [] = Ok []
   threads_given (d ∷ ds) = given cast spot thread d >>= λ t. threads_given ds >>= λ ts. Ok (t ∷ ts)
 
-  -- a list of threads: its length, the kinds and ranges of its elements, and then its names
+  -- a list of threads: its length, the forms of its elements, and then its names
   abbrev pub threads_in : Data → Result (List ThreadNo) ScriptFault
   threads_in d = ok_or (array_in d) (shape_at spot) >>= λ ds. if nat_le (length ds) 1024 && list_all is_thread_element ds then threads_given ds else Err (shape_at spot)
 
@@ -108,12 +108,12 @@ module _ (cast : Cast) (item : Item) where
   abbrev pub word_call : EnvNo → List ℕ → List Data → Result AgentCall ScriptFault
   word_call e text ds = listed_or (lookup (bytes_eq text) list_table) ds (word_event cast item (one_table e) text ds >>= λ x. Ok (as_call x))
 
-  -- a word and what stands after it
+  -- a word, and what comes after it
   abbrev pub worded : {A : Type 0} → (List ℕ → List Data → Result A ScriptFault) → List Data → Result A ScriptFault
   worded read [] = Err (shape_of item)
   worded read (b ∷ ds) = ok_or (as_str b) (shape_at (behind_word item 0)) >>= λ text. read text ds
 
--- the operation and the call of an item of this number
+-- the operation and the call in the item of this number
 abbrev pub operation_in : Cast → ℕ → ThreadNo → Data → Result Event ScriptFault
 operation_in cast number t d = ok_or (array_in d) (shape_of (listed_item number)) >>= worded cast (listed_item number) (word_event cast (listed_item number) (thread_table t))
 
@@ -125,7 +125,7 @@ abbrev pub operations_in : Cast → ThreadNo → ℕ → List Data → Result (L
 operations_in cast t item [] = Ok []
 operations_in cast t item (d ∷ ds) = operation_in cast item t d >>= λ x. operations_in cast t (item + 1) ds >>= λ xs. Ok (x ∷ xs)
 
--- the walks of threads that are numbered from this one on: their items are numbered on
+-- The walks of threads that are numbered from this one on. Their items are numbered on, over all threads
 abbrev pub walks_in : Cast → (number : ℕ) → (item : ℕ) → List Data → Result (List (List Event)) ScriptFault
 walks_in cast number item [] = Ok []
 walks_in cast number item (d ∷ ds) =
@@ -140,18 +140,18 @@ calls_in cast agent item [] = Ok []
 calls_in cast agent item (d ∷ ds) =
     calls_of_one cast (record { 0 = agent }) item (elements d) >>= λ c. calls_in cast (agent + 1) (item + length (elements d)) ds >>= λ cs. Ok (c ∷ cs)
 
--- walks, and then calls, whose items are numbered on after those of the walks
+-- The walks, and then the calls. The items of the calls are numbered on after those of the walks
 abbrev pub items_in : Cast → (walks calls : List Data) → Result (List (List Event) × List (List AgentCall)) ScriptFault
 items_in cast walks calls = walks_in cast 0 1 walks >>= λ ws. calls_in cast 0 (1 + count_in_all walks) calls >>= λ cs. Ok (ws, cs)
 
 abbrev pub items_of : Cast → Data → Result (List (List Event) × List (List AgentCall)) ScriptFault
 items_of cast d = items_in cast (elements (at (codes "walks") d)) (elements (at (codes "calls") d))
 
--- the tests after those of the names: of the two arrays of lists, and then of the items
+-- the tests after those of the names: first of the two arrays of lists, and then of the items
 abbrev pub body_fault : Cast → Data → Option ScriptFault
 body_fault cast d = first_of (lists_fault cast d ∷ result_err (items_of cast d) ∷ [])
 
--- the first fault, in the order in which they are looked for
+-- the first fault, in the order of the tests
 abbrev pub live_fault : Data → Option ScriptFault
 live_fault d = first_of
     (members_fault live_members d

@@ -23,7 +23,7 @@ abbrev pub word_place : Lead → ℕ
 word_place Subject = 1
 word_place Word = 0
 
--- the element so many places behind the word of an item
+-- the element this many places after the word of an item
 abbrev pub behind_word : Item → ℕ → Spot
 behind_word item places = record { item = item.number; element = word_place item.lead + places }
 

@@ -6,7 +6,7 @@ use Rattle.ti_types.specs.declared.place.Place.{Place}
 use Rattle.ti_types.specs.declared.place.Place.TheVariants.{Java, Native}
 use Rattle.ti_types.specs.declared.place.Frame.{Frame}
 use Rattle.ti_types.specs.declared.caps.Caps.{Caps}
-use Rattle.ti_types.specs.Caps.{holds_all}
+use Rattle.ti_types.specs.Caps.{has_all}
 use Rattle.ti_types.specs.declared.answer.Answer.{Answer}
 use Rattle.ti_types.specs.declared.answer.Answer.TheVariants as answer
 use Rattle.ti_types.specs.declared.event.Outcome.{Outcome}
@@ -26,9 +26,9 @@ module _ (methods : List (List ℕ)) where
   abbrev pub frames_text : List Frame → List ℕ
   frames_text frames = flat_map (λ frame. codes " " ++ frame_text frame) frames
 
--- the name after a space, where the capability of that bit is held
+-- a space and this name, if there is the capability of this bit
 unfoldable pub held_text : Caps → ℕ → List ℕ → List ℕ
-held_text held bit name = if holds_all held (record { bits = bit }) then codes " " ++ name else []
+held_text held bit name = if has_all held (record { bits = bit }) then codes " " ++ name else []
 
 abbrev pub caps_text : Caps → List ℕ
 caps_text held = held_text held 1 (codes "can_suspend") ++ (held_text held 2 (codes "can_pop_frame") ++ held_text held 4 (codes "can_tag_objects"))
@@ -55,7 +55,7 @@ outcome_text methods None = codes "unanswered"
 outcome_text methods (Some outcome.Done) = codes "ok"
 outcome_text methods (Some outcome.Clear) = codes "clear"
 outcome_text methods (Some outcome.Went) = codes "went"
-outcome_text methods (Some outcome.Held) = codes "held"
+outcome_text methods (Some outcome.Stays) = codes "held"
 outcome_text methods (Some (outcome.Refused e)) = error_text e
 outcome_text methods (Some (outcome.Gave a)) = answer_text methods a
 outcome_text methods (Some (outcome.Posted ticket)) = codes "unanswered"
@@ -71,7 +71,7 @@ lines_text methods index (o ∷ os) = line_text methods index o ++ lines_text me
 
 -- ---- what is added to a text
 
--- the text grew by a front of another: none of it, some, or all
+-- a prefix of another text was added to the text: nothing, a part of it, or all
 pub record AddsFront (old new all : List ℕ) : Type 0 where
   pub front : List ℕ
   pub rest : List ℕ

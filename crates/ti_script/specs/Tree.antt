@@ -20,7 +20,7 @@ array_in d = option_map listed (as_array d)
 abbrev pub elements : Data → List Data
 elements d = unwrap_or (array_in d) []
 
--- the member of that name, and null where there is none
+-- the member of this name, or null if there is none
 abbrev pub at : List ℕ → Data → Data
 at key d = unwrap_or (get key d) null
 
@@ -35,13 +35,13 @@ has_member d m = is_some (get (key_of m) d)
 abbrev pub has_exactly : List MemberName → Data → Bool
 has_exactly members d = option_map_or (λ ms. member_count ms == length members) (as_object d) false && list_all (has_member d) members
 
--- the first of these members that is missing; this part when none is
+-- the first of these members that is missing; this part if none is
 abbrev pub first_missing : Part → List MemberName → Data → Part
 first_missing whole [] d = whole
 first_missing whole (m ∷ ms) d = if has_member d m then first_missing whole ms d else Member m
 
--- the part at fault when a value has not exactly these members: the first one that is missing. It is the whole of the
--- value when none is, or when the value is no object.
+-- The part at fault if a value has not exactly these members: the first one that is missing. It is the whole value if none
+-- is missing, or if the value is no object.
 abbrev pub wrong_member : Part → List MemberName → Data → Part
 wrong_member whole members d = if is_some (as_object d) then first_missing whole members d else whole
 

@@ -1,4 +1,4 @@
--- What a document says as a walk, and which fault it has.
+-- The walk that a document says, and the first fault of a document that says none.
 use Rattle.std.specs.Prelude.{◌≡◌, ◌⊎◌, ◌+◌, ℕ, List, [], ◌∷◌, length, codes, Option, None, Some, Result, Ok}
 use Rattle.std.specs.Result.{result_err}
 use Rattle.std.specs.Str.{IsUtf8}
@@ -26,7 +26,7 @@ events_in cast item (d ∷ ds) = event_in cast item d >>= λ e. events_in cast (
 abbrev pub events_of : Data → Result (List Event) ScriptFault
 events_of d = events_in (cast_of d) 1 (elements (at (codes "events") d))
 
--- the first fault, in the order in which they are looked for
+-- the first fault, in the order of the tests
 abbrev pub walk_fault : Data → Option ScriptFault
 walk_fault d = first_of (head_fault d ∷ result_err (events_of d) ∷ [])
 
@@ -45,7 +45,11 @@ pub record IsDocument (bytes : List ℕ) (d : Data) : Type 0 where
   pub utf8 : IsUtf8 bytes
   pub tree : read bytes ≡ Some d
 
--- why bytes are no script: memory was wanted, they are no JSON, or the fault is the document's first one
+-- why bytes are no document: memory ran out, or they are no JSON
+abbrev pub IsNoDocument : ScriptFault → List ℕ → Type 0
+IsNoDocument e bytes = (e ≡ Memory) ⊎ ((e ≡ Json) × (IsUtf8 bytes → read bytes ≡ None))
+
+-- why bytes are no script: memory ran out, they are no JSON, or this is the first fault of the document
 abbrev pub IsRefusalBy : (Data → Option ScriptFault) → ScriptFault → List ℕ → Type 0
 IsRefusalBy fault_of e bytes = (e ≡ Memory) ⊎ (((e ≡ Json) × (IsUtf8 bytes → read bytes ≡ None)) ⊎ ((d : Data) × IsDocument bytes d × (fault_of d ≡ Some e)))
 

@@ -1,11 +1,4 @@
-//! A call of an agent in a live script: a word and what stands after it.
-ghost use Rattle.std.specs.Prelude.{◌≡◌, map};
-ghost use Rattle.std.specs.List.{list_all};
-ghost use Rattle.serde_json.specs.View.{view};
-ghost use Rattle.ti_live.specs.declared.call.AgentCall.TheVariants.{SuspendList, ResumeList};
-ghost use Rattle.ti_script.specs.Faults.{Gives};
-ghost use Rattle.ti_script.specs.Events.{word_event};
-ghost use Rattle.ti_script.specs.Lives.{as_call, one_table, is_thread_element, threads_given, threads_in, of_threads, of_count, of_both, word_call, call_in};
+//! Reads a call of an agent in a live script: a word, and what comes after it.
 
 use crate::element::{signed_in, thread_in, u32_in};
 use crate::event::ask_event;
@@ -19,7 +12,7 @@ use std::alloc::Global;
 use ti_live::{AgentCall, Listed};
 use ti_types::{EnvNo, Event, ThreadNo};
 
-/// The call of an event.
+/// The call that this event makes.
 fn as_call(event: Event) -> AgentCall
     ensures { result ≡ as_call event }
 {
@@ -33,7 +26,7 @@ fn as_call(event: Event) -> AgentCall
     }
 }
 
-/// The call of a word that stands for one event.
+/// The call of a word that also makes an event of a walk.
 fn one_event(
     cast: &Cast,
     item: Item,
@@ -49,7 +42,7 @@ fn one_event(
     }
 }
 
-/// Whether a value may stand for a thread: a text, or a whole number of 32 bits.
+/// Whether a value has the form of a thread: a text, or a whole number of 32 bits.
 fn is_thread_element(value: &Value) -> bool
     ensures { result ≡ is_thread_element (view value.now) }
 {
@@ -62,7 +55,7 @@ fn are_thread_elements(values: &[Value]) -> bool
     values.iter().all(|value| is_thread_element(value))
 }
 
-/// The threads that these values stand for. A text that is no thread's name is `Name`.
+/// The threads that these values mean. `Name` if a text is no thread's name.
 fn threads_given(
     alloc: Global,
     cast: &Cast,
@@ -79,8 +72,9 @@ fn threads_given(
     Ok(threads)
 }
 
-/// A list of threads: at most 1,024, each a number or a name. Whether each value may stand for a thread is looked at only
-/// where one stands for none: the first of them need not be the first fault.
+/// A list of threads: at most 1,024, each a number or a name.
+///
+/// It looks at the form of all values only if one of them means no thread. The first of those need not be the first fault.
 #[tactic(auto, using(crate::proofs::TreeLaws::list_all_views, crate::proofs::TreeLaws::length_of_map, crate::proofs::LiveLaws::all_elements))]
 fn threads_in(
     alloc: Global,
@@ -106,7 +100,7 @@ fn threads_in(
     }
 }
 
-/// SuspendThreadList of a list of threads.
+/// SuspendThreadList for a list of threads.
 fn suspend_list(
     alloc: Global,
     cast: &Cast,
@@ -126,7 +120,7 @@ fn suspend_list(
     }
 }
 
-/// ResumeThreadList of a list of threads.
+/// ResumeThreadList for a list of threads.
 fn resume_list(
     alloc: Global,
     cast: &Cast,
@@ -146,7 +140,7 @@ fn resume_list(
     }
 }
 
-/// GetAllStackTraces with a count of frames.
+/// GetAllStackTraces with a greatest count of frames.
 fn all_stacks(cast: &Cast, item: Item, rest: &[Value]) -> Result<AgentCall, ScriptFault>
     ensures { Gives (λ call. call) result (of_count cast.now item (map view rest.now)) }
 {
@@ -156,7 +150,7 @@ fn all_stacks(cast: &Cast, item: Item, rest: &[Value]) -> Result<AgentCall, Scri
     }
 }
 
-/// GetThreadListStackTraces of a list of threads with a count of frames.
+/// GetThreadListStackTraces for a list of threads, with a greatest count of frames.
 fn list_stacks(
     alloc: Global,
     cast: &Cast,
@@ -175,7 +169,7 @@ fn list_stacks(
     }
 }
 
-/// The call of a word.
+/// The call of a word, from what comes after it.
 fn word_call(
     alloc: Global,
     cast: &Cast,
@@ -198,7 +192,7 @@ fn word_call(
     }
 }
 
-/// A call of an agent, as an item of this number: a word and what comes after it.
+/// A call of an agent, from the item of this number: a word, and what comes after it.
 pub(crate) fn call_in(
     alloc: Global,
     cast: &Cast,
@@ -217,3 +211,11 @@ pub(crate) fn call_in(
     };
     word_call(alloc, cast, item, agent, word, rest)
 }
+
+ghost use Rattle.std.specs.Prelude.{◌≡◌, map};
+ghost use Rattle.std.specs.List.{list_all};
+ghost use Rattle.serde_json.specs.View.{view};
+ghost use Rattle.ti_live.specs.declared.call.AgentCall.TheVariants.{SuspendList, ResumeList};
+ghost use Rattle.ti_script.specs.Faults.{Gives};
+ghost use Rattle.ti_script.specs.Events.{word_event};
+ghost use Rattle.ti_script.specs.Lives.{as_call, one_table, is_thread_element, threads_given, threads_in, of_threads, of_count, of_both, word_call, call_in};

@@ -1,11 +1,4 @@
-//! Single elements of a document: numbers, names and words.
-ghost use Rattle.std.specs.Prelude.{◌≡◌, map};
-ghost use Rattle.serde_json.specs.View.{view};
-ghost use Rattle.ti_types.specs.Caps.{no_caps};
-ghost use Rattle.std.specs.Option.{ok_or};
-ghost use Rattle.ti_script.specs.Spots.{shape_at};
-ghost use Rattle.ti_script.specs.Head.{text_in};
-ghost use Rattle.ti_script.specs.Events.{thread, method, kind, number, signed, word, caps, given, u32_in, i32_in, kind_named, cap_named, caps_named, caps_in};
+//! Reads single elements of a document: numbers, names and words.
 
 use crate::fault::ScriptFault;
 use crate::head::are_texts;
@@ -15,6 +8,7 @@ use crate::tree::array_in;
 use serde_json::Value;
 use ti_types::{Caps, Kind, MethodNo, ThreadNo};
 
+/// A whole number from 0 to 2^32 - 1.
 pub(crate) fn u32_in(value: &Value) -> Option<u32>
     ensures { result ≡ u32_in (view value.now) }
 {
@@ -26,6 +20,7 @@ pub(crate) fn u32_in(value: &Value) -> Option<u32>
     }
 }
 
+/// A whole number from -2^31 to 2^31 - 1.
 pub(crate) fn i32_in(value: &Value) -> Option<i32>
     ensures { result ≡ i32_in (view value.now) }
 {
@@ -37,6 +32,7 @@ pub(crate) fn i32_in(value: &Value) -> Option<i32>
     }
 }
 
+/// The kind of block that this word means.
 pub(crate) fn kind_named(text: &str) -> Option<Kind>
     ensures { result ≡ kind_named text.now }
 {
@@ -51,6 +47,7 @@ pub(crate) fn kind_named(text: &str) -> Option<Kind>
     }
 }
 
+/// The capability of this name.
 fn cap_named(text: &str) -> Option<Caps>
     ensures { result ≡ cap_named text.now }
 {
@@ -62,6 +59,7 @@ fn cap_named(text: &str) -> Option<Caps>
     }
 }
 
+/// A thread, by its name or as a number of 32 bits. `Name` for a text that names no thread, and `Shape` for other values.
 pub(crate) fn thread_in(cast: &Cast, spot: Spot, value: &Value) -> Result<ThreadNo, ScriptFault>
     ensures { result ≡ given cast.now spot thread (view value.now) }
 {
@@ -77,6 +75,7 @@ pub(crate) fn thread_in(cast: &Cast, spot: Spot, value: &Value) -> Result<Thread
     }
 }
 
+/// A method, by its name. `Shape` if it is no text, and `Name` if no method has this name.
 pub(crate) fn method_in(cast: &Cast, spot: Spot, value: &Value) -> Result<MethodNo, ScriptFault>
     ensures { result ≡ given cast.now spot method (view value.now) }
 {
@@ -89,6 +88,7 @@ pub(crate) fn method_in(cast: &Cast, spot: Spot, value: &Value) -> Result<Method
     }
 }
 
+/// A kind of block. `Shape` if it is no text, or if there is no such kind.
 pub(crate) fn kind_in(cast: &Cast, spot: Spot, value: &Value) -> Result<Kind, ScriptFault>
     ensures { result ≡ given cast.now spot kind (view value.now) }
 {
@@ -99,18 +99,21 @@ pub(crate) fn kind_in(cast: &Cast, spot: Spot, value: &Value) -> Result<Kind, Sc
     kind_named(text).ok_or(spot.shape())
 }
 
+/// A whole number from 0 to 2^32 - 1. `Shape` for other values.
 pub(crate) fn number_in(spot: Spot, value: &Value) -> Result<u32, ScriptFault>
     ensures { result ≡ ok_or (u32_in (view value.now)) (shape_at spot) }
 {
     u32_in(value).ok_or(spot.shape())
 }
 
+/// A whole number from -2^31 to 2^31 - 1. `Shape` for other values.
 pub(crate) fn signed_in(spot: Spot, value: &Value) -> Result<i32, ScriptFault>
     ensures { result ≡ ok_or (i32_in (view value.now)) (shape_at spot) }
 {
     i32_in(value).ok_or(spot.shape())
 }
 
+/// A whole number from 0 to 2^64 - 1. `Shape` for other values.
 pub(crate) fn word_in(cast: &Cast, spot: Spot, value: &Value) -> Result<u64, ScriptFault>
     ensures { result ≡ given cast.now spot word (view value.now) }
 {
@@ -118,7 +121,7 @@ pub(crate) fn word_in(cast: &Cast, spot: Spot, value: &Value) -> Result<u64, Scr
     value.as_u64().ok_or(spot.shape())
 }
 
-/// The capabilities of these names.
+/// The capabilities of these names. `Shape` if one is no text, and then `Name` if one is no capability.
 #[tactic(auto, using(crate::proofs::TreeLaws::list_all_views))]
 fn caps_in(cast: &Cast, spot: Spot, values: &[Value]) -> Result<Caps, ScriptFault>
     ensures { result ≡ caps_in cast.now spot (map view values.now) }
@@ -130,6 +133,7 @@ fn caps_in(cast: &Cast, spot: Spot, values: &[Value]) -> Result<Caps, ScriptFaul
     caps_named(values).ok_or(spot.name())
 }
 
+/// The capabilities of these names, or `None` if one of them is no capability.
 fn caps_named(values: &[Value]) -> Option<Caps>
     ensures { result ≡ caps_named no_caps (map text_in (map view values.now)) }
 {
@@ -141,6 +145,7 @@ fn caps_named(values: &[Value]) -> Option<Caps>
     Some(caps)
 }
 
+/// An array of capabilities. `Shape` if it is no array of texts, and then `Name` if one of them is no capability.
 pub(crate) fn caps_of(cast: &Cast, spot: Spot, value: &Value) -> Result<Caps, ScriptFault>
     ensures { result ≡ given cast.now spot caps (view value.now) }
 {
@@ -149,3 +154,11 @@ pub(crate) fn caps_of(cast: &Cast, spot: Spot, value: &Value) -> Result<Caps, Sc
     };
     caps_in(cast, spot, values)
 }
+
+ghost use Rattle.std.specs.Prelude.{◌≡◌, map};
+ghost use Rattle.serde_json.specs.View.{view};
+ghost use Rattle.ti_types.specs.Caps.{no_caps};
+ghost use Rattle.std.specs.Option.{ok_or};
+ghost use Rattle.ti_script.specs.Spots.{shape_at};
+ghost use Rattle.ti_script.specs.Head.{text_in};
+ghost use Rattle.ti_script.specs.Events.{thread, method, kind, number, signed, word, caps, given, u32_in, i32_in, kind_named, cap_named, caps_named, caps_in};

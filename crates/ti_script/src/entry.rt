@@ -1,14 +1,4 @@
-//! An entry of a history as a document writes it.
-ghost use Rattle.std.specs.Prelude.{◌≡◌, ◌==◌, map, None, if◌then◌else◌};
-ghost use Rattle.std.specs.Option.{ok_or, option_or};
-ghost use Rattle.serde_json.specs.View.{view};
-ghost use Rattle.ti_types.specs.declared.step.Step.TheVariants.{Enter, EnterNative, At};
-ghost use Rattle.ti_types.specs.declared.call.Call.TheVariants.{Trace, Location, SetWord};
-ghost use Rattle.ti_types.specs.declared.entry.Entry.TheVariants.{Own, Hand, Stop, Read, Go};
-ghost use Rattle.ti_script.specs.Spots.{shape_at};
-ghost use Rattle.ti_script.specs.Tree.{whole_in};
-ghost use Rattle.ti_script.specs.Events.{u32_in, i32_in};
-ghost use Rattle.ti_script.specs.Entries.{none, one, two, env_in, number_of_method, safe_named, safe_in, asked, by_table, own_table, call_table, later_call_table, call_in, environment_table, entry_in};
+//! Reads an entry of a history.
 
 use crate::element::{kind_named, number_in, signed_in, u32_in};
 use crate::fault::ScriptFault;
@@ -45,14 +35,14 @@ fn safe_in(value: &Value) -> Option<Safe>
     safe_named(value.as_str()?)
 }
 
-/// The environment of an element.
+/// The environment that an element means. `Shape` if it is no whole number of 32 bits.
 fn env_at(spot: Spot, value: &Value) -> Result<EnvNo, ScriptFault>
     ensures { result ≡ ok_or (env_in (view value.now)) (shape_at spot) }
 {
     env_in(value).ok_or(spot.shape())
 }
 
-/// The method of an element.
+/// The method that an element means. `Shape` if it is no whole number of 32 bits.
 fn method_at(spot: Spot, value: &Value) -> Result<MethodNo, ScriptFault>
     ensures { result ≡ ok_or (number_of_method (view value.now)) (shape_at spot) }
 {
@@ -70,36 +60,36 @@ fn plain_entry(item: Item, entry: Entry, rest: &[Value]) -> Result<Entry, Script
 }
 
 fn enter_entry(item: Item, rest: &[Value]) -> Result<Entry, ScriptFault>
-    ensures { result ≡ one item 1 number_of_method (λ m. Own (Enter m)) (map view rest.now) }
+    ensures { result ≡ one item 1 number_of_method (λ m. Stepped (Enter m)) (map view rest.now) }
 {
     match rest {
         [method] => {
             let method = method_at(item.behind_word(1), method)?;
-            Ok(Entry::Own(Step::Enter(method)))
+            Ok(Entry::Stepped(Step::Enter(method)))
         }
         _ => Err(item.shape()),
     }
 }
 
 fn enter_native_entry(item: Item, rest: &[Value]) -> Result<Entry, ScriptFault>
-    ensures { result ≡ one item 1 number_of_method (λ m. Own (EnterNative m)) (map view rest.now) }
+    ensures { result ≡ one item 1 number_of_method (λ m. Stepped (EnterNative m)) (map view rest.now) }
 {
     match rest {
         [method] => {
             let method = method_at(item.behind_word(1), method)?;
-            Ok(Entry::Own(Step::EnterNative(method)))
+            Ok(Entry::Stepped(Step::EnterNative(method)))
         }
         _ => Err(item.shape()),
     }
 }
 
 fn at_entry(item: Item, rest: &[Value]) -> Result<Entry, ScriptFault>
-    ensures { result ≡ one item 1 u32_in (λ p. Own (At p)) (map view rest.now) }
+    ensures { result ≡ one item 1 u32_in (λ p. Stepped (At p)) (map view rest.now) }
 {
     match rest {
         [place] => {
             let place = number_in(item.behind_word(1), place)?;
-            Ok(Entry::Own(Step::At(place)))
+            Ok(Entry::Stepped(Step::At(place)))
         }
         _ => Err(item.shape()),
     }
@@ -117,7 +107,7 @@ fn hand_entry(item: Item, rest: &[Value]) -> Result<Entry, ScriptFault>
     }
 }
 
-/// An entry of the thread's own. None when the word is no such word.
+/// An entry of the thread itself. `None` if the word is none of these.
 fn own_entry(item: Item, text: &str, rest: &[Value]) -> Option<Result<Entry, ScriptFault>>
     ensures { result ≡ by_table (own_table item) text.now (map view rest.now) }
 {
@@ -128,7 +118,7 @@ fn own_entry(item: Item, text: &str, rest: &[Value]) -> Option<Result<Entry, Scr
         "enter" => Some(enter_entry(item, rest)),
         "enter_native" => Some(enter_native_entry(item, rest)),
         "at" => Some(at_entry(item, rest)),
-        "leave" => Some(plain_entry(item, Entry::Own(Step::Leave), rest)),
+        "leave" => Some(plain_entry(item, Entry::Stepped(Step::Leave), rest)),
         "hand" => Some(hand_entry(item, rest)),
         _ => None,
     }
@@ -181,7 +171,7 @@ fn set_call(item: Item, rest: &[Value]) -> Result<Call, ScriptFault>
     }
 }
 
-/// A call of both formats. None when the word is no such word.
+/// A call of both formats. `None` if the word is none of these.
 fn call_of(item: Item, text: &str, rest: &[Value]) -> Option<Result<Call, ScriptFault>>
     ensures { result ≡ by_table (call_table item) text.now (map view rest.now) }
 {
@@ -198,7 +188,7 @@ fn call_of(item: Item, text: &str, rest: &[Value]) -> Option<Result<Call, Script
     }
 }
 
-/// A call of format 2 alone. None when the word is no such word.
+/// A call of format 2 alone. `None` if the word is none of these.
 fn later_call_of(item: Item, text: &str, rest: &[Value]) -> Option<Result<Call, ScriptFault>>
     ensures { result ≡ by_table (later_call_table item) text.now (map view rest.now) }
 {
@@ -208,7 +198,7 @@ fn later_call_of(item: Item, text: &str, rest: &[Value]) -> Option<Result<Call, 
     }
 }
 
-/// A call of either format in a document of this format. None when it has no such word.
+/// A call in a document of this format. `None` if the format has no such word.
 fn call_of_format(
     format: u64,
     item: Item,
@@ -227,7 +217,7 @@ fn call_of_format(
     }
 }
 
-/// A call in a document of this format.
+/// A call in a document of this format. `Shape` if the format has no such word.
 fn call_in(format: u64, item: Item, text: &str, rest: &[Value]) -> Result<Call, ScriptFault>
     ensures { result ≡ call_in item format text.now (map view rest.now) }
 {
@@ -237,7 +227,7 @@ fn call_in(format: u64, item: Item, text: &str, rest: &[Value]) -> Result<Call, 
     }
 }
 
-/// An environment, the number of its call, and the call.
+/// What comes after `asked`: an environment, the number of its call, and the call.
 fn asked(format: u64, item: Item, rest: &[Value]) -> Result<Entry, ScriptFault>
     ensures { result ≡ asked item format (map view rest.now) }
 {
@@ -284,7 +274,7 @@ fn go_entry(item: Item, rest: &[Value]) -> Result<Entry, ScriptFault>
     }
 }
 
-/// An entry of an environment. None when the word is no such word.
+/// An entry of an environment. `None` if the word is none of these.
 fn environment_entry(
     format: u64,
     item: Item,
@@ -302,7 +292,7 @@ fn environment_entry(
     }
 }
 
-/// An entry of either kind. None when the word is no such word.
+/// An entry of the thread itself or of an environment. `None` if the word is none of these.
 fn word_entry(
     format: u64,
     item: Item,
@@ -317,7 +307,7 @@ fn word_entry(
     }
 }
 
-/// The entry of an item of this number, in a document of this format.
+/// The entry in the item of this number, in a document of this format.
 pub(crate) fn entry_in(format: u64, number: u32, value: &Value) -> Result<Entry, ScriptFault>
     ensures { result ≡ entry_in format number (view value.now) }
 {
@@ -333,3 +323,14 @@ pub(crate) fn entry_in(format: u64, number: u32, value: &Value) -> Result<Entry,
         None => Err(item.word().shape()),
     }
 }
+
+ghost use Rattle.std.specs.Prelude.{◌≡◌, ◌==◌, map, None, if◌then◌else◌};
+ghost use Rattle.std.specs.Option.{ok_or, option_or};
+ghost use Rattle.serde_json.specs.View.{view};
+ghost use Rattle.ti_types.specs.declared.step.Step.TheVariants.{Enter, EnterNative, At};
+ghost use Rattle.ti_types.specs.declared.call.Call.TheVariants.{Trace, Location, SetWord};
+ghost use Rattle.ti_types.specs.declared.entry.Entry.TheVariants.{Stepped, Hand, Stop, Read, Go};
+ghost use Rattle.ti_script.specs.Spots.{shape_at};
+ghost use Rattle.ti_script.specs.Tree.{whole_in};
+ghost use Rattle.ti_script.specs.Events.{u32_in, i32_in};
+ghost use Rattle.ti_script.specs.Entries.{none, one, two, env_in, number_of_method, safe_named, safe_in, asked, by_table, own_table, call_table, later_call_table, call_in, environment_table, entry_in};

@@ -1,24 +1,16 @@
-//! An event of a walk as a document writes it.
-ghost use Rattle.std.specs.Prelude.{◌≡◌, [], ◌∷◌, map};
-ghost use Rattle.std.specs.Option.{option_map};
-ghost use Rattle.std.specs.Map.{lookup};
-ghost use Rattle.std.specs.Str.{bytes_eq};
-ghost use Rattle.serde_json.specs.View.{view};
-ghost use Rattle.ti_types.specs.declared.event.Event.TheVariants.{Ask};
-ghost use Rattle.ti_types.specs.declared.call.Call.TheVariants.{Trace, Location, SetWord};
-ghost use Rattle.ti_script.specs.Events.{thread, signed, word, row, ask_table, agent_table, row_event, word_event, event_in};
+//! Reads an event of a walk.
 
 use crate::element::{signed_in, thread_in, word_in};
 use crate::fault::ScriptFault;
 use crate::item::Item;
 use crate::names::Cast;
-use crate::own_event::thread_event;
 use crate::service_event::service_event;
+use crate::thread_event::thread_event;
 use crate::tree::array_in;
 use serde_json::Value;
 use ti_types::{Call, EnvNo, Event, ThreadNo};
 
-/// A call with nothing but its thread.
+/// A call that has nothing after its thread.
 fn plain_ask(
     cast: &Cast,
     item: Item,
@@ -74,7 +66,7 @@ fn set_ask(cast: &Cast, item: Item, agent: EnvNo, rest: &[Value]) -> Result<Even
     }
 }
 
-/// The event of a word that asks a thread. None where it is no such word.
+/// The event of a word that asks a thread. `None` if the word is none of these.
 pub(crate) fn ask_event(
     cast: &Cast,
     item: Item,
@@ -113,7 +105,7 @@ fn agent_event(
     }
 }
 
-/// The event of an item of this number.
+/// The event in the item of this number: a subject, a word, and what comes after the word.
 pub(crate) fn event_in(cast: &Cast, number: u32, value: &Value) -> Result<Event, ScriptFault>
     ensures { result ≡ event_in cast.now number (view value.now) }
 {
@@ -135,3 +127,12 @@ pub(crate) fn event_in(cast: &Cast, number: u32, value: &Value) -> Result<Event,
     }
     Err(item.subject().name())
 }
+
+ghost use Rattle.std.specs.Prelude.{◌≡◌, [], ◌∷◌, map};
+ghost use Rattle.std.specs.Option.{option_map};
+ghost use Rattle.std.specs.Map.{lookup};
+ghost use Rattle.std.specs.Str.{bytes_eq};
+ghost use Rattle.serde_json.specs.View.{view};
+ghost use Rattle.ti_types.specs.declared.event.Event.TheVariants.{Ask};
+ghost use Rattle.ti_types.specs.declared.call.Call.TheVariants.{Trace, Location, SetWord};
+ghost use Rattle.ti_script.specs.Events.{thread, signed, word, row, ask_table, agent_table, row_event, word_event, event_in};

@@ -1,20 +1,16 @@
 //! What is wrong with a document.
-ghost use Rattle.std.specs.Prelude.{◌≡◌};
-ghost use Rattle.ti_script.specs.LimitNames.{limit_text};
-ghost use Rattle.ti_script.specs.Members.{key_of, member_text};
-ghost use Rattle.ti_script.specs.Faults.{member_shape, member_name};
 
 use std::alloc::{AllocError, AllocFailed};
 use std::fmt;
 use thiserror::Error;
 
-/// A limit of documents that was passed. Its text is the limit's name in a document, in small letters: `input` for the
-/// bytes of a document, `calls_list` for the calls of a live script. Source: this profile.
+/// A limit that a document does not keep. Its text is the limit's name in a document, in small letters. `input` limits the
+/// bytes of a document, and `calls_list` the calls of a live script. Source: this profile.
 #[derive(Clone, Copy, Debug, PartialEq, Eq)]
 pub enum LimitName {
     Input,
     Depth,
-    Own,
+    Stepped,
     Calls,
     Threads,
     Agents,
@@ -34,7 +30,7 @@ impl LimitName {
         match self {
             LimitName::Input => "input",
             LimitName::Depth => "depth",
-            LimitName::Own => "own",
+            LimitName::Stepped => "own",
             LimitName::Calls => "calls",
             LimitName::Threads => "threads",
             LimitName::Agents => "agents",
@@ -59,13 +55,13 @@ impl fmt::Display for LimitName {
     }
 }
 
-/// A member of a document's head. `CallLimit` is the member `calls` of `limits`, and `Calls` that of a live script.
+/// A member of a document's head. `CallLimit` is the member `calls` of `limits`, and `Calls` is that of a live script.
 #[derive(Clone, Copy, Debug, PartialEq, Eq)]
 pub enum MemberName {
     Format,
     Limits,
     Depth,
-    Own,
+    Stepped,
     CallLimit,
     Threads,
     Agents,
@@ -85,7 +81,7 @@ impl MemberName {
             MemberName::Format => "format",
             MemberName::Limits => "limits",
             MemberName::Depth => "depth",
-            MemberName::Own => "own",
+            MemberName::Stepped => "own",
             MemberName::CallLimit | MemberName::Calls => "calls",
             MemberName::Threads => "threads",
             MemberName::Agents => "agents",
@@ -96,7 +92,7 @@ impl MemberName {
         }
     }
 
-    /// The way to the member from the document: its name, and before it `limits.` when it is one of `limits`.
+    /// The path to the member from the document: its name, with `limits.` before it if it is a member of `limits`.
     pub fn text(self) -> &'static str
         ensures { result.now ≡ member_text self }
     {
@@ -104,7 +100,7 @@ impl MemberName {
             MemberName::Format => "format",
             MemberName::Limits => "limits",
             MemberName::Depth => "limits.depth",
-            MemberName::Own => "limits.own",
+            MemberName::Stepped => "limits.own",
             MemberName::CallLimit => "limits.calls",
             MemberName::Threads => "threads",
             MemberName::Agents => "agents",
@@ -128,31 +124,31 @@ impl fmt::Display for MemberName {
     }
 }
 
-/// Which part of an item is at fault.
+/// The part of an item that is at fault.
 #[derive(Clone, Copy, Debug, PartialEq, Eq)]
 pub enum Part {
-    /// No single part: it is no array or no object, or it has too many parts or too few.
+    /// No single part. The item is no array or no object, or has too many parts or too few.
     Whole,
-    /// A member of the head: it is missing, or has the wrong shape or a wrong name.
+    /// A member of the head: it is missing, or has a wrong shape or a wrong name in it.
     Member(MemberName),
     /// An element of the item, counted from 0.
     Element(u32),
 }
 
-/// Why a document is no script: the first fault of it, in the order in which documents are examined. Items are numbered
-/// from 1, and item 0 is the head; `part` is the member or the element that is at fault. Source: this profile.
+/// Why a document is no script: its first fault, in the order in which documents are examined. Items are numbered from 1,
+/// and item 0 is the head. `part` is the member or the element that is at fault. Source: this profile.
 #[derive(Clone, Copy, Debug, PartialEq, Eq, Error)]
 pub enum ScriptFault {
-    /// The bytes are no JSON text, or are not UTF-8.
+    /// The bytes are not UTF-8, or no JSON text.
     #[error("the document is no JSON")]
     Json,
-    /// A wrong kind, a wrong number of elements, an unknown word, or a number out of the range of its place.
+    /// A wrong kind of value, a wrong number of elements, an unknown word, or a number out of its range.
     #[error("item {item} has the wrong shape")]
     Shape { item: u32, part: Part },
     /// A name that is malformed, given twice, or not declared where it is looked up.
     #[error("item {item} has a wrong name")]
     Name { item: u32, part: Part },
-    /// A number or a count outside its limit.
+    /// A number or a count that is out of its limit.
     #[error("the limit {which} is passed")]
     Limit { which: LimitName },
     /// Memory ran out for the tree, the names or the items.
@@ -161,7 +157,7 @@ pub enum ScriptFault {
 }
 
 impl ScriptFault {
-    /// A member of the head has the wrong shape, or is missing.
+    /// The fault that a member of the head has the wrong shape, or is missing.
     pub(crate) fn in_shape_of(member: MemberName) -> Self
         ensures { result ≡ member_shape member }
     {
@@ -171,7 +167,7 @@ impl ScriptFault {
         }
     }
 
-    /// A member of the head has a wrong name.
+    /// The fault that a member of the head has a wrong name in it.
     pub(crate) fn in_names_of(member: MemberName) -> Self
         ensures { result ≡ member_name member }
     {
@@ -203,3 +199,8 @@ impl<T: Drop> From<AllocFailed<T>> for ScriptFault {
         ScriptFault::Memory
     }
 }
+
+ghost use Rattle.std.specs.Prelude.{◌≡◌};
+ghost use Rattle.ti_script.specs.LimitNames.{limit_text};
+ghost use Rattle.ti_script.specs.Members.{key_of, member_text};
+ghost use Rattle.ti_script.specs.Faults.{member_shape, member_name};

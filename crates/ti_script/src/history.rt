@@ -1,11 +1,10 @@
-//! A history that was read.
-ghost use Rattle.std.specs.Prelude.{◌≡◌, ◌++◌, ◌∷◌, [], IfOk, OnOk, OnErr};
+//! The history that a document says.
 
 use std::alloc::{AllocError, Global};
 use std::marker::Model;
 use ti_types::{Entry, Limits};
 
-/// Entries in their order, which contracts see as a list.
+/// Entries in their order. Contracts see them as a list.
 #[derive(Drop)]
 pub struct EntryList {
     items: Vec<Entry>,
@@ -21,7 +20,7 @@ impl Model for EntryList {
 }
 
 impl EntryList {
-    /// No entries. It takes no memory until an entry is added.
+    /// Makes an empty list. It takes no memory until an entry is added.
     pub fn new(alloc: Global) -> Self
         ensures { result ≡ [] }
     {
@@ -30,7 +29,7 @@ impl EntryList {
         }
     }
 
-    /// No entries, with room for this many, so that adding them takes no memory. The error is lack of memory.
+    /// Makes an empty list with room for `count` entries, so that adding them takes no memory. The error is lack of memory.
     pub fn with_room(alloc: Global, count: usize) -> Result<Self, AllocError>
         ensures { IfOk result (λ entries. entries ≡ []) }
     {
@@ -39,7 +38,7 @@ impl EntryList {
         })
     }
 
-    /// Adds an entry at the end. Where memory runs out, the entries stay as they were.
+    /// Adds an entry at the end. If memory runs out, the entries stay as they were.
     pub fn push(&mut self, entry: Entry) -> Result<(), AllocError>
         ensures ok { OnOk result (self.new ≡ self.old ++ entry ∷ []) }
         ensures err { OnErr result (self.new ≡ self.old) }
@@ -48,7 +47,7 @@ impl EntryList {
         Ok(())
     }
 
-    /// The entries in their order.
+    /// The entries, in their order.
     pub fn as_slice(&self) -> &[Entry]
         ensures { result.now ≡ self.now }
     {
@@ -56,10 +55,12 @@ impl EntryList {
     }
 }
 
-/// A history: the limits that it was made under, with one thread, and the entries of that thread in their order. It
-/// need not be legal. Source: this profile.
+/// A history: the limits under which it was made, and the entries of one thread in their order. The limits have one thread.
+/// The history need not be legal. Source: this profile.
 #[derive(Drop)]
 pub struct History {
     pub limits: Limits,
     pub entries: EntryList,
 }
+
+ghost use Rattle.std.specs.Prelude.{◌≡◌, ◌++◌, ◌∷◌, [], IfOk, OnOk, OnErr};

@@ -1,10 +1,8 @@
 //! Items and their elements, by their numbers.
-ghost use Rattle.std.specs.Prelude.{◌≡◌, ◌≤◌};
-ghost use Rattle.ti_script.specs.Spots.{shape_of, shape_at, name_at, subject_of, word_place, behind_word, walk_item, listed_item};
 
 use crate::fault::{Part, ScriptFault};
 
-/// What an item begins with: an event of a walk with its subject, all else with its word.
+/// What an item begins with. An event of a walk begins with its subject, and any other item with its word.
 #[derive(Clone, Copy)]
 pub(crate) enum Lead {
     Subject,
@@ -18,7 +16,7 @@ pub(crate) struct Item {
     pub(crate) lead: Lead,
 }
 
-/// An element of an item by its place, counted from 0.
+/// An element of an item, by its place, counted from 0.
 #[derive(Clone, Copy)]
 pub(crate) struct Spot {
     pub(crate) item: u32,
@@ -26,7 +24,7 @@ pub(crate) struct Spot {
 }
 
 impl Item {
-    /// An event of a walk.
+    /// The item of an event of a walk.
     pub(crate) fn of_walk(number: u32) -> Self
         ensures { result ≡ walk_item number }
     {
@@ -36,7 +34,7 @@ impl Item {
         }
     }
 
-    /// An operation or a call of a live script, or an entry of a history.
+    /// The item of an operation or a call of a live script, or of an entry of a history.
     pub(crate) fn of_list(number: u32) -> Self
         ensures { result ≡ listed_item number }
     {
@@ -46,7 +44,7 @@ impl Item {
         }
     }
 
-    /// The item as a whole has the wrong shape.
+    /// The fault that the item as a whole has the wrong shape.
     pub(crate) fn shape(self) -> ScriptFault
         ensures { result ≡ shape_of self }
     {
@@ -56,7 +54,7 @@ impl Item {
         }
     }
 
-    /// Its first element.
+    /// The place of its subject.
     pub(crate) fn subject(self) -> Spot
         ensures { result ≡ subject_of self }
     {
@@ -76,7 +74,7 @@ impl Item {
         }
     }
 
-    /// The element so many places behind its word.
+    /// The element this many places after its word.
     pub(crate) fn behind_word(self, places: u32) -> Spot
         requires { places ≤ 5 }
         ensures { result ≡ behind_word self places }
@@ -87,7 +85,7 @@ impl Item {
         }
     }
 
-    /// Its word.
+    /// The place of its word.
     pub(crate) fn word(self) -> Spot
         ensures { result ≡ behind_word self 0 }
     {
@@ -96,7 +94,7 @@ impl Item {
 }
 
 impl Spot {
-    /// The element has the wrong shape.
+    /// The fault that the element has the wrong shape.
     pub(crate) fn shape(self) -> ScriptFault
         ensures { result ≡ shape_at self }
     {
@@ -106,7 +104,7 @@ impl Spot {
         }
     }
 
-    /// The element has a wrong name.
+    /// The fault that the element has a wrong name.
     pub(crate) fn name(self) -> ScriptFault
         ensures { result ≡ name_at self }
     {
@@ -116,3 +114,6 @@ impl Spot {
         }
     }
 }
+
+ghost use Rattle.std.specs.Prelude.{◌≡◌, ◌≤◌};
+ghost use Rattle.ti_script.specs.Spots.{shape_of, shape_at, name_at, subject_of, word_place, behind_word, walk_item, listed_item};

@@ -1,8 +1,4 @@
-//! The operations of one thread, and the calls of one agent.
-ghost use Rattle.std.specs.Prelude.{◌+◌, ◌<◌, ◌^◌, length, map};
-ghost use Rattle.serde_json.specs.View.{view};
-ghost use Rattle.ti_script.specs.Faults.{Gives};
-ghost use Rattle.ti_script.specs.Lives.{operations_in, calls_of_one};
+//! Reads the operations of one thread, and the calls of one agent.
 
 use crate::agent_call::call_in;
 use crate::fault::ScriptFault;
@@ -13,7 +9,7 @@ use std::alloc::Global;
 use ti_live::{AgentCall, Listed};
 use ti_types::{EnvNo, Event, ThreadNo};
 
-/// The operations of one thread, as items that are numbered from this one on.
+/// The operations of one thread. Their items are numbered from `first` on.
 pub(crate) fn operations_in(
     alloc: Global,
     cast: &Cast,
@@ -34,7 +30,7 @@ pub(crate) fn operations_in(
     Ok(events)
 }
 
-/// The calls of one agent, as items that are numbered from this one on.
+/// The calls of one agent. Their items are numbered from `first` on.
 pub(crate) fn calls_of_one(
     alloc: Global,
     cast: &Cast,
@@ -54,3 +50,8 @@ pub(crate) fn calls_of_one(
     }
     Ok(calls)
 }
+
+ghost use Rattle.std.specs.Prelude.{◌+◌, ◌<◌, ◌^◌, length, map};
+ghost use Rattle.serde_json.specs.View.{view};
+ghost use Rattle.ti_script.specs.Faults.{Gives};
+ghost use Rattle.ti_script.specs.Lives.{operations_in, calls_of_one};

@@ -1,11 +1,13 @@
-//! What a live script says.
+//! The live script that a document says.
 use crate::names::Names;
 use ti_live::{AgentCall, Listed};
 use ti_types::{Event, Limits};
 
-/// A live script: the limits, the names of its threads, agents and methods, for each thread its operations, as events of
-/// it, and for each agent its calls. The limits have as many threads and environments as there are names of threads and
-/// agents, and so have the lists. Source: this profile.
+/// A live script: the limits, and the names of its threads, agents and methods. For each thread it has the operations, as
+/// events of that thread, and for each agent the calls.
+///
+/// The limits have as many threads and environments as there are names of threads and agents. There are as many lists of
+/// each. Source: this profile.
 #[derive(Drop)]
 pub struct Live {
     pub limits: Limits,

@@ -1,21 +1,18 @@
-//! Lengths that the lines of a live run do not exceed, which are found without making the lines.
-ghost use Rattle.std.specs.Prelude.{◌≡◌, ◌≤◌, ◌+◌, ◌*◌, ◌^◌, IfSome, IfNone};
-ghost use Rattle.ti_script.specs.Bounds.{frames_told};
-ghost use Rattle.ti_script.specs.LiveBounds.{frames_listed, frames_replied, parts_replied, AreRepliesWithin, AreRefusalsWithin, AreVerdictsWithin};
+//! Bounds for the lengths of a live run's lines, found without making the lines.
 
 use ti_live::Reply;
 use ti_types::{Answer, StackInfo};
 
-/// No more bytes than these stand in the text of a code, or in that of a stack besides its names and frames.
+/// At most this many bytes are in the text of a code, or in that of a stack besides its names and frames.
 const PART: usize = 128;
 
-/// No more bytes than these stand in a frame's text, with the space before it, besides its method's name.
+/// At most this many bytes are in a frame's text besides its method's name. The space before the frame counts.
 const FRAME: usize = 66;
 
-/// No more bytes than these stand in a line besides its names, frames, codes and stacks.
+/// At most this many bytes are in a line besides its names, frames, codes and stacks.
 const LINE: usize = 256;
 
-/// How many frames the text of an answer names.
+/// How many frames the text of an answer has.
 fn frames_told(answer: &Answer) -> usize
     ensures { result ≡ frames_told answer.now }
 {
@@ -27,7 +24,7 @@ fn frames_told(answer: &Answer) -> usize
     }
 }
 
-/// How many frames these stacks have in all. None where that is no `usize`.
+/// How many frames these stacks have in all. `None` if that is no `usize`.
 fn frames_listed(infos: &[StackInfo]) -> Option<usize>
     ensures { IfSome result (λ n. n ≡ frames_listed infos.now) }
 {
@@ -38,7 +35,7 @@ fn frames_listed(infos: &[StackInfo]) -> Option<usize>
     Some(count)
 }
 
-/// How many frames a reply's text names. None where that is no `usize`.
+/// How many frames a reply's text has. `None` if that is no `usize`.
 fn frames_replied(reply: &Reply) -> Option<usize>
     ensures { IfSome result (λ n. n ≡ frames_replied reply.now) }
 {
@@ -60,16 +57,17 @@ fn parts_replied(reply: &Reply) -> usize
     }
 }
 
-/// `count * each + more`, where that is a `usize`.
+/// `count * each + more`, or `None` if that is no `usize`.
 fn sum_of(count: usize, each: usize, more: usize) -> Option<usize>
     ensures { IfSome result (λ n. n ≡ count * each + more) }
 {
     count.checked_mul(each)?.checked_add(more)
 }
 
-/// A length that the line of a reply does not exceed, whatever the call's number, where no agent's or thread's name is
-/// longer than `longest_name`, and no method's than `longest_method`. It looks at each stack of the reply. None where that
-/// length is no `usize`.
+/// A length in bytes that the line of a reply does not exceed, whatever the call's number. No agent's or thread's name may
+/// be longer than `longest_name` bytes, and no method's than `longest_method`. It looks at each stack of the reply.
+///
+/// `None` if this length is no `usize`.
 #[tactic(auto, using(crate::proofs::LiveBoundLaws::line_of_reply))]
 pub fn reply_bound(longest_name: usize, longest_method: usize, reply: &Reply) -> Option<usize>
     ensures { IfSome result (AreRepliesWithin longest_name longest_method reply.now) }
@@ -82,8 +80,8 @@ pub fn reply_bound(longest_name: usize, longest_method: usize, reply: &Reply) ->
     sum_of(frames, frame, more)
 }
 
-/// A length that neither the line of a refused operation exceeds nor a verdict, where no thread's name is longer than
-/// `longest_name`. None where that length is no `usize`.
+/// A length in bytes that neither the line of a refused operation nor a verdict exceeds. No thread's name may be longer than
+/// `longest_name` bytes. `None` if this length is no `usize`.
 #[tactic(auto, using(crate::proofs::LiveBoundLaws::refusals_within, crate::proofs::LiveBoundLaws::verdicts_within))]
 pub fn thread_line_bound(longest_name: usize) -> Option<usize>
     ensures refusals { IfSome result (AreRefusalsWithin longest_name) }
@@ -92,3 +90,7 @@ pub fn thread_line_bound(longest_name: usize) -> Option<usize>
 {
     longest_name.checked_add(LINE)
 }
+
+ghost use Rattle.std.specs.Prelude.{◌≡◌, ◌≤◌, ◌+◌, ◌*◌, ◌^◌, IfSome, IfNone};
+ghost use Rattle.ti_script.specs.Bounds.{frames_told};
+ghost use Rattle.ti_script.specs.LiveBounds.{frames_listed, frames_replied, parts_replied, AreRepliesWithin, AreRefusalsWithin, AreVerdictsWithin};

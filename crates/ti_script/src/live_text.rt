@@ -1,11 +1,7 @@
 //! The texts of a live run's replies, refused operations and verdicts.
 //!
-//! A function here adds its text to the end of `out`. It takes no memory where `out` has room for the text; an error says
-//! that it had not, and that memory ran out, and then a front of the text has been added to what was there.
-ghost use Rattle.std.specs.Prelude.{◌≡◌, ◌++◌, ◌+◌, ◌≤◌, ◌<◌, codes, length, decimal, string_bytes, OnOk, OnErr};
-ghost use Rattle.std.specs.String.{string_len, string_capacity};
-ghost use Rattle.ti_script.specs.Texts.{bits_text, frames_text, AddsFront};
-ghost use Rattle.ti_script.specs.LiveTexts.{name_text, numbered_text, codes_text, infos_text, info_text, reply_text, replies_text, agents_text, reply_line, refusal_line, refusals_text, verdict_line, thread_text};
+//! Each function here adds its text to the end of `out`. It takes no memory if `out` has room for the text. An error says
+//! that there was no room, and that memory ran out. Then a prefix of the text has been added.
 
 use crate::names::Names;
 use crate::text::{put_answer, put_bits, put_frames, put_number};
@@ -13,7 +9,7 @@ use std::alloc::AllocError;
 use ti_live::{Listed, Refusal, Reply};
 use ti_types::{Frame, StackInfo};
 
-/// Adds the name of a number, and nothing where none has it.
+/// Adds the name of this number, or nothing if no name has it.
 #[tactic(auto, using(crate::proofs::RoomLaws::lengths, crate::proofs::FrontLaws::fronts))]
 fn put_name(out: &mut String, names: &Names, number: u32) -> Result<(), AllocError>
     ensures ok { OnOk result (string_bytes out.new ≡ string_bytes out.old ++ name_text names.now number) }
@@ -62,7 +58,7 @@ fn put_code_behind(out: &mut String, code: u32) -> Result<(), AllocError>
     put_number_behind(out, u64::from(code))
 }
 
-/// Adds a space and a code, for each.
+/// Adds a space and a code, for each code.
 fn put_codes(out: &mut String, numbers: &[u32]) -> Result<(), AllocError>
     ensures ok { OnOk result (string_bytes out.new ≡ string_bytes out.old ++ codes_text numbers.now) }
     ensures len { OnOk result (string_len out.new ≡ string_len out.old + length (codes_text numbers.now)) }
@@ -143,7 +139,7 @@ fn put_info_behind(
     put_info(out, threads, methods, info)
 }
 
-/// Adds a bar and a stack, for each.
+/// Adds a bar and a stack, for each stack.
 fn put_infos(
     out: &mut String,
     threads: &Names,
@@ -162,9 +158,10 @@ fn put_infos(
     Ok(())
 }
 
-/// Adds the text of a reply: that of its answer, as in a walk; `codes 0 10`; or `stacks | t0 0x5 a@3 | t1 0x0`, each stack with
-/// its thread's name, its state bits and its frames, the newest first. A number without a name is written with no name. Source:
-/// this profile.
+/// Adds the text of a reply. An answer has the text that it has in a walk. Codes are `codes 0 10`, and stacks are `stacks |
+/// t0 0x5 a@3 | t1 0x0`. Each stack has its thread's name, its state bits, and its frames, the newest first.
+///
+/// A number without a name adds no name. Source: this profile.
 #[tactic(auto, using(crate::proofs::RoomLaws::lengths, crate::proofs::FrontLaws::fronts))]
 pub fn reply_text(
     out: &mut String,
@@ -210,7 +207,7 @@ fn put_reply_behind(
     out.push_str("\n")
 }
 
-/// Adds the line of a reply: the agent's name, the call's number from 0, the reply's text and a line feed. Source: this
+/// Adds the line of a reply: the agent's name, the call's number from 0, the reply's text, and a line feed. Source: this
 /// profile.
 #[tactic(auto, using(crate::proofs::RoomLaws::lengths, crate::proofs::FrontLaws::fronts))]
 pub fn reply_line(
@@ -245,8 +242,8 @@ fn put_line_end(out: &mut String, word: &str, number: u64) -> Result<(), AllocEr
     out.push_str("\n")
 }
 
-/// Adds the line of a refused operation: the thread's name, the operation's number from 0, `error` and the error's number,
-/// and a line feed. Source: this profile.
+/// Adds the line of a refused operation: the thread's name, the operation's number from 0, `error`, the error's number, and
+/// a line feed. Source: this profile.
 #[tactic(auto, using(crate::proofs::RoomLaws::lengths, crate::proofs::FrontLaws::fronts))]
 pub fn refusal_line(out: &mut String, thread: &str, refusal: Refusal) -> Result<(), AllocError>
     ensures ok { OnOk result (string_bytes out.new ≡ string_bytes out.old ++ refusal_line thread.now refusal) }
@@ -259,8 +256,8 @@ pub fn refusal_line(out: &mut String, thread: &str, refusal: Refusal) -> Result<
     put_line_end(out, " error ", u64::from(refusal.error))
 }
 
-/// Adds the verdict on a thread's history: the thread's name and `legal`, or `illegal` and the place of its first illegal
-/// entry from 0, and a line feed. Source: this profile.
+/// Adds the verdict on a thread's history: the thread's name, then `legal`, or `illegal` and the place of its first illegal
+/// entry, counted from 0. A line feed ends it. Source: this profile.
 #[tactic(auto, using(crate::proofs::RoomLaws::lengths, crate::proofs::FrontLaws::fronts))]
 pub fn verdict_line(
     out: &mut String,
@@ -280,7 +277,7 @@ pub fn verdict_line(
     }
 }
 
-/// Adds the lines of one agent's replies, whose calls are numbered from 0 on. Source: this profile.
+/// Adds the lines of one agent's replies, with its calls numbered from 0. Source: this profile.
 pub fn replies_text(
     out: &mut String,
     threads: &Names,
@@ -300,7 +297,7 @@ pub fn replies_text(
     Ok(())
 }
 
-/// Adds the lines of one agent's replies, by the agent's number.
+/// Adds the lines of the replies of the agent of this number.
 #[tactic(auto, using(crate::proofs::RoomLaws::lengths, crate::proofs::FrontLaws::fronts))]
 fn put_agent(
     out: &mut String,
@@ -320,8 +317,8 @@ fn put_agent(
     replies_text(out, threads, methods, agent, replies.as_slice())
 }
 
-/// Adds the lines of the replies of all agents, in the order of their numbers, of which there are at most 65,536. Source: this
-/// profile.
+/// Adds the lines of the replies of all agents, in the order of their numbers. There may be at most 65,536 agents. Source:
+/// this profile.
 pub fn agents_text(
     out: &mut String,
     threads: &Names,
@@ -373,3 +370,8 @@ pub fn thread_text(
     refusals_text(out, thread, refused)?;
     verdict_line(out, thread, illegal)
 }
+
+ghost use Rattle.std.specs.Prelude.{◌≡◌, ◌++◌, ◌+◌, ◌≤◌, ◌<◌, codes, length, decimal, string_bytes, OnOk, OnErr};
+ghost use Rattle.std.specs.String.{string_len, string_capacity};
+ghost use Rattle.ti_script.specs.Texts.{bits_text, frames_text, AddsFront};
+ghost use Rattle.ti_script.specs.LiveTexts.{name_text, numbered_text, codes_text, infos_text, info_text, reply_text, replies_text, agents_text, reply_line, refusal_line, refusals_text, verdict_line, thread_text};

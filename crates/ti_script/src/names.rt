@@ -1,14 +1,11 @@
 //! The names of a document, by their numbers.
-ghost use Rattle.std.specs.Prelude.{◌≡◌, ◌<◌, ◌≤◌, ◌++◌, ◌∷◌, [], length, IfOk, OnErr, not, slice_get, option_copied, if◌then◌else◌};
-ghost use Rattle.ti_script.specs.Names.{number_in, is_among};
-ghost use Rattle.ti_script.specs.Bounds.{AreNamesWithin};
 
 use indexmap::IndexSet;
 use std::alloc::{AllocError, Global};
 use std::marker::Model;
 
-/// Names, each once, numbered from 0 in their order: at most 65,536. Contracts see the list of their bytes. A name is
-/// found by its text, and a text by its number, in O(1).
+/// At most 65,536 different names, numbered from 0 in their order. A name is found by its text in O(1), and so is a text by
+/// its number. Contracts see the list of the names' bytes.
 #[derive(Drop)]
 pub struct Names {
     set: IndexSet<String>,
@@ -25,7 +22,7 @@ impl Model for Names {
 }
 
 impl Names {
-    /// No names. It takes no memory until a name is added.
+    /// Makes an empty list. It takes no memory until a name is added.
     pub fn new(alloc: Global) -> Self
         ensures { result ≡ [] }
     {
@@ -34,7 +31,7 @@ impl Names {
         }
     }
 
-    /// No names, with room for this many. The error is lack of memory for it.
+    /// Makes an empty list with room for `room` names. The error is lack of memory.
     pub fn with_room(alloc: Global, room: usize) -> Result<Self, AllocError>
         ensures { IfOk result (λ names. names ≡ []) }
     {
@@ -50,7 +47,7 @@ impl Names {
         self.set.len()
     }
 
-    /// The number of a name, which is its place. None where it is not here.
+    /// The number of a name, which is its place. `None` if the name is not here.
     #[tactic(auto, using(crate::proofs::NameLaws::number_in_texts))]
     pub fn number(&self, name: &str) -> Option<u32>
         ensures { result ≡ number_in self.now name.now }
@@ -67,7 +64,7 @@ impl Names {
         self.set.contains(name)
     }
 
-    /// The name of a number. None where no name has it.
+    /// The name of this number. `None` if no name has it.
     pub fn name(&self, number: u32) -> Option<&str>
         ensures { option_copied result ≡ slice_get self.now number }
     {
@@ -75,7 +72,7 @@ impl Names {
         Some(name.as_str())
     }
 
-    /// A length that no name exceeds. It looks at each name.
+    /// A length in bytes that no name exceeds. It looks at each name.
     #[tactic(auto, using(crate::proofs::NameLaws::within))]
     pub fn longest(&self) -> usize
         ensures { AreNamesWithin result self.now }
@@ -89,8 +86,8 @@ impl Names {
         longest
     }
 
-    /// Adds a name at the end, where it is not here yet, and says whether it did. Where memory runs out, the names
-    /// stay as they were.
+    /// Adds a name at the end if it is not here yet, and gives whether it was added. If memory runs out, the names stay as
+    /// they were.
     #[tactic(auto, using(crate::proofs::NameLaws::is_among_texts))]
     pub fn add(&mut self, alloc: Global, name: &str) -> Result<bool, AllocError>
         requires { length self.old < 65536 }
@@ -104,10 +101,14 @@ impl Names {
     }
 }
 
-/// The names of a document's threads, agents and methods. The number of each is its place in the document's array.
+/// The names of a document's threads, agents and methods. The number of a name is its place in the document's array.
 #[derive(Drop)]
 pub struct Cast {
     pub threads: Names,
     pub agents: Names,
     pub methods: Names,
 }
+
+ghost use Rattle.std.specs.Prelude.{◌≡◌, ◌<◌, ◌≤◌, ◌++◌, ◌∷◌, [], length, IfOk, OnErr, not, slice_get, option_copied, if◌then◌else◌};
+ghost use Rattle.ti_script.specs.Names.{number_in, is_among};
+ghost use Rattle.ti_script.specs.Bounds.{AreNamesWithin};

@@ -1,17 +1,14 @@
-//! An operation of a thread in a live script: a thread's event of a walk, without the thread.
-ghost use Rattle.std.specs.Prelude.{◌≡◌};
-ghost use Rattle.serde_json.specs.View.{view};
-ghost use Rattle.ti_script.specs.Lives.{operation_in};
+//! Reads an operation of a thread in a live script: a thread's event of a walk, without the thread.
 
 use crate::fault::ScriptFault;
 use crate::item::Item;
 use crate::names::Cast;
-use crate::own_event::thread_event;
+use crate::thread_event::thread_event;
 use crate::tree::array_in;
 use serde_json::Value;
 use ti_types::{Event, ThreadNo};
 
-/// An operation of a thread, as an item of this number: a word and what its row wants.
+/// An operation of a thread, from the item of this number: a word, and what comes after it.
 pub(crate) fn operation_in(
     cast: &Cast,
     number: u32,
@@ -29,3 +26,7 @@ pub(crate) fn operation_in(
     };
     thread_event(cast, item, thread, word, rest)
 }
+
+ghost use Rattle.std.specs.Prelude.{◌≡◌};
+ghost use Rattle.serde_json.specs.View.{view};
+ghost use Rattle.ti_script.specs.Lives.{operation_in};

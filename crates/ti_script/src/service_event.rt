@@ -1,14 +1,10 @@
-//! Global operations, capabilities and environments' words as a document writes them.
-ghost use Rattle.std.specs.Prelude.{◌≡◌, [], ◌∷◌, map};
-ghost use Rattle.serde_json.specs.View.{view};
-ghost use Rattle.ti_types.specs.declared.event.Event.TheVariants.{Stop, Read, Go, AddCaps, Relinquish, SetEnvWord};
-ghost use Rattle.ti_script.specs.Events.{thread, signed, word, caps, row, env_table, service_table, row_event, word_event};
+//! Reads the events of an agent about stops, capabilities and its environment's own word.
 
 use crate::element::{caps_of, signed_in, thread_in, word_in};
 use crate::fault::ScriptFault;
 use crate::item::Item;
 use crate::names::Cast;
-use crate::own_event::plain_event;
+use crate::thread_event::plain_event;
 use serde_json::Value;
 use ti_types::{EnvNo, Event};
 
@@ -75,7 +71,7 @@ fn set_event(cast: &Cast, item: Item, agent: EnvNo, rest: &[Value]) -> Result<Ev
     }
 }
 
-/// The event of a word about the environment alone.
+/// The event of a word about the environment alone. `Shape` if the word is none of these.
 pub(crate) fn env_event(
     cast: &Cast,
     item: Item,
@@ -95,7 +91,7 @@ pub(crate) fn env_event(
     }
 }
 
-/// The event of a word for stops, capabilities and the environment's own word.
+/// The event of a word about stops, capabilities and the environment's own word. `Shape` if the word is none of these.
 pub(crate) fn service_event(
     cast: &Cast,
     item: Item,
@@ -112,3 +108,8 @@ pub(crate) fn service_event(
         _ => env_event(cast, item, agent, text, rest),
     }
 }
+
+ghost use Rattle.std.specs.Prelude.{◌≡◌, [], ◌∷◌, map};
+ghost use Rattle.serde_json.specs.View.{view};
+ghost use Rattle.ti_types.specs.declared.event.Event.TheVariants.{Stop, Read, Go, AddCaps, Relinquish, SetEnvWord};
+ghost use Rattle.ti_script.specs.Events.{thread, signed, word, caps, row, env_table, service_table, row_event, word_event};

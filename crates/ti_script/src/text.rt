@@ -1,14 +1,13 @@
 //! The texts of answers and outcomes.
-ghost use Rattle.std.specs.Prelude.{◌≡◌, ◌++◌, ◌+◌, ◌<◌, ◌≤◌, ◌∷◌, [], false, codes, length, decimal, OnOk, OnErr, string_bytes};
-ghost use Rattle.std.specs.String.{string_len, string_capacity};
-ghost use Rattle.std.specs.Fmt.{digits, digit_glyph};
-ghost use Rattle.ti_script.specs.Texts.{place_text, frame_text, frames_text, held_text, caps_text, bits_text, error_text, answer_text, outcome_text, line_text, AddsFront};
+//!
+//! Each function here adds its text to the end of `out`. It takes no memory if `out` has room for the text.
 
 use crate::names::Names;
 use itoa::Buffer;
 use std::alloc::AllocError;
 use ti_types::{Answer, Caps, Frame, Outcome, Place, TiError};
 
+/// Adds a number in decimal.
 #[tactic(auto, using(crate::proofs::RoomLaws::one_digit_decimal, crate::proofs::FrontLaws::fronts))]
 pub(crate) fn put_number(out: &mut String, number: u64) -> Result<(), AllocError>
     ensures ok { OnOk result (string_bytes out.new ≡ string_bytes out.old ++ decimal number) }
@@ -24,7 +23,7 @@ pub(crate) fn put_number(out: &mut String, number: u64) -> Result<(), AllocError
     out.push_str(digits.format(number))
 }
 
-/// A digit of a hexadecimal number.
+/// A digit of a hexadecimal number, in small letters.
 fn hexadecimal_digit(digit: u32) -> &'static str
     requires { digit < 16 }
     ensures { result.now ≡ digit_glyph false digit ∷ [] }
@@ -92,7 +91,7 @@ fn put_frame(out: &mut String, methods: &Names, frame: Frame) -> Result<(), Allo
     put_place(out, frame.place)
 }
 
-/// A space and a frame.
+/// Adds a space and a frame.
 #[tactic(auto, using(crate::proofs::RoomLaws::lengths, crate::proofs::FrontLaws::fronts))]
 fn put_frame_behind(out: &mut String, methods: &Names, frame: Frame) -> Result<(), AllocError>
     ensures ok { OnOk result (string_bytes out.new ≡ string_bytes out.old ++ (codes " " ++ frame_text methods.now frame)) }
@@ -105,6 +104,7 @@ fn put_frame_behind(out: &mut String, methods: &Names, frame: Frame) -> Result<(
     put_frame(out, methods, frame)
 }
 
+/// Adds a space and a frame, for each frame.
 #[tactic(auto, using(crate::proofs::RoomLaws::frames_left, crate::proofs::FrontLaws::fronts, crate::proofs::FrontLaws::leaving))]
 pub(crate) fn put_frames(
     out: &mut String,
@@ -163,6 +163,7 @@ fn put_caps(out: &mut String, held: Caps) -> Result<(), AllocError>
     Ok(())
 }
 
+/// Adds `0x` and state bits in hexadecimal.
 #[tactic(auto, using(crate::proofs::RoomLaws::lengths, crate::proofs::FrontLaws::fronts))]
 pub(crate) fn put_bits(out: &mut String, bits: u32) -> Result<(), AllocError>
     ensures ok { OnOk result (string_bytes out.new ≡ string_bytes out.old ++ bits_text bits) }
@@ -187,6 +188,7 @@ fn put_counted(out: &mut String, word: &str, number: u64) -> Result<(), AllocErr
     put_number(out, number)
 }
 
+/// Adds `error` and the number of an error.
 #[tactic(auto, using(crate::proofs::FrontLaws::fronts))]
 pub(crate) fn put_error(out: &mut String, error: TiError) -> Result<(), AllocError>
     ensures ok { OnOk result (string_bytes out.new ≡ string_bytes out.old ++ error_text error) }
@@ -216,6 +218,7 @@ fn put_stack(
     put_frames(out, methods, frames)
 }
 
+/// Adds the text of an answer.
 #[tactic(auto, using(crate::proofs::RoomLaws::lengths, crate::proofs::FrontLaws::fronts))]
 pub(crate) fn put_answer(
     out: &mut String,
@@ -255,9 +258,9 @@ pub(crate) fn put_answer(
 
 /// Adds the text of an outcome to the end of `out`: `ok`, `clear`, `count 3`, `error 15`, `trace b@0 a@3` and the like.
 ///
-/// A call that is still unanswered, or has only a ticket, is `unanswered`. A method's number without a name is written
-/// with no name. It takes no memory where `out` has room for the text; an error says that it had not, and that memory
-/// was wanting, and then a front of the text has been added to what was there. Source: this profile.
+/// A call that is still unanswered, or has only a ticket, is `unanswered`. A method's number without a name adds no name. It
+/// takes no memory if `out` has room for the text. An error says that there was no room, and that memory ran out. Then a
+/// prefix of the text has been added. Source: this profile.
 #[tactic(auto, using(crate::proofs::FrontLaws::fronts))]
 pub fn outcome_text(
     out: &mut String,
@@ -275,18 +278,17 @@ pub fn outcome_text(
         Some(Outcome::Done) => out.push_str("ok"),
         Some(Outcome::Clear) => out.push_str("clear"),
         Some(Outcome::Went) => out.push_str("went"),
-        Some(Outcome::Held) => out.push_str("held"),
+        Some(Outcome::Stays) => out.push_str("held"),
         Some(Outcome::Refused(error)) => put_error(out, *error),
         Some(Outcome::Gave(answer)) => put_answer(out, methods, answer),
         Some(Outcome::Posted(_)) => out.push_str("unanswered"),
     }
 }
 
-/// Adds the line of an outcome to the end of `out`: the event's index from 0, a space, the outcome's text and a line
-/// feed.
+/// Adds the line of an outcome to the end of `out`: the event's index from 0, a space, the outcome's text, and a line feed.
 ///
-/// It takes no memory where `out` has room for the line; an error says that it had not, and that memory ran out, and
-/// then a front of the line has been added to what was there. Source: this profile.
+/// It takes no memory if `out` has room for the line. An error says that there was no room, and that memory ran out. Then a
+/// prefix of the line has been added. Source: this profile.
 #[tactic(auto, using(crate::proofs::RoomLaws::lengths, crate::proofs::FrontLaws::fronts))]
 pub fn line_text(
     out: &mut String,
@@ -305,3 +307,8 @@ pub fn line_text(
     outcome_text(out, methods, outcome)?;
     out.push_str("\n")
 }
+
+ghost use Rattle.std.specs.Prelude.{◌≡◌, ◌++◌, ◌+◌, ◌<◌, ◌≤◌, ◌∷◌, [], false, codes, length, decimal, OnOk, OnErr, string_bytes};
+ghost use Rattle.std.specs.String.{string_len, string_capacity};
+ghost use Rattle.std.specs.Fmt.{digits, digit_glyph};
+ghost use Rattle.ti_script.specs.Texts.{place_text, frame_text, frames_text, held_text, caps_text, bits_text, error_text, answer_text, outcome_text, line_text, AddsFront};

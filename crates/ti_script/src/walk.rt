@@ -1,12 +1,11 @@
-//! A walk that was read.
-ghost use Rattle.std.specs.Prelude.{◌≡◌, ◌++◌, ◌∷◌, [], IfOk, OnOk, OnErr};
+//! The walk that a document says.
 
 use crate::names::Names;
 use std::alloc::{AllocError, Global};
 use std::marker::Model;
 use ti_types::{Event, Limits};
 
-/// Events in their order, which contracts see as a list.
+/// Events in their order. Contracts see them as a list.
 #[derive(Drop)]
 pub struct EventList {
     items: Vec<Event>,
@@ -22,7 +21,7 @@ impl Model for EventList {
 }
 
 impl EventList {
-    /// No events. It takes no memory until an event is added.
+    /// Makes an empty list. It takes no memory until an event is added.
     pub fn new(alloc: Global) -> Self
         ensures { result ≡ [] }
     {
@@ -31,7 +30,7 @@ impl EventList {
         }
     }
 
-    /// No events, with room for this many, so that adding them takes no memory. The error is lack of memory.
+    /// Makes an empty list with room for `count` events, so that adding them takes no memory. The error is lack of memory.
     pub fn with_room(alloc: Global, count: usize) -> Result<Self, AllocError>
         ensures { IfOk result (λ events. events ≡ []) }
     {
@@ -40,7 +39,7 @@ impl EventList {
         })
     }
 
-    /// Adds an event at the end. Where memory runs out, the events stay as they were.
+    /// Adds an event at the end. If memory runs out, the events stay as they were.
     pub fn push(&mut self, event: Event) -> Result<(), AllocError>
         ensures ok { OnOk result (self.new ≡ self.old ++ event ∷ []) }
         ensures err { OnErr result (self.new ≡ self.old) }
@@ -49,7 +48,7 @@ impl EventList {
         Ok(())
     }
 
-    /// The events in their order.
+    /// The events, in their order.
     pub fn as_slice(&self) -> &[Event]
         ensures { result.now ≡ self.now }
     {
@@ -57,8 +56,8 @@ impl EventList {
     }
 }
 
-/// A walk: the limits of its coordinator, the names of its threads, agents and methods, and its events in their order.
-/// The limits have as many threads and environments as there are names of threads and agents. Source: this profile.
+/// A walk: the limits of its core, the names of its threads, agents and methods, and its events in their order. The limits
+/// have as many threads and environments as there are names of threads and agents. Source: this profile.
 #[derive(Drop)]
 pub struct Walk {
     pub limits: Limits,
@@ -67,3 +66,5 @@ pub struct Walk {
     pub methods: Names,
     pub events: EventList,
 }
+
+ghost use Rattle.std.specs.Prelude.{◌≡◌, ◌++◌, ◌∷◌, [], IfOk, OnOk, OnErr};

@@ -14,7 +14,7 @@ use Rattle.ti_types.specs.declared.state.Mode.{Mode}
 use Rattle.ti_types.specs.declared.call.Call.{Call}
 use Rattle.ti_types.specs.declared.answer.Answer.{Answer}
 use Rattle.ti_types.specs.declared.entry.Entry.{Entry}
-use Rattle.ti_types.specs.declared.entry.Entry.TheVariants.{Start, Own, Hand, Back, End, Asked, Stop, Read, Go}
+use Rattle.ti_types.specs.declared.entry.Entry.TheVariants.{Start, Stepped, Hand, Back, End, Asked, Stop, Read, Go}
 use Rattle.ti_types.specs.declared.view.ThreadView.{ThreadView}
 use Rattle.ti_types.specs.Frames as buffer
 use Rattle.ti_types.specs.Answer.{said}
@@ -40,16 +40,16 @@ use Rattle.ti_slot.specs.Waiting.{entry_of, entries_of, calls_of, AreReady, IsBu
 use Rattle.ti_slot.specs.Inside.{IsSlot, costs_in, thread_in}
 use Rattle.ti_slot.specs.Thread.{Thread, IsAsked, read_answer}
 use Rattle.ti_types.specs.declared.event.Event.TheVariants as event
-use Rattle.ti_replay.specs.Events.{hold_refusal}
+use Rattle.ti_replay.specs.Events.{stopping_refusal}
 use Rattle.ti_slot.specs.declared.asked.Asked.TheVariants.{Answered, Waiting}
 use Rattle.ti_types.specs.declared.event.Ticket.{Ticket}
-use Rattle.ti_slot.specs.Slot.{Stands, shelf, FramesAreHome, LogIsHome}
+use Rattle.ti_slot.specs.Slot.{Mirrors, shelf, FramesAreHome, LogIsHome}
 use Rattle.ti_slot.proofs.SlotLaws as laws
 use Rattle.ti_slot.proofs.CallLaws.{May, Comes, comes, may_call, view_is}
 
 asked_one : (env : EnvNo) (x : Entry) → ask_count env x ≤ call_cost env x
 asked_one env Start = omega arith
-asked_one env (Own step) = omega arith
+asked_one env (Stepped step) = omega arith
 asked_one env (Hand safe) = omega arith
 asked_one env Back = omega arith
 asked_one env End = omega arith
@@ -80,7 +80,7 @@ put_off_is a call s = ap (λ (v : ThreadView). waits call && is_running v.mode) 
 pub asked_waits : (a : Inside) (env : EnvNo) (n : ℕ) (call : Call) (thread : ThreadNo) (buf : buffer.Trace) (h : Recorded Entry) (ops : Ops)
     → IsSlot a → May a (Asked env n call) → (waits call && is_running a.condition.mode) ≡ true → h.items ≡ a.history.items ++ Asked env n call ∷ [] → shelf h ≡ shelf a.history
     → ops ≡ with_posted a.ops (record { ticket = record { env = env; thread = thread; no = n }; call = call; buf = buf }) → IsBufferOf a.limits call buf
-    → Stands a.limits h.items (shelf h) a.condition a.frames a.log a.own (history_state a.limits h.items).costs ops
+    → Mirrors a.limits h.items (shelf h) a.condition a.frames a.log a.own (history_state a.limits h.items).costs ops
 asked_waits a env n call thread buf h ops s may off e le eo b =
     let x = Asked env n call in
     let p : Pending = record { ticket = record { env = env; thread = thread; no = n }; call = call; buf = buf } in
@@ -103,7 +103,7 @@ pub answered : (a : Inside) (env : EnvNo) (n : ℕ) (call : Call) (h : Recorded 
     → IsSlot a → May a (Asked env n call) → (waits call && is_running a.condition.mode) ≡ false → h.items ≡ a.history.items ++ Asked env n call ∷ [] → shelf h ≡ shelf a.history
     → ((others : List Frame) → view_of c (frames_or g others) ≡ called (view_of a.condition (frames_or a.frames others)) env call) → AreWhereTheyWere a.frames g
     → (fates : List (List Fate)) → ops ≡ with_fates a.ops fates
-    → Stands a.limits h.items (shelf h) c g a.log a.own (history_state a.limits h.items).costs ops
+    → Mirrors a.limits h.items (shelf h) c g a.log a.own (history_state a.limits h.items).costs ops
 answered a env n call h c g ops s may off e le vc stay fates eo =
     let x = Asked env n call in
     let f = (view a.limits a.history.items).frames in
@@ -123,7 +123,7 @@ not_replied a env n call h s off e =
 
 -- a read that is let through
 pub record Reads (a : Inside) (env : EnvNo) (n : ℤ) : Type 0 where
-  pub free : hold_refusal (view a.limits a.history.items) (event.Read env a.number n) ≡ None
+  pub free : stopping_refusal (view a.limits a.history.items) (event.Read env a.number n) ≡ None
   pub comes : Comes a (Read env n)
 
 pub reads_here : (a : Inside) (t : Thread) (env : EnvNo) (n : ℤ) (f : Stack) → IsSlot a → thread_in a ≡ t → env.0 < t.limits.envs → calls_spent env t.history < t.limits.calls → is_not_negative n ≡ true
@@ -134,7 +134,7 @@ reads_here a t env n f s e he hc hn hs is =
     record { free = grind (arith, view_is a s, hs, hr); comes = comes a (Read env n) s (grind (arith, nat_tests, view_is a s, h.0, h.1)) }
 
 pub was_read : (a : Inside) (env : EnvNo) (n : ℤ) (h : Recorded Entry) → IsSlot a → May a (Read env n) → h.items ≡ a.history.items ++ Read env n ∷ [] → shelf h ≡ shelf a.history
-    → Stands a.limits h.items (shelf h) a.condition a.frames a.log a.own (history_state a.limits h.items).costs a.ops
+    → Mirrors a.limits h.items (shelf h) a.condition a.frames a.log a.own (history_state a.limits h.items).costs a.ops
 was_read a env n h s may e le =
     laws.own_costs a.limits h.items (shelf h) a.condition a.frames a.log a.own (charged (costs_in a) (Read env n)) a.ops (laws.goes a.limits a.history.items (shelf a.history) a.condition a.frames a.log a.own (costs_in a) a.ops (Read env n) h.items (shelf h) a.condition a.frames a.log a.own (charged (costs_in a) (Read env n)) a.ops
     (frames_or a.frames (view a.limits a.history.items).frames) s may e le
@@ -167,7 +167,7 @@ told_now a env n call h tickets told s hn off e et tell = (grind (arith, e, hn, 
 
 -- what an accepted read answers
 pub read_told : (a : Inside) (t : Thread) (env : EnvNo) (n : ℤ) (h : List Entry) (f : Stack) (told : Answer) → IsSlot a → thread_in a ≡ t → Reads a env n → a.frames ≡ Some f → h ≡ a.history.items ++ Read env n ∷ []
-    → said told ≡ stack_of (view_of a.condition f.frames) n → read_answer (hold_refusal (view t.limits t.history) (event.Read env t.number n)) (reply a.limits h (length t.history)) ≡ Some (said told)
+    → said told ≡ stack_of (view_of a.condition f.frames) n → read_answer (stopping_refusal (view t.limits t.history) (event.Read env t.number n)) (reply a.limits h (length t.history)) ≡ Some (said told)
 read_told a t env n h f told s et r is e tell =
-    subst (λ (z : Thread). read_answer (hold_refusal (view z.limits z.history) (event.Read env z.number n)) (reply a.limits h (length z.history)) ≡ Some (said told)) et
+    subst (λ (z : Thread). read_answer (stopping_refusal (view z.limits z.history) (event.Read env z.number n)) (reply a.limits h (length z.history)) ≡ Some (said told)) et
     (rw r.free (read_replied a env n h f told s is e tell))

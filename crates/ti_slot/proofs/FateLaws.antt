@@ -10,7 +10,7 @@ use Rattle.ti_types.specs.declared.answer.Answer.{Answer}
 use Rattle.ti_types.specs.declared.view.ThreadView.{ThreadView}
 use Rattle.ti_types.specs.Answer.{said}
 use Rattle.ti_ops.specs.declared.fate.Fate.{Fate}
-use Rattle.ti_ops.specs.declared.fate.Fate.TheVariants.{Waiting, Told, Gone}
+use Rattle.ti_ops.specs.declared.fate.Fate.TheVariants.{Waiting, Answered, Gone}
 use Rattle.ti_ops.specs.declared.pending.Pending.{Pending}
 use Rattle.ti_ops.specs.Fates.{fates_by, fate_of, open_by, with_call, with_fate, is_open}
 use Rattle.ti_ops.proofs.StepLaws.{open-with_fate}
@@ -41,7 +41,7 @@ said-with_call env x fates =
 
 pub waits-said : (x : Fate) → said_fate x ≡ Waiting → x ≡ Waiting
 waits-said Waiting e = refl
-waits-said (Told a) e = cc
+waits-said (Answered a) e = cc
 waits-said Gone e = cc
 
 -- the list of an environment, where one list changes
@@ -155,7 +155,7 @@ saying_for t [] = None
 saying_for t (s ∷ sayings) = if is_at s.ticket t then Some s.answer else saying_for t sayings
 
 abbrev pub fate_or : Option Answer → Fate → Fate
-fate_or (Some a) x = Told a
+fate_or (Some a) x = Answered a
 fate_or None x = x
 
 pub awaited_after : (fates : List (List Fate)) (t : Ticket) (x : Fate) (waiting : List Pending) → is_open (fate_of t fates) ≡ true → is_awaited t waiting ≡ false → AreAwaited fates waiting → AreAwaited (with_fate t x fates) waiting
@@ -182,9 +182,9 @@ fate-delivered t w (p ∷ waiting) fates k a =
     let answer = answer_of w p.ticket.env p.call in
     let v = called w p.ticket.env p.call in
     let o : is_open (fate_of p.ticket fates) ≡ true = ap is_open k.0 in
-    let one = with_fate p.ticket (Told answer) fates in
-    let rest = fate-delivered t v waiting one (awaited_after fates p.ticket (Told answer) waiting o a.0 k.1) a.1 in
-    let here = fate-with_fate t p.ticket (Told answer) fates o in
+    let one = with_fate p.ticket (Answered answer) fates in
+    let rest = fate-delivered t v waiting one (awaited_after fates p.ticket (Answered answer) waiting o a.0 k.1) a.1 in
+    let here = fate-with_fate t p.ticket (Answered answer) fates o in
     elim (cases_Bool (is_at p.ticket t)) [
       | inl it ↦
           let none : saying_for t (answers_of v waiting) ≡ None = no_saying v waiting t (awaited_same p.ticket t waiting it ∙ a.0) in
@@ -215,8 +215,8 @@ length-delivered env w [] fates k a = refl
 length-delivered env w (p ∷ waiting) fates k a =
     let answer = answer_of w p.ticket.env p.call in
     let o : is_open (fate_of p.ticket fates) ≡ true = ap is_open k.0 in
-    length-delivered env (called w p.ticket.env p.call) waiting (with_fate p.ticket (Told answer) fates) (awaited_after fates p.ticket (Told answer) waiting o a.0 k.1) a.1
-    ∙ length-with_fate env p.ticket (Told answer) fates o
+    length-delivered env (called w p.ticket.env p.call) waiting (with_fate p.ticket (Answered answer) fates) (awaited_after fates p.ticket (Answered answer) waiting o a.0 k.1) a.1
+    ∙ length-with_fate env p.ticket (Answered answer) fates o
 
 -- an answer leaves as many open
 pub open-delivered : (env : EnvNo) (w : ThreadView) (waiting : List Pending) (fates : List (List Fate)) → AreAwaited fates waiting → AreApart waiting
@@ -226,20 +226,20 @@ open-delivered env w (p ∷ waiting) fates k a =
     let answer = answer_of w p.ticket.env p.call in
     let o : is_open (fate_of p.ticket fates) ≡ true = ap is_open k.0 in
     let there = within p.ticket fates o in
-    let one = open-with_fate env p.ticket (Told answer) fates there.0 there.1 in
-    open-delivered env (called w p.ticket.env p.call) waiting (with_fate p.ticket (Told answer) fates) (awaited_after fates p.ticket (Told answer) waiting o a.0 k.1) a.1
+    let one = open-with_fate env p.ticket (Answered answer) fates there.0 there.1 in
+    open-delivered env (called w p.ticket.env p.call) waiting (with_fate p.ticket (Answered answer) fates) (awaited_after fates p.ticket (Answered answer) waiting o a.0 k.1) a.1
     ∙ grind (arith, nat_tests, one, o)
 
 pub envs-delivered : (w : ThreadView) (waiting : List Pending) (fates : List (List Fate)) → length (delivered (answers_of w waiting) fates) ≡ length fates
 envs-delivered w [] fates = refl
 envs-delivered w (p ∷ waiting) fates =
-    let f = with_fate p.ticket (Told (answer_of w p.ticket.env p.call)) fates in
+    let f = with_fate p.ticket (Answered (answer_of w p.ticket.env p.call)) fates in
     envs-delivered (called w p.ticket.env p.call) waiting f ∙ length-set fates p.ticket.env.0 _
 
 -- the first call that waits is answered
 pub one_served : (w : ThreadView) (p : Pending) (waiting : List Pending) (fates : List (List Fate)) (a : Answer) → AreAwaited fates (p ∷ waiting) → AreApart (p ∷ waiting) → said a ≡ answer_of w p.ticket.env p.call
-    → AreAwaited (with_fate p.ticket (Told a) fates) waiting × (delivered (answers_of (called w p.ticket.env p.call) waiting) (said_in (with_fate p.ticket (Told a) fates)) ≡ delivered (answers_of w (p ∷ waiting)) (said_in fates))
+    → AreAwaited (with_fate p.ticket (Answered a) fates) waiting × (delivered (answers_of (called w p.ticket.env p.call) waiting) (said_in (with_fate p.ticket (Answered a) fates)) ≡ delivered (answers_of w (p ∷ waiting)) (said_in fates))
 one_served w p waiting fates a k once e = (
-  awaited_after fates p.ticket (Told a) waiting (ap is_open k.0) once.0 k.1,
-  ap (delivered (answers_of (called w p.ticket.env p.call) waiting)) (said-with_fate p.ticket (Told a) fates ∙ ap (λ b. with_fate p.ticket (Told b) (said_in fates)) e),
+  awaited_after fates p.ticket (Answered a) waiting (ap is_open k.0) once.0 k.1,
+  ap (delivered (answers_of (called w p.ticket.env p.call) waiting)) (said-with_fate p.ticket (Answered a) fates ∙ ap (λ b. with_fate p.ticket (Answered b) (said_in fates)) e),
 )

@@ -11,12 +11,12 @@ use Rattle.ti_types.specs.declared.event.Ticket.{Ticket}
 use Rattle.ti_types.specs.declared.call.Call.{Call}
 use Rattle.ti_types.specs.declared.answer.Answer.{Answer}
 use Rattle.ti_types.specs.declared.entry.Entry.{Entry}
-use Rattle.ti_types.specs.declared.entry.Entry.TheVariants.{Start, Own, Hand, Back, End, Asked, Stop, Read, Go}
+use Rattle.ti_types.specs.declared.entry.Entry.TheVariants.{Start, Stepped, Hand, Back, End, Asked, Stop, Read, Go}
 use Rattle.ti_types.specs.declared.view.ThreadView.{ThreadView}
 use Rattle.ti_ops.specs.declared.fate.Fate.{Fate}
-use Rattle.ti_ops.specs.declared.fate.Fate.TheVariants.{Waiting, Told, Gone}
+use Rattle.ti_ops.specs.declared.fate.Fate.TheVariants.{Waiting, Answered, Gone}
 use Rattle.ti_ops.specs.declared.pending.Pending.{Pending}
-use Rattle.ti_ops.specs.Fates.{fates_by, fate_of, open_by, with_call, with_fate, told_by, is_open}
+use Rattle.ti_ops.specs.Fates.{fates_by, fate_of, open_by, with_call, with_fate, answer_by, is_open}
 use Rattle.ti_ops.proofs.StepLaws.{open-with_fate}
 use Rattle.ti_replay.specs.Settling.{is_hand_over}
 use Rattle.ti_replay.specs.View.{view, after, called}
@@ -32,7 +32,7 @@ use Rattle.ti_slot.proofs.TellLaws.{held-cons, asked-snoc, still, hand_free, no_
 
 hand_no_call : (t : Ticket) (x : Entry) → is_hand_over x ≡ true → is_call_of t x ≡ false
 hand_no_call t Start h = cc
-hand_no_call t (Own step) h = cc
+hand_no_call t (Stepped step) h = cc
 hand_no_call t (Hand safe) h = refl
 hand_no_call t Back h = cc
 hand_no_call t End h = refl
@@ -61,7 +61,7 @@ open_hand fates w waiting ts k a =
     let f : (t : Ticket) → fate_of t (delivered ans fates) ≡ fate_or (saying_for t ans) (fate_of t fates) = λ t. fate-delivered t w waiting fates k a in
     open_same (delivered ans fates) fates ts (λ t h. elim (spoken t (saying_for t ans)) [
       | Says y e ↦
-          let told : fate_of t (delivered ans fates) ≡ Told y = f t ∙ ap (λ q. fate_or q (fate_of t fates)) e in
+          let told : fate_of t (delivered ans fates) ≡ Answered y = f t ∙ ap (λ q. fate_or q (fate_of t fates)) e in
           ap is_open told ∙ sym (ap is_open (said_waits t w waiting fates y k e))
       | Silent e ↦ ap is_open (f t ∙ ap (λ q. fate_or q (fate_of t fates)) e)
     ])
@@ -90,7 +90,7 @@ tells_hand limits number h waiting fates x hx ew s =
       lists = λ env. length-delivered env (after v x) waiting fates s.awaited s.apart ∙ s.lists env ∙ sym (a env);
       quiet = λ t w.
           elim (spoken t (saying_for t ans)) [
-            | Says y e ↦ absurd (let z : fate_of t new ≡ Told y = f t ∙ ap (λ q. fate_or q (fate_of t fates)) e in cc)
+            | Says y e ↦ absurd (let z : fate_of t new ≡ Answered y = f t ∙ ap (λ q. fate_or q (fate_of t fates)) e in cc)
             | Silent e ↦
                 let z : fate_of t new ≡ fate_of t fates = f t ∙ ap (λ q. fate_or q (fate_of t fates)) e in
                 r t ∙ ap (option_or (reply_to limits h t)) e ∙ ap (λ q. option_or q None) (s.quiet t (sym z ∙ w))
@@ -98,12 +98,12 @@ tells_hand limits number h waiting fates x hx ew s =
       told = λ t y w.
           elim (spoken t (saying_for t ans)) [
             | Says u e ↦
-                let z : fate_of t new ≡ Told u = f t ∙ ap (λ q. fate_or q (fate_of t fates)) e in
+                let z : fate_of t new ≡ Answered u = f t ∙ ap (λ q. fate_or q (fate_of t fates)) e in
                 let old : reply_to limits h t ≡ None = s.quiet t (said_waits t (after v x) waiting fates u s.awaited e) in
-                r t ∙ ap (option_or (reply_to limits h t)) e ∙ ap (λ q. option_or q (Some u)) old ∙ (sym (ap told_by z) ∙ w)
+                r t ∙ ap (option_or (reply_to limits h t)) e ∙ ap (λ q. option_or q (Some u)) old ∙ (sym (ap answer_by z) ∙ w)
             | Silent e ↦
                 let z : fate_of t new ≡ fate_of t fates = f t ∙ ap (λ q. fate_or q (fate_of t fates)) e in
-                still limits h x t y (s.told t y (ap told_by (sym z) ∙ w))
+                still limits h x t y (s.told t y (ap answer_by (sym z) ∙ w))
           ];
       awaited = tt;
       apart = tt;
@@ -121,7 +121,7 @@ held-without e t (u ∷ ts) h =
     ]
 
 -- an answer is collected
-pub tells_less : (limits : Limits) (number : ThreadNo) (h : List Entry) (waiting : List Pending) (fates : List (List Fate)) (t : Ticket) (a : Answer) → fate_of t fates ≡ Told a
+pub tells_less : (limits : Limits) (number : ThreadNo) (h : List Entry) (waiting : List Pending) (fates : List (List Fate)) (t : Ticket) (a : Answer) → fate_of t fates ≡ Answered a
     → Tells limits number h waiting fates → Tells limits number h waiting (with_fate t Gone fates)
 tells_less limits number h waiting fates t a e s =
     let o : is_open (fate_of t fates) ≡ true = ap is_open e in
@@ -142,7 +142,7 @@ tells_less limits number h waiting fates t a e s =
       envs = length-set fates t.env.0 _ ∙ s.envs;
       lists = λ env. length-with_fate env t Gone fates o ∙ s.lists env;
       quiet = λ u w. s.quiet u (old u Waiting w refl);
-      told = λ u y w. s.told u y (ap told_by (old u (Told y) (is_told (fate_of u new) y w) refl));
+      told = λ u y w. s.told u y (ap answer_by (old u (Answered y) (is_answered (fate_of u new) y w) refl));
       awaited = awaited_on fates new waiting stays s.awaited;
       apart = s.apart;
       listed = s.listed;
@@ -164,23 +164,23 @@ tells_less limits number h waiting fates t a e s =
         let now = open-with_fate env here Gone fates there.0 there.1 in
         ap (held_by env) less ∙ grind (arith, nat_tests, one, now, s.held env, o)
 
-    is_told : (x : Fate) (y : Answer) → told_by x ≡ Some y → x ≡ Told y
-    is_told Waiting y w = cc
-    is_told (Told z) y w = cc
-    is_told Gone y w = cc
+    is_answered : (x : Fate) (y : Answer) → answer_by x ≡ Some y → x ≡ Answered y
+    is_answered Waiting y w = cc
+    is_answered (Answered z) y w = cc
+    is_answered Gone y w = cc
 
 -- the fate of a ticket tells what is collected, and what a caller who has the history knows of it
 pub collected_is : (limits : Limits) (number : ThreadNo) (h : List Entry) (waiting : List Pending) (fates : List (List Fate)) (t : Ticket) → t.thread.0 ≡ number.0 → Tells limits number h waiting fates
-    → told_by (fate_of t fates) ≡ (if has t (open_in fates (asked_in number h)) then reply_to limits h t else None)
+    → answer_by (fate_of t fates) ≡ (if has t (open_in fates (asked_in number h)) then reply_to limits h t else None)
 collected_is limits number h waiting fates t e s = by_fate (fate_of t fates) refl
   where
     listed : is_open (fate_of t fates) ≡ true → has t (asked_in number h) ≡ true
     listed o = let k = asked_before limits number h waiting fates t s o in grind (arith, nat_tests, s.listed t, e, k)
 
-    by_fate : (x : Fate) → fate_of t fates ≡ x → told_by (fate_of t fates) ≡ (if has t (open_in fates (asked_in number h)) then reply_to limits h t else None)
+    by_fate : (x : Fate) → fate_of t fates ≡ x → answer_by (fate_of t fates) ≡ (if has t (open_in fates (asked_in number h)) then reply_to limits h t else None)
     by_fate Waiting w = let q = s.quiet t w in grind (arith, w, q)
-    by_fate (Told a) w =
-        let q = s.told t a (ap told_by w) in
+    by_fate (Answered a) w =
+        let q = s.told t a (ap answer_by w) in
         let l = listed (ap is_open w) in
         grind (arith, w, q, l, has-open t fates (asked_in number h))
     by_fate Gone w = grind (arith, w, has-open t fates (asked_in number h))
@@ -200,7 +200,7 @@ pub not_mine : (limits : Limits) (number : ThreadNo) (h : List Entry) (waiting :
 not_mine limits number h waiting fates t e s = grind (arith, nat_tests, has-open t fates (asked_in number h), s.listed t, e)
 
 -- after an answer was collected
-pub open_taken : (limits : Limits) (number : ThreadNo) (h : List Entry) (waiting : List Pending) (fates : List (List Fate)) (t : Ticket) (a : Answer) → t.thread.0 ≡ number.0 → fate_of t fates ≡ Told a → Tells limits number h waiting fates
+pub open_taken : (limits : Limits) (number : ThreadNo) (h : List Entry) (waiting : List Pending) (fates : List (List Fate)) (t : Ticket) (a : Answer) → t.thread.0 ≡ number.0 → fate_of t fates ≡ Answered a → Tells limits number h waiting fates
     → open_in (with_fate t Gone fates) (asked_in number h) ≡ without_ticket t (open_in fates (asked_in number h))
 open_taken limits number h waiting fates t a e w s =
     open_less t fates (asked_in number h) (ap is_open w) s.once (λ u k. let l = s.listed u in grind (arith, nat_tests, l, k, e))

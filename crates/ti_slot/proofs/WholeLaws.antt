@@ -16,18 +16,18 @@ use Rattle.ti_types.specs.declared.entry.Entry.{Entry}
 use Rattle.ti_types.specs.declared.event.Event.{Event}
 use Rattle.ti_types.specs.declared.place.Frame.{Frame}
 use Rattle.ti_trail.specs.Record.{Recorded}
-use Rattle.ti_replay.specs.Events.{hold_refusal, if_none}
+use Rattle.ti_replay.specs.Events.{stopping_refusal, if_none}
 use Rattle.ti_slot.specs.declared.asked.Asked.TheVariants as asked
 use Rattle.ti_slot.specs.declared.condition.Condition.{Condition}
-use Rattle.ti_types.specs.declared.entry.Entry.TheVariants.{Own, Hand, End, Asked}
+use Rattle.ti_types.specs.declared.entry.Entry.TheVariants.{Stepped, Hand, End, Asked}
 use Rattle.ti_types.specs.declared.view.ThreadView.{ThreadView}
 use Rattle.ti_types.specs.Frames as buffer
 use Rattle.ti_types.specs.Answer.{said}
 use Rattle.ti_frames.specs.Frames.{Stack, with_frames}
 use Rattle.ti_ops.specs.declared.fate.Fate.{Fate}
-use Rattle.ti_ops.specs.declared.fate.Fate.TheVariants.{Waiting, Told, Gone}
+use Rattle.ti_ops.specs.declared.fate.Fate.TheVariants.{Waiting, Answered, Gone}
 use Rattle.ti_ops.specs.declared.pending.Pending.{Pending}
-use Rattle.ti_ops.specs.Fates.{fates_by, fate_of, open_by, with_call, with_fate, told_by, is_open}
+use Rattle.ti_ops.specs.Fates.{fates_by, fate_of, open_by, with_call, with_fate, answer_by, is_open}
 use Rattle.ti_ops.specs.Ops.{Ops, with_posted, with_fates}
 use Rattle.ti_replay.specs.Answers.{is_running, answer_of}
 use Rattle.ti_replay.specs.Settling.{waits, is_hand_over}
@@ -44,7 +44,7 @@ use Rattle.ti_slot.specs.Waiting.{answers_of, entries_of, said_in, said_fate, de
 use Rattle.ti_slot.specs.Tickets.{Tells, has, held_by, without_ticket, asked_in, open_in, AreAwaited}
 use Rattle.ti_slot.specs.Thread.{Thread, with_more, IsAsked}
 use Rattle.ti_slot.specs.Inside.{IsSlot, IsWhole, costs_in, thread_in}
-use Rattle.ti_slot.specs.Slot.{Stands, shelf}
+use Rattle.ti_slot.specs.Slot.{Mirrors, shelf}
 use Rattle.ti_slot.proofs.SlotLaws as laws
 use Rattle.ti_slot.proofs.CallLaws.{Comes, comes, may_call, Ran, ran_view, at_mode, Hands}
 use Rattle.ti_slot.proofs.AskLaws.{put_off_is, asked_less, may_ask, asked_waits, answered, told_waits, told_now}
@@ -69,7 +69,7 @@ tells_nothing limits number =
       envs = length-map fates (λ (xs : List Fate). map said_fate xs) ∙ length-replicate limits.envs [];
       lists = λ env. ap length (none env);
       quiet = λ t w. let g = gone t in cc;
-      told = λ t a w. let g : told_by (fate_of t (said_in fates)) ≡ None = ap told_by (gone t) in cc;
+      told = λ t a w. let g : answer_by (fate_of t (said_in fates)) ≡ None = ap answer_by (gone t) in cc;
       awaited = tt;
       apart = tt;
       listed = λ t. grind arith;
@@ -100,11 +100,11 @@ plain_thread a t x h et p e =
     ∙ ap (λ (z : Thread). with_more z (x ∷ [])) et
 
 -- and where an event that is let through brings it
-pub held_thread : (a : Inside) (t : Thread) (event : ThreadNo → Event) (x : Entry) (h : List Entry) → thread_in a ≡ t → is_call x ≡ false → h ≡ a.history.items ++ x ∷ [] → hold_refusal (view a.limits a.history.items) (event a.number) ≡ None
-    → thread_with a h a.ops.fates ≡ with_more t (if_none (hold_refusal (view t.limits t.history) (event t.number)) (x ∷ []))
+pub held_thread : (a : Inside) (t : Thread) (event : ThreadNo → Event) (x : Entry) (h : List Entry) → thread_in a ≡ t → is_call x ≡ false → h ≡ a.history.items ++ x ∷ [] → stopping_refusal (view a.limits a.history.items) (event a.number) ≡ None
+    → thread_with a h a.ops.fates ≡ with_more t (if_none (stopping_refusal (view t.limits t.history) (event t.number)) (x ∷ []))
 held_thread a t event x h et p e free =
     plain_thread a (thread_in a) x h refl p e ∙ ap (λ r. with_more (thread_in a) (if_none r (x ∷ []))) (sym free)
-    ∙ ap (λ (z : Thread). with_more z (if_none (hold_refusal (view z.limits z.history) (event z.number)) (x ∷ []))) et
+    ∙ ap (λ (z : Thread). with_more z (if_none (stopping_refusal (view z.limits z.history) (event z.number)) (x ∷ []))) et
 
 -- of how many calls of an environment something is left, said or not
 open-said : (env : EnvNo) (fates : List (List Fate)) → open_by env (said_in fates) ≡ open_by env fates
@@ -112,7 +112,7 @@ open-said env fates = ap (count_by is_open) (by-said env fates) ∙ mapped (fate
   where
     one : (x : Fate) → opens (said_fate x) ≡ opens x
     one Waiting = refl
-    one (Told a) = refl
+    one (Answered a) = refl
     one Gone = refl
 
     mapped : (xs : List Fate) → count_by is_open (map said_fate xs) ≡ count_by is_open xs
@@ -157,7 +157,7 @@ asks_here a t env n call s et he hc hw hh en =
 pub now_whole : (a : Inside) (env : EnvNo) (n : ℕ) (call : Call) (h : Recorded Entry) (c : Condition) (g : Option Stack) (ops : Ops) → IsWhole a → Asks a env n call → (waits call && is_running a.condition.mode) ≡ false
     → h.items ≡ a.history.items ++ Asked env n call ∷ [] → shelf h ≡ shelf a.history
     → ((others : List Frame) → view_of c (frames_or g others) ≡ called (view_of a.condition (frames_or a.frames others)) env call) → AreWhereTheyWere a.frames g → ops ≡ with_fates a.ops (with_call env Gone a.ops.fates)
-    → Stands a.limits h.items (shelf h) c g a.log a.own (history_state a.limits h.items).costs ops × Tells a.limits a.number h.items ops.waiting (said_in ops.fates)
+    → Mirrors a.limits h.items (shelf h) c g a.log a.own (history_state a.limits h.items).costs ops × Tells a.limits a.number h.items ops.waiting (said_in ops.fates)
 now_whole a env n call h c g ops s k off e le vc stay eo = (
   answered a env n call h c g ops s.0 k.comes.may off e le vc stay (with_call env Gone a.ops.fates) eo,
   rw (e, eo, said-with_call env Gone a.ops.fates) (tells_now a.limits a.number a.history.items a.ops.waiting (said_in a.ops.fates) env n call k.there k.number (put_off_is a call s.0 ∙ off) s.1),
@@ -176,7 +176,7 @@ now_told a t env n call h ops told s et k off e eo tell =
 pub later_whole : (a : Inside) (t : Thread) (env : EnvNo) (n : ℕ) (call : Call) (buf : buffer.Trace) (h : Recorded Entry) (ops : Ops) → IsWhole a → thread_in a ≡ t → Asks a env n call → (waits call && is_running a.condition.mode) ≡ true
     → h.items ≡ a.history.items ++ Asked env n call ∷ [] → shelf h ≡ shelf a.history
     → ops ≡ with_posted a.ops (record { ticket = record { env = env; thread = a.number; no = n }; call = call; buf = buf }) → IsBufferOf t.limits call buf
-    → Stands a.limits h.items (shelf h) a.condition a.frames a.log a.own (history_state a.limits h.items).costs ops × Tells a.limits a.number h.items ops.waiting (said_in ops.fates)
+    → Mirrors a.limits h.items (shelf h) a.condition a.frames a.log a.own (history_state a.limits h.items).costs ops × Tells a.limits a.number h.items ops.waiting (said_in ops.fates)
 later_whole a t env n call buf h ops s et k off e le eo b =
     let p : Pending = record { ticket = record { env = env; thread = a.number; no = n }; call = call; buf = buf } in (
       asked_waits a env n call a.number buf h ops s.0 k.comes.may off e le eo (subst (λ (z : Thread). IsBufferOf z.limits call buf) (sym et) b),
@@ -196,7 +196,7 @@ later_told a t env n call buf h ops s et k off e eo =
 tells_steps : (limits : Limits) (number : ThreadNo) (h : List Entry) (waiting : List Pending) (fates : List (List Fate)) (steps : List Step) → Tells limits number h waiting fates → Tells limits number (h ++ steps_of steps) waiting fates
 tells_steps limits number h waiting fates [] s = rw append-nil s
 tells_steps limits number h waiting fates (x ∷ steps) s =
-    subst (λ z. Tells limits number z waiting fates) (append_assoc h (Own x ∷ []) (steps_of steps)) (tells_steps limits number (h ++ Own x ∷ []) waiting fates steps (tells_plain limits number h waiting fates (Own x) refl s))
+    subst (λ z. Tells limits number z waiting fates) (append_assoc h (Stepped x ∷ []) (steps_of steps)) (tells_steps limits number (h ++ Stepped x ∷ []) waiting fates steps (tells_plain limits number h waiting fates (Stepped x) refl s))
 
 pub served_after : (a : Inside) (steps : List Step) (x : Entry) (v : ThreadView) (h : List Entry) (ops : Ops) → IsWhole a → Ran a steps → is_hand_over x ≡ true → after (view a.limits (a.history.items ++ steps_of steps)) x ≡ v
     → h ≡ (a.history.items ++ steps_of steps) ++ x ∷ [] → ops.waiting ≡ [] → said_in ops.fates ≡ delivered (answers_of v a.ops.waiting) (said_in a.ops.fates)
@@ -225,7 +225,7 @@ pub hand_whole : (a : Inside) (t : Thread) (steps : List Step) (safe : Safe) (fr
     → h.items ≡ (a.history.items ++ steps_of steps) ++ Hand safe ∷ [] → shelf h ≡ shelf a.history → fr'.depth ≡ a.limits.depth → own ≡ a.own + length steps + own_cost (Hand safe)
     → view_of c fr'.frames ≡ fold after (view_of (at_mode a.condition (mode.AtSafe safe)) fr.frames) (entries_of a.ops.waiting)
     → ops.waiting ≡ [] → said_in ops.fates ≡ delivered (answers_of (view_of (at_mode a.condition (mode.AtSafe safe)) fr.frames) a.ops.waiting) (said_in a.ops.fates) → ops.window ≡ a.ops.window
-    → Stands a.limits h.items (shelf h) c (Some fr') a.log own (history_state a.limits h.items).costs ops × Tells a.limits a.number h.items ops.waiting (said_in ops.fates)
+    → Mirrors a.limits h.items (shelf h) c (Some fr') a.log own (history_state a.limits h.items).costs ops × Tells a.limits a.number h.items ops.waiting (said_in ops.fates)
 hand_whole a t steps safe fr fr' h c own ops s et k e le depth oe served none given window =
     let here = ap (view_of (at_mode a.condition (mode.AtSafe safe))) (sym k.frames) in (
       laws.own_costs a.limits h.items (shelf h) c (Some fr') a.log own (costs_in a) ops (laws.serve_stands a.limits (a.history.items ++ steps_of steps) (shelf a.history) (shelf h) a.condition c a.log (a.own + length steps) own (costs_in a) a.ops ops (Hand safe) (mode.AtSafe safe) fr fr' h.items k.ran k.may e le
@@ -239,7 +239,7 @@ pub end_whole : (a : Inside) (t : Thread) (steps : List Step) (fr cleared fr' : 
     → cleared ≡ with_frames fr [] → fr'.depth ≡ a.limits.depth → own ≡ a.own + length steps
     → view_of c fr'.frames ≡ fold after (view_of (at_mode a.condition mode.Ended) cleared.frames) (entries_of a.ops.waiting)
     → ops.waiting ≡ [] → said_in ops.fates ≡ delivered (answers_of (view_of (at_mode a.condition mode.Ended) cleared.frames) a.ops.waiting) (said_in a.ops.fates) → ops.window ≡ a.ops.window
-    → Stands a.limits h.items (shelf h) c (Some fr') a.log own (history_state a.limits h.items).costs ops × Tells a.limits a.number h.items ops.waiting (said_in ops.fates)
+    → Mirrors a.limits h.items (shelf h) c (Some fr') a.log own (history_state a.limits h.items).costs ops × Tells a.limits a.number h.items ops.waiting (said_in ops.fates)
 end_whole a t steps fr cleared fr' h c own ops s et ran may e le ec depth oe served none given window =
     let here = ap (view_of (at_mode a.condition mode.Ended)) (sym (ap (λ (f : Stack). f.frames) ec)) in (
       laws.own_costs a.limits h.items (shelf h) c (Some fr') a.log own (costs_in a) ops (laws.serve_stands a.limits (a.history.items ++ steps_of steps) (shelf a.history) (shelf h) a.condition c a.log (a.own + length steps) own (costs_in a) a.ops ops End mode.Ended cleared fr' h.items ran may e le
@@ -252,20 +252,20 @@ pub awaited_here : (fates : List (List Fate)) (waiting : List Pending) → AreAw
 awaited_here fates [] k = tt
 awaited_here fates (p ∷ waiting) k = (waits-said (fate_of p.ticket fates) (sym (fate-said p.ticket fates) ∙ k.0), awaited_here fates waiting k.1)
 
-told_said : (x : Fate) → option_map said (told_by x) ≡ told_by (said_fate x)
+told_said : (x : Fate) → option_map said (answer_by x) ≡ answer_by (said_fate x)
 told_said Waiting = refl
-told_said (Told a) = refl
+told_said (Answered a) = refl
 told_said Gone = refl
 
-pub collected : (a : Inside) (t : Ticket) (r : Option Answer) → IsWhole a → t.thread.0 ≡ a.number.0 → r ≡ told_by (fate_of t a.ops.fates)
+pub collected : (a : Inside) (t : Ticket) (r : Option Answer) → IsWhole a → t.thread.0 ≡ a.number.0 → r ≡ answer_by (fate_of t a.ops.fates)
     → option_map said r ≡ (if has t (thread_in a).uncollected then reply_to a.limits a.history.items t else None)
 collected a t r s e er =
-    ap (option_map said) er ∙ told_said (fate_of t a.ops.fates) ∙ ap told_by (sym (fate-said t a.ops.fates))
+    ap (option_map said) er ∙ told_said (fate_of t a.ops.fates) ∙ ap answer_by (sym (fate-said t a.ops.fates))
     ∙ collected_is a.limits a.number a.history.items a.ops.waiting (said_in a.ops.fates) t e s.1
 
 open_fate : (x : Fate) → is_open (said_fate x) ≡ is_open x
 open_fate Waiting = refl
-open_fate (Told a) = refl
+open_fate (Answered a) = refl
 open_fate Gone = refl
 
 pub out_here : (a : Inside) (t : Ticket) → IsWhole a → t.thread.0 ≡ a.number.0 → is_open (fate_of t a.ops.fates) ≡ has t (thread_in a).uncollected
@@ -276,22 +276,22 @@ out_here a t s e =
 pub collected_none : (a : Inside) (t : Ticket) → IsWhole a → (t.thread.0 ≡ a.number.0 → ⊥) → has t (thread_in a).uncollected ≡ false
 collected_none a t s e = not_mine a.limits a.number a.history.items a.ops.waiting (said_in a.ops.fates) t e s.1
 
-told_fate : (x : Fate) (b : Answer) → told_by x ≡ Some b → x ≡ Told b
+told_fate : (x : Fate) (b : Answer) → answer_by x ≡ Some b → x ≡ Answered b
 told_fate Waiting b e = cc
-told_fate (Told c) b e = cc
+told_fate (Answered c) b e = cc
 told_fate Gone b e = cc
 
-said_told : (a : Inside) (t : Ticket) (b : Answer) → Some b ≡ told_by (fate_of t a.ops.fates) → fate_of t (said_in a.ops.fates) ≡ Told (said b)
+said_told : (a : Inside) (t : Ticket) (b : Answer) → Some b ≡ answer_by (fate_of t a.ops.fates) → fate_of t (said_in a.ops.fates) ≡ Answered (said b)
 said_told a t b e = fate-said t a.ops.fates ∙ ap said_fate (told_fate (fate_of t a.ops.fates) b (sym e))
 
-pub less_after : (a : Inside) (t : Ticket) (ops : Ops) (r : Option Answer) → IsWhole a → r ≡ told_by (fate_of t a.ops.fates) → ops ≡ with_fates a.ops (if is_some r then with_fate t Gone a.ops.fates else a.ops.fates)
+pub less_after : (a : Inside) (t : Ticket) (ops : Ops) (r : Option Answer) → IsWhole a → r ≡ answer_by (fate_of t a.ops.fates) → ops ≡ with_fates a.ops (if is_some r then with_fate t Gone a.ops.fates else a.ops.fates)
     → Tells a.limits a.number a.history.items ops.waiting (said_in ops.fates)
 less_after a t ops None s er e = rw e s.1
 less_after a t ops (Some b) s er e =
     rw (e, said-with_fate t Gone a.ops.fates) (tells_less a.limits a.number a.history.items a.ops.waiting (said_in a.ops.fates) t (said b) (said_told a t b er) s.1)
 
 pub less_stands : (a : Inside) (ops : Ops) (fates : List (List Fate)) → IsSlot a → ops ≡ with_fates a.ops fates
-    → Stands a.limits a.history.items (shelf a.history) a.condition a.frames a.log a.own (costs_in a) ops
+    → Mirrors a.limits a.history.items (shelf a.history) a.condition a.frames a.log a.own (costs_in a) ops
 less_stands a ops fates s e =
     rw e (record {
       legal = s.legal;
@@ -305,7 +305,7 @@ less_stands a ops fates s e =
     })
 
 -- the tickets without the one that was collected
-pub less_open : (a : Inside) (t : Ticket) (ops : Ops) (r : Option Answer) → IsWhole a → t.thread.0 ≡ a.number.0 → r ≡ told_by (fate_of t a.ops.fates) → ops ≡ with_fates a.ops (if is_some r then with_fate t Gone a.ops.fates else a.ops.fates)
+pub less_open : (a : Inside) (t : Ticket) (ops : Ops) (r : Option Answer) → IsWhole a → t.thread.0 ≡ a.number.0 → r ≡ answer_by (fate_of t a.ops.fates) → ops ≡ with_fates a.ops (if is_some r then with_fate t Gone a.ops.fates else a.ops.fates)
     → open_in (said_in ops.fates) (asked_in a.number a.history.items) ≡ (if is_some r then without_ticket t (thread_in a).uncollected else (thread_in a).uncollected)
 less_open a t ops None s et er e = rw e refl
 less_open a t ops (Some b) s et er e =

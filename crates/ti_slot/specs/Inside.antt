@@ -6,16 +6,16 @@ use Rattle.ti_slot.specs.declared.slot.Slot.TheInside.{Inside}
 use Rattle.ti_slot.specs.Waiting.{said_in}
 use Rattle.ti_slot.specs.Tickets.{Tells, asked_in, open_in}
 use Rattle.ti_slot.specs.Thread.{Thread}
-use Rattle.ti_slot.specs.Slot.{Stands, shelf}
+use Rattle.ti_slot.specs.Slot.{Mirrors, shelf}
 
--- what each environment has asked and spent: nothing of it is kept but in the history
+-- what each environment has asked and spent, read off the history
 abbrev pub costs_in : Inside → List Costs
 costs_in a = (history_state a.limits a.history.items).costs
 
 abbrev pub IsSlot : Inside → Type 0
-IsSlot a = Stands a.limits a.history.items (shelf a.history) a.condition a.frames a.log a.own (costs_in a) a.ops
+IsSlot a = Mirrors a.limits a.history.items (shelf a.history) a.condition a.frames a.log a.own (costs_in a) a.ops
 
--- and what is told of its tickets
+-- and the fates of its tickets
 abbrev pub IsWhole : Inside → Type 0
 IsWhole a = IsSlot a × Tells a.limits a.number a.history.items a.ops.waiting (said_in a.ops.fates)
 

@@ -9,14 +9,14 @@ use Rattle.ti_types.specs.declared.answer.Answer.{Answer}
 use Rattle.ti_types.specs.declared.entry.Entry.{Entry}
 use Rattle.ti_types.specs.declared.entry.Entry.TheVariants.{Asked}
 pub use Rattle.ti_ops.specs.Fates.{is_at, is_awaited}
-use Rattle.ti_ops.specs.Fates.{fates_by, fate_of, open_by, told_by, is_open}
+use Rattle.ti_ops.specs.Fates.{fates_by, fate_of, open_by, answer_by, is_open}
 use Rattle.ti_ops.specs.declared.pending.Pending.{Pending}
 use Rattle.ti_ops.specs.declared.fate.Fate.{Fate}
 use Rattle.ti_ops.specs.declared.fate.Fate.TheVariants.{Waiting}
 use Rattle.ti_replay.specs.Legal.{asked_by}
 use Rattle.ti_replay.specs.Tickets.{reply_to}
 
--- whether two tickets are one
+-- whether two tickets name the same call
 abbrev pub same : Ticket → Ticket → Bool
 same a b = a.no == b.no && a.env.0 == b.env.0 && a.thread.0 == b.thread.0
 
@@ -24,7 +24,7 @@ same a b = a.no == b.no && a.env.0 == b.env.0 && a.thread.0 == b.thread.0
 abbrev pub has : Ticket → List Ticket → Bool
 has t tickets = list_any (λ u. same u t) tickets
 
--- without the first of the ticket
+-- the tickets without the first one that is the same
 abbrev pub without_ticket : Ticket → List Ticket → List Ticket
 without_ticket t [] = []
 without_ticket t (u ∷ tickets) = if same u t then tickets else u ∷ without_ticket t tickets
@@ -43,7 +43,7 @@ ticket_in number _ = []
 abbrev pub asked_in : ThreadNo → List Entry → List Ticket
 asked_in number history = flat_map (ticket_in number) history
 
--- those of the tickets whose call waits, or was answered later and not collected
+-- the tickets whose call waits, or was answered later and not collected
 abbrev pub open_in : List (List Fate) → List Ticket → List Ticket
 open_in fates [] = []
 open_in fates (t ∷ tickets) = if is_open (fate_of t fates) then t ∷ open_in fates tickets else open_in fates tickets
@@ -62,13 +62,13 @@ abbrev pub AreApart : List Pending → Type 0
 AreApart [] = Unit {0}
 AreApart (p ∷ waiting) = (is_awaited p.ticket waiting ≡ false) × AreApart waiting
 
--- the fates of a history's calls: an answer that is kept is the reply, and a call that waits has none yet
+-- The fates of a history's calls. An answer that is kept is the reply, and a call that waits has no reply yet
 pub record Tells (limits : Limits) (number : ThreadNo) (history : List Entry) (waiting : List Pending) (fates : List (List Fate)) : Type 0 where
   pub fresh : (t : Ticket) → asked_by t.env history ≤ t.no → reply_to limits history t ≡ None
   pub envs : length fates ≡ limits.envs
   pub lists : (env : EnvNo) → length (fates_by env fates) ≡ asked_by env history
   pub quiet : (t : Ticket) → fate_of t fates ≡ Waiting → reply_to limits history t ≡ None
-  pub told : (t : Ticket) (a : Answer) → told_by (fate_of t fates) ≡ Some a → reply_to limits history t ≡ Some a
+  pub told : (t : Ticket) (a : Answer) → answer_by (fate_of t fates) ≡ Some a → reply_to limits history t ≡ Some a
   pub awaited : AreAwaited fates waiting
   pub apart : AreApart waiting
   pub listed : (t : Ticket) → has t (asked_in number history) ≡ (t.thread.0 == number.0 && nat_lt t.no (asked_by t.env history))

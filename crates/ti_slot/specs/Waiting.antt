@@ -24,7 +24,7 @@ entry_of p = Asked p.ticket.env p.ticket.no p.call
 abbrev pub entries_of : List Pending → List Entry
 entries_of waiting = map entry_of waiting
 
--- an empty buffer has room for the frames that are asked for, at most as many as the depth
+-- an empty buffer with room for the frames that are asked for, at most as many as the depth
 abbrev pub HasRoomFor : Limits → ℕ → buffer.Trace → Type 0
 HasRoomFor limits most b = (b.frames ≡ []) × (min most limits.depth ≤ b.room)
 
@@ -36,7 +36,7 @@ abbrev pub AreReady : Limits → List Pending → Type 0
 AreReady limits [] = Unit {0}
 AreReady limits (p ∷ waiting) = IsBufferOf limits p.call p.buf × AreReady limits waiting
 
--- an answer to a ticket, as it is said
+-- an answer to a ticket, without the room of its buffer
 pub record Saying : Type 0 where
   pub ticket : Ticket
   pub answer : Answer
@@ -50,10 +50,10 @@ answers_of v (p ∷ waiting) =
 abbrev pub calls_of : List Pending → List Call
 calls_of waiting = map (λ p. p.call) waiting
 
--- a fate with its answer as it is said
+-- a fate whose answer is without the room of its buffer
 abbrev pub said_fate : Fate → Fate
 said_fate fate.Waiting = fate.Waiting
-said_fate (fate.Told a) = fate.Told (said a)
+said_fate (fate.Answered a) = fate.Answered (said a)
 said_fate fate.Gone = fate.Gone
 
 abbrev pub said_in : List (List Fate) → List (List Fate)
@@ -62,4 +62,4 @@ said_in fates = map (map said_fate) fates
 -- the fates after answers to tickets
 abbrev pub delivered : List Saying → List (List Fate) → List (List Fate)
 delivered [] fates = fates
-delivered (s ∷ sayings) fates = delivered sayings (with_fate s.ticket (fate.Told s.answer) fates)
+delivered (s ∷ sayings) fates = delivered sayings (with_fate s.ticket (fate.Answered s.answer) fates)

@@ -1,7 +1,7 @@
-//! What asking comes to: an answer, or a ticket.
+//! What a call that is asked gives at once: an answer, or a ticket.
 use ti_types::{Answer, Ticket};
 
-/// What a call comes to at once.
+/// What a call that is asked gives at once.
 #[derive(Drop, Debug)]
 pub enum Asked {
     /// The thread's answer.

@@ -1,12 +1,4 @@
-//! A thread's state but for its frames, and what calls change in it.
-ghost use Rattle.std.specs.Prelude.{◌≡◌, List, false, MatchOption};
-ghost use Rattle.ti_types.specs.declared.numbers.EnvNo.{EnvNo};
-ghost use Rattle.ti_types.specs.declared.call.Call.TheVariants as call;
-ghost use Rattle.ti_types.specs.declared.place.Frame.{Frame};
-ghost use Rattle.ti_replay.specs.Answers.{pop_refusal as pop_refusal_of};
-ghost use Rattle.ti_replay.specs.Settling.{waits as waits_is};
-ghost use Rattle.ti_replay.specs.View.{called};
-ghost use Rattle.ti_slot.specs.Condition.{view_of, frames_or, AreWhereTheyWere, is_pop};
+//! What a slot keeps of its thread besides the frames, and what calls change in it.
 
 use ti_frames::Frames;
 use ti_replay::rules::is_alive;
@@ -17,21 +9,20 @@ use ti_types::{Call, EnvNo, Mode, Step, TiError, WordList, popping_refusal};
 pub struct Condition {
     pub mode: Mode,
     pub suspended: bool,
-    /// The environment whose stop stands.
+    /// The environment whose stop is in force.
     pub stopper: Option<EnvNo>,
     /// One word per environment.
     pub words: WordList,
 }
 
-/// Why the newest of these frames may not be popped where the thread is alive, or `None` where it may (JVM TI 11,
-/// PopFrame).
+/// Why the newest of these frames may not be popped, if the thread is alive. `None` if it may (JVM TI 11, PopFrame).
 pub fn pop_refusal(condition: &Condition, frames: &Frames) -> Option<TiError>
     ensures { result ≡ pop_refusal_of condition.now.suspended frames.now.frames }
 {
     popping_refusal(condition.suspended, frames.top(0), frames.top(1))
 }
 
-/// Lets a pop take place: the newest frame goes where it may, and the frames below stay as they are.
+/// Lets a pop take place. The newest frame goes if it may, and the frames below stay as they are.
 fn pop(condition: &Condition, frames: &mut Frames)
     ensures view { (env : EnvNo) → view_of condition.now frames.new.frames ≡ called (view_of condition.now frames.old.frames) env call.Pop }
     ensures depth { frames.new.depth ≡ frames.old.depth }
@@ -78,3 +69,12 @@ pub fn take_at_once(condition: &mut Condition, frames: &mut Option<Frames>, env:
         None => set(condition, env, call),
     }
 }
+
+ghost use Rattle.std.specs.Prelude.{◌≡◌, List, false, MatchOption};
+ghost use Rattle.ti_types.specs.declared.numbers.EnvNo.{EnvNo};
+ghost use Rattle.ti_types.specs.declared.call.Call.TheVariants as call;
+ghost use Rattle.ti_types.specs.declared.place.Frame.{Frame};
+ghost use Rattle.ti_replay.specs.Answers.{pop_refusal as pop_refusal_of};
+ghost use Rattle.ti_replay.specs.Settling.{waits as waits_is};
+ghost use Rattle.ti_replay.specs.View.{called};
+ghost use Rattle.ti_slot.specs.Condition.{view_of, frames_or, AreWhereTheyWere, is_pop};

@@ -45,7 +45,7 @@ fn a_stop_stands_once_the_thread_hands_over(rt: HostRuntime) -> Result<(), Fail>
         )
     );
     assert!(rt; !core.standing(e, t));
-    assert!(rt; matches!(core.step(rt.alloc(), Event::Poll(t)), Outcome::Held));
+    assert!(rt; matches!(core.step(rt.alloc(), Event::Poll(t)), Outcome::Stays));
     assert!(rt; core.standing(e, t));
     assert!(rt; !core.standing(EnvNo(1), t));
     assert!(rt; !core.standing(e, ThreadNo(9)));
@@ -54,13 +54,13 @@ fn a_stop_stands_once_the_thread_hands_over(rt: HostRuntime) -> Result<(), Fail>
 
 const WAITING: [Entry; 3] = [
     Entry::Start,
-    Entry::Own(Step::Enter(MethodNo(0))),
+    Entry::Stepped(Step::Enter(MethodNo(0))),
     Entry::Asked(EnvNo(0), 0, Call::FrameCount),
 ];
 
 const ANSWERED: [Entry; 4] = [
     Entry::Start,
-    Entry::Own(Step::Enter(MethodNo(0))),
+    Entry::Stepped(Step::Enter(MethodNo(0))),
     Entry::Asked(EnvNo(0), 0, Call::FrameCount),
     Entry::Hand(Safe::Blocked(Kind::Sleep)),
 ];

@@ -1,7 +1,7 @@
 //! Tests of what no clause says of cores and documents: that calls succeed if memory is ample, and what failing streams
 //! leave behind.
 //!
-//! Nothing uses it.
+//! Nothing uses this crate.
 #![tactic(auto)]
 
 #[cfg(test)]

@@ -24,7 +24,7 @@ fn in_native_code(alloc: Global) -> Result<Core, Fail> {
     let Outcome::Done = core.step(alloc, Event::Start(T)) else {
         return Err("a new thread starts".into());
     };
-    let Outcome::Done = core.step(alloc, Event::Own(T, Step::EnterNative(MethodNo(3)))) else {
+    let Outcome::Done = core.step(alloc, Event::Stepped(T, Step::EnterNative(MethodNo(3)))) else {
         return Err("there is room for a frame".into());
     };
     let Outcome::Done = core.step(alloc, Event::ToNative(T)) else {

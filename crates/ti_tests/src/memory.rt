@@ -1,5 +1,7 @@
-//! What a refused allocation leaves. Each of these tests passes with ample memory and with any one allocation refused
-//! (`ci/refused_tests.py`): then the call says 110, and everything is as it was.
+//! What a refused allocation leaves.
+//!
+//! Each of these tests passes with ample memory, and with any one allocation refused (`ci/refused_tests.py`). Then the call
+//! gives 110, and everything is as it was.
 use std::alloc::Global;
 use std::test::*;
 use ti_core::Core;
@@ -22,8 +24,8 @@ fn limits() -> Result<Limits, Fail> {
     }
 }
 
-/// A core whose thread 0 is in native code with one frame and has the word 7 of environment 0, which may suspend. None
-/// where memory ran out for it.
+/// A core whose thread 0 is in native code with one frame. Environment 0 may suspend, and has set its word there to 7.
+/// `None` if memory ran out for it.
 fn prepared(alloc: Global) -> Result<Option<Core>, Fail> {
     let mut core = match Core::new(alloc, limits()?) {
         Ok(core) => core,
@@ -33,7 +35,7 @@ fn prepared(alloc: Global) -> Result<Option<Core>, Fail> {
     let events = [
         Event::AddCaps(E, Caps::CAN_SUSPEND),
         Event::Start(T),
-        Event::Own(T, Step::EnterNative(MethodNo(3))),
+        Event::Stepped(T, Step::EnterNative(MethodNo(3))),
         Event::ToNative(T),
         Event::Ask(E, T, Call::SetWord(7)),
     ];
@@ -46,7 +48,8 @@ fn prepared(alloc: Global) -> Result<Option<Core>, Fail> {
     Ok(Some(core))
 }
 
-/// Whether the core is as `prepared` left it: nobody stops or has suspended thread 0, which has its frame and its word.
+/// Whether the core is as `prepared` left it. No stop is in force at thread 0, and nobody has suspended it. It has its frame
+/// and its word.
 fn is_as_before(core: &mut Core, alloc: Global) -> bool {
     !core.standing(E, T)
         && !core.standing(F, T)
@@ -68,7 +71,7 @@ fn is_as_before(core: &mut Core, alloc: Global) -> bool {
         )
 }
 
-/// How many calls environment 0 may still ask of thread 0, by asking until one is refused: at most 8.
+/// How many calls environment 0 may still ask of thread 0, at most 8. It asks until one is refused.
 fn calls_left(core: &mut Core, alloc: Global) -> u32 {
     for left in 0..8 {
         let Outcome::Gave(Answer::Word(_)) = core.step(alloc, Event::Ask(E, T, Call::GetWord))

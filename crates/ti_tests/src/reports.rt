@@ -26,7 +26,7 @@ fn look(history: &mut Listed<Entry>) -> Result<(), Fail> {
     Ok(())
 }
 
-/// What its agent was told, where the second code is this one.
+/// The replies of its agent, with this as the second code.
 fn replies(alloc: Global, code: u32) -> Result<Listed<Listed<Reply>>, Fail> {
     let mut codes = Listed::new(alloc);
     codes.push(15)?;
@@ -51,7 +51,7 @@ fn replies(alloc: Global, code: u32) -> Result<Listed<Listed<Reply>>, Fail> {
     Ok(agents)
 }
 
-/// Its report, where the second code is this one, and each thread was stopped and read so often.
+/// Its report, with this as the second code, and with each thread stopped and read `looks` times.
 fn report(alloc: Global, code: u32, looks: u32) -> Result<LiveReport, Fail> {
     let mut first = Listed::new(alloc);
     first.push(Entry::Asked(EnvNo(0), 0, Call::Suspend))?;
@@ -136,7 +136,7 @@ fn a_report_has_its_lines(rt: HostRuntime) -> Result<(), Fail> {
     Ok(())
 }
 
-/// A script of this many operations of the second thread, and this many calls.
+/// The fault of a script with this many operations of the second thread and this many calls. `None` if it has none.
 fn fault_of(
     rt: &HostRuntime,
     operations: usize,
@@ -150,7 +150,7 @@ fn fault_of(
     Ok(read_live(rt.alloc(), text.as_bytes()).err())
 }
 
-/// Adds an item so often, with commas between.
+/// Adds an item `count` times, with commas between.
 fn put_items(text: &mut String, item: &str, count: usize) -> Result<(), Fail> {
     for number in 0..count {
         if number > 0 {

@@ -26,7 +26,7 @@ fn a_walk_is_read(rt: HostRuntime) -> Result<(), Fail> {
     Ok(())
 }
 
-/// A wrong shape of this element.
+/// The fault that this element has a wrong shape.
 fn shape(item: u32, element: u32) -> ScriptFault {
     ScriptFault::Shape {
         item,
@@ -34,7 +34,7 @@ fn shape(item: u32, element: u32) -> ScriptFault {
     }
 }
 
-/// A wrong name in this element.
+/// The fault that this element has a wrong name.
 fn name(item: u32, element: u32) -> ScriptFault {
     ScriptFault::Name {
         item,

@@ -14,7 +14,7 @@ const LINES: &[u8] = b"0 ok\n1 count 0\n2 went\n";
 const ILLEGAL: &[u8] =
     b"{\"format\":1,\"limits\":{\"depth\":4,\"own\":32,\"calls\":8},\"agents\":2,\"entries\":[[\"start\"],[\"asked\",0,0,\"suspend\"],[\"hand\",\"poll\"],[\"back\"]]}";
 
-/// Gives its text byte by byte, and an error where it is cut.
+/// Gives its text byte by byte, and an error at the place `cut`.
 #[derive(Drop)]
 struct Bytewise<'a> {
     text: &'a [u8],
@@ -42,7 +42,7 @@ fn make_bytewise(text: &'static [u8], cut: Option<usize>) -> Bytewise<'static> {
     Bytewise { text, at: 0, cut }
 }
 
-/// Takes at most this many bytes, one a call, and then fails, or takes none.
+/// Takes at most `most` bytes, one in each call. After that it fails, or takes none.
 #[derive(Drop)]
 struct Short {
     got: Vec<u8>,

@@ -3,14 +3,14 @@
 use std::test::*;
 use ti_driver::{check, walk};
 
-/// A walk over memory writes this text of this document.
+/// Expects that a walk over memory writes this text for this document.
 fn expect_walk(rt: &HostRuntime, document: &str, text: &str) -> Result<(), Fail> {
     let mut out = Vec::new(rt.alloc());
     walk(rt.alloc(), &mut document.as_bytes(), &mut out)?;
     expect_text(out.as_slice(), text)
 }
 
-/// A check over memory gives this verdict on this document, and writes this text.
+/// Expects that a check over memory gives this verdict on this document, and writes this text.
 fn expect_check(rt: &HostRuntime, document: &str, is_legal: bool, text: &str) -> Result<(), Fail> {
     let mut out = Vec::new(rt.alloc());
     if check(rt.alloc(), &mut document.as_bytes(), &mut out)? != is_legal {

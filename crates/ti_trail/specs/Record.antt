@@ -1,4 +1,4 @@
--- A list that is counted, and kept only where that was asked.
+-- A list that is counted, and kept only if that was asked.
 use Rattle.std.specs.Prelude.{ℕ, Bool, true, false, ◌&&◌, List}
 use Rattle.ti_trail.specs.declared.record.Recording.{Recording}
 use Rattle.ti_trail.specs.declared.record.Recording.TheVariants.{Kept, Counted}
@@ -13,11 +13,11 @@ pub record Recorded (T : Type 0) : Type 0 where
 abbrev pub with_items : {T : Type 0} → Recorded T → List T → Recorded T
 with_items r items = record { items = items; room = r.room; kept = r.kept }
 
--- the same, whose items are not kept any more
+-- the same, but its items are no longer kept
 abbrev pub forgotten : {T : Type 0} → Recorded T → Recorded T
 forgotten r = record { items = r.items; room = r.room; kept = false }
 
--- the same with other items, which are kept where both are
+-- the same with other items, which are kept if both are
 abbrev pub joined : {T : Type 0} → Recorded T → Bool → List T → Recorded T
 joined r kept items = record { items = items; room = r.room; kept = r.kept && kept }
 

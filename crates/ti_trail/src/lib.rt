@@ -1,4 +1,4 @@
-//! Lists of what happened, which proofs read, and which take memory only where they are to be read again.
+//! Lists of what happened. Proofs read them, and they take memory only if they are to be read again.
 #![tactic(auto)]
 
 mod record;

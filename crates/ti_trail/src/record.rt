@@ -1,6 +1,4 @@
-//! A list that is counted, and kept only where that was asked.
-ghost use Rattle.std.specs.Prelude.{◌≡◌, ◌<◌, ◌≤◌, ◌+◌, ◌++◌, [], ◌∷◌, true, length, map, IfOk, IfSome, is_some, vec_capacity, nat_le};
-ghost use Rattle.ti_trail.specs.Record.{with_items, forgotten, joined, is_kept};
+//! A list that is counted, and kept only if that was asked.
 
 use crate::trail::{Reads, Trail};
 use std::alloc::{AllocError, Global};
@@ -16,7 +14,7 @@ pub enum Recording {
 }
 
 impl Recording {
-    /// That the items are kept, or not.
+    /// `Kept` or `Counted`, as `keep` says.
     pub fn of(keep: bool) -> Self
         ensures { is_kept result ≡ keep }
     {
@@ -28,7 +26,8 @@ impl Recording {
     }
 }
 
-/// What happened, the earliest first. Contracts see it as a `Recorded`: the items, and how many there may be.
+/// What happened, the earliest first. Contracts see it as a `Recorded`: the items, how many there may be, and whether they
+/// are kept.
 #[derive(Drop)]
 pub struct Record<T> {
     trail: Trail<T>,
@@ -49,9 +48,9 @@ impl<T> Model for Record<T> {
 }
 
 impl<T> Record<T> {
-    /// Nothing so far, with room for `room` items.
+    /// An empty record with room for `room` items.
     ///
-    /// Fails only where the items are to be kept and there is no memory for the room.
+    /// Fails only if the items are to be kept and there is no memory for the room.
     pub fn new(alloc: Global, room: u64, recording: Recording) -> Result<Self, AllocError>
         ensures items { IfOk result (λ r. r.items ≡ []) }
         ensures room { IfOk result (λ r. r.room ≡ room) }
@@ -84,7 +83,7 @@ impl<T> Record<T> {
         self.room <= self.len
     }
 
-    /// The items, where they are kept.
+    /// The items. `None` if they are not kept.
     pub fn items(&self) -> Option<&[T]>
         ensures kept { is_some result ≡ self.now.kept }
         ensures items { IfSome result (λ s. s.now ≡ self.now.items) }
@@ -95,7 +94,7 @@ impl<T> Record<T> {
         }
     }
 
-    /// The items, where they are kept, and the rest is given up.
+    /// The items. `None` if they are not kept. The rest is dropped.
     pub fn into_items(self) -> Option<Vec<T>>
         ensures kept { is_some result ≡ self.kept }
         ensures items { IfSome result (λ v. v.items ≡ self.items) }
@@ -111,7 +110,7 @@ impl<T> Record<T> {
 }
 
 impl<T: Drop> Record<T> {
-    /// Adds an item at the end, for which there is room.
+    /// Adds an item at the end. There has to be room for it.
     pub fn push(&mut self, item: T)
         requires { length self.old.items < self.old.room }
         ensures { self.new ≡ with_items self.old (self.old.items ++ item ∷ []) }
@@ -126,8 +125,8 @@ impl<T: Drop> Record<T> {
         }
     }
 
-    /// Adds all items of another record at the end, for which there is room, each as `M` reads it. They are kept where
-    /// both records keep theirs.
+    /// Adds all items of another record at the end, each as `M` reads it. There has to be room for them. The items are kept
+    /// only if both records keep theirs.
     pub fn append<S, M: Reads<S, T>>(&mut self, more: &Record<S>)
         requires { length self.old.items + length more.now.items ≤ self.old.room }
         ensures { self.new ≡ joined self.old more.now.kept (self.old.items ++ map M.read more.now.items) }
@@ -151,7 +150,7 @@ impl<T: Drop> Record<T> {
         }
     }
 
-    /// The items are no longer kept, and only counted from here on.
+    /// Stops keeping the items. From here on they are only counted.
     pub fn forget(&mut self)
         ensures { self.new ≡ forgotten self.old }
     {
@@ -159,7 +158,7 @@ impl<T: Drop> Record<T> {
     }
 }
 
-// Adds all of these, for which there is room.
+// Adds all of these at the end. There is room for them.
 fn extend<S, T: Drop, M: Reads<S, T>>(items: &mut Vec<T>, more: &[S])
     requires { length items.old.items + length more.now ≤ vec_capacity items.old }
     ensures items { items.new.items ≡ items.old.items ++ map M.read more.now }
@@ -172,3 +171,6 @@ fn extend<S, T: Drop, M: Reads<S, T>>(items: &mut Vec<T>, more: &[S])
         }
     }
 }
+
+ghost use Rattle.std.specs.Prelude.{◌≡◌, ◌<◌, ◌≤◌, ◌+◌, ◌++◌, [], ◌∷◌, true, length, map, IfOk, IfSome, is_some, vec_capacity, nat_le};
+ghost use Rattle.ti_trail.specs.Record.{with_items, forgotten, joined, is_kept};

@@ -1,13 +1,12 @@
-//! A list that only proofs read: it takes no memory, and its calls do nothing at run time.
-ghost use Rattle.std.specs.Prelude.{◌≡◌, List, [], ◌∷◌, ◌++◌, map};
-ghost use Rattle.std.specs.Borrow.{ftrue};
+//! A list that only proofs read. It takes no memory, and its calls do nothing at run time.
 
 use std::marker::{Model, PhantomData};
 
-/// How things of one type are read as things of another.
+/// How values of one type are read as values of another.
 pub trait Reads<S, T> {
     ghost read: { S → T };
 
+    /// Reads one value.
     fn read(thing: &S) -> T
         ensures { result ≡ read thing.now };
 }
@@ -29,24 +28,27 @@ unsafe impl<T: Send> Send for Trail<T> {}
 unsafe impl<T: Sync> Sync for Trail<T> {}
 
 impl<T> Trail<T> {
-    /// Nothing so far.
+    /// An empty list.
     pub fn new() -> Trail<T>
         ensures { result.items ≡ [] }
     {
         Trail { of: PhantomData }
     }
 
-    /// What happened before, and one thing more.
+    /// The list with one more item at the end.
     pub fn and(&self, _item: &T) -> Trail<T>
         ensures { result.items ≡ self.now.items ++ _item.now ∷ [] }
     {
         Trail { of: PhantomData }
     }
 
-    /// What happened before, and all this after it, each thing as `M` reads it.
+    /// The list with all of another after it, each item as `M` reads it.
     pub fn and_all<S, M: Reads<S, T>>(&self, _more: &Trail<S>) -> Trail<T>
         ensures { result.items ≡ self.now.items ++ map M.read _more.now.items }
     {
         Trail { of: PhantomData }
     }
 }
+
+ghost use Rattle.std.specs.Prelude.{◌≡◌, List, [], ◌∷◌, ◌++◌, map};
+ghost use Rattle.std.specs.Borrow.{ftrue};

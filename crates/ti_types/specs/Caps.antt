@@ -13,9 +13,9 @@ caps_with held more = record { bits = bit_or held.bits more.bits }
 abbrev pub caps_without : Caps → Caps → Caps
 caps_without held gone = record { bits = held.bits - bit_and held.bits gone.bits }
 
--- whether all that is needed is held
-abbrev pub holds_all : Caps → Caps → Bool
-holds_all held needed = bit_and held.bits needed.bits == needed.bits
+-- whether all that are needed are there
+abbrev pub has_all : Caps → Caps → Bool
+has_all held needed = bit_and held.bits needed.bits == needed.bits
 
 -- only can_suspend and can_pop_frame can be had
 abbrev pub can_be_had : Caps → Bool

@@ -1,7 +1,7 @@
 -- Numbers that may be negative.
 use Rattle.std.specs.Prelude.{ℕ, Bool, true, false, ℤ, pos, negsuc}
 
--- the number, and 0 for a negative one
+-- the number, or 0 for a negative one
 abbrev pub or_zero : ℤ → ℕ
 or_zero (pos n) = n
 or_zero (negsuc n) = 0

@@ -25,7 +25,7 @@ frames_after [] (At position) = []
 frames_after (frame ∷ frames) Leave = frames
 frames_after [] Leave = []
 
--- why frames refuse a step, where there may be this many of them
+-- why frames refuse a step, when there may be this many of them
 abbrev pub step_refusal : (depth : ℕ) → List Frame → Step → Option TiError
 step_refusal depth frames (Enter method) = if nat_lt (length frames) depth then None else Some Overflow
 step_refusal depth frames (EnterNative method) = if nat_lt (length frames) depth then None else Some Overflow

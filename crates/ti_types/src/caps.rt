@@ -1,6 +1,4 @@
-//! Capabilities.
-ghost use Rattle.std.specs.Prelude.{◌≡◌};
-ghost use Rattle.ti_types.specs.Caps.{no_caps, caps_with, caps_without, holds_all, can_be_had as can_be_had_of};
+//! Sets of capabilities.
 
 /// A set of capabilities, kept as a sum of bits: 1 can_suspend, 2 can_pop_frame, 4 can_tag_objects (JVM TI 11,
 /// jvmtiCapabilities; the bits are this profile's).
@@ -11,13 +9,13 @@ pub struct Caps {
 }
 
 impl Caps {
-    /// Suspends and resumes threads.
+    /// The capability to suspend and resume threads.
     pub const CAN_SUSPEND: Caps = Caps { bits: 1 };
 
-    /// Pops frames.
+    /// The capability to pop frames.
     pub const CAN_POP_FRAME: Caps = Caps { bits: 2 };
 
-    /// Tags objects. It cannot be had in this profile.
+    /// The capability to tag objects. It cannot be had in this profile.
     pub const CAN_TAG_OBJECTS: Caps = Caps { bits: 4 };
 
     /// No capability.
@@ -27,7 +25,7 @@ impl Caps {
         Caps { bits: 0 }
     }
 
-    /// The capabilities of either set (JVM TI 11, AddCapabilities: those held before stay).
+    /// The capabilities that are in either set (JVM TI 11, AddCapabilities: those from before stay).
     pub fn add(self, other: Caps) -> Caps
         ensures { result ≡ caps_with self other }
     {
@@ -36,8 +34,8 @@ impl Caps {
         }
     }
 
-    /// The capabilities of this set that are not of the other (JVM TI 11, RelinquishCapabilities: one that is not
-    /// held is no error).
+    /// The capabilities of this set that are not in the other. One that is not in this set is no error (JVM TI 11,
+    /// RelinquishCapabilities).
     pub fn relinquish(self, other: Caps) -> Caps
         ensures { result ≡ caps_without self other }
     {
@@ -46,9 +44,9 @@ impl Caps {
         }
     }
 
-    /// Whether each capability of the other set is of this one.
+    /// Whether each capability of the other set is in this one.
     pub fn has(self, other: Caps) -> bool
-        ensures { result ≡ holds_all self other }
+        ensures { result ≡ has_all self other }
     {
         self.bits & other.bits == other.bits
     }
@@ -60,3 +58,6 @@ impl Caps {
         self.bits < 4
     }
 }
+
+ghost use Rattle.std.specs.Prelude.{◌≡◌};
+ghost use Rattle.ti_types.specs.Caps.{no_caps, caps_with, caps_without, has_all, can_be_had as can_be_had_of};

@@ -1,30 +1,28 @@
 //! The errors, by their numbers.
-ghost use Rattle.std.specs.Prelude.{◌≡◌};
-ghost use Rattle.ti_types.specs.TiError.{number_of};
 
 use std::alloc::AllocError;
 
-/// Why a call or an event is refused. A refusal changes nothing at the thread. The first eleven are JVM TI 11's, with
-/// its numbers; those from 201 on are this profile's.
+/// Why a call or an event is refused. A refusal changes nothing at the thread. The first eleven are JVM TI 11's, with its
+/// numbers. Those from 201 on are this profile's.
 #[derive(Clone, Copy, Debug, PartialEq, Eq)]
 pub enum TiError {
     /// 10 INVALID_THREAD: there is no thread of this number.
     InvalidThread,
-    /// 13 THREAD_NOT_SUSPENDED: a resumption of a thread that is not suspended.
+    /// 13 THREAD_NOT_SUSPENDED: a resumption of a thread that is not suspended, or a pop there.
     ThreadNotSuspended,
     /// 14 THREAD_SUSPENDED: a suspension of a thread that is suspended.
     ThreadSuspended,
     /// 15 THREAD_NOT_ALIVE: the thread has not started, or has ended.
     ThreadNotAlive,
-    /// 31 NO_MORE_FRAMES: there is no frame at the depth.
+    /// 31 NO_MORE_FRAMES: there is no frame at the depth, or there are fewer than two frames for a pop.
     NoMoreFrames,
-    /// 32 OPAQUE_FRAME: a frame that cannot be popped.
+    /// 32 OPAQUE_FRAME: a pop when the newest frame or its caller is native.
     OpaqueFrame,
     /// 98 NOT_AVAILABLE: a capability that cannot be had.
     NotAvailable,
-    /// 99 MUST_POSSESS_CAPABILITY: the call needs a capability that is not held.
+    /// 99 MUST_POSSESS_CAPABILITY: the call needs a capability that the environment does not have.
     MustPossessCapability,
-    /// 103 ILLEGAL_ARGUMENT: a negative `max_count` or `depth`, or a `start` where there is no frame.
+    /// 103 ILLEGAL_ARGUMENT: a negative `max_count` or `depth`, or there is no frame at `start`.
     IllegalArgument,
     /// 110 OUT_OF_MEMORY: there is no memory for what is to be made.
     OutOfMemory,
@@ -32,7 +30,7 @@ pub enum TiError {
     InvalidEnvironment,
     /// 201: the stack has as many frames as the depth limit allows.
     Overflow,
-    /// 202: a step that needs a frame, where there is none.
+    /// 202: a step needs a frame, and there is none.
     NoFrame,
     /// 203: a new position for a native frame.
     NotJavaFrame,
@@ -42,21 +40,21 @@ pub enum TiError {
     NotSafe,
     /// 206: the thread is suspended or stopped, and may not start or return.
     Barred,
-    /// 207: a hand-over to native code, where the newest frame is not native.
+    /// 207: a hand-over to native code when the newest frame is not native.
     NoNativeFrame,
-    /// 208: the thread has spent its own entries.
+    /// 208: the thread has spent its own budget.
     OwnSpent,
     /// 209: the environment has spent its calls at the thread.
     CallsSpent,
     /// 210: a start of a thread that has started.
     NotNew,
-    /// 211: a stop of a thread at which a stop stands, one of the same environment too.
+    /// 211: a stop of a thread at which a stop is in force, the same environment's too.
     AlreadyStopped,
-    /// 212: a read or a go of an environment whose stop does not stand.
+    /// 212: a read or a go by an environment whose stop is not in force.
     NotStopped,
     /// 213: a read of a thread that still runs.
     StillRunning,
-    /// 214: the time that a call was given is over, and it was given up. It may still take place.
+    /// 214: the time of a call with a deadline is over, and the call was given up. It may still take place.
     TimedOut,
 }
 
@@ -106,3 +104,6 @@ impl From<AllocError> for TiError {
         TiError::OutOfMemory
     }
 }
+
+ghost use Rattle.std.specs.Prelude.{◌≡◌};
+ghost use Rattle.ti_types.specs.TiError.{number_of};

@@ -1,4 +1,4 @@
-//! The events of a walk, and what they come to.
+//! The events of a walk, their outcomes, and the tickets of calls.
 use crate::answer::Answer;
 use crate::call::Call;
 use crate::caps::Caps;
@@ -7,15 +7,18 @@ use crate::numbers::{EnvNo, ThreadNo};
 use crate::state::Kind;
 use crate::step::Step;
 
-/// One event of the coordinator. The first seven are a thread's own, and the others an environment's (JVM TI 11, the
-/// function named at each).
+/// One event at a thread or an environment. The first seven are a thread's own, and the others an environment's (JVM TI 11,
+/// the function named at each).
+///
+/// The numbers at each are the errors that may refuse it, in their order. If there is no such thread, a thread's own event
+/// is refused with 10 before all others.
 #[derive(Clone, Copy, Debug, PartialEq, Eq)]
 pub enum Event {
-    /// The thread starts: 210 where it has started, 206 where a stop stands.
+    /// The thread starts: 210 if it was started before, 206 if a stop is in force.
     Start(ThreadNo),
     /// The thread makes a step: 204, then 201, 202 or 203 by its frames, then 208.
-    Own(ThreadNo, Step),
-    /// The thread looks whether it is called for, and hands over where it is: 204 (JEP 312).
+    Stepped(ThreadNo, Step),
+    /// The thread looks whether somebody calls for it, and hands over at that place if so: 204 (JEP 312).
     Poll(ThreadNo),
     /// The thread goes into native code: 204, 207, 208.
     ToNative(ThreadNo),
@@ -45,7 +48,7 @@ pub enum Event {
     GetEnvWord(EnvNo),
 }
 
-/// A call that waits: the call of that number that an environment asked of a thread.
+/// The name of a call that waits, by which its answer is collected.
 #[derive(Clone, Copy, Debug, PartialEq, Eq)]
 pub struct Ticket {
     pub env: EnvNo,
@@ -54,17 +57,17 @@ pub struct Ticket {
     pub no: u64,
 }
 
-/// What an event comes to: the first five of a thread's own events, the last two of an environment's.
+/// The outcome of an event. The first five are of a thread's own events, the last two of an environment's.
 #[derive(Drop, Debug)]
 pub enum Outcome {
-    /// The event has left its entry.
+    /// The event has left its entry in the history.
     Done,
-    /// A poll at which nobody calls for the thread: nothing happens.
+    /// A poll when nobody calls for the thread: nothing happens.
     Clear,
-    /// A poll at which the waiting calls took place, and from which the thread returned.
+    /// A poll when somebody calls for the thread: the waiting calls took place, and the thread returned.
     Went,
-    /// A poll at which the waiting calls took place, and at which the thread is held.
-    Held,
+    /// A poll when somebody calls for the thread: the waiting calls took place, and the thread stays, since it is barred.
+    Stays,
     /// The thread's own event is refused, and nothing has changed.
     Refused(TiError),
     /// The call is answered.

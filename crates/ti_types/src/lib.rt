@@ -1,10 +1,13 @@
-//! The values of thread inspection: threads, environments, frames, calls, entries of a thread's history, events,
-//! answers and errors, and the tables over them: state bits, capabilities, the numbers of errors, the ranges of the
-//! limits.
+//! The values of thread inspection, and the tables over them.
 //!
-//! It stands on no other crate of this repository. Upward it promises that each value is the list, set or number
-//! that `specs/` names, so that contracts compare values by their meaning; that a `Limits` is within its ranges; and
-//! that a `TraceBuf` takes all of its memory when it is made, so that filling it cannot fail.
+//! The values are threads, environments, frames, calls, entries of a thread's history, events, answers and errors. The
+//! tables have the state bits, the capabilities, the numbers of errors, and the ranges of the limits.
+//!
+//! This crate uses no other crate of this repository. It promises:
+//!
+//! - Each value is the list, set or number that `specs/` names, so contracts compare values by their meaning.
+//! - A `Limits` is within its ranges.
+//! - A `TraceBuf` takes all of its memory when it is made, so filling it cannot fail.
 #![tactic(auto)]
 
 mod answer;

@@ -1,23 +1,21 @@
-//! The limits that all else keeps within.
-ghost use Rattle.std.specs.Prelude.{◌≡◌, ◌≤◌, ◌↔◌, true, false, IsTrue, IsSome, IfSome};
-ghost use Rattle.ti_types.specs.Limits.{InRange, AreLimits, IsWithin, most_depth, most_own, most_calls, most_window};
+//! The limits that threads and environments keep within.
 
-/// The limits of a coordinator, each within its range (this profile).
+/// How many threads and environments there are, and how much they may do. Each limit is within its range (this profile).
 #[derive(Clone, Copy, Debug)]
 pub struct Limits {
     /// How many threads there are, 1 to 64.
     pub threads: u32,
     /// How many environments there are, 1 to 32.
     pub envs: u32,
-    /// How many frames a thread may have, 1 to 4,096, or 65,536 where it may run as long as its process.
+    /// How many frames a thread may have: 1 to 4,096, or up to 65,536 if it may run as long as its process.
     pub depth: u32,
-    /// How many entries of its own a thread may pay for, 1 to 65,536, or 2^59 where it may run as long as its process:
-    /// 1 for a step, 2 for a hand-over to native or blocked, which pays for the return.
+    /// How many entries of its own a thread may pay for: 1 to 65,536, or 2^59 if it may run as long as its process. A step
+    /// costs 1. A hand-over to native or blocked costs 2, which pays for the return.
     pub own: u64,
-    /// How many calls, stops and reads each environment may pay for at each thread, 1 to 1,024, or 2^52 where the thread
-    /// may run as long as its process.
+    /// How many calls, stops and reads each environment may pay for at each thread. That is 1 to 1,024, or 2^52 if the
+    /// thread may run as long as its process.
     pub calls: u64,
-    /// How many calls each environment may have posted at each thread whose answers it has not collected, 1 to 1,024.
+    /// How many posted calls of each environment may be out at each thread, with their answers not collected: 1 to 1,024.
     pub window: u32,
     /// Whether the threads' histories are kept in memory, to be read again.
     pub kept: bool,
@@ -25,7 +23,14 @@ pub struct Limits {
 }
 
 impl Limits {
-    /// The limits, where each is within its range, and None where one is not (this profile).
+    /// The limits with these numbers, and with a `window` of `calls`. Histories are not kept. `None` if a number is not
+    /// within its range (this profile).
+    ///
+    /// - `threads`: 1 to 64.
+    /// - `envs`: 1 to 32.
+    /// - `depth`: 1 to 4,096.
+    /// - `own`: 1 to 65,536.
+    /// - `calls`: 1 to 1,024.
     pub fn new(threads: u32, envs: u32, depth: u32, own: u32, calls: u32) -> Option<Self>
         ensures range { IsSome result ↔ InRange threads envs depth own calls }
         ensures threads { IfSome result (λ l. l.threads ≡ threads) }
@@ -79,8 +84,9 @@ impl Limits {
         }
     }
 
-    /// The same limits, but that each environment may have at most `window` calls posted at each thread whose answers it
-    /// has not collected, 1 to 1,024. None where that is not within its range (this profile).
+    /// The same limits with another `window`, 1 to 1,024. `None` if it is not within that range (this profile).
+    ///
+    /// Each environment may then have at most `window` calls posted at each thread whose answers it has not collected.
     pub fn with_window(self, window: u32) -> Option<Self>
         ensures range { IsSome result ↔ IsWithin most_window window }
         ensures window { IfSome result (λ l. l.window ≡ window) }
@@ -112,10 +118,14 @@ impl Limits {
         }
     }
 
-    /// Limits under which a thread may run as long as its process: 2^59 entries of its own, and 2^52 calls of each
-    /// environment, of which 1,024 may be posted and not collected at a time. It has at most `depth` frames, 1 to 65,536.
-    /// The room for frames and calls is reserved, and takes memory only as far as the thread has been deep, and as calls
-    /// were out at once. Its history is not kept. None where a limit is not within its range (this profile).
+    /// Limits under which a thread may run as long as its process. `None` if a number is not within its range: 1 to 64
+    /// threads, 1 to 32 environments, a depth of 1 to 65,536 (this profile).
+    ///
+    /// A thread has 2^59 entries of its own, and each environment 2^52 calls there. At most 1,024 of these may be posted and
+    /// not collected at a time. Histories are not kept.
+    ///
+    /// The room for frames and calls is reserved. It takes memory only as far as the thread has been deep, and as calls were
+    /// out at once.
     pub fn lasting(threads: u32, envs: u32, depth: u32) -> Option<Self>
         ensures range { IsSome result ↔ (IsWithin 64 threads × IsWithin 32 envs × IsWithin most_depth depth) }
         ensures threads { IfSome result (λ l. l.threads ≡ threads) }
@@ -142,7 +152,7 @@ impl Limits {
     }
 }
 
-/// Whether the limits that every coordinator keeps within are in their ranges.
+/// Whether the numbers of threads and environments and the depth are in their ranges.
 fn shape_fits(threads: u32, envs: u32, depth: u32, most: u32) -> bool
     ensures { IsTrue result ↔ (IsWithin 64 threads × IsWithin 32 envs × IsWithin most depth) }
 {
@@ -151,3 +161,6 @@ fn shape_fits(threads: u32, envs: u32, depth: u32, most: u32) -> bool
     let depth_fits = 1 <= depth && depth <= most;
     threads_fit && envs_fit && depth_fits
 }
+
+ghost use Rattle.std.specs.Prelude.{◌≡◌, ◌≤◌, ◌↔◌, true, false, IsTrue, IsSome, IfSome};
+ghost use Rattle.ti_types.specs.Limits.{InRange, AreLimits, IsWithin, most_depth, most_own, most_calls, most_window};

@@ -1,6 +1,4 @@
 //! Lists of frames and of words.
-ghost use Rattle.std.specs.Prelude.{◌≡◌, ◌<◌, [], ◌∷◌, length, IfOk, OnOk, OnErr, slice_get, slice_index, slice_set, replicate};
-ghost use Rattle.ti_types.specs.Frames.{without_newest};
 
 use crate::place::Frame;
 use std::alloc::{AllocError, Global};
@@ -23,7 +21,7 @@ impl Model for FrameList {
 }
 
 impl FrameList {
-    /// No frames, which takes no memory.
+    /// An empty list. It takes no memory.
     pub fn new(alloc: Global) -> Self
         ensures { result ≡ [] }
     {
@@ -39,14 +37,14 @@ impl FrameList {
         self.items.len()
     }
 
-    /// The newest frame. None where there is no frame.
+    /// The newest frame. `None` if there is no frame.
     pub fn newest(&self) -> Option<Frame>
         ensures { result ≡ slice_get self.now 0 }
     {
         self.items.last().copied()
     }
 
-    /// The frame at a depth, 0 for the newest. None where there is none (JVM TI 11, GetFrameLocation).
+    /// The frame at a depth, 0 for the newest. `None` if there is none (JVM TI 11, GetFrameLocation).
     pub fn at_depth(&self, depth: usize) -> Option<Frame>
         ensures { result ≡ slice_get self.now depth }
     {
@@ -57,7 +55,7 @@ impl FrameList {
         }
     }
 
-    /// The frame at a depth that is there.
+    /// The frame at a depth below the number of frames.
     pub fn get(&self, depth: usize) -> Frame
         requires { depth < length self.now }
         ensures { slice_get self.now depth ≡ Some result }
@@ -65,7 +63,7 @@ impl FrameList {
         self.items[self.items.len() - 1 - depth]
     }
 
-    /// Puts a newest frame on the stack. The error is lack of memory; then nothing changes.
+    /// Puts a newest frame on the stack. The error is lack of memory. Then nothing changes.
     pub fn push(&mut self, frame: Frame) -> Result<(), AllocError>
         ensures ok { OnOk result (self.new ≡ frame ∷ self.old) }
         ensures err { OnErr result (self.new ≡ self.old) }
@@ -74,7 +72,7 @@ impl FrameList {
         Ok(())
     }
 
-    /// Takes the newest frame away, where there is one.
+    /// Takes the newest frame away, if there is one.
     pub fn pop(&mut self)
         ensures { self.new ≡ without_newest self.old }
     {
@@ -89,7 +87,7 @@ impl FrameList {
     }
 }
 
-/// Words, as a list.
+/// A list of words.
 #[derive(Drop, Debug)]
 pub struct WordList {
     items: Vec<u64>,
@@ -104,7 +102,7 @@ impl Model for WordList {
 }
 
 impl WordList {
-    /// This many words, each 0. The error is lack of memory.
+    /// A list of `count` words, each 0. The error is lack of memory.
     pub fn zeros(alloc: Global, count: usize) -> Result<Self, AllocError>
         ensures { IfOk result (λ w. w ≡ replicate count 0) }
     {
@@ -113,7 +111,7 @@ impl WordList {
         })
     }
 
-    /// The word at an index, and 0 where there is none.
+    /// The word at an index, or 0 if there is none.
     pub fn get(&self, index: usize) -> u64
         ensures { result ≡ slice_index self.now index }
     {
@@ -124,7 +122,7 @@ impl WordList {
         }
     }
 
-    /// Sets the word at an index, and nothing where there is none.
+    /// Sets the word at an index. If there is none, nothing changes.
     pub fn set(&mut self, index: usize, word: u64)
         ensures { self.new ≡ slice_set self.old index word }
     {
@@ -133,3 +131,6 @@ impl WordList {
         }
     }
 }
+
+ghost use Rattle.std.specs.Prelude.{◌≡◌, ◌<◌, [], ◌∷◌, length, IfOk, OnOk, OnErr, slice_get, slice_index, slice_set, replicate};
+ghost use Rattle.ti_types.specs.Frames.{without_newest};

@@ -1,7 +1,7 @@
-//! Frames, and where in a method they are.
+//! Frames, and their places in methods.
 use crate::numbers::MethodNo;
 
-/// Where a frame stands in its method.
+/// Where a frame is in its method.
 #[derive(Clone, Copy, Debug, PartialEq, Eq)]
 pub enum Place {
     /// At a position in its bytecode (JVM TI 11, jlocation).
@@ -15,6 +15,6 @@ pub enum Place {
 pub struct Frame {
     /// The method that the frame runs.
     pub method: MethodNo,
-    /// Where it stands in the method.
+    /// Where it is in the method.
     pub place: Place,
 }

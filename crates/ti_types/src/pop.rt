@@ -1,13 +1,14 @@
 //! When a frame may not be popped.
-ghost use Rattle.std.specs.Prelude.{◌≡◌};
-ghost use Rattle.ti_types.specs.Pops.{popping_refusal as popping_refusal_of};
 
 use crate::error::TiError;
 use crate::place::{Frame, Place};
 
-/// Why the newest frame of a thread that is alive may not be popped, or `None` where it may (JVM TI 11, PopFrame): 13
-/// THREAD_NOT_SUSPENDED, 31 NO_MORE_FRAMES where it or its caller is not there, 32 OPAQUE_FRAME where one of the two is
-/// native.
+/// Why the newest frame of a thread that is alive may not be popped. `None` if it may. The first of these that fits (JVM TI
+/// 11, PopFrame):
+///
+/// - 13 THREAD_NOT_SUSPENDED: the thread is not suspended.
+/// - 31 NO_MORE_FRAMES: the newest frame or its caller is not there.
+/// - 32 OPAQUE_FRAME: one of the two is native.
 pub fn popping_refusal(
     suspended: bool,
     newest: Option<Frame>,
@@ -26,3 +27,6 @@ pub fn popping_refusal(
         _ => Some(TiError::NoMoreFrames),
     }
 }
+
+ghost use Rattle.std.specs.Prelude.{◌≡◌};
+ghost use Rattle.ti_types.specs.Pops.{popping_refusal as popping_refusal_of};

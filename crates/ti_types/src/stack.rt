@@ -2,12 +2,12 @@
 use crate::numbers::ThreadNo;
 use crate::trace::TraceBuf;
 
-/// What is told of one thread (JVM TI 11, jvmtiStackInfo).
+/// The state and the frames of one thread (JVM TI 11, jvmtiStackInfo).
 #[derive(Drop, Debug)]
 pub struct StackInfo {
     pub thread: ThreadNo,
     /// The bits of GetThreadState.
     pub state: u32,
-    /// The newest frames, the newest first. A thread that is not alive has none.
+    /// The newest frames, newest first. A thread that is not alive has none.
     pub frames: TraceBuf,
 }

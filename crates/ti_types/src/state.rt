@@ -1,6 +1,4 @@
 //! The modes of a thread, and its state in JVM TI's bits.
-ghost use Rattle.std.specs.Prelude.{◌≡◌};
-ghost use Rattle.ti_types.specs.State.{bits_of, java_state_of};
 
 /// Why a thread is blocked (JVM TI 11, the waiting and sleeping bits of GetThreadState).
 #[derive(Clone, Copy, Debug, PartialEq, Eq)]
@@ -20,7 +18,7 @@ pub enum Safe {
     Native,
     /// Blocked.
     Blocked(Kind),
-    /// Held at a poll.
+    /// At a poll, where it stays.
     AtPoll,
 }
 
@@ -44,9 +42,9 @@ pub enum JavaState {
     TimedWaiting,
 }
 
-/// The bits of a thread of this mode (JVM TI 11, GetThreadState): ALIVE with RUNNABLE, IN_NATIVE or the bits of the
-/// kind of blocking; TERMINATED of one that has ended, and 0 of a new one. SUSPENDED, 0x100000, is added where the
-/// thread is suspended.
+/// The state bits of a thread in this mode (JVM TI 11, GetThreadState). A thread that is alive has ALIVE with RUNNABLE,
+/// IN_NATIVE or the bits of the kind of blocking. One that has ended has TERMINATED, and a new one has 0. SUSPENDED,
+/// 0x100000, is added if the thread is suspended.
 pub fn state_bits(mode: Mode, suspended: bool) -> u32
     ensures { result ≡ bits_of mode suspended }
 {
@@ -65,8 +63,8 @@ pub fn state_bits(mode: Mode, suspended: bool) -> u32
     if suspended { bits + 0x100000 } else { bits }
 }
 
-/// The Java state that state bits say, by the mask 0x4B7 (JVM TI 11, JVMTI_JAVA_LANG_THREAD_STATE_MASK). None where
-/// they say none.
+/// The Java state that the bits say, under the mask 0x4B7 (JVM TI 11, JVMTI_JAVA_LANG_THREAD_STATE_MASK). `None` if they say
+/// none.
 pub fn java_state(bits: u32) -> Option<JavaState>
     ensures { result ≡ java_state_of bits }
 {
@@ -80,3 +78,6 @@ pub fn java_state(bits: u32) -> Option<JavaState>
         _ => None,
     }
 }
+
+ghost use Rattle.std.specs.Prelude.{◌≡◌};
+ghost use Rattle.ti_types.specs.State.{bits_of, java_state_of};

@@ -4,12 +4,12 @@ use crate::numbers::MethodNo;
 /// A step that a running thread makes on its own frames.
 #[derive(Clone, Copy, Debug, PartialEq, Eq)]
 pub enum Step {
-    /// Enters a Java method at position 0: 201 where the depth is reached.
+    /// Enters a Java method at position 0: 201 if the depth limit is reached.
     Enter(MethodNo),
-    /// Enters a native method: 201 where the depth is reached.
+    /// Enters a native method: 201 if the depth limit is reached.
     EnterNative(MethodNo),
-    /// Goes to a position in the newest frame: 202 where there is none, 203 where it is native.
+    /// Goes to a position in the newest frame: 202 if there is none, 203 if it is native.
     At(u32),
-    /// Leaves the newest frame: 202 where there is none.
+    /// Leaves the newest frame: 202 if there is none.
     Leave,
 }

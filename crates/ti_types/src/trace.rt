@@ -1,15 +1,12 @@
 //! A buffer for frames.
-ghost use Rattle.std.specs.Prelude.{◌≡◌, ◌≤◌, ◌<◌, true, ◌++◌, ◌∷◌, [], length, IfOk, IfErr, min};
-ghost use Rattle.ti_types.specs.Numbers.{is_not_negative, or_zero};
-ghost use Rattle.ti_types.specs.declared.error.TiError.TheVariants.{OutOfMemory};
 
 use crate::error::TiError;
 use crate::place::Frame;
 use std::alloc::Global;
 use std::marker::Model;
 
-/// A list of frames with a room, which is made once and filled later. All of its memory is taken when it is made, so
-/// that filling it cannot fail (this profile: a call's memory is there before the call is posted).
+/// A list of frames with a room. It is made once and filled later. All of its memory is taken when it is made, so filling it
+/// cannot fail. This profile: a call's memory is there before the call is posted.
 #[derive(Drop, Debug)]
 pub struct TraceBuf {
     frames: Option<Vec<Frame>>,
@@ -27,11 +24,11 @@ impl Model for TraceBuf {
     ghost invariant = { HasRoom };
 }
 
-/// So much room is not worth giving back.
+/// Up to this much room is not worth freeing.
 const FEW: usize = 16;
 
 impl TraceBuf {
-    /// A buffer of no room, which takes no memory.
+    /// A buffer without room. It takes no memory.
     pub fn none() -> Self
         ensures frames { result.frames ≡ [] }
         ensures room { result.room ≡ 0 }
@@ -39,8 +36,8 @@ impl TraceBuf {
         TraceBuf { frames: None }
     }
 
-    /// An empty buffer with room for the lesser of `max_count`, which is not negative, and the depth limit `depth`.
-    /// The error is OUT_OF_MEMORY, 110, where there is no memory for that room.
+    /// An empty buffer with room for `max_count` or `depth` frames, whichever is less. `max_count` is not negative, and
+    /// `depth` is the depth limit. The error is 110 OUT_OF_MEMORY if there is no memory for that room.
     pub fn make(alloc: Global, max_count: i32, depth: u32) -> Result<Self, TiError>
         requires not_negative { is_not_negative max_count ≡ true }
         ensures frames { IfOk result (λ b. b.frames ≡ []) }
@@ -55,7 +52,7 @@ impl TraceBuf {
         })
     }
 
-    /// For how many frames there is room.
+    /// How many frames there is room for.
     pub fn room(&self) -> u32
         ensures { result ≡ self.now.room }
     {
@@ -65,7 +62,7 @@ impl TraceBuf {
         }
     }
 
-    /// The frames so far, in the order in which they were added: no more than there is room for.
+    /// The frames so far, in the order they were added. There are no more than there is room for.
     pub fn frames(&self) -> &[Frame]
         ensures frames { result.now ≡ self.now.frames }
         ensures room { length self.now.frames ≤ self.now.room }
@@ -76,7 +73,7 @@ impl TraceBuf {
         }
     }
 
-    /// Adds a frame at the end, for which there is room.
+    /// Adds a frame at the end. There has to be room for it.
     pub fn push(&mut self, frame: Frame)
         requires { length self.old.frames < self.old.room }
         ensures frames { self.new.frames ≡ self.old.frames ++ frame ∷ [] }
@@ -88,8 +85,8 @@ impl TraceBuf {
         }
     }
 
-    /// Gives room back that no frame takes, where that is more than the frames take and more than a few. It takes no
-    /// memory: where the memory cannot be given back, the buffer keeps it.
+    /// Frees room that no frame takes, if that is more than the frames take and more than a few. It takes no memory. If the
+    /// memory cannot be freed, the buffer keeps it.
     pub fn fit(&mut self)
         ensures { self.new.frames ≡ self.old.frames }
     {
@@ -100,3 +97,7 @@ impl TraceBuf {
         }
     }
 }
+
+ghost use Rattle.std.specs.Prelude.{◌≡◌, ◌≤◌, ◌<◌, true, ◌++◌, ◌∷◌, [], length, IfOk, IfErr, min};
+ghost use Rattle.ti_types.specs.Numbers.{is_not_negative, or_zero};
+ghost use Rattle.ti_types.specs.declared.error.TiError.TheVariants.{OutOfMemory};

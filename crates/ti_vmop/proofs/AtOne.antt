@@ -21,7 +21,7 @@ use Rattle.ti_replay.specs.Answers.{or_zero, stack_of}
 use Rattle.ti_replay.specs.Refusals.{unless}
 use Rattle.ti_replay.specs.Legal.{is_legal, is_stopper}
 use Rattle.ti_replay.specs.Makers.{maker, made_by, StartsWith}
-use Rattle.ti_replay.specs.Events.{hold_refusal, if_none}
+use Rattle.ti_replay.specs.Events.{stopping_refusal, if_none}
 use Rattle.ti_replay.specs.Replies.{reply}
 use Rattle.ti_replay.specs.Standing.{is_standing, stands_for}
 use Rattle.ti_replay.proofs.AskingLaws.{reply-snoc}
@@ -32,7 +32,7 @@ use Rattle.ti_slot.specs.Thread.{read_answer}
 use Rattle.ti_cell.specs.declared.view.View.{View}
 use Rattle.ti_handshake.specs.Call.{Waits, found, added}
 use Rattle.ti_handshake.proofs.Holding.{added_is}
-use Rattle.ti_handshake.specs.Desk.{Place, is_anothers}
+use Rattle.ti_handshake.specs.Desk.{DeskState, is_anothers}
 use Rattle.ti_replay.proofs.AloneLaws.{made-append, none_since}
 use Rattle.ti_replay.specs.Fronts.{stops_by, lets_go, IsStill, TellsOf, popped_behind}
 use Rattle.ti_vmop.specs.Desks.{DesksStay}
@@ -62,13 +62,13 @@ no_others env None h n = refl
 no_others env (Some other) h n = absurd (grind (arith, h, n))
 
 -- a stop of an environment that has none stands where no other's does
-pub stopped : (p : Place) (w : View) → p.view.number ≡ p.env.0 + 1
-    → Waits p.view w (if_none (hold_refusal (view p.view.subject.limits (found p.view w)) (event.Stop p.env p.view.subject.thread)) (Stop p.env ∷ []))
+pub stopped : (p : DeskState) (w : View) → p.view.number ≡ p.env.0 + 1
+    → Waits p.view w (if_none (stopping_refusal (view p.view.subject.limits (found p.view w)) (event.Stop p.env p.view.subject.thread)) (Stop p.env ∷ []))
     → is_anothers p.env (view p.view.subject.limits (found p.view w)).stopper ≡ false → stops_by p.env p.view.mine ≡ false → Waits p.view w (Stop p.env ∷ [])
 stopped p w number k others free =
     let limits = p.view.subject.limits in
     let now = view limits (found p.view w) in
-    let r = hold_refusal now (event.Stop p.env p.view.subject.thread) in
+    let r = stopping_refusal now (event.Stop p.env p.view.subject.thread) in
     let made : maker (Stop p.env) ≡ p.view.number = omega (arith, number) in
     let mine : made_by (p.env.0 + 1) (found p.view w) ≡ p.view.mine =
     ap (λ (n : ℕ). made_by n (found p.view w)) (sym number) ∙ found_mine p.view w (if_none r (Stop p.env ∷ [])) k (one_made p.view.number (Stop p.env) r made) in
@@ -76,7 +76,7 @@ stopped p w number k others free =
     subst (λ (o : Option TiError). Waits p.view w (if_none o (Stop p.env ∷ []))) (no_others p.env now.stopper others own) k
 
 -- a stop that was made and not let go stands where a go finds the thread
-pub let_go_again : (p : Place) (w : View) (r : Option TiError) → p.view.number ≡ p.env.0 + 1 → stops_by p.env p.view.mine ≡ true → r ≡ hold_refusal (view p.view.subject.limits (found p.view w)) (event.Go p.env p.view.subject.thread)
+pub let_go_again : (p : DeskState) (w : View) (r : Option TiError) → p.view.number ≡ p.env.0 + 1 → stops_by p.env p.view.mine ≡ true → r ≡ stopping_refusal (view p.view.subject.limits (found p.view w)) (event.Go p.env p.view.subject.thread)
     → Waits p.view w (if_none r (Go p.env ∷ [])) → Waits p.view w (Go p.env ∷ [])
 let_go_again p w r number stands is k =
     let limits = p.view.subject.limits in
@@ -85,18 +85,18 @@ let_go_again p w r number stands is k =
     let mine : made_by (p.env.0 + 1) (found p.view w) ≡ p.view.mine =
     ap (λ (n : ℕ). made_by n (found p.view w)) (sym number) ∙ found_mine p.view w (if_none r (Go p.env ∷ [])) k (one_made p.view.number (Go p.env) r made) in
     let own : is_stopper now.stopper p.env ≡ true = stops_are_own limits p.env (found p.view w) (found_legal p.view w (if_none r (Go p.env ∷ [])) k) ∙ (ap (stops_by p.env) mine ∙ stands) in
-    let free : hold_refusal now (event.Go p.env p.view.subject.thread) ≡ None = grind (arith, own) in
+    let free : stopping_refusal now (event.Go p.env p.view.subject.thread) ≡ None = grind (arith, own) in
     subst (λ (o : Option TiError). Waits p.view w (if_none o (Go p.env ∷ []))) (is ∙ free) k
 
 -- a stop with a deadline was made, or not
-pub stopped_if : {A : Type 0} → (p : Place) (w : View) (a : Option A) (b : Bool) → b ≡ is_some a → p.view.number ≡ p.env.0 + 1
-    → MatchOption a (Waits p.view w []) (λ _. Waits p.view w (if_none (hold_refusal (view p.view.subject.limits (found p.view w)) (event.Stop p.env p.view.subject.thread)) (Stop p.env ∷ [])))
+pub stopped_if : {A : Type 0} → (p : DeskState) (w : View) (a : Option A) (b : Bool) → b ≡ is_some a → p.view.number ≡ p.env.0 + 1
+    → MatchOption a (Waits p.view w []) (λ _. Waits p.view w (if_none (stopping_refusal (view p.view.subject.limits (found p.view w)) (event.Stop p.env p.view.subject.thread)) (Stop p.env ∷ [])))
     → IfSome a (λ _. is_anothers p.env (view p.view.subject.limits (found p.view w)).stopper ≡ false) → stops_by p.env p.view.mine ≡ false → Waits p.view w (if b then Stop p.env ∷ [] else [])
 stopped_if p w None b is number k others free = subst (λ (x : Bool). Waits p.view w (if x then Stop p.env ∷ [] else [])) (sym is) k
 stopped_if p w (Some a) b is number k others free = subst (λ (x : Bool). Waits p.view w (if x then Stop p.env ∷ [] else [])) (sym is) (stopped p w number k others free)
 
 -- the thread that stood when it was last seen stands where a call finds it, in the same mode, with the same frames
-pub found_still : (p : Place) (w : View) (more : List Entry) → p.view.number ≡ p.env.0 + 1 → p.view.mine ≡ made_by p.view.number p.view.seen
+pub found_still : (p : DeskState) (w : View) (more : List Entry) → p.view.number ≡ p.env.0 + 1 → p.view.mine ≡ made_by p.view.number p.view.seen
     → Waits p.view w more → made_by p.view.number more ≡ more → is_standing p.view.subject.limits p.view.seen p.env ≡ true
     → (k : StartsWith (found p.view w) p.view.seen) → IsStill p.view.subject.limits p.env p.view.seen k.0
 found_still p w more number whole k own stands s =
@@ -109,10 +109,10 @@ reply_read : (limits : Limits) (history : List Entry) (env : EnvNo) (n : ℤ) �
 reply_read limits history env n =
     grind (arith, nat_tests, reply-snoc limits history (Read env n) (length history), reply_past limits history (length history))
 
-not_refused : (v : ThreadView) (env : EnvNo) (t : ThreadNo) (n : ℤ) → stands_for env v ≡ true → hold_refusal v (event.Read env t n) ≡ None
+not_refused : (v : ThreadView) (env : EnvNo) (t : ThreadNo) (n : ℤ) → stands_for env v ≡ true → stopping_refusal v (event.Read env t n) ≡ None
 not_refused v env t n s = grind (arith, s)
 
-let_go : (v : ThreadView) (env : EnvNo) (t : ThreadNo) → stands_for env v ≡ true → hold_refusal v (event.Go env t) ≡ None
+let_go : (v : ThreadView) (env : EnvNo) (t : ThreadNo) → stands_for env v ≡ true → stopping_refusal v (event.Go env t) ≡ None
 let_go v env t s = grind (arith, s)
 
 tells_still : (limits : Limits) (front more now : List Entry) (n : ℤ) → (view limits now).mode ≡ (view limits front).mode → (view limits now).frames ≡ drop (popped_behind limits front more) (view limits front).frames
@@ -121,12 +121,12 @@ tells_still limits front more now n mode frames =
     ((view limits now).suspended, λ i. answer.Stack (bits_of (mode i) (view limits now).suspended) (bare_trace (take (or_zero n) (frames i))))
 
 -- what is standing where it is found: after what the desk had seen come these
-pub record Finds (p : Place) (w : View) (more : List Entry) : Type 0 where
+pub record Finds (p : DeskState) (w : View) (more : List Entry) : Type 0 where
   pub stands : stands_for p.env (view p.view.subject.limits (found p.view w)) ≡ true
   pub mode : (view p.view.subject.limits (found p.view w)).mode ≡ (view p.view.subject.limits p.view.seen).mode
   pub frames : (view p.view.subject.limits (found p.view w)).frames ≡ drop (popped_behind p.view.subject.limits p.view.seen more) (view p.view.subject.limits p.view.seen).frames
 
-pub finds : (p : Place) (w : View) (x : Entry) (r : Option TiError) → maker x ≡ p.env.0 + 1 → p.view.number ≡ p.env.0 + 1 → p.view.mine ≡ made_by p.view.number p.view.seen
+pub finds : (p : DeskState) (w : View) (x : Entry) (r : Option TiError) → maker x ≡ p.env.0 + 1 → p.view.number ≡ p.env.0 + 1 → p.view.mine ≡ made_by p.view.number p.view.seen
     → (k : Waits p.view w (if_none r (x ∷ []))) → is_standing p.view.subject.limits p.view.seen p.env ≡ true → Finds p w k.here.0
 finds p w x r by number whole k stands =
     let still = found_still p w (if_none r (x ∷ [])) number whole k (one_made p.view.number x r (by ∙ sym number)) stands k.here in
@@ -137,19 +137,19 @@ finds p w x r by number whole k stands =
       frames = ap (λ (l : List Entry). (view p.view.subject.limits l).frames) e ∙ still.frames;
     }
 
-pub read_holds : (p : Place) (w : View) (n : ℤ) (r : Option TiError) (more : List Entry) → r ≡ hold_refusal (view p.view.subject.limits (found p.view w)) (event.Read p.env p.view.subject.thread n) → Finds p w more
+pub read_holds : (p : DeskState) (w : View) (n : ℤ) (r : Option TiError) (more : List Entry) → r ≡ stopping_refusal (view p.view.subject.limits (found p.view w)) (event.Read p.env p.view.subject.thread n) → Finds p w more
     → Waits p.view w (if_none r (Read p.env n ∷ [])) → Waits p.view w (Read p.env n ∷ [])
 read_holds p w n r more is f k = subst (λ (o : Option TiError). Waits p.view w (if_none o (Read p.env n ∷ []))) (is ∙ not_refused (view p.view.subject.limits (found p.view w)) p.env p.view.subject.thread n f.stands) k
 
-pub go_holds : (p : Place) (w : View) (r : Option TiError) (more : List Entry) → r ≡ hold_refusal (view p.view.subject.limits (found p.view w)) (event.Go p.env p.view.subject.thread) → Finds p w more
+pub go_holds : (p : DeskState) (w : View) (r : Option TiError) (more : List Entry) → r ≡ stopping_refusal (view p.view.subject.limits (found p.view w)) (event.Go p.env p.view.subject.thread) → Finds p w more
     → Waits p.view w (if_none r (Go p.env ∷ [])) → Waits p.view w (Go p.env ∷ [])
 go_holds p w r more is f k = subst (λ (o : Option TiError). Waits p.view w (if_none o (Go p.env ∷ []))) (is ∙ let_go (view p.view.subject.limits (found p.view w)) p.env p.view.subject.thread f.stands) k
 
-pub read_replies : (p : Place) (w : View) (n : ℤ) (r : Option TiError) (a : Answer) (more : List Entry) → r ≡ hold_refusal (view p.view.subject.limits (found p.view w)) (event.Read p.env p.view.subject.thread n) → Finds p w more
+pub read_replies : (p : DeskState) (w : View) (n : ℤ) (r : Option TiError) (a : Answer) (more : List Entry) → r ≡ stopping_refusal (view p.view.subject.limits (found p.view w)) (event.Read p.env p.view.subject.thread n) → Finds p w more
     → read_answer r (reply p.view.subject.limits w.seen (length (found p.view w))) ≡ Some a → reply p.view.subject.limits w.seen (length (found p.view w)) ≡ Some a
 read_replies p w n r a more is f k = subst (λ (o : Option TiError). read_answer o (reply p.view.subject.limits w.seen (length (found p.view w))) ≡ Some a) (is ∙ not_refused (view p.view.subject.limits (found p.view w)) p.env p.view.subject.thread n f.stands) k
 
-pub read_tells : (p : Place) (w : View) (n : ℤ) (a : Answer) (more : List Entry) → Finds p w more → Waits p.view w (Read p.env n ∷ []) → reply p.view.subject.limits w.seen (length (found p.view w)) ≡ Some a
+pub read_tells : (p : DeskState) (w : View) (n : ℤ) (a : Answer) (more : List Entry) → Finds p w more → Waits p.view w (Read p.env n ∷ []) → reply p.view.subject.limits w.seen (length (found p.view w)) ≡ Some a
     → TellsOf p.view.subject.limits p.view.seen more n a
 read_tells p w n a more f k told =
     let limits = p.view.subject.limits in
@@ -158,13 +158,13 @@ read_tells p w n a more f k told =
     subst (λ (x : Answer). TellsOf limits p.view.seen more n x) (cc at) (tells_still limits p.view.seen more (found p.view w) n f.mode f.frames)
 
 -- a read leaves the thread standing
-pub read_stands : (p : Place) (w : View) (n : ℤ) (more : List Entry) → Finds p w more → Waits p.view w (Read p.env n ∷ []) → is_standing p.view.subject.limits w.seen p.env ≡ true
+pub read_stands : (p : DeskState) (w : View) (n : ℤ) (more : List Entry) → Finds p w more → Waits p.view w (Read p.env n ∷ []) → is_standing p.view.subject.limits w.seen p.env ≡ true
 read_stands p w n more f k =
     let limits = p.view.subject.limits in
     let one = front_stays limits p.env (found p.view w) (Read p.env n ∷ []) (subst (λ (l : List Entry). is_legal limits l ≡ true) k.last k.goes.legal) f.stands refl in
     ap (λ (l : List Entry). is_standing limits l p.env) k.last ∙ one.stands
 
-pub recount : (p : Place) (w : View) (r : Option TiError) (m n : ℤ) → m ≡ n → Waits p.view w (if_none r (Read p.env m ∷ [])) → Waits p.view w (if_none r (Read p.env n ∷ []))
+pub recount : (p : DeskState) (w : View) (r : Option TiError) (m n : ℤ) → m ≡ n → Waits p.view w (if_none r (Read p.env m ∷ [])) → Waits p.view w (if_none r (Read p.env n ∷ []))
 recount p w r m n e k = subst (λ (x : ℤ). Waits p.view w (if_none r (Read p.env x ∷ []))) e k
 
 pub desks_stay : DesksStay

@@ -21,7 +21,7 @@ use Rattle.ti_replay.specs.Answers.{or_zero}
 use Rattle.ti_slot.specs.Waiting.{HasRoomFor}
 use Rattle.ti_types.specs.Frames as buffer
 use Rattle.ti_replay.specs.Fronts.{TellsOf}
-use Rattle.ti_handshake.specs.Desk.{Place, IsSame}
+use Rattle.ti_handshake.specs.Desk.{DeskState, IsSame}
 use Rattle.ti_vmop.specs.Turns.{Listed, is_listed, AreDistinct, AreThere, are_paid, spend_all, HasAdded, AtDesk, AtEach, AllStand, IsRead}
 
 pub at_index : {A : Type 0} (l : List A) (k : ℕ) (d : A) → k < length l → slice_get l k ≡ Some (slice_index_or l k d)
@@ -73,12 +73,12 @@ pub listed-snoc : (i : ℕ) (done : Listed) (x : ThreadNo × ℕ) → is_listed 
 listed-snoc i [] x = grind arith
 listed-snoc i (y ∷ done) x = grind (arith, listed-snoc i done x)
 
-pub set_here : (l : List Place) (t : ℕ) (x w : Place) → slice_get (slice_set l t x) t ≡ Some w → x ≡ w
+pub set_here : (l : List DeskState) (t : ℕ) (x w : DeskState) → slice_get (slice_set l t x) t ≡ Some w → x ≡ w
 set_here [] t x w e = cc
 set_here (y ∷ ys) zero x w e = cc
 set_here (y ∷ ys) (suc t) x w e = set_here ys t x w e
 
-set_there : (l : List Place) (t i : ℕ) (x w : Place) → t ≢ i → slice_get (slice_set l t x) i ≡ Some w → slice_get l i ≡ Some w
+set_there : (l : List DeskState) (t i : ℕ) (x w : DeskState) → t ≢ i → slice_get (slice_set l t x) i ≡ Some w → slice_get l i ≡ Some w
 set_there [] t i x w n e = e
 set_there (y ∷ ys) zero zero x w n e = absurd (n refl)
 set_there (y ∷ ys) zero (suc i) x w n e = e
@@ -86,14 +86,14 @@ set_there (y ∷ ys) (suc t) zero x w n e = e
 set_there (y ∷ ys) (suc t) (suc i) x w n e = set_there ys t i x w (λ h. n (ap suc h)) e
 
 -- nothing was done yet
-pub each_none : (desks : List Place) (more : EnvNo → List Entry) → AtEach [] desks desks more
+pub each_none : (desks : List DeskState) (more : EnvNo → List Entry) → AtEach [] desks desks more
 each_none desks more = (refl, λ i p q e f. some_same (sym f ∙ e))
   where
-    some_same : {p q : Place} → Some q ≡ Some p → q ≡ p
+    some_same : {p q : DeskState} → Some q ≡ Some p → q ≡ p
     some_same h = cc h
 
 -- a desk that was not done is as it was
-pub not_done : (done : Listed) (old now : List Place) (more : EnvNo → List Entry) (t : ℕ) (d : Place) → AtEach done old now more → is_listed t done ≡ false → t < length old
+pub not_done : (done : Listed) (old now : List DeskState) (more : EnvNo → List Entry) (t : ℕ) (d : DeskState) → AtEach done old now more → is_listed t done ≡ false → t < length old
     → slice_get old t ≡ Some (slice_index_or now t d)
 not_done done old now more t d a unlisted there =
     let here : t < length now = omega (arith, a.0) in
@@ -104,14 +104,14 @@ not_done done old now more t d a unlisted there =
     at ∙ ap Some (sym same)
 
 -- one more thread of the list
-pub each_step : (done : Listed) (old now : List Place) (more : EnvNo → List Entry) (x : ThreadNo × ℕ) (d q : Place) → AtEach done old now more → is_listed x.0.0 done ≡ false → x.0.0 < length old
+pub each_step : (done : Listed) (old now : List DeskState) (more : EnvNo → List Entry) (x : ThreadNo × ℕ) (d q : DeskState) → AtEach done old now more → is_listed x.0.0 done ≡ false → x.0.0 < length old
     → HasAdded (slice_index_or now x.0.0 d) q (more (slice_index_or now x.0.0 d).env) → AtEach (done ++ x ∷ []) old (slice_set now x.0.0 q) more
 each_step done old now more x d q a unlisted there added = (length-set now x.0.0 q ∙ a.0, one)
   where
-    was : Place
+    was : DeskState
     was = slice_index_or now x.0.0 d
 
-    one : (i : ℕ) (p r : Place) → slice_get old i ≡ Some p → slice_get (slice_set now x.0.0 q) i ≡ Some r → AtDesk (is_listed i (done ++ x ∷ [])) p r (more p.env)
+    one : (i : ℕ) (p r : DeskState) → slice_get old i ≡ Some p → slice_get (slice_set now x.0.0 q) i ≡ Some r → AtDesk (is_listed i (done ++ x ∷ [])) p r (more p.env)
     one i p r e f =
         elim (cases_eq x.0.0 i) [
           | inl same ↦
@@ -119,17 +119,17 @@ each_step done old now more x d q a unlisted there added = (length-set now x.0.0
               let before : Some p ≡ Some (slice_index_or now x.0.0 d) = sym e ∙ (ap (slice_get old) (sym same) ∙ not_done done old now more x.0.0 d a unlisted there) in
               let place : slice_index_or now x.0.0 d ≡ p = cc before in
               let listed : true ≡ is_listed i (done ++ x ∷ []) = sym (listed-snoc i done x ∙ grind (arith, eq-eqb x.0.0 i same)) in
-              subst (λ (b : Bool). AtDesk b p r (more p.env)) listed (subst (λ (z : Place × Place). HasAdded z.0 z.1 (more z.0.env)) (λ j. (place j, is j)) added)
+              subst (λ (b : Bool). AtDesk b p r (more p.env)) listed (subst (λ (z : DeskState × DeskState). HasAdded z.0 z.1 (more z.0.env)) (λ j. (place j, is j)) added)
           | inr other ↦
               let still = a.1 i p r e (set_there now x.0.0 i q r other f) in
               let listed : is_listed i done ≡ is_listed i (done ++ x ∷ []) = sym (listed-snoc i done x ∙ grind (arith, ne_eqb x.0.0 i other)) in
               subst (λ (b : Bool). AtDesk b p r (more p.env)) listed still
         ]
 
-pub adds : (p q : Place) (more : List Entry) → IsSame p q → Waits p.view q.view more → HasAdded p q more
+pub adds : (p q : DeskState) (more : List Entry) → IsSame p q → Waits p.view q.view more → HasAdded p q more
 adds p q more same k = record { same = same; goes = k.goes; mine = k.mine; posted = k.posted }
 
-pub each_more : (threads : Listed) (k n : ℕ) (old now : List Place) (more : EnvNo → List Entry) (c : ThreadNo × ℕ) (d q : Place) → AreDistinct threads → AreThere (length old) threads → k < length threads → n ≡ suc k
+pub each_more : (threads : Listed) (k n : ℕ) (old now : List DeskState) (more : EnvNo → List Entry) (c : ThreadNo × ℕ) (d q : DeskState) → AreDistinct threads → AreThere (length old) threads → k < length threads → n ≡ suc k
     → AtEach (take k threads) old now more → HasAdded (slice_index_or now (slice_index_or threads k c).0.0 d) q (more (slice_index_or now (slice_index_or threads k c).0.0 d).env)
     → AtEach (take n threads) old (slice_set now (slice_index_or threads k c).0.0 q) more
 each_more threads k n old now more c d q distinct there within e a added =
@@ -143,7 +143,7 @@ take_all [] (suc n) h = refl
 take_all (x ∷ xs) zero h = absurd (omega arith)
 take_all (x ∷ xs) (suc n) h = ap (λ l. x ∷ l) (take_all xs n (omega arith))
 
-pub each_all : (threads : Listed) (n : ℕ) (old now : List Place) (more : EnvNo → List Entry) → length threads ≤ n → AtEach (take n threads) old now more → AtEach threads old now more
+pub each_all : (threads : Listed) (n : ℕ) (old now : List DeskState) (more : EnvNo → List Entry) → length threads ≤ n → AtEach (take n threads) old now more → AtEach threads old now more
 each_all threads n old now more h a = subst (λ (done : Listed). AtEach done old now more) (take_all threads n h) a
 
 -- What an environment has spent
@@ -204,16 +204,16 @@ not_paid state threads k c h few =
       | inr unpaid ↦ unpaid
     ]
 
-pub in_range : (l : List Place) (i : ℕ) (x : Place) → slice_get l i ≡ Some x → i < length l
+pub in_range : (l : List DeskState) (i : ℕ) (x : DeskState) → slice_get l i ≡ Some x → i < length l
 in_range [] i x h = cc
 in_range (y ∷ ys) zero x h = omega arith
 in_range (y ∷ ys) (suc i) x h = let r = in_range ys i x h in omega (arith, r)
 
 -- one entry after another
-pub each_then : (threads : Listed) (a b c : List Place) (f : EnvNo → List Entry) → AtEach threads a b f → AtEach threads b c (λ e. []) → AtEach threads a c f
+pub each_then : (threads : Listed) (a b c : List DeskState) (f : EnvNo → List Entry) → AtEach threads a b f → AtEach threads b c (λ e. []) → AtEach threads a c f
 each_then threads a b c f p q = (q.0 ∙ p.0, one)
   where
-    both : (t : Bool) (x y z : Place) (more : List Entry) → AtDesk t x y more → AtDesk t y z [] → AtDesk t x z more
+    both : (t : Bool) (x y z : DeskState) (more : List Entry) → AtDesk t x y more → AtDesk t y z [] → AtDesk t x z more
     both false x y z more h k = k ∙ h
     both true x y z more h k = record {
       same = record { cell = k.same.cell ∙ h.same.cell; env = k.same.env ∙ h.same.env; cancelled = k.same.cancelled ∙ h.same.cancelled };
@@ -222,7 +222,7 @@ each_then threads a b c f p q = (q.0 ∙ p.0, one)
       posted = k.posted ∙ h.posted;
     }
 
-    one : (i : ℕ) (x z : Place) → slice_get a i ≡ Some x → slice_get c i ≡ Some z → AtDesk (is_listed i threads) x z (f x.env)
+    one : (i : ℕ) (x z : DeskState) → slice_get a i ≡ Some x → slice_get c i ≡ Some z → AtDesk (is_listed i threads) x z (f x.env)
     one i x z e g =
         let within : i < length a = in_range a i x e in
         let y = slice_index_or b i x in
@@ -231,39 +231,39 @@ each_then threads a b c f p q = (q.0 ∙ p.0, one)
 
 -- Which threads stand
 
-stood_step : (now : List Place) (done : Listed) (x : ThreadNo × ℕ) (q d : Place) → AllStand done now → is_standing q.view.subject.limits q.view.seen q.env ≡ true → AllStand (done ++ x ∷ []) (slice_set now x.0.0 q)
+stood_step : (now : List DeskState) (done : Listed) (x : ThreadNo × ℕ) (q d : DeskState) → AllStand done now → is_standing q.view.subject.limits q.view.seen q.env ≡ true → AllStand (done ++ x ∷ []) (slice_set now x.0.0 q)
 stood_step now done x q d all here i p e listed =
     elim (cases_eq x.0.0 i) [
       | inl same ↦
           let is : q ≡ p = set_here now i q p (subst (λ (t : ℕ). slice_get (slice_set now t q) i ≡ Some p) same e) in
-          subst (λ (z : Place). is_standing z.view.subject.limits z.view.seen z.env ≡ true) is here
+          subst (λ (z : DeskState). is_standing z.view.subject.limits z.view.seen z.env ≡ true) is here
       | inr other ↦
           let was : is_listed i done ≡ true = grind (arith, ne_eqb x.0.0 i other, sym (listed-snoc i done x) ∙ listed) in
           all i p (set_there now x.0.0 i q p other e) was
     ]
 
-pub stood_more : (threads : Listed) (k n : ℕ) (now : List Place) (c : ThreadNo × ℕ) (q d : Place) → k < length threads → n ≡ suc k → AllStand (take k threads) now
+pub stood_more : (threads : Listed) (k n : ℕ) (now : List DeskState) (c : ThreadNo × ℕ) (q d : DeskState) → k < length threads → n ≡ suc k → AllStand (take k threads) now
     → is_standing q.view.subject.limits q.view.seen q.env ≡ true → AllStand (take n threads) (slice_set now (slice_index_or threads k c).0.0 q)
 stood_more threads k n now c q d h e all here =
     subst (λ (done : Listed). AllStand done (slice_set now (slice_index_or threads k c).0.0 q)) (sym (take_more threads k n c e h)) (stood_step now (take k threads) (slice_index_or threads k c) q d all here)
 
-pub stood_all : (threads : Listed) (n : ℕ) (now : List Place) → length threads ≤ n → AllStand (take n threads) now → AllStand threads now
+pub stood_all : (threads : Listed) (n : ℕ) (now : List DeskState) → length threads ≤ n → AllStand (take n threads) now → AllStand threads now
 stood_all threads n now h a = subst (λ (done : Listed). AllStand done now) (take_all threads n h) a
 
 -- a desk after a hold that added nothing, and saw its thread stand
-pub stands_now : (p q : Place) → IsSame p q → Waits p.view q.view [] → is_standing p.view.subject.limits q.view.seen p.env ≡ true → is_standing q.view.subject.limits q.view.seen q.env ≡ true
+pub stands_now : (p q : DeskState) → IsSame p q → Waits p.view q.view [] → is_standing p.view.subject.limits q.view.seen p.env ≡ true → is_standing q.view.subject.limits q.view.seen q.env ≡ true
 stands_now p q same k s = subst (λ (x : Limits × EnvNo). is_standing x.0 q.view.seen x.1 ≡ true) (λ i. ((sym k.goes.subject i).limits, sym same.env i)) s
 
 -- a count that was passed on, m, is the count n
-pub is_read : (a b p q : Place) (m n : ℤ) (x : Answer) → m ≡ n → Some a ≡ Some p → b ≡ q → Waits a.view b.view (Read a.env m ∷ []) → reply a.view.subject.limits b.view.seen (length (found a.view b.view)) ≡ Some x
+pub is_read : (a b p q : DeskState) (m n : ℤ) (x : Answer) → m ≡ n → Some a ≡ Some p → b ≡ q → Waits a.view b.view (Read a.env m ∷ []) → reply a.view.subject.limits b.view.seen (length (found a.view b.view)) ≡ Some x
     → ((here : StartsWith (found a.view b.view) a.view.seen) × TellsOf a.view.subject.limits a.view.seen here.0 m x) → is_standing a.view.subject.limits b.view.seen a.env ≡ true → IsRead p q n x
 is_read a b p q m n x same one two hold replied tells stands =
     let first : a ≡ p = cc one in
     let here : IsRead a b m x = record { last = hold.last; replied = replied; here = tells.0; tells = tells.1; stands = stands } in
-    subst (λ (z : ℤ × (Place × Place)). IsRead z.1.0 z.1.1 z.0 x) (λ i. (same i, (first i, two i))) here
+    subst (λ (z : ℤ × (DeskState × DeskState)). IsRead z.1.0 z.1.1 z.0 x) (λ i. (same i, (first i, two i))) here
 
-pub read_adds : (a b : Place) (m n : ℤ) → m ≡ n → IsSame a b → Waits a.view b.view (Read a.env m ∷ []) → HasAdded a b (Read a.env n ∷ [])
+pub read_adds : (a b : DeskState) (m n : ℤ) → m ≡ n → IsSame a b → Waits a.view b.view (Read a.env m ∷ []) → HasAdded a b (Read a.env n ∷ [])
 read_adds a b m n e same k = subst (λ (z : ℤ). HasAdded a b (Read a.env z ∷ [])) e (adds a b (Read a.env m ∷ []) same k)
 
-pub read_room : (a : Place) (m n : ℤ) (b : buffer.Trace) → m ≡ n → HasRoomFor a.view.subject.limits (or_zero m) b → HasRoomFor a.view.subject.limits (or_zero n) b
+pub read_room : (a : DeskState) (m n : ℤ) (b : buffer.Trace) → m ≡ n → HasRoomFor a.view.subject.limits (or_zero m) b → HasRoomFor a.view.subject.limits (or_zero n) b
 read_room a m n b e h = subst (λ (z : ℤ). HasRoomFor a.view.subject.limits (or_zero z) b) e h

@@ -8,7 +8,7 @@ use Rattle.ti_types.specs.declared.entry.Entry.TheVariants.{Stop}
 use Rattle.ti_types.specs.declared.numbers.EnvNo.{EnvNo}
 use Rattle.ti_types.specs.declared.numbers.ThreadNo.{ThreadNo}
 use Rattle.ti_replay.specs.Fronts.{stops_by, stops_after}
-use Rattle.ti_handshake.specs.Desk.{Place, IsSame}
+use Rattle.ti_handshake.specs.Desk.{DeskState, IsSame}
 use Rattle.ti_handshake.specs.Call.{Waits}
 use Rattle.ti_vmop.specs.Turns.{Listed, is_listed, AreDistinct, AreThere, HasAdded, AtDesk, AtEach, StopsUpTo, WaitsForSome}
 use Rattle.ti_vmop.proofs.Each.{adds, at_index, in_range, take_all, there_at, each_none, each_step}
@@ -28,11 +28,11 @@ none_of (x ∷ threads) zero h = absurd (omega (arith, h))
 none_of (x ∷ threads) (suc k) h = none_of threads k (omega (arith, h))
 
 -- what a stop with a deadline adds
-pub made_if : (p q : Place) (b d : Bool) → b ≡ d → IsSame p q → Waits p.view q.view (if b then Stop p.env ∷ [] else []) → HasAdded p q (if d then Stop p.env ∷ [] else [])
+pub made_if : (p q : DeskState) (b d : Bool) → b ≡ d → IsSame p q → Waits p.view q.view (if b then Stop p.env ∷ [] else []) → HasAdded p q (if d then Stop p.env ∷ [] else [])
 made_if p q b d e same k = adds p q (if d then Stop p.env ∷ [] else []) same (subst (λ (x : Bool). Waits p.view q.view (if x then Stop p.env ∷ [] else [])) e k)
 
 -- the first k were stopped, and the next one was waited for
-pub stops_some : (threads : Listed) (k : ℕ) (old now : List Place) (c : ThreadNo × ℕ) (d q : Place) → AreThere (length old) threads → k < length threads
+pub stops_some : (threads : Listed) (k : ℕ) (old now : List DeskState) (c : ThreadNo × ℕ) (d q : DeskState) → AreThere (length old) threads → k < length threads
     → AtEach (take k threads) old now (λ e. Stop e ∷ []) → HasAdded (slice_index_or now (slice_index_or threads k c).0.0 d) q [] → StopsUpTo k threads old (slice_set now (slice_index_or threads k c).0.0 q)
 stops_some threads k old now c d q there within each added =
     let x = slice_index_or threads k c in
@@ -44,7 +44,7 @@ stops_some threads k old now c d q there within each added =
     }
 
 -- all were
-pub stops_all : (threads : Listed) (k n : ℕ) (old now : List Place) → length threads ≤ k → n ≡ length threads → AtEach (take k threads) old now (λ e. Stop e ∷ []) → StopsUpTo n threads old now
+pub stops_all : (threads : Listed) (k n : ℕ) (old now : List DeskState) → length threads ≤ k → n ≡ length threads → AtEach (take k threads) old now (λ e. Stop e ∷ []) → StopsUpTo n threads old now
 stops_all threads k n old now h e each =
     let all : take k threads ≡ take n threads = take_all threads k h ∙ sym (take_all threads n (omega (arith, e))) in
     record {
@@ -53,7 +53,7 @@ stops_all threads k n old now h e each =
       waits = subst (λ (l : Listed). AtEach l now now (λ x. [])) (sym (none_of threads n (omega (arith, e)))) (each_none now (λ x. []));
     }
 
-pub all_stopped : (threads : Listed) (n : ℕ) (old new : List Place) → n ≡ length threads → StopsUpTo n threads old new → AtEach threads old new (λ e. Stop e ∷ [])
+pub all_stopped : (threads : Listed) (n : ℕ) (old new : List DeskState) → n ≡ length threads → StopsUpTo n threads old new → AtEach threads old new (λ e. Stop e ∷ [])
 all_stopped threads n old new e s =
     let some : AtEach threads old s.stopped (λ x. Stop x ∷ []) = subst (λ (l : Listed). AtEach l old s.stopped (λ x. Stop x ∷ [])) (take_all threads n (omega (arith, e))) s.stops in
     let none : AtEach [] s.stopped new (λ x. []) = subst (λ (l : Listed). AtEach l s.stopped new (λ x. [])) (none_of threads n (omega (arith, e))) s.waits in (
@@ -62,21 +62,21 @@ all_stopped threads n old new e s =
           let within : i < length old = in_range old i x a in
           let y = slice_index_or s.stopped i x in
           let at : slice_get s.stopped i ≡ Some y = at_index s.stopped i x (omega (arith, some.0, within)) in
-          subst (λ (w : Place). AtDesk (is_listed i threads) x w (Stop x.env ∷ [])) (sym (none.1 i y z at b)) (some.1 i x y a at)),
+          subst (λ (w : DeskState). AtDesk (is_listed i threads) x w (Stop x.env ∷ [])) (sym (none.1 i y z at b)) (some.1 i x y a at)),
     )
 
 -- who was stopped is, until it is let go
 
-now_stops : (x y : Place) → HasAdded x y (Stop x.env ∷ []) → stops_by y.env y.view.mine ≡ true
+now_stops : (x y : DeskState) → HasAdded x y (Stop x.env ∷ []) → stops_by y.env y.view.mine ≡ true
 now_stops x y h =
     (λ i. stops_by (h.same.env i) (h.mine i)) ∙ (fold-append (stops_after x.env) false x.view.mine (Stop x.env ∷ []) ∙ grind (arith, eq-eqb x.env.0 x.env.0 refl))
 
-still_stops : (b : Bool) (y z : Place) → AtDesk b y z [] → stops_by y.env y.view.mine ≡ true → stops_by z.env z.view.mine ≡ true
+still_stops : (b : Bool) (y z : DeskState) → AtDesk b y z [] → stops_by y.env y.view.mine ≡ true → stops_by z.env z.view.mine ≡ true
 still_stops true y z h s = (λ i. stops_by (h.same.env i) ((h.mine ∙ append-nil y.view.mine) i)) ∙ s
 still_stops false y z h s = (λ i. stops_by (h i).env (h i).view.mine) ∙ s
 
-pub stopped_now : (threads : Listed) (n : ℕ) (old mid now : List Place) → StopsUpTo n threads old mid → WaitsForSome threads mid now
-    → (i : ℕ) (p : Place) → slice_get now i ≡ Some p → is_listed i (take n threads) ≡ true → stops_by p.env p.view.mine ≡ true
+pub stopped_now : (threads : Listed) (n : ℕ) (old mid now : List DeskState) → StopsUpTo n threads old mid → WaitsForSome threads mid now
+    → (i : ℕ) (p : DeskState) → slice_get now i ≡ Some p → is_listed i (take n threads) ≡ true → stops_by p.env p.view.mine ≡ true
 stopped_now threads n old mid now s w i p at listed =
     let here : i < length now = in_range now i p at in
     let x = slice_index_or old i p in

@@ -8,22 +8,22 @@ use Rattle.ti_types.specs.declared.numbers.ThreadNo.{ThreadNo}
 use Rattle.ti_env.specs.Env.{EnvValue, left_at, spent_at, with_spent}
 use Rattle.ti_env.proofs.LeftLaws.{left_is}
 use Rattle.ti_replay.specs.Legal.{calls_spent, call_cost}
-use Rattle.ti_handshake.specs.Desk.{Place}
+use Rattle.ti_handshake.specs.Desk.{DeskState}
 use Rattle.ti_vmop.specs.Turns.{Listed, is_listed, AtEach, AtDesk, HasAdded}
 use Rattle.ti_vmop.proofs.Each.{at_index, in_range}
 
 -- a desk was there before
-pub was_there : (threads : Listed) (old new : List Place) (more : EnvNo → List Entry) (i : ℕ) (q : Place) → AtEach threads old new more → slice_get new i ≡ Some q → (p : Place) × (slice_get old i ≡ Some p)
+pub was_there : (threads : Listed) (old new : List DeskState) (more : EnvNo → List Entry) (i : ℕ) (q : DeskState) → AtEach threads old new more → slice_get new i ≡ Some q → (p : DeskState) × (slice_get old i ≡ Some p)
 was_there threads old new more i q each at = (slice_index_or old i q, at_index old i q (let r = in_range new i q at in omega (arith, each.0, r)))
 
 -- what a listed desk has added
-pub has_added : (threads : Listed) (old new : List Place) (more : EnvNo → List Entry) (i : ℕ) (p q : Place) → AtEach threads old new more → is_listed i threads ≡ true → slice_get old i ≡ Some p → slice_get new i ≡ Some q
+pub has_added : (threads : Listed) (old new : List DeskState) (more : EnvNo → List Entry) (i : ℕ) (p q : DeskState) → AtEach threads old new more → is_listed i threads ≡ true → slice_get old i ≡ Some p → slice_get new i ≡ Some q
     → HasAdded p q (more p.env)
 has_added threads old new more i p q each listed before after =
     subst (λ (b : Bool). AtDesk b p q (more p.env)) listed (each.1 i p q before after)
 
 -- a desk that is not listed is as it was
-pub unlisted_stays : (threads : Listed) (old new : List Place) (more : EnvNo → List Entry) (i : ℕ) (p q : Place) → AtEach threads old new more → is_listed i threads ≡ false → slice_get old i ≡ Some p → slice_get new i ≡ Some q
+pub unlisted_stays : (threads : Listed) (old new : List DeskState) (more : EnvNo → List Entry) (i : ℕ) (p q : DeskState) → AtEach threads old new more → is_listed i threads ≡ false → slice_get old i ≡ Some p → slice_get new i ≡ Some q
     → q ≡ p
 unlisted_stays threads old new more i p q each unlisted before after =
     subst (λ (b : Bool). AtDesk b p q (more p.env)) unlisted (each.1 i p q before after)

@@ -1,4 +1,4 @@
--- What a desk of an environment sees of a thread that stands for it.
+-- What a desk of an environment sees of a thread that is standing for it.
 use Rattle.std.specs.Prelude.{◌≡◌, ◌+◌, false, true}
 use Rattle.ti_types.specs.declared.numbers.EnvNo.{EnvNo}
 use Rattle.ti_replay.specs.Fronts.{lets_go, IsStill}
@@ -7,7 +7,7 @@ use Rattle.ti_replay.specs.Standing.{is_standing}
 use Rattle.ti_cell.specs.declared.view.View.{View}
 use Rattle.ti_handshake.specs.Call.{GoesOn, added}
 
--- A seat of the environment that saw its thread stand, and has let nobody go since
+-- a seat of the environment saw its thread standing, and has let nobody go since
 abbrev pub DesksStay : Type 0
 DesksStay =
     (env : EnvNo) (old new : View) → old.number ≡ env.0 + 1 → old.mine ≡ made_by old.number old.seen → GoesOn old new

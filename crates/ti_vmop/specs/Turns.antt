@@ -14,7 +14,7 @@ use Rattle.ti_replay.specs.Makers.{StartsWith}
 use Rattle.ti_replay.specs.Standing.{is_standing}
 use Rattle.ti_cell.specs.View.{subject_of}
 use Rattle.ti_handshake.specs.Call.{GoesOn, found}
-use Rattle.ti_handshake.specs.Desk.{Place, IsSame}
+use Rattle.ti_handshake.specs.Desk.{DeskState, IsSame}
 use Rattle.ti_replay.specs.Fronts.{stops_by, TellsOf}
 use Rattle.ti_types.specs.declared.answer.Answer.{Answer}
 use Rattle.ti_types.specs.Frames as buffer
@@ -41,67 +41,67 @@ AreThere count threads = list_all (λ x. nat_lt x.0.0 count) threads ≡ true
 abbrev pub are_paid : EnvValue → Listed → Bool
 are_paid state threads = list_all (λ x. nat_lt x.1 (left_at state x.0)) threads
 
--- no listed desk has a stop of its environment, and each has as many calls left as the environment says
-pub record MayStop (limits : Limits) (state : EnvValue) (p : Place) (thread : ThreadNo) : Type 0 where
+-- at a desk there is no stop of its environment, and at least as many calls are left as the environment says
+pub record MayStop (limits : Limits) (state : EnvValue) (p : DeskState) (thread : ThreadNo) : Type 0 where
   pub free : stops_by p.env p.view.mine ≡ false
   pub paid : left_at state thread + calls_spent p.env p.view.mine ≤ limits.calls
 
 abbrev pub spend_all : EnvValue → Listed → EnvValue
 spend_all state threads = fold (λ s x. with_spent s x.0) state threads
 
--- a desk, after entries of its own were added. Its tickets are as they were
-pub record HasAdded (old new : Place) (more : List Entry) : Type 0 where
+-- a desk, after it added these entries. Its tickets are as they were
+pub record HasAdded (old new : DeskState) (more : List Entry) : Type 0 where
   pub same : IsSame old new
   pub goes : GoesOn old.view new.view
   pub mine : new.view.mine ≡ old.view.mine ++ more
   pub posted : new.view.posted ≡ old.view.posted
 
 -- a desk that the operation was at, or was not at yet
-abbrev pub AtDesk : Bool → Place → Place → List Entry → Type 0
+abbrev pub AtDesk : Bool → DeskState → DeskState → List Entry → Type 0
 AtDesk true old new more = HasAdded old new more
 AtDesk false old new more = new ≡ old
 
 -- each listed desk has added these, and no other changed
-abbrev pub AtEach : Listed → List Place → List Place → (EnvNo → List Entry) → Type 0
+abbrev pub AtEach : Listed → List DeskState → List DeskState → (EnvNo → List Entry) → Type 0
 AtEach threads old new more =
     (length new ≡ length old)
-    × ((i : ℕ) (p q : Place) → slice_get old i ≡ Some p → slice_get new i ≡ Some q → AtDesk (is_listed i threads) p q (more p.env))
+    × ((i : ℕ) (p q : DeskState) → slice_get old i ≡ Some p → slice_get new i ≡ Some q → AtDesk (is_listed i threads) p q (more p.env))
 
--- the first n of a list were stopped, one after another. The next one, if there is one, was waited for at most
-pub record StopsUpTo (n : ℕ) (threads : Listed) (old new : List Place) : Type 0 where
-  pub stopped : List Place
+-- the first n of a list were stopped, one after another. The next one, if there is one, was no more than waited for
+pub record StopsUpTo (n : ℕ) (threads : Listed) (old new : List DeskState) : Type 0 where
+  pub stopped : List DeskState
   pub stops : AtEach (take n threads) old stopped (λ e. Stop e ∷ [])
   pub waits : AtEach (take 1 (drop n threads)) stopped new (λ e. [])
 
--- some of a list, the first first, were waited for
-pub record WaitsForSome (threads : Listed) (old new : List Place) : Type 0 where
+-- some of a list were waited for, in its order
+pub record WaitsForSome (threads : Listed) (old new : List DeskState) : Type 0 where
   pub count : ℕ
   pub waits : AtEach (take count threads) old new (λ e. [])
 
--- a time was over: the first of a list were stopped, some of it were waited for, and those that were stopped were let go.
--- Each of these spent one call
-pub record LetsGo (threads : Listed) (old new : List Place) (s z : EnvValue) : Type 0 where
+-- The time was over. The first of a list were stopped, some of the list were waited for, and those that were stopped were
+-- let go. Each of these spent one call
+pub record LetsGo (threads : Listed) (old new : List DeskState) (s z : EnvValue) : Type 0 where
   pub count : ℕ
   pub few : count ≤ length threads
-  pub stopped : List Place
-  pub waited : List Place
+  pub stopped : List DeskState
+  pub waited : List DeskState
   pub stops : StopsUpTo count threads old stopped
   pub waits : WaitsForSome threads stopped waited
   pub goes : AtEach (take count threads) waited new (λ e. Go e ∷ [])
   pub spent : z ≡ spend_all s (take count threads)
 
--- why no threads stand: a budget does not do, and then nothing has changed; or the time is over
-abbrev pub IsNotStopped : Listed → List Place → List Place → EnvValue → EnvValue → TiError → Type 0
+-- why no threads are standing: a budget does not suffice, and then nothing has changed; or the time is over
+abbrev pub IsNotStopped : Listed → List DeskState → List DeskState → EnvValue → EnvValue → TiError → Type 0
 IsNotStopped threads old new s z CallsSpent = (are_paid s threads ≡ false) × (new ≡ old) × (z ≡ s)
 IsNotStopped threads old new s z TimedOut = (are_paid s threads ≡ true) × LetsGo threads old new s z
 IsNotStopped threads old new s z _ = ⊥
 
--- each listed desk has seen its thread stand for its environment
-abbrev pub AllStand : Listed → List Place → Type 0
+-- each listed desk has seen its thread standing for its environment
+abbrev pub AllStand : Listed → List DeskState → Type 0
 AllStand threads desks =
-    (i : ℕ) (p : Place) → slice_get desks i ≡ Some p → is_listed i threads ≡ true → is_standing p.view.subject.limits p.view.seen p.env ≡ true
+    (i : ℕ) (p : DeskState) → slice_get desks i ≡ Some p → is_listed i threads ≡ true → is_standing p.view.subject.limits p.view.seen p.env ≡ true
 
--- threads that stand for an environment, and how many reads were made of them
+-- threads that are standing for an environment, and how many reads were made of them
 pub record Stood : Type 0 where
   pub env : EnvNo
   pub threads : Listed
@@ -115,20 +115,20 @@ abbrev pub with_reads : Stood → ℕ → Stood
 with_reads s reads = record { env = s.env; threads = s.threads; reads = reads }
 
 -- the desks are one environment's, desk i at thread i, under the same limits
-abbrev pub AreOneEnvironments : List Place → Type 0
+abbrev pub AreOneEnvironments : List DeskState → Type 0
 AreOneEnvironments desks =
-    (i : ℕ) (p q : Place) → slice_get desks 0 ≡ Some q → slice_get desks i ≡ Some p → (p.env ≡ q.env) × (p.view.subject ≡ subject_of q.view.subject.limits (record { 0 = i }))
+    (i : ℕ) (p q : DeskState) → slice_get desks 0 ≡ Some q → slice_get desks i ≡ Some p → (p.env ≡ q.env) × (p.view.subject ≡ subject_of q.view.subject.limits (record { 0 = i }))
 
 -- a desk at which a read may be made
-pub record MayRead (env : EnvNo) (state : EnvValue) (p : Place) (thread : ThreadNo) (max_count : ℤ) (buf : buffer.Trace) : Type 0 where
+pub record MayRead (env : EnvNo) (state : EnvValue) (p : DeskState) (thread : ThreadNo) (max_count : ℤ) (buf : buffer.Trace) : Type 0 where
   pub env_is : p.env ≡ env
   pub stands : is_standing p.view.subject.limits p.view.seen p.env ≡ true
   pub paid : left_at state thread + calls_spent p.env p.view.mine ≤ p.view.subject.limits.calls
   pub room : HasRoomFor p.view.subject.limits (or_zero max_count) buf
 
--- what a read tells: it is the reply at its place, of the mode and frames that the desk had seen, after the pops of what
--- others added since, and the thread stands on
-pub record IsRead (old new : Place) (max_count : ℤ) (a : Answer) : Type 0 where
+-- What a read shows. It is the reply at its place: the mode and the frames that the desk had seen, after the pops that
+-- others added since. The thread is still standing
+pub record IsRead (old new : DeskState) (max_count : ℤ) (a : Answer) : Type 0 where
   pub last : new.view.seen ≡ found old.view new.view ++ Read old.env max_count ∷ []
   pub replied : reply old.view.subject.limits new.view.seen (length (found old.view new.view)) ≡ Some a
   pub here : StartsWith (found old.view new.view) old.view.seen

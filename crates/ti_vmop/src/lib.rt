@@ -1,23 +1,25 @@
-//! Global operations: an environment stops threads, reads them while they stand, and lets them go.
+//! Global operations: an environment stops threads, reads them while they are standing, and lets them go.
 //!
-//! Below stand `ti_handshake`, whose desks these are, and `ti_env`, which counts what the environment may spend. Upward
-//! this crate promises:
+//! A thread is standing for an environment when that environment's stop is in force and the thread does not run.
 //!
-//! - `stop_all` answers when each listed thread has been seen to stand, and stops none where a budget does not do.
-//! - Until the environment lets a thread go, what its desk sees begins with that front, and has no entry of the thread's
-//!   own after it (`desks_stay`); a read tells of the mode of the front, and of its frames after the pops after it
-//!   (`fronts_tell` of `ti_replay`).
+//! This crate uses `ti_handshake`, whose desks these are, and `ti_env`, which counts what the environment may spend. It
+//! promises:
+//!
+//! - `stop_all` answers when each listed thread has been seen standing. If a budget does not suffice, it stops none.
+//! - A desk sees its thread standing after some prefix of the history. Until the environment lets the thread go, all that
+//!   the desk sees begins with that prefix. After it there is no entry of the thread's own (`desks_stay`).
+//! - A read shows the mode of that prefix, and its frames after the pops since (`fronts_tell` of `ti_replay`).
 //! - Only `Standing::go` makes a `Round`, and a `Standing` has to be spent by it.
 //! - No call takes memory.
 //!
-//! That `stop_all` answers is not promised: it waits for each thread to hand over.
+//! It does not promise that `stop_all` answers: it waits for each thread to hand over.
 #![tactic(auto)]
 
-mod giving_up;
+mod global_stops;
 mod laws;
-mod one;
-mod standing;
+mod one_thread;
+mod stop_deadline;
 
-pub use giving_up::stop_all_within;
+pub use global_stops::{Round, Standing, VmTurn, stop_all};
 pub use laws::desks_stay;
-pub use standing::{Round, Standing, VmTurn, stop_all};
+pub use stop_deadline::stop_all_within;

@@ -1,11 +1,11 @@
--- Seats that may hold a cell so often.
+-- Seats that may hold a cell this often.
 use Rattle.std.specs.Prelude.{ℕ, ◌≡◌, ◌+◌, ◌<◌, ◌≤◌}
 use Rattle.atomic_table.specs.Seated.{TableId}
 use Rattle.ti_types.specs.declared.numbers.EnvNo.{EnvNo}
 use Rattle.ti_replay.specs.Legal.{calls_spent}
 use Rattle.ti_cell.specs.Seats.{Sitting}
 
--- the seat of an environment at a cell, which may make this many calls more
+-- the seat of an environment at a cell, which may make this many more calls
 pub record IsReady (cell : TableId) (env : EnvNo) (calls : ℕ) (s : Sitting) : Type 0 where
   pub here : s.cell ≡ cell
   pub number : s.view.number ≡ env.0 + 1

@@ -1,22 +1,13 @@
-//! `tiholds HOW`: environments hold a thread's cell, each 1,024 times in each of 256 rounds, and set their word by each
-//! hold. HOW is `one`, `two` or `four`, for this many threads at one cell, or `apart`, for four threads at a cell each. With
-//! `many`, nobody holds: 10,000 cells are made and kept, of threads that may last and be 65,536 frames deep.
-//! It writes nothing. The status is 0, or 1 where memory runs out, and 2 for other arguments. `bench/cells.py` times it.
+//! `tiholds HOW`: environments hold a thread's cell, each 1,024 times in each of 256 rounds.
 //!
-//! It stands on `ti_cell`, and nothing stands on it.
+//! By each hold, an environment sets its word. Each has a thread of its own. HOW is `one`, `two` or `four`, for this many
+//! environments at one cell, or `apart`, for four with a cell each. With `many`, nobody holds a cell. Then 10,000 cells are
+//! made and kept, of threads that may last and be 65,536 frames deep.
+//!
+//! It writes nothing. The status is 0, or 1 if memory runs out, and 2 for other arguments. `bench/cells.py` times it.
+//!
+//! It depends on `ti_cell`, and nothing depends on it.
 #![tactic(auto)]
-
-ghost use Rattle.std.specs.Prelude.{ℕ, ◌≡◌, ◌+◌, ◌-◌, ◌<◌, ◌≤◌, IfSome, [], ◌∷◌, ◌++◌, None, is_some, if◌then◌else◌};
-ghost use Rattle.ti_types.specs.declared.call.Call.TheVariants.{SetWord};
-ghost use Rattle.ti_types.specs.declared.entry.Entry.TheVariants.{Asked};
-ghost use Rattle.ti_replay.specs.Legal.{asked_by};
-ghost use Rattle.ti_cell.specs.View.{subject_of};
-ghost use Rattle.ti_cell.specs.Seats.{env_seats};
-ghost use Rattle.tiholds.specs.Ready.{IsReady};
-ghost use Rattle.std.specs.Option.{option_map};
-ghost use Rattle.ti_types.specs.Answer.{said};
-ghost use Rattle.ti_slot.specs.Tickets.{has, without_ticket};
-ghost use Rattle.ti_replay.specs.Tickets.{reply_to};
 
 use std::alloc::Global;
 use std::env;
@@ -57,7 +48,7 @@ fn set_word<R: Wait>(rt: &R, cell: &ThreadCell, seat: EnvSeat, env: EnvNo, word:
     hold.store()
 }
 
-/// Takes the answer to a ticket, where it is there.
+/// Takes the answer to a ticket, if it is there.
 fn take_answer<R: Wait>(
     rt: &R,
     cell: &ThreadCell,
@@ -131,7 +122,7 @@ fn pairs(
     Some(((one, two), (three, four)))
 }
 
-/// One thread at a new cell. `None` where memory runs out, here and below.
+/// Measures one environment at a new cell. `None` if memory runs out, here and below.
 fn one<R: Wait>(rt: &R, alloc: Global, limits: Limits) -> Option<()>
     requires envs { limits.envs ≡ 4 }
     requires calls { limits.calls ≡ 1024 }
@@ -144,7 +135,7 @@ fn one<R: Wait>(rt: &R, alloc: Global, limits: Limits) -> Option<()>
     Some(())
 }
 
-/// All rounds of one thread, each at a new cell.
+/// All rounds of one environment, each at a new cell.
 fn alone<R: Wait>(rt: &R, alloc: Global, limits: Limits) -> Option<()>
     requires envs { limits.envs ≡ 4 }
     requires calls { limits.calls ≡ 1024 }
@@ -155,7 +146,7 @@ fn alone<R: Wait>(rt: &R, alloc: Global, limits: Limits) -> Option<()>
     Some(())
 }
 
-/// Two threads at a new cell.
+/// Two environments at a new cell.
 fn two<R: Threads + Wait + Sync>(rt: &R, alloc: Global, limits: Limits) -> Option<()>
     requires envs { limits.envs ≡ 4 }
     requires calls { limits.calls ≡ 1024 }
@@ -189,7 +180,7 @@ fn by_four<R: Threads + Wait + Sync>(
     );
 }
 
-/// Four threads at a new cell.
+/// Four environments at a new cell.
 fn four<R: Threads + Wait + Sync>(rt: &R, alloc: Global, limits: Limits) -> Option<()>
     requires envs { limits.envs ≡ 4 }
     requires calls { limits.calls ≡ 1024 }
@@ -202,7 +193,7 @@ fn four<R: Threads + Wait + Sync>(rt: &R, alloc: Global, limits: Limits) -> Opti
     Some(())
 }
 
-/// All rounds of two threads that share no cell.
+/// All rounds of two environments that share no cell.
 fn two_apart<R: Threads + Wait + Sync>(rt: &R, alloc: Global, limits: Limits) -> Option<()>
     requires envs { limits.envs ≡ 4 }
     requires calls { limits.calls ≡ 1024 }
@@ -220,7 +211,7 @@ fn two_apart<R: Threads + Wait + Sync>(rt: &R, alloc: Global, limits: Limits) ->
     b
 }
 
-/// All rounds of four threads that share no cell.
+/// All rounds of four environments that share no cell.
 fn four_apart<R: Threads + Wait + Sync>(rt: &R, alloc: Global, limits: Limits) -> Option<()>
     requires envs { limits.envs ≡ 4 }
     requires calls { limits.calls ≡ 1024 }
@@ -273,7 +264,7 @@ fn rounds<R: Threads + Wait + Sync>(rt: &R, alloc: Global, crowd: Crowd) -> Opti
     }
 }
 
-/// What the one argument asks for.
+/// What the one argument asks for. `None` if it is missing or unknown.
 fn asked_crowd<R: Env + AllocGlobal>(rt: &R) -> Option<Crowd> {
     let mut words = env::args(rt).ok()?;
     let _program = words.next();
@@ -297,3 +288,15 @@ fn main(rt: HostRuntime) -> ExitCode {
         None => ExitCode::from(1),
     }
 }
+
+ghost use Rattle.std.specs.Prelude.{ℕ, ◌≡◌, ◌+◌, ◌-◌, ◌<◌, ◌≤◌, IfSome, [], ◌∷◌, ◌++◌, None, is_some, if◌then◌else◌};
+ghost use Rattle.ti_types.specs.declared.call.Call.TheVariants.{SetWord};
+ghost use Rattle.ti_types.specs.declared.entry.Entry.TheVariants.{Asked};
+ghost use Rattle.ti_replay.specs.Legal.{asked_by};
+ghost use Rattle.ti_cell.specs.View.{subject_of};
+ghost use Rattle.ti_cell.specs.Seats.{env_seats};
+ghost use Rattle.tiholds.specs.Ready.{IsReady};
+ghost use Rattle.std.specs.Option.{option_map};
+ghost use Rattle.ti_types.specs.Answer.{said};
+ghost use Rattle.ti_slot.specs.Tickets.{has, without_ticket};
+ghost use Rattle.ti_replay.specs.Tickets.{reply_to};

@@ -9,7 +9,7 @@ use Rattle.ti_types.specs.declared.numbers.EnvNo.{EnvNo}
 use Rattle.ti_cell.specs.declared.view.Subject.{Subject}
 use Rattle.ti_cell.specs.View.{subject_of, newcomer}
 use Rattle.ti_cell.specs.Seats.{Sitting, env_seats}
-use Rattle.ti_handshake.specs.Desk.{Place}
+use Rattle.ti_handshake.specs.Desk.{DeskState}
 use Rattle.tiprof.specs.Stations.{IsNewSeat, AreStations, IsNewDesk, AreDesks}
 
 new_below : (cell : TableId) (subject : Subject) (n : ℕ) → n ≤ subject.limits.envs → All (IsNewSeat cell subject) (env_seats cell subject n)
@@ -66,9 +66,9 @@ stations_kept limits stations n s all about i q e =
 pub no_desks : (limits : Limits) (env : EnvNo) → AreDesks limits env []
 no_desks limits env i p e = cc
 
-pub desks_more : (limits : Limits) (env : EnvNo) (desks : List Place) (p : Place) → AreDesks limits env desks → IsNewDesk limits env (length desks) p → AreDesks limits env (desks ++ p ∷ [])
+pub desks_more : (limits : Limits) (env : EnvNo) (desks : List DeskState) (p : DeskState) → AreDesks limits env desks → IsNewDesk limits env (length desks) p → AreDesks limits env (desks ++ p ∷ [])
 desks_more limits env desks p all new i q e =
     elim (snoc_cases desks p i q e) [
       | inl there ↦ all i q there
-      | inr last ↦ subst (λ (x : Place). IsNewDesk limits env i x) (sym last.1) (subst (λ (n : ℕ). IsNewDesk limits env n p) (sym last.0) new)
+      | inr last ↦ subst (λ (x : DeskState). IsNewDesk limits env i x) (sym last.1) (subst (λ (n : ℕ). IsNewDesk limits env n p) (sym last.0) new)
     ]

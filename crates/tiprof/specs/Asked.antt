@@ -4,7 +4,7 @@ use Rattle.std.specs.Str.{bytes_eq}
 use Rattle.tiprof.specs.declared.options.Options.{Options}
 use Rattle.tiprof.specs.declared.options.Way.TheVariants.{Handshake, Standing}
 
--- where no argument says another
+-- the options if no argument says otherwise
 abbrev pub usual : Options
 usual = record { seconds = None; samples = None; jobs = None; interval = 1000; threads = 4; way = Handshake; by_thread = false; svg = false }
 
@@ -15,12 +15,12 @@ is_bounded o = is_some o.seconds || is_some o.samples || is_some o.jobs
 abbrev pub is_digit : ℕ → Bool
 is_digit c = nat_lt 47 c && nat_lt c 58
 
--- the number of digits after those of n, where it stays below 2^32
+-- the number whose decimal digits are those of n and then these, if it is below 2^32
 abbrev pub digits_behind : ℕ → List ℕ → Option ℕ
 digits_behind n [] = Some n
 digits_behind n (c ∷ cs) = if is_digit c && nat_lt (n * 10 + (c - 48)) 4294967296 then digits_behind (n * 10 + (c - 48)) cs else None
 
--- the number of a word that has digits and nothing else
+-- the number of a word that has nothing but digits
 abbrev pub number_of : List ℕ → Option ℕ
 number_of [] = None
 number_of (c ∷ cs) = digits_behind 0 (c ∷ cs)
@@ -34,7 +34,7 @@ abbrev pub or_none : (ℕ → Options) → Option ℕ → Option Options
 or_none f None = None
 or_none f (Some n) = Some (f n)
 
--- the options with one more that stands alone
+-- the options with one more set that has no value
 abbrev pub with_flag : Options → List ℕ → Option Options
 with_flag o word =
     if bytes_eq word (codes "--handshake") then Some (record o { way = Handshake })
@@ -43,7 +43,7 @@ with_flag o word =
     else (if bytes_eq word (codes "--svg") then Some (record o { svg = true })
     else None)))
 
--- the options with one more, and its value
+-- the options with one more set, and its value
 abbrev pub with_option : Options → List ℕ → List ℕ → Option Options
 with_option o word value =
     if bytes_eq word (codes "--seconds") then or_none (λ n. record o { seconds = Some n }) (within 1 86400 (number_of value))
@@ -53,7 +53,7 @@ with_option o word value =
     else (if bytes_eq word (codes "--threads") then or_none (λ n. record o { threads = n }) (within 1 64 (number_of value))
     else None))))
 
--- the options with all of these words
+-- the options with all of these words set
 abbrev pub with_words : Option Options → List (List ℕ) → Option Options
 with_words None words = None
 with_words (Some o) [] = Some o

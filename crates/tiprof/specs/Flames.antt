@@ -1,7 +1,7 @@
--- What is written in place of a character in the text of an SVG.
+-- What is written for a character in the text of an SVG.
 use Rattle.std.specs.Prelude.{ℕ, List, codes, Option, Some, None, ◌==◌, if◌then◌else◌}
 
--- of those that may not be there
+-- for a character that the text may not have
 abbrev pub entity_of : ℕ → Option (List ℕ)
 entity_of letter =
     if letter == 38 then Some (codes "&amp;")

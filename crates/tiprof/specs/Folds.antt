@@ -13,6 +13,6 @@ counts_of stacks = sum_by (λ (f : Folded). f.count) stacks
 abbrev pub same_methods : List MethodNo → List MethodNo → Bool
 same_methods ms ns = pointwise (λ (m n : MethodNo). m.0 == n.0) ms ns
 
--- how often the stack of exactly these methods was seen, where they are listed newest first
+-- how often the stack of exactly these methods was seen; the newest method comes first
 abbrev pub seen : List MethodNo → List Folded → ℕ
 seen methods stacks = sum_by (λ (f : Folded). if same_methods f.methods.items methods then f.count else 0) stacks

@@ -1,4 +1,4 @@
--- Stacks apart by what their threads did, and by thread.
+-- Stacks, kept apart by what their threads did and by thread.
 use Rattle.std.specs.Prelude.{ℕ, ◌≡◌, ◌≢◌, ◌+◌, ◌==◌, Bool, bit_and, if◌then◌else◌, codes, List, [], Some, slice_get, slice_set}
 use Rattle.ti_types.specs.declared.numbers.MethodNo.{MethodNo}
 use Rattle.tiprof.specs.declared.fold.Fold.{Fold}
@@ -8,11 +8,11 @@ use Rattle.tiprof.specs.declared.roots.Doing.TheVariants.{Running, Away}
 use Rattle.tiprof.specs.declared.roots.Part.{Part}
 use Rattle.tiprof.specs.Folds.{seen}
 
--- a thread that is runnable, 0x4, and not in native code, 0x400000, runs
+-- a thread runs if it is runnable, 0x4, and not in native code, 0x400000
 abbrev pub doing_of : ℕ → Doing
 doing_of bits = if bit_and bits 0x400004 == 0x4 then Running else Away
 
--- the word at the root of its stacks
+-- the word at the root of the stacks of such threads
 abbrev pub word_of : Doing → List ℕ
 word_of Running = codes "running"
 word_of Away = codes "native_or_blocked"
@@ -21,7 +21,7 @@ abbrev pub fold_in : Part → Doing → Fold
 fold_in p Running = p.running
 fold_in p Away = p.away
 
--- the fold of what the others did
+-- the fold of the threads that did the other thing
 abbrev pub other_in : Part → Doing → Fold
 other_in p Running = p.away
 other_in p Away = p.running
@@ -38,18 +38,18 @@ pub record IsEmpty (p : Part) : Type 0 where
   pub running : p.running.stacks.items ≡ []
   pub away : p.away.stacks.items ≡ []
 
--- one stack of these methods more, of a thread that did this; all others are as they were
+-- there is one more stack of these methods, of a thread that did this; all others are as they were
 pub record IsAddedTo (old new : Part) (doing : Doing) (methods : List MethodNo) : Type 0 where
   pub apart : other_in new doing ≡ other_in old doing
   pub more : (fold_in new doing).total ≡ (fold_in old doing).total + 1
   pub given : seen methods (fold_in new doing).stacks.items ≡ seen methods (fold_in old doing).stacks.items + 1
   pub others : (ns : List MethodNo) → ns ≢ methods → seen ns (fold_in new doing).stacks.items ≡ seen ns (fold_in old doing).stacks.items
 
--- the place of a worker's part, where the workers stay apart or not
+-- the place of a worker's part, if the workers are kept apart, or of the one part
 abbrev pub place_of : Bool → ℕ → ℕ
 place_of by_thread worker = if by_thread then worker else 0
 
--- one stack of these methods more, in the part at a place; the other parts are as they were
+-- there is one more stack of these methods, in the part at this place; the other parts are as they were
 pub record IsAddedAt (old new : List Part) (place : ℕ) (doing : Doing) (methods : List MethodNo) : Type 0 where
   pub before : Part
   pub after : Part

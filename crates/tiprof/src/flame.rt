@@ -1,11 +1,8 @@
-//! A flame graph of folded stacks, as an SVG that stands alone: a bar for each front of stacks, as wide as the stacks that
-//! begin with it.
+//! A flame graph of folded stacks, as one SVG file.
 //!
-//! At the foot are the workers, if they stay apart. On them is what the threads did: warm bars are of threads that ran,
-//! cool ones of threads in native code or blocked. The methods follow, the oldest first.
-ghost use Rattle.std.specs.Prelude.{◌≡◌};
-ghost use Rattle.std.specs.Option.{option_map};
-ghost use Rattle.tiprof.specs.Flames.{entity_of};
+//! It has a bar for each prefix of stacks, as wide as the stacks that begin with it. At the foot are the workers, if they
+//! are kept apart. On them is what the threads did: warm bars are of threads that ran, cool ones of threads in native code
+//! or blocked. The methods follow, the oldest first.
 
 use crate::fold::{Fold, Folded};
 use crate::method::name_of;
@@ -14,16 +11,16 @@ use std::alloc::{AllocError, Global};
 use std::fmt::Write;
 use ti_types::MethodNo;
 
-/// The picture's width, in hundredths.
+/// The picture's width, in hundredths of a unit.
 const WIDTH: u64 = 120_000;
 
-/// A bar's height.
+/// A bar's height, in units.
 const HEIGHT: u64 = 20;
 
 /// The hue of the bars of workers.
 const GREEN: u32 = 100;
 
-/// The methods of a stack from the oldest on, and how often it was seen.
+/// The methods of a stack, the oldest first, and how often the stack was seen.
 type Row = (Vec<u32>, u64);
 
 /// The row of a stack.
@@ -35,7 +32,7 @@ fn row_of(alloc: Global, folded: &Folded) -> Result<Row, AllocError> {
     Ok((path, folded.count()))
 }
 
-/// All rows of a fold in order, so that those which begin with the same methods stand together.
+/// All rows of a fold in order, so that those with the same first methods come together.
 fn rows_of(alloc: Global, fold: &Fold) -> Result<Vec<Row>, AllocError> {
     let mut rows = Vec::new(alloc);
     for folded in fold.stacks() {
@@ -59,7 +56,7 @@ struct Bar {
     span: Span,
 }
 
-/// Whether two stacks have the same methods up to a depth.
+/// Whether two stacks have the same methods up to and including this depth.
 fn agree(one: &[u32], other: &[u32], depth: usize) -> bool {
     for i in 0..=depth {
         if one.get(i) != other.get(i) {
@@ -69,7 +66,7 @@ fn agree(one: &[u32], other: &[u32], depth: usize) -> bool {
     true
 }
 
-/// The bars at a depth, from the left on, where so many stacks are to the left of all.
+/// The bars at a depth, from the left on. `left` stacks are to the left of all of them.
 fn bars_at(alloc: Global, rows: &[Row], depth: usize, left: u64) -> Result<Vec<Bar>, AllocError> {
     let mut bars: Vec<Bar> = Vec::new(alloc);
     let mut before = left;
@@ -95,7 +92,7 @@ fn bars_at(alloc: Global, rows: &[Row], depth: usize, left: u64) -> Result<Vec<B
     Ok(bars)
 }
 
-/// What is written in place of a character that may not be in the text of an SVG.
+/// What is written for a character that the text of an SVG may not have.
 fn entity_of(letter: char) -> Option<&'static str>
     ensures { option_map (λ e. e.now) result ≡ entity_of letter }
 {
@@ -120,17 +117,17 @@ fn write_name(text: &mut String, name: &str) -> Result<(), AllocError> {
     Ok(())
 }
 
-/// A picture of so many stacks, as far as it is written.
+/// A picture of `total` stacks, as far as it is written.
 #[derive(Drop)]
 struct Picture {
     text: String,
-    /// The top of the lowest bar.
+    /// The top of the lowest bar, in units.
     foot: u64,
     total: u64,
 }
 
 impl Picture {
-    /// This share of so much, for a number of stacks.
+    /// The part of `whole` that this number of stacks takes.
     fn share(&self, count: u64, whole: u64) -> u64 {
         if self.total == 0 {
             return 0;
@@ -152,7 +149,7 @@ impl Picture {
         self.text.push_str("</text>\n")
     }
 
-    /// Writes a bar, its depth counted from the foot.
+    /// Writes a bar. Its depth is counted from the foot.
     fn bar(&mut self, name: &str, hue: u32, depth: usize, span: Span) -> Result<(), AllocError> {
         let x = self.share(span.before, WIDTH);
         let width = self.share(span.count, WIDTH);
@@ -176,7 +173,7 @@ impl Picture {
         self.text.push_str("</g>\n")
     }
 
-    /// Writes what shows where the pointer rests on a bar: its name, its count, and its part of all.
+    /// Writes what shows when the pointer rests on a bar: its name, its count, and its part of all stacks in percent.
     fn hover(&mut self, name: &str, count: u64) -> Result<(), AllocError> {
         let tenths = self.share(count, 1000);
         self.text.push_str("<title>")?;
@@ -198,7 +195,7 @@ impl Picture {
         self.text.push_str("</text>")
     }
 
-    /// Writes the bars of threads that did the same, the lowest at a depth.
+    /// Writes the bars of threads that did the same. The lowest is at this depth.
     fn fold(
         &mut self,
         alloc: Global,
@@ -240,7 +237,7 @@ impl Picture {
     }
 }
 
-/// The first of the hues of threads that did this.
+/// The first hue of the bars of threads that did this.
 fn hue_of(doing: Doing) -> u32 {
     match doing {
         Doing::Running => 5,
@@ -257,7 +254,7 @@ fn deepest(fold: &Fold) -> usize {
     most
 }
 
-/// The number of bars that stand on one another at most.
+/// How many bars are on top of one another at most.
 fn height_of(roots: &Roots) -> usize {
     let mut most: usize = 0;
     for part in roots.parts() {
@@ -274,7 +271,7 @@ fn count_of(part: &Part) -> u64 {
     ran.saturating_add(part.fold(Doing::Away).total())
 }
 
-/// The flame graph of all stacks, under this title.
+/// The flame graph of all stacks, as an SVG with this title. The error is lack of memory.
 pub fn flame_of(alloc: Global, roots: &Roots, title: &str) -> Result<String, AllocError> {
     let mut picture = Picture {
         text: String::new(alloc),
@@ -297,3 +294,7 @@ pub fn flame_of(alloc: Global, roots: &Roots, title: &str) -> Result<String, All
     picture.text.push_str("</svg>")?;
     Ok(picture.text)
 }
+
+ghost use Rattle.std.specs.Prelude.{◌≡◌};
+ghost use Rattle.std.specs.Option.{option_map};
+ghost use Rattle.tiprof.specs.Flames.{entity_of};

@@ -1,6 +1,4 @@
-//! Stacks, and how often each was seen.
-ghost use Rattle.std.specs.Prelude.{◌≡◌, ◌≢◌, ◌+◌, List, [], map, OnOk, OnErr, IfOk};
-ghost use Rattle.tiprof.specs.Folds.{counts_of, same_methods, seen};
+//! Counts how often each stack was seen.
 
 use std::alloc::{AllocError, Global};
 use ti_types::{Frame, MethodNo};
@@ -14,7 +12,7 @@ pub struct Folded {
 }
 
 impl Folded {
-    /// A stack that was seen once.
+    /// A stack that was seen once. The error is lack of memory.
     fn new(alloc: Global, frames: &[Frame]) -> Result<Self, AllocError>
         ensures once { IfOk result (λ f. f.count ≡ 1) }
         ensures methods { IfOk result (λ f. f.methods.items ≡ map (λ x. x.method) frames.now) }
@@ -60,13 +58,13 @@ impl Folded {
 #[derive(Drop)]
 pub struct Fold {
     stacks: Vec<Folded>,
-    /// How many were folded.
+    /// How many stacks were folded.
     total: u64,
     ghost sums: { counts_of stacks.items ≡ total },
 }
 
 impl Fold {
-    /// None yet.
+    /// No stack yet.
     pub fn new(alloc: Global) -> Self
         ensures none { result.total ≡ 0 }
         ensures empty { result.stacks.items ≡ [] }
@@ -78,7 +76,8 @@ impl Fold {
     }
 
     #[tactic(auto, using(crate::proofs::FoldLaws::one_more))]
-    /// One more stack, its newest frame first. An error where there is no memory, and then nothing has changed.
+    /// Adds one stack, its newest frame first. It is an error if there is no memory, or if the total would not fit in 64
+    /// bits. Then nothing has changed.
     pub fn add(&mut self, alloc: Global, frames: &[Frame]) -> Result<(), AllocError>
         ensures more { OnOk result (self.new.total ≡ self.old.total + 1) }
         ensures given { OnOk result (seen (map (λ x. x.method) frames.now) self.new.stacks.items ≡ seen (map (λ x. x.method) frames.now) self.old.stacks.items + 1) }
@@ -101,7 +100,7 @@ impl Fold {
         Ok(())
     }
 
-    /// The stacks, in the order in which they were first seen.
+    /// The different stacks, in the order in which they were first seen.
     pub fn stacks(&self) -> &[Folded]
         ensures all { result.now ≡ self.now.stacks.items }
         ensures sum { counts_of result.now ≡ self.now.total }
@@ -116,3 +115,6 @@ impl Fold {
         self.total
     }
 }
+
+ghost use Rattle.std.specs.Prelude.{◌≡◌, ◌≢◌, ◌+◌, List, [], map, OnOk, OnErr, IfOk};
+ghost use Rattle.tiprof.specs.Folds.{counts_of, same_methods, seen};

@@ -1,13 +1,16 @@
-//! Folded stacks, as flame graph tools read them: a line for each stack, from its root on, and how often it was seen.
+//! Folded stacks, as flame graph tools read them.
 //!
-//! The root is the worker, if the workers stay apart, and then what the thread did. The methods follow from the oldest on.
+//! There is a line for each stack, from its root on, with how often the stack was seen.
+//!
+//! The root is the worker, if the workers are kept apart, and then what the thread did. The methods follow, the oldest
+//! first.
 use crate::fold::Folded;
 use crate::method::name_of;
 use crate::roots::{Doing, Roots};
 use std::alloc::{AllocError, Global};
 use std::fmt::Write;
 
-/// The root of the lines of a worker, or of all.
+/// The root of the lines of one worker, or of all workers together.
 fn root_of(alloc: Global, worker: Option<usize>, doing: Doing) -> Result<String, AllocError> {
     let mut root = String::new(alloc);
     if let Some(number) = worker {
@@ -29,7 +32,7 @@ fn line_of(alloc: Global, root: &str, folded: &Folded) -> Result<String, AllocEr
     Ok(line)
 }
 
-/// The lines of all stacks, in the order of their bytes.
+/// The lines of all stacks, sorted by their bytes. The error is lack of memory.
 pub fn lines_of(alloc: Global, roots: &Roots) -> Result<Vec<String>, AllocError> {
     let mut lines = Vec::new(alloc);
     for (number, part) in roots.parts().iter().enumerate() {

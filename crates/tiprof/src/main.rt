@@ -1,32 +1,33 @@
 //! `tiprof`: a sampling profiler of threads that compute, over `ti_agent`.
 //!
-//! This many workers, each on a thread of its own, parse a document, sort numbers, search and sleep in turn, with a frame for
-//! each method. An environment on one more thread takes the stacks of all of them at an interval. It ends after so many
-//! seconds or samples, where all workers have made their rounds, or with standard input if nothing else is given. Then it
-//! writes folded stacks to standard output, or with `--svg` a flame graph, and to standard error a line with what was
-//! done.
+//! Each worker has a thread of its own. In turn it parses a document, sorts numbers, searches and sleeps, with a frame for
+//! each method. An environment on one more thread takes the stacks of all of them at an interval.
 //!
-//! The limits are lasting ones: it may go on as long as its process. The status is 0, or 1 where memory runs out or a line
-//! cannot be written, and 2, with a line of usage on standard error, for arguments that ask for nothing of this.
+//! It ends after the given seconds or samples, or when all workers have made their rounds. If none of these is given, it
+//! ends when standard input is closed. Then it writes folded stacks to standard output, or with `--svg` a flame graph. On
+//! standard error it writes a line about the run.
+//!
+//! The limits are lasting ones: it may run as long as its process. The status is 0, or 1 if memory runs out or a line cannot
+//! be written. It is 2 for arguments that it does not know, with a line of usage on standard error.
 #![tactic(auto)]
 
-mod asking;
 mod flame;
 mod fold;
 mod folded;
 mod method;
+mod one_sample;
 mod options;
 mod parse;
 mod roots;
-mod sampling;
+mod samples;
 mod search;
 mod session;
 mod shared;
 mod sort;
 mod station;
 mod taken;
+mod work;
 mod worker;
-mod working;
 
 use crate::flame::flame_of;
 use crate::folded::lines_of;
@@ -42,7 +43,7 @@ use std::sync::Wait;
 use std::thread::Threads;
 use std::time::CpuClock;
 
-/// What the process was asked for.
+/// The options that the process was started with.
 fn asked<R: Env + AllocGlobal>(rt: &R) -> Option<Options> {
     let mut words = env::args(rt).ok()?;
     let _program = words.next();
@@ -59,7 +60,7 @@ fn sampled<R: Threads + Wait + Sync + Clock + CpuClock + Input + Eprint + AllocG
     run(rt, options, text.as_bytes())
 }
 
-/// What a flame graph is of.
+/// The title of a flame graph.
 fn title_of(alloc: Global, options: Options, ran: &Ran) -> Result<String, AllocError> {
     let way = match options.way {
         Way::Handshake => "by handshakes",
@@ -75,7 +76,7 @@ fn title_of(alloc: Global, options: Options, ran: &Ran) -> Result<String, AllocE
     )
 }
 
-/// Writes the stacks.
+/// Writes the stacks, as folded stacks or as a flame graph.
 fn write_stacks<R: Print + AllocGlobal>(rt: &R, options: Options, ran: &Ran) -> Option<()> {
     let roots = ran.sampled.taken.roots();
     if options.svg {
@@ -89,7 +90,7 @@ fn write_stacks<R: Print + AllocGlobal>(rt: &R, options: Options, ran: &Ran) -> 
     Some(())
 }
 
-/// Writes what came of it.
+/// Writes the stacks, and a line about the run.
 fn report<R: Print + Eprint + AllocGlobal>(rt: &R, options: Options, ran: &Ran) -> Option<()> {
     write_stacks(rt, options, ran)?;
     eprintln!(rt;

@@ -20,7 +20,7 @@ pub enum Method {
 }
 
 impl Method {
-    /// Its number in a frame.
+    /// The method's number in a frame.
     pub fn number(self) -> MethodNo {
         MethodNo(match self {
             Method::Worker => 0,

@@ -1,37 +1,37 @@
 //! What the arguments ask for.
-ghost use Rattle.std.specs.Prelude.{◌≡◌, Some, map, string_bytes};
-ghost use Rattle.tiprof.specs.Asked.{digits_behind, is_bounded, number_of, options_of as options_by, usual, with_flag, with_option, with_words, within};
 
 /// How a sample is taken.
 #[derive(Clone, Copy, Debug, PartialEq, Eq)]
 pub enum Way {
-    /// Each thread is asked for its stack, and answers at its own poll: nobody stands still.
+    /// Each thread is asked for its stack, and answers at its own poll. No thread is stopped.
     Handshake,
-    /// All threads are stopped, read and let go: all stacks are of one moment.
+    /// All threads are stopped, read and let go. All stacks are of one moment.
     Standing,
 }
 
 /// What the arguments ask for.
 #[derive(Clone, Copy, Debug, PartialEq, Eq)]
 pub struct Options {
-    /// After how many seconds the sampling ends: 1 to 86,400.
+    /// After how many seconds the sampling ends, from 1 to 86,400.
     pub seconds: Option<u32>,
     /// How many samples are taken at most.
     pub samples: Option<u32>,
-    /// After how many rounds of its jobs each worker ends: 1 and more.
+    /// After how many rounds of its jobs each worker ends, 1 or more.
     pub jobs: Option<u32>,
-    /// The microseconds between two samples: 1 to 60,000,000.
+    /// The microseconds between two samples, from 1 to 60,000,000.
     pub interval: u32,
-    /// How many workers there are: 1 to 64.
+    /// How many workers there are, from 1 to 64.
     pub threads: u32,
+    /// How a sample is taken.
     pub way: Way,
-    /// Whether the stacks of different workers stay apart.
+    /// Whether the stacks of different workers are kept apart.
     pub by_thread: bool,
     /// Whether a flame graph is written, and not folded stacks.
     pub svg: bool,
 }
 
-/// The number of digits after those of a number, where it stays below 2^32.
+/// The number whose decimal digits are those of `front` and then these. `None` if one is no digit, or the number is 2^32 or
+/// more.
 fn digits_behind(front: u32, digits: &[u8]) -> Option<u32>
     ensures { result ≡ digits_behind front digits.now }
 {
@@ -46,7 +46,7 @@ fn digits_behind(front: u32, digits: &[u8]) -> Option<u32>
     Some(number)
 }
 
-/// The number of a word that has digits and nothing else, and is below 2^32.
+/// The number of a word. `None` if it is empty, has anything but digits, or is 2^32 or more.
 fn number_of(word: &str) -> Option<u32>
     ensures { result ≡ number_of word.now }
 {
@@ -56,7 +56,7 @@ fn number_of(word: &str) -> Option<u32>
     digits_behind(0, word.as_bytes())
 }
 
-/// The number of a word, within these bounds.
+/// The number of a word. `None` if it is no number from `least` to `most`.
 fn within(word: &str, least: u32, most: u32) -> Option<u32>
     ensures { result ≡ within least most (number_of word.now) }
 {
@@ -68,8 +68,8 @@ fn within(word: &str, least: u32, most: u32) -> Option<u32>
 }
 
 impl Options {
-    /// Where no argument says another: 4 threads, a handshake each millisecond, until standard input is closed, as folded
-    /// stacks.
+    /// The options if no argument says otherwise. There are 4 threads and a handshake each millisecond, until standard input
+    /// is closed. Folded stacks are written.
     fn usual() -> Options
         ensures { result ≡ usual }
     {
@@ -85,14 +85,14 @@ impl Options {
         }
     }
 
-    /// Whether the sampling ends by itself: else it ends with standard input.
+    /// Whether the sampling ends by itself. Otherwise it ends when standard input is closed.
     pub fn is_bounded(self) -> bool
         ensures { result ≡ is_bounded self }
     {
         self.seconds.is_some() || self.samples.is_some() || self.jobs.is_some()
     }
 
-    /// The options with one more. `None` where the word is no option that stands alone.
+    /// The options with this one set. `None` if the word is no option without a value.
     fn with_flag(self, word: &str) -> Option<Options>
         ensures { result ≡ with_flag self word.now }
     {
@@ -107,8 +107,8 @@ impl Options {
         Some(options)
     }
 
-    /// The options with one more. `None` where the word is no option that has a value, or the value is no number within
-    /// the option's bounds.
+    /// The options with this one set. `None` if the word is no option with a value, or the value is no number within the
+    /// option's bounds.
     fn with(self, word: &str, value: &str) -> Option<Options>
         ensures { result ≡ with_option self word.now value.now }
     {
@@ -124,7 +124,7 @@ impl Options {
         Some(options)
     }
 
-    /// The options with all of these words.
+    /// The options with all of these words set. `None` if one is no option, or has no fitting value.
     fn with_words(self, words: &[String]) -> Option<Options>
         ensures { result ≡ with_words (Some self) (map string_bytes words.now) }
     {
@@ -142,10 +142,13 @@ impl Options {
     }
 }
 
-/// What the arguments ask for, the program's name left out. `None` where one of them is no option, or has no number
+/// The options that the arguments ask for, without the program's name. `None` if one of them is no option, or has no number
 /// within its bounds after it.
 pub fn options_of(words: &[String]) -> Option<Options>
     ensures { result ≡ options_by (map string_bytes words.now) }
 {
     Options::usual().with_words(words)
 }
+
+ghost use Rattle.std.specs.Prelude.{◌≡◌, Some, map, string_bytes};
+ghost use Rattle.tiprof.specs.Asked.{digits_behind, is_bounded, number_of, options_of as options_by, usual, with_flag, with_option, with_words, within};

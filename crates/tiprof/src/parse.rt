@@ -1,5 +1,4 @@
-//! A JSON parser, which keeps of a document how many numbers it has and what they sum up to.
-ghost use Rattle.std.specs.Prelude.{◌≡◌};
+//! A JSON parser that counts the values of a document and sums up its numbers.
 
 use crate::method::Method;
 use crate::worker::{Spent, Worker};
@@ -7,10 +6,10 @@ use std::alloc::{AllocError, Global};
 use std::fmt::Write;
 use std::sync::Wait;
 
-/// How deep arrays and objects may lie in one another.
+/// How deep arrays and objects may be nested.
 const DEPTH: u32 = 16;
 
-/// This many bytes lie between two polls.
+/// It polls once in this many bytes.
 const STRIDE: usize = 64;
 
 /// What was found in a document.
@@ -18,9 +17,9 @@ const STRIDE: usize = 64;
 pub struct Found {
     /// How many numbers, strings, arrays and objects there are.
     pub values: u64,
-    /// The sum of the numbers, which wraps.
+    /// The sum of the numbers, modulo 2^64.
     pub sum: u64,
-    /// Whether the text has a value, and nothing but white space after it.
+    /// Whether the text has one value, and nothing but white space after it.
     pub whole: bool,
 }
 
@@ -34,7 +33,7 @@ struct Reader<'t> {
 }
 
 impl<'t> Reader<'t> {
-    /// The byte that comes next: 0 at the end.
+    /// The next byte, or 0 at the end.
     fn peek(&self) -> u8 {
         match self.text.get(self.at) {
             Some(byte) => *byte,
@@ -42,7 +41,7 @@ impl<'t> Reader<'t> {
         }
     }
 
-    /// Goes past a byte.
+    /// Goes past one byte.
     fn advance(&mut self) {
         self.at = self.at.saturating_add(1);
     }
@@ -57,7 +56,7 @@ impl<'t> Reader<'t> {
         }
     }
 
-    /// Goes past white space and this byte. Whether it was there.
+    /// Goes past white space and this byte, and gives whether the byte was there.
     fn eat(&mut self, byte: u8) -> bool {
         self.skip_space();
         let there = self.peek() == byte;
@@ -67,7 +66,7 @@ impl<'t> Reader<'t> {
         there
     }
 
-    /// Goes past the digits of a number.
+    /// Goes past the digits of a number, and adds the number to the sum.
     fn number(&mut self) {
         let mut number: u64 = 0;
         for _ in self.at..self.text.len() {
@@ -81,7 +80,7 @@ impl<'t> Reader<'t> {
         self.sum = self.sum.wrapping_add(number);
     }
 
-    /// Goes past the key of a member, and the colon after it. Whether both were there.
+    /// Goes past the key of a member and the colon after it, and gives whether both were there.
     fn key(&mut self) -> bool {
         if !self.eat(b'"') {
             return false;
@@ -97,7 +96,7 @@ impl<'t> Reader<'t> {
     }
 }
 
-/// Goes past the rest of a string. Whether it ends.
+/// Goes past the rest of a string, and gives whether it ends.
 fn parse_string<R: Wait>(
     rt: &R,
     worker: &mut Worker,
@@ -126,7 +125,7 @@ fn parse_string<R: Wait>(
 }
 
 #[cycle(parsing)]
-/// Goes past the rest of an array. Whether it is well formed.
+/// Goes past the rest of an array, and gives whether it is well formed.
 fn parse_array<R: Wait>(
     rt: &R,
     worker: &mut Worker,
@@ -154,7 +153,7 @@ fn parse_array<R: Wait>(
 }
 
 #[cycle(parsing)]
-/// Goes past the rest of an object. Whether it is well formed.
+/// Goes past the rest of an object, and gives whether it is well formed.
 fn parse_object<R: Wait>(
     rt: &R,
     worker: &mut Worker,
@@ -182,7 +181,7 @@ fn parse_object<R: Wait>(
 }
 
 #[cycle(parsing)]
-/// Goes past a value. Whether it is well formed, and no deeper than that.
+/// Goes past a value, and gives whether it is well formed and no deeper than `depth`.
 fn parse_value<R: Wait>(
     rt: &R,
     worker: &mut Worker,
@@ -216,7 +215,7 @@ fn parse_value<R: Wait>(
     }
 }
 
-/// Parses a document.
+/// Parses a document, with polls and a frame for each method. `Spent` if the thread can go no further.
 pub fn parse<R: Wait>(rt: &R, worker: &mut Worker, text: &[u8]) -> Result<Found, Spent>
     ensures same { worker.new ≡ worker.old }
 {
@@ -237,7 +236,7 @@ pub fn parse<R: Wait>(rt: &R, worker: &mut Worker, text: &[u8]) -> Result<Found,
     })
 }
 
-/// Writes an array of numbers.
+/// Writes an array of `count` numbers.
 fn write_series(text: &mut String, count: u32) -> Result<(), AllocError> {
     text.push_str("[0")?;
     for i in 1..count {
@@ -247,7 +246,7 @@ fn write_series(text: &mut String, count: u32) -> Result<(), AllocError> {
     text.push_str("]")
 }
 
-/// Writes a string of this many letters.
+/// Writes a string of `count` letters.
 fn write_letters(text: &mut String, count: u32) -> Result<(), AllocError> {
     text.push_str("\"")?;
     for _ in 0..count / 8 {
@@ -256,7 +255,7 @@ fn write_letters(text: &mut String, count: u32) -> Result<(), AllocError> {
     text.push_str("\"")
 }
 
-/// A document of some 1,200,000 bytes, which is an object of few, but long, arrays and strings.
+/// A document of some 1,200,000 bytes: an object of a few long arrays and strings. The error is lack of memory.
 pub fn document(alloc: Global) -> Result<String, AllocError> {
     let mut text = String::new(alloc);
     text.push_str("{\"series\": ")?;
@@ -272,3 +271,5 @@ pub fn document(alloc: Global) -> Result<String, AllocError> {
     text.push_str("}")?;
     Ok(text)
 }
+
+ghost use Rattle.std.specs.Prelude.{◌≡◌};

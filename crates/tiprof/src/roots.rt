@@ -1,7 +1,4 @@
-//! Stacks apart by what their threads did, and, if that is asked for, by thread.
-ghost use Rattle.std.specs.Prelude.{◌≡◌, ◌+◌, map, length, if◌then◌else◌, OnOk, OnErr, IfOk};
-ghost use Rattle.std.specs.List.{All, sum_by};
-ghost use Rattle.tiprof.specs.Roots.{doing_of, fold_in, folded_in, IsAddedTo, IsAddedAt, IsEmpty, place_of, stacks_in, word_of};
+//! Stacks, kept apart by what their threads did and, if asked for, by thread.
 
 use crate::fold::Fold;
 use std::alloc::{AllocError, Global};
@@ -12,12 +9,12 @@ use ti_types::Frame;
 pub enum Doing {
     /// It ran, and handed its frames over at its next poll.
     Running,
-    /// It was in native code or blocked, and was read where it was.
+    /// It was in native code or blocked, and was read there.
     Away,
 }
 
 impl Doing {
-    /// By its state (JVM TI 11, GetThreadState): it ran if it is RUNNABLE, and not IN_NATIVE.
+    /// What a thread did, by its state bits (JVM TI 11, GetThreadState). It ran if it is RUNNABLE and not IN_NATIVE.
     pub fn of_state(bits: u32) -> Doing
         ensures { result ≡ doing_of bits }
     {
@@ -28,7 +25,7 @@ impl Doing {
         }
     }
 
-    /// The word at the root of its stacks.
+    /// The word at the root of the stacks of such threads.
     pub fn word(self) -> &'static str
         ensures { result.now ≡ word_of self }
     {
@@ -39,7 +36,7 @@ impl Doing {
     }
 }
 
-/// The stacks of one worker, or of all.
+/// The stacks of one worker, or of all workers together.
 #[derive(Drop)]
 pub struct Part {
     running: Fold,
@@ -47,7 +44,7 @@ pub struct Part {
 }
 
 impl Part {
-    /// None yet.
+    /// No stack yet.
     fn new(alloc: Global) -> Part
         ensures none { folded_in result ≡ 0 }
         ensures empty { IsEmpty result }
@@ -58,8 +55,8 @@ impl Part {
         }
     }
 
-    /// One more stack of a thread that did this, its newest frame first. An error where there is no memory, and then
-    /// nothing has changed.
+    /// Adds one stack of a thread that did this, its newest frame first. The errors are those of `Fold::add`. Then nothing
+    /// has changed.
     fn add(&mut self, alloc: Global, doing: Doing, frames: &[Frame]) -> Result<(), AllocError>
         ensures added { OnOk result (IsAddedTo self.old self.new doing (map (λ x. x.method) frames.now)) }
         ensures kept { OnErr result (stacks_in self.new ≡ stacks_in self.old) }
@@ -71,7 +68,7 @@ impl Part {
         }
     }
 
-    /// The stacks of threads that did this.
+    /// The stacks of the threads that did this.
     pub fn fold(&self, doing: Doing) -> &Fold
         ensures { result.now ≡ fold_in self.now doing }
     {
@@ -85,7 +82,7 @@ impl Part {
 /// All stacks.
 #[derive(Drop)]
 pub struct Roots {
-    /// By the worker's number, or one for all.
+    /// One for each worker, in the order of their numbers, or one for all.
     parts: Vec<Part>,
     by_thread: bool,
     /// How many stacks were folded.
@@ -94,7 +91,7 @@ pub struct Roots {
 }
 
 impl Roots {
-    /// None yet: of this many workers apart, or of all together.
+    /// No stack yet, for each of these workers or for all together. The error is lack of memory.
     pub fn new(alloc: Global, workers: u32, by_thread: bool) -> Result<Self, AllocError>
         ensures none { IfOk result (λ r. r.total ≡ 0) }
         ensures by_thread { IfOk result (λ r. r.by_thread ≡ by_thread) }
@@ -114,8 +111,8 @@ impl Roots {
     }
 
     #[tactic(auto, using(crate::proofs::RootsLaws::kept_at))]
-    /// One more stack of a worker that did this, its newest frame first. An error where there is no memory, or no such
-    /// worker, and then nothing has changed.
+    /// Adds one stack of a worker that did this, its newest frame first. It is an error if there is no memory or no such
+    /// worker, or if the total would not fit in 64 bits. Then nothing has changed.
     pub fn add(
         &mut self,
         alloc: Global,
@@ -141,7 +138,7 @@ impl Roots {
         Ok(())
     }
 
-    /// The stacks of each worker, in the order of their numbers, or of all.
+    /// The stacks of each worker, in the order of their numbers, or of all together.
     pub fn parts(&self) -> &[Part]
         ensures all { result.now ≡ self.now.parts.items }
         ensures sum { sum_by folded_in result.now ≡ self.now.total }
@@ -163,3 +160,7 @@ impl Roots {
         self.total
     }
 }
+
+ghost use Rattle.std.specs.Prelude.{◌≡◌, ◌+◌, map, length, if◌then◌else◌, OnOk, OnErr, IfOk};
+ghost use Rattle.std.specs.List.{All, sum_by};
+ghost use Rattle.tiprof.specs.Roots.{doing_of, fold_in, folded_in, IsAddedTo, IsAddedAt, IsEmpty, place_of, stacks_in, word_of};

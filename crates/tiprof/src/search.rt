@@ -1,20 +1,19 @@
-//! A recursive search: how many ways there are to place queens on a board, none of which attacks another.
-ghost use Rattle.std.specs.Prelude.{◌≡◌};
+//! A recursive search: in how many ways queens can be placed on a board so that none attacks another.
 
 use crate::method::Method;
 use crate::worker::{Spent, Worker};
 use std::sync::Wait;
 
-/// The board's width.
+/// The board's width, and the number of queens.
 const WIDTH: u32 = 11;
 
-/// How many ways there are on that board.
+/// How many ways there are on this board.
 pub const WAYS: u32 = 2680;
 
-/// This many of the first rows have a frame each; the recursion below is inlined.
+/// The first rows, this many, have a frame each. Those below have none, as inlined code has none.
 const FRAMED: u32 = 2;
 
-/// The columns and diagonals that are attacked in a row, as bits.
+/// The columns and diagonals of a row that are attacked, as bits.
 #[derive(Clone, Copy)]
 struct Attacked {
     columns: u32,
@@ -23,12 +22,12 @@ struct Attacked {
 }
 
 impl Attacked {
-    /// Whether a column of the row is free.
+    /// Whether no queen attacks this column of the row.
     fn is_free(self, column: u32) -> bool {
         column < WIDTH && ((self.columns | self.left | self.right) >> column) & 1 == 0
     }
 
-    /// What is attacked in the next row, with a queen in this column.
+    /// What is attacked in the next row, if a queen is in this column.
     fn with(self, column: u32) -> Attacked {
         let queen = if column < WIDTH { 1 << column } else { 0 };
         Attacked {
@@ -39,7 +38,7 @@ impl Attacked {
     }
 }
 
-/// The ways to place queens in the rows that are left.
+/// How many ways there are to place queens in the `left` rows that are left.
 fn place<R: Wait>(rt: &R, worker: &mut Worker, attacked: Attacked, left: u32) -> Result<u32, Spent>
     ensures same { worker.new ≡ worker.old }
 {
@@ -63,7 +62,7 @@ fn place<R: Wait>(rt: &R, worker: &mut Worker, attacked: Attacked, left: u32) ->
     Ok(ways)
 }
 
-/// The ways to place as many queens as the board is wide.
+/// How many ways there are to place as many queens as the board is wide. `Spent` if the thread can go no further.
 pub fn search<R: Wait>(rt: &R, worker: &mut Worker) -> Result<u32, Spent>
     ensures same { worker.new ≡ worker.old }
 {
@@ -77,3 +76,5 @@ pub fn search<R: Wait>(rt: &R, worker: &mut Worker) -> Result<u32, Spent>
     worker.leave()?;
     Ok(ways)
 }
+
+ghost use Rattle.std.specs.Prelude.{◌≡◌};

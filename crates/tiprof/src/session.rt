@@ -1,14 +1,11 @@
-//! A run: workers on threads of their own, and an environment that samples them.
-ghost use Rattle.std.specs.Prelude.{◌≡◌, length, IfSome};
-ghost use Rattle.ti_cell.specs.View.{subject_of};
-ghost use Rattle.tiprof.specs.Stations.{AreStations, AreDesks, IsNewDesk};
+//! A run: workers with threads of their own, and an environment that samples them.
 
-use crate::asking::DEPTH;
+use crate::one_sample::DEPTH;
 use crate::options::Options;
-use crate::sampling::{Sampled, sample};
+use crate::samples::{Sampled, sample};
 use crate::shared::Shared;
 use crate::station::Station;
-use crate::working::{NewWorker, Task, work_all};
+use crate::work::{NewWorker, Task, work_all};
 use std::alloc::Global;
 use std::io::Input;
 use std::rt::Clock;
@@ -20,16 +17,17 @@ use ti_env::EnvState;
 use ti_handshake::Desk;
 use ti_types::{EnvNo, Limits};
 
-/// What came of a run.
+/// The result of a run.
 #[derive(Drop)]
 pub struct Ran {
     pub sampled: Sampled,
+    /// How many jobs the workers did.
     pub jobs: u64,
-    /// Nanoseconds of the processor that the workers spent on them.
+    /// The processor time of the workers, in nanoseconds.
     pub cpu: u64,
 }
 
-/// The next desk of a station at a thread, where it is the environment's.
+/// The next desk of a station at a thread. `None` if it is not this environment's.
 fn desk_at(station: &mut Station, limits: Limits, thread: u32, env: EnvNo) -> Option<Desk>
     requires at { station.old ≡ subject_of limits (record { 0 = thread }) }
     ensures same { station.new ≡ station.old }
@@ -41,7 +39,7 @@ fn desk_at(station: &mut Station, limits: Limits, thread: u32, env: EnvNo) -> Op
     if desk.env() == env { Some(desk) } else { None }
 }
 
-/// The desks of an environment at all threads, in the order of their numbers.
+/// The desks of an environment at all threads, in the order of the threads' numbers.
 fn desks_of(
     alloc: Global,
     limits: Limits,
@@ -62,7 +60,7 @@ fn desks_of(
     Some(desks)
 }
 
-/// The environment, with a desk at each thread. `None` where memory runs out, or no seat is left.
+/// The environment, with a desk at each thread. `None` if memory runs out, or no seat is left.
 fn environment(
     alloc: Global,
     limits: Limits,
@@ -79,7 +77,7 @@ fn environment(
     Some(Env::new(env, state, desks))
 }
 
-/// The stations and the workers at new cells, in the order of the threads' numbers. `None` where memory runs out.
+/// The stations and the workers at new cells, in the order of the threads' numbers. `None` if memory runs out.
 fn make_all(alloc: Global, limits: Limits) -> Option<(Vec<Station>, Vec<NewWorker>)>
     ensures at { IfSome result (λ m. AreStations limits m.0.items) }
     ensures count { IfSome result (λ m. length m.0.items ≡ limits.threads) }
@@ -94,7 +92,7 @@ fn make_all(alloc: Global, limits: Limits) -> Option<(Vec<Station>, Vec<NewWorke
     Some((stations, workers))
 }
 
-/// Samples, and beside that listens for the end of standard input where the sampling does not end by itself.
+/// Samples. If the sampling does not end by itself, it also listens for the end of standard input.
 fn sample_beside<R: Threads + Wait + Sync + Clock + Input + Eprint + AllocGlobal>(
     rt: &R,
     shared: &Shared,
@@ -112,7 +110,7 @@ fn sample_beside<R: Threads + Wait + Sync + Clock + Input + Eprint + AllocGlobal
     sampled
 }
 
-/// The workers run, and are sampled.
+/// Runs the workers, and samples them meanwhile.
 fn run_at<R: Threads + Wait + Sync + Clock + CpuClock + Input + Eprint + AllocGlobal>(
     rt: &R,
     limits: Limits,
@@ -145,7 +143,7 @@ fn run_at<R: Threads + Wait + Sync + Clock + CpuClock + Input + Eprint + AllocGl
     })
 }
 
-/// Runs new workers, and samples them. `None` where memory runs out, or a line cannot be written.
+/// Runs new workers on this text, and samples them. `None` if memory runs out, or a line cannot be written.
 pub fn run<R: Threads + Wait + Sync + Clock + CpuClock + Input + Eprint + AllocGlobal>(
     rt: &R,
     options: Options,
@@ -155,3 +153,7 @@ pub fn run<R: Threads + Wait + Sync + Clock + CpuClock + Input + Eprint + AllocG
     let (stations, workers) = make_all(rt.alloc(), limits)?;
     run_at(rt, limits, options, stations, workers, text)
 }
+
+ghost use Rattle.std.specs.Prelude.{◌≡◌, length, IfSome};
+ghost use Rattle.ti_cell.specs.View.{subject_of};
+ghost use Rattle.tiprof.specs.Stations.{AreStations, AreDesks, IsNewDesk};

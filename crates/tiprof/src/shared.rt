@@ -1,4 +1,4 @@
-//! What the workers, the sampling and who listens for the end of standard input share.
+//! What is shared by the workers, the sampling, and the thread that listens for the end of standard input.
 
 use std::io::{self, Input};
 use std::sync::atomic::{AtomicBool, AtomicU32, Ordering};
@@ -11,17 +11,18 @@ use ti_vmop::VmTurn;
 #[derive(Drop)]
 pub struct Shared {
     turn: Mutex<VmTurn>,
-    /// Whether the sampling is over: the workers are told to stop.
+    /// Whether the sampling is over, so that the workers have to stop.
     over: AtomicBool,
     /// Whether standard input is closed.
     closed: AtomicBool,
     /// How many workers are done.
     done: AtomicU32,
-    /// Wakes the sampling where one of these has changed.
+    /// Wakes the sampling when one of these has changed.
     bell: Parker,
 }
 
 impl Shared {
+    /// Nothing has ended yet.
     pub fn new() -> Self {
         Shared {
             turn: Mutex::new(VmTurn::new()),
@@ -32,6 +33,7 @@ impl Shared {
         }
     }
 
+    /// The turn for stops.
     pub fn turn(&self) -> &Mutex<VmTurn> {
         &self.turn
     }
@@ -46,25 +48,25 @@ impl Shared {
         self.over.store(true, Ordering::SeqCst);
     }
 
-    /// One more worker is done.
+    /// Notes that one more worker is done.
     pub fn note_done(&self) {
         self.done.fetch_add(1, Ordering::SeqCst);
         self.bell.unpark();
     }
 
-    /// Reads standard input to its end.
+    /// Reads standard input to its end, and notes that it is closed.
     pub fn listen<R: Input>(&self, rt: &R) {
         let _read = io::copy(&mut rt.reader(), &mut io::sink());
         self.closed.store(true, Ordering::SeqCst);
         self.bell.unpark();
     }
 
-    /// Whether there is nothing more to sample, of this many workers.
+    /// Whether standard input is closed, or all of this many workers are done.
     pub fn is_ended(&self, workers: u32) -> bool {
         self.closed.load(Ordering::SeqCst) || self.done.load(Ordering::SeqCst) >= workers
     }
 
-    /// Waits for so long, or less where something has ended.
+    /// Waits for at most this time, and less if something has ended.
     pub fn rest<R: Wait>(&self, rt: &R, time: Duration) {
         self.bell.park_timeout(rt, time);
     }

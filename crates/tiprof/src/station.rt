@@ -1,16 +1,13 @@
 //! The desks of environments at one thread's new cell, one for each environment.
-ghost use Rattle.std.specs.Prelude.{◌≡◌, [], IfSome};
-ghost use Rattle.ti_cell.specs.View.{subject_of};
-ghost use Rattle.ti_cell.specs.Seats.{env_seats};
 
-use crate::working::NewWorker;
+use crate::work::NewWorker;
 use std::alloc::Global;
 use std::marker::Model;
 use ti_cell::EnvSeat;
 use ti_handshake::{Desk, Fresh, SharedCell};
 use ti_types::{Limits, ThreadNo};
 
-/// The seats of environments at one thread, from which nothing was done. Contracts see it as the thread and its limits.
+/// The seats of environments at one thread, by which nothing was done. Contracts see the thread and its limits.
 #[derive(Drop)]
 pub struct Station {
     cell: SharedCell,
@@ -33,7 +30,7 @@ impl Model for Station {
 }
 
 impl Station {
-    /// A worker at a new cell, and the seats of all environments there. `None` where memory runs out.
+    /// Makes a new cell, with a worker at it and the seats of all environments. `None` if memory runs out.
     pub fn make(alloc: Global, limits: Limits, thread: u32) -> Option<(Station, NewWorker)>
         ensures about { IfSome result (λ m. m.0 ≡ subject_of limits (record { 0 = thread })) }
     {
@@ -59,7 +56,8 @@ impl Station {
         }
     }
 
-    /// The desk of one more environment, from the last to the first. `None` where all have theirs, or memory runs out.
+    /// The desk of one more environment, from the last environment to the first. `None` if all have theirs, or if memory
+    /// runs out.
     #[tactic(auto, using(crate::proofs::StationLaws::popped))]
     pub fn next_desk(&mut self) -> Option<Desk>
         ensures same { self.new ≡ self.old }
@@ -70,3 +68,7 @@ impl Station {
         Some(Desk::new(self.cell.share().ok()?, seat))
     }
 }
+
+ghost use Rattle.std.specs.Prelude.{◌≡◌, [], IfSome};
+ghost use Rattle.ti_cell.specs.View.{subject_of};
+ghost use Rattle.ti_cell.specs.Seats.{env_seats};

@@ -1,4 +1,4 @@
-//! What the samples came to so far.
+//! What the samples have brought so far.
 use crate::options::Options;
 use crate::roots::{Doing, Roots};
 use std::alloc::Global;
@@ -12,13 +12,13 @@ pub struct Taken {
 }
 
 impl Taken {
-    /// Nothing yet.
+    /// Nothing yet. `None` if memory runs out.
     pub fn new(alloc: Global, options: Options) -> Option<Taken> {
         let roots = Roots::new(alloc, options.threads, options.by_thread).ok()?;
         Some(Taken { roots, live: 0 })
     }
 
-    /// One more stack of a thread that is alive. `None` where memory runs out.
+    /// Adds one stack of a thread that is alive. `None` if memory runs out.
     pub fn add(
         &mut self,
         alloc: Global,
@@ -31,8 +31,8 @@ impl Taken {
         Some(())
     }
 
-    /// The answer to a stack trace, which counts for so many samples. One that is refused is of a thread that is not
-    /// alive: it has not started, or has ended.
+    /// Adds the answer to a stack trace, which counts for this many samples. A refused one adds nothing, since its thread is
+    /// not alive. `None` if memory runs out.
     pub fn add_answer(
         &mut self,
         alloc: Global,
@@ -50,10 +50,12 @@ impl Taken {
         Some(())
     }
 
+    /// The stacks.
     pub fn roots(&self) -> &Roots {
         &self.roots
     }
 
+    /// How many threads were alive, over all samples.
     pub fn live(&self) -> u64 {
         self.live
     }

@@ -1,6 +1,4 @@
 //! A worker's side of its own thread: which method it is in, and where it may be stopped.
-ghost use Rattle.std.specs.Prelude.{◌≡◌, true, IfOk, IfSome};
-ghost use Rattle.ti_replay.specs.Legal.{is_legal};
 
 use crate::method::Method;
 use std::marker::Model;
@@ -8,19 +6,19 @@ use std::rt::Clock;
 use std::sync::Wait;
 use std::thread;
 use std::time::Duration;
-use ti_cell::OwnSeat;
+use ti_cell::OwnerSeat;
 use ti_handshake::{AtSafe, Fresh, Polled, Running, SharedCell};
 use ti_types::{Kind, Step};
 
-/// The thread has no entries left (208), is too deep (201), or has no memory: it computes no more.
+/// The thread can go no further. It has no entries left (208), is too deep (201), or has no memory.
 #[derive(Clone, Copy, Debug, PartialEq, Eq)]
 pub struct Spent;
 
-/// A thread that computes. Contracts see it as its cell.
+/// A thread that computes. Contracts see its cell.
 #[derive(Drop)]
 pub struct Worker {
     cell: SharedCell,
-    /// `None` while it is in native code or blocked.
+    /// `None` while the thread is in native code or blocked.
     running: Option<Running>,
 }
 
@@ -36,7 +34,7 @@ impl Model for Worker {
 }
 
 impl Worker {
-    /// Starts the thread of a cell. It waits while a stop stands.
+    /// Starts the thread of a cell. It waits while a stop is in force.
     pub fn start<R: Wait>(rt: &R, cell: SharedCell, fresh: Fresh) -> Worker
         requires cell { fresh.cell ≡ cell }
         ensures cell { result ≡ cell }
@@ -47,7 +45,7 @@ impl Worker {
         }
     }
 
-    /// Makes a step. It never waits.
+    /// Makes a step. It never waits. `Spent` if the step is refused.
     fn step(&mut self, step: Step) -> Result<(), Spent>
         ensures same { self.new ≡ self.old }
     {
@@ -60,22 +58,22 @@ impl Worker {
         }
     }
 
-    /// Enters a method.
+    /// Enters a method. `Spent` if the step is refused.
     pub fn enter(&mut self, method: Method) -> Result<(), Spent>
         ensures same { self.new ≡ self.old }
     {
         self.step(Step::Enter(method.number()))
     }
 
-    /// Leaves the newest method.
+    /// Leaves the newest method. `Spent` if the step is refused.
     pub fn leave(&mut self) -> Result<(), Spent>
         ensures same { self.new ≡ self.old }
     {
         self.step(Step::Leave)
     }
 
-    /// A place where the thread may be stopped: one load where nobody calls for it. Otherwise it hands its frames over,
-    /// and waits while it is held.
+    /// A place where the thread may be stopped. It takes one load if nobody calls for the thread. Otherwise the thread hands
+    /// its frames over, and waits while it is held.
     pub fn poll<R: Wait>(&mut self, rt: &R)
         ensures same { self.new ≡ self.old }
     {
@@ -87,7 +85,7 @@ impl Worker {
         self.hand_over(rt);
     }
 
-    /// Hands the frames over, and goes on once it may.
+    /// Hands the frames over, and returns when it may.
     fn hand_over<R: Wait>(&mut self, rt: &R)
         ensures same { self.new ≡ self.old }
     {
@@ -96,12 +94,12 @@ impl Worker {
         };
         self.running = match running.poll(rt) {
             Polled::Go(running) => Some(running),
-            Polled::Held(held) => Some(held.back(rt)),
+            Polled::Stays(held) => Some(held.back(rt)),
         };
     }
 
-    /// Enters a native method and goes into native code. The thread may be stopped and read from here on, until it
-    /// comes back.
+    /// Enters a native method, and goes into native code. From then on the thread may be stopped and read, until it returns.
+    /// `Spent` if the step or the hand-over is refused.
     pub fn native<R: Wait>(&mut self, rt: &R, method: Method) -> Result<AtSafe, Spent>
         ensures same { self.new ≡ self.old }
         ensures cell { IfOk result (λ away. away.cell ≡ self.old) }
@@ -119,7 +117,7 @@ impl Worker {
         }
     }
 
-    /// Comes back out of native code, or from a block, once it may.
+    /// Returns from native code or from a block, when it may.
     pub fn back<R: Wait>(&mut self, rt: &R, away: AtSafe)
         requires cell { away.cell ≡ self.old }
         ensures same { self.new ≡ self.old }
@@ -127,7 +125,7 @@ impl Worker {
         self.running = Some(away.back(rt));
     }
 
-    /// Sleeps, blocked as Java's Thread.sleep is.
+    /// Sleeps for this time, blocked as in Java's Thread.sleep. `Spent` if the hand-over is refused.
     pub fn sleep<R: Wait + Clock>(&mut self, rt: &R, time: Duration) -> Result<(), Spent>
         ensures same { self.new ≡ self.old }
     {
@@ -147,8 +145,8 @@ impl Worker {
         }
     }
 
-    /// Ends the thread. Its seat, which has seen the thread's history up to the end: that is legal.
-    pub fn end<R: Wait>(self, rt: &R) -> Option<OwnSeat>
+    /// Ends the thread, and gives its seat. The seat has seen the thread's whole history, which is legal.
+    pub fn end<R: Wait>(self, rt: &R) -> Option<OwnerSeat>
         ensures cell { IfSome result (λ s. s.cell ≡ self) }
         ensures legal { IfSome result (λ s. is_legal s.view.subject.limits s.view.seen ≡ true) }
     {
@@ -158,3 +156,6 @@ impl Worker {
         Some(seat)
     }
 }
+
+ghost use Rattle.std.specs.Prelude.{◌≡◌, true, IfOk, IfSome};
+ghost use Rattle.ti_replay.specs.Legal.{is_legal};

@@ -1,5 +1,5 @@
-//! What a measured thread does.
-use crate::asking::Shared;
+//! What the measured threads do.
+use crate::agents::Shared;
 use crate::spent::{Began, Spent};
 use std::rt::Clock;
 use std::sync::Wait;
@@ -8,18 +8,18 @@ use std::time::{CpuClock, Duration};
 use ti_handshake::{AtSafe, Fresh, Polled, Running};
 use ti_types::{Kind, MethodNo, Step};
 
-/// How many steps a thread takes: each costs 1 of its 65,536.
+/// How many steps a thread takes. Each costs 1 of its 65,536.
 pub const STEPS: u32 = 60_000;
 
 const POLLS: u32 = 1_000_000;
 
-/// How many milliseconds a thread is suspended, or does not poll.
+/// For how many milliseconds a thread is suspended, or does not poll.
 pub const WAIT: u64 = 2000;
 
-/// How often a thread polls that waits to be suspended, before it gives up.
+/// How often a thread that waits to be suspended polls at most.
 pub const TURNS: u32 = u32::MAX;
 
-/// How many polls lie between two looks at who is done.
+/// How many polls there are between two looks at how many are done.
 const LOOK: u64 = 4096;
 
 /// Enters this many methods.
@@ -37,12 +37,12 @@ pub fn start<R: Wait>(rt: &R, fresh: Fresh, frames: u32) -> Option<Running> {
     Some(running)
 }
 
-/// Starts a thread that then blocks.
+/// Starts a thread that enters this many methods and then blocks.
 pub fn park<R: Wait>(rt: &R, fresh: Fresh, frames: u32) -> Option<AtSafe> {
     start(rt, fresh, frames)?.block(rt, Kind::ObjectWait).ok()
 }
 
-/// Enters and leaves a method, until it took this many steps.
+/// Enters and leaves a method, again and again, until it has taken this many steps.
 pub fn take_steps<R: Clock + CpuClock>(rt: &R, running: Running, steps: u32) -> Option<Spent> {
     let mut running = running;
     let began = Began::now(rt)?;
@@ -53,7 +53,7 @@ pub fn take_steps<R: Clock + CpuClock>(rt: &R, running: Running, steps: u32) -> 
     began.spent(rt, u64::from(steps))
 }
 
-/// Polls, again and again. Nobody asks, so that each poll is clear.
+/// Polls, again and again. Nobody asks, so each poll is clear.
 pub fn take_polls<R: Clock + CpuClock>(rt: &R, running: Running) -> Option<Spent> {
     let mut running = running;
     let began = Began::now(rt)?;
@@ -65,7 +65,7 @@ pub fn take_polls<R: Clock + CpuClock>(rt: &R, running: Running) -> Option<Spent
     began.spent(rt, u64::from(POLLS))
 }
 
-/// Makes a step and polls. Nobody asks, so that the poll is clear.
+/// Makes a step and polls. Nobody asks, so the poll is clear.
 fn step_and_poll(running: &mut Running, step: Step) -> Option<()> {
     running.step(step).ok()?;
     if running.poll_clear() { Some(()) } else { None }
@@ -82,15 +82,15 @@ pub fn work_beside<R: Clock + CpuClock>(rt: &R, running: Running) -> Option<Spen
     began.spent(rt, u64::from(STEPS))
 }
 
-/// Hands over and goes on. `None` if it is held.
+/// Hands over and returns. `None` if the thread is held.
 fn go_on<R: Wait>(rt: &R, running: Running) -> Option<Running> {
     match running.poll(rt) {
         Polled::Go(again) => Some(again),
-        Polled::Held(_) => None,
+        Polled::Stays(_) => None,
     }
 }
 
-/// Polls until this many others are done, or it was held.
+/// Polls until this many others are done. `None` if the thread was held.
 pub fn poll_until_done<R: Wait>(
     rt: &R,
     shared: &Shared,
@@ -109,7 +109,8 @@ pub fn poll_until_done<R: Wait>(
     None
 }
 
-/// Enters and leaves a method, again and again, and polls after each step, until this many others are done, or it was held.
+/// Enters and leaves a method, again and again, until this many others are done. It polls after each step. `None` if the
+/// thread was held.
 pub fn work_until_done<R: Wait>(
     rt: &R,
     shared: &Shared,
@@ -134,14 +135,14 @@ pub fn work_until_done<R: Wait>(
     None
 }
 
-/// Polls until it is held. `None` if nobody holds it; then it has ended.
+/// Polls until it is held. `None` if nobody holds it. Then it has ended.
 pub fn poll_until_held<R: Wait>(rt: &R, running: Running) -> Option<AtSafe> {
     let mut running = running;
     for _ in 0..TURNS {
         if !running.poll_clear() {
             match running.poll(rt) {
                 Polled::Go(again) => running = again,
-                Polled::Held(held) => return Some(held),
+                Polled::Stays(held) => return Some(held),
             }
         }
     }
@@ -149,7 +150,7 @@ pub fn poll_until_held<R: Wait>(rt: &R, running: Running) -> Option<AtSafe> {
     None
 }
 
-/// What a thread spends from where it is held until it may go on. Then it ends.
+/// Measures the time from when the thread is held until it may return. Then the thread ends.
 pub fn wait_suspended<R: Wait + Clock + CpuClock>(rt: &R, running: Running) -> Option<Spent> {
     let held = poll_until_held(rt, running)?;
     let began = Began::now(rt)?;
@@ -159,7 +160,7 @@ pub fn wait_suspended<R: Wait + Clock + CpuClock>(rt: &R, running: Running) -> O
     spent
 }
 
-/// Does not poll for a while, and then until this many others are done.
+/// Does not poll for a while. Then it polls until this many others are done.
 pub fn poll_late<R: Wait + Clock>(
     rt: &R,
     shared: &Shared,

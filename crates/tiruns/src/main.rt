@@ -1,35 +1,35 @@
-//! `tiruns WHAT ENVS`: measures running threads, and environments that ask at them, mostly in 32 rounds of new threads each.
+//! `tiruns WHAT ENVS`: measures running threads, and the environments that ask them.
 //!
-//! WHAT is what is measured:
+//! Most measurements have 32 rounds, each with new threads. WHAT is what is measured:
 //!
-//! - `steps`, `polls`: what a thread does that nobody asks.
-//! - `state`, `word`, `count`, `trace`: asked at a parked thread of 4 frames. `deep`, `newest`: a count and a trace of 32
-//!   frames, at a parked thread of 256. `all`: all stacks of four parked threads.
+//! - `steps`, `polls`: steps or polls of a thread that nobody asks.
+//! - `state`, `word`, `count`, `trace`: such a call at a parked thread of 4 frames. `deep`, `newest`: a count, or a trace of
+//!   32 frames, at a parked thread of 256 frames. `all`: all stacks of four parked threads.
 //! - `running`: a count at a thread that runs and polls.
 //! - `beside`: steps and polls of a thread that runs, while a thread beside it is asked for traces.
 //! - `suspended`: the wait of a thread that is suspended for two seconds. `unpolled`: the wait for a count at a thread that
 //!   does not poll for two seconds.
-//! - `resumed`: the time from a resumption to the suspended thread's next step (`resuming.rt`). What is written is the
-//!   median of 1,000, of the clock, and 0 for the processor.
+//! - `resumed`: the time from a resumption to the suspended thread's next step (`resuming.rt`). It writes the median of
+//!   1,000 times of the clock, and 0 for the processor.
 //! - `lasting`: 10^9 steps. `calls`: 10^8 states of a parked thread. `posts`: 3,600,000 traces of a thread that runs and
 //!   polls, posted 32 at a time and collected (`posting.rt`). `tenth`, `tenth_of_calls`, `tenth_of_posts`: a tenth of each.
-//!   These are of threads that may run as long as their process.
+//!   These threads may run as long as their process.
 //!
-//! The last three items are one round each. ENVS says how many environments ask at once: `0`, `1`, `2` or `4`. It means
-//! nothing if nobody asks, and if one environment alone does.
+//! The last three items have one round each. ENVS says how many environments ask at once: `0`, `1`, `2` or `4`. It means
+//! nothing if nobody asks, or if only one environment can.
 //!
-//! It writes a line to standard error: how often it was done by all, and how many nanoseconds all of them spent on it, of
-//! the processor and of the clock. The status is 0, or 1 if memory runs out or something was refused, and 2 for other
-//! arguments. `bench/running.py` makes a table of it.
+//! It writes a line to standard error: how often all together did it, and how many nanoseconds they spent on it. The first
+//! number of nanoseconds is of the processor, the second of the clock. The status is 0, or 1 if memory runs out or something
+//! was refused. It is 2 for other arguments. `bench/running.py` makes a table of these lines.
 //!
-//! It stands on `ti_agent`, and nothing stands on it.
+//! It depends on `ti_agent`, and nothing depends on it.
 #![tactic(auto)]
 
 mod activity;
-mod asking;
-mod measuring;
-mod posting;
-mod resuming;
+mod agents;
+mod measures;
+mod posts;
+mod resumes;
 mod spent;
 mod station;
 mod task;
@@ -45,7 +45,7 @@ use std::sync::Wait;
 use std::thread::Threads;
 use std::time::CpuClock;
 
-/// All rounds of a task. `None` if memory runs out or something was refused, here and below.
+/// Measures all rounds of a task. `None` if memory runs out or something was refused, here and below.
 fn rounds<R: Threads + Wait + Sync + Clock + CpuClock + AllocGlobal>(
     rt: &R,
     task: Task,
@@ -58,7 +58,7 @@ fn rounds<R: Threads + Wait + Sync + Clock + CpuClock + AllocGlobal>(
     Some(all)
 }
 
-/// What the two arguments ask for.
+/// The task and the number of environments that the two arguments ask for.
 fn asked<R: Env + AllocGlobal>(rt: &R) -> Option<(Task, Crowd)> {
     let mut words = env::args(rt).ok()?;
     let _program = words.next();

@@ -2,7 +2,7 @@
 use std::rt::Clock;
 use std::time::{CpuClock, Duration, Instant};
 
-/// What was done, and what time it took.
+/// How often something was done, and the time that it took.
 #[derive(Clone, Copy)]
 pub struct Spent {
     /// How often it was done.
@@ -13,7 +13,7 @@ pub struct Spent {
     pub wall: u64,
 }
 
-/// Nanoseconds, or the most that there is room for.
+/// The nanoseconds of a duration, or 2^64 - 1 if there are more.
 pub fn nanos(time: Duration) -> u64 {
     match u64::try_from(time.as_nanos()) {
         Ok(n) => n,
@@ -22,6 +22,7 @@ pub fn nanos(time: Duration) -> u64 {
 }
 
 impl Spent {
+    /// Nothing was done.
     pub fn nothing() -> Self {
         Spent {
             times: 0,
@@ -30,7 +31,7 @@ impl Spent {
         }
     }
 
-    /// Both together.
+    /// The sums of both.
     pub fn and(self, other: Spent) -> Self {
         Spent {
             times: self.times.saturating_add(other.times),
@@ -40,7 +41,7 @@ impl Spent {
     }
 }
 
-/// When something began.
+/// The time at which something began.
 #[derive(Clone, Copy)]
 pub struct Began {
     cpu: Duration,
@@ -48,14 +49,14 @@ pub struct Began {
 }
 
 impl Began {
-    /// Now, in the thread that asks. `None` if there is no clock, here and below.
+    /// The time now, of the calling thread's processor and of the clock. `None` if there is no clock, here and below.
     pub fn now<R: Clock + CpuClock>(rt: &R) -> Option<Self> {
         let cpu = rt.thread_cpu_time().ok()?;
         let wall = Instant::now(rt).ok()?;
         Some(Began { cpu, wall })
     }
 
-    /// What the same thread has spent since, by what it did so often.
+    /// The time that the same thread has spent since then, on what it did `times` times.
     pub fn spent<R: Clock + CpuClock>(&self, rt: &R, times: u64) -> Option<Spent> {
         let wall = self.wall.elapsed(rt).ok()?;
         let cpu = rt.thread_cpu_time().ok()?;

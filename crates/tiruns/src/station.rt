@@ -1,8 +1,4 @@
 //! A thread's new cell, and the seats at it.
-ghost use Rattle.std.specs.Prelude.{◌≡◌, [], IfSome};
-ghost use Rattle.ti_cell.specs.View.{subject_of};
-ghost use Rattle.ti_cell.specs.Seats.{env_seats};
-ghost use Rattle.tiruns.specs.Stations.{IsNewDesk};
 
 use std::alloc::Global;
 use std::marker::Model;
@@ -10,7 +6,7 @@ use ti_cell::EnvSeat;
 use ti_handshake::{Desk, Fresh, SharedCell};
 use ti_types::{EnvNo, Limits, ThreadNo};
 
-/// The seats of environments at one thread, from which nothing was done. Contracts see it as the thread and its limits.
+/// The seats of environments at one thread, by which nothing was done. Contracts see the thread and its limits.
 #[derive(Drop)]
 pub struct Station {
     cell: SharedCell,
@@ -33,7 +29,7 @@ impl Model for Station {
 }
 
 impl Station {
-    /// A thread at a new cell, and the seats of all environments there. `None` if memory runs out.
+    /// Makes a new cell, with a thread at it and the seats of all environments. `None` if memory runs out.
     pub fn make(alloc: Global, limits: Limits, thread: ThreadNo) -> Option<(Station, Fresh)>
         ensures about { IfSome result (λ m. m.0 ≡ subject_of limits thread) }
     {
@@ -55,7 +51,8 @@ impl Station {
         }
     }
 
-    /// The desk of one more environment, from the last to the first. `None` if all have theirs, or memory runs out.
+    /// The desk of one more environment, from the last environment to the first. `None` if all have theirs, or if memory
+    /// runs out.
     #[tactic(auto, using(crate::proofs::StationLaws::popped))]
     fn next_desk(&mut self) -> Option<Desk>
         ensures same { self.new ≡ self.old }
@@ -66,7 +63,7 @@ impl Station {
         Some(Desk::new(self.cell.share().ok()?, seat))
     }
 
-    /// The next desk, if it is this environment's.
+    /// The next desk. `None` if it is not this environment's.
     pub fn desk_of(&mut self, env: EnvNo) -> Option<Desk>
         ensures same { self.new ≡ self.old }
         ensures new { IfSome result (λ p. IsNewDesk self.old env p) }
@@ -75,3 +72,8 @@ impl Station {
         if desk.env() == env { Some(desk) } else { None }
     }
 }
+
+ghost use Rattle.std.specs.Prelude.{◌≡◌, [], IfSome};
+ghost use Rattle.ti_cell.specs.View.{subject_of};
+ghost use Rattle.ti_cell.specs.Seats.{env_seats};
+ghost use Rattle.tiruns.specs.Stations.{IsNewDesk};

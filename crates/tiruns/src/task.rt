@@ -1,12 +1,11 @@
 //! What is measured.
-ghost use Rattle.std.specs.Prelude.{◌≡◌, IfSome};
 
 use ti_types::Limits;
 
 /// What is measured.
 #[derive(Clone, Copy)]
 pub enum Task {
-    /// What one thread does that nobody asks.
+    /// What a thread does that nobody asks.
     Alone(Alone),
     /// What one environment does at one thread.
     Single(Single),
@@ -14,7 +13,7 @@ pub enum Task {
     Beside,
     /// Counts of a running thread's frames.
     Running,
-    /// What is asked of parked threads of this many frames.
+    /// Calls at parked threads of this many frames.
     Parked(Work, u32),
 }
 
@@ -22,7 +21,7 @@ pub enum Task {
 #[derive(Clone, Copy)]
 pub enum Alone {
     Steps,
-    /// So many steps of a thread that may run as long as its process.
+    /// This many steps of a thread that may run as long as its process.
     Lasting(u32),
     Polls,
 }
@@ -36,13 +35,13 @@ pub enum Single {
     Unpolled,
     /// The time from a resumption to the thread's next step.
     Resumed,
-    /// So many states of a parked thread that may run as long as its process.
+    /// This many states of a parked thread that may run as long as its process.
     Calls(u32),
-    /// So many batches of traces, posted at such a thread, which runs and polls, and collected.
+    /// This many batches of traces, posted at such a thread, which runs and polls, and collected.
     Posts(u32),
 }
 
-/// What an environment asks, again and again, of thread 0, or of all.
+/// What an environment asks, again and again, at thread 0 or at all threads.
 #[derive(Clone, Copy)]
 pub enum Work {
     State,
@@ -61,11 +60,11 @@ pub enum Crowd {
     Four,
 }
 
-/// How many traces are in a batch: as many calls are out at once.
+/// How many traces a batch has. As many calls are out at once.
 pub const BATCH: u32 = 32;
 
 impl Task {
-    /// The task of a word.
+    /// The task that a word names.
     pub fn of(word: &str) -> Option<Task> {
         match word {
             "steps" => Some(Task::Alone(Alone::Steps)),
@@ -81,7 +80,7 @@ impl Task {
         }
     }
 
-    /// The task of a word about parked threads.
+    /// The task about parked threads that a word names.
     fn parked(word: &str) -> Option<Task> {
         match word {
             "state" => Some(Task::Parked(Work::State, 4)),
@@ -105,7 +104,7 @@ impl Task {
         }
     }
 
-    /// In how many rounds it is measured.
+    /// How many rounds it has.
     pub fn rounds(self) -> u32 {
         match self {
             Task::Alone(Alone::Lasting(_)) | Task::Single(_) => 1,
@@ -113,7 +112,7 @@ impl Task {
         }
     }
 
-    /// Its limits.
+    /// The limits of its threads.
     pub fn limits(self) -> Option<Limits>
         ensures threads { IfSome result (λ l. l.threads ≡ 4) }
     {
@@ -126,7 +125,7 @@ impl Task {
 }
 
 impl Single {
-    /// The task of a word.
+    /// The task that a word names.
     fn of(word: &str) -> Option<Single> {
         match word {
             "suspended" => Some(Single::Suspended),
@@ -142,7 +141,7 @@ impl Single {
 }
 
 impl Crowd {
-    /// How many environments a word says.
+    /// How many environments a word means.
     pub fn of(word: &str) -> Option<Crowd> {
         match word {
             "0" => Some(Crowd::Nobody),
@@ -153,6 +152,7 @@ impl Crowd {
         }
     }
 
+    /// How many environments these are.
     pub fn size(self) -> u32 {
         match self {
             Crowd::Nobody => 0,
@@ -162,3 +162,5 @@ impl Crowd {
         }
     }
 }
+
+ghost use Rattle.std.specs.Prelude.{◌≡◌, IfSome};

@@ -1,9 +1,6 @@
-//! Threads, cells and environments for one measurement.
-ghost use Rattle.std.specs.Prelude.{◌≡◌};
-ghost use Rattle.ti_cell.specs.View.{subject_of};
-ghost use Rattle.tiruns.specs.Stations.{IsNewDesk};
+//! The threads, cells and environments of one measurement.
 
-use crate::measuring::{Envs, measure};
+use crate::measures::{Envs, measure};
 use crate::spent::Spent;
 use crate::station::Station;
 use crate::task::{Crowd, Task};
@@ -32,7 +29,7 @@ struct Stations {
     ghost third: { three ≡ subject_of limits (record { 0 = 3 }) },
 }
 
-/// The environment of four desks, at the four threads.
+/// The environment of these four desks, at the four threads.
 fn environment(
     alloc: Global,
     limits: Limits,
@@ -56,14 +53,14 @@ fn environment(
 }
 
 impl Stations {
-    /// One more environment, from the last to the first. `None` if memory runs out, or it is not the next.
+    /// Makes one more environment, from the last to the first. `None` if memory runs out, or if this one is not the next.
     fn environment(&mut self, alloc: Global, env: EnvNo) -> Option<Env> {
         let front = (self.zero.desk_of(env)?, self.one.desk_of(env)?);
         let back = (self.two.desk_of(env)?, self.three.desk_of(env)?);
         environment(alloc, self.limits, env, front, back)
     }
 
-    /// Four environments.
+    /// Makes the four environments.
     fn environments(self, alloc: Global) -> Option<Envs> {
         let mut stations = self;
         let fourth = stations.environment(alloc, EnvNo(3))?;
@@ -74,7 +71,7 @@ impl Stations {
     }
 }
 
-/// One round, at four new threads.
+/// Measures one round, at four new threads.
 pub fn round<R: Threads + Wait + Sync + Clock + CpuClock + AllocGlobal>(
     rt: &R,
     task: Task,
@@ -96,3 +93,7 @@ pub fn round<R: Threads + Wait + Sync + Clock + CpuClock + AllocGlobal>(
     let threads = ((thread_0, thread_1), (thread_2, thread_3));
     measure(rt, task, crowd, threads, stations.environments(alloc)?)
 }
+
+ghost use Rattle.std.specs.Prelude.{◌≡◌};
+ghost use Rattle.ti_cell.specs.View.{subject_of};
+ghost use Rattle.tiruns.specs.Stations.{IsNewDesk};

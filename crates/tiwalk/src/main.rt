@@ -1,15 +1,5 @@
-//! `tiwalk`: reads one document from standard input and writes what it comes to. All it does is `ti_driver`'s.
+//! `tiwalk`: reads one document from standard input, and writes its result. All the work is done by `ti_driver`.
 #![tactic(auto)]
-
-ghost use Rattle.std.specs.Prelude.{◌≡◌, ◌≢◌, ◌⊎◌, IfOk, IfErr, OnOk, Err};
-ghost use Rattle.ti_driver.specs.declared.command.Command.{Command};
-ghost use Rattle.ti_driver.specs.declared.fault.Fault.TheVariants.{Write as NotWritten};
-ghost use Rattle.ti_driver.specs.Commands.{IsUsageOrMemory};
-ghost use Rattle.ti_driver.specs.Doings.{IsDone, IsCutShort, IsFaultBefore};
-ghost use Rattle.std.specs.Process.{exit_status};
-ghost use Rattle.std.specs.Io.KnownBytes.{Appends, Keeps};
-ghost use Rattle.ti_driver.specs.Faults.{end_status, fault_line};
-ghost use Rattle.ti_driver.specs.Streams.{TakesFront};
 
 use std::io::{Read, Write};
 use std::process::ExitCode;
@@ -18,7 +8,7 @@ use std::sync::Wait;
 use std::thread::Threads;
 use ti_driver::{Fault, asked_command, carry_out, put_fault, status};
 
-/// The status that a run ends with: 0, 1 when a history is illegal, and that of a fault.
+/// The status with which a run ends: 0, 1 if a history is illegal, or that of the fault.
 fn code_of(ended: &Result<bool, Fault>) -> ExitCode
     ensures { exit_status result ≡ end_status ended.now }
 {
@@ -28,8 +18,8 @@ fn code_of(ended: &Result<bool, Fault>) -> ExitCode
     }
 }
 
-/// Says why a run came to nothing, if it did. `Write` when the writer fails or takes no byte; it then holds a prefix of the
-/// line.
+/// Writes the fault line, if the run ended with a fault. `Write` if the writer fails or takes no byte. It then has a prefix
+/// of the line.
 fn say<W: Write>(errors: &mut W, ended: &Result<bool, Fault>) -> Result<(), Fault>
     ensures quiet { IfOk ended.now (λ _. Keeps (W.contents errors.old) (W.contents errors.new)) }
     ensures said { OnOk result (IfErr ended.now (λ fault. Appends (W.contents errors.old) (W.contents errors.new) (fault_line fault))) }
@@ -42,7 +32,7 @@ fn say<W: Write>(errors: &mut W, ended: &Result<bool, Fault>) -> Result<(), Faul
     }
 }
 
-/// Does what the process was asked for, from the reader to the writer.
+/// Does what the arguments of the process ask for, from the reader to the writer.
 fn run<H: Env + Threads + Wait + Sync + AllocGlobal, R: Read, W: Write>(
     rt: &H,
     reader: &mut R,
@@ -59,7 +49,17 @@ fn run<H: Env + Threads + Wait + Sync + AllocGlobal, R: Read, W: Write>(
 
 fn main(rt: HostRuntime) -> ExitCode {
     let ended = run(&rt, &mut rt.stdin(), &mut rt.stdout());
-    // The status is the same when nothing can be said.
+    // The status is the same if the fault line cannot be written.
     let _ = say(&mut rt.stderr(), &ended);
     code_of(&ended)
 }
+
+ghost use Rattle.std.specs.Prelude.{◌≡◌, ◌≢◌, ◌⊎◌, IfOk, IfErr, OnOk, Err};
+ghost use Rattle.ti_driver.specs.declared.arguments.Command.{Command};
+ghost use Rattle.ti_driver.specs.declared.fault.Fault.TheVariants.{Write as NotWritten};
+ghost use Rattle.ti_driver.specs.Commands.{IsUsageOrMemory};
+ghost use Rattle.ti_driver.specs.Doings.{IsDone, IsCutShort, IsFaultBefore};
+ghost use Rattle.std.specs.Process.{exit_status};
+ghost use Rattle.std.specs.Io.KnownBytes.{Appends, Keeps};
+ghost use Rattle.ti_driver.specs.Faults.{end_status, fault_line};
+ghost use Rattle.ti_driver.specs.Streams.{TakesFront};

@@ -10,7 +10,7 @@ use Rattle.ti_types.specs.declared.answer.Answer.TheVariants as answer
 use Rattle.ti_types.specs.declared.error.TiError.{TiError}
 use Rattle.ti_types.specs.declared.place.Frame.{Frame}
 use Rattle.ti_types.specs.declared.entry.Entry.{Entry}
-use Rattle.ti_types.specs.declared.entry.Entry.TheVariants.{Start, Own, Hand, Back, End, Asked, Stop, Read, Go}
+use Rattle.ti_types.specs.declared.entry.Entry.TheVariants.{Start, Stepped, Hand, Back, End, Asked, Stop, Read, Go}
 use Rattle.ti_types.specs.declared.call.Call.{Call}
 use Rattle.ti_types.specs.declared.call.Call.TheVariants.{State, FrameCount, Trace, Location, Suspend, Resume, GetWord, SetWord, Pop}
 use Rattle.ti_types.specs.Frames.{bare_trace}
@@ -20,7 +20,7 @@ use Rattle.ti_replay.specs.Fronts.{frames_popped, popped_behind}
 use Rattle.ti_replay.specs.Suspensions.{is_resumption}
 use Rattle.ti_replay.proofs.CostLaws.{goes_on-append}
 use Rattle.ti_replay.proofs.TakeHoldLaws.{suspended_traces_agree}
-use Rattle.ti_handshake.specs.Desk.{Place}
+use Rattle.ti_handshake.specs.Desk.{DeskState}
 use Rattle.ti_agent.specs.Env.{Environment}
 use Rattle.ti_agent.specs.Asks.{Asks, Went, IsCalledBy}
 use Rattle.ti_vmop.proofs.Each.{set_here}
@@ -38,7 +38,7 @@ was_traced (Some e) old new thread c frames k = let bad : answer.Trace (bare_tra
 
 resumes_undo : (x : Entry) → is_undoing x ≡ false → is_resumption x ≡ false
 resumes_undo Start k = refl
-resumes_undo (Own step) k = refl
+resumes_undo (Stepped step) k = refl
 resumes_undo (Hand safe) k = refl
 resumes_undo Back k = refl
 resumes_undo End k = refl
@@ -67,7 +67,7 @@ none_resumes (x ∷ xs) k =
 -- no frame is popped if nobody asks for that
 pops_undo : (limits : Limits) (before : List Entry) (x : Entry) → is_undoing x ≡ false → frames_popped limits before x ≡ 0
 pops_undo limits before Start k = refl
-pops_undo limits before (Own step) k = refl
+pops_undo limits before (Stepped step) k = refl
 pops_undo limits before (Hand safe) k = refl
 pops_undo limits before Back k = refl
 pops_undo limits before End k = refl
@@ -107,7 +107,7 @@ same_frames : (f g : List Frame) → answer.Trace (bare_trace f) ≡ answer.Trac
 same_frames f g h = let e : bare_trace f ≡ bare_trace g = cc h in ap (λ t. t.frames) e
 
 -- the same by places of one desk: suspended, traced, and traced again
-pub traced_alike : (p q r s : Place) (max_count : ℤ) (f g : List Frame)
+pub traced_alike : (p q r s : DeskState) (max_count : ℤ) (f g : List Frame)
     → Asks p q Suspend answer.Done → Asks q r (Trace (pos 0) max_count) (answer.Trace (bare_trace f)) → Asks r s (Trace (pos 0) max_count) (answer.Trace (bare_trace g))
     → IsLeftAlone p s → f ≡ g
 traced_alike p q r s max_count f g one two three alone =
@@ -153,13 +153,13 @@ traced_alike p q r s max_count f g one two three alone =
 
 pub trace_twice : (s t u v : Environment) (thread : ThreadNo) (max_count : ℤ) (f g : List Frame)
     → Went s t thread Suspend answer.Done → Went t u thread (Trace (pos 0) max_count) (answer.Trace (bare_trace f)) → Went u v thread (Trace (pos 0) max_count) (answer.Trace (bare_trace g))
-    → (p q : Place) → slice_get s.desks thread.0 ≡ Some p → slice_get v.desks thread.0 ≡ Some q → IsLeftAlone p q → f ≡ g
+    → (p q : DeskState) → slice_get s.desks thread.0 ≡ Some p → slice_get v.desks thread.0 ≡ Some q → IsLeftAlone p q → f ≡ g
 trace_twice s t u v thread max_count f g one two three p q at_p at_q alone =
     let first : one.before ≡ p = let e : Some one.before ≡ Some p = sym one.there ∙ at_p in cc in
     let last : three.after ≡ q = set_here u.desks thread.0 three.after q (ap (λ (x : Environment). slice_get x.desks thread.0) (sym three.new_is) ∙ at_q) in
     let b = set_here s.desks thread.0 one.after two.before (ap (λ (x : Environment). slice_get x.desks thread.0) (sym one.new_is) ∙ two.there) in
     let c = set_here t.desks thread.0 two.after three.before (ap (λ (x : Environment). slice_get x.desks thread.0) (sym two.new_is) ∙ three.there) in
     traced_alike one.before one.after two.after three.after max_count f g one.asks
-    (subst (λ (x : Place). Asks x two.after (Trace (pos 0) max_count) (answer.Trace (bare_trace f))) (sym b) two.asks)
-    (subst (λ (x : Place). Asks x three.after (Trace (pos 0) max_count) (answer.Trace (bare_trace g))) (sym c) three.asks)
-    (subst (λ (x : Place × Place). IsLeftAlone x.0 x.1) (λ i. (sym first i, sym last i)) alone)
+    (subst (λ (x : DeskState). Asks x two.after (Trace (pos 0) max_count) (answer.Trace (bare_trace f))) (sym b) two.asks)
+    (subst (λ (x : DeskState). Asks x three.after (Trace (pos 0) max_count) (answer.Trace (bare_trace g))) (sym c) three.asks)
+    (subst (λ (x : DeskState × DeskState). IsLeftAlone x.0 x.1) (λ i. (sym first i, sym last i)) alone)

@@ -1,16 +1,13 @@
-//! `watch`: a thread that computes, and an environment that suspends it, reads it, and lets it go.
+//! `watch`: a thread that computes, and an environment that suspends it, reads it, and resumes it.
 //!
-//! The thread adds up numbers in method 1 of method 0, and polls at each turn. The environment, on a thread of its own,
-//! suspends it, writes its state and its methods, the newest first, and resumes it; then the thread computes on until it
-//! is told to end. The status is 0, or 1 where memory runs out, something was refused, or the lines cannot be written.
+//! The thread adds up numbers in method 1, called by method 0, and polls at each turn. The environment has a thread of its
+//! own. It suspends the first thread, writes its state and its methods, the newest first, and resumes it. Then the first
+//! thread computes on until it has to end.
+//!
+//! The status is 0, or 1 if memory runs out, something was refused, or the lines cannot be written.
 #![tactic(auto)]
 
 mod traces;
-
-ghost use Rattle.std.specs.Prelude.{◌≡◌, IfSome};
-ghost use Rattle.ti_cell.specs.View.{subject_of};
-ghost use Rattle.ti_cell.specs.Seats.{env_seats};
-ghost use Rattle.watch.specs.Seats.{IsNewSeat};
 
 use crate::traces::trace_twice;
 use std::alloc::Global;
@@ -26,8 +23,8 @@ use ti_types::{Caps, EnvNo, Limits, MethodNo, Step, ThreadNo};
 
 const THREAD: ThreadNo = ThreadNo(0);
 
-/// Computes until it is told to end, and polls at each turn: one load where nobody calls for the thread. Where it is held,
-/// it waits until it may go on.
+/// Computes until `over` is set, and polls at each turn. A poll is one load if nobody calls for the thread. If the thread is
+/// held, it waits until it may return.
 fn compute<R: Wait>(rt: &R, over: &AtomicBool, running: Running) -> u64 {
     let mut running = running;
     let mut sum: u64 = 0;
@@ -44,15 +41,15 @@ fn compute<R: Wait>(rt: &R, over: &AtomicBool, running: Running) -> u64 {
     sum
 }
 
-/// Hands the frames over, so that calls which wait take place, and comes back once the thread may run.
+/// Hands the frames over, so that the calls which wait take place. It returns when the thread may run.
 fn hand_over<R: Wait>(rt: &R, running: Running) -> Running {
     match running.poll(rt) {
         Polled::Go(running) => running,
-        Polled::Held(held) => held.back(rt),
+        Polled::Stays(held) => held.back(rt),
     }
 }
 
-/// The environment of a seat.
+/// The environment of a seat. `None` if memory runs out.
 fn environment(alloc: Global, limits: Limits, cell: &SharedCell, seat: EnvSeat) -> Option<Env>
     requires threads { limits.threads ≡ 1 }
     requires envs { limits.envs ≡ 1 }
@@ -64,8 +61,7 @@ fn environment(alloc: Global, limits: Limits, cell: &SharedCell, seat: EnvSeat) 
     Some(Env::new(EnvNo(0), state, desks))
 }
 
-/// Suspends the thread, writes what is to be seen of it, and lets it go. That the thread is suspended comes at its next
-/// poll, for which the call waits.
+/// Suspends the thread, writes its state and its methods, and resumes it. The suspension waits for the thread's next poll.
 fn inspect<R: Wait + Print + AllocGlobal>(rt: &R, env: Env) -> Option<()> {
     let mut env = env;
     env.add_capabilities(Caps::CAN_SUSPEND).ok()?;
@@ -78,7 +74,7 @@ fn inspect<R: Wait + Print + AllocGlobal>(rt: &R, env: Env) -> Option<()> {
     println!(rt; "state {:#x}", env.get_thread_state(rt, THREAD).ok()?).ok()
 }
 
-/// The same, and then tells the thread to end.
+/// Inspects the thread, and then sets `over`, so that the thread ends.
 fn watch<R: Wait + Print + AllocGlobal>(rt: &R, over: &AtomicBool, env: Env) -> Option<()> {
     let done = inspect(rt, env);
     over.store(true, Ordering::SeqCst);
@@ -96,7 +92,7 @@ fn only(cell: &SharedCell, limits: Limits, seats: Vec<EnvSeat>) -> Option<EnvSea
     seats.pop()
 }
 
-/// A thread and its environment, each on a thread of its own.
+/// Runs a thread and its environment, each in a thread of its own.
 fn run<R: Threads + Wait + Sync + Print + AllocGlobal>(rt: &R) -> Option<()> {
     let limits = Limits::new(1, 1, 4, 16, 1024)?;
     let (cell, own, seats) = SharedCell::make(rt.alloc(), limits, THREAD).ok()?;
@@ -121,3 +117,8 @@ fn main(rt: HostRuntime) -> ExitCode {
         None => ExitCode::from(1),
     }
 }
+
+ghost use Rattle.std.specs.Prelude.{◌≡◌, IfSome};
+ghost use Rattle.ti_cell.specs.View.{subject_of};
+ghost use Rattle.ti_cell.specs.Seats.{env_seats};
+ghost use Rattle.watch.specs.Seats.{IsNewSeat};

@@ -1,7 +1,4 @@
 //! Two traces under one suspension.
-ghost use Rattle.std.specs.Prelude.{◌≡◌, Some, IfOk, slice_get};
-ghost use Rattle.ti_handshake.specs.Desk.{Place};
-ghost use Rattle.watch.specs.Traces.{IsLeftAlone};
 
 use std::alloc::Global;
 use std::sync::Wait;
@@ -9,8 +6,9 @@ use ti_agent::Env;
 use ti_types::{ThreadNo, TiError, TraceBuf};
 
 /// Suspends a thread, and takes two traces of its newest frames. They are equal, unless another environment resumes the
-/// thread or pops a frame behind the suspension. It waits until the thread has polled, and fails as these calls of `Env`
-/// do.
+/// thread or pops a frame after the suspension.
+///
+/// It waits until the thread has polled. Its errors are those of `Env::suspend_thread` and `Env::get_stack_trace`.
 pub fn trace_twice<R: Wait>(
     rt: &R,
     alloc: Global,
@@ -18,10 +16,14 @@ pub fn trace_twice<R: Wait>(
     thread: ThreadNo,
     max_count: i32,
 ) -> Result<(TraceBuf, TraceBuf), TiError>
-    ensures same { IfOk result (λ two. (p q : Place) → slice_get env.old.desks thread.0 ≡ Some p → slice_get env.new.desks thread.0 ≡ Some q → IsLeftAlone p q → two.0.frames ≡ two.1.frames) }
+    ensures same { IfOk result (λ two. (p q : DeskState) → slice_get env.old.desks thread.0 ≡ Some p → slice_get env.new.desks thread.0 ≡ Some q → IsLeftAlone p q → two.0.frames ≡ two.1.frames) }
 {
     env.suspend_thread(rt, thread)?;
     let first = env.get_stack_trace(rt, alloc, thread, 0, max_count)?;
     let second = env.get_stack_trace(rt, alloc, thread, 0, max_count)?;
     Ok((first, second))
 }
+
+ghost use Rattle.std.specs.Prelude.{◌≡◌, Some, IfOk, slice_get};
+ghost use Rattle.ti_handshake.specs.Desk.{DeskState};
+ghost use Rattle.watch.specs.Traces.{IsLeftAlone};

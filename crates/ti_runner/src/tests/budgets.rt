@@ -9,8 +9,8 @@ const A: ThreadNo = ThreadNo(0);
 
 const E: EnvNo = EnvNo(0);
 
-/// With one call to pay for, a trace of all threads is refused before any stop, and costs nothing: the call for the state
-/// after it is paid, and the next is not.
+/// With one call left, a trace of all threads is refused before any stop, and costs nothing. So the call for the state after
+/// it is still paid for, and the next one is not.
 #[test]
 fn a_trace_that_cannot_be_paid_for_costs_nothing(rt: HostRuntime) -> Result<(), Fail> {
     let alloc = rt.alloc();

@@ -2,7 +2,7 @@
 use ti_live::{Listed, LiveReport, Refusal, Reply};
 use ti_types::{Answer, Entry, Frame, StackInfo, ThreadNo, TiError};
 
-/// What is told of one thread.
+/// The stack that is reported of one thread.
 #[derive(Clone, Copy)]
 pub(crate) struct Stack<'a> {
     pub(crate) thread: ThreadNo,
@@ -10,7 +10,7 @@ pub(crate) struct Stack<'a> {
     pub(crate) frames: &'a [Frame],
 }
 
-/// What an agent is told.
+/// A reply to an agent's call.
 #[derive(Clone, Copy)]
 pub(crate) enum Told<'a> {
     Done,
@@ -23,8 +23,8 @@ pub(crate) enum Told<'a> {
     Refused(TiError),
 }
 
-/// A report as a whole: for each agent what it is told, for each thread its refused operations and its history, and whether
-/// the gate ended a list.
+/// A whole report. It has the replies to each agent, and the refused operations and the history of each thread. It also says
+/// whether the gate ended a list.
 #[derive(Clone, Copy)]
 pub(crate) struct Expected<'a> {
     pub(crate) replies: &'a [&'a [Told<'a>]],
@@ -33,12 +33,12 @@ pub(crate) struct Expected<'a> {
     pub(crate) spent: bool,
 }
 
-/// Whether there is the same of one thread.
+/// Whether this is the stack that is expected.
 fn is_stack(info: &StackInfo, stack: &Stack<'_>) -> bool {
     info.thread == stack.thread && info.state == stack.state && info.frames.frames() == stack.frames
 }
 
-/// Whether there are the same stacks, in the same order.
+/// Whether these are the stacks that are expected, in the same order.
 fn are_stacks(infos: &[StackInfo], stacks: &[Stack<'_>]) -> bool {
     if infos.len() != stacks.len() {
         return false;
@@ -51,7 +51,7 @@ fn are_stacks(infos: &[StackInfo], stacks: &[Stack<'_>]) -> bool {
     true
 }
 
-/// Whether a reply tells this.
+/// Whether this is the reply that is expected.
 fn tells(reply: &Reply, told: &Told<'_>) -> bool {
     match (reply, told) {
         (Reply::Plain(Answer::Done), Told::Done) => true,
@@ -66,7 +66,7 @@ fn tells(reply: &Reply, told: &Told<'_>) -> bool {
     }
 }
 
-/// Whether the replies tell this, one after another.
+/// Whether these are the replies that are expected, in the same order.
 pub(crate) fn tell(replies: &Listed<Reply>, told: &[Told<'_>]) -> bool {
     if replies.as_slice().len() != told.len() {
         return false;
@@ -79,7 +79,7 @@ pub(crate) fn tell(replies: &Listed<Reply>, told: &[Told<'_>]) -> bool {
     true
 }
 
-/// Whether each agent is told this.
+/// Whether each agent got the replies that are expected.
 fn are_told(replies: &Listed<Listed<Reply>>, told: &[&[Told<'_>]]) -> bool {
     if replies.as_slice().len() != told.len() {
         return false;

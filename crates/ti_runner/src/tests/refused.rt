@@ -12,22 +12,23 @@ const E: EnvNo = EnvNo(0);
 
 const ENTER: Step = Step::Enter(MethodNo(0));
 
-/// Operations that do not fit are noted with their errors, and leave no entry: a step of a new thread; a start and a return of
-/// one that runs, a step to leave a frame that is not there, and one into native code without a native frame; a step, a poll
-/// and an end of one that is blocked. A thread that is safe at the end of its walk stays so.
+/// Operations that do not fit are noted with their errors, and leave no entry. A new thread refuses a step. One that runs
+/// refuses a start and a return. It also refuses to leave a frame that is not there, and to enter native code without a
+/// native frame. One that is blocked refuses a step, a poll and an end. A thread that is safe at the end of its walk stays
+/// so.
 #[test]
 fn operations_that_do_not_fit_are_noted_and_leave_no_entry(rt: HostRuntime) -> Result<(), Fail> {
     let alloc = rt.alloc();
     let walk = vec![in alloc;
-        Event::Own(A, ENTER),
+        Event::Stepped(A, ENTER),
         Event::Start(A),
         Event::Start(A),
         Event::Back(A),
-        Event::Own(A, Step::Leave),
+        Event::Stepped(A, Step::Leave),
         Event::ToNative(A),
-        Event::Own(A, ENTER),
+        Event::Stepped(A, ENTER),
         Event::ToBlocked(A, Kind::TimedPark),
-        Event::Own(A, ENTER),
+        Event::Stepped(A, ENTER),
         Event::Poll(A),
         Event::End(A),
     ]?;
@@ -72,7 +73,7 @@ fn operations_that_do_not_fit_are_noted_and_leave_no_entry(rt: HostRuntime) -> R
         ]],
         histories: &[&[
             Entry::Start,
-            Entry::Own(ENTER),
+            Entry::Stepped(ENTER),
             Entry::Hand(Safe::Blocked(Kind::TimedPark)),
         ]],
         spent: false,
@@ -81,23 +82,23 @@ fn operations_that_do_not_fit_are_noted_and_leave_no_entry(rt: HostRuntime) -> R
     Ok(())
 }
 
-/// A thread has room for four frames and may pay for six steps: the fifth frame is refused, costs nothing, and so is what it
-/// cannot pay for. To hand over costs two.
+/// A thread has room for four frames and may pay for six steps. The fifth frame is refused and costs nothing. So is each
+/// step that the thread cannot pay for. A hand-over costs two.
 #[test]
 fn operations_past_the_limits_are_noted_and_cost_nothing(rt: HostRuntime) -> Result<(), Fail> {
     let alloc = rt.alloc();
     let walk = vec![in alloc;
         Event::Start(A),
-        Event::Own(A, ENTER),
-        Event::Own(A, ENTER),
-        Event::Own(A, ENTER),
-        Event::Own(A, ENTER),
-        Event::Own(A, ENTER),
-        Event::Own(A, Step::At(7)),
+        Event::Stepped(A, ENTER),
+        Event::Stepped(A, ENTER),
+        Event::Stepped(A, ENTER),
+        Event::Stepped(A, ENTER),
+        Event::Stepped(A, ENTER),
+        Event::Stepped(A, Step::At(7)),
         Event::ToBlocked(A, Kind::Sleep),
-        Event::Own(A, Step::Leave),
-        Event::Own(A, Step::Leave),
-        Event::Own(A, ENTER),
+        Event::Stepped(A, Step::Leave),
+        Event::Stepped(A, Step::Leave),
+        Event::Stepped(A, ENTER),
     ]?;
     let walks = vec![in alloc; walk]?;
     let calls = vec![in alloc; Vec::new(alloc)]?;
@@ -124,12 +125,12 @@ fn operations_past_the_limits_are_noted_and_cost_nothing(rt: HostRuntime) -> Res
         ]],
         histories: &[&[
             Entry::Start,
-            Entry::Own(ENTER),
-            Entry::Own(ENTER),
-            Entry::Own(ENTER),
-            Entry::Own(ENTER),
-            Entry::Own(Step::At(7)),
-            Entry::Own(Step::Leave),
+            Entry::Stepped(ENTER),
+            Entry::Stepped(ENTER),
+            Entry::Stepped(ENTER),
+            Entry::Stepped(ENTER),
+            Entry::Stepped(Step::At(7)),
+            Entry::Stepped(Step::Leave),
             Entry::End,
         ]],
         spent: false,
@@ -138,11 +139,15 @@ fn operations_past_the_limits_are_noted_and_cost_nothing(rt: HostRuntime) -> Res
     Ok(())
 }
 
-/// A gate that waits in vain ends the list: what was done until then is reported, the thread ends, and the report says so.
+/// A gate that waits in vain ends the list. What was done until then is reported, the thread ends, and the report says so.
 #[test]
 fn lists_that_a_gate_ends_are_reported_so_far(rt: HostRuntime) -> Result<(), Fail> {
     let alloc = rt.alloc();
-    let walk = vec![in alloc; Event::Start(A), Event::Own(A, ENTER), Event::Own(A, ENTER)]?;
+    let walk = vec![in alloc;
+        Event::Start(A),
+        Event::Stepped(A, ENTER),
+        Event::Stepped(A, ENTER),
+    ]?;
     let walks = vec![in alloc; walk]?;
     let list = vec![in alloc;
         AgentCall::Ask(A, Call::State),
@@ -160,7 +165,7 @@ fn lists_that_a_gate_ends_are_reported_so_far(rt: HostRuntime) -> Result<(), Fai
         refused: &[&[]],
         histories: &[&[
             Entry::Start,
-            Entry::Own(ENTER),
+            Entry::Stepped(ENTER),
             Entry::End,
             Entry::Asked(E, 0, Call::State),
         ]],

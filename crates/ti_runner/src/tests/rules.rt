@@ -1,4 +1,4 @@
-//! A gate by rules: at one moment of a run it waits until another came.
+//! A gate by rules: at one moment of a run, it waits until another moment has come.
 use crate::gate::Gate;
 use std::alloc::Global;
 use std::sync::atomic::{AtomicBool, Ordering};
@@ -6,24 +6,24 @@ use std::test::*;
 use std::thread;
 use ti_types::{EnvNo, ThreadNo};
 
-/// How many turns a wait takes at most. A gate that waited in vain ends the list, so that no test waits for ever.
+/// How many turns a wait takes at most. A gate that waited in vain ends the list, so no test waits for ever.
 const TURNS: u32 = 50_000_000;
 
-/// How many turns a wait takes for what does not come.
+/// How many turns a wait takes for a moment that never comes.
 const FEW: u32 = 1_000;
 
-/// A moment of a run, as a gate learns of it.
+/// A moment of a run at which the gate is called.
 #[derive(Clone, Copy, PartialEq, Eq)]
 pub(crate) enum Moment {
     BeforeOp(ThreadNo, u32),
     BeforeCall(EnvNo, u32),
     Answered(EnvNo, u32),
     Walked(ThreadNo),
-    /// Does not come.
+    /// A moment that never comes.
     Never,
 }
 
-/// Who comes to the moment `at` waits there until `awaited` came.
+/// Whoever reaches the moment `at` waits there until `awaited` has come.
 #[derive(Drop)]
 struct Rule {
     at: Moment,
@@ -32,7 +32,7 @@ struct Rule {
 }
 
 impl Rule {
-    /// Whether the awaited moment came before the turns were spent.
+    /// Whether the awaited moment came before the turns were used up.
     fn wait(&self) -> bool {
         let turns = if self.awaited == Moment::Never {
             FEW
@@ -49,14 +49,14 @@ impl Rule {
     }
 }
 
-/// Rules, which are gone through in their order.
+/// A list of rules, tried in their order.
 #[derive(Drop)]
 pub(crate) struct Rules {
     rules: Vec<Rule>,
 }
 
 impl Rules {
-    /// A rule for each pair: where one waits, and for what.
+    /// A rule for each pair: the moment at which one waits, and the moment for which it waits.
     pub(crate) fn new(alloc: Global, pairs: &[(Moment, Moment)]) -> Result<Self, Fail> {
         let mut rules = Vec::new(alloc);
         for (at, awaited) in pairs {
@@ -69,7 +69,7 @@ impl Rules {
         Ok(Rules { rules })
     }
 
-    /// The moment has come.
+    /// Notes that this moment has come.
     fn tell(&self, moment: Moment) {
         for rule in &self.rules {
             if rule.awaited == moment {
@@ -78,7 +78,7 @@ impl Rules {
         }
     }
 
-    /// The moment has come, and all that is awaited there: whether it came.
+    /// Notes that this moment has come, and waits for all that is awaited there. `false` if one of them did not come.
     fn pass(&self, moment: Moment) -> bool {
         self.tell(moment);
         for rule in &self.rules {

@@ -1,5 +1,5 @@
-//! Scripts and runs of them.
-use crate::running::run_live;
+//! Makes scripts and runs them.
+use crate::live_run::run_live;
 use crate::tests::rules::{Moment, Rules};
 use std::alloc::Global;
 use std::sync::Wait;
@@ -8,7 +8,7 @@ use std::thread::Threads;
 use ti_live::{AgentCall, Listed, LiveReport, Script};
 use ti_types::{Event, Limits};
 
-/// The lists, each as it is.
+/// The same lists, as `Listed`.
 fn listed<T: Drop>(alloc: Global, lists: Vec<Vec<T>>) -> Result<Listed<Listed<T>>, Fail> {
     let mut all = Listed::new(alloc);
     for list in lists {
@@ -17,8 +17,8 @@ fn listed<T: Drop>(alloc: Global, lists: Vec<Vec<T>>) -> Result<Listed<Listed<T>
     Ok(all)
 }
 
-/// The report of a run in which each thread goes through its walk and each agent through its calls, and who comes to the
-/// first moment of a pair waits there for the second. This many own entries and calls are paid for, and four frames.
+/// Runs a script of these walks and calls, and gives the report. Whoever reaches the first moment of a pair waits there for
+/// the second. Limits are four frames, `own` for each thread, and `calls_each` for each agent at each thread.
 pub(crate) fn run<R: Threads + Wait + Sync + AllocGlobal>(
     rt: &R,
     own: u32,

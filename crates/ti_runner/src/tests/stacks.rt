@@ -1,4 +1,4 @@
-//! Stacks of threads that stand or do not run, and lists of suspensions.
+//! Stacks of threads that are stopped or do not run, and lists of suspensions.
 use crate::tests::expected::{Expected, Stack, Told, is};
 use crate::tests::rules::Moment;
 use crate::tests::scripts::run;
@@ -25,7 +25,7 @@ const FRAME: Frame = Frame {
     place: Place::Java(0),
 };
 
-/// The first thread waits, in its frame.
+/// The first thread waits for an object, in its frame.
 const WAITS: Stack<'static> = Stack {
     thread: A,
     state: 0x191,
@@ -48,7 +48,7 @@ fn new(thread: ThreadNo) -> Stack<'static> {
     }
 }
 
-/// New threads cannot be suspended or resumed; a list of them is told of, and all of those that are alive are none. A call
+/// New threads cannot be suspended or resumed. A trace of a list reports them, and a trace of all threads does not. A call
 /// that is refused as a whole leaves no entry.
 #[test]
 fn new_threads_are_listed_but_are_not_among_all_that_are_alive(
@@ -104,14 +104,14 @@ fn new_threads_are_listed_but_are_not_among_all_that_are_alive(
     Ok(())
 }
 
-/// One thread waits and one has ended, when their stacks are asked for: all that are alive are the first, and a list is told
-/// of both, and of the one that it names twice, twice.
+/// One thread waits and one has ended when their stacks are asked for. A trace of all threads reports the first alone. A
+/// trace of a list reports both, and twice the one that it names twice.
 #[test]
 fn a_thread_that_waits_is_traced_beside_one_that_has_ended(rt: HostRuntime) -> Result<(), Fail> {
     let alloc = rt.alloc();
     let first = vec![in alloc;
         Event::Start(A),
-        Event::Own(A, ENTER),
+        Event::Stepped(A, ENTER),
         Event::ToBlocked(A, Kind::ObjectWait),
     ]?;
     let second = vec![in alloc;
@@ -144,7 +144,7 @@ fn a_thread_that_waits_is_traced_beside_one_that_has_ended(rt: HostRuntime) -> R
         histories: &[
             &[
                 Entry::Start,
-                Entry::Own(ENTER),
+                Entry::Stepped(ENTER),
                 Entry::Hand(Safe::Blocked(Kind::ObjectWait)),
                 Entry::Stop(E),
                 Entry::Read(E, 4),

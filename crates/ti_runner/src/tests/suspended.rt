@@ -12,14 +12,14 @@ const E: EnvNo = EnvNo(0);
 
 const F: EnvNo = EnvNo(1);
 
-/// The thread sleeps and is suspended: the bits of both.
+/// The thread sleeps and is suspended: the state has the bits of both.
 const ASLEEP: Stack<'static> = Stack {
     thread: A,
     state: 0x10_00e1,
     frames: &[],
 };
 
-/// The history in which the first and the second trace, each of its agent and this many frames, come in this order.
+/// The history in which the two traces come in this order. Each trace is given by its agent and its number of frames.
 fn history(first: (EnvNo, i32), second: (EnvNo, i32)) -> [Entry; 10] {
     [
         Entry::Start,
@@ -35,8 +35,8 @@ fn history(first: (EnvNo, i32), second: (EnvNo, i32)) -> [Entry; 10] {
     ]
 }
 
-/// A thread that sleeps is suspended. The agent that suspended it and another trace it, in either order; neither keeps the
-/// other from it, and it is resumed once both were told.
+/// A thread that sleeps is suspended. The agent that suspended it and another one trace it, in either order. Neither keeps
+/// the other from it. The thread is resumed after both traces.
 #[test]
 fn a_suspended_thread_is_traced_by_two_agents_and_resumed(rt: HostRuntime) -> Result<(), Fail> {
     let alloc = rt.alloc();

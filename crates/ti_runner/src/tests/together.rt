@@ -1,4 +1,4 @@
-//! Many agents at many threads that run.
+//! Many agents call many threads that run.
 use crate::tests::expected::{Told, tell};
 use crate::tests::rules::Moment;
 use crate::tests::scripts::run;
@@ -28,7 +28,7 @@ fn walks(alloc: Global) -> Result<Vec<Vec<Event>>, Fail> {
     Ok(walks)
 }
 
-/// Each agent sets its number at each thread, and reads it.
+/// Each agent sets its number at each thread, and reads it back.
 fn calls(alloc: Global) -> Result<Vec<Vec<AgentCall>>, Fail> {
     let mut calls = Vec::new(alloc);
     for agent in 0..AGENTS {
@@ -43,7 +43,7 @@ fn calls(alloc: Global) -> Result<Vec<Vec<AgentCall>>, Fail> {
     Ok(calls)
 }
 
-/// No agent asks before all threads run, and no thread polls for the last time before all agents were told all.
+/// No agent asks before all threads run. No thread polls for the last time before all agents have all their replies.
 fn pairs(alloc: Global) -> Result<Vec<(Moment, Moment)>, Fail> {
     let mut pairs = Vec::new(alloc);
     for number in 0..THREADS {
@@ -60,7 +60,7 @@ fn pairs(alloc: Global) -> Result<Vec<(Moment, Moment)>, Fail> {
     Ok(pairs)
 }
 
-/// The entries that an environment has in a history.
+/// The entries of an environment in a history.
 fn entries_of(alloc: Global, history: &[Entry], env: EnvNo) -> Result<Vec<Entry>, Fail> {
     let mut entries = Vec::new(alloc);
     for entry in history {
@@ -73,8 +73,8 @@ fn entries_of(alloc: Global, history: &[Entry], env: EnvNo) -> Result<Vec<Entry>
     Ok(entries)
 }
 
-/// Whether the thread started, was asked by each agent for what it asks for, and ended, and has no other entry: no poll found
-/// that anybody called for it.
+/// Whether the thread started, was asked what each agent asks, and ended, and has no other entry. No poll found that anybody
+/// called for it.
 fn is_history(alloc: Global, history: &[Entry]) -> Result<bool, Fail> {
     if history.len() != 2 + 2 * AGENTS as usize {
         return Ok(false);
@@ -96,7 +96,7 @@ fn is_history(alloc: Global, history: &[Entry]) -> Result<bool, Fail> {
     Ok(true)
 }
 
-/// Eight agents have a word each at each of four threads that poll meanwhile: each reads its own.
+/// Each of eight agents has a word at each of four threads, which poll meanwhile. Each agent reads its own word.
 #[test]
 fn many_agents_have_words_of_their_own_at_threads_that_poll(rt: HostRuntime) -> Result<(), Fail> {
     let alloc = rt.alloc();

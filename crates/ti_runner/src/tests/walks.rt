@@ -1,4 +1,4 @@
-//! Threads that walk while an agent asks at them.
+//! Threads that walk while an agent makes its calls.
 use crate::tests::expected::{Expected, Told, is};
 use crate::tests::rules::Moment;
 use crate::tests::scripts::run;
@@ -14,13 +14,14 @@ const E: EnvNo = EnvNo(0);
 
 const ENTER: Step = Step::Enter(MethodNo(0));
 
-/// A thread stays between two operations until the agent was told of another, which is parked: the lists go on side by side.
+/// A thread stays between two operations until the agent has an answer of another thread, which is parked. So the lists go
+/// on side by side.
 #[test]
 fn an_agent_is_answered_while_a_thread_is_in_the_middle_of_its_walk(
     rt: HostRuntime,
 ) -> Result<(), Fail> {
     let alloc = rt.alloc();
-    let first = vec![in alloc; Event::Start(A), Event::Own(A, ENTER)]?;
+    let first = vec![in alloc; Event::Start(A), Event::Stepped(A, ENTER)]?;
     let second = vec![in alloc; Event::Start(B), Event::ToBlocked(B, Kind::Park)]?;
     let walks = vec![in alloc; first, second]?;
     let list = vec![in alloc; AgentCall::Ask(B, Call::FrameCount)]?;
@@ -37,7 +38,7 @@ fn an_agent_is_answered_while_a_thread_is_in_the_middle_of_its_walk(
         replies: &[&[Told::Count(0)]],
         refused: &[&[], &[]],
         histories: &[
-            &[Entry::Start, Entry::Own(ENTER), Entry::End],
+            &[Entry::Start, Entry::Stepped(ENTER), Entry::End],
             &[
                 Entry::Start,
                 Entry::Hand(Safe::Blocked(Kind::Park)),
@@ -50,14 +51,14 @@ fn an_agent_is_answered_while_a_thread_is_in_the_middle_of_its_walk(
     Ok(())
 }
 
-/// A word that is set at a running thread is read back at once. The poll after it is clear, and the thread's step comes into
-/// the history when it ends.
+/// A word that is set at a running thread is read back at once. The poll after it is clear. The thread's step enters the
+/// history when the thread ends.
 #[test]
 fn a_word_is_read_back_at_a_thread_that_runs(rt: HostRuntime) -> Result<(), Fail> {
     let alloc = rt.alloc();
     let walk = vec![in alloc;
         Event::Start(A),
-        Event::Own(A, ENTER),
+        Event::Stepped(A, ENTER),
         Event::Poll(A),
         Event::End(A),
     ]?;
@@ -79,7 +80,7 @@ fn a_word_is_read_back_at_a_thread_that_runs(rt: HostRuntime) -> Result<(), Fail
             Entry::Start,
             Entry::Asked(E, 0, Call::SetWord(5)),
             Entry::Asked(E, 1, Call::GetWord),
-            Entry::Own(ENTER),
+            Entry::Stepped(ENTER),
             Entry::End,
         ]],
         spent: false,
@@ -88,14 +89,14 @@ fn a_word_is_read_back_at_a_thread_that_runs(rt: HostRuntime) -> Result<(), Fail
     Ok(())
 }
 
-/// A call for frames that is posted just before the thread ends, or just after, is told that it is not alive: no safe point
-/// comes between.
+/// A call for frames is posted just before the thread ends, or just after. It is answered with 15 THREAD_NOT_ALIVE, since no
+/// safe point comes between.
 #[test]
 fn a_call_that_waits_when_its_thread_ends_is_told_that_it_is_not_alive(
     rt: HostRuntime,
 ) -> Result<(), Fail> {
     let alloc = rt.alloc();
-    let walk = vec![in alloc; Event::Start(A), Event::Own(A, ENTER), Event::End(A)]?;
+    let walk = vec![in alloc; Event::Start(A), Event::Stepped(A, ENTER), Event::End(A)]?;
     let walks = vec![in alloc; walk]?;
     let list = vec![in alloc; AgentCall::Ask(A, Call::FrameCount)]?;
     let calls = vec![in alloc; list]?;
@@ -103,8 +104,8 @@ fn a_call_that_waits_when_its_thread_ends_is_told_that_it_is_not_alive(
     let report = run(&rt, 32, 8, walks, calls, &pairs)?;
     let told: &[Told] = &[Told::Refused(TiError::ThreadNotAlive)];
     let asked = Entry::Asked(E, 0, Call::FrameCount);
-    let before: &[Entry] = &[Entry::Start, asked, Entry::Own(ENTER), Entry::End];
-    let behind: &[Entry] = &[Entry::Start, Entry::Own(ENTER), Entry::End, asked];
+    let before: &[Entry] = &[Entry::Start, asked, Entry::Stepped(ENTER), Entry::End];
+    let behind: &[Entry] = &[Entry::Start, Entry::Stepped(ENTER), Entry::End, asked];
     let one = Expected {
         replies: &[told],
         refused: &[&[]],

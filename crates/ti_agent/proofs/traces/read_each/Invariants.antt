@@ -1,13 +1,13 @@
 use Rattle.std.proofs.Common.{◌≡◌, ◌≤◌, ◌+◌, length, take, drop, vec_capacity}
 use Rattle.ti_vmop.specs.Turns.{with_reads}
 use Rattle.ti_agent.specs.Buffers.{AreRoomy}
-use Rattle.ti_agent.specs.Traces.{AreHeld, AreLeft, HasRead}
+use Rattle.ti_agent.specs.Traces.{AreStopped, AreLeft, HasRead}
 use Rattle.ti_agent.proofs.traces.read_each.Given as goal
 
 -- those so far, and those to come
 abbrev pub invariant-loop-i : goal.invariant-loop-i
 invariant-loop-i g l = record {
-  held : AreHeld (record { env = l.fn.standing.env; state = l.state; desks = l.desks }) l.fn.standing.threads;
+  held : AreStopped (record { env = l.fn.standing.env; state = l.state; desks = l.desks }) l.fn.standing.threads;
   left : AreLeft l.state (drop l.i l.threads);
   limits : l.state.limits ≡ l.fn.state.limits;
   reads : HasRead (record { env = l.fn.standing.env; state = l.fn.state; desks = l.fn.desks }) (record { env = l.fn.standing.env; state = l.state; desks = l.desks }) l.fn.max_count (take l.i l.threads) l.infos.items;

@@ -7,7 +7,7 @@ use Rattle.std.proofs.Common.{[], ◌∷◌}
 use Rattle.ti_vmop.specs.Turns.{Listed, AtEach, AreThere}
 use Rattle.ti_agent.specs.Env.{Environment}
 use Rattle.ti_agent.specs.Buffers.{AreRoomy}
-use Rattle.ti_agent.specs.Traces.{AreHeld, AreListed, HasRead}
+use Rattle.ti_agent.specs.Traces.{AreStopped, AreListed, HasRead}
 use Rattle.ti_agent.proofs.Tracing.{may_stop, one_environment, same_env, distinct_in, there_in, all_listed, left_in, limits_all, held_after_stops, whole_after_go}
 use Rattle.ti_agent.proofs.traces.trace_each.Goals as goal
 
@@ -31,7 +31,7 @@ read_each-requires-clause-held g c =
     let there = there_in l (length s.state.spent) (length s.desks) c.args.threads.now c.requires.stopping c.requires.whole.count in
     let distinct = distinct_in l (length s.state.spent) c.args.threads.now c.requires.stopping in
     let held = held_after_stops s l c.stop_all.new.state c.stop_all.new.desks c.requires.whole distinct there c.requires.paid r.state r.desks r.stand in
-    subst (λ (z : EnvNo × Listed). AreHeld (record { env = z.0; state = c.stop_all.new.state; desks = c.stop_all.new.desks }) z.1) (λ j. (sym (same_env s c.in-Ok.standing.env c.requires.whole r.env) j, sym r.standing.0 j)) held
+    subst (λ (z : EnvNo × Listed). AreStopped (record { env = z.0; state = c.stop_all.new.state; desks = c.stop_all.new.desks }) z.1) (λ j. (sym (same_env s c.in-Ok.standing.env c.requires.whole r.env) j, sym r.standing.0 j)) held
 
 pub read_each-requires-clause-there : goal.read_each-requires-clause-there
 read_each-requires-clause-there g c =
@@ -66,7 +66,7 @@ returns-clause-whole g c =
     let env : c.in-Ok.standing.env ≡ c.args.env = same_env s c.in-Ok.standing.env c.requires.whole c.in-Ok.ensures.env in
     let threads : c.read_each.new.standing.threads ≡ l = ap (λ v. v.threads) c.read_each.ensures.standing ∙ c.in-Ok.ensures.standing.0 in
     let seen : Environment = record { env = c.args.env; state = c.read_each.new.state; desks = c.read_each.new.desks } in
-    let held : AreHeld seen l = subst (λ (z : EnvNo × Listed). AreHeld (record { env = z.0; state = c.read_each.new.state; desks = c.read_each.new.desks }) z.1) (λ j. (env j, c.in-Ok.ensures.standing.0 j)) c.read_each.ensures.held in
+    let held : AreStopped seen l = subst (λ (z : EnvNo × Listed). AreStopped (record { env = z.0; state = c.read_each.new.state; desks = c.read_each.new.desks }) z.1) (λ j. (env j, c.in-Ok.ensures.standing.0 j)) c.read_each.ensures.held in
     let goes : AtEach l c.read_each.new.desks c.go.new.desks (λ e. Go e ∷ []) = subst (λ (v : Listed). AtEach v c.read_each.new.desks c.go.new.desks (λ e. Go e ∷ [])) threads c.go.ensures.desks in
     whole_after_go seen l c.go.new.desks held goes
 

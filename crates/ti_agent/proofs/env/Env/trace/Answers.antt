@@ -1,6 +1,6 @@
 use Rattle.std.proofs.Common.{◌≡◌, ◌++◌, length, ap, sym, ◌∙◌, subst, take, drop, ℤ, w32, to_z, of_z, List}
 use Rattle.std.proofs.lemmas.Int.{to_z-of_z}
-use Rattle.ti_handshake.specs.Desk.{Place}
+use Rattle.ti_handshake.specs.Desk.{DeskState}
 use Rattle.ti_agent.specs.Env.{Environment}
 use Rattle.ti_agent.specs.Traces.{IsTraced}
 use Rattle.ti_agent.proofs.Tracing.{desks_are}
@@ -11,11 +11,11 @@ returns-clause-traced g c =
     let infos = c.trace_each-round.new.infos.items in
     let round = c.trace_each-round.result in
     let m : to_z w32 (of_z w32 c.args.max_count) ≡ c.args.max_count = to_z-of_z w32 c.args.max_count c.ranges.max_count in
-    let later : List Place = c.trace_each-round.new.desks in
+    let later : List DeskState = c.trace_each-round.new.desks in
     let value : c.deref_mut-2.result.now ≡ c.self.inside.desks.items = c.deref_mut-2.ensures.value in
     let items : take c.self.inside.desks.len (later ++ drop (length later) c.self.inside.desks.items) ≡ later =
     desks_are later c.self.inside.desks.items c.self.inside.desks.len (c.trace_each-round.auto.desks ∙ c.deref_mut-2.ensures.len) (ap (λ v. length v) (sym value) ∙ c.deref_mut-2.ensures.len) in
     let before : record { env = c.self.inside.env; state = c.self.inside.state; desks = c.deref_mut-2.result.now } ≡ c.args.self.now =
-    ap (λ (d : List Place). record { env = c.self.inside.env; state = c.self.inside.state; desks = d }) value ∙ c.self.view_is in
+    ap (λ (d : List DeskState). record { env = c.self.inside.env; state = c.self.inside.state; desks = d }) value ∙ c.self.view_is in
     let told = c.trace_each-round.ensures.traced in
-    subst (λ (z : Environment × List Place × ℤ). IsTraced z.0 (record { env = c.self.inside.env; state = c.trace_each-round.new.state; desks = z.1 }) z.2 c.args.stopping.now c.args.threads.now infos round) (λ j. (before j, sym items j, m j)) told
+    subst (λ (z : Environment × List DeskState × ℤ). IsTraced z.0 (record { env = c.self.inside.env; state = c.trace_each-round.new.state; desks = z.1 }) z.2 c.args.stopping.now c.args.threads.now infos round) (λ j. (before j, sym items j, m j)) told

@@ -12,7 +12,7 @@ pub returns-in-Some-clause-out : goal.returns-in-Some-clause-out
 returns-in-Some-clause-out c =
     let env : EnvNo = record { 0 = c.in-Some.env } in
     let number = c.in-Some.ensures in
-    c.held.ensures ∙ ap (λ (z : Thread). held_by env z.uncollected) (c.deref-in-Some.ensures ∙ c.self.view_is)
+    c.out.ensures ∙ ap (λ (z : Thread). held_by env z.uncollected) (c.deref-in-Some.ensures ∙ c.self.view_is)
     ∙ sym (out_of_env c.args.number env (omega (arith, number.0, number.1)) c.args.self.now.uncollected)
 
 pub returns-in-Some-clause-few : goal.returns-in-Some-clause-few

@@ -2,7 +2,7 @@ use Rattle.std.proofs.Common.{◌≡◌, ◌++◌, ◌∷◌, [], List, not, tru
 use Rattle.ti_types.specs.declared.event.Ticket.{Ticket}
 use Rattle.ti_slot.specs.Tickets.{has}
 use Rattle.ti_handshake.specs.Cancelled.{Given}
-use Rattle.ti_handshake.specs.Desk.{Place}
+use Rattle.ti_handshake.specs.Desk.{DeskState}
 use Rattle.ti_handshake.proofs.GivenUp.{cancel_given, same_given}
 use Rattle.ti_handshake.proofs.desk.Desk.cancel.Goals.{then-has_out+then-not-has, else-has_out}
 use Rattle.ti_handshake.proofs.desk.Desk.cancel.Goals as goal
@@ -12,10 +12,10 @@ put_cancelled-requires-2 g c =
     let e = c.take_cancelled-cancelled.ensures in
     let gone = c.take_cancelled-cancelled.result.tickets in
     let t = c.args.ticket in
-    let posted : c.has_out.new.self.view.posted ≡ c.args.self.now.view.posted = c.has_out.ensures.hold.waits.posted ∙ ap (λ (p : Place). p.view.posted) e.none in
+    let posted : c.has_out.new.self.view.posted ≡ c.args.self.now.view.posted = c.has_out.ensures.hold.waits.posted ∙ ap (λ (p : DeskState). p.view.posted) e.none in
     elim c.if-has_out.branch [
       | then-has_out+then-not-has w ↦
-          let there : has t c.args.self.now.view.posted ≡ true = ap (λ (p : Place). has t p.view.posted) (sym e.none) ∙ (sym c.has_out.ensures.out ∙ w.if-has_out.true) in
+          let there : has t c.args.self.now.view.posted ≡ true = ap (λ (p : DeskState). has t p.view.posted) (sym e.none) ∙ (sym c.has_out.ensures.out ∙ w.if-has_out.true) in
           let new : has t gone ≡ false = ap (has t) (sym c.reserve.ensures.tickets) ∙ (sym w.has.ensures ∙ w.if-not-has.true) in
           cancel_given gone c.args.self.now.view.posted _ _ t e.given new there (ap (λ (x : Given). x.tickets) w.cancelled-is ∙ (w.add.ensures ∙ ap (λ (l : List Ticket). l ++ t ∷ []) c.reserve.ensures.tickets)) posted
       | else-has_out w ↦ same_given gone c.args.self.now.view.posted _ _ e.given (ap (λ (x : Given). x.tickets) w.cancelled-is ∙ c.reserve.ensures.tickets) posted

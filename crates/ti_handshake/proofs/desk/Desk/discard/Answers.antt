@@ -3,7 +3,7 @@ use Rattle.std.specs.Prelude.{slice_get}
 use Rattle.ti_types.specs.declared.event.Ticket.{Ticket}
 use Rattle.ti_slot.specs.Tickets.{without_ticket}
 use Rattle.ti_handshake.specs.Cancelled.{Given}
-use Rattle.ti_handshake.specs.Desk.{Place}
+use Rattle.ti_handshake.specs.Desk.{DeskState}
 use Rattle.ti_handshake.proofs.GivenUp.{thrown_given}
 use Rattle.ti_handshake.proofs.desk.Desk.discard.Goals.{then-thrown, else-thrown}
 use Rattle.ti_handshake.proofs.desk.Desk.discard.Goals as goal
@@ -16,7 +16,7 @@ put_cancelled-requires g c =
     let t = c.in-Some.first in
     let b = is_some c.try_collect.result in
     let first : Some t ≡ slice_get gone 0 = sym c.in-Some.is ∙ (c.first_cancelled.ensures ∙ ap (λ (l : List Ticket). slice_get l 0) (sym e.tickets)) in
-    let left = c.try_collect.ensures.hold.waits.posted ∙ ap (λ (p : Place). if b then without_ticket t p.view.posted else p.view.posted) e.none in
+    let left = c.try_collect.ensures.hold.waits.posted ∙ ap (λ (p : DeskState). if b then without_ticket t p.view.posted else p.view.posted) e.none in
     elim c.if-thrown.branch [
       | then-thrown w ↦
           let yes : b ≡ true = sym c.is_some-thrown.ensures ∙ w.if-thrown.true in

@@ -4,7 +4,7 @@ use Rattle.ti_types.specs.declared.entry.Entry.{Entry}
 use Rattle.ti_types.specs.declared.entry.Entry.TheVariants as entry
 use Rattle.ti_types.specs.declared.error.TiError.{TiError}
 use Rattle.ti_types.specs.declared.event.Event.TheVariants as event
-use Rattle.ti_replay.specs.Events.{hold_refusal, if_none}
+use Rattle.ti_replay.specs.Events.{stopping_refusal, if_none}
 use Rattle.ti_replay.specs.View.{view}
 use Rattle.ti_slot.specs.Thread.{Thread, done_or}
 use Rattle.ti_handshake.proofs.Desks.{Took, took, Known, stores_as, adds_held, answers_as, keeps_all}
@@ -13,7 +13,7 @@ use Rattle.ti_handshake.proofs.desk.Desk.go.Goals.{After-slot}
 use Rattle.ti_handshake.proofs.desk.Desk.go.Goals as goal
 
 abbrev why : Known → Option TiError
-why x = hold_refusal (view x.limits x.history) (event.Go x.env x.thread)
+why x = stopping_refusal (view x.limits x.history) (event.Go x.env x.thread)
 
 abbrev adds : Known → List Entry
 adds x = if_none (why x) (entry.Go x.env ∷ [])

@@ -1,7 +1,7 @@
 use Rattle.ti_handshake.proofs.Desks.{Took, took, may_call, has_room, may_keep, asks, told, ticket_fresh}
 use Rattle.std.proofs.Common.{refl}
 use Rattle.ti_cell.proofs.Calls.{asked_keeps}
-use Rattle.ti_handshake.specs.Desk.{Place}
+use Rattle.ti_handshake.specs.Desk.{DeskState}
 use Rattle.ti_handshake.proofs.GivenUp.{given_there, ticket_out}
 use Rattle.ti_handshake.proofs.desk.Desk.post.Given.{Over}
 use Rattle.ti_handshake.proofs.desk.Desk.post.Goals.{After-slot-slot}
@@ -36,7 +36,7 @@ returns-clause-out g c =
     let k = taken g (goal.at.returns-clause-out g c).After-slot-slot in
     let hold = asks _ _ _ _ _ _ _ _ _ k c.ask-asked.ensures.asked c.store.ensures.view c.store.ensures.legal c.store.ensures.mine in
     let told_here = told _ _ _ _ _ _ _ _ _ k c.ask-asked.ensures.asked (ticket_fresh c.slot-slot.result.now c.self.inside.env c.tickets.ensures.known) c.store.ensures.view in
-    let now : Place = record { cell = c.self.inside.cell; env = c.self.inside.env; view = c.store.result.view; cancelled = c.self.inside.cancelled.tickets } in
+    let now : DeskState = record { cell = c.self.inside.cell; env = c.self.inside.env; view = c.store.result.view; cancelled = c.self.inside.cancelled.tickets } in
     ticket_out c.args.self.now.view c.store.result.view c.args.self.now.env c.args.call c.ask-asked.result c.self.inside.cancelled.tickets now (given_there _ _ _ _ _ c.self.invariant c.self.view_is) hold.waits.posted told_here refl refl
 
 pub returns-clause-told : goal.returns-clause-told

@@ -4,7 +4,7 @@ use Rattle.ti_types.specs.declared.entry.Entry.{Entry}
 use Rattle.ti_types.specs.declared.entry.Entry.TheVariants as entry
 use Rattle.ti_types.specs.declared.error.TiError.{TiError}
 use Rattle.ti_types.specs.declared.event.Event.TheVariants as event
-use Rattle.ti_replay.specs.Events.{hold_refusal, if_none}
+use Rattle.ti_replay.specs.Events.{stopping_refusal, if_none}
 use Rattle.ti_replay.specs.View.{view}
 use Rattle.ti_slot.specs.Thread.{Thread, with_more}
 use Rattle.ti_handshake.proofs.Desks.{Took, took, may_call, Known, in_slot, stores_as, adds_held, keeps_all}
@@ -13,7 +13,7 @@ use Rattle.ti_handshake.proofs.desk.Desk.read.Goals.{After-slot}
 use Rattle.ti_handshake.proofs.desk.Desk.read.Goals as goal
 
 abbrev why : (max_count : ℤ) → Known → Option TiError
-why max_count x = hold_refusal (view x.limits x.history) (event.Read x.env x.thread max_count)
+why max_count x = stopping_refusal (view x.limits x.history) (event.Read x.env x.thread max_count)
 
 abbrev adds : (max_count : ℤ) → Known → List Entry
 adds max_count x = if_none (why max_count x) (entry.Read x.env max_count ∷ [])

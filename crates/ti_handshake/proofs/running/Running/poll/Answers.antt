@@ -6,7 +6,7 @@ use Rattle.ti_replay.specs.Legal.{is_armed}
 use Rattle.ti_replay.specs.LateTickets.{steps_of}
 use Rattle.ti_cell.specs.Seats.{Sitting}
 use Rattle.ti_handshake.specs.Thread.{Runner, runner_in}
-use Rattle.ti_handshake.specs.Polls.{IsClear, HasGone, IsHeld, polled}
+use Rattle.ti_handshake.specs.Polls.{IsClear, HasGone, HasStayed, polled}
 use Rattle.ti_handshake.specs.Call.{Holds, found}
 use Rattle.ti_handshake.proofs.Owners.{Owns, owns, home, steps_and, may_store, may_keep, nothing, stores, leaves, left_at, runs_on, rests, no_refusal, gone_thread, poll_barred, same_history, clear_entries, gone_entries, held_entries}
 use Rattle.ti_handshake.proofs.running.Running.poll.Given.{Over}
@@ -88,12 +88,12 @@ returns-in-Err-back-clause-polled g c =
     let s = c.store-seat-in-Err-back.ensures in
     let same = same_history c.hand_over.new.self c.back.new.self c.in-Err-back.ensures.thread in
     let at = leaves _ c.store-seat-in-Err-back.result _ _ _ c.back.new.self.history _ k c.self.invariant.here (c.hold-hold.ensures.cell ∙ c.deref.ensures) s.cell s.view s.mine in
-    let held : IsHeld (runner_in c.self.inside.seat c.self.inside.frames c.self.inside.log) c.store-seat-in-Err-back.result = record {
+    let held : HasStayed (runner_in c.self.inside.seat c.self.inside.frames c.self.inside.log) c.store-seat-in-Err-back.result = record {
       cell = at.cell;
       hold = stores _ _ c.slot-slot.result.now c.back.new.self _ (steps_of l ++ Hand AtPoll ∷ []) k s.view (c.in-Err-back.ensures.thread ∙ c.in-Ok.ensures.thread) s.legal s.mine;
       barred = poll_barred _ _ _ _ c.hand_over.new.self l _ k (left_at _ _ _ _ same at) c.in-Ok.ensures.thread c.in-Err-back.ensures.when;
     } in
-    subst (λ (x : Runner × Sitting). IsHeld x.0 x.1) (λ i. (c.self.view_is i, sym c.of-in-Err-back.ensures.of i)) held
+    subst (λ (x : Runner × Sitting). HasStayed x.0 x.1) (λ i. (c.self.view_is i, sym c.of-in-Err-back.ensures.of i)) held
 
 pub returns-in-Ok-back-clause-entries : goal.returns-in-Ok-back-clause-entries
 returns-in-Ok-back-clause-entries g c =

@@ -6,8 +6,8 @@ use Rattle.ti_ops.specs.declared.fate.Fate.TheVariants as fate
 use Rattle.ti_ops.specs.declared.kept.Kept.{Kept}
 use Rattle.ti_ops.specs.declared.kept.Count.{Count}
 use Rattle.ti_ops.specs.declared.kept.Stage.{Stage}
-use Rattle.ti_ops.specs.declared.kept.Stage.TheVariants.{Posted, Taken, Told}
-use Rattle.ti_ops.specs.Fates.{is_at, fate_of, told_by, is_open, with_fate}
+use Rattle.ti_ops.specs.declared.kept.Stage.TheVariants.{Posted, Taken, Answered}
+use Rattle.ti_ops.specs.Fates.{is_at, fate_of, answer_by, is_open, with_fate}
 use Rattle.ti_ops.specs.Ops.{Ops, with_fates}
 use Rattle.ti_ops.specs.Kept.{fate_in, has_answer, count_of, lists_of, pending_in, ops_in, IsKept}
 use Rattle.ti_ops.proofs.TableLaws.{env_within}
@@ -18,17 +18,17 @@ use Rattle.ti_ops.proofs.pending.PendingOps.collect.Goals as goal
 pub returns-then-at-self-clause-answer : goal.returns-then-at-self-clause-answer
 returns-then-at-self-clause-answer c =
     let i = c.self.inside in
-    sym (ap (λ (o : Ops). told_by (fate_of c.args.ticket o.fates)) (sym c.self.view_is)
+    sym (ap (λ (o : Ops). answer_by (fate_of c.args.ticket o.fates)) (sym c.self.view_is)
     ∙ none_found i.window i.taken i.kept.cap i.counts.items i.kept.items c.args.ticket c.self.invariant (c.find-at.ensures.nowhere c.if-at-self.true))
 
-pub returns-then-not-is_told-clause-answer : goal.returns-then-not-is_told-clause-answer
-returns-then-not-is_told-clause-answer c =
+pub returns-then-not-is_answered-clause-answer : goal.returns-then-not-is_answered-clause-answer
+returns-then-not-is_answered-clause-answer c =
     let i = c.self.inside in
     let k = c.index.result.now in
     let below : c.find-at.result < i.taken = omega (arith, c.find-at.ensures.within, c.if-at-self.false) in
-    let none : has_answer (get_or i.kept.items c.find-at.result k).stage ≡ false = ap (λ (j : Kept). has_answer j.stage) (sym c.index.ensures) ∙ sym c.is_told.ensures ∙ c.if-not-is_told.true in
-    sym (ap (λ (o : Ops). told_by (fate_of c.args.ticket o.fates)) (sym c.self.view_is)
-    ∙ ap told_by (fate_found i.window i.taken i.kept.cap i.counts.items i.kept.items c.find-at.result k c.args.ticket c.self.invariant below (c.find-at.ensures.there k below))
+    let none : has_answer (get_or i.kept.items c.find-at.result k).stage ≡ false = ap (λ (j : Kept). has_answer j.stage) (sym c.index.ensures) ∙ sym c.is_answered.ensures ∙ c.if-not-is_answered.true in
+    sym (ap (λ (o : Ops). answer_by (fate_of c.args.ticket o.fates)) (sym c.self.view_is)
+    ∙ ap answer_by (fate_found i.window i.taken i.kept.cap i.counts.items i.kept.items c.find-at.result k c.args.ticket c.self.invariant below (c.find-at.ensures.there k below))
     ∙ no_answer (get_or i.kept.items c.find-at.result k).stage none)
 
 -- the call that is found, and what its environment is counted for
@@ -63,7 +63,7 @@ overflow_sub-index_mut c = let h = has (goal.at.overflow_sub-index_mut c).After-
 pub returns-clause-answer : goal.returns-clause-answer
 returns-clause-answer c =
     let h = has (goal.at.returns-clause-answer c).After-index_mut in
-    sym (ap (λ (o : Ops). told_by (fate_of c.args.ticket o.fates)) (sym c.self.view_is) ∙ ap told_by (h.told ∙ ap fate_in c.in-Told.is))
+    sym (ap (λ (o : Ops). answer_by (fate_of c.args.ticket o.fates)) (sym c.self.view_is) ∙ ap answer_by (h.told ∙ ap fate_in c.in-Answered.is))
 
 pub invariant_of-self : goal.invariant_of-self
 invariant_of-self c =

@@ -3,7 +3,7 @@ use Rattle.ti_types.specs.declared.call.Call.{Call}
 use Rattle.ti_types.specs.Frames.{Trace}
 use Rattle.ti_ops.specs.declared.kept.Kept.{Kept}
 use Rattle.ti_ops.specs.declared.kept.Stage.{Stage}
-use Rattle.ti_ops.specs.declared.kept.Stage.TheVariants.{Posted, Taken, Told}
+use Rattle.ti_ops.specs.declared.kept.Stage.TheVariants.{Posted, Taken, Answered}
 use Rattle.ti_ops.specs.Ops.{Ops, with_waiting}
 use Rattle.ti_ops.specs.Kept.{fate_in, is_posted, pending_in}
 use Rattle.ti_ops.proofs.StepLaws.{posted_at, waits_in, lists_taken, kept_taken}
@@ -31,7 +31,7 @@ has c =
 not_posted : (x : Stage) → is_posted x ≡ true → ((a : Call) (b : Trace) → x ≡ Posted a b → ⊥) → ⊥
 not_posted (Posted a b) e n = n a b refl
 not_posted Taken e n = cc
-not_posted (Told a) e n = cc
+not_posted (Answered a) e n = cc
 
 pub unreachable-requires : goal.unreachable-requires
 unreachable-requires c =

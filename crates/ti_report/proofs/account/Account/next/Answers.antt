@@ -1,7 +1,7 @@
 use Rattle.std.proofs.Common.{◌≡◌, Some, slice_get, slice_index, get_or, refl, sym, ap, ◌∙◌, arith, ltb-true}
 use Rattle.std.proofs.lemmas.Option.{slice_get_read, slice_get-get_or}
-use Rattle.ti_report.specs.declared.got.Got.TheVariants.{Nothing}
-use Rattle.ti_report.specs.declared.left.Left.TheVariants.{State}
+use Rattle.ti_report.specs.declared.packed_reply.Got.TheVariants.{Nothing}
+use Rattle.ti_report.specs.declared.packed_entry.Left.TheVariants.{State}
 use Rattle.ti_report.specs.declared.book.Note.{Note}
 use Rattle.ti_report.specs.Books.{rows_in}
 use Rattle.ti_report.proofs.BookLaws.{row_get}

@@ -1,0 +1,55 @@
+use Rattle.std.proofs.Common.{rules, ◌≡◌, ◌<◌, ◌≤◌, ◌+◌, ◌-◌, ◌++◌, ◌∷◌, [], length, sym, ap, subst, ◌∙◌, arith, take, drop, take-append-drop, ℕ, List}
+use Rattle.std.specs.Prelude.{slice_index_or, slice_index, slice_set}
+use Rattle.std.proofs.lemmas.Grind.{take_at_read}
+use Rattle.ti_types.specs.declared.numbers.ThreadNo.{ThreadNo}
+use Rattle.ti_env.specs.Env.{left_at}
+use Rattle.ti_agent.specs.Traces.{times, AreCounts}
+use Rattle.ti_vmop.proofs.Each.{take_all}
+use Rattle.ti_agent.proofs.Counts.{count_at, counts_more, enough_more, too_many}
+use Rattle.ti_agent.proofs.Listing.{there_at, paid_once}
+use Rattle.ti_agent.proofs.Posting.{drop_more}
+use Rattle.ti_agent.proofs.thread_counts.count_each.Goals as goal
+
+pub returns-then-index-reads-clause-paid : goal.returns-then-index-reads-clause-paid
+returns-then-index-reads-clause-paid c =
+    let s = c.args.state.now in
+    let l = c.args.threads.now in
+    let i = c.loop-i.i in
+    let none : ThreadNo = record { 0 = 0 } in
+    let t : ThreadNo = slice_index_or l i none in
+    let within : i < length l = c.loop-i-test.true in
+    let here : t.0 < length s.spent = there_at (length s.spent) l i none c.requires.there within in
+    let rest : l ≡ take i l ++ t ∷ drop (i + 1) l = sym (take-append-drop i l) ∙ ap (λ (v : List ThreadNo). take i l ++ v) (drop_more l i (i + 1) none (omega arith) within) in
+    let is : slice_index c.loop-i.counts.items t.0 ≡ times t.0 (take i l) = c.loop-i.invariant.counts.each t.0 here in
+    let room : t.0 < length c.loop-i.counts.items = omega (arith, here, c.loop-i.invariant.counts.length_is) in
+    let count : slice_index c.loop-i.counts.items t.0 ≡ c.index.result.now = count_at c.loop-i.counts.items t.0 c.index.result.now room ∙ sym c.index.ensures in
+    let reads : c.saturating_sub-reads.result ≡ left_at s t - 1 = search rules in
+    too_many s l (take i l) (drop (i + 1) l) t rest here (omega (arith, is, count, reads, c.if-index-reads.true))
+
+pub loop-i-preserved : goal.loop-i-preserved
+loop-i-preserved c =
+    let s = c.args.state.now in
+    let l = c.args.threads.now in
+    let i = c.loop-i.i in
+    let none : ThreadNo = record { 0 = 0 } in
+    let t : ThreadNo = slice_index_or l i none in
+    let within : i < length l = c.loop-i-test.true in
+    let here : t.0 < length s.spent = there_at (length s.spent) l i none c.requires.there within in
+    let more : take (i + 1) l ≡ take i l ++ t ∷ [] = (take_at_read l i none within).1 in
+    let before : slice_index c.loop-i.counts.items t.0 ≡ times t.0 (take i l) = c.loop-i.invariant.counts.each t.0 here in
+    let room : t.0 < length c.loop-i.counts.items = omega (arith, here, c.loop-i.invariant.counts.length_is) in
+    let count : slice_index c.loop-i.counts.items t.0 ≡ c.index.result.now = count_at c.loop-i.counts.items t.0 c.index.result.now room ∙ sym c.index.ensures in
+    let again : slice_index c.loop-i.counts.items t.0 ≡ c.index_mut.result.now = count_at c.loop-i.counts.items t.0 c.index_mut.result.now room ∙ sym c.index_mut.ensures.value in
+    let reads : c.saturating_sub-reads.result ≡ left_at s t - 1 = search rules in
+    let less : times t.0 (take i l) < left_at s t - 1 = omega (arith, before, count, reads, c.if-index-reads.false) in
+    let counts : AreCounts (length s.spent) (take i l ++ t ∷ []) (slice_set c.loop-i.counts.items t.0 (slice_index c.loop-i.counts.items t.0 + 1)) = counts_more (length s.spent) (take i l) t c.loop-i.counts.items c.loop-i.invariant.counts here in
+    record {
+      counts = subst (λ (z : List ThreadNo × ℕ). AreCounts (length s.spent) z.0 (slice_set c.loop-i.counts.items t.0 (z.1 + 1))) (λ j. (sym more j, again j)) counts;
+      enough = λ k. subst (λ (v : List ThreadNo). times k v ≤ left_at s (record { 0 = k }) - 1) (sym more) (enough_more s (take i l) t c.loop-i.invariant.enough less k);
+    }
+
+pub returns-clause-paid : goal.returns-clause-paid
+returns-clause-paid c =
+    let all : take c.loop-i.i c.args.threads.now ≡ c.args.threads.now = take_all c.args.threads.now c.loop-i.i (omega (arith, c.loop-i-test.false)) in
+    paid_once c.args.state.now (length c.args.state.now.spent) c.args.threads.now
+    (λ i. subst (λ (v : List ThreadNo). times i v ≤ left_at c.args.state.now (record { 0 = i }) - 1) all (c.loop-i.invariant.enough i))

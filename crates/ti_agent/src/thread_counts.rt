@@ -1,0 +1,99 @@
+//! Counts how often each thread is in a list. Under one stop, a thread is read that many times.
+
+use std::alloc::Global;
+use ti_env::EnvState;
+use ti_types::{ThreadNo, TiError};
+
+/// The first `count` threads, in the order of their numbers. 110 OUT_OF_MEMORY if there is no memory for the list.
+pub(crate) fn all_threads(alloc: Global, count: u32) -> Result<Vec<ThreadNo>, TiError>
+    ensures all { IfOk result (λ v. v.items ≡ each_thread count) }
+    ensures memory { IfErr result (λ e. e ≡ OutOfMemory) }
+{
+    let mut threads = Vec::with_capacity(alloc, count as usize)?;
+    for i in 0..count {
+        threads.push_reserved(ThreadNo(i));
+    }
+    Ok(threads)
+}
+
+/// The first `count` threads, each with one read to come. 110 OUT_OF_MEMORY if there is no memory for the list.
+pub(crate) fn all_with_one_read(alloc: Global, count: u32) -> Result<Vec<(ThreadNo, u64)>, TiError>
+    ensures all { IfOk result (λ v. v.items ≡ all_once count) }
+    ensures memory { IfErr result (λ e. e ≡ OutOfMemory) }
+{
+    let mut list = Vec::with_capacity(alloc, count as usize)?;
+    for i in 0..count {
+        list.push_reserved((ThreadNo(i), 1));
+    }
+    Ok(list)
+}
+
+/// Whether all threads of a list exist, when there are `count` threads.
+pub(crate) fn are_all_there(threads: &[ThreadNo], count: u32) -> bool
+    ensures { result ≡ are_there count threads.now }
+{
+    threads.iter().all(|thread| thread.0 < count)
+}
+
+/// Whether each of the first `count` threads has a call left for its stop and one for its read.
+pub(crate) fn are_all_paid(state: &EnvState, count: u32) -> bool
+    ensures { result ≡ are_paid state.now (all_once count) }
+{
+    for i in 0..count {
+        if state.left(ThreadNo(i)) < 2 {
+            return false;
+        }
+    }
+    true
+}
+
+/// How often each thread is in a list, by its number. 110 OUT_OF_MEMORY if there is no memory for the counts. 209
+/// CALLS_SPENT if a thread has too few calls left for its stop and all of its reads.
+pub(crate) fn count_each(
+    alloc: Global,
+    state: &EnvState,
+    threads: &[ThreadNo],
+) -> Result<Vec<u64>, TiError>
+    requires there { are_there (length state.now.spent) threads.now ≡ true }
+    ensures counts { IfOk result (λ v. AreCounts (length state.now.spent) threads.now v.items) }
+    ensures paid { MatchResult result (λ _. are_paid state.now (each_once (length state.now.spent) threads.now) ≡ true) (λ e. IsNotCounted state.now threads.now e) }
+{
+    let mut counts = vec![in alloc; 0u64; state.threads() as usize]?;
+    for i in 0..threads.len() {
+        let thread = threads[i];
+        let reads = state.left(thread).saturating_sub(1);
+        let index = thread.0 as usize;
+        if counts[index] >= reads {
+            return Err(TiError::CallsSpent);
+        }
+        counts[index] += 1;
+    }
+    Ok(counts)
+}
+
+/// The threads that were counted at least once, each once, in the order of their numbers. Each has as many reads to come as
+/// were counted. 110 OUT_OF_MEMORY if there is no memory for the list.
+pub(crate) fn counted_threads(
+    alloc: Global,
+    count: u32,
+    counts: &[u64],
+) -> Result<Vec<(ThreadNo, u64)>, TiError>
+    requires counts { length counts.now ≡ count }
+    ensures listed { IfOk result (λ v. (threads : List Thread) → AreCounts count threads counts.now → v.items ≡ each_once count threads) }
+    ensures memory { IfErr result (λ e. e ≡ OutOfMemory) }
+{
+    let mut list = Vec::with_capacity(alloc, count as usize)?;
+    for i in 0..count {
+        let reads = counts[i as usize];
+        if reads > 0 {
+            list.push_reserved((ThreadNo(i), reads));
+        }
+    }
+    Ok(list)
+}
+
+ghost use Rattle.std.specs.Prelude.{ℕ, List, ◌≡◌, ◌<◌, true, length, IfOk, IfErr, OnOk, MatchResult};
+ghost use Rattle.ti_types.specs.declared.error.TiError.TheVariants.{CallsSpent, OutOfMemory};
+ghost use Rattle.ti_types.specs.declared.numbers.ThreadNo.{ThreadNo as Thread};
+ghost use Rattle.ti_vmop.specs.Turns.{are_paid};
+ghost use Rattle.ti_agent.specs.Traces.{all_once, each_once, each_thread, are_there, AreCounts, IsNotCounted};

@@ -1,0 +1,161 @@
+//! Calls of a desk that are given up, and calls with a deadline.
+
+use crate::cancelled::Cancelled;
+use crate::desk::Desk;
+use std::alloc::Global;
+use std::mem;
+use std::rt::Clock;
+use std::sync::Wait;
+use std::time::Duration;
+use ti_slot::Asked;
+use ti_types::{Answer, Call, TiError, Ticket, TraceBuf};
+
+impl Desk {
+    /// The ticket of the call that was given up first. `None` if none was given up.
+    fn first_cancelled(&self) -> Option<Ticket>
+        ensures { result ≡ slice_get self.now.cancelled 0 }
+    {
+        self.cancelled.first()
+    }
+
+    /// Takes the list of calls that were given up out of the desk, until `put_cancelled` puts it back.
+    fn take_cancelled(&mut self) -> Cancelled
+        ensures tickets { result.tickets ≡ self.old.cancelled }
+        ensures given { AreGivenUp result.tickets self.old.view.posted }
+        ensures none { self.new ≡ with_cancelled self.old [] }
+    {
+        mem::replace(&mut self.cancelled, Cancelled::none())
+    }
+
+    /// Puts a list of calls that were given up in place of the desk's own. Each of them is out.
+    fn put_cancelled(&mut self, cancelled: Cancelled)
+        requires { AreGivenUp cancelled.tickets self.old.view.posted }
+        ensures { self.new ≡ with_cancelled self.old cancelled.tickets }
+    {
+        self.cancelled = cancelled;
+    }
+
+    /// Gives up a posted call whose answer is not collected, in one hold. `discard` throws its answer away once it is there.
+    ///
+    /// The call still takes place when the thread reaches it: a suspension suspends, and a pop pops. It is out until its
+    /// answer is thrown away (this profile). A ticket that is not out, or was given up before, is left as it is.
+    ///
+    /// The error is 110 OUT_OF_MEMORY if there is no memory to note the ticket. Then nothing changes.
+    pub fn cancel<R: Wait>(&mut self, rt: &R, alloc: Global, ticket: Ticket) -> Result<(), TiError>
+        ensures here { (self.new.cell ≡ self.old.cell) × (self.new.env ≡ self.old.env) }
+        ensures hold { OnOk result (Holds self.old.view self.new.view []) }
+        ensures cancelled { OnOk result (self.new.cancelled ≡ (if is_out self.old ticket then self.old.cancelled ++ ticket ∷ [] else self.old.cancelled)) }
+        ensures memory { IfErr result (λ e. e ≡ OutOfMemory) }
+        ensures unchanged { OnErr result (self.new ≡ self.old) }
+    {
+        let mut cancelled = self.take_cancelled();
+        if let Err(error) = cancelled.reserve(alloc) {
+            self.put_cancelled(cancelled);
+            return Err(error);
+        }
+        if self.has_out(rt, ticket) && !cancelled.has(ticket) {
+            cancelled.add(ticket);
+        }
+        self.put_cancelled(cancelled);
+        Ok(())
+    }
+
+    /// Looks in one hold for the answer to the call that was given up first. If it is there, it is thrown away, and the call
+    /// is no longer out. Returns whether it was there. If no call was given up, nothing is done, and the result is `false`
+    /// (this profile).
+    pub fn discard<R: Wait>(&mut self, rt: &R) -> bool
+        ensures { Discards self.old self.new result }
+    {
+        let Some(first) = self.first_cancelled() else {
+            return false;
+        };
+        let mut cancelled = self.take_cancelled();
+        let thrown = self.try_collect(rt, first).is_some();
+        if thrown {
+            cancelled.remove_first();
+        }
+        self.put_cancelled(cancelled);
+        thrown
+    }
+
+    /// Makes a call at the thread, and waits for its answer for at most this time. If the answer does not come, the error is
+    /// the call's ticket, and the call is out.
+    fn call_or_leave<R: Wait + Clock>(
+        &mut self,
+        rt: &R,
+        call: Call,
+        buf: TraceBuf,
+        time: Duration,
+    ) -> Result<Answer, Ticket>
+        requires well_formed { is_well_formed call ≡ true }
+        requires calls { calls_spent self.old.env self.old.view.mine < self.old.view.subject.limits.calls }
+        requires room { waits call ≡ true → length self.old.view.posted ≤ self.old.view.subject.limits.window }
+        requires buf { IsBufferOf self.old.view.subject.limits call buf }
+        ensures same { IsSame self.old self.new }
+        ensures goes { GoesOn self.old.view self.new.view }
+        ensures mine { self.new.view.mine ≡ self.old.view.mine ++ next_call self.old.view self.old.env call ∷ [] }
+        ensures left { MatchResult result (λ a. IsAnsweredAt self.old self.new call (said a)) (λ t. IsLeft self.old self.new call t) }
+    {
+        let ticket = match self.post(rt, call, buf) {
+            Asked::Answered(answer) => return Ok(answer),
+            Asked::Waiting(ticket) => ticket,
+        };
+        match self.collect_within(rt, ticket, time) {
+            Some(answer) => Ok(answer),
+            None => Err(ticket),
+        }
+    }
+
+    /// Makes a call at the thread, and waits for its answer for at most this time. It costs one call. The answer may be a
+    /// refusal by the thread, as for `post`.
+    ///
+    /// `None` when the time is over, or the clock can't be read. Then the call was given up, as by `cancel`.
+    ///
+    /// The error is 110 OUT_OF_MEMORY if there is no memory to note that the call is given up. Then nothing was asked.
+    pub fn call_within<R: Wait + Clock>(
+        &mut self,
+        rt: &R,
+        alloc: Global,
+        call: Call,
+        buf: TraceBuf,
+        time: Duration,
+    ) -> Result<Option<Answer>, TiError>
+        requires well_formed { is_well_formed call ≡ true }
+        requires calls { calls_spent self.old.env self.old.view.mine < self.old.view.subject.limits.calls }
+        requires room { waits call ≡ true → length self.old.view.posted ≤ self.old.view.subject.limits.window }
+        requires buf { IsBufferOf self.old.view.subject.limits call buf }
+        ensures goes { OnOk result (GoesOn self.old.view self.new.view) }
+        ensures mine { OnOk result (self.new.view.mine ≡ self.old.view.mine ++ next_call self.old.view self.old.env call ∷ []) }
+        ensures in_time { IfOk result (λ r. IsInTime self.old self.new call (option_map said r)) }
+        ensures memory { IfErr result (λ e. e ≡ OutOfMemory) }
+        ensures unchanged { OnErr result (self.new ≡ self.old) }
+    {
+        let mut cancelled = self.take_cancelled();
+        if let Err(error) = cancelled.reserve(alloc) {
+            self.put_cancelled(cancelled);
+            return Err(error);
+        }
+        match self.call_or_leave(rt, call, buf, time) {
+            Ok(answer) => {
+                self.put_cancelled(cancelled);
+                Ok(Some(answer))
+            }
+            Err(ticket) => {
+                cancelled.add(ticket);
+                self.put_cancelled(cancelled);
+                Ok(None)
+            }
+        }
+    }
+}
+
+ghost use Rattle.std.specs.Prelude.{◌≡◌, ◌<◌, ◌≤◌, ◌++◌, ◌∷◌, [], true, length, if◌then◌else◌, slice_get, IfOk, IfErr, OnOk, OnErr, MatchResult};
+ghost use Rattle.std.specs.Option.{option_map};
+ghost use Rattle.ti_types.specs.Answer.{said};
+ghost use Rattle.ti_types.specs.declared.error.TiError.TheVariants.{OutOfMemory};
+ghost use Rattle.ti_replay.specs.Legal.{calls_spent, is_well_formed};
+ghost use Rattle.ti_replay.specs.Settling.{waits};
+ghost use Rattle.ti_slot.specs.Waiting.{IsBufferOf};
+ghost use Rattle.ti_handshake.specs.Call.{GoesOn, Holds, next_call};
+ghost use Rattle.ti_handshake.specs.Cancelled.{AreGivenUp};
+ghost use Rattle.ti_handshake.specs.Desk.{Discards, IsAnsweredAt, IsInTime, IsLeft, IsSame, is_out, with_cancelled};

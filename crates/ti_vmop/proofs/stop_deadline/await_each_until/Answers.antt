@@ -1,0 +1,30 @@
+use Rattle.std.proofs.Common.{◌+◌, [], arith}
+use Rattle.ti_vmop.proofs.Each.{each_none, each_more, each_all, adds, stood_more, stood_all, stands_now}
+use Rattle.ti_vmop.proofs.stop_deadline.await_each_until.Goals as goal
+
+pub loop-i-init : goal.loop-i-init
+loop-i-init g c = (each_none c.args.desks.now (λ e. []), λ i p e listed. cc listed)
+
+pub loop-i-preserved : goal.loop-i-preserved
+loop-i-preserved g c = (
+  each_more c.args.threads.now c.loop-i.i _ c.args.desks.now c.loop-i.desks (λ e. []) (record { 0 = 0 }, 0) c.index-desks-thread.result c.await_one_until.new.desk c.requires.distinct c.requires.there c.loop-i-test.true (omega arith) c.loop-i.invariant.0
+      (adds _ _ _ c.await_one_until.ensures.same c.await_one_until.ensures.hold),
+  stood_more c.args.threads.now c.loop-i.i _ c.loop-i.desks (record { 0 = 0 }, 0) c.await_one_until.new.desk c.index-desks-thread.result c.loop-i-test.true (omega arith) c.loop-i.invariant.1
+      (stands_now _ _ c.await_one_until.ensures.same c.await_one_until.ensures.hold (c.await_one_until.ensures.stands c.if-not-await_one_until.false)),
+)
+
+pub returns-then-not-await_one_until-clause-waits : goal.returns-then-not-await_one_until-clause-waits
+returns-then-not-await_one_until-clause-waits g c = record {
+  count = c.loop-i.i + 1;
+  waits = each_more c.args.threads.now c.loop-i.i (c.loop-i.i + 1) c.args.desks.now c.loop-i.desks (λ e. []) (record { 0 = 0 }, 0) c.index-desks-thread.result c.await_one_until.new.desk c.requires.distinct c.requires.there c.loop-i-test.true (omega arith) c.loop-i.invariant.0
+      (adds _ _ _ c.await_one_until.ensures.same c.await_one_until.ensures.hold);
+}
+
+pub returns-clause-waits : goal.returns-clause-waits
+returns-clause-waits g c = record { count = c.loop-i.i; waits = c.loop-i.invariant.0 }
+
+pub returns-clause-desks : goal.returns-clause-desks
+returns-clause-desks g c = λ _. each_all c.args.threads.now c.loop-i.i c.args.desks.now c.loop-i.desks (λ e. []) (omega (arith, c.loop-i-test.false)) c.loop-i.invariant.0
+
+pub returns-clause-stand : goal.returns-clause-stand
+returns-clause-stand g c = λ _. stood_all c.args.threads.now c.loop-i.i c.loop-i.desks (omega (arith, c.loop-i-test.false)) c.loop-i.invariant.1
