@@ -14,7 +14,7 @@ use Rattle.ti_agent.specs.Posts.{posting_refusal}
 use Rattle.ti_handshake.specs.Desk.{DeskState}
 use Rattle.ti_vmop.specs.Turns.{Listed, AtDesk, AtEach, is_listed}
 use Rattle.ti_vmop.specs.declared.global_stops.Round.{Round}
-use Rattle.ti_agent.specs.Env.{Environment, cells_at}
+use Rattle.ti_agent.specs.Env.{Environment, place_in, cells_at}
 use Rattle.ti_agent.specs.Asks.{IsCalled, IsCalledBy, refusal_of}
 use Rattle.ti_agent.specs.Lists.{IsPosted, IsPostedBy, PostsEach, IsCollected, CollectsEach, WentEach}
 use Rattle.ti_agent.specs.declared.lists.Posted.{Posted}
@@ -46,11 +46,11 @@ at_cells threads old new more k = each_cell old new k.0 (λ i p q a b. one (is_l
     one false p q h = ap (λ (x : DeskState). x.cell) h
 
 pub called_cells : (old new : Environment) (thread : ThreadNo) (c : Call) (a : Answer) → IsCalled old new thread c a → cells_at new.desks ≡ cells_at old.desks
-called_cells old new thread c a k = one (refusal_of old.state thread c a) k
+called_cells old new thread c a k = one (refusal_of old thread c a) k
   where
     one : (r : Option TiError) → IsCalledBy r old new thread c a → cells_at new.desks ≡ cells_at old.desks
     one (Some e) h = ap (λ (s : Environment). cells_at s.desks) h.0
-    one None h = ap (λ (s : Environment). cells_at s.desks) h.new_is ∙ set_cells old.desks thread.0 h.before h.after h.there h.asks.same.cell
+    one None h = ap (λ (s : Environment). cells_at s.desks) h.new_is ∙ set_cells old.desks (place_in old.desks thread) h.before h.after h.there h.asks.same.cell
 
 posted_cells : (old new : Environment) (c : Call) (t : ThreadNo) (x : Posted) → IsPosted old new c t x → cells_at new.desks ≡ cells_at old.desks
 posted_cells old new c t x k = one (posting_refusal old t c) x k
@@ -58,8 +58,8 @@ posted_cells old new c t x k = one (posting_refusal old t c) x k
     one : (r : Option TiError) (x : Posted) → IsPostedBy r old new c t x → cells_at new.desks ≡ cells_at old.desks
     one (Some e) (Code n) h = ap (λ (s : Environment). cells_at s.desks) h.0
     one (Some e) (Waits k) h = absurd h
-    one None (Code n) h = ap (λ (s : Environment). cells_at s.desks) h.1.new_is ∙ set_cells old.desks t.0 h.1.before h.1.after h.1.there h.1.same.cell
-    one None (Waits k) h = ap (λ (s : Environment). cells_at s.desks) h.new_is ∙ set_cells old.desks t.0 h.before h.after h.there h.same.cell
+    one None (Code n) h = ap (λ (s : Environment). cells_at s.desks) h.1.new_is ∙ set_cells old.desks (place_in old.desks t) h.1.before h.1.after h.1.there h.1.same.cell
+    one None (Waits k) h = ap (λ (s : Environment). cells_at s.desks) h.new_is ∙ set_cells old.desks (place_in old.desks t) h.before h.after h.there h.same.cell
 
 posts_cells : (old new : Environment) (c : Call) (ts : List ThreadNo) (xs : List Posted) → PostsEach old new c ts xs → cells_at new.desks ≡ cells_at old.desks
 posts_cells old new c [] [] k = ap (λ (s : Environment). cells_at s.desks) k
@@ -71,7 +71,7 @@ collected_cells : (old new : Environment) (x : Posted) (code : ℕ) → IsCollec
 collected_cells old new (Code n) code k = ap (λ (s : Environment). cells_at s.desks) k.0
 collected_cells old new (Waits t) code k =
     let h = k.1 in
-    ap (λ (s : Environment). cells_at s.desks) h.new_is ∙ set_cells old.desks t.thread.0 h.before h.after h.there h.same.cell
+    ap (λ (s : Environment). cells_at s.desks) h.new_is ∙ set_cells old.desks (place_in old.desks t.thread) h.before h.after h.there h.same.cell
 
 collects_cells : (old new : Environment) (xs : List Posted) (codes : List ℕ) → CollectsEach old new xs codes → cells_at new.desks ≡ cells_at old.desks
 collects_cells old new [] [] k = ap (λ (s : Environment). cells_at s.desks) k
@@ -84,15 +84,15 @@ went_cells old new c ts codes k = collects_cells k.between new k.posted codes k.
 
 reads_cells : (old new : Environment) (n : ℤ) (xs : List Telling) → ReadsEach old new n xs → cells_at new.desks ≡ cells_at old.desks
 reads_cells old new n [] k = ap (λ (s : Environment). cells_at s.desks) k
-reads_cells old new n (x ∷ xs) k = reads_cells k.0 new n xs k.2 ∙ at_cells ((x.thread, 0) ∷ []) old.desks k.0.desks (λ e. Read e n ∷ []) k.1.desks
+reads_cells old new n (x ∷ xs) k = reads_cells k.0 new n xs k.2 ∙ at_cells ((x.place, 0) ∷ []) old.desks k.0.desks (λ e. Read e n ∷ []) k.1.desks
 
-pub traced_cells : (old new : Environment) (n : ℤ) (stopping : Listed) (threads : List ThreadNo) (infos : List StackInfo) (round : Round) → IsTraced old new n stopping threads infos round → cells_at new.desks ≡ cells_at old.desks
-traced_cells old new n stopping threads infos round k =
+pub traced_cells : (old new : Environment) (n : ℤ) (stopping : Listed) (places threads : List ThreadNo) (infos : List StackInfo) (round : Round) → IsTraced old new n stopping places threads infos round → cells_at new.desks ≡ cells_at old.desks
+traced_cells old new n stopping places threads infos round k =
     at_cells stopping k.seen.desks new.desks (λ e. Go e ∷ []) k.goes.desks
     ∙ (reads_cells k.stopped k.seen n k.reads.tellings k.reads.reads ∙ at_cells stopping old.desks k.stopped.desks (λ e. Stop e ∷ []) k.stops.desks)
 
 pub alive_cells : (old new : Environment) (n : ℤ) (infos : List StackInfo) (round : Round) → TracesAlive old new n infos round → cells_at new.desks ≡ cells_at old.desks
-alive_cells old new n infos round k = traced_cells old new n _ _ k.all round k.traced
+alive_cells old new n infos round k = traced_cells old new n _ _ _ k.all round k.traced
 
 -- a call that went on where it is accepted, and changed nothing where it is refused
 pub either_way : {A E : Type 0} (r : Result A E) (P : A → Type 0) (Q : E → Type 0) (old new : Environment) → IfOk r P → IfErr r Q → ((a : A) → P a → cells_at new.desks ≡ cells_at old.desks) → ((e : E) → Q e → new ≡ old)

@@ -1,5 +1,5 @@
 -- Calls with a deadline, and calls that are given up.
-use Rattle.std.proofs.Common.{◌≡◌, ℕ, zero, suc, ◌+◌, ◌<◌, ◌≤◌, ◌&&◌, Bool, true, false, List, [], ◌∷◌, ◌++◌, length, refl, ap, sym, ◌∙◌, arith, subst, Option, Some, None, Result, Ok, Err}
+use Rattle.std.proofs.Common.{length-set, ◌≡◌, ℕ, zero, suc, ◌<◌, ◌&&◌, Bool, true, false, List, [], ◌∷◌, ◌++◌, length, refl, ap, sym, ◌∙◌, arith, subst, Option, Some, None, Result, Ok, Err}
 use Rattle.std.specs.Prelude.{slice_get, slice_set, slice_index_or, if◌then◌else◌, OnOk, OnErr}
 use Rattle.std.specs.Option.{option_map}
 use Rattle.std.specs.Option.{unwrap_or}
@@ -14,14 +14,14 @@ use Rattle.ti_types.specs.declared.error.TiError.TheVariants.{OutOfMemory, Timed
 use Rattle.ti_types.specs.declared.numbers.ThreadNo.{ThreadNo}
 use Rattle.ti_env.specs.Env.{EnvValue, call_refusal, with_spent}
 use Rattle.ti_replay.specs.Settling.{waits}
-use Rattle.ti_slot.specs.Tickets.{without_ticket}
 use Rattle.ti_handshake.specs.Call.{GoesOn, Holds, next_call, next_ticket}
-use Rattle.ti_handshake.specs.Desk.{DeskState, Discards, DiscardsOf, GivesUp, IsInTime, is_out}
-use Rattle.ti_agent.specs.Env.{Environment, IsWhole, is_full}
+use Rattle.ti_handshake.specs.Desk.{DeskState, Discards, DiscardsOf, IsInTime, is_out}
+use Rattle.ti_agent.specs.Env.{Environment, IsWhole, place_in, place_of, thread_refusal, told, is_full}
+use Rattle.ti_agent.proofs.Places.{about_at, place_set}
 use Rattle.ti_agent.specs.Asks.{Asks, Went, IsKind, is_for_memory, is_timed_out}
 use Rattle.ti_agent.specs.Deadlines.{Cancels, DiscardsAt, GivesUpAt, ComesAs, ComesTo, IsCalledWithin, IsCalledWithinBy}
 use Rattle.ti_agent.proofs.Replied.{answered_kind, answered_not, answered_in_time}
-use Rattle.ti_agent.proofs.Whole.{desk_at, may_stay, fewer_if, whole_after, after_call, went, whole_seen, seen_call}
+use Rattle.ti_agent.proofs.Whole.{desk_at, found_at, after_is, may_stay, fewer_if, whole_after, after_call, went, whole_seen, seen_call}
 
 -- a desk in its own place
 
@@ -42,10 +42,12 @@ pub cancel_whole : (s : Environment) (t : ℕ) (p q : DeskState) (r : Result (Un
 cancel_whole s t p q (Ok u) whole at env hold same = whole_seen s t p q p.view.posted whole at env hold.waits (omega arith)
 cancel_whole s t p q (Err e) whole at env hold same = subst (λ (z : Environment). IsWhole z) (sym (seen_same s t p q at same)) whole
 
-pub cancels : (s : Environment) (k : Ticket) (p q : DeskState) (r : Result (Unit {0}) TiError) → slice_get s.desks k.thread.0 ≡ Some p → (q.cell ≡ p.cell) × (q.env ≡ p.env) → OnOk r (Holds p.view q.view [])
-    → OnOk r (q.cancelled ≡ (if is_out p k then p.cancelled ++ k ∷ [] else p.cancelled)) → OnOk r (k.thread.0 < length s.desks → Cancels s (seen_call s k.thread.0 q) k)
-cancels s k p q (Ok u) at here hold cancelled = λ _. record { before = p; after = q; there = at; cell = here.0; env = here.1; hold = hold; cancelled = cancelled; new_is = refl }
-cancels s k p q (Err e) at here hold cancelled = tt
+pub cancels : (s : Environment) (k : Ticket) (t : ℕ) (p q : DeskState) (r : Result (Unit {0}) TiError) → t ≡ place_in s.desks k.thread → slice_get s.desks t ≡ Some p → (q.cell ≡ p.cell) × (q.env ≡ p.env) → OnOk r (Holds p.view q.view [])
+    → OnOk r (q.cancelled ≡ (if is_out p k then p.cancelled ++ k ∷ [] else p.cancelled)) → OnOk r (place_in s.desks k.thread < length s.desks → Cancels s (seen_call s t q) k)
+cancels s k t p q (Ok u) is at here hold cancelled = λ _.
+    let there = ap (slice_get s.desks) (sym is) ∙ at in
+    record { before = p; after = q; there = there; about = about_at s.desks k.thread p there; cell = here.0; env = here.1; hold = hold; cancelled = cancelled; new_is = ap (λ (n : ℕ). seen_call s n q) is }
+cancels s k t p q (Err e) is at here hold cancelled = tt
 
 pub cancel_kept : (s : Environment) (t : ℕ) (p q : DeskState) (r : Result (Unit {0}) TiError) → slice_get s.desks t ≡ Some p → OnErr r (q ≡ p) → OnErr r (seen_call s t q ≡ s)
 cancel_kept s t p q (Ok u) at same = tt
@@ -60,42 +62,69 @@ discard_whole s t p q thrown whole at d = by_list p.cancelled d
     by_list [] k = subst (λ (z : Environment). IsWhole z) (sym (seen_same s t p q at k.0)) whole
     by_list (u ∷ l) k = whole_seen s t p q _ whole at k.env k.hold.waits (fewer_if thrown u p.view.posted)
 
+-- it leaves each thread in its place
+discards_subject : (p q : DeskState) (thrown : Bool) → Discards p q thrown → q.view.subject ≡ p.view.subject
+discards_subject p q thrown d = by_list p.cancelled d
+  where
+    by_list : (l : List Ticket) → DiscardsOf l p q thrown → q.view.subject ≡ p.view.subject
+    by_list [] k = ap (λ (x : DeskState). x.view.subject) k.0
+    by_list (u ∷ l) k = k.hold.waits.goes.subject
+
+pub discards_place : (old mid : Environment) (thread t : ThreadNo) (thrown : Bool) → DiscardsAt old mid thread thrown → place_in mid.desks t ≡ place_in old.desks t
+discards_place old mid thread t thrown d =
+    ap (λ (x : Environment). place_in x.desks t) d.new_is ∙ place_set old.desks (place_in old.desks thread) d.before d.after t d.there (discards_subject d.before d.after thrown d.discards)
+
+pub discards_there : (old mid : Environment) (thread t : ThreadNo) (thrown : Bool) → DiscardsAt old mid thread thrown → place_in old.desks t < length old.desks → place_in mid.desks t < length mid.desks
+discards_there old mid thread t thrown d here =
+    let same : length mid.desks ≡ length old.desks = ap (λ (x : Environment). length x.desks) d.new_is ∙ length-set old.desks (place_in old.desks thread) d.after in
+    let still = discards_place old mid thread t thrown d in
+    omega (arith, here, same, still)
+
+pub discards_free : (old mid : Environment) (thread t : ThreadNo) (c : Call) (thrown : Bool) → DiscardsAt old mid thread thrown → thread_refusal old t c ≡ None → thread_refusal mid t c ≡ None
+discards_free old mid thread t c thrown d free =
+    let state : mid.state ≡ old.state = ap (λ (x : Environment). x.state) d.new_is in
+    subst (λ (z : EnvValue × ℕ). told z.0.known t (call_refusal z.0 (record { 0 = z.1 }) c) ≡ None) (λ j. (sym state j, sym (discards_place old mid thread t thrown d) j)) free
+
 -- a call with a deadline
 
-pub in_time_whole : (s : Environment) (thread : ThreadNo) (c : Call) (p q : DeskState) (r : Option Answer) (state : EnvValue) → IsWhole s → call_refusal s.state thread c ≡ None → p ≡ slice_index_or s.desks thread.0 p
-    → state ≡ with_spent s.state thread → (waits c && is_full s thread) ≡ false → GoesOn p.view q.view → q.view.mine ≡ p.view.mine ++ next_call p.view p.env c ∷ [] → IsInTime p q c r → IsWhole (after_call s thread state q)
-in_time_whole s thread c p q (Some a) state whole h e spend free goes mine k =
-    let old = whole.desks thread.0 p (desk_at s thread c p whole h e) in
-    whole_after s thread c p q state whole h e spend k.0.env goes mine (omega (arith, ap (λ (l : List Ticket). length l) k.1.posted, old.within))
-in_time_whole s thread c p q None state whole h e spend free goes mine k =
-    let room = may_stay s thread c p whole h e free k.left.late in
-    whole_after s thread c p q state whole h e spend k.env goes mine (omega (arith, ap (λ (l : List Ticket). length l) k.left.posted, length-append p.view.posted (next_ticket p.view p.env ∷ []), room))
+pub in_time_whole : (s : Environment) (thread place : ThreadNo) (c : Call) (p q : DeskState) (r : Option Answer) (state : EnvValue) → IsWhole s → call_refusal s.state place c ≡ None → p ≡ slice_index_or s.desks place.0 p
+    → place ≡ place_of s.desks thread → state ≡ with_spent s.state place → (waits c && is_full s thread) ≡ false → GoesOn p.view q.view → q.view.mine ≡ p.view.mine ++ next_call p.view p.env c ∷ [] → IsInTime p q c r
+    → IsWhole (after_call s place state q)
+in_time_whole s thread place c p q (Some a) state whole h e found spend free goes mine k =
+    let old = whole.desks place.0 p (desk_at s place c p whole h e) in
+    whole_after s place c p q state whole h e spend k.0.env goes mine (omega (arith, ap (λ (l : List Ticket). length l) k.1.posted, old.within))
+in_time_whole s thread place c p q None state whole h e found spend free goes mine k =
+    let room = may_stay s thread place c p whole h e found free k.left.late in
+    whole_after s place c p q state whole h e spend k.env goes mine (omega (arith, ap (λ (l : List Ticket). length l) k.left.posted, length-append p.view.posted (next_ticket p.view p.env ∷ []), room))
 
 -- what is answered when a time is over
 abbrev pub or_late : Option Answer → Answer
 or_late (Some a) = a
 or_late None = answer.Refused TimedOut
 
-pub in_time_comes : (s : Environment) (thread : ThreadNo) (c : Call) (p q : DeskState) (r : Option Answer) (a : Answer) (state : EnvValue) → IsWhole s → call_refusal s.state thread c ≡ None → p ≡ slice_index_or s.desks thread.0 p
-    → state ≡ with_spent s.state thread → GoesOn p.view q.view → q.view.mine ≡ p.view.mine ++ next_call p.view p.env c ∷ [] → IsInTime p q c r → a ≡ or_late r → ComesTo s (after_call s thread state q) thread c a
-in_time_comes s thread c p q (Some b) a state whole h e spend goes mine k is =
+pub in_time_comes : (s : Environment) (thread place : ThreadNo) (c : Call) (p q : DeskState) (r : Option Answer) (a : Answer) (state : EnvValue) → IsWhole s → call_refusal s.state place c ≡ None → p ≡ slice_index_or s.desks place.0 p
+    → place ≡ place_of s.desks thread → state ≡ with_spent s.state place → GoesOn p.view q.view → q.view.mine ≡ p.view.mine ++ next_call p.view p.env c ∷ [] → IsInTime p q c r → a ≡ or_late r
+    → ComesTo s (after_call s place state q) thread c a
+in_time_comes s thread place c p q (Some b) a state whole h e found spend goes mine k is =
     let asks : Asks p q c b = record { same = k.0; goes = goes; mine = mine; posted = k.1.posted; answer = k.1.answered } in
-    let done : Went s (after_call s thread state q) thread c b = went s (after_call s thread state q) thread c p q b state whole h e spend asks refl in
+    let done : Went s (after_call s place state q) thread c b = went s (after_call s place state q) thread place c p q b state whole h e found spend asks refl in
     let short : is_for_memory b ≡ false = answered_not _ _ _ c b k.1.answered in
     let late : is_timed_out b ≡ false = answered_in_time _ _ _ c b k.1.answered in
-    subst (λ (x : Answer). ComesTo s (after_call s thread state q) thread c x) (sym is)
-    (subst (λ (x : Bool × Bool). ComesAs x.0 x.1 s (after_call s thread state q) thread c b) (λ i. (sym short i, sym late i)) done)
-in_time_comes s thread c p q None a state whole h e spend goes mine k is =
-    let gives : GivesUpAt s (after_call s thread state q) thread c = record {
+    subst (λ (x : Answer). ComesTo s (after_call s place state q) thread c x) (sym is)
+    (subst (λ (x : Bool × Bool). ComesAs x.0 x.1 s (after_call s place state q) thread c b) (λ i. (sym short i, sym late i)) done)
+in_time_comes s thread place c p q None a state whole h e found spend goes mine k is =
+    let at = found_at s thread place c p whole h e found in
+    let gives : GivesUpAt s (after_call s place state q) thread c = record {
       before = p;
       after = q;
-      there = desk_at s thread c p whole h e;
+      there = at;
+      about = about_at s.desks thread p at;
       goes = goes;
       mine = mine;
       gives_up = k;
-      new_is = ap (λ (z : EnvValue). after_call s thread z q) spend;
+      new_is = after_is s thread place q state found spend;
     } in
-    subst (λ (x : Answer). ComesTo s (after_call s thread state q) thread c x) (sym is) gives
+    subst (λ (x : Answer). ComesTo s (after_call s place state q) thread c x) (sym is) gives
 
 pub in_time_kind : (c : Call) (p q : DeskState) (r : Option Answer) (a : Answer) → IsInTime p q c r → a ≡ or_late r → IsKind c a
 in_time_kind c p q (Some b) a k is = subst (λ (x : Answer). IsKind c x) (sym is) (answered_kind _ _ _ c b k.1.answered)
@@ -114,7 +143,7 @@ short_comes s thread c e is =
     let none : ComesTo s s thread c (answer.Refused OutOfMemory) = refl in
     subst (λ (x : TiError). ComesTo s s thread c (answer.Refused x)) (sym is) none
 
-pub comes_within : (old mid new : Environment) (thread : ThreadNo) (c : Call) (a : Answer) (thrown : Bool) → call_refusal old.state thread c ≡ None → DiscardsAt old mid thread thrown → ComesTo mid new thread c a
+pub comes_within : (old mid new : Environment) (thread : ThreadNo) (c : Call) (a : Answer) (thrown : Bool) → thread_refusal old thread c ≡ None → DiscardsAt old mid thread thrown → ComesTo mid new thread c a
     → ((waits c && is_full mid thread) ≡ true → a ≡ answer.Refused OutOfMemory) → IsCalledWithin old new thread c a
 comes_within old mid new thread c a thrown free discards comes full =
     subst (λ (o : Option TiError). IsCalledWithinBy o old new thread c a) (sym free) (record { thrown = thrown; mid = mid; discards = discards; comes = comes; full = full })

@@ -2,7 +2,8 @@ pub mod Replied
 pub mod Posting
 pub mod Whole
 pub mod Listing
-pub mod Counts
+pub mod TimesLaws
 pub mod Tracing
 pub mod Cells
 pub mod InTime
+pub mod Places

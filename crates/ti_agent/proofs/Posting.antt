@@ -11,12 +11,12 @@ use Rattle.ti_types.specs.declared.numbers.ThreadNo.{ThreadNo}
 use Rattle.ti_slot.specs.declared.asked.Asked.{Asked as AskedOf}
 use Rattle.ti_slot.specs.declared.asked.Asked.TheVariants.{Answered, Waiting}
 use Rattle.ti_slot.specs.Tickets.{same, has, without_ticket}
-use Rattle.ti_env.specs.Env.{call_refusal}
 use Rattle.ti_types.specs.declared.error.TiError.{TiError}
 use Rattle.ti_handshake.specs.Call.{ticket_told}
 use Rattle.ti_handshake.specs.Desk.{DeskState}
 use Rattle.ti_vmop.proofs.Each.{at_index}
-use Rattle.ti_agent.specs.Env.{Environment}
+use Rattle.ti_agent.specs.Env.{Environment, place_in}
+use Rattle.ti_agent.proofs.Places.{about_at, place_set}
 use Rattle.ti_agent.specs.declared.lists.Posted.{Posted}
 use Rattle.ti_agent.specs.declared.lists.Posted.TheVariants.{Code, Waits}
 use Rattle.ti_agent.specs.Posts.{posting_refusal, Posts, Collects, LooksFor, WaitsFor, IsOut, IsOutIfWaiting}
@@ -39,16 +39,16 @@ get_range [] i p e = absurd (none e)
 get_range (x ∷ xs) zero p e = omega arith
 get_range (x ∷ xs) (suc i) p e = let h = get_range xs i p e in omega (arith, h)
 
-pub in_range_of : (s : Environment) (k : Ticket) → IsOut s k → k.thread.0 < length s.desks
-in_range_of s k o = get_range s.desks k.thread.0 o.desk o.there
+pub in_range_of : (s : Environment) (k : Ticket) → IsOut s k → place_in s.desks k.thread < length s.desks
+in_range_of s k o = get_range s.desks (place_in s.desks k.thread) o.desk o.there
 
 some_same : (x y : DeskState) → Some x ≡ Some y → x ≡ y
 some_same x y e = cc
 
-pub out_at : (s : Environment) (k : Ticket) (p : DeskState) → IsOut s k → p ≡ slice_index_or s.desks k.thread.0 p → (slice_get s.desks k.thread.0 ≡ Some p) × (is_out p k ≡ true)
-out_at s k p o e =
-    let there : slice_get s.desks k.thread.0 ≡ Some p = at_index s.desks k.thread.0 p (in_range_of s k o) ∙ ap (λ (x : DeskState). Some x) (sym e) in
-    let is : o.desk ≡ p = some_same o.desk p (sym o.there ∙ there) in
+pub out_at : (s : Environment) (k : Ticket) (t : ℕ) (p : DeskState) → t ≡ place_in s.desks k.thread → IsOut s k → p ≡ slice_index_or s.desks t p → (slice_get s.desks t ≡ Some p) × (is_out p k ≡ true)
+out_at s k t p place o e =
+    let there : slice_get s.desks t ≡ Some p = at_index s.desks t p (subst (λ (n : ℕ). n < length s.desks) (sym place) (in_range_of s k o)) ∙ ap (λ (x : DeskState). Some x) (sym e) in
+    let is : o.desk ≡ p = some_same o.desk p (sym o.there ∙ (ap (slice_get s.desks) (sym place) ∙ there)) in
     (there, ap (λ (x : DeskState). is_out x k) (sym is) ∙ o.out)
 
 set_at : (l : List DeskState) (i : ℕ) (x : DeskState) → i < length l → slice_get (slice_set l i x) i ≡ Some x
@@ -94,21 +94,27 @@ has_without j k (u ∷ ts) h =
 
 -- what was posted before stays out
 
-out_apart : (s s' : Environment) (t : ℕ) (q : DeskState) (k : Ticket) → s'.desks ≡ slice_set s.desks t q → t ≢ k.thread.0 → IsOut s k → IsOut s' k
-out_apart s s' t q k e n o = record {
+-- the desk at the ticket's place, after one desk was set that is at the same thread as before
+place_there : (s s' : Environment) (t : ℕ) (p q : DeskState) (k : Ticket) → s'.desks ≡ slice_set s.desks t q → slice_get s.desks t ≡ Some p → q.view.subject ≡ p.view.subject
+    → slice_get s'.desks (place_in s'.desks k.thread) ≡ slice_get (slice_set s.desks t q) (place_in s.desks k.thread)
+place_there s s' t p q k e there same =
+    ap (λ (l : List DeskState). slice_get l (place_in l k.thread)) e ∙ ap (slice_get (slice_set s.desks t q)) (place_set s.desks t p q k.thread there same)
+
+out_apart : (s s' : Environment) (t : ℕ) (p q : DeskState) (k : Ticket) → s'.desks ≡ slice_set s.desks t q → slice_get s.desks t ≡ Some p → q.view.subject ≡ p.view.subject → t ≢ place_in s.desks k.thread → IsOut s k → IsOut s' k
+out_apart s s' t p q k e there same n o = record {
   desk = o.desk;
-  there = ap (λ (l : List DeskState). slice_get l k.thread.0) e ∙ (set_apart s.desks t k.thread.0 q n ∙ o.there);
+  there = place_there s s' t p q k e there same ∙ (set_apart s.desks t (place_in s.desks k.thread) q n ∙ o.there);
   out = o.out;
 }
 
-out_here : (s s' : Environment) (t : ℕ) (p q : DeskState) (k : Ticket) → s'.desks ≡ slice_set s.desks t q → slice_get s.desks t ≡ Some p → t ≡ k.thread.0 → is_out q k ≡ true → IsOut s' k
-out_here s s' t p q k e there same h = record {
+out_here : (s s' : Environment) (t : ℕ) (p q : DeskState) (k : Ticket) → s'.desks ≡ slice_set s.desks t q → slice_get s.desks t ≡ Some p → q.view.subject ≡ p.view.subject → t ≡ place_in s.desks k.thread → is_out q k ≡ true → IsOut s' k
+out_here s s' t p q k e there same place h = record {
   desk = q;
-  there = ap (λ (l : List DeskState). slice_get l k.thread.0) e ∙ (ap (slice_get (slice_set s.desks t q)) (sym same) ∙ set_at s.desks t q (get_range s.desks t p there));
+  there = place_there s s' t p q k e there same ∙ (ap (slice_get (slice_set s.desks t q)) (sym place) ∙ set_at s.desks t q (get_range s.desks t p there));
   out = h;
 }
 
-desk_is : (s : Environment) (t : ℕ) (p : DeskState) (k : Ticket) (o : IsOut s k) → slice_get s.desks t ≡ Some p → t ≡ k.thread.0 → is_out p k ≡ true
+desk_is : (s : Environment) (t : ℕ) (p : DeskState) (k : Ticket) (o : IsOut s k) → slice_get s.desks t ≡ Some p → t ≡ place_in s.desks k.thread → is_out p k ≡ true
 desk_is s t p k o there e =
     let is : o.desk ≡ p = some_same o.desk p (sym o.there ∙ (ap (slice_get s.desks) (sym e) ∙ there)) in
     ap (λ (x : DeskState). is_out x k) (sym is) ∙ o.out
@@ -123,20 +129,21 @@ out_still p q k o same h = let given : has k q.cancelled ≡ has k p.cancelled =
 
 out_kept : (s s' : Environment) (t : ThreadNo) (c : Call) (r : AskedOf) (k : Ticket) → Posts s s' t c r → IsOut s k → IsOut s' k
 out_kept s s' t c r k w o =
-    let desks : s'.desks ≡ slice_set s.desks t.0 w.after = ap (λ (x : Environment). x.desks) w.new_is in
-    elim (cases_eq t.0 k.thread.0) [
+    let i = place_in s.desks t in
+    let desks : s'.desks ≡ slice_set s.desks i w.after = ap (λ (x : Environment). x.desks) w.new_is in
+    elim (cases_eq i (place_in s.desks k.thread)) [
       | inl e ↦
-          let was = desk_is s t.0 w.before k o w.there e in
+          let was = desk_is s i w.before k o w.there e in
           let is : has k w.after.view.posted ≡ true = ap (has k) w.hold.waits.posted ∙ has_more k w.before.view.posted (ticket_told r) (out_posted w.before k was) in
-          out_here s s' t.0 w.before w.after k desks w.there e (out_still w.before w.after k was w.same is)
-      | inr n ↦ out_apart s s' t.0 w.after k desks n o
+          out_here s s' i w.before w.after k desks w.there w.hold.waits.goes.subject e (out_still w.before w.after k was w.same is)
+      | inr n ↦ out_apart s s' i w.before w.after k desks w.there w.hold.waits.goes.subject n o
     ]
 
 out_new : (s s' : Environment) (t : ThreadNo) (c : Call) (k : Ticket) → Posts s s' t c (Waiting k) → IsOut s' k
 out_new s s' t c k w =
-    let desks : s'.desks ≡ slice_set s.desks t.0 w.after = ap (λ (x : Environment). x.desks) w.new_is in
-    let at : t.0 ≡ k.thread.0 = ap (λ (x : ThreadNo). x.0) (sym w.about) ∙ sym (ap (λ (x : Ticket). x.thread.0) w.told.1) in
-    out_here s s' t.0 w.before w.after k desks w.there at w.out
+    let desks : s'.desks ≡ slice_set s.desks (place_in s.desks t) w.after = ap (λ (x : Environment). x.desks) w.new_is in
+    let at : place_in s.desks t ≡ place_in s.desks k.thread = ap (place_in s.desks) (sym w.about ∙ sym (ap (λ (x : Ticket). x.thread) w.told.1)) in
+    out_here s s' (place_in s.desks t) w.before w.after k desks w.there w.hold.waits.goes.subject at w.out
 
 pub out_if_waiting : (s s' : Environment) (t : ThreadNo) (c : Call) (r : AskedOf) → Posts s s' t c r → IsOutIfWaiting s' r
 out_if_waiting s s' t c (Answered a) w = tt
@@ -149,8 +156,8 @@ apart_new s s' t c k j w o =
       | inr e ↦ e
       | inl e ↦
           let is : k ≡ j = same_is k j e in
-          let at : t.0 ≡ j.thread.0 = ap (λ (x : ThreadNo). x.0) (sym w.about) ∙ (sym (ap (λ (x : Ticket). x.thread.0) w.told.1) ∙ ap (λ (x : Ticket). x.thread.0) is) in
-          let was : has j w.before.view.posted ≡ true = out_posted w.before j (desk_is s t.0 w.before j o w.there at) in
+          let at : place_in s.desks t ≡ place_in s.desks j.thread = ap (place_in s.desks) (sym w.about ∙ (sym (ap (λ (x : Ticket). x.thread) w.told.1) ∙ ap (λ (x : Ticket). x.thread) is)) in
+          let was : has j w.before.view.posted ≡ true = out_posted w.before j (desk_is s (place_in s.desks t) w.before j o w.there at) in
           let not : has j w.before.view.posted ≡ false = ap (λ (x : Ticket). has x w.before.view.posted) (sym is) ∙ w.told.2 in
           let never : true ≡ false = sym was ∙ not in
           cc
@@ -215,13 +222,14 @@ posts_more s m m' c (u ∷ ts) [] t x h k = absurd h
 open_after : (s s' : Environment) (k : Ticket) (a : Answer) (x : Posted) → Collects s s' k a → AreOthers k (x ∷ []) → IsOpen s x → IsOpen s' x
 open_after s s' k a (Code n) w h o = tt
 open_after s s' k a (Waits j) w h o =
-    let desks : s'.desks ≡ slice_set s.desks k.thread.0 w.after = ap (λ (z : Environment). z.desks) w.new_is in
-    elim (cases_eq k.thread.0 j.thread.0) [
+    let i = place_in s.desks k.thread in
+    let desks : s'.desks ≡ slice_set s.desks i w.after = ap (λ (z : Environment). z.desks) w.new_is in
+    elim (cases_eq i (place_in s.desks j.thread)) [
       | inl e ↦
-          let was = desk_is s k.thread.0 w.before j o w.there e in
+          let was = desk_is s i w.before j o w.there e in
           let is : has j w.after.view.posted ≡ true = ap (has j) w.hold.posted ∙ (has_without j k w.before.view.posted h.0 ∙ out_posted w.before j was) in
-          out_here s s' k.thread.0 w.before w.after j desks w.there e (out_still w.before w.after j was w.same is)
-      | inr n ↦ out_apart s s' k.thread.0 w.after j desks n o
+          out_here s s' i w.before w.after j desks w.there w.hold.goes.subject e (out_still w.before w.after j was w.same is)
+      | inr n ↦ out_apart s s' i w.before w.after j desks w.there w.hold.goes.subject n o
     ]
 
 first_other : (k : Ticket) (x : Posted) (xs : List Posted) → AreOthers k (x ∷ xs) → AreOthers k (x ∷ []) × AreOthers k xs
@@ -245,20 +253,28 @@ collects_more s m m' [] (n ∷ codes) x code h k = absurd h
 collects_more s m m' (y ∷ xs) [] x code h k = absurd h
 
 -- a desk looked for an answer
-pub looked_for : (s : Environment) (k : Ticket) (p q : DeskState) (r : Option Answer) → slice_get s.desks k.thread.0 ≡ Some p → IsSame p q
+pub looked_for : (s : Environment) (k : Ticket) (t : ℕ) (p q : DeskState) (r : Option Answer) → t ≡ place_in s.desks k.thread → slice_get s.desks t ≡ Some p → IsSame p q
     → HoldsWith p.view q.view [] (if is_some r then without_ticket k p.view.posted else p.view.posted)
     → IfSome r (λ a. has k q.view.posted ≡ false) → option_map said r ≡ (if is_out p k then reply_to p.view.subject.limits q.view.seen k else None)
-    → IfSome r (λ a. ReplyAtPlace p.view.subject.limits q.view.seen k (said a)) → LooksFor s (seen_call s k.thread.0 q) k (option_map said r)
-looked_for s k p q None at same hold once is place = record { before = p; after = q; there = at; same = same; hold = hold; once = tt; answer = is; place = tt; new_is = refl }
-looked_for s k p q (Some a) at same hold once is place = record { before = p; after = q; there = at; same = same; hold = hold; once = once; answer = is; place = place; new_is = refl }
+    → IfSome r (λ a. ReplyAtPlace p.view.subject.limits q.view.seen k (said a)) → LooksFor s (seen_call s t q) k (option_map said r)
+looked_for s k t p q None here at same hold once is place =
+    let there = ap (slice_get s.desks) (sym here) ∙ at in
+    record { before = p; after = q; there = there; about = about_at s.desks k.thread p there; same = same; hold = hold; once = tt; answer = is; place = tt; new_is = ap (λ (n : ℕ). seen_call s n q) here }
+looked_for s k t p q (Some a) here at same hold once is place =
+    let there = ap (slice_get s.desks) (sym here) ∙ at in
+    record { before = p; after = q; there = there; about = about_at s.desks k.thread p there; same = same; hold = hold; once = once; answer = is; place = place; new_is = ap (λ (n : ℕ). seen_call s n q) here }
 
 -- a desk waited for one
-pub waited_for : (s : Environment) (k : Ticket) (p q : DeskState) (r : Option Answer) → slice_get s.desks k.thread.0 ≡ Some p → IsSame p q
+pub waited_for : (s : Environment) (k : Ticket) (t : ℕ) (p q : DeskState) (r : Option Answer) → t ≡ place_in s.desks k.thread → slice_get s.desks t ≡ Some p → IsSame p q
     → WaitsWith p.view q.view [] (if is_some r then without_ticket k p.view.posted else p.view.posted)
     → IfSome r (λ a. has k q.view.posted ≡ false) → option_map said r ≡ (if is_out p k then reply_to p.view.subject.limits q.view.seen k else None)
-    → IfSome r (λ a. ReplyAtPlace p.view.subject.limits q.view.seen k (said a)) → WaitsFor s (seen_call s k.thread.0 q) k (option_map said r)
-waited_for s k p q None at same hold once is place = record { before = p; after = q; there = at; same = same; hold = hold; once = tt; answer = is; place = tt; new_is = refl }
-waited_for s k p q (Some a) at same hold once is place = record { before = p; after = q; there = at; same = same; hold = hold; once = once; answer = is; place = place; new_is = refl }
+    → IfSome r (λ a. ReplyAtPlace p.view.subject.limits q.view.seen k (said a)) → WaitsFor s (seen_call s t q) k (option_map said r)
+waited_for s k t p q None here at same hold once is place =
+    let there = ap (slice_get s.desks) (sym here) ∙ at in
+    record { before = p; after = q; there = there; about = about_at s.desks k.thread p there; same = same; hold = hold; once = tt; answer = is; place = tt; new_is = ap (λ (n : ℕ). seen_call s n q) here }
+waited_for s k t p q (Some a) here at same hold once is place =
+    let there = ap (slice_get s.desks) (sym here) ∙ at in
+    record { before = p; after = q; there = there; about = about_at s.desks k.thread p there; same = same; hold = hold; once = once; answer = is; place = place; new_is = ap (λ (n : ℕ). seen_call s n q) here }
 
 -- the list at one place
 

@@ -1,5 +1,5 @@
 -- An environment while its threads are stopped, read and let go.
-use Rattle.std.proofs.Common.{◌≡◌, ◌≢◌, ℕ, ℤ, zero, suc, ◌+◌, ◌-◌, ◌<◌, ◌≤◌, Bool, true, false, inl, inr, List, [], ◌∷◌, ◌++◌, length, take, drop, refl, ap, sym, ◌∙◌, arith, subst, eq-eqb, ne_eqb, nat_lt, length-set, length-append, append_assoc, Some, if◌then◌else◌}
+use Rattle.std.proofs.Common.{◌≡◌, ◌≢◌, ℕ, ℤ, zero, suc, ◌+◌, ◌-◌, ◌<◌, Bool, true, false, inl, inr, List, [], ◌∷◌, ◌++◌, length, take, drop, refl, ap, sym, ◌∙◌, arith, subst, eq-eqb, ne_eqb, nat_lt, length-set, length-append, append_assoc, Some, if◌then◌else◌}
 use Rattle.std.specs.Prelude.{slice_get, slice_index_or, slice_index}
 use Rattle.std.proofs.lemmas.Bool.{cases_eq, cases_Bool}
 use Rattle.std.proofs.lemmas.Bool.Decides.{nat_tests}
@@ -17,7 +17,7 @@ use Rattle.ti_env.specs.Env.{EnvValue, left_at, spent_at, with_spent}
 use Rattle.ti_env.proofs.LeftLaws.{left_is, left_some}
 use Rattle.ti_replay.specs.Legal.{calls_spent, call_cost}
 use Rattle.ti_replay.specs.Standing.{is_standing}
-use Rattle.ti_cell.specs.View.{subject_of}
+use Rattle.ti_cell.specs.declared.view.Subject.{Subject}
 use Rattle.ti_slot.specs.Waiting.{HasRoomFor}
 use Rattle.ti_handshake.specs.Desk.{DeskState}
 use Rattle.ti_replay.specs.Fronts.{stops_by, stops_after}
@@ -31,6 +31,7 @@ use Rattle.std.proofs.lemmas.List.{map-append}
 use Rattle.ti_vmop.specs.Turns.{Stood, with_reads, one_read_more}
 use Rattle.std.specs.Prelude.{◌^◌}
 use Rattle.ti_types.specs.declared.stack.StackInfo.{StackInfo}
+use Rattle.ti_agent.proofs.Places.{order_each}
 use Rattle.ti_agent.proofs.Whole.{set_other, just_room}
 use Rattle.ti_agent.proofs.Listing.{times_high, times_here, listed_once, distinct_once, there_once, paid_for, are_listed}
 
@@ -40,25 +41,11 @@ pub may_stop : (s : Environment) (i : ℕ) (p : DeskState) → IsWhole s → sli
 may_stop s i p whole at =
     let d = whole.desks i p at in
     let left = left_is s.state (record { 0 = i }) (let r = in_range s.desks i p at in omega (arith, r, whole.count)) in
-    let calls : p.view.subject.limits.calls ≡ s.state.limits.calls = ap (λ x. x.limits.calls) d.about in
+    let calls : p.view.subject.limits.calls ≡ s.state.limits.calls = ap (λ x. x.calls) d.about in
     record { free = d.free; paid = omega (arith, d.paid, left, calls) }
 
-pub one_environment : (s : Environment) → IsWhole s → AreOneEnvironments s.desks
-one_environment s whole i p q first at =
-    let d = whole.desks i p at in
-    let o = whole.desks 0 q first in
-    let limits : s.state.limits ≡ q.view.subject.limits = sym (ap (λ x. x.limits) o.about) in
-    (d.env_is ∙ sym o.env_is, d.about ∙ ap (λ (l : Limits). subject_of l (record { 0 = i })) limits)
-
-first_desk : (l : List DeskState) → 0 < length l → (p : DeskState) × (slice_get l 0 ≡ Some p)
-first_desk [] h = absurd (omega (arith, h))
-first_desk (x ∷ l) h = (x, refl)
-
--- the number that the first desk has is the environment's
-pub same_env : (s : Environment) (e : EnvNo) → IsWhole s → ((p : DeskState) → slice_get s.desks 0 ≡ Some p → e ≡ p.env) → e ≡ s.env
-same_env s e whole is =
-    let f = first_desk s.desks whole.some in
-    is f.0 f.1 ∙ (whole.desks 0 f.0 f.1).env_is
+pub one_environment : (s : Environment) → IsWhole s → AreOneEnvironments s.env s.desks
+one_environment s whole i p at = (whole.desks i p at).env_is
 
 pub distinct_in : (l : Listed) (n : ℕ) (t : List ThreadNo) → l ≡ each_once n t → AreDistinct l
 distinct_in l n t is = subst AreDistinct (sym is) (distinct_once n t)
@@ -130,7 +117,7 @@ pub held_after_stops : (s : Environment) (l : Listed) (z : EnvValue) (ds : List 
     → AtEach l s.desks ds (λ e. Stop e ∷ []) → AllStand l ds → AreStopped (with_desks s z ds) l
 held_after_stops s l z ds whole distinct there paid spends each stand = record {
   count = ap (λ (v : EnvValue). length v.spent) spends ∙ (count_spent s.state l ∙ (whole.count ∙ sym each.0));
-  some = omega (arith, whole.some, each.0);
+  in_order = order_each l s.desks ds (λ e. Stop e ∷ []) each whole.in_order;
   desks = one;
 }
   where
@@ -147,7 +134,7 @@ held_after_stops s l z ds whole distinct there paid spends each stand = record {
         let most : z.limits.calls ≡ s.state.limits.calls = ap (λ (v : Limits). v.calls) limits in
         record {
           env_is = h.same.env ∙ old.env_is;
-          about = h.goes.subject ∙ (old.about ∙ ap (λ (v : Limits). subject_of v (record { 0 = i })) (sym limits));
+          about = ap (λ (v : Subject). v.limits) h.goes.subject ∙ (old.about ∙ sym limits);
           stands = λ b. stand i q e is;
           free = λ no'. (let o : true ≡ false = sym is ∙ no' in cc);
           paid = omega (arith, old.paid, calls, spent, some, most);
@@ -163,7 +150,7 @@ held_after_stops s l z ds whole distinct there paid spends each stand = record {
         let most : z.limits.calls ≡ s.state.limits.calls = ap (λ (v : Limits). v.calls) limits in
         let was : IsStopped (with_desks s z ds) l i p = record {
           env_is = old.env_is;
-          about = old.about ∙ ap (λ (v : Limits). subject_of v (record { 0 = i })) (sym limits);
+          about = old.about ∙ sym limits;
           stands = λ yes'. (let o : true ≡ false = sym yes' ∙ is in cc);
           free = λ b. old.free;
           paid = omega (arith, old.paid, spent, most);
@@ -215,23 +202,23 @@ pub may_read : (s : Environment) (l : Listed) (t : ThreadNo) (p : DeskState) (m 
 may_read s l t p m b held listed at room =
     let d = held.desks t.0 p at in
     let left = left_is s.state t (let r = in_range s.desks t.0 p at in omega (arith, r, held.count)) in
-    let calls : p.view.subject.limits.calls ≡ s.state.limits.calls = ap (λ x. x.limits.calls) d.about in
+    let calls : p.view.subject.limits.calls ≡ s.state.limits.calls = ap (λ x. x.calls) d.about in
     record {
       env_is = d.env_is;
       stands = d.stands listed;
       paid = omega (arith, d.paid, left, calls);
-      room = subst (λ (x : Limits). HasRoomFor x (or_zero m) b) (sym (ap (λ x. x.limits) d.about)) room;
+      room = subst (λ (x : Limits). HasRoomFor x (or_zero m) b) (sym d.about) room;
     }
 
-pub held_after_read : (s n : Environment) (l : Listed) (m : ℤ) (x : Telling) → AreStopped s l → is_listed x.thread.0 l ≡ true → 0 < left_at s.state x.thread → x.thread.0 < length s.desks → ReadsOne s n m x → AreStopped n l
+pub held_after_read : (s n : Environment) (l : Listed) (m : ℤ) (x : Telling) → AreStopped s l → is_listed x.place.0 l ≡ true → 0 < left_at s.state x.place → x.place.0 < length s.desks → ReadsOne s n m x → AreStopped n l
 held_after_read s n l m x held is_in left there r = record {
-  count = ap (λ (v : EnvValue). length v.spent) r.state_is ∙ (length-set s.state.spent x.thread.0 (spent_at s.state x.thread + 1) ∙ (held.count ∙ sym r.desks.0));
-  some = omega (arith, held.some, r.desks.0);
+  count = ap (λ (v : EnvValue). length v.spent) r.state_is ∙ (length-set s.state.spent x.place.0 (spent_at s.state x.place + 1) ∙ (held.count ∙ sym r.desks.0));
+  in_order = order_each ((x.place, 0) ∷ []) s.desks n.desks (λ e. Read e m ∷ []) r.desks held.in_order;
   desks = one;
 }
   where
     here : Listed
-    here = (x.thread, 0) ∷ []
+    here = (x.place, 0) ∷ []
 
     limits : n.state.limits ≡ s.state.limits
     limits = ap (λ (v : EnvValue). v.limits) r.state_is
@@ -239,34 +226,34 @@ held_after_read s n l m x held is_in left there r = record {
     most : n.state.limits.calls ≡ s.state.limits.calls
     most = ap (λ (v : Limits). v.calls) limits
 
-    read : (i : ℕ) (p q : DeskState) → x.thread.0 ≡ i → slice_get s.desks i ≡ Some p → slice_get n.desks i ≡ Some q → IsStopped n l i q
+    read : (i : ℕ) (p q : DeskState) → x.place.0 ≡ i → slice_get s.desks i ≡ Some p → slice_get n.desks i ≡ Some q → IsStopped n l i q
     read i p q same at e =
-        let listed : is_listed i ((x.thread, 0) ∷ []) ≡ true = grind (arith, eq-eqb x.thread.0 i same) in
-        let h = has_added ((x.thread, 0) ∷ []) s.desks n.desks (λ e. Read e m ∷ []) i p q r.desks listed at e in
+        let listed : is_listed i ((x.place, 0) ∷ []) ≡ true = grind (arith, eq-eqb x.place.0 i same) in
+        let h = has_added ((x.place, 0) ∷ []) s.desks n.desks (λ e. Read e m ∷ []) i p q r.desks listed at e in
         let old = held.desks i p at in
         let told : IsRead p q m x.answer = r.answer_is p q (subst (λ (j : ℕ). slice_get s.desks j ≡ Some p) (sym same) at) (subst (λ (j : ℕ). slice_get n.desks j ≡ Some q) (sym same) e) in
         let calls : calls_spent q.env q.view.mine ≡ calls_spent p.env p.view.mine + 1 = (λ j. calls_spent (h.same.env j) (h.mine j)) ∙ more_spent p.env p.view.mine (Read p.env m) (read_costs p.env m) in
-        let first : slice_index n.state.spent x.thread.0 ≡ slice_index s.state.spent x.thread.0 + 1 = ap (λ (v : EnvValue). slice_index v.spent x.thread.0) r.state_is ∙ spent_then s.state x.thread (omega (arith, there, held.count)) in
+        let first : slice_index n.state.spent x.place.0 ≡ slice_index s.state.spent x.place.0 + 1 = ap (λ (v : EnvValue). slice_index v.spent x.place.0) r.state_is ∙ spent_then s.state x.place (omega (arith, there, held.count)) in
         let spent : slice_index n.state.spent i ≡ slice_index s.state.spent i + 1 = subst (λ (j : ℕ). slice_index n.state.spent j ≡ slice_index s.state.spent j + 1) same first in
-        let some : slice_index s.state.spent i < s.state.limits.calls = subst (λ (j : ℕ). slice_index s.state.spent j < s.state.limits.calls) same (left_some s.state x.thread left) in
+        let some : slice_index s.state.spent i < s.state.limits.calls = subst (λ (j : ℕ). slice_index s.state.spent j < s.state.limits.calls) same (left_some s.state x.place left) in
         record {
           env_is = h.same.env ∙ (old.env_is ∙ sym r.env_is);
-          about = h.goes.subject ∙ (old.about ∙ ap (λ (v : Limits). subject_of v (record { 0 = i })) (sym limits));
+          about = ap (λ (v : Subject). v.limits) h.goes.subject ∙ (old.about ∙ sym limits);
           stands = λ b. subst (λ (z : Limits × EnvNo). is_standing z.0 q.view.seen z.1 ≡ true) (λ j. ((sym h.goes.subject j).limits, sym h.same.env j)) told.stands;
           free = λ no'. (let o : true ≡ false = sym is_in ∙ (ap (λ (j : ℕ). is_listed j l) same ∙ no') in cc);
           paid = omega (arith, old.paid, calls, spent, some, most);
           within = omega (arith, old.within, ap (λ (t : List Ticket). length t) h.posted, ap (λ (v : Limits). v.window) limits);
         }
 
-    other_desk : (i : ℕ) (p q : DeskState) → x.thread.0 ≢ i → slice_get s.desks i ≡ Some p → slice_get n.desks i ≡ Some q → IsStopped n l i q
+    other_desk : (i : ℕ) (p q : DeskState) → x.place.0 ≢ i → slice_get s.desks i ≡ Some p → slice_get n.desks i ≡ Some q → IsStopped n l i q
     other_desk i p q apart at e =
-        let unlisted : is_listed i ((x.thread, 0) ∷ []) ≡ false = grind (arith, ne_eqb x.thread.0 i apart) in
-        let still : q ≡ p = unlisted_stays ((x.thread, 0) ∷ []) s.desks n.desks (λ e. Read e m ∷ []) i p q r.desks unlisted at e in
+        let unlisted : is_listed i ((x.place, 0) ∷ []) ≡ false = grind (arith, ne_eqb x.place.0 i apart) in
+        let still : q ≡ p = unlisted_stays ((x.place, 0) ∷ []) s.desks n.desks (λ e. Read e m ∷ []) i p q r.desks unlisted at e in
         let old = held.desks i p at in
-        let spent : slice_index n.state.spent i ≡ slice_index s.state.spent i = ap (λ (v : EnvValue). slice_index v.spent i) r.state_is ∙ set_other s.state.spent x.thread.0 i (spent_at s.state x.thread + 1) apart in
+        let spent : slice_index n.state.spent i ≡ slice_index s.state.spent i = ap (λ (v : EnvValue). slice_index v.spent i) r.state_is ∙ set_other s.state.spent x.place.0 i (spent_at s.state x.place + 1) apart in
         let was : IsStopped n l i p = record {
           env_is = old.env_is ∙ sym r.env_is;
-          about = old.about ∙ ap (λ (v : Limits). subject_of v (record { 0 = i })) (sym limits);
+          about = old.about ∙ sym limits;
           stands = old.stands;
           free = old.free;
           paid = omega (arith, old.paid, spent, most);
@@ -276,8 +263,8 @@ held_after_read s n l m x held is_in left there r = record {
 
     one : (i : ℕ) (q : DeskState) → slice_get n.desks i ≡ Some q → IsStopped n l i q
     one i q e =
-        let w = was_there ((x.thread, 0) ∷ []) s.desks n.desks (λ e. Read e m ∷ []) i q r.desks e in
-        elim (cases_eq x.thread.0 i) [
+        let w = was_there ((x.place, 0) ∷ []) s.desks n.desks (λ e. Read e m ∷ []) i q r.desks e in
+        elim (cases_eq x.place.0 i) [
           | inl same ↦ read i w.0 q same w.1 e
           | inr apart ↦ other_desk i w.0 q apart w.1 e
         ]
@@ -318,11 +305,12 @@ told_more [] x = append-none (told_stack x.thread x.answer)
     append-none (y ∷ ys) = ap (λ (v : List Told). y ∷ v) (append-none ys)
 told_more (y ∷ ys) x = ap (λ (v : List Told). told_stack y.thread y.answer ++ v) (told_more ys x) ∙ sym (append_assoc (told_stack y.thread y.answer) (told_each ys) (told_stack x.thread x.answer))
 
-pub has_read_more : (old now new : Environment) (m : ℤ) (ts : List ThreadNo) (x : Telling) (infos : List StackInfo) (info : StackInfo) → HasRead old now m ts infos → ReadsOne now new m x
-    → told_info info ∷ [] ≡ told_stack x.thread x.answer → info.thread ≡ x.thread → HasRead old new m (ts ++ x.thread ∷ []) (infos ++ info ∷ [])
-has_read_more old now new m ts x infos info done one tells same = record {
+pub has_read_more : (old now new : Environment) (m : ℤ) (ps ts : List ThreadNo) (x : Telling) (infos : List StackInfo) (info : StackInfo) → HasRead old now m ps ts infos → ReadsOne now new m x
+    → told_info info ∷ [] ≡ told_stack x.thread x.answer → info.thread ≡ x.thread → HasRead old new m (ps ++ x.place ∷ []) (ts ++ x.thread ∷ []) (infos ++ info ∷ [])
+has_read_more old now new m ps ts x infos info done one tells same = record {
   tellings = done.tellings ++ x ∷ [];
   reads = reads_more old now new m done.tellings x done.reads one;
+  at_each = map-append (λ y. y.place) done.tellings (x ∷ []) ∙ ap (λ (v : List ThreadNo). v ++ x.place ∷ []) done.at_each;
   of_each = map-append (λ y. y.thread) done.tellings (x ∷ []) ∙ ap (λ (v : List ThreadNo). v ++ x.thread ∷ []) done.of_each;
   told = map-append told_info infos (info ∷ []) ∙ ((λ j. done.told j ++ tells j) ∙ sym (told_more done.tellings x));
   each = map-append (λ y. y.thread) infos (info ∷ []) ∙ (λ j. done.each j ++ same j ∷ []);
@@ -373,7 +361,7 @@ roomy_last limits m all rest b roomy is =
 pub whole_after_go : (s : Environment) (l : Listed) (ds : List DeskState) → AreStopped s l → AtEach l s.desks ds (λ e. Go e ∷ []) → IsWhole (with_desks s s.state ds)
 whole_after_go s l ds held each = record {
   count = held.count ∙ sym each.0;
-  some = omega (arith, held.some, each.0);
+  in_order = order_each l s.desks ds (λ e. Go e ∷ []) each held.in_order;
   desks = one;
 }
   where
@@ -384,7 +372,7 @@ whole_after_go s l ds held each = record {
         let calls : calls_spent q.env q.view.mine ≡ calls_spent p.env p.view.mine = (λ j. calls_spent (h.same.env j) (h.mine j)) ∙ go_costs p.env p.view.mine in
         record {
           env_is = h.same.env ∙ old.env_is;
-          about = h.goes.subject ∙ old.about;
+          about = ap (λ (v : Subject). v.limits) h.goes.subject ∙ old.about;
           free = (λ j. stops_by (h.same.env j) (h.mine j)) ∙ stops_go p.env p.view.mine;
           paid = omega (arith, old.paid, calls);
           within = omega (arith, old.within, ap (λ (t : List Ticket). length t) h.posted);

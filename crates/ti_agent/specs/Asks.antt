@@ -11,11 +11,11 @@ use Rattle.ti_types.specs.declared.error.TiError.TheVariants.{OutOfMemory, Timed
 use Rattle.ti_types.specs.declared.numbers.ThreadNo.{ThreadNo}
 use Rattle.ti_types.specs.declared.place.Frame.{Frame}
 use Rattle.ti_types.specs.Refusing.{or_else, unless}
-use Rattle.ti_env.specs.Env.{EnvValue, call_refusal, with_spent}
+use Rattle.ti_env.specs.Env.{with_spent}
 use Rattle.ti_replay.specs.Admission.{takes_buffer}
 use Rattle.ti_handshake.specs.Call.{GoesOn, IsAnswered, next_call}
 use Rattle.ti_handshake.specs.Desk.{DeskState, IsSame}
-use Rattle.ti_agent.specs.Env.{Environment}
+use Rattle.ti_agent.specs.Env.{Environment, place_in, place_of, thread_refusal}
 
 -- a desk made one call, and this is the reply
 pub record Asks (old new : DeskState) (c : Call) (a : Answer) : Type 0 where
@@ -29,9 +29,10 @@ pub record Asks (old new : DeskState) (c : Call) (a : Answer) : Type 0 where
 pub record Went (old new : Environment) (thread : ThreadNo) (c : Call) (a : Answer) : Type 0 where
   pub before : DeskState
   pub after : DeskState
-  pub there : slice_get old.desks thread.0 ≡ Some before
+  pub there : slice_get old.desks (place_in old.desks thread) ≡ Some before
+  pub about : before.view.subject.thread ≡ thread
   pub asks : Asks before after c a
-  pub new_is : new ≡ record { env = old.env; state = with_spent old.state thread; desks = slice_set old.desks thread.0 after }
+  pub new_is : new ≡ record { env = old.env; state = with_spent old.state (place_of old.desks thread); desks = slice_set old.desks (place_in old.desks thread) after }
 
 -- whether an answer says that there was no memory
 abbrev pub is_for_memory : Answer → Bool
@@ -44,8 +45,8 @@ is_timed_out (answer.Refused TimedOut) = true
 is_timed_out _ = false
 
 -- why a call does not reach its thread: 99, 10, 103, 209, or 110 if it takes memory and there is none. No thread answers 110
-abbrev pub refusal_of : EnvValue → ThreadNo → Call → Answer → Option TiError
-refusal_of state thread c a = or_else (call_refusal state thread c) (unless (not (takes_buffer c && is_for_memory a)) OutOfMemory)
+abbrev pub refusal_of : Environment → ThreadNo → Call → Answer → Option TiError
+refusal_of s thread c a = or_else (thread_refusal s thread c) (unless (not (takes_buffer c && is_for_memory a)) OutOfMemory)
 
 abbrev pub IsCalledBy : Option TiError → Environment → Environment → ThreadNo → Call → Answer → Type 0
 IsCalledBy (Some e) old new thread c a = (new ≡ old) × (a ≡ answer.Refused e)
@@ -53,7 +54,7 @@ IsCalledBy None old new thread c a = Went old new thread c a
 
 -- a call at a thread: refused from what the environment keeps, and then nothing changed; or answered by its desk there
 abbrev pub IsCalled : Environment → Environment → ThreadNo → Call → Answer → Type 0
-IsCalled old new thread c a = IsCalledBy (refusal_of old.state thread c a) old new thread c a
+IsCalled old new thread c a = IsCalledBy (refusal_of old thread c a) old new thread c a
 
 -- an answer of a kind that this call may have
 abbrev pub IsKind : Call → Answer → Type 0

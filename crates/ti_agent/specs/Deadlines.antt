@@ -7,42 +7,45 @@ use Rattle.ti_types.specs.declared.error.TiError.{TiError}
 use Rattle.ti_types.specs.declared.error.TiError.TheVariants.{OutOfMemory}
 use Rattle.ti_types.specs.declared.event.Ticket.{Ticket}
 use Rattle.ti_types.specs.declared.numbers.ThreadNo.{ThreadNo}
-use Rattle.ti_env.specs.Env.{with_spent, call_refusal}
+use Rattle.ti_env.specs.Env.{with_spent}
 use Rattle.ti_handshake.specs.Call.{GoesOn, Holds, next_call}
 use Rattle.ti_handshake.specs.Desk.{DeskState, Discards, GivesUp, is_out}
 use Rattle.ti_replay.specs.Settling.{waits}
-use Rattle.ti_agent.specs.Env.{Environment, is_full}
+use Rattle.ti_agent.specs.Env.{Environment, place_in, place_of, thread_refusal, is_full}
 use Rattle.ti_agent.specs.Asks.{Went, is_for_memory, is_timed_out}
 
 -- the desk at the ticket's thread gave the call up by one hold, if the ticket was out there. Nothing else changed
 pub record Cancels (old new : Environment) (ticket : Ticket) : Type 0 where
   pub before : DeskState
   pub after : DeskState
-  pub there : slice_get old.desks ticket.thread.0 ≡ Some before
+  pub there : slice_get old.desks (place_in old.desks ticket.thread) ≡ Some before
+  pub about : before.view.subject.thread ≡ ticket.thread
   pub cell : after.cell ≡ before.cell
   pub env : after.env ≡ before.env
   pub hold : Holds before.view after.view []
   pub cancelled : after.cancelled ≡ (if is_out before ticket then before.cancelled ++ ticket ∷ [] else before.cancelled)
-  pub new_is : new ≡ record { env = old.env; state = old.state; desks = slice_set old.desks ticket.thread.0 after }
+  pub new_is : new ≡ record { env = old.env; state = old.state; desks = slice_set old.desks (place_in old.desks ticket.thread) after }
 
 -- the desk at a thread threw away the answer to the call that was given up first there, if the answer was there. Nothing
 -- else changed
 pub record DiscardsAt (old new : Environment) (thread : ThreadNo) (thrown : Bool) : Type 0 where
   pub before : DeskState
   pub after : DeskState
-  pub there : slice_get old.desks thread.0 ≡ Some before
+  pub there : slice_get old.desks (place_in old.desks thread) ≡ Some before
+  pub about : before.view.subject.thread ≡ thread
   pub discards : Discards before after thrown
-  pub new_is : new ≡ record { env = old.env; state = old.state; desks = slice_set old.desks thread.0 after }
+  pub new_is : new ≡ record { env = old.env; state = old.state; desks = slice_set old.desks (place_in old.desks thread) after }
 
 -- one call is spent at the thread, and its desk there gave the call up when the time was over. Nothing else changed
 pub record GivesUpAt (old new : Environment) (thread : ThreadNo) (c : Call) : Type 0 where
   pub before : DeskState
   pub after : DeskState
-  pub there : slice_get old.desks thread.0 ≡ Some before
+  pub there : slice_get old.desks (place_in old.desks thread) ≡ Some before
+  pub about : before.view.subject.thread ≡ thread
   pub goes : GoesOn before.view after.view
   pub mine : after.view.mine ≡ before.view.mine ++ next_call before.view before.env c ∷ []
   pub gives_up : GivesUp before after c
-  pub new_is : new ≡ record { env = old.env; state = with_spent old.state thread; desks = slice_set old.desks thread.0 after }
+  pub new_is : new ≡ record { env = old.env; state = with_spent old.state (place_of old.desks thread); desks = slice_set old.desks (place_in old.desks thread) after }
 
 -- the result of an admitted call with a deadline: 110 if there is no room for it, and then nothing is asked; 214 when the
 -- time is over; otherwise what its desk answers. No thread answers 110 or 214
@@ -68,4 +71,4 @@ IsCalledWithinBy None old new thread c a = Comes old new thread c a
 
 -- a call with a deadline: refused from what the environment keeps, and then nothing changed; or the result as above
 abbrev pub IsCalledWithin : Environment → Environment → ThreadNo → Call → Answer → Type 0
-IsCalledWithin old new thread c a = IsCalledWithinBy (call_refusal old.state thread c) old new thread c a
+IsCalledWithin old new thread c a = IsCalledWithinBy (thread_refusal old thread c) old new thread c a

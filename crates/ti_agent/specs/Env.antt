@@ -1,25 +1,58 @@
--- An environment, with a desk at each thread.
-use Rattle.std.specs.Prelude.{ℕ, ◌≡◌, ◌+◌, ◌-◌, ◌<◌, ◌≤◌, nat_le, Bool, false, List, [], length, map, Option, Some, None, slice_get}
+-- An environment, with a desk at each of its threads.
+use Rattle.std.specs.Prelude.{ℕ, zero, suc, ◌≡◌, ◌+◌, ◌-◌, ◌<◌, ◌≤◌, ◌==◌, nat_le, nat_lt, Bool, true, false, if◌then◌else◌, List, [], ◌∷◌, length, map, Option, Some, None, slice_get}
 use Rattle.atomic_table.specs.Seated.{TableId}
 use Rattle.ti_types.specs.declared.numbers.EnvNo.{EnvNo}
 use Rattle.ti_types.specs.declared.numbers.ThreadNo.{ThreadNo}
-use Rattle.ti_env.specs.Env.{EnvValue, spent_at}
+use Rattle.ti_types.specs.declared.call.Call.{Call}
+use Rattle.ti_types.specs.declared.error.TiError.{TiError}
+use Rattle.ti_types.specs.declared.error.TiError.TheVariants.{InvalidThread, ThreadNotAlive}
+use Rattle.ti_env.specs.Env.{EnvValue, spent_at, call_refusal}
 use Rattle.ti_replay.specs.Legal.{calls_spent}
-use Rattle.ti_cell.specs.View.{subject_of}
 use Rattle.ti_handshake.specs.Desk.{DeskState}
 use Rattle.ti_replay.specs.Fronts.{stops_by}
 
--- its number, what it keeps for itself, and its desks in the order of the threads' numbers
+-- its number, what it keeps for itself, and its desks
 pub record Environment : Type 0 where
   pub env : EnvNo
   pub state : EnvValue
   pub desks : List DeskState
 
--- The desk of the environment at thread i. None of its stops is in force. Its thread has room for as many calls as the
+-- The place of a thread: that of the first desk at a thread of its number. If there is none, it is the number of desks
+abbrev pub place_in : List DeskState → ThreadNo → ℕ
+place_in [] t = 0
+place_in (p ∷ desks) t = if p.view.subject.thread.0 == t.0 then 0 else suc (place_in desks t)
+
+-- the same, as what an environment keeps for itself names a thread
+abbrev pub place_of : List DeskState → ThreadNo → ThreadNo
+place_of desks t = record { 0 = place_in desks t }
+
+-- the places of these threads
+abbrev pub places_of : List DeskState → List ThreadNo → List ThreadNo
+places_of desks threads = map (λ t. place_of desks t) threads
+
+-- the number of the thread whose desk is at a place. It has no meaning if there is no such place
+abbrev pub thread_at : List DeskState → ℕ → ThreadNo
+thread_at [] i = record { 0 = 0 }
+thread_at (p ∷ desks) zero = p.view.subject.thread
+thread_at (p ∷ desks) (suc i) = thread_at desks i
+
+-- the numbers of the threads at these places
+abbrev pub threads_at : List DeskState → List ThreadNo → List ThreadNo
+threads_at desks places = map (λ x. thread_at desks x.0) places
+
+-- the numbers of the desks' threads, in the order of their places
+abbrev pub threads_of : List DeskState → List ThreadNo
+threads_of desks = map (λ p. p.view.subject.thread) desks
+
+-- the desks are in the order of their threads' numbers, and no two are at threads of one number
+abbrev pub AreInOrder : List DeskState → Type 0
+AreInOrder desks = (i j : ℕ) → i < j → j < length desks → (thread_at desks i).0 < (thread_at desks j).0
+
+-- The desk of the environment at place i. None of its stops is in force. Its thread has room for as many calls as the
 -- environment has left there. At most `window` of its calls are out
 pub record IsDesk (s : Environment) (i : ℕ) (p : DeskState) : Type 0 where
   pub env_is : p.env ≡ s.env
-  pub about : p.view.subject ≡ subject_of s.state.limits (record { 0 = i })
+  pub about : p.view.subject.limits ≡ s.state.limits
   pub free : stops_by p.env p.view.mine ≡ false
   pub paid : s.state.limits.calls - spent_at s.state (record { 0 = i }) + calls_spent p.env p.view.mine ≤ s.state.limits.calls
   pub within : length p.view.posted ≤ s.state.limits.window
@@ -30,23 +63,37 @@ out_of (Some p) = length p.view.posted
 out_of None = 0
 
 abbrev pub outstanding : Environment → ThreadNo → ℕ
-outstanding s t = out_of (slice_get s.desks t.0)
+outstanding s t = out_of (slice_get s.desks (place_in s.desks t))
 
 -- as many calls are out as the window allows
 abbrev pub is_full : Environment → ThreadNo → Bool
 is_full s t = nat_le s.state.limits.window (outstanding s t)
 
+-- what is told of a number without a desk: if it was a thread's once, the thread is not alive
+abbrev pub told_as : Bool → TiError → TiError
+told_as true InvalidThread = ThreadNotAlive
+told_as _ e = e
+
+-- the same of a refusal, at a thread of this number. The numbers below `known` were threads once
+abbrev pub told : ℕ → ThreadNo → Option TiError → Option TiError
+told known t None = None
+told known t (Some e) = Some (told_as (nat_lt t.0 known) e)
+
+-- why a call does not reach its thread: the environment refuses it by itself
+abbrev pub thread_refusal : Environment → ThreadNo → Call → Option TiError
+thread_refusal s t c = told s.state.known t (call_refusal s.state (place_of s.desks t) c)
+
 -- what is true of an environment between calls
 pub record IsWhole (s : Environment) : Type 0 where
   pub count : length s.state.spent ≡ length s.desks
-  pub some : 0 < length s.desks
+  pub in_order : AreInOrder s.desks
   pub desks : (i : ℕ) (p : DeskState) → slice_get s.desks i ≡ Some p → IsDesk s i p
 
--- desk i is the environment's desk at thread i, under its limits, and has made no call
+-- the desks are the environment's, in the order of their threads' numbers, under its limits, and have made no call
 abbrev pub AreNewDesks : EnvNo → EnvValue → List DeskState → Type 0
 AreNewDesks env state desks =
-    (i : ℕ) (p : DeskState) → slice_get desks i ≡ Some p → (p.env ≡ env) × (p.view.subject ≡ subject_of state.limits (record { 0 = i })) × (p.view.mine ≡ [])
+    AreInOrder desks × ((i : ℕ) (p : DeskState) → slice_get desks i ≡ Some p → (p.env ≡ env) × (p.view.subject.limits ≡ state.limits) × (p.view.mine ≡ []))
 
--- the cells of the threads, in the order of their numbers
+-- the cells of the threads, in the order of their places
 abbrev pub cells_at : List DeskState → List TableId
 cells_at desks = map (λ p. p.cell) desks

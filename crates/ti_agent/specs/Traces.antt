@@ -1,4 +1,4 @@
--- Stack traces of several threads at once.
+-- Stack traces of several threads at once. A list of threads is one of their places, if nothing else is said.
 use Rattle.std.specs.Prelude.{ℕ, ℤ, zero, suc, ◌≡◌, ◌+◌, ◌-◌, ◌≤◌, ◌<◌, Bool, true, false, ◌==◌, bit_and, nat_lt, if◌then◌else◌, List, [], ◌∷◌, ◌++◌, length, map, Option, Some, None, slice_get, slice_index}
 use Rattle.std.specs.List.{filter, list_all}
 use Rattle.ti_types.specs.declared.answer.Answer.{Answer}
@@ -13,15 +13,14 @@ use Rattle.ti_types.specs.Refusing.{or_else, unless}
 use Rattle.ti_env.specs.Env.{EnvValue, spent_at, left_at, with_spent}
 use Rattle.ti_replay.specs.Legal.{calls_spent}
 use Rattle.ti_replay.specs.Standing.{is_standing}
-use Rattle.ti_cell.specs.View.{subject_of}
 use Rattle.ti_handshake.specs.Desk.{DeskState}
 use Rattle.ti_replay.specs.Fronts.{stops_by}
 use Rattle.ti_vmop.specs.Turns.{Listed, is_listed, are_paid, spend_all, AtEach, AllStand, IsRead}
 use Rattle.ti_vmop.specs.declared.global_stops.Round.{Round}
-use Rattle.ti_agent.specs.Env.{Environment}
+use Rattle.ti_agent.specs.Env.{Environment, AreInOrder, thread_at, threads_of}
 use Rattle.ti_types.specs.declared.stack.StackInfo.{StackInfo}
 
--- this many threads, in the order of their numbers
+-- this many threads, in the order of their places
 abbrev pub each_thread : ℕ → List ThreadNo
 each_thread zero = []
 each_thread (suc n) = each_thread n ++ (record { 0 = n }) ∷ []
@@ -40,7 +39,7 @@ times i (x ∷ threads) = if x.0 == i then suc (times i threads) else times i th
 abbrev pub where_some : ℕ → ℕ → Listed
 where_some i reads = if reads == 0 then [] else (record { 0 = i }, reads) ∷ []
 
--- the threads of a list whose numbers are below this one, each once, in the order of their numbers. Each has as many reads
+-- the threads of a list whose places are below this one, each once, in the order of their places. Each has as many reads
 -- to come as it has elements in the list
 abbrev pub each_once : ℕ → List ThreadNo → Listed
 each_once zero threads = []
@@ -76,12 +75,13 @@ pub record IsListRefused (state : EnvValue) (threads : List ThreadNo) (max_count
 abbrev pub is_alive : ℕ → Bool
 is_alive bits = bit_and bits 1 == 1
 
--- the answer to a read, and the thread that was read
+-- the answer to a read, and the place and the number of the thread that was read
 pub record Telling : Type 0 where
+  pub place : ThreadNo
   pub thread : ThreadNo
   pub answer : Answer
 
--- a thread's state and its frames, the newest first
+-- a thread's number, its state and its frames, the newest first
 pub record Told : Type 0 where
   pub thread : ThreadNo
   pub state : ℕ
@@ -107,19 +107,22 @@ told_each (x ∷ more) = told_stack x.thread x.answer ++ told_each more
 -- one call is spent at the thread, and its desk read it by one hold. Nothing else changed
 pub record ReadsOne (old new : Environment) (max_count : ℤ) (x : Telling) : Type 0 where
   pub env_is : new.env ≡ old.env
-  pub state_is : new.state ≡ with_spent old.state x.thread
-  pub desks : AtEach ((x.thread, 0) ∷ []) old.desks new.desks (λ e. Read e max_count ∷ [])
-  pub answer_is : (p q : DeskState) → slice_get old.desks x.thread.0 ≡ Some p → slice_get new.desks x.thread.0 ≡ Some q → IsRead p q max_count x.answer
+  pub about : x.thread ≡ thread_at old.desks x.place.0
+  pub state_is : new.state ≡ with_spent old.state x.place
+  pub desks : AtEach ((x.place, 0) ∷ []) old.desks new.desks (λ e. Read e max_count ∷ [])
+  pub answer_is : (p q : DeskState) → slice_get old.desks x.place.0 ≡ Some p → slice_get new.desks x.place.0 ≡ Some q → IsRead p q max_count x.answer
 
 -- one thread is read after another
 abbrev pub ReadsEach : Environment → Environment → ℤ → List Telling → Type 0
 ReadsEach old new max_count [] = new ≡ old
 ReadsEach old new max_count (x ∷ more) = (next : Environment) × ReadsOne old next max_count x × ReadsEach next new max_count more
 
--- the threads of a list were read, one after another, each as often as it is in the list; these are the results
-pub record HasRead (old new : Environment) (max_count : ℤ) (threads : List ThreadNo) (infos : List StackInfo) : Type 0 where
+-- the threads at the places of a list were read, one after another, each as often as it is in the list; these are their
+-- numbers, and the results
+pub record HasRead (old new : Environment) (max_count : ℤ) (places threads : List ThreadNo) (infos : List StackInfo) : Type 0 where
   pub tellings : List Telling
   pub reads : ReadsEach old new max_count tellings
+  pub at_each : map (λ x. x.place) tellings ≡ places
   pub of_each : map (λ x. x.thread) tellings ≡ threads
   pub told : map told_info infos ≡ told_each tellings
   pub each : map (λ x. x.thread) infos ≡ threads
@@ -138,12 +141,12 @@ pub record LetsGo (old new : Environment) (threads : Listed) : Type 0 where
   pub desks : AtEach threads old.desks new.desks (λ e. Go e ∷ [])
 
 -- Each thread of a list is stopped once. Then each is read as often as it is in the list, in the list's order. Then all are
--- let go. The round is the environment's, over all of them
-pub record IsTraced (old new : Environment) (max_count : ℤ) (stopping : Listed) (threads : List ThreadNo) (infos : List StackInfo) (round : Round) : Type 0 where
+-- let go. The round is the environment's, over all of them. The list is of places, and the threads have these numbers
+pub record IsTraced (old new : Environment) (max_count : ℤ) (stopping : Listed) (places threads : List ThreadNo) (infos : List StackInfo) (round : Round) : Type 0 where
   pub stopped : Environment
   pub seen : Environment
   pub stops : Stops old stopped stopping
-  pub reads : HasRead stopped seen max_count threads infos
+  pub reads : HasRead stopped seen max_count places threads infos
   pub goes : LetsGo seen new stopping
   pub env_is : round.env ≡ old.env
   pub threads_are : round.threads ≡ length stopping
@@ -152,13 +155,13 @@ pub record IsTraced (old new : Environment) (max_count : ℤ) (stopping : Listed
 -- all threads were traced, and these are those that are alive
 pub record TracesAlive (old new : Environment) (max_count : ℤ) (infos : List StackInfo) (round : Round) : Type 0 where
   pub all : List StackInfo
-  pub traced : IsTraced old new max_count (all_once (length old.desks)) (each_thread (length old.desks)) all round
+  pub traced : IsTraced old new max_count (all_once (length old.desks)) (each_thread (length old.desks)) (threads_of old.desks) all round
   pub alive : infos ≡ filter (λ x. is_alive x.state) all
 
--- The environment's desk at thread i, between the stops and the gos. A thread of the list is standing
+-- The environment's desk at place i, between the stops and the gos. A thread of the list is standing
 pub record IsStopped (s : Environment) (threads : Listed) (i : ℕ) (p : DeskState) : Type 0 where
   pub env_is : p.env ≡ s.env
-  pub about : p.view.subject ≡ subject_of s.state.limits (record { 0 = i })
+  pub about : p.view.subject.limits ≡ s.state.limits
   pub stands : is_listed i threads ≡ true → is_standing p.view.subject.limits p.view.seen p.env ≡ true
   pub free : is_listed i threads ≡ false → stops_by p.env p.view.mine ≡ false
   pub paid : s.state.limits.calls - spent_at s.state (record { 0 = i }) + calls_spent p.env p.view.mine ≤ s.state.limits.calls
@@ -167,7 +170,7 @@ pub record IsStopped (s : Environment) (threads : Listed) (i : ℕ) (p : DeskSta
 -- an environment between the stops and the gos
 pub record AreStopped (s : Environment) (threads : Listed) : Type 0 where
   pub count : length s.state.spent ≡ length s.desks
-  pub some : 0 < length s.desks
+  pub in_order : AreInOrder s.desks
   pub desks : (i : ℕ) (p : DeskState) → slice_get s.desks i ≡ Some p → IsStopped s threads i p
 
 -- each thread has a call left for each time that it is in a list
@@ -184,7 +187,7 @@ pub record IsNotCounted (state : EnvValue) (threads : List ThreadNo) (e : TiErro
   pub counted : Bool
   pub is : Some e ≡ (if counted then refusal_of_counted state threads else Some OutOfMemory)
 
--- how often each of this many threads is in a list, by their numbers
+-- how often each of this many threads is in a list, by their places
 pub record AreCounts (count : ℕ) (threads : List ThreadNo) (counts : List ℕ) : Type 0 where
   pub length_is : length counts ≡ count
   pub each : (i : ℕ) → i < count → slice_index counts i ≡ times i threads

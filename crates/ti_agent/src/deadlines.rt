@@ -16,12 +16,12 @@ impl Env {
     /// A ticket that is not out at this environment, or was given up before, is left as it is. 110 OUT_OF_MEMORY if there is
     /// no memory to note that the call was given up. Then nothing changes.
     pub fn cancel<R: Wait>(&mut self, rt: &R, alloc: Global, ticket: Ticket) -> Result<(), TiError>
-        ensures cancels { OnOk result (ticket.thread.0 < length self.old.desks → Cancels self.old self.new ticket) }
-        ensures nobody { OnOk result (length self.old.desks ≤ ticket.thread.0 → self.new ≡ self.old) }
+        ensures cancels { OnOk result (place_in self.old.desks ticket.thread < length self.old.desks → Cancels self.old self.new ticket) }
+        ensures nobody { OnOk result (length self.old.desks ≤ place_in self.old.desks ticket.thread → self.new ≡ self.old) }
         ensures memory { IfErr result (λ e. e ≡ OutOfMemory) }
         ensures unchanged { OnErr result (self.new ≡ self.old) }
     {
-        let at = ticket.thread.0 as usize;
+        let at = self.place_of(ticket.thread).0 as usize;
         if at >= self.desks.len() {
             return Ok(());
         }
@@ -34,38 +34,41 @@ impl Env {
     /// `true` if an answer was thrown away. `false` if there is none yet, if no call was given up there, or if there is no
     /// such thread.
     pub fn discard<R: Wait>(&mut self, rt: &R, thread: ThreadNo) -> bool
-        ensures discards { thread.0 < length self.old.desks → DiscardsAt self.old self.new thread result }
-        ensures nobody { length self.old.desks ≤ thread.0 → (self.new ≡ self.old) × (result ≡ false) }
+        ensures discards { place_in self.old.desks thread < length self.old.desks → DiscardsAt self.old self.new thread result }
+        ensures nobody { length self.old.desks ≤ place_in self.old.desks thread → (self.new ≡ self.old) × (result ≡ false) }
     {
-        let at = thread.0 as usize;
+        let at = self.place_of(thread).0 as usize;
         if at >= self.desks.len() {
             return false;
         }
         self.desks[at].discard(rt)
     }
 
-    /// Asks the thread an admitted call for which there is room, and waits for its answer for at most this time. The buffer
-    /// has just the room that the call takes.
+    /// Asks the thread at this place an admitted call for which there is room, and waits for its answer for at most this
+    /// time. The buffer has just the room that the call takes.
     fn ask_one_within<R: Wait + Clock>(
         &mut self,
         rt: &R,
         alloc: Global,
         thread: ThreadNo,
+        place: ThreadNo,
         call: Call,
         buf: TraceBuf,
         time: Duration,
     ) -> Answer
-        requires admitted { call_refusal self.old.state thread call ≡ None }
+        requires place { place ≡ place_of self.old.desks thread }
+        requires admitted { thread_refusal self.old thread call ≡ None }
         requires room { (waits call && is_full self.old thread) ≡ false }
         requires buf { IsJustBufferOf self.old.state.limits call buf }
         ensures comes { ComesTo self.old self.new thread call (said result) }
         ensures kind { IsKind call (said result) }
     {
-        let answer = match self.desks[thread.0 as usize].call_within(rt, alloc, call, buf, time) {
+        let _thread = thread;
+        let answer = match self.desks[place.0 as usize].call_within(rt, alloc, call, buf, time) {
             Ok(answer) => answer,
             Err(error) => return Answer::Refused(error),
         };
-        self.state.spend(thread);
+        self.state.spend(place);
         answer.unwrap_or(Answer::Refused(TiError::TimedOut))
     }
 
@@ -81,15 +84,16 @@ impl Env {
         ensures called { IsCalledWithin self.old self.new thread call (said result) }
         ensures kind { IsKind call (said result) }
     {
-        if let Err(error) = self.admit(thread, call) {
-            return Answer::Refused(error);
-        }
+        let place = match self.admit(thread, call) {
+            Ok(place) => place,
+            Err(error) => return Answer::Refused(error),
+        };
         let _thrown = self.discard(rt, thread);
-        if self.has_no_room(thread, call) {
+        if self.has_no_room(thread, place, call) {
             return Answer::Refused(TiError::OutOfMemory);
         }
         match buffer_for(alloc, self.state.limits(), call) {
-            Ok(buf) => self.ask_one_within(rt, alloc, thread, call, buf, time),
+            Ok(buf) => self.ask_one_within(rt, alloc, thread, place, call, buf, time),
             Err(error) => Answer::Refused(error),
         }
     }
@@ -183,9 +187,8 @@ ghost use Rattle.std.specs.Prelude.{◌≡◌, ◌<◌, ◌≤◌, ◌&&◌, fal
 ghost use Rattle.ti_types.specs.Answer.{said};
 ghost use Rattle.ti_types.specs.declared.call.Call.TheVariants as call;
 ghost use Rattle.ti_types.specs.declared.error.TiError.TheVariants.{OutOfMemory};
-ghost use Rattle.ti_env.specs.Env.{call_refusal};
 ghost use Rattle.ti_replay.specs.Settling.{waits};
 ghost use Rattle.ti_agent.specs.Buffers.{IsJustBufferOf};
-ghost use Rattle.ti_agent.specs.Env.{is_full};
+ghost use Rattle.ti_agent.specs.Env.{place_in, place_of, thread_refusal, is_full};
 ghost use Rattle.ti_agent.specs.Asks.{IsKind, in_count, in_location, in_trace, in_done};
 ghost use Rattle.ti_agent.specs.Deadlines.{Cancels, DiscardsAt, ComesTo, IsCalledWithin};

@@ -10,12 +10,14 @@ use ti_replay::rules::waits as may_wait;
 use ti_slot::Asked;
 use ti_types::{Answer, Call, Caps, EnvNo, Frame, ThreadNo, TiError, TraceBuf};
 
-/// An agent's environment, with a desk at each thread.
+/// An agent's environment, with a desk at each of its threads. A thread is found by its number. The desks are in the order
+/// of their threads' numbers, and no two are at threads of one number.
 ///
 /// A call at a thread may be refused before it reaches the thread, with the first of these errors that fits:
 ///
 /// - 99 MUST_POSSESS_CAPABILITY: it needs a capability that the environment does not have.
-/// - 10 INVALID_THREAD: there is no thread of this number.
+/// - 10 INVALID_THREAD: there is no desk at a thread of this number. But 15 THREAD_NOT_ALIVE if there was a thread of this
+///   number once: after `take_desk`, or below the number given to `know_threads`.
 /// - 103 ILLEGAL_ARGUMENT: its count or depth is negative.
 /// - 209 CALLS_SPENT (this profile): the environment has no call left at this thread.
 ///
@@ -54,7 +56,7 @@ use ti_types::{Answer, Call, Caps, EnvNo, Frame, ThreadNo, TiError, TraceBuf};
 pub struct Env {
     pub(crate) env: EnvNo,
     pub(crate) state: EnvState,
-    /// In the order of the threads' numbers.
+    /// The place of a thread is that of its desk here.
     pub(crate) desks: Vec<Desk>,
 }
 
@@ -69,11 +71,10 @@ impl Model for Env {
 }
 
 impl Env {
-    /// Makes an environment of these desks. Desk i is the one at thread i. All desks are under the limits of the state, and
-    /// none has made a call.
+    /// Makes an environment of these desks, which are in the order of their threads' numbers. All desks are under the limits of
+    /// the state, and none has made a call. The state has as many places as there are desks.
     pub fn new(env: EnvNo, state: EnvState, desks: Vec<Desk>) -> Env
         requires count { length state.spent ≡ length desks.items }
-        requires some { 0 < length desks.items }
         requires desks { AreNewDesks env state desks.items }
         ensures { result ≡ record { env = env; state = state; desks = desks.items } }
     {
@@ -83,7 +84,7 @@ impl Env {
         Env { env, state, desks }
     }
 
-    /// The desks of the environment, in the order of the threads' numbers. Their seats may go back to the owners'
+    /// The desks of the environment, in the order of their places. Their seats may go back to the owners'
     /// (`ThreadCell::rejoin`). What the environment kept for itself is gone, as after DisposeEnvironment (JVM TI 11).
     pub fn into_desks(self) -> Vec<Desk>
         ensures { result.items ≡ self.desks }
@@ -96,34 +97,92 @@ impl Env {
         desks
     }
 
-    /// Asks the thread an admitted call, and waits for its answer if the call has to wait. The buffer has just the room that
-    /// the call takes.
-    fn ask_one<R: Wait>(&mut self, rt: &R, thread: ThreadNo, call: Call, buf: TraceBuf) -> Answer
-        requires admitted { call_refusal self.old.state thread call ≡ None }
+    /// The place of a thread, as the environment's state and the operations on its desks name it. If there is no desk at a
+    /// thread of this number, it is the number of desks.
+    ///
+    /// It looks first where the desk is if a thread of each number is there, and then by halves.
+    pub(crate) fn place_of(&self, thread: ThreadNo) -> ThreadNo
+        ensures { result ≡ place_of self.now.desks thread }
+    {
+        let count = self.state.threads();
+        if thread.0 < count && self.desks[thread.0 as usize].thread().0 == thread.0 {
+            return thread;
+        }
+        let mut low = 0;
+        let mut high = count;
+        while low < high {
+            let middle = low + (high - low) / 2;
+            let number = self.desks[middle as usize].thread().0;
+            if number == thread.0 {
+                return ThreadNo(middle);
+            }
+            if number < thread.0 {
+                low = middle + 1;
+            } else {
+                high = middle;
+            }
+        }
+        ThreadNo(count)
+    }
+
+    /// What is told of a number that has no desk: 15 in place of 10, if there was a thread of this number once. Any other
+    /// error stays.
+    fn told_as(&self, thread: ThreadNo, error: TiError) -> TiError
+        ensures { result ≡ told_as (nat_lt thread.0 self.now.state.known) error }
+    {
+        match error {
+            TiError::InvalidThread if u64::from(thread.0) < self.state.known() => {
+                TiError::ThreadNotAlive
+            }
+            _ => error,
+        }
+    }
+
+    /// Asks the thread at this place an admitted call, and waits for its answer if the call has to wait. The buffer has just
+    /// the room that the call takes.
+    fn ask_one<R: Wait>(
+        &mut self,
+        rt: &R,
+        thread: ThreadNo,
+        place: ThreadNo,
+        call: Call,
+        buf: TraceBuf,
+    ) -> Answer
+        requires place { place ≡ place_of self.old.desks thread }
+        requires admitted { thread_refusal self.old thread call ≡ None }
         requires buf { IsJustBufferOf self.old.state.limits call buf }
         ensures went { Went self.old self.new thread call (said result) }
         ensures kind { IsKind call (said result) }
         ensures room { is_for_memory (said result) ≡ false }
     {
-        self.state.spend(thread);
-        self.desks[thread.0 as usize].call(rt, call, buf)
+        let _thread = thread;
+        self.state.spend(place);
+        self.desks[place.0 as usize].call(rt, call, buf)
     }
 
-    /// Whether a call reaches its thread, as `EnvState::admit` says.
-    pub(crate) fn admit(&self, thread: ThreadNo, call: Call) -> Result<(), TiError>
-        ensures admitted { OnOk result (call_refusal self.now.state thread call ≡ None) }
-        ensures there { OnOk result (thread.0 < length self.now.desks) }
-        ensures refused { IfErr result (λ e. call_refusal self.now.state thread call ≡ Some e) }
+    /// The place of a thread, if a call reaches it, as `EnvState::admit` says. But 15 in place of 10, if there was a thread of
+    /// this number once.
+    pub(crate) fn admit(&self, thread: ThreadNo, call: Call) -> Result<ThreadNo, TiError>
+        ensures admitted { OnOk result (thread_refusal self.now thread call ≡ None) }
+        ensures place { IfOk result (λ place. place ≡ place_of self.now.desks thread) }
+        ensures there { OnOk result (place_in self.now.desks thread < length self.now.desks) }
+        ensures refused { IfErr result (λ e. thread_refusal self.now thread call ≡ Some e) }
     {
-        self.state.admit(thread, call)
+        let place = self.place_of(thread);
+        match self.state.admit(place, call) {
+            Ok(()) => Ok(place),
+            Err(error) => Err(self.told_as(thread, error)),
+        }
     }
 
-    /// Whether a call may wait while the environment's window at the thread is full.
-    pub(crate) fn has_no_room(&self, thread: ThreadNo, call: Call) -> bool
-        requires there { thread.0 < length self.now.desks }
+    /// Whether a call may wait while the environment's window at the thread at this place is full.
+    pub(crate) fn has_no_room(&self, thread: ThreadNo, place: ThreadNo, call: Call) -> bool
+        requires place { place ≡ place_of self.now.desks thread }
+        requires there { place_in self.now.desks thread < length self.now.desks }
         ensures { result ≡ (waits call && is_full self.now thread) }
     {
-        may_wait(call) && self.desks[thread.0 as usize].out() >= self.state.limits().window
+        let _thread = thread;
+        may_wait(call) && self.desks[place.0 as usize].out() >= self.state.limits().window
     }
 
     /// Whether the environment has all of these capabilities.
@@ -133,21 +192,25 @@ impl Env {
         self.state.caps().has(caps)
     }
 
-    /// Posts an admitted call for which there is room. The buffer has just the room that the call takes.
+    /// Posts an admitted call for which there is room, at the thread at this place. The buffer has just the room that the
+    /// call takes.
     pub(crate) fn post_one<R: Wait>(
         &mut self,
         rt: &R,
         thread: ThreadNo,
+        place: ThreadNo,
         call: Call,
         buf: TraceBuf,
     ) -> Asked
-        requires admitted { call_refusal self.old.state thread call ≡ None }
+        requires place { place ≡ place_of self.old.desks thread }
+        requires admitted { thread_refusal self.old thread call ≡ None }
         requires room { (waits call && is_full self.old thread) ≡ false }
         requires buf { IsJustBufferOf self.old.state.limits call buf }
         ensures posts { Posts self.old self.new thread call result }
     {
-        self.state.spend(thread);
-        self.desks[thread.0 as usize].post(rt, call, buf)
+        let _thread = thread;
+        self.state.spend(place);
+        self.desks[place.0 as usize].post(rt, call, buf)
     }
 
     /// Asks the thread a call that takes no buffer.
@@ -156,15 +219,15 @@ impl Env {
         ensures called { IsCalled self.old self.new thread call (said result) }
         ensures kind { IsKind call (said result) }
     {
-        if let Err(error) = self.state.admit(thread, call) {
-            return Answer::Refused(error);
+        match self.admit(thread, call) {
+            Ok(place) => self.ask_one(rt, thread, place, call, TraceBuf::none()),
+            Err(error) => Answer::Refused(error),
         }
-        self.ask_one(rt, thread, call, TraceBuf::none())
     }
 
     /// GetThreadState (JVM TI 11): the thread's state bits, in any mode. It never waits.
     ///
-    /// Errors: 10, 209.
+    /// Errors: 10, 209, and 15 THREAD_NOT_ALIVE if its desk is gone.
     pub fn get_thread_state<R: Wait>(&mut self, rt: &R, thread: ThreadNo) -> Result<u32, TiError>
         ensures { IsCalled self.old self.new thread call.State (in_state result) }
     {
@@ -212,11 +275,12 @@ impl Env {
         ensures { IsCalled self.old self.new thread (call.Trace start max_count) (in_trace result) }
     {
         let call = Call::Trace { start, max_count };
-        if let Err(error) = self.state.admit(thread, call) {
-            return Err(error);
-        }
+        let place = match self.admit(thread, call) {
+            Ok(place) => place,
+            Err(error) => return Err(error),
+        };
         match TraceBuf::make(alloc, max_count, self.state.limits().depth) {
-            Ok(buf) => trace_in(self.ask_one(rt, thread, call, buf), start, max_count),
+            Ok(buf) => trace_in(self.ask_one(rt, thread, place, call, buf), start, max_count),
             Err(error) => Err(error),
         }
     }
@@ -321,15 +385,15 @@ impl Env {
     }
 }
 
-ghost use Rattle.std.specs.Prelude.{◌≡◌, ◌&&◌, ◌↔◌, ◌<◌, length, true, false, None, Some, Ok, IfOk, IfErr, OnOk, OnErr, IsOk};
+ghost use Rattle.std.specs.Prelude.{◌≡◌, ◌&&◌, ◌↔◌, ◌<◌, nat_lt, length, true, false, None, Some, Ok, IfOk, IfErr, OnOk, OnErr, IsOk};
 ghost use Rattle.ti_types.specs.Answer.{said};
 ghost use Rattle.ti_types.specs.Caps.{caps_with, caps_without, can_be_had, has_all};
 ghost use Rattle.ti_types.specs.declared.call.Call.TheVariants as call;
 ghost use Rattle.ti_types.specs.declared.error.TiError.TheVariants.{NotAvailable};
-ghost use Rattle.ti_env.specs.Env.{call_refusal, with_caps, with_word};
+ghost use Rattle.ti_env.specs.Env.{with_caps, with_word};
 ghost use Rattle.ti_replay.specs.Admission.{takes_buffer};
 ghost use Rattle.ti_replay.specs.Settling.{waits};
 ghost use Rattle.ti_agent.specs.Buffers.{IsJustBufferOf};
-ghost use Rattle.ti_agent.specs.Env.{Environment, AreNewDesks, is_full};
+ghost use Rattle.ti_agent.specs.Env.{Environment, AreNewDesks, place_in, place_of, thread_refusal, told_as, is_full};
 ghost use Rattle.ti_agent.specs.Posts.{Posts};
 ghost use Rattle.ti_agent.specs.Asks.{Went, IsCalled, IsKind, is_for_memory, in_state, in_count, in_word, in_location, in_trace, in_done};

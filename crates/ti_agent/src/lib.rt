@@ -7,14 +7,18 @@
 //! - Any other call adds its one entry at the desk of its thread, and spends one call there. Its answer is the desk's.
 //! - A trace of several threads stops each of them before it reads the first. It lets none go before it has read the last.
 //! - Such a trace takes all of its memory before any stop.
+//! - Desks come and go with their threads. What was spent at a desk goes with it.
 #![tactic(auto)]
 
 mod answers;
 mod deadlines;
+mod desks;
 mod env;
+mod free_desk;
 mod lists;
 mod posts;
 mod thread_counts;
 mod traces;
 
 pub use env::Env;
+pub use free_desk::FreeDesk;

@@ -31,13 +31,14 @@ impl Env {
         requires bare { takes_buffer call ≡ false }
         ensures posted { IsPosted self.old self.new call thread result }
     {
-        if let Err(error) = self.admit(thread, call) {
-            return Posted::Code(error.number());
-        }
-        if self.has_no_room(thread, call) {
+        let place = match self.admit(thread, call) {
+            Ok(place) => place,
+            Err(error) => return Posted::Code(error.number()),
+        };
+        if self.has_no_room(thread, place, call) {
             return Posted::Code(TiError::OutOfMemory.number());
         }
-        match self.post_one(rt, thread, call, TraceBuf::none()) {
+        match self.post_one(rt, thread, place, call, TraceBuf::none()) {
             Asked::Answered(answer) => Posted::Code(code_in(&answer)),
             Asked::Waiting(ticket) => Posted::Waits(ticket),
         }

@@ -33,7 +33,8 @@ impl Env {
     /// Some calls are refused before they reach the thread, with the first of these that fits:
     ///
     /// - 99 MUST_POSSESS_CAPABILITY: it needs a capability that the environment does not have.
-    /// - 10 INVALID_THREAD: there is no thread of this number.
+    /// - 10 INVALID_THREAD: there is no desk at a thread of this number. But 15 THREAD_NOT_ALIVE if there was a thread of this
+    ///   number once.
     /// - 103 ILLEGAL_ARGUMENT: its count or depth is negative.
     /// - 209 CALLS_SPENT (this profile): the environment has no call left at this thread.
     /// - 110 OUT_OF_MEMORY: the call may wait and `window` calls are out there, or there is no memory for a trace's frames.
@@ -52,14 +53,15 @@ impl Env {
         ensures refused { IfErr result (λ e. Some e ≡ or_else (posting_refusal self.old thread call) (if takes_buffer call then Some OutOfMemory else None)) }
         ensures unchanged { IfErr result (λ e. self.new ≡ self.old) }
     {
-        if let Err(error) = self.admit(thread, call) {
-            return Err(error);
-        }
-        if self.has_no_room(thread, call) {
+        let place = match self.admit(thread, call) {
+            Ok(place) => place,
+            Err(error) => return Err(error),
+        };
+        if self.has_no_room(thread, place, call) {
             return Err(TiError::OutOfMemory);
         }
         match buffer_for(alloc, self.state.limits(), call) {
-            Ok(buf) => Ok(self.post_one(rt, thread, call, buf)),
+            Ok(buf) => Ok(self.post_one(rt, thread, place, call, buf)),
             Err(error) => Err(error),
         }
     }
@@ -70,10 +72,10 @@ impl Env {
     /// `None` while the answer is not there, and for a ticket that is not out at this environment. Then nothing is
     /// collected.
     pub fn try_collect<R: Wait>(&mut self, rt: &R, ticket: Ticket) -> Option<Answer>
-        ensures looks { ticket.thread.0 < length self.old.desks → LooksFor self.old self.new ticket (option_map said result) }
-        ensures nobody { length self.old.desks ≤ ticket.thread.0 → (self.new ≡ self.old) × (result ≡ None) }
+        ensures looks { place_in self.old.desks ticket.thread < length self.old.desks → LooksFor self.old self.new ticket (option_map said result) }
+        ensures nobody { length self.old.desks ≤ place_in self.old.desks ticket.thread → (self.new ≡ self.old) × (result ≡ None) }
     {
-        let at = ticket.thread.0 as usize;
+        let at = self.place_of(ticket.thread).0 as usize;
         if at >= self.desks.len() {
             return None;
         }
@@ -90,10 +92,10 @@ impl Env {
         ticket: Ticket,
         time: Duration,
     ) -> Option<Answer>
-        ensures waits { ticket.thread.0 < length self.old.desks → WaitsFor self.old self.new ticket (option_map said result) }
-        ensures nobody { length self.old.desks ≤ ticket.thread.0 → (self.new ≡ self.old) × (result ≡ None) }
+        ensures waits { place_in self.old.desks ticket.thread < length self.old.desks → WaitsFor self.old self.new ticket (option_map said result) }
+        ensures nobody { length self.old.desks ≤ place_in self.old.desks ticket.thread → (self.new ≡ self.old) × (result ≡ None) }
     {
-        let at = ticket.thread.0 as usize;
+        let at = self.place_of(ticket.thread).0 as usize;
         if at >= self.desks.len() {
             return None;
         }
@@ -106,7 +108,8 @@ impl Env {
         requires out { IsOut self.old ticket }
         ensures collects { Collects self.old self.new ticket (said result) }
     {
-        self.desks[ticket.thread.0 as usize].collect(rt, ticket)
+        let at = self.place_of(ticket.thread).0 as usize;
+        self.desks[at].collect(rt, ticket)
     }
 }
 
@@ -118,4 +121,5 @@ ghost use Rattle.ti_types.specs.declared.error.TiError.TheVariants.{OutOfMemory}
 ghost use Rattle.ti_replay.specs.Admission.{takes_buffer};
 ghost use Rattle.ti_replay.specs.Legal.{is_well_formed};
 ghost use Rattle.ti_agent.specs.Buffers.{IsJustBufferOf};
+ghost use Rattle.ti_agent.specs.Env.{place_in};
 ghost use Rattle.ti_agent.specs.Posts.{posting_refusal, Posts, Collects, LooksFor, WaitsFor, IsOut, IsOutIfWaiting};

@@ -1,10 +1,11 @@
-//! Counts how often each thread is in a list. Under one stop, a thread is read that many times.
+//! Counts how often each thread is in a list. Under one stop, a thread is read that many times. Threads are named by their
+//! places here.
 
 use std::alloc::Global;
 use ti_env::EnvState;
 use ti_types::{ThreadNo, TiError};
 
-/// The first `count` threads, in the order of their numbers. 110 OUT_OF_MEMORY if there is no memory for the list.
+/// The first `count` threads, in the order of their places. 110 OUT_OF_MEMORY if there is no memory for the list.
 pub(crate) fn all_threads(alloc: Global, count: u32) -> Result<Vec<ThreadNo>, TiError>
     ensures all { IfOk result (λ v. v.items ≡ each_thread count) }
     ensures memory { IfErr result (λ e. e ≡ OutOfMemory) }
@@ -28,13 +29,6 @@ pub(crate) fn all_with_one_read(alloc: Global, count: u32) -> Result<Vec<(Thread
     Ok(list)
 }
 
-/// Whether all threads of a list exist, when there are `count` threads.
-pub(crate) fn are_all_there(threads: &[ThreadNo], count: u32) -> bool
-    ensures { result ≡ are_there count threads.now }
-{
-    threads.iter().all(|thread| thread.0 < count)
-}
-
 /// Whether each of the first `count` threads has a call left for its stop and one for its read.
 pub(crate) fn are_all_paid(state: &EnvState, count: u32) -> bool
     ensures { result ≡ are_paid state.now (all_once count) }
@@ -47,7 +41,7 @@ pub(crate) fn are_all_paid(state: &EnvState, count: u32) -> bool
     true
 }
 
-/// How often each thread is in a list, by its number. 110 OUT_OF_MEMORY if there is no memory for the counts. 209
+/// How often each thread is in a list, by its place. 110 OUT_OF_MEMORY if there is no memory for the counts. 209
 /// CALLS_SPENT if a thread has too few calls left for its stop and all of its reads.
 pub(crate) fn count_each(
     alloc: Global,
@@ -71,7 +65,7 @@ pub(crate) fn count_each(
     Ok(counts)
 }
 
-/// The threads that were counted at least once, each once, in the order of their numbers. Each has as many reads to come as
+/// The threads that were counted at least once, each once, in the order of their places. Each has as many reads to come as
 /// were counted. 110 OUT_OF_MEMORY if there is no memory for the list.
 pub(crate) fn counted_threads(
     alloc: Global,

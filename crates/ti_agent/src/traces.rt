@@ -2,7 +2,7 @@
 
 use crate::env::Env;
 use crate::thread_counts::{
-    all_threads, all_with_one_read, are_all_paid, are_all_there, count_each, counted_threads,
+    all_threads, all_with_one_read, are_all_paid, count_each, counted_threads,
 };
 use std::alloc::Global;
 use std::sync::{Mutex, Wait};
@@ -47,43 +47,44 @@ fn told_of(thread: ThreadNo, answer: Answer) -> StackInfo
     }
 }
 
-/// Reads each thread of a list, in the list's order, and keeps each answer. All of them are standing.
+/// Reads the thread at each of these places, in the list's order, and keeps each answer. All of them are standing.
 fn read_each<R: Wait>(
     rt: &R,
     standing: &mut Standing<'_, '_>,
     desks: &mut [Desk],
     state: &mut EnvState,
-    threads: &[ThreadNo],
+    places: &[ThreadNo],
     max_count: i32,
     bufs: Vec<TraceBuf>,
     infos: &mut Vec<StackInfo>,
 )
     requires held { AreStopped (record { env = standing.old.env; state = state.old; desks = desks.old }) standing.old.threads }
     requires there { AreThere (length desks.old) standing.old.threads }
-    requires listed { AreListed standing.old.threads threads.now }
+    requires listed { AreListed standing.old.threads places.now }
     requires none { standing.old.reads ≡ 0 }
-    requires left { AreLeft state.old threads.now }
+    requires left { AreLeft state.old places.now }
     requires count { is_not_negative max_count ≡ true }
-    requires bufs { (length bufs.items ≡ length threads.now) × AreRoomy state.old.limits max_count bufs.items }
+    requires bufs { (length bufs.items ≡ length places.now) × AreRoomy state.old.limits max_count bufs.items }
     requires empty { infos.old.items ≡ [] }
-    requires room { length threads.now ≤ vec_capacity infos.old }
+    requires room { length places.now ≤ vec_capacity infos.old }
     ensures held { AreStopped (record { env = standing.old.env; state = state.new; desks = desks.new }) standing.old.threads }
-    ensures reads { HasRead (record { env = standing.old.env; state = state.old; desks = desks.old }) (record { env = standing.old.env; state = state.new; desks = desks.new }) max_count threads.now infos.new.items }
-    ensures standing { standing.new ≡ with_reads standing.old (length threads.now) }
+    ensures reads { HasRead (record { env = standing.old.env; state = state.old; desks = desks.old }) (record { env = standing.old.env; state = state.new; desks = desks.new }) max_count places.now (threads_at desks.old places.now) infos.new.items }
+    ensures standing { standing.new ≡ with_reads standing.old (length places.now) }
 {
     let mut bufs = bufs;
-    for i in 0..threads.len() {
-        let thread = threads[i];
+    for i in 0..places.len() {
+        let place = places[i];
         let buf = match bufs.pop() {
             Some(buf) => buf,
             None => unreachable!(),
         };
-        let answer = standing.read(rt, desks, state, thread, max_count, buf);
+        let answer = standing.read(rt, desks, state, place, max_count, buf);
+        let thread = desks[place.0 as usize].thread();
         infos.push_reserved(told_of(thread, answer));
     }
 }
 
-/// Stops each thread of a list once, reads it as often as it is in the list, and lets all go.
+/// Stops the thread at each of these places once, reads it as often as its place is in the list, and lets all go.
 fn trace_each<R: Wait>(
     rt: &R,
     turn: &mut VmTurn,
@@ -91,24 +92,23 @@ fn trace_each<R: Wait>(
     desks: &mut [Desk],
     state: &mut EnvState,
     stopping: &[(ThreadNo, u64)],
-    threads: &[ThreadNo],
+    places: &[ThreadNo],
     max_count: i32,
     bufs: Vec<TraceBuf>,
     infos: &mut Vec<StackInfo>,
 ) -> Round
     requires whole { IsWhole (record { env = env; state = state.old; desks = desks.old }) }
-    requires stopping { stopping.now ≡ each_once (length state.old.spent) threads.now }
-    requires there { are_there (length state.old.spent) threads.now ≡ true }
+    requires stopping { stopping.now ≡ each_once (length state.old.spent) places.now }
+    requires there { are_there (length state.old.spent) places.now ≡ true }
     requires paid { are_paid state.old stopping.now ≡ true }
     requires count { is_not_negative max_count ≡ true }
-    requires bufs { (length bufs.items ≡ length threads.now) × AreRoomy state.old.limits max_count bufs.items }
+    requires bufs { (length bufs.items ≡ length places.now) × AreRoomy state.old.limits max_count bufs.items }
     requires empty { infos.old.items ≡ [] }
-    requires room { length threads.now ≤ vec_capacity infos.old }
+    requires room { length places.now ≤ vec_capacity infos.old }
     ensures whole { IsWhole (record { env = env; state = state.new; desks = desks.new }) }
-    ensures traced { IsTraced (record { env = env; state = state.old; desks = desks.old }) (record { env = env; state = state.new; desks = desks.new }) max_count stopping.now threads.now infos.new.items result }
+    ensures traced { IsTraced (record { env = env; state = state.old; desks = desks.old }) (record { env = env; state = state.new; desks = desks.new }) max_count stopping.now places.now (threads_at desks.old places.now) infos.new.items result }
 {
-    let _env = env;
-    let Ok(mut standing) = stop_all(rt, turn, desks, state, stopping) else {
+    let Ok(mut standing) = stop_all(rt, turn, env, desks, state, stopping) else {
         unreachable!()
     };
     read_each(
@@ -116,7 +116,7 @@ fn trace_each<R: Wait>(
         &mut standing,
         desks,
         state,
-        threads,
+        places,
         max_count,
         bufs,
         infos,
@@ -143,13 +143,38 @@ impl Env {
         Ok(count)
     }
 
-    /// Whether the threads of a list may be traced. It tries neither their calls nor the memory. 10 INVALID_THREAD if one of
-    /// the list is no thread, and 103 ILLEGAL_ARGUMENT if `max_count` is negative.
-    fn admit_list(&self, threads: &[ThreadNo], max_count: i32) -> Result<(), TiError>
-        ensures admitted { OnOk result (refusal_of_list self.now.state threads.now max_count ≡ None) }
-        ensures refused { IfErr result (λ e. refusal_of_list self.now.state threads.now max_count ≡ Some e) }
+    /// Whether there is a desk at each thread of a list.
+    fn are_all_there(&self, threads: &[ThreadNo]) -> bool
+        ensures { result ≡ are_there (length self.now.state.spent) (places_of self.now.desks threads.now) }
     {
-        if !are_all_there(threads, self.state.threads()) {
+        let count = self.state.threads();
+        for i in 0..threads.len() {
+            if self.place_of(threads[i]).0 >= count {
+                return false;
+            }
+        }
+        true
+    }
+
+    /// The places of these threads. 110 OUT_OF_MEMORY if there is no memory for the list.
+    fn places(&self, alloc: Global, threads: &[ThreadNo]) -> Result<Vec<ThreadNo>, TiError>
+        ensures all { IfOk result (λ v. v.items ≡ places_of self.now.desks threads.now) }
+        ensures memory { IfErr result (λ e. e ≡ OutOfMemory) }
+    {
+        let mut places = Vec::with_capacity(alloc, threads.len())?;
+        for i in 0..threads.len() {
+            places.push_reserved(self.place_of(threads[i]));
+        }
+        Ok(places)
+    }
+
+    /// Whether the threads of a list may be traced. It tries neither their calls nor the memory. 10 INVALID_THREAD if there
+    /// is no desk at one of them, and 103 ILLEGAL_ARGUMENT if `max_count` is negative.
+    fn admit_list(&self, threads: &[ThreadNo], max_count: i32) -> Result<(), TiError>
+        ensures admitted { OnOk result (refusal_of_list self.now.state (places_of self.now.desks threads.now) max_count ≡ None) }
+        ensures refused { IfErr result (λ e. refusal_of_list self.now.state (places_of self.now.desks threads.now) max_count ≡ Some e) }
+    {
+        if !self.are_all_there(threads) {
             return Err(TiError::InvalidThread);
         }
         if max_count < 0 {
@@ -158,7 +183,7 @@ impl Env {
         Ok(())
     }
 
-    /// Traces the threads of a list, and stops each of them once. All memory is taken before any stop. 110 OUT_OF_MEMORY if
+    /// Traces the threads at these places, and stops each of them once. All memory is taken before any stop. 110 OUT_OF_MEMORY if
     /// there is none; then nothing has changed.
     fn trace<R: Wait>(
         &mut self,
@@ -166,19 +191,19 @@ impl Env {
         alloc: Global,
         turn: &Mutex<VmTurn>,
         stopping: &[(ThreadNo, u64)],
-        threads: &[ThreadNo],
+        places: &[ThreadNo],
         max_count: i32,
     ) -> Result<(Vec<StackInfo>, Round), TiError>
-        requires stopping { stopping.now ≡ each_once (length self.old.state.spent) threads.now }
-        requires there { are_there (length self.old.state.spent) threads.now ≡ true }
+        requires stopping { stopping.now ≡ each_once (length self.old.state.spent) places.now }
+        requires there { are_there (length self.old.state.spent) places.now ≡ true }
         requires paid { are_paid self.old.state stopping.now ≡ true }
         requires count { is_not_negative max_count ≡ true }
-        ensures traced { IfOk result (λ r. IsTraced self.old self.new max_count stopping.now threads.now r.0.items r.1) }
+        ensures traced { IfOk result (λ r. IsTraced self.old self.new max_count stopping.now places.now (threads_at self.old.desks places.now) r.0.items r.1) }
         ensures memory { IfErr result (λ e. e ≡ OutOfMemory) }
         ensures unchanged { OnErr result (self.new ≡ self.old) }
     {
-        let bufs = buffers(alloc, threads.len(), max_count, self.state.limits().depth)?;
-        let mut infos = Vec::with_capacity(alloc, threads.len())?;
+        let bufs = buffers(alloc, places.len(), max_count, self.state.limits().depth)?;
+        let mut infos = Vec::with_capacity(alloc, places.len())?;
         let mut held = turn.lock(rt);
         let round = trace_each(
             rt,
@@ -187,7 +212,7 @@ impl Env {
             &mut self.desks,
             &mut self.state,
             stopping,
-            threads,
+            places,
             max_count,
             bufs,
             &mut infos,
@@ -195,7 +220,7 @@ impl Env {
         Ok((infos, round))
     }
 
-    /// GetAllStackTraces (JVM TI 11): the state and frames of each thread that is alive, in the order of their numbers.
+    /// GetAllStackTraces (JVM TI 11): the state and frames of each thread that is alive, in the order of their desks.
     /// There are at most `max_count` frames of each, the newest first. Also given is the round that was made.
     ///
     /// It waits for the turn. Under it, all threads are stopped before the first is read. All are read before the first is
@@ -222,9 +247,9 @@ impl Env {
         ensures unchanged { OnErr result (self.new ≡ self.old) }
     {
         let count = self.admit_all(max_count)?;
-        let threads = all_threads(alloc, count)?;
+        let places = all_threads(alloc, count)?;
         let stopping = all_with_one_read(alloc, count)?;
-        let (mut infos, round) = self.trace(rt, alloc, turn, &stopping, &threads, max_count)?;
+        let (mut infos, round) = self.trace(rt, alloc, turn, &stopping, &places, max_count)?;
         infos.retain(|info: &StackInfo| info.state & 1 == 1);
         Ok((infos, round))
     }
@@ -238,9 +263,9 @@ impl Env {
     ///
     /// The errors, in this order, all before any stop:
     ///
-    /// - 10 INVALID_THREAD: one of the list is no thread.
+    /// - 10 INVALID_THREAD: there is no desk at one of them.
     /// - 103 ILLEGAL_ARGUMENT: `max_count` is negative.
-    /// - 110 OUT_OF_MEMORY: there is no memory to count how often each thread is in the list.
+    /// - 110 OUT_OF_MEMORY: there is no memory for the list of their places, or to count how often each thread is in it.
     /// - 209 CALLS_SPENT: a thread has fewer calls left than its stop and its reads cost.
     /// - 110 OUT_OF_MEMORY: there is no memory for the result.
     ///
@@ -254,16 +279,17 @@ impl Env {
         threads: &[ThreadNo],
         max_count: i32,
     ) -> Result<(Vec<StackInfo>, Round), TiError>
-        ensures admitted { OnOk result (refusal_of_list self.old.state threads.now max_count ≡ None) }
-        ensures paid { OnOk result (refusal_of_counted self.old.state threads.now ≡ None) }
-        ensures traced { IfOk result (λ r. IsTraced self.old self.new max_count (each_once (length self.old.desks) threads.now) threads.now r.0.items r.1) }
-        ensures refused { IfErr result (λ e. IsListRefused self.old.state threads.now max_count e) }
+        ensures admitted { OnOk result (refusal_of_list self.old.state (places_of self.old.desks threads.now) max_count ≡ None) }
+        ensures paid { OnOk result (refusal_of_counted self.old.state (places_of self.old.desks threads.now) ≡ None) }
+        ensures traced { IfOk result (λ r. IsTraced self.old self.new max_count (each_once (length self.old.desks) (places_of self.old.desks threads.now)) (places_of self.old.desks threads.now) threads.now r.0.items r.1) }
+        ensures refused { IfErr result (λ e. IsListRefused self.old.state (places_of self.old.desks threads.now) max_count e) }
         ensures unchanged { OnErr result (self.new ≡ self.old) }
     {
         self.admit_list(threads, max_count)?;
-        let counts = count_each(alloc, &self.state, threads)?;
+        let places = self.places(alloc, threads)?;
+        let counts = count_each(alloc, &self.state, &places)?;
         let stopping = counted_threads(alloc, self.state.threads(), &counts)?;
-        self.trace(rt, alloc, turn, &stopping, threads, max_count)
+        self.trace(rt, alloc, turn, &stopping, &places, max_count)
     }
 }
 
@@ -275,5 +301,5 @@ ghost use Rattle.ti_types.specs.Refusing.{or_else};
 ghost use Rattle.ti_types.specs.declared.limits.Limits.{Limits};
 ghost use Rattle.ti_vmop.specs.Turns.{AreThere, are_paid, with_reads};
 ghost use Rattle.ti_agent.specs.Buffers.{AreRoomy};
-ghost use Rattle.ti_agent.specs.Env.{IsWhole};
+ghost use Rattle.ti_agent.specs.Env.{IsWhole, places_of, threads_at};
 ghost use Rattle.ti_agent.specs.Traces.{are_there, each_once, is_stack, told_info, told_stack, refusal_of_all, refusal_of_list, refusal_of_counted, AreStopped, AreLeft, AreListed, HasRead, IsListRefused, IsTraced, TracesAlive};

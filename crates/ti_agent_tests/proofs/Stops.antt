@@ -27,19 +27,20 @@ use Rattle.ti_handshake.specs.Call.{Holds}
 use Rattle.ti_handshake.specs.Desk.{DeskState, IsSame}
 use Rattle.ti_replay.specs.Fronts.{stops_by}
 use Rattle.ti_vmop.specs.Turns.{Listed, is_listed, are_paid, spend_all, AtEach, AllStand, MayRead}
-use Rattle.ti_agent.specs.Env.{Environment, IsDesk, IsWhole, AreNewDesks}
+use Rattle.ti_agent.specs.Env.{Environment, IsDesk, IsWhole, AreNewDesks, thread_at}
+use Rattle.ti_agent.proofs.Places.{new_numbered}
 use Rattle.ti_agent.specs.Traces.{AreStopped, AreLeft, ReadsOne, each_once, are_there}
 use Rattle.ti_agent.proofs.Tracing.{limits_all, left_in, left_one, left_then, distinct_in, there_in, held_after_stops, held_after_read, may_read}
 use Rattle.ti_agent_tests.specs.HandOvers.{MayCall}
 
 -- desks that have made no call
-pub new_whole : (env : EnvNo) (state : EnvValue) (desks : List DeskState) → length state.spent ≡ length desks → 0 < length desks → AreNewDesks env state desks
+pub new_whole : (env : EnvNo) (state : EnvValue) (desks : List DeskState) → length state.spent ≡ length desks → AreNewDesks env state desks
     → ((i : ℕ) (p : DeskState) → slice_get desks i ≡ Some p → p.view.posted ≡ []) → IsWhole (record { env = env; state = state; desks = desks })
-new_whole env state desks count some are none_out = record { count = count; some = some; desks = one }
+new_whole env state desks count are none_out = record { count = count; in_order = are.0; desks = one }
   where
     one : (i : ℕ) (p : DeskState) → slice_get desks i ≡ Some p → IsDesk (record { env = env; state = state; desks = desks }) i p
     one i p at =
-        let a = are i p at in
+        let a = are.1 i p at in
         let none : calls_spent p.env p.view.mine ≡ 0 = ap (calls_spent p.env) a.2 in
         record {
           env_is = a.0;
@@ -84,7 +85,7 @@ made (Err e) limits state is new = cc
 pub one_whole : (limits : Limits) (state : EnvValue) (seat : Sitting) (p : DeskState) → limits.threads ≡ 1 → state ≡ new_env limits → IsNewDesk limits (record { 0 = 0 }) seat p
     → IsWhole (record { env = record { 0 = 0 }; state = state; desks = p ∷ [] })
 one_whole limits state seat p threads is new =
-    new_whole (record { 0 = 0 }) state (p ∷ []) (new_spent state limits is ∙ threads) (omega arith) are none_out
+    new_whole (record { 0 = 0 }) state (p ∷ []) (new_spent state limits is ∙ threads) are none_out
   where
     none_out : (i : ℕ) (q : DeskState) → slice_get (p ∷ []) i ≡ Some q → q.view.posted ≡ []
     none_out zero q at = subst (λ (x : DeskState). x.view.posted ≡ []) (some_same p q at) (new_out limits 0 seat p new)
@@ -94,20 +95,23 @@ one_whole limits state seat p threads is new =
         none e = cc
 
     are : AreNewDesks (record { 0 = 0 }) state (p ∷ [])
-    are zero q at = subst (λ (x : DeskState). (x.env ≡ record { 0 = 0 }) × (x.view.subject ≡ subject_of state.limits (record { 0 = 0 })) × (x.view.mine ≡ [])) (some_same p q at) (new_desk limits 0 seat p state (ap (λ (s : EnvValue). s.limits) is) new)
-    are (suc i) q at = absurd (none at)
+    are = new_numbered (record { 0 = 0 }) state (p ∷ []) each
       where
-        none : slice_get [] i ≡ Some q → ⊥
-        none e = cc
+        each : (i : ℕ) (q : DeskState) → slice_get (p ∷ []) i ≡ Some q → (q.env ≡ record { 0 = 0 }) × (q.view.subject ≡ subject_of state.limits (record { 0 = i })) × (q.view.mine ≡ [])
+        each zero q at = subst (λ (x : DeskState). (x.env ≡ record { 0 = 0 }) × (x.view.subject ≡ subject_of state.limits (record { 0 = 0 })) × (x.view.mine ≡ [])) (some_same p q at) (new_desk limits 0 seat p state (ap (λ (s : EnvValue). s.limits) is) new)
+        each (suc i) q at = absurd (none at)
+          where
+            none : slice_get [] i ≡ Some q → ⊥
+            none e = cc
 
 pub two_new : (limits : Limits) (state : EnvValue) (one two : Sitting) (p r : DeskState) → state ≡ new_env limits → IsNewDesk limits (record { 0 = 0 }) one p → IsNewDesk limits (record { 0 = 1 }) two r
     → AreNewDesks (record { 0 = 0 }) state (p ∷ r ∷ [])
-two_new limits state one two p r is first second = are
+two_new limits state one two p r is first second = new_numbered (record { 0 = 0 }) state (p ∷ r ∷ []) each
   where
-    are : AreNewDesks (record { 0 = 0 }) state (p ∷ r ∷ [])
-    are zero q at = subst (λ (x : DeskState). (x.env ≡ record { 0 = 0 }) × (x.view.subject ≡ subject_of state.limits (record { 0 = 0 })) × (x.view.mine ≡ [])) (some_same p q at) (new_desk limits 0 one p state (ap (λ (s : EnvValue). s.limits) is) first)
-    are (suc zero) q at = subst (λ (x : DeskState). (x.env ≡ record { 0 = 0 }) × (x.view.subject ≡ subject_of state.limits (record { 0 = 1 })) × (x.view.mine ≡ [])) (some_same r q at) (new_desk limits 1 two r state (ap (λ (s : EnvValue). s.limits) is) second)
-    are (suc (suc i)) q at = absurd (none at)
+    each : (i : ℕ) (q : DeskState) → slice_get (p ∷ r ∷ []) i ≡ Some q → (q.env ≡ record { 0 = 0 }) × (q.view.subject ≡ subject_of state.limits (record { 0 = i })) × (q.view.mine ≡ [])
+    each zero q at = subst (λ (x : DeskState). (x.env ≡ record { 0 = 0 }) × (x.view.subject ≡ subject_of state.limits (record { 0 = 0 })) × (x.view.mine ≡ [])) (some_same p q at) (new_desk limits 0 one p state (ap (λ (s : EnvValue). s.limits) is) first)
+    each (suc zero) q at = subst (λ (x : DeskState). (x.env ≡ record { 0 = 0 }) × (x.view.subject ≡ subject_of state.limits (record { 0 = 1 })) × (x.view.mine ≡ [])) (some_same r q at) (new_desk limits 1 two r state (ap (λ (s : EnvValue). s.limits) is) second)
+    each (suc (suc i)) q at = absurd (none at)
       where
         none : slice_get [] i ≡ Some q → ⊥
         none e = cc
@@ -115,7 +119,7 @@ two_new limits state one two p r is first second = are
 pub two_whole : (limits : Limits) (state : EnvValue) (one two : Sitting) (p r : DeskState) → limits.threads ≡ 2 → state ≡ new_env limits → IsNewDesk limits (record { 0 = 0 }) one p → IsNewDesk limits (record { 0 = 1 }) two r
     → IsWhole (record { env = record { 0 = 0 }; state = state; desks = p ∷ r ∷ [] })
 two_whole limits state one two p r threads is first second =
-    new_whole (record { 0 = 0 }) state (p ∷ r ∷ []) (new_spent state limits is ∙ threads) (omega arith) (two_new limits state one two p r is first second) none_out
+    new_whole (record { 0 = 0 }) state (p ∷ r ∷ []) (new_spent state limits is ∙ threads) (two_new limits state one two p r is first second) none_out
   where
     none_out : (i : ℕ) (q : DeskState) → slice_get (p ∷ r ∷ []) i ≡ Some q → q.view.posted ≡ []
     none_out zero q at = subst (λ (x : DeskState). x.view.posted ≡ []) (some_same p q at) (new_out limits 0 one p first)
@@ -149,7 +153,7 @@ pub record Stand (old now : Environment) (stopped : Listed) (reads : List Thread
   pub limits : now.state.limits ≡ old.state.limits
   pub count : length now.desks ≡ length old.desks
 
--- threads that are stopped, each once, in the order of their numbers
+-- threads that are stopped, each once, in the order of their places
 pub stops_stand : (s : Environment) (z : EnvValue) (ds : List DeskState) (stopped : Listed) (reads : List ThreadNo) → IsWhole s → stopped ≡ each_once (length s.desks) reads → are_there (length s.desks) reads ≡ true
     → are_paid s.state stopped ≡ true → z ≡ spend_all s.state stopped → AtEach stopped s.desks ds (λ e. Stop e ∷ []) → AllStand stopped ds → Stand s (record { env = s.env; state = z; desks = ds }) stopped reads
 stops_stand s z ds stopped reads whole is there paid spends each stand = record {
@@ -161,11 +165,11 @@ stops_stand s z ds stopped reads whole is there paid spends each stand = record 
 
 -- one of them is read
 pub reads_stand : (old now new : Environment) (stopped : Listed) (t : ThreadNo) (rest : List ThreadNo) (m : ℤ) (a : Answer) → Stand old now stopped (t ∷ rest) → is_listed t.0 stopped ≡ true → t.0 < length old.desks
-    → ReadsOne now new m (record { thread = t; answer = a }) → Stand old new stopped rest
+    → ReadsOne now new m (record { place = t; thread = thread_at now.desks t.0; answer = a }) → Stand old new stopped rest
 reads_stand old now new stopped t rest m a k listed there one =
     let here : t.0 < length now.desks = omega (arith, there, k.count) in
     record {
-      held = held_after_read now new stopped m (record { thread = t; answer = a }) k.held listed (left_one now.state t rest k.left) here one;
+      held = held_after_read now new stopped m (record { place = t; thread = thread_at now.desks t.0; answer = a }) k.held listed (left_one now.state t rest k.left) here one;
       left = left_then now.state new.state t rest k.left one.state_is (omega (arith, here, k.held.count));
       limits = ap (λ (v : EnvValue). v.limits) one.state_is ∙ k.limits;
       count = one.desks.0 ∙ k.count;

@@ -79,7 +79,7 @@ fn stop_and_read<R: Wait>(
 {
     let mut turn = VmTurn::new();
     let list = [(ThreadNo(0), 1u64), (ThreadNo(1), 1u64)];
-    let Ok(mut standing) = stop_all(rt, &mut turn, desks, state, &list) else {
+    let Ok(mut standing) = stop_all(rt, &mut turn, EnvNo(0), desks, state, &list) else {
         return Err("each thread has its calls left".into());
     };
     let back = waiting.try_back(rt);
@@ -213,7 +213,7 @@ fn stop_before_start<R: Wait>(
 {
     let mut turn = VmTurn::new();
     let list = [(ThreadNo(0), 1u64)];
-    let Ok(mut standing) = stop_all(rt, &mut turn, desks, state, &list) else {
+    let Ok(mut standing) = stop_all(rt, &mut turn, EnvNo(0), desks, state, &list) else {
         return Err("the thread has its calls left".into());
     };
     let started = fresh.try_start(rt);

@@ -76,7 +76,7 @@ impl ThreadCell {
         let mut seats = Vec::with_capacity(alloc, limits.envs as usize)?;
         let (cell, mut pass) = ThreadCell::open(alloc, limits, number)?;
         for env in 0..limits.envs {
-            match seats.push(cell.split(&mut pass, env + 1)) {
+            match seats.push(cell.split(&mut pass, env + 1, number)) {
                 Ok(()) => (),
                 Err(refused) => return Err(AllocError::from(refused).into()),
             }
@@ -84,6 +84,7 @@ impl ThreadCell {
         let own = CellSeat {
             seat: pass,
             number: 0,
+            thread: number,
             count: 0,
             out: 0,
             role: PhantomData,
@@ -115,11 +116,12 @@ impl ThreadCell {
         }
     }
 
-    /// Splits a seat off the owner's. It gets the next number, which is given.
-    fn split(&self, pass: &mut Pass, number: u32) -> EnvSeat
+    /// Splits a seat off the owner's. It gets the next number, which is given, as is the thread's.
+    fn split(&self, pass: &mut Pass, number: u32, thread: ThreadNo) -> EnvSeat
         requires pass { pass.old.table_id ≡ self.now }
         requires owner { (pass.old.me.0.number ≡ 0) × (pass.old.me.0.gone ≡ false) }
         requires number { number ≡ pass.old.me.0.made }
+        requires thread { thread ≡ pass.old.me.0.subject.thread }
         ensures pass { (pass.new.table_id ≡ pass.old.table_id) × (pass.new.me ≡ (splitter pass.old.me.0, pass.old.me.1)) }
         ensures seat { (result.cell ≡ self.now) × (result.view ≡ split_off pass.old.me.0) }
     {
@@ -127,6 +129,7 @@ impl ThreadCell {
         CellSeat {
             seat,
             number,
+            thread,
             count: 0,
             out: 0,
             role: PhantomData,
@@ -149,6 +152,7 @@ impl ThreadCell {
         let CellSeat {
             mut seat,
             number,
+            thread,
             count: _,
             out: _,
             role,
@@ -158,6 +162,7 @@ impl ThreadCell {
             cell: self,
             seat,
             number,
+            thread,
             slot,
             role,
         }
@@ -197,6 +202,7 @@ impl ThreadCell {
         let CellSeat {
             mut seat,
             number,
+            thread,
             count,
             out,
             role,
@@ -206,12 +212,14 @@ impl ThreadCell {
                 cell: self,
                 seat,
                 number,
+                thread,
                 slot,
                 role,
             }),
             None => Err(CellSeat {
                 seat,
                 number,
+                thread,
                 count,
                 out,
                 role,
@@ -333,6 +341,7 @@ impl ThreadCell {
         let CellSeat {
             seat,
             number: _,
+            thread: _,
             count: _,
             out: _,
             role: _,
@@ -365,6 +374,7 @@ impl ThreadCell {
         let CellSeat {
             seat,
             number: _,
+            thread: _,
             count: _,
             out: _,
             role: _,

@@ -4,6 +4,7 @@ use crate::cell::ThreadCell;
 use crate::parked::Parked;
 use crate::seat::{CellSeat, Pass};
 use std::marker::{Model, PhantomData};
+use ti_types::ThreadNo;
 
 /// The slot, taken out of its cell. It has to be stored: dropping it is a compile error.
 ///
@@ -12,6 +13,7 @@ pub struct Hold<'a, K> {
     pub(crate) cell: &'a ThreadCell,
     pub(crate) seat: Pass,
     pub(crate) number: u32,
+    pub(crate) thread: ThreadNo,
     pub(crate) slot: Parked,
     pub(crate) role: PhantomData<K>,
 }
@@ -24,7 +26,7 @@ impl<'a, K> Model for Hold<'a, K> {
 
     ghost view = { λ h. record { cell = h.cell.now; view = h.seat.me.0; slot = h.slot } };
 
-    ghost invariant = { λ h. (h.seat.table_id ≡ h.cell.now) × (h.seat.me.1 ≡ (0, None) ∷ []) × (h.seat.me.0.holds ≡ true) × (h.seat.me.0.gone ≡ false) × (h.number ≡ h.seat.me.0.number) };
+    ghost invariant = { λ h. (h.seat.table_id ≡ h.cell.now) × (h.seat.me.1 ≡ (0, None) ∷ []) × (h.seat.me.0.holds ≡ true) × (h.seat.me.0.gone ≡ false) × (h.number ≡ h.seat.me.0.number) × (h.thread ≡ h.seat.me.0.subject.thread) };
 }
 
 impl<'a, K> Hold<'a, K> {
@@ -46,6 +48,7 @@ impl<'a, K> Hold<'a, K> {
             cell,
             mut seat,
             number,
+            thread,
             slot,
             role,
         } = self;
@@ -55,6 +58,7 @@ impl<'a, K> Hold<'a, K> {
         CellSeat {
             seat,
             number,
+            thread,
             count,
             out,
             role,

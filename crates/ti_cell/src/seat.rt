@@ -4,6 +4,7 @@ use crate::parked::Parked;
 use crate::view::View;
 use atomic_table::Seat;
 use std::marker::{Model, PhantomData};
+use ti_types::ThreadNo;
 
 /// A seat of the cell's table.
 pub(crate) type Pass = Seat<Option<Parked>, View>;
@@ -22,13 +23,15 @@ pub type EnvSeat = CellSeat<EnvRole>;
 
 /// A seat of a cell, in the role `K`: what one user of the cell knows. It is moved to where its user runs.
 ///
-/// At run time it has its number, how many entries it has seen, and how many of its calls are out. Contracts see it as its
-/// cell and a `View`.
+/// At run time it has its number, its thread's number, how many entries it has seen, and how many of its calls are out.
+/// Contracts see it as its cell and a `View`.
 #[derive(Drop)]
 pub struct CellSeat<K> {
     pub(crate) seat: Pass,
     /// The number of the seat: 0 for the owner, `e + 1` for environment `e`.
     pub(crate) number: u32,
+    /// The number of the cell's thread.
+    pub(crate) thread: ThreadNo,
     /// How many entries the seat has seen.
     pub(crate) count: usize,
     /// How many of its calls wait, or have an answer that is not collected.
@@ -46,7 +49,7 @@ impl<K> Model for CellSeat<K> {
 
     ghost view = { λ s. record { cell = s.seat.table_id; view = s.seat.me.0 } };
 
-    ghost invariant = { λ s. (s.seat.me.1 ≡ []) × (s.seat.me.0.holds ≡ false) × (s.seat.me.0.gone ≡ false) × (is_legal s.seat.me.0.subject.limits s.seat.me.0.seen ≡ true) × (s.seat.me.0.mine ≡ made_by s.seat.me.0.number s.seat.me.0.seen) × (s.number ≡ s.seat.me.0.number) × (s.count ≡ length s.seat.me.0.seen) × (s.seat.me.0.found ≡ []) × (s.out ≡ length s.seat.me.0.posted) × (length s.seat.me.0.posted ≤ length s.seat.me.0.mine) };
+    ghost invariant = { λ s. (s.seat.me.1 ≡ []) × (s.seat.me.0.holds ≡ false) × (s.seat.me.0.gone ≡ false) × (is_legal s.seat.me.0.subject.limits s.seat.me.0.seen ≡ true) × (s.seat.me.0.mine ≡ made_by s.seat.me.0.number s.seat.me.0.seen) × (s.number ≡ s.seat.me.0.number) × (s.count ≡ length s.seat.me.0.seen) × (s.seat.me.0.found ≡ []) × (s.out ≡ length s.seat.me.0.posted) × (length s.seat.me.0.posted ≤ length s.seat.me.0.mine) × (s.thread ≡ s.seat.me.0.subject.thread) };
 }
 
 impl<K> CellSeat<K> {
@@ -68,6 +71,13 @@ impl<K> CellSeat<K> {
         ensures { result ≡ self.now.view.number }
     {
         self.number
+    }
+
+    /// The number of the thread whose cell it is (this profile).
+    pub fn thread(&self) -> ThreadNo
+        ensures { result ≡ self.now.view.subject.thread }
+    {
+        self.thread
     }
 
     /// How many entries of the thread's history the seat has seen (this profile).

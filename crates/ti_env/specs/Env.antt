@@ -1,5 +1,5 @@
 -- What an environment keeps, and which of its calls it lets through.
-use Rattle.std.specs.Prelude.{ℕ, ◌+◌, ◌-◌, Bool, if◌then◌else◌, nat_lt, List, length, Option, slice_index, slice_set, replicate, ℤ}
+use Rattle.std.specs.Prelude.{ℕ, ◌+◌, ◌-◌, max, Bool, if◌then◌else◌, nat_lt, List, [], ◌∷◌, ◌++◌, length, Option, slice_index, slice_set, remove, replicate, ℤ}
 use Rattle.ti_types.specs.declared.caps.Caps.{Caps}
 use Rattle.ti_types.specs.declared.call.Call.{Call}
 use Rattle.ti_types.specs.declared.limits.Limits.{Limits}
@@ -8,16 +8,34 @@ use Rattle.ti_types.specs.declared.error.TiError.{TiError}
 use Rattle.ti_types.specs.Caps.{no_caps}
 use Rattle.ti_types.specs.Admitting.{asking_refusal, stopping_refusal, reading_refusal}
 
--- the capabilities, the calls spent at each thread, the limits that it was made under, and its own word
+-- The capabilities, the calls spent at each thread, by its place, the limits that it was made under, and its own word. The
+-- numbers below `known` were threads once
 pub record EnvValue : Type 0 where
   pub caps : Caps
   pub spent : List ℕ
   pub limits : Limits
   pub word : ℕ
+  pub known : ℕ
 
 -- of an environment that has done nothing
 abbrev pub new_env : Limits → EnvValue
-new_env limits = record { caps = no_caps; spent = replicate limits.threads 0; limits = limits; word = 0 }
+new_env limits = record { caps = no_caps; spent = replicate limits.threads 0; limits = limits; word = 0; known = 0 }
+
+-- the same, without a place for a thread
+abbrev pub env_at_no_thread : Limits → EnvValue
+env_at_no_thread limits = record { caps = no_caps; spent = []; limits = limits; word = 0; known = 0 }
+
+-- one place more, at which this much is spent
+abbrev pub with_place : EnvValue → ℕ → EnvValue
+with_place s spent = record s { spent = s.spent ++ spent ∷ [] }
+
+-- one place less: those behind it move up by one
+abbrev pub without_place : EnvValue → ThreadNo → EnvValue
+without_place s place = record s { spent = remove s.spent place.0 }
+
+-- the numbers below this one were threads once, too
+abbrev pub with_known : EnvValue → ℕ → EnvValue
+with_known s below = record s { known = max s.known below }
 
 abbrev pub with_caps : EnvValue → Caps → EnvValue
 with_caps s caps = record s { caps = caps }

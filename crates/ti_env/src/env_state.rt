@@ -1,11 +1,16 @@
 //! What an environment keeps for itself, and which calls it refuses.
 
-use std::alloc::Global;
+use std::alloc::{AllocError, Global};
 use std::marker::Model;
 use ti_types::{Call, Caps, Limits, ThreadNo, TiError, needs};
 
 /// What an environment keeps for itself: its capabilities, its own word, and how many calls it has spent at each
 /// thread. No other environment changes any of it.
+///
+/// A thread is named by its place here, counted from 0. `new` makes a place for each of the `threads` of the limits. An
+/// environment that is made `at_no_thread` gets its places later, by `add_place`. By `remove_place` a place goes.
+///
+/// It also keeps which numbers were threads once: all below `known`.
 ///
 /// # Examples
 ///
@@ -26,26 +31,29 @@ use ti_types::{Call, Caps, Limits, ThreadNo, TiError, needs};
 #[derive(Drop, Debug)]
 pub struct EnvState {
     caps: Caps,
-    /// By the number of the thread.
+    /// By the place of the thread.
     spent: Vec<u64>,
     limits: Limits,
     word: u64,
+    /// The numbers below this one were threads once.
+    known: u64,
 }
 
 impl Model for EnvState {
-    ghost use Rattle.std.specs.Prelude.{◌≡◌, length};
+    ghost use Rattle.std.specs.Prelude.{◌≤◌, length};
     ghost use Rattle.ti_env.specs.Env.{EnvValue};
 
     ghost Value = { EnvValue };
 
-    ghost view = { λ a. record { caps = a.caps; spent = a.spent.items; limits = a.limits; word = a.word } };
+    ghost view = { λ a. record { caps = a.caps; spent = a.spent.items; limits = a.limits; word = a.word; known = a.known } };
 
-    ghost invariant = { λ a. length a.spent.items ≡ a.limits.threads };
+    ghost invariant = { λ a. length a.spent.items ≤ 65536 };
 }
 
 impl EnvState {
     /// An environment that has done nothing (JVM TI 11, GetCapabilities and GetEnvironmentLocalStorage). It has no
-    /// capabilities and the word 0, and has spent no call at any of the `threads` of the limits.
+    /// capabilities and the word 0, and has spent no call at any of the `threads` of the limits. It knows of no number that
+    /// it was a thread once.
     ///
     /// The one error is 110 OUT_OF_MEMORY, if there is no memory for a number for each thread. Every other call takes no
     /// memory.
@@ -58,7 +66,65 @@ impl EnvState {
             spent: vec![in alloc; 0; limits.threads as usize]?,
             limits,
             word: 0,
+            known: 0,
         })
+    }
+
+    /// An environment that has done nothing, and has no place for a thread yet (this profile). It takes no memory.
+    pub fn at_no_thread(alloc: Global, limits: Limits) -> Self
+        ensures { result ≡ env_at_no_thread limits }
+    {
+        EnvState {
+            caps: Caps::none(),
+            spent: Vec::new(alloc),
+            limits,
+            word: 0,
+            known: 0,
+        }
+    }
+
+    /// Adds a place for a thread, behind the others. This many calls are spent there already (this profile).
+    ///
+    /// The error is 110 OUT_OF_MEMORY, if there is no memory for it, or if there are 65,536 places. Then nothing changes.
+    pub fn add_place(&mut self, spent: u64) -> Result<(), TiError>
+        ensures added { OnOk result (self.new ≡ with_place self.old spent) }
+        ensures room { OnOk result (length self.old.spent < 65536) }
+        ensures memory { IfErr result (λ e. e ≡ OutOfMemory) }
+        ensures unchanged { OnErr result (self.new ≡ self.old) }
+    {
+        if self.spent.len() >= MOST_PLACES {
+            return Err(TiError::OutOfMemory);
+        }
+        match self.spent.push(spent) {
+            Ok(()) => Ok(()),
+            Err(refused) => Err(AllocError::from(refused).into()),
+        }
+    }
+
+    /// Removes a place. Those behind it move up by one (this profile). It gives how many calls are spent there. There must be
+    /// such a place.
+    pub fn remove_place(&mut self, place: ThreadNo) -> u64
+        requires there { place.0 < length self.old.spent }
+        ensures spent { result ≡ spent_at self.old place }
+        ensures removed { self.new ≡ without_place self.old place }
+    {
+        self.spent.remove(place.0 as usize)
+    }
+
+    /// Notes that the numbers below this one were threads once (this profile). What is known already stays known.
+    pub fn know(&mut self, below: u64)
+        ensures { self.new ≡ with_known self.old below }
+    {
+        if self.known < below {
+            self.known = below;
+        }
+    }
+
+    /// All numbers below this one were threads once, as `know` was told (this profile). 0 if none is known.
+    pub fn known(&self) -> u64
+        ensures { result ≡ self.now.known }
+    {
+        self.known
     }
 
     /// The limits that it was made under.
@@ -68,12 +134,12 @@ impl EnvState {
         self.limits
     }
 
-    /// How many threads there are: 1 to 64, numbered from 0 (this profile).
+    /// How many places for threads there are, at most 65,536 (this profile).
     pub fn threads(&self) -> u32
-        ensures limits { result ≡ self.now.limits.threads }
         ensures counted { length self.now.spent ≡ result }
+        ensures most { result ≤ 65536 }
     {
-        self.limits.threads
+        self.spent.len() as u32
     }
 
     /// The capabilities that the environment has (JVM TI 11, GetCapabilities).
@@ -209,8 +275,11 @@ impl EnvState {
     }
 }
 
-ghost use Rattle.std.specs.Prelude.{◌≡◌, ◌<◌, ◌↔◌, true, None, Some, length, IfOk, IfErr, OnOk, OnErr, IsOk};
+/// How many places there may be at most.
+const MOST_PLACES: usize = 65536;
+
+ghost use Rattle.std.specs.Prelude.{◌≡◌, ◌<◌, ◌≤◌, ◌↔◌, true, None, Some, length, IfOk, IfErr, OnOk, OnErr, IsOk};
 ghost use Rattle.ti_types.specs.Caps.{caps_with, caps_without, can_be_had};
 ghost use Rattle.ti_types.specs.declared.error.TiError.TheVariants.{NotAvailable, OutOfMemory};
 ghost use Rattle.ti_types.specs.Admitting.{reaching_refusal};
-ghost use Rattle.ti_env.specs.Env.{EnvValue, new_env, with_caps, with_word, with_spent, is_there, spent_at, left_at, call_refusal, stop_refusal, read_refusal};
+ghost use Rattle.ti_env.specs.Env.{EnvValue, new_env, env_at_no_thread, with_place, without_place, with_known, with_caps, with_word, with_spent, is_there, spent_at, left_at, call_refusal, stop_refusal, read_refusal};

@@ -9,7 +9,7 @@ use std::sync::Wait;
 use std::time::Duration;
 use ti_cell::EnvSeat;
 use ti_slot::{Asked, Slot};
-use ti_types::{Answer, Call, EnvNo, Ticket, TraceBuf};
+use ti_types::{Answer, Call, EnvNo, ThreadNo, Ticket, TraceBuf};
 
 /// One environment at one thread. Contracts see it as a `DeskState`: its cell, its environment, its seat's view, and its calls
 /// that were given up and are still out.
@@ -101,6 +101,16 @@ impl Desk {
         ensures { result ≡ self.now.env }
     {
         self.env
+    }
+
+    /// The number of the thread that it is at (this profile).
+    pub fn thread(&self) -> ThreadNo
+        ensures { result ≡ self.now.view.subject.thread }
+    {
+        let Some(seat) = &self.seat else {
+            unreachable!()
+        };
+        seat.thread()
     }
 
     /// How many entries of the thread's history the desk has seen (this profile).

@@ -7,7 +7,8 @@ use Rattle.std.proofs.lemmas.List.{length-append, length-map, take-append-le, ta
 use Rattle.std.proofs.lemmas.Option.{slice_get_within, slice_get-get_or}
 use Rattle.atomic_table.specs.Seated.{TableId}
 use Rattle.ti_types.specs.declared.limits.Limits.{Limits}
-use Rattle.ti_cell.specs.View.{subject_of}
+use Rattle.ti_types.specs.declared.numbers.ThreadNo.{ThreadNo}
+use Rattle.ti_cell.specs.View.{subject_of, newcomer}
 use Rattle.ti_cell.specs.Seats.{Sitting, env_seats}
 use Rattle.ti_handshake.specs.Desk.{DeskState}
 use Rattle.ti_agent.specs.Env.{cells_at}
@@ -23,6 +24,24 @@ seats_push limits envs cells seats cell l k one = record {
   count = omega (arith, length-append seats (l ∷ []), length-append cells (cell ∷ []), k.count);
   each = pairs_push (λ i a b. a ≡ env_seats b (subject_of limits (record { 0 = i })) envs) seats cells l cell k.count k.each one;
 }
+
+-- the last of a list, and those before it
+last_same : (xs ys : List Sitting) (a b : Sitting) → xs ++ a ∷ [] ≡ ys ++ b ∷ [] → (xs ≡ ys) × (a ≡ b)
+last_same [] [] a b e = (refl, cc)
+last_same [] (y ∷ ys) a b e = absurd (omega (arith, ap (λ (l : List Sitting). length l) e, length-append ys (b ∷ [])))
+last_same (x ∷ xs) [] a b e = absurd (omega (arith, ap (λ (l : List Sitting). length l) e, length-append xs (a ∷ [])))
+last_same (x ∷ xs) (y ∷ ys) a b e =
+    let first : x ≡ y = cc in
+    let rest : xs ++ a ∷ [] ≡ ys ++ b ∷ [] = cc in
+    let r = last_same xs ys a b rest in
+    ((λ j. first j ∷ r.0 j), r.1)
+
+pub last_seat : (cell : TableId) (limits : Limits) (thread : ThreadNo) (env : ℕ) (xs : List Sitting) (a : Sitting) → xs ++ a ∷ [] ≡ env_seats cell (subject_of limits thread) (env + 1)
+    → (xs ≡ env_seats cell (subject_of limits thread) env) × (a ≡ record { cell = cell; view = newcomer (subject_of limits thread) (env + 1) 0 })
+last_seat cell limits thread env xs a e =
+    let next : env + 1 ≡ suc env = omega arith in
+    let r = last_same xs (env_seats cell (subject_of limits thread) env) a _ (e ∙ ap (env_seats cell (subject_of limits thread)) next) in
+    (r.0, r.1 ∙ ap (λ (n : ℕ). record { cell = cell; view = newcomer (subject_of limits thread) n 0 }) (sym next))
 
 -- the last environment's seat is taken of the first threads
 pub record AreHalf (limits : Limits) (env threads : ℕ) (cells : List TableId) (seats : List (List Sitting)) : Type 0 where

@@ -12,7 +12,6 @@ use Rattle.ti_env.specs.Env.{EnvValue, left_at, with_spent}
 use Rattle.ti_replay.specs.Legal.{calls_spent}
 use Rattle.ti_replay.specs.Makers.{StartsWith}
 use Rattle.ti_replay.specs.Standing.{is_standing}
-use Rattle.ti_cell.specs.View.{subject_of}
 use Rattle.ti_handshake.specs.Call.{GoesOn, found}
 use Rattle.ti_handshake.specs.Desk.{DeskState, IsSame}
 use Rattle.ti_replay.specs.Fronts.{stops_by, TellsOf}
@@ -114,10 +113,9 @@ one_read_more reads = if nat_lt reads (2 ^ 64 - 1) then reads + 1 else reads
 abbrev pub with_reads : Stood → ℕ → Stood
 with_reads s reads = record { env = s.env; threads = s.threads; reads = reads }
 
--- the desks are one environment's, desk i at thread i, under the same limits
-abbrev pub AreOneEnvironments : List DeskState → Type 0
-AreOneEnvironments desks =
-    (i : ℕ) (p q : DeskState) → slice_get desks 0 ≡ Some q → slice_get desks i ≡ Some p → (p.env ≡ q.env) × (p.view.subject ≡ subject_of q.view.subject.limits (record { 0 = i }))
+-- the desks are this environment's
+abbrev pub AreOneEnvironments : EnvNo → List DeskState → Type 0
+AreOneEnvironments env desks = (i : ℕ) (p : DeskState) → slice_get desks i ≡ Some p → p.env ≡ env
 
 -- a desk at which a read may be made
 pub record MayRead (env : EnvNo) (state : EnvValue) (p : DeskState) (thread : ThreadNo) (max_count : ℤ) (buf : buffer.Trace) : Type 0 where

@@ -115,19 +115,21 @@ fn await_each<R: Wait>(rt: &R, desks: &mut [Desk], threads: &[(ThreadNo, u64)])
 /// Stops each listed thread, in the order of the list, and answers when each has been seen standing (this profile). While
 /// another environment's stop is in force at a thread, it waits. Each stop costs one call at its thread.
 ///
-/// Desk i is the environment's at thread i. The listed threads are there, each once, and the environment has a stop at none
-/// of them. The number beside a thread is how many reads of it are to come.
+/// The desks are this environment's. A thread is listed by its place among them, and not by its number. The listed places are
+/// there, each once, and the environment has a stop at none of them. The number beside a place is how many reads of the
+/// thread there are to come.
 ///
 /// Refused with `CallsSpent` (209) if a thread has fewer calls left than one and its reads to come. That is tested before
 /// any stop, and then nothing changes.
 pub fn stop_all<'t, 'l, R: Wait>(
     rt: &R,
     turn: &'t mut VmTurn,
+    env: EnvNo,
     desks: &mut [Desk],
     state: &mut EnvState,
     threads: &'l [(ThreadNo, u64)],
 ) -> Result<Standing<'t, 'l>, TiError>
-    requires desks { AreOneEnvironments desks.old × (0 < length desks.old) }
+    requires desks { AreOneEnvironments env desks.old }
     requires there { AreThere (length desks.old) threads.now × (length state.old.spent ≡ length desks.old) }
     requires distinct { AreDistinct threads.now }
     requires may { (i : ℕ) (p : DeskState) → slice_get desks.old i ≡ Some p → is_listed i threads.now ≡ true → MayStop p.view.subject.limits state.old p (record { 0 = i }) }
@@ -136,10 +138,9 @@ pub fn stop_all<'t, 'l, R: Wait>(
     ensures desks { IfOk result (λ _. AtEach threads.now desks.old desks.new (λ e. entry.Stop e ∷ [])) }
     ensures stand { IfOk result (λ _. AllStand threads.now desks.new) }
     ensures state { IfOk result (λ _. state.new ≡ spend_all state.old threads.now) }
-    ensures env { IfOk result (λ s. (p : DeskState) → slice_get desks.old 0 ≡ Some p → s.env ≡ p.env) }
+    ensures env { IfOk result (λ s. s.env ≡ env) }
     ensures standing { IfOk result (λ s. (s.threads ≡ threads.now) × (s.reads ≡ 0)) }
 {
-    let env = desks[0].env();
     if !are_paid_for(state, threads) {
         return Err(TiError::CallsSpent);
     }

@@ -7,7 +7,7 @@ use std::sync::Wait;
 use std::time::Duration;
 use ti_env::EnvState;
 use ti_handshake::{Deadline, Desk};
-use ti_types::{ThreadNo, TiError};
+use ti_types::{EnvNo, ThreadNo, TiError};
 
 /// Stops each thread, in the order of the list, and spends a call for each, until the deadline. Returns how many were
 /// stopped.
@@ -103,12 +103,13 @@ fn go_again_each<R: Wait>(rt: &R, desks: &mut [Desk], threads: &[(ThreadNo, u64)
 pub fn stop_all_within<'t, 'l, R: Wait + Clock>(
     rt: &R,
     turn: &'t mut VmTurn,
+    env: EnvNo,
     desks: &mut [Desk],
     state: &mut EnvState,
     threads: &'l [(ThreadNo, u64)],
     time: Duration,
 ) -> Result<Standing<'t, 'l>, TiError>
-    requires desks { AreOneEnvironments desks.old × (0 < length desks.old) }
+    requires desks { AreOneEnvironments env desks.old }
     requires there { AreThere (length desks.old) threads.now × (length state.old.spent ≡ length desks.old) }
     requires distinct { AreDistinct threads.now }
     requires may { (i : ℕ) (p : DeskState) → slice_get desks.old i ≡ Some p → is_listed i threads.now ≡ true → MayStop p.view.subject.limits state.old p (record { 0 = i }) }
@@ -116,14 +117,13 @@ pub fn stop_all_within<'t, 'l, R: Wait + Clock>(
     ensures desks { IfOk result (λ _. AtEach threads.now desks.old desks.new (λ e. entry.Stop e ∷ [])) }
     ensures stand { IfOk result (λ _. AllStand threads.now desks.new) }
     ensures state { IfOk result (λ _. state.new ≡ spend_all state.old threads.now) }
-    ensures env { IfOk result (λ s. (p : DeskState) → slice_get desks.old 0 ≡ Some p → s.env ≡ p.env) }
+    ensures env { IfOk result (λ s. s.env ≡ env) }
     ensures standing { IfOk result (λ s. (s.threads ≡ threads.now) × (s.reads ≡ 0)) }
     ensures refused { IfErr result (λ e. IsNotStopped threads.now desks.old desks.new state.old state.new e) }
 {
     if !are_paid_for(state, threads) {
         return Err(TiError::CallsSpent);
     }
-    let env = desks[0].env();
     let deadline = Deadline::after(rt, time);
     let stopped = stop_each_until(rt, desks, state, threads, &deadline);
     if await_all_until(rt, desks, threads, stopped, &deadline) {

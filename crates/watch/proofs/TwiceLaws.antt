@@ -6,6 +6,7 @@ use Rattle.std.proofs.lemmas.List.Folds.{list_any-append}
 use Rattle.std.proofs.lemmas.Bool.{and_parts}
 use Rattle.ti_types.specs.declared.limits.Limits.{Limits}
 use Rattle.ti_types.specs.declared.numbers.ThreadNo.{ThreadNo}
+use Rattle.ti_types.specs.declared.answer.Answer.{Answer}
 use Rattle.ti_types.specs.declared.answer.Answer.TheVariants as answer
 use Rattle.ti_types.specs.declared.error.TiError.{TiError}
 use Rattle.ti_types.specs.declared.place.Frame.{Frame}
@@ -21,9 +22,9 @@ use Rattle.ti_replay.specs.Suspensions.{is_resumption}
 use Rattle.ti_replay.proofs.CostLaws.{goes_on-append}
 use Rattle.ti_replay.proofs.TakeHoldLaws.{suspended_traces_agree}
 use Rattle.ti_handshake.specs.Desk.{DeskState}
-use Rattle.ti_agent.specs.Env.{Environment}
+use Rattle.ti_agent.specs.Env.{Environment, place_in}
+use Rattle.ti_agent.proofs.Places.{after_here}
 use Rattle.ti_agent.specs.Asks.{Asks, Went, IsCalledBy}
-use Rattle.ti_vmop.proofs.Each.{set_here}
 use Rattle.watch.specs.Traces.{is_undoing, IsLeftAlone}
 
 -- a call that is not refused went to its thread
@@ -151,14 +152,19 @@ traced_alike p q r s max_count f g one two three alone =
     (none_popped limits held k k_none ∙ sym (none_popped limits held l l_none)) is_one is_two in
     same_frames f g same
 
+-- the desk that made a call is the thread's desk after it
+next_desk : (s t : Environment) (thread : ThreadNo) (c : Call) (a : Answer) (w : Went s t thread c a) (q : DeskState) → slice_get t.desks (place_in t.desks thread) ≡ Some q → w.after ≡ q
+next_desk s t thread c a w q at =
+    after_here s.desks thread w.before w.after q w.there w.asks.goes.subject (ap (λ (x : Environment). slice_get x.desks (place_in x.desks thread)) (sym w.new_is) ∙ at)
+
 pub trace_twice : (s t u v : Environment) (thread : ThreadNo) (max_count : ℤ) (f g : List Frame)
     → Went s t thread Suspend answer.Done → Went t u thread (Trace (pos 0) max_count) (answer.Trace (bare_trace f)) → Went u v thread (Trace (pos 0) max_count) (answer.Trace (bare_trace g))
-    → (p q : DeskState) → slice_get s.desks thread.0 ≡ Some p → slice_get v.desks thread.0 ≡ Some q → IsLeftAlone p q → f ≡ g
+    → (p q : DeskState) → slice_get s.desks (place_in s.desks thread) ≡ Some p → slice_get v.desks (place_in v.desks thread) ≡ Some q → IsLeftAlone p q → f ≡ g
 trace_twice s t u v thread max_count f g one two three p q at_p at_q alone =
     let first : one.before ≡ p = let e : Some one.before ≡ Some p = sym one.there ∙ at_p in cc in
-    let last : three.after ≡ q = set_here u.desks thread.0 three.after q (ap (λ (x : Environment). slice_get x.desks thread.0) (sym three.new_is) ∙ at_q) in
-    let b = set_here s.desks thread.0 one.after two.before (ap (λ (x : Environment). slice_get x.desks thread.0) (sym one.new_is) ∙ two.there) in
-    let c = set_here t.desks thread.0 two.after three.before (ap (λ (x : Environment). slice_get x.desks thread.0) (sym two.new_is) ∙ three.there) in
+    let last : three.after ≡ q = next_desk u v thread (Trace (pos 0) max_count) (answer.Trace (bare_trace g)) three q at_q in
+    let b = next_desk s t thread Suspend answer.Done one two.before two.there in
+    let c = next_desk t u thread (Trace (pos 0) max_count) (answer.Trace (bare_trace f)) two three.before three.there in
     traced_alike one.before one.after two.after three.after max_count f g one.asks
     (subst (λ (x : DeskState). Asks x two.after (Trace (pos 0) max_count) (answer.Trace (bare_trace f))) (sym b) two.asks)
     (subst (λ (x : DeskState). Asks x three.after (Trace (pos 0) max_count) (answer.Trace (bare_trace g))) (sym c) three.asks)

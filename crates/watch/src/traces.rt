@@ -16,7 +16,7 @@ pub fn trace_twice<R: Wait>(
     thread: ThreadNo,
     max_count: i32,
 ) -> Result<(TraceBuf, TraceBuf), TiError>
-    ensures same { IfOk result (λ two. (p q : DeskState) → slice_get env.old.desks thread.0 ≡ Some p → slice_get env.new.desks thread.0 ≡ Some q → IsLeftAlone p q → two.0.frames ≡ two.1.frames) }
+    ensures same { IfOk result (λ two. (p q : DeskState) → slice_get env.old.desks (place_in env.old.desks thread) ≡ Some p → slice_get env.new.desks (place_in env.new.desks thread) ≡ Some q → IsLeftAlone p q → two.0.frames ≡ two.1.frames) }
 {
     env.suspend_thread(rt, thread)?;
     let first = env.get_stack_trace(rt, alloc, thread, 0, max_count)?;
@@ -26,4 +26,5 @@ pub fn trace_twice<R: Wait>(
 
 ghost use Rattle.std.specs.Prelude.{◌≡◌, Some, IfOk, slice_get};
 ghost use Rattle.ti_handshake.specs.Desk.{DeskState};
+ghost use Rattle.ti_agent.specs.Env.{place_in};
 ghost use Rattle.watch.specs.Traces.{IsLeftAlone};

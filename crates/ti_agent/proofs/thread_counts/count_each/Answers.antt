@@ -5,7 +5,7 @@ use Rattle.ti_types.specs.declared.numbers.ThreadNo.{ThreadNo}
 use Rattle.ti_env.specs.Env.{left_at}
 use Rattle.ti_agent.specs.Traces.{times, AreCounts}
 use Rattle.ti_vmop.proofs.Each.{take_all}
-use Rattle.ti_agent.proofs.Counts.{count_at, counts_more, enough_more, too_many}
+use Rattle.ti_agent.proofs.TimesLaws.{count_at, counts_more, enough_more, too_many}
 use Rattle.ti_agent.proofs.Listing.{there_at, paid_once}
 use Rattle.ti_agent.proofs.Posting.{drop_more}
 use Rattle.ti_agent.proofs.thread_counts.count_each.Goals as goal

@@ -1,6 +1,6 @@
 use Rattle.std.proofs.Common.{length, take}
 use Rattle.ti_agent.specs.Traces.{AreCounts}
-use Rattle.ti_agent.proofs.Counts.{AreEnough}
+use Rattle.ti_agent.proofs.TimesLaws.{AreEnough}
 use Rattle.ti_agent.proofs.thread_counts.count_each.Given as goal
 
 -- those so far

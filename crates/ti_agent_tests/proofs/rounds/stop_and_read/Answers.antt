@@ -4,7 +4,7 @@ use Rattle.ti_types.specs.declared.numbers.ThreadNo.{ThreadNo}
 use Rattle.ti_vmop.specs.Turns.{Listed}
 use Rattle.ti_agent.specs.Env.{Environment}
 use Rattle.ti_agent.specs.Traces.{are_there, each_once}
-use Rattle.ti_agent.proofs.Tracing.{may_stop, one_environment, same_env}
+use Rattle.ti_agent.proofs.Tracing.{may_stop, one_environment}
 use Rattle.ti_agent_tests.proofs.Stops.{Stand, stops_stand, reads_stand, stand_may, stand_go}
 use Rattle.ti_agent_tests.proofs.rounds.stop_and_read.Goals as goal
 
@@ -21,7 +21,7 @@ abbrev listed : Listed
 listed = (first, 1) ∷ (second, 1) ∷ []
 
 pub stop_all-requires-clause-desks : goal.stop_all-requires-clause-desks
-stop_all-requires-clause-desks g c = (one_environment (record { env = record { 0 = 0 }; state = c.args.state.now; desks = c.args.desks.now }) c.requires.whole, c.requires.whole.some)
+stop_all-requires-clause-desks g c = one_environment (record { env = record { 0 = 0 }; state = c.args.state.now; desks = c.args.desks.now }) c.requires.whole
 
 pub stop_all-requires-clause-may : goal.stop_all-requires-clause-may
 stop_all-requires-clause-may g c i p at is = may_stop (record { env = record { 0 = 0 }; state = c.args.state.now; desks = c.args.desks.now }) i p c.requires.whole at
@@ -33,7 +33,7 @@ read-first-requires-clause-desk g c =
     let r = c.in-Ok.ensures in
     let k : Stand s stopped listed both =
     stops_stand s c.stop_all.new.state c.stop_all.new.desks listed both c.requires.whole (ap (λ (n : ℕ). each_once n both) (sym c.requires.two)) (ap (λ (n : ℕ). are_there n both) c.requires.two) r.spent r.state r.desks r.stand in
-    stand_may s stopped listed first (second ∷ []) (pos 4) c.args.bufs.0 c.in-Ok.standing.env k refl (same_env s c.in-Ok.standing.env c.requires.whole r.env) c.requires.first
+    stand_may s stopped listed first (second ∷ []) (pos 4) c.args.bufs.0 c.in-Ok.standing.env k refl r.env c.requires.first
 
 pub read-second-requires-clause-desk : goal.read-second-requires-clause-desk
 read-second-requires-clause-desk g c =
@@ -45,8 +45,8 @@ read-second-requires-clause-desk g c =
     stops_stand s c.stop_all.new.state c.stop_all.new.desks listed both c.requires.whole (ap (λ (n : ℕ). each_once n both) (sym c.requires.two)) (ap (λ (n : ℕ). are_there n both) c.requires.two) r.spent r.state r.desks r.stand in
     let told = c.read-first.ensures in
     let one : Stand s seen listed (second ∷ []) =
-    reads_stand s stopped seen listed first (second ∷ []) (pos 4) (said c.read-first.result) k refl (omega (arith, c.requires.two)) (record { env_is = refl; state_is = told.state; desks = told.desks; answer_is = told.answer }) in
-    let env = ap (λ v. v.env) told.standing ∙ same_env s c.in-Ok.standing.env c.requires.whole r.env in
+    reads_stand s stopped seen listed first (second ∷ []) (pos 4) (said c.read-first.result) k refl (omega (arith, c.requires.two)) (record { env_is = refl; about = refl; state_is = told.state; desks = told.desks; answer_is = told.answer }) in
+    let env = ap (λ v. v.env) told.standing ∙ r.env in
     stand_may s seen listed second [] (pos 4) c.args.bufs.1 c.read-first.new.self.env one refl env c.requires.second
 
 pub go-round-requires-clause-stand : goal.go-round-requires-clause-stand
@@ -60,10 +60,10 @@ go-round-requires-clause-stand g c =
     stops_stand s c.stop_all.new.state c.stop_all.new.desks listed both c.requires.whole (ap (λ (n : ℕ). each_once n both) (sym c.requires.two)) (ap (λ (n : ℕ). are_there n both) c.requires.two) r.spent r.state r.desks r.stand in
     let told = c.read-first.ensures in
     let one : Stand s seen listed (second ∷ []) =
-    reads_stand s stopped seen listed first (second ∷ []) (pos 4) (said c.read-first.result) k refl (omega (arith, c.requires.two)) (record { env_is = refl; state_is = told.state; desks = told.desks; answer_is = told.answer }) in
+    reads_stand s stopped seen listed first (second ∷ []) (pos 4) (said c.read-first.result) k refl (omega (arith, c.requires.two)) (record { env_is = refl; about = refl; state_is = told.state; desks = told.desks; answer_is = told.answer }) in
     let again = c.read-second.ensures in
     let two : Stand s later listed [] =
-    reads_stand s seen later listed second [] (pos 4) (said c.read-second.result) one refl (omega (arith, c.requires.two)) (record { env_is = refl; state_is = again.state; desks = again.desks; answer_is = again.answer }) in
+    reads_stand s seen later listed second [] (pos 4) (said c.read-second.result) one refl (omega (arith, c.requires.two)) (record { env_is = refl; about = refl; state_is = again.state; desks = again.desks; answer_is = again.answer }) in
     let threads = ap (λ v. v.threads) again.standing ∙ (ap (λ v. v.threads) told.standing ∙ r.standing.0) in
     stand_go s later listed c.read-second.new.self.threads [] two threads
 
@@ -78,9 +78,9 @@ go-round-requires-clause-env g c i p at is =
     stops_stand s c.stop_all.new.state c.stop_all.new.desks listed both c.requires.whole (ap (λ (n : ℕ). each_once n both) (sym c.requires.two)) (ap (λ (n : ℕ). are_there n both) c.requires.two) r.spent r.state r.desks r.stand in
     let told = c.read-first.ensures in
     let one : Stand s seen listed (second ∷ []) =
-    reads_stand s stopped seen listed first (second ∷ []) (pos 4) (said c.read-first.result) k refl (omega (arith, c.requires.two)) (record { env_is = refl; state_is = told.state; desks = told.desks; answer_is = told.answer }) in
+    reads_stand s stopped seen listed first (second ∷ []) (pos 4) (said c.read-first.result) k refl (omega (arith, c.requires.two)) (record { env_is = refl; about = refl; state_is = told.state; desks = told.desks; answer_is = told.answer }) in
     let again = c.read-second.ensures in
     let two : Stand s later listed [] =
-    reads_stand s seen later listed second [] (pos 4) (said c.read-second.result) one refl (omega (arith, c.requires.two)) (record { env_is = refl; state_is = again.state; desks = again.desks; answer_is = again.answer }) in
-    let env = ap (λ v. v.env) again.standing ∙ (ap (λ v. v.env) told.standing ∙ same_env s c.in-Ok.standing.env c.requires.whole r.env) in
+    reads_stand s seen later listed second [] (pos 4) (said c.read-second.result) one refl (omega (arith, c.requires.two)) (record { env_is = refl; about = refl; state_is = again.state; desks = again.desks; answer_is = again.answer }) in
+    let env = ap (λ v. v.env) again.standing ∙ (ap (λ v. v.env) told.standing ∙ r.env) in
     (two.held.desks i p at).env_is ∙ sym env

@@ -4,7 +4,7 @@ use Rattle.ti_types.specs.declared.numbers.ThreadNo.{ThreadNo}
 use Rattle.ti_vmop.specs.Turns.{Listed}
 use Rattle.ti_agent.specs.Env.{Environment}
 use Rattle.ti_agent.specs.Traces.{are_there, each_once}
-use Rattle.ti_agent.proofs.Tracing.{may_stop, one_environment, same_env}
+use Rattle.ti_agent.proofs.Tracing.{may_stop, one_environment}
 use Rattle.ti_agent_tests.proofs.Stops.{Stand, stops_stand, reads_stand, stand_may, stand_go}
 use Rattle.ti_agent_tests.proofs.rounds.stop_before_start.Goals as goal
 
@@ -18,7 +18,7 @@ abbrev listed : Listed
 listed = (first, 1) ∷ []
 
 pub stop_all-requires-clause-desks : goal.stop_all-requires-clause-desks
-stop_all-requires-clause-desks g c = (one_environment (record { env = record { 0 = 0 }; state = c.args.state.now; desks = c.args.desks.now }) c.requires.whole, c.requires.whole.some)
+stop_all-requires-clause-desks g c = one_environment (record { env = record { 0 = 0 }; state = c.args.state.now; desks = c.args.desks.now }) c.requires.whole
 
 pub stop_all-requires-clause-may : goal.stop_all-requires-clause-may
 stop_all-requires-clause-may g c i p at is = may_stop (record { env = record { 0 = 0 }; state = c.args.state.now; desks = c.args.desks.now }) i p c.requires.whole at
@@ -30,7 +30,7 @@ read-told-requires-clause-desk g c =
     let r = c.in-Ok.ensures in
     let k : Stand s stopped listed alone =
     stops_stand s c.stop_all.new.state c.stop_all.new.desks listed alone c.requires.whole (ap (λ (n : ℕ). each_once n alone) (sym c.requires.one)) (ap (λ (n : ℕ). are_there n alone) c.requires.one) r.spent r.state r.desks r.stand in
-    stand_may s stopped listed first [] (pos 4) c.args.buf c.in-Ok.standing.env k refl (same_env s c.in-Ok.standing.env c.requires.whole r.env) c.requires.room
+    stand_may s stopped listed first [] (pos 4) c.args.buf c.in-Ok.standing.env k refl r.env c.requires.room
 
 pub go-round-requires-clause-stand : goal.go-round-requires-clause-stand
 go-round-requires-clause-stand g c =
@@ -42,7 +42,7 @@ go-round-requires-clause-stand g c =
     stops_stand s c.stop_all.new.state c.stop_all.new.desks listed alone c.requires.whole (ap (λ (n : ℕ). each_once n alone) (sym c.requires.one)) (ap (λ (n : ℕ). are_there n alone) c.requires.one) r.spent r.state r.desks r.stand in
     let told = c.read-told.ensures in
     let one : Stand s seen listed [] =
-    reads_stand s stopped seen listed first [] (pos 4) (said c.read-told.result) k refl (omega (arith, c.requires.one)) (record { env_is = refl; state_is = told.state; desks = told.desks; answer_is = told.answer }) in
+    reads_stand s stopped seen listed first [] (pos 4) (said c.read-told.result) k refl (omega (arith, c.requires.one)) (record { env_is = refl; about = refl; state_is = told.state; desks = told.desks; answer_is = told.answer }) in
     let threads = ap (λ v. v.threads) told.standing ∙ r.standing.0 in
     stand_go s seen listed c.read-told.new.self.threads [] one threads
 
@@ -56,8 +56,8 @@ go-round-requires-clause-env g c i p at is =
     stops_stand s c.stop_all.new.state c.stop_all.new.desks listed alone c.requires.whole (ap (λ (n : ℕ). each_once n alone) (sym c.requires.one)) (ap (λ (n : ℕ). are_there n alone) c.requires.one) r.spent r.state r.desks r.stand in
     let told = c.read-told.ensures in
     let one : Stand s seen listed [] =
-    reads_stand s stopped seen listed first [] (pos 4) (said c.read-told.result) k refl (omega (arith, c.requires.one)) (record { env_is = refl; state_is = told.state; desks = told.desks; answer_is = told.answer }) in
-    let env = ap (λ v. v.env) told.standing ∙ same_env s c.in-Ok.standing.env c.requires.whole r.env in
+    reads_stand s stopped seen listed first [] (pos 4) (said c.read-told.result) k refl (omega (arith, c.requires.one)) (record { env_is = refl; about = refl; state_is = told.state; desks = told.desks; answer_is = told.answer }) in
+    let env = ap (λ v. v.env) told.standing ∙ r.env in
     (one.held.desks i p at).env_is ∙ sym env
 
 pub returns : goal.returns

@@ -24,4 +24,4 @@ returns-in-AllStacks g c =
 pub returns-in-ListStacks : goal.returns-in-ListStacks
 returns-in-ListStacks g c =
     let k = c.get_thread_list_stack_traces in
-    or_unchanged k.result _ c.args.env.now k.new.self k.ensures.traced k.ensures.unchanged (λ r told. traced_cells c.args.env.now k.new.self _ _ _ r.0.items r.1 told)
+    or_unchanged k.result _ c.args.env.now k.new.self k.ensures.traced k.ensures.unchanged (λ r told. traced_cells c.args.env.now k.new.self _ _ _ _ r.0.items r.1 told)

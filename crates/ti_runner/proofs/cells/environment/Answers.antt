@@ -6,6 +6,7 @@ use Rattle.atomic_table.specs.Seated.{TableId}
 use Rattle.ti_cell.specs.Seats.{env_seats}
 use Rattle.ti_cell.specs.View.{subject_of}
 use Rattle.ti_agent.specs.Env.{cells_at}
+use Rattle.ti_agent.proofs.Places.{new_numbered}
 use Rattle.ti_runner.specs.Cells.{IsNewDesk}
 use Rattle.ti_runner.proofs.Pairs.{pairs_grow}
 use Rattle.ti_runner.proofs.Seats.{AreHalf, half_here, half_more, half_all, at_cells, mapped_get, place_at}
@@ -40,13 +41,13 @@ loop-thread-preserved c =
     )
 
 pub new-requires-2-clause-desks : goal.new-requires-2-clause-desks
-new-requires-2-clause-desks c i p there =
+new-requires-2-clause-desks c = new_numbered c.args.env c.in_ok-state.state c.loop-thread.desks.items (λ i p there. (
     let at = c.loop-thread in
     let within : i < length c.args.cells.now = omega (arith, slice_get_within at.desks.items i p there, at.invariant.0, c.requires.count, c.loop-thread.auto.thread-end) in
     let cell = place_at c.args.cells.now i within in
     let new = at.invariant.3 i p cell.0 there cell.1 in
     let same : c.in_ok-state.state.limits ≡ c.args.limits = search rules in
-    (new.env_is, new.about ∙ ap (λ l. subject_of l (record { 0 = i })) (sym same), new.none)
+    (new.env_is, new.about ∙ ap (λ l. subject_of l (record { 0 = i })) (sym same), new.none)))
 
 pub returns-clause-here : goal.returns-clause-here
 returns-clause-here c =

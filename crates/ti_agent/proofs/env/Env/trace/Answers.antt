@@ -1,7 +1,7 @@
 use Rattle.std.proofs.Common.{◌≡◌, ◌++◌, length, ap, sym, ◌∙◌, subst, take, drop, ℤ, w32, to_z, of_z, List}
 use Rattle.std.proofs.lemmas.Int.{to_z-of_z}
 use Rattle.ti_handshake.specs.Desk.{DeskState}
-use Rattle.ti_agent.specs.Env.{Environment}
+use Rattle.ti_agent.specs.Env.{Environment, threads_at}
 use Rattle.ti_agent.specs.Traces.{IsTraced}
 use Rattle.ti_agent.proofs.Tracing.{desks_are}
 use Rattle.ti_agent.proofs.env.Env.trace.Goals as goal
@@ -18,4 +18,4 @@ returns-clause-traced g c =
     let before : record { env = c.self.inside.env; state = c.self.inside.state; desks = c.deref_mut-2.result.now } ≡ c.args.self.now =
     ap (λ (d : List DeskState). record { env = c.self.inside.env; state = c.self.inside.state; desks = d }) value ∙ c.self.view_is in
     let told = c.trace_each-round.ensures.traced in
-    subst (λ (z : Environment × List DeskState × ℤ). IsTraced z.0 (record { env = c.self.inside.env; state = c.trace_each-round.new.state; desks = z.1 }) z.2 c.args.stopping.now c.args.threads.now infos round) (λ j. (before j, sym items j, m j)) told
+    subst (λ (z : Environment × List DeskState × ℤ). IsTraced z.0 (record { env = c.self.inside.env; state = c.trace_each-round.new.state; desks = z.1 }) z.2 c.args.stopping.now c.args.places.now (threads_at z.0.desks c.args.places.now) infos round) (λ j. (before j, sym items j, m j)) told

@@ -1,0 +1,37 @@
+-- Desks that come and go while an environment is at work.
+use Rattle.std.specs.Prelude.{◌≡◌, ◌+◌, ◌==◌, ◌&&◌, nat_le, nat_lt, Bool, [], ◌∷◌, ◌++◌, length, Option, Some, slice_get, remove}
+use Rattle.std.specs.List.{list_all}
+use Rattle.ti_types.specs.declared.error.TiError.{TiError}
+use Rattle.ti_types.specs.declared.error.TiError.TheVariants.{InvalidEnvironment, IllegalArgument}
+use Rattle.ti_types.specs.declared.numbers.ThreadNo.{ThreadNo}
+use Rattle.ti_types.specs.Refusing.{or_else, unless}
+use Rattle.ti_env.specs.Env.{spent_at, with_place, without_place, with_known}
+use Rattle.ti_agent.specs.Env.{Environment, place_in, place_of}
+use Rattle.ti_agent.specs.FreeDesk.{FreeState}
+
+-- whether a number was no thread's before: it is not below `known`, and above those of all desks
+abbrev pub is_new : Environment → ThreadNo → Bool
+is_new s t = nat_le s.state.known t.0 && list_all (λ p. nat_lt p.view.subject.thread.0 t.0) s.desks
+
+-- why a desk is not added, lack of memory aside: it is another environment's, or its thread's number is not new
+abbrev pub desk_refusal : Environment → FreeState → Option TiError
+desk_refusal s f =
+    or_else (unless (f.desk.env.0 == s.env.0) InvalidEnvironment)
+    (unless (is_new s f.desk.view.subject.thread) IllegalArgument)
+
+-- one desk more, at a place of its own, with what is spent there
+abbrev pub with_desk : Environment → FreeState → Environment
+with_desk s f = record { env = s.env; state = with_place s.state f.spent; desks = s.desks ++ f.desk ∷ [] }
+
+-- one desk less. The numbers up to its thread's were threads once
+abbrev pub without_desk : Environment → ThreadNo → Environment
+without_desk s t = record { env = s.env; state = with_known (without_place s.state (place_of s.desks t)) (t.0 + 1); desks = remove s.desks (place_in s.desks t) }
+
+-- The desk at a thread left, with what is spent there. Nothing else changed, but that the number was a thread once. No desk
+-- is at the thread any more
+pub record IsTaken (old new : Environment) (t : ThreadNo) (f : FreeState) : Type 0 where
+  pub there : slice_get old.desks (place_in old.desks t) ≡ Some f.desk
+  pub about : f.desk.view.subject.thread ≡ t
+  pub spent : f.spent ≡ spent_at old.state (place_of old.desks t)
+  pub gone : place_in new.desks t ≡ length new.desks
+  pub new_is : new ≡ without_desk old t

@@ -1,0 +1,153 @@
+//! Desks that come and go while an environment is at work.
+
+use crate::env::Env;
+use crate::free_desk::FreeDesk;
+use std::alloc::Global;
+use ti_env::EnvState;
+use ti_types::{EnvNo, Limits, ThreadNo, TiError};
+
+impl Env {
+    /// Makes an environment that has done nothing, and is at no thread yet (this profile). It takes no memory.
+    pub fn with_no_desks(alloc: Global, env: EnvNo, limits: Limits) -> Env
+        ensures { result ≡ record { env = env; state = env_at_no_thread limits; desks = [] } }
+    {
+        Env {
+            env,
+            state: EnvState::at_no_thread(alloc, limits),
+            desks: Vec::new(alloc),
+        }
+    }
+
+    /// The number of the environment (this profile).
+    pub fn number(&self) -> EnvNo
+        ensures { result ≡ self.now.env }
+    {
+        self.env
+    }
+
+    /// The limits of the environment and its desks (this profile).
+    pub fn limits(&self) -> Limits
+        ensures { result ≡ self.now.state.limits }
+    {
+        self.state.limits()
+    }
+
+    /// At how many threads the environment has a desk (this profile).
+    pub fn desk_count(&self) -> u32
+        ensures { result ≡ length self.now.desks }
+    {
+        self.state.threads()
+    }
+
+    /// The number of the thread of a desk, by its index among the desks (this profile). `None` if there is no such desk.
+    pub fn thread_at(&self, index: u32) -> Option<ThreadNo>
+        ensures thread { IfSome result (λ t. t ≡ thread_at self.now.desks index) }
+        ensures there { IfSome result (λ t. index < length self.now.desks) }
+        ensures none { IfNone result (length self.now.desks ≤ index) }
+    {
+        if index < self.state.threads() {
+            Some(self.desks[index as usize].thread())
+        } else {
+            None
+        }
+    }
+
+    /// How many of the environment's calls are out at a thread: they wait, or have an answer that is not collected (this
+    /// profile). 0 if there is no desk at a thread of this number.
+    pub fn out_at(&self, thread: ThreadNo) -> u32
+        ensures { result ≡ outstanding self.now thread }
+    {
+        let place = self.place_of(thread);
+        if place.0 < self.state.threads() {
+            self.desks[place.0 as usize].out()
+        } else {
+            0
+        }
+    }
+
+    /// Whether a thread of this number may come: the number is not below `known`, and above those of all desks.
+    fn is_new(&self, thread: ThreadNo) -> bool
+        ensures { result ≡ is_new self.now thread }
+    {
+        if u64::from(thread.0) < self.state.known() {
+            return false;
+        }
+        let count = self.state.threads();
+        count == 0 || self.desks[count as usize - 1].thread().0 < thread.0
+    }
+
+    /// Adds a desk, behind the others (this profile). The environment's calls reach its thread from then on, and have what is
+    /// left there. The desk is under the limits of the environment.
+    ///
+    /// The error is the first of these that fits:
+    ///
+    /// - 116 INVALID_ENVIRONMENT: it is another environment's desk.
+    /// - 103 ILLEGAL_ARGUMENT: its thread's number is not above those of all desks, or is of a thread that was there before
+    ///   (`take_desk`, `know_threads`).
+    /// - 110 OUT_OF_MEMORY: there is no memory for it, or there are 65,536 desks.
+    ///
+    /// Then nothing changes, and the desk comes back as it was.
+    pub fn add_desk(&mut self, free: FreeDesk) -> Result<(), (TiError, FreeDesk)>
+        requires limits { free.desk.view.subject.limits ≡ self.old.state.limits }
+        ensures admitted { OnOk result (desk_refusal self.old free ≡ None) }
+        ensures added { OnOk result (self.new ≡ with_desk self.old free) }
+        ensures refused { IfErr result (λ r. Some r.0 ≡ or_else (desk_refusal self.old free) (Some OutOfMemory)) }
+        ensures back { IfErr result (λ r. r.1 ≡ free) }
+        ensures unchanged { OnErr result (self.new ≡ self.old) }
+    {
+        if free.env().0 != self.env.0 {
+            return Err((TiError::InvalidEnvironment, free));
+        }
+        if !self.is_new(free.thread()) {
+            return Err((TiError::IllegalArgument, free));
+        }
+        match self.desks.reserve(1) {
+            Ok(()) => (),
+            Err(_) => return Err((TiError::OutOfMemory, free)),
+        }
+        match self.state.add_place(free.spent) {
+            Ok(()) => (),
+            Err(error) => return Err((error, free)),
+        }
+        let FreeDesk { desk, spent: _ } = free;
+        self.desks.push_reserved(desk);
+        Ok(())
+    }
+
+    /// Takes the desk at a thread out of the environment, with what is spent there (this profile). The others keep their
+    /// order. From then on the environment's calls at this number are answered 15 THREAD_NOT_ALIVE, and no desk at a thread
+    /// of this number or a lower one comes.
+    ///
+    /// The calls that are out there stay out.
+    ///
+    /// `None` if there is no desk at a thread of this number. Then nothing changes.
+    pub fn take_desk(&mut self, thread: ThreadNo) -> Option<FreeDesk>
+        ensures taken { IfSome result (λ f. IsTaken self.old self.new thread f) }
+        ensures nobody { IfNone result (length self.old.desks ≤ place_in self.old.desks thread) }
+        ensures unchanged { IfNone result (self.new ≡ self.old) }
+    {
+        let place = self.place_of(thread);
+        if place.0 >= self.state.threads() {
+            return None;
+        }
+        let desk = self.desks.remove(place.0 as usize);
+        let spent = self.state.remove_place(place);
+        self.state.know(u64::from(thread.0) + 1);
+        Some(FreeDesk { desk, spent })
+    }
+
+    /// Notes that the numbers below this one were threads once (this profile). So a call at one of them that has no desk is
+    /// answered 15 THREAD_NOT_ALIVE, and not 10 INVALID_THREAD. What is known already stays known.
+    pub fn know_threads(&mut self, below: u64)
+        ensures { self.new ≡ record { env = self.old.env; state = with_known self.old.state below; desks = self.old.desks } }
+    {
+        self.state.know(below);
+    }
+}
+
+ghost use Rattle.std.specs.Prelude.{◌≡◌, ◌<◌, ◌≤◌, [], length, None, Some, IfSome, IfNone, IfErr, OnOk, OnErr};
+ghost use Rattle.ti_types.specs.Refusing.{or_else};
+ghost use Rattle.ti_types.specs.declared.error.TiError.TheVariants.{OutOfMemory};
+ghost use Rattle.ti_env.specs.Env.{env_at_no_thread, with_known};
+ghost use Rattle.ti_agent.specs.Env.{outstanding, place_in, thread_at};
+ghost use Rattle.ti_agent.specs.Desks.{desk_refusal, is_new, with_desk, IsTaken};

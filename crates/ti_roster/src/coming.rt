@@ -1,0 +1,16 @@
+//! What happens to a service's threads and environments as a whole.
+use crate::newcomer::Newcomer;
+use ti_types::{EnvNo, ThreadNo};
+
+/// A thread or an environment comes or goes, or an environment meets the threads that came.
+#[derive(Drop)]
+pub enum Coming {
+    /// A thread is attached.
+    Came(Newcomer),
+    /// A thread was given back.
+    Ended(ThreadNo),
+    /// An environment is attached, and has taken no desk yet.
+    Attached(EnvNo),
+    /// An environment has taken its desks at the threads whose numbers are below this one.
+    Met(EnvNo, u32),
+}

@@ -1,0 +1,59 @@
+//! A hold: the roster is out of its cell, and with the one who holds.
+
+use crate::roster::Roster;
+use crate::roster_cell::RosterCell;
+use crate::seat::{Pass, RosterSeat};
+use std::marker::Model;
+
+/// The roster, taken out of its cell. It has to be stored: to let go of it is a compile error.
+///
+/// Contracts see it as the cell, its seat's view, and the roster.
+pub struct RosterHold<'a> {
+    pub(crate) cell: &'a RosterCell,
+    pub(crate) seat: Pass,
+    pub(crate) roster: Roster,
+}
+
+impl<'a> Model for RosterHold<'a> {
+    ghost use Rattle.std.specs.Prelude.{◌≡◌, [], ◌∷◌, true, None};
+    ghost use Rattle.ti_roster.specs.Seats.{Holding};
+
+    ghost Value = { Holding };
+
+    ghost view = { λ h. record { cell = h.cell.now; view = h.seat.me.0; roster = h.roster } };
+
+    ghost invariant = { λ h. (h.seat.table_id ≡ h.cell.now) × (h.seat.me.1 ≡ (0, None) ∷ []) × (h.seat.me.0.holds ≡ true) };
+}
+
+impl<'a> RosterHold<'a> {
+    /// Puts the roster back, clears the lock bit, and gives the seat back, which has now seen all that happened. The seat's
+    /// place is then the roster's `user`.
+    ///
+    /// The roster is the one that was held: what happened before is the beginning of what has happened now. A place is
+    /// claimed only if it was free, and what is noted of others' places stays as it is.
+    pub fn store(self) -> RosterSeat
+        requires limits { self.roster.limits ≡ self.view.limits }
+        requires begins { Begins self.roster.items self.view.seen }
+        requires moves { Moves self.view.place self.roster.user self.view.seen self.roster.items }
+        ensures cell { result.cell ≡ self.entry.cell }
+        ensures view { result.view ≡ stored self.entry.view self.entry.roster }
+    {
+        let RosterHold {
+            cell,
+            mut seat,
+            roster,
+        } = self;
+        let (count, place, limits) = (roster.len(), roster.user(), roster.limits());
+        cell.give(&mut seat, roster);
+        RosterSeat {
+            seat,
+            count,
+            place,
+            limits,
+        }
+    }
+}
+
+ghost use Rattle.std.specs.Prelude.{◌≡◌};
+ghost use Rattle.ti_roster.specs.Rule.{Begins, Moves};
+ghost use Rattle.ti_roster.specs.View.{stored};

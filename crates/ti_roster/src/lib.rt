@@ -1,0 +1,37 @@
+//! Who is there: the list of a service's threads and environments, behind one word.
+//!
+//! A `RosterCell` has one place, in which the `Roster` lies, and one word: the lock bit, and how much has happened. Whoever
+//! holds the cell has set the lock bit and taken the roster out. Each user has a seat, and knows what it has seen.
+//!
+//! This crate uses `atomic_table`, which has the word and the place, `ti_trail`, and the desks of `ti_agent`. It promises:
+//!
+//! - There is one list of what happened, whatever the users do. It begins with all that a seat has seen (`specs/Rule`).
+//! - A hold gives the roster with that list. What it adds is seen by every later hold.
+//! - A thread's number is how many threads came before it. So no two are equal, and none comes again.
+//! - An environment that comes has a place that no other has. Nobody but its own seat takes its desks.
+//! - A hold is stored: one that is let go of is a compile error.
+//! - `try_hold` does not wait. `hold` sleeps after some looks, and a store wakes it; no contract says either.
+#![tactic(auto)]
+
+mod coming;
+mod hold;
+mod info;
+mod lends;
+mod newcomer;
+mod roster;
+mod roster_cell;
+mod row;
+mod seat;
+mod shared_roster;
+mod view;
+mod word;
+
+pub use coming::Coming;
+pub use hold::RosterHold;
+pub use info::ThreadInfo;
+pub use newcomer::Newcomer;
+pub use roster::Roster;
+pub use roster_cell::RosterCell;
+pub use seat::RosterSeat;
+pub use shared_roster::SharedRoster;
+pub use view::RosterView;

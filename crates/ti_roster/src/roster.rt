@@ -1,0 +1,306 @@
+//! The roster itself.
+
+use crate::coming::Coming;
+use crate::info::ThreadInfo;
+use crate::row::{Row, new_row};
+use std::alloc::Global;
+use std::marker::Model;
+use ti_agent::FreeDesk;
+use ti_handshake::Fresh;
+use ti_trail::Trail;
+use ti_types::{EnvNo, Limits, ThreadNo, TiError};
+
+/// Who is there, and what has happened. Contracts see it as a `Log`: what happened, the limits, and whose seat the roster goes
+/// to when it is put back.
+#[derive(Drop)]
+pub struct Roster {
+    log: Trail<Coming>,
+    /// How much has happened.
+    len: u64,
+    /// The number of the next thread.
+    next: u32,
+    limits: Limits,
+    /// Whose seat it goes to when it is put back.
+    user: Option<EnvNo>,
+    /// The threads that are there, in the order of their numbers.
+    rows: Vec<Row>,
+    /// What is noted of each environment's place. `None` while no environment has it. Otherwise the environment has taken its
+    /// desks at the threads below this number.
+    marks: Vec<Option<u32>>,
+}
+
+impl Model for Roster {
+    ghost use Rattle.std.specs.Prelude.{◌≡◌, ◌<◌, ◌^◌, length};
+    ghost use Rattle.ti_roster.specs.Log.{Log, threads_in};
+    ghost use Rattle.ti_roster.specs.Rows.{AreRows};
+
+    ghost Value = { Log };
+
+    ghost view = { λ r. record { items = r.log.items; limits = r.limits; user = r.user } };
+
+    ghost invariant = { λ r. (r.len ≡ length r.log.items) × (r.len < 2 ^ 62) × (r.next ≡ threads_in r.log.items) × AreRows r.log.items r.limits r.rows.items r.marks.items };
+}
+
+impl Roster {
+    /// A roster of nobody, with as many places as the limits have environments. 110 OUT_OF_MEMORY if there is no memory for
+    /// it.
+    pub fn new(alloc: Global, limits: Limits) -> Result<Roster, TiError>
+        ensures new { IfOk result (λ r. r ≡ record { items = []; limits = limits; user = None }) }
+        ensures memory { IfErr result (λ e. e ≡ OutOfMemory) }
+    {
+        Ok(Roster {
+            log: Trail::new(),
+            len: 0,
+            next: 0,
+            limits,
+            user: None,
+            rows: Vec::new(alloc),
+            marks: vec![in alloc; None; limits.envs as usize]?,
+        })
+    }
+
+    /// Whose seat it goes to when it is put back: an environment's, or any other user's.
+    pub fn user(&self) -> Option<EnvNo>
+        ensures { result ≡ self.now.user }
+    {
+        self.user
+    }
+
+    /// Notes whose seat it goes to when it is put back.
+    pub(crate) fn serve(&mut self, user: Option<EnvNo>)
+        ensures { self.new ≡ record self.old { user = user } }
+    {
+        self.user = user;
+    }
+
+    /// How much has happened.
+    pub fn len(&self) -> u64
+        ensures len { result ≡ length self.now.items }
+        ensures fits { result < 2 ^ 62 }
+    {
+        self.len
+    }
+
+    /// A thread comes, has the next number, and has not started. Each environment has a desk there.
+    ///
+    /// 110 OUT_OF_MEMORY if there is no memory for the thread, or if there were 2^32 - 1 threads, or 2^62 - 1 comings and
+    /// goings in all (this profile). Then nothing changes.
+    pub fn come(&mut self, alloc: Global, info: ThreadInfo) -> Result<Fresh, TiError>
+        ensures came { IfOk result (λ f. self.new ≡ with_item self.old (Came (record { thread = record { 0 = threads_in self.old.items }; info = info; cell = f.cell }))) }
+        ensures fresh { IfOk result (λ f. f.view ≡ newcomer (subject_of self.old.limits (record { 0 = threads_in self.old.items })) 0 (self.old.limits.envs + 1)) }
+        ensures memory { IfErr result (λ e. e ≡ OutOfMemory) }
+        ensures unchanged { OnErr result (self.new ≡ self.old) }
+    {
+        let Some(next) = self.next.checked_add(1) else {
+            return Err(TiError::OutOfMemory);
+        };
+        if self.len >= LAST {
+            return Err(TiError::OutOfMemory);
+        }
+        let (fresh, row) = new_row(alloc, self.limits, ThreadNo(self.next), info)?;
+        self.rows.reserve(1)?;
+        let Row { newcomer, desks } = row;
+        let coming = Coming::Came(newcomer);
+        self.log = self.log.and(&coming);
+        let Coming::Came(newcomer) = coming else {
+            unreachable!()
+        };
+        self.rows.push_reserved(Row { newcomer, desks });
+        self.next = next;
+        self.len += 1;
+        Ok(fresh)
+    }
+
+    /// Whether there is a thread of this number: it came, and was not given back.
+    pub fn is_live(&self, thread: ThreadNo) -> bool
+        ensures { result ≡ is_live thread self.now.items }
+    {
+        self.index_of(thread).is_some()
+    }
+
+    /// The index of a thread's row, if the thread is there.
+    fn index_of(&self, thread: ThreadNo) -> Option<usize>
+        ensures there { IfSome result (λ i. IsIndex (live self.now.items) thread i) }
+        ensures none { IfNone result (is_live thread self.now.items ≡ false) }
+    {
+        for i in 0..self.rows.len() {
+            if self.rows[i].thread().0 == thread.0 {
+                return Some(i);
+            }
+        }
+        None
+    }
+
+    /// The limits of all threads and environments.
+    pub(crate) fn limits(&self) -> Limits
+        ensures { result ≡ self.now.limits }
+    {
+        self.limits
+    }
+
+    /// How many threads have come. It is the number of the next one.
+    pub fn next(&self) -> u32
+        ensures { result ≡ threads_in self.now.items }
+    {
+        self.next
+    }
+
+    /// The name and the priority of a thread that is there, as they were when it was attached.
+    ///
+    /// The error is the first of these that fits:
+    ///
+    /// - 10 INVALID_THREAD: there was no thread of this number.
+    /// - 15 THREAD_NOT_ALIVE: it was given back.
+    /// - 110 OUT_OF_MEMORY: there is no memory for the name.
+    pub fn info(&self, alloc: Global, thread: ThreadNo) -> Result<ThreadInfo, TiError>
+        ensures told { IfOk result (λ i. IsToldOf self.now thread i) }
+        ensures refused { IfErr result (λ e. e ≡ end_refusal self.now thread) }
+    {
+        match self.index_of(thread) {
+            Some(i) => self.rows[i].newcomer.info.copy(alloc),
+            None => Err(self.missing(thread)),
+        }
+    }
+
+    /// Why a thread that is not there is not there: 15 if it was given back, or else 10.
+    fn missing(&self, thread: ThreadNo) -> TiError
+        ensures { result ≡ (if nat_lt thread.0 (threads_in self.now.items) then ThreadNotAlive else InvalidThread) }
+    {
+        if thread.0 < self.next {
+            TiError::ThreadNotAlive
+        } else {
+            TiError::InvalidThread
+        }
+    }
+
+    /// The numbers of the threads that are there, each above those before it. 110 OUT_OF_MEMORY if there is no memory for
+    /// them.
+    pub fn threads(&self, alloc: Global) -> Result<Vec<ThreadNo>, TiError>
+        ensures threads { IfOk result (λ t. t.items ≡ map (λ n. n.thread) (live self.now.items)) }
+        ensures memory { IfErr result (λ e. e ≡ OutOfMemory) }
+    {
+        let mut threads = Vec::with_capacity(alloc, self.rows.len())?;
+        for i in 0..self.rows.len() {
+            threads.push_reserved(self.rows[i].thread());
+        }
+        Ok(threads)
+    }
+
+    /// A thread is given back, and is there no more. Its number is never used again.
+    ///
+    /// The error is the first of these that fits, and then nothing changes:
+    ///
+    /// - 10 INVALID_THREAD: there was no thread of this number.
+    /// - 15 THREAD_NOT_ALIVE: it was given back before.
+    /// - 110 OUT_OF_MEMORY: there were 2^62 - 1 comings and goings in all (this profile).
+    pub fn end(&mut self, thread: ThreadNo) -> Result<(), TiError>
+        ensures there { OnOk result (is_live thread self.old.items ≡ true) }
+        ensures ended { OnOk result (self.new ≡ with_item self.old (Ended thread)) }
+        ensures refused { IfErr result (λ e. e ≡ end_refusal self.old thread) }
+        ensures unchanged { OnErr result (self.new ≡ self.old) }
+    {
+        let Some(i) = self.index_of(thread) else {
+            return Err(self.missing(thread));
+        };
+        if self.len >= LAST {
+            return Err(TiError::OutOfMemory);
+        }
+        let _row = self.rows.remove(i);
+        self.log = self.log.and(&Coming::Ended(thread));
+        self.len += 1;
+        Ok(())
+    }
+
+    /// The first place that no environment has.
+    fn free_place(&self) -> Option<u32>
+        ensures place { IfSome result (λ p. (p < self.now.limits.envs) × (mark_of (record { 0 = p }) self.now.items ≡ None)) }
+        ensures none { IfNone result (AreTaken self.now) }
+    {
+        for p in 0..self.limits.envs {
+            if self.marks[p as usize].is_none() {
+                return Some(p);
+            }
+        }
+        None
+    }
+
+    /// An environment comes, and has a place that no environment has. It has taken no desk. From now on the roster is in
+    /// its service.
+    ///
+    /// 110 OUT_OF_MEMORY if every place is taken, or if there were 2^62 - 1 comings and goings in all (this profile). Then
+    /// nothing changes.
+    pub fn attach(&mut self) -> Result<EnvNo, TiError>
+        ensures free { IfOk result (λ e. (e.0 < self.old.limits.envs) × (mark_of e self.old.items ≡ None)) }
+        ensures attached { IfOk result (λ e. self.new ≡ with_user (with_item self.old (Attached e)) e) }
+        ensures refused { IfErr result (λ e. (e ≡ OutOfMemory) × (length self.old.items < most_items → AreTaken self.old)) }
+        ensures unchanged { OnErr result (self.new ≡ self.old) }
+    {
+        if self.len >= LAST {
+            return Err(TiError::OutOfMemory);
+        }
+        let Some(place) = self.free_place() else {
+            return Err(TiError::OutOfMemory);
+        };
+        let env = EnvNo(place);
+        self.marks[place as usize] = Some(0);
+        self.log = self.log.and(&Coming::Attached(env));
+        self.len += 1;
+        self.user = Some(env);
+        Ok(env)
+    }
+
+    /// The environment that the roster serves takes its desks at the threads that came since it last did, and are there. The
+    /// desks are in the order of their threads' numbers, and unused.
+    ///
+    /// The error is the first of these that fits, and then nothing changes:
+    ///
+    /// - 116 INVALID_ENVIRONMENT: the roster serves no environment, or none of this service.
+    /// - 110 OUT_OF_MEMORY: there is no memory for the desks' list, or there were 2^62 - 1 comings and goings in all (this
+    ///   profile).
+    pub fn meet(&mut self, alloc: Global) -> Result<Vec<FreeDesk>, TiError>
+        ensures met { IfOk result (λ d. HasMet self.old self.new d.items) }
+        ensures refused { IfErr result (λ e. e ≡ (if serves self.old then OutOfMemory else InvalidEnvironment)) }
+        ensures unchanged { OnErr result (self.new ≡ self.old) }
+    {
+        let env = match self.user {
+            Some(env) if env.0 < self.limits.envs => env,
+            _ => return Err(TiError::InvalidEnvironment),
+        };
+        if self.len >= LAST {
+            return Err(TiError::OutOfMemory);
+        }
+        let mut desks = Vec::with_capacity(alloc, self.rows.len())?;
+        take_desks(&mut self.rows, env, &mut desks);
+        self.marks[env.0 as usize] = Some(self.next);
+        self.log = self.log.and(&Coming::Met(env, self.next));
+        self.len += 1;
+        Ok(desks)
+    }
+}
+
+/// Takes the desks of an environment out of all rows, in which there is a place for it.
+fn take_desks(rows: &mut Vec<Row>, env: EnvNo, desks: &mut Vec<FreeDesk>)
+    requires places { (i : ℕ) (r : Row) → slice_get rows.old.items i ≡ Some r → env.0 < length r.desks.items }
+    requires room { length desks.old.items + length rows.old.items ≤ vec_capacity desks.old }
+    ensures count { length rows.new.items ≡ length rows.old.items }
+    ensures each { (i : ℕ) (r q : Row) → slice_get rows.old.items i ≡ Some r → slice_get rows.new.items i ≡ Some q → IsTaken env r q }
+    ensures desks { desks.new.items ≡ desks.old.items ++ desks_in env rows.old.items }
+{
+    for i in 0..rows.len() {
+        if let Some(desk) = rows[i].take(env.0 as usize) {
+            desks.push_reserved(desk);
+        }
+    }
+}
+
+/// How much may happen at most.
+const LAST: u64 = (1 << 62) - 1;
+
+ghost use Rattle.std.specs.Prelude.{◌≡◌, ◌<◌, ◌≤◌, ◌^◌, ◌+◌, ◌++◌, ◌∷◌, [], ℕ, true, false, length, map, nat_lt, slice_get, vec_capacity, None, Some, IfOk, IfErr, IfSome, IfNone, OnOk, OnErr, if◌then◌else◌};
+ghost use Rattle.ti_types.specs.declared.error.TiError.TheVariants.{InvalidEnvironment, InvalidThread, OutOfMemory, ThreadNotAlive};
+ghost use Rattle.ti_cell.specs.View.{newcomer, subject_of};
+ghost use Rattle.ti_roster.specs.declared.coming.Coming.TheVariants.{Came, Ended, Attached};
+ghost use Rattle.ti_roster.specs.Log.{threads_in, mark_of, live, is_live, with_item, with_user};
+ghost use Rattle.ti_roster.specs.declared.row.Row.{Row};
+ghost use Rattle.ti_roster.specs.Roster.{AreTaken, HasMet, IsToldOf, end_refusal, most_items, serves};
+ghost use Rattle.ti_roster.specs.Rows.{IsIndex, IsTaken, desks_in};

@@ -1,0 +1,84 @@
+//! A thread that is there, with its desks.
+
+use crate::info::ThreadInfo;
+use crate::newcomer::Newcomer;
+use std::alloc::Global;
+use ti_agent::FreeDesk;
+use ti_cell::EnvSeat;
+use ti_handshake::{Desk, Fresh, SharedCell};
+use ti_types::{Limits, ThreadNo, TiError};
+
+/// A thread that is there, with the desks that no environment has taken.
+#[derive(Drop)]
+pub(crate) struct Row {
+    pub(crate) newcomer: Newcomer,
+    /// By the place of the environment.
+    pub(crate) desks: Vec<Option<FreeDesk>>,
+}
+
+impl Row {
+    /// The number of the thread.
+    pub(crate) fn thread(&self) -> ThreadNo
+        ensures { result ≡ self.now.newcomer.thread }
+    {
+        self.newcomer.thread
+    }
+
+    /// Takes the desk at a place, if it is here. There has to be such a place.
+    pub(crate) fn take(&mut self, place: usize) -> Option<FreeDesk>
+        requires { place < length self.old.desks.items }
+        ensures desk { slice_get self.old.desks.items place ≡ Some result }
+        ensures newcomer { self.new.newcomer ≡ self.old.newcomer }
+        ensures taken { self.new.desks.items ≡ slice_set self.old.desks.items place None }
+    {
+        self.desks[place].take()
+    }
+}
+
+/// The row of a new thread, at which no environment has taken its desk, and the thread itself, which has not started.
+///
+/// 110 OUT_OF_MEMORY if there is no memory for it.
+pub(crate) fn new_row(
+    alloc: Global,
+    limits: Limits,
+    thread: ThreadNo,
+    info: ThreadInfo,
+) -> Result<(Fresh, Row), TiError>
+    ensures fresh { IfOk result (λ m. (m.0.cell ≡ m.1.newcomer.cell) × (m.0.view ≡ newcomer (subject_of limits thread) 0 (limits.envs + 1))) }
+    ensures row { IfOk result (λ m. (m.1.newcomer.thread ≡ thread) × (m.1.newcomer.info ≡ info) × IsNewRow limits m.1) }
+    ensures memory { IfErr result (λ e. e ≡ OutOfMemory) }
+{
+    let (cell, own, seats) = SharedCell::make(alloc, limits, thread)?;
+    let desks = desks_of(alloc, &cell, seats)?;
+    let fresh = Fresh::new(cell.share()?, own);
+    let newcomer = Newcomer { thread, info, cell };
+    Ok((fresh, Row { newcomer, desks }))
+}
+
+/// A desk for each of these seats, in their order. The seats are environments' seats at this cell, and unused.
+///
+/// 110 OUT_OF_MEMORY if there is no memory for them, or if there are 2^63 references to the cell.
+fn desks_of(
+    alloc: Global,
+    cell: &SharedCell,
+    seats: Vec<EnvSeat>,
+) -> Result<Vec<Option<FreeDesk>>, TiError>
+    requires { All (λ s. IsEnvSeat cell.now s) seats.items }
+    ensures desks { IfOk result (λ d. d.items ≡ map (λ s. Some (desk_at s)) seats.items) }
+    ensures memory { IfErr result (λ e. e ≡ OutOfMemory) }
+{
+    let mut desks = Vec::with_capacity(alloc, seats.len())?;
+    for seat in seats {
+        let desk = Desk::new(cell.share()?, seat);
+        let Ok(free) = FreeDesk::new(desk) else {
+            unreachable!()
+        };
+        desks.push_reserved(Some(free));
+    }
+    Ok(desks)
+}
+
+ghost use Rattle.std.specs.Prelude.{◌≡◌, ◌<◌, ◌+◌, length, map, All, Some, None, slice_get, slice_set, IfOk, IfErr};
+ghost use Rattle.ti_types.specs.declared.error.TiError.TheVariants.{OutOfMemory};
+ghost use Rattle.ti_cell.specs.View.{newcomer, subject_of};
+ghost use Rattle.ti_roster.specs.Rows.{IsEnvSeat, IsNewRow, desk_at};

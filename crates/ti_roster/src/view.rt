@@ -1,0 +1,70 @@
+//! What a seat knows, the rule over all seats, and what each step tells.
+use crate::coming::Coming;
+use crate::roster::Roster;
+use atomic_table::{Play, Split, TableRule};
+use std::collections::LinkedList;
+use ti_types::{EnvNo, Limits};
+
+/// What a seat knows. It is for contracts alone: no value of it is made.
+pub struct RosterView {
+    /// The limits of all threads and environments.
+    pub limits: Limits,
+    /// A prefix of what happened, which was seen.
+    pub seen: LinkedList<Coming>,
+    /// How often the seat took the cell.
+    pub taken: u64,
+    /// Whether the seat holds the cell.
+    pub holds: bool,
+    /// The environment whose seat it is.
+    pub place: Option<EnvNo>,
+}
+
+/// The rule of a cell: `Kept` in `specs/Rule`.
+pub struct RosterRule;
+
+impl TableRule<Option<Roster>, RosterView, Limits> for RosterRule {
+    ghost use Rattle.ti_roster.specs.Rule.{Kept};
+    ghost use Rattle.ti_roster.specs.View.{first_view};
+
+    ghost holds = { Kept };
+
+    ghost first = { first_view };
+}
+
+/// The lock bit is set, and the roster comes out.
+pub struct Locks;
+
+impl Play<Option<Roster>, RosterView> for Locks {
+    ghost use Rattle.ti_roster.specs.Rule.{locks};
+
+    ghost then = { locks };
+}
+
+/// The roster is in, and the lock bit is cleared.
+pub struct Frees;
+
+impl Play<Option<Roster>, RosterView> for Frees {
+    ghost use Rattle.ti_roster.specs.Rule.{frees};
+
+    ghost then = { frees };
+}
+
+/// The word is loaded.
+pub struct Glances;
+
+impl Play<Option<Roster>, RosterView> for Glances {
+    ghost use Rattle.ti_roster.specs.Rule.{glances};
+
+    ghost then = { glances };
+}
+
+/// A seat makes another.
+pub struct Splits;
+
+impl Split<RosterView> for Splits {
+    ghost use Rattle.ti_roster.specs.View.{split_off};
+
+    ghost left = { λ v. v };
+
+    ghost right = { split_off };
+}

@@ -1,0 +1,115 @@
+-- What a handle puts back of the roster.
+use Rattle.std.proofs.Common.{◌≡◌, ℕ, List, [], ◌∷◌, ◌++◌, map, Option, Some, None, refl, sym, ap, ◌∙◌, append-nil, append_assoc, subst}
+use Rattle.std.specs.Prelude.{◌<◌, All, Result, Ok, Err, IfOk, IfErr, OnErr, reverse}
+use Rattle.std.specs.List.{filter, fold}
+use Rattle.std.proofs.lemmas.List.{reverse-append}
+use Rattle.std.proofs.lemmas.List.Elements.{All-cons, All-head, All-nil, All-tail}
+use Rattle.std.proofs.lemmas.List.Sums.{fold-append}
+use Rattle.atomic_table.specs.Seated.{TableId}
+use Rattle.ti_types.specs.declared.error.TiError.{TiError}
+use Rattle.ti_types.specs.declared.limits.Limits.{Limits}
+use Rattle.ti_types.specs.declared.numbers.EnvNo.{EnvNo}
+use Rattle.ti_agent.specs.Desks.{with_desk}
+use Rattle.ti_agent.specs.Env.{Environment}
+use Rattle.ti_agent.specs.FreeDesk.{FreeState}
+use Rattle.ti_roster.specs.declared.coming.Coming.{Coming}
+use Rattle.ti_roster.specs.declared.coming.Coming.TheVariants.{Attached, Met}
+use Rattle.ti_roster.specs.declared.newcomer.Newcomer.{Newcomer}
+use Rattle.ti_roster.specs.Log.{Log, live, mark_of, threads_in, with_item, with_user}
+use Rattle.ti_roster.specs.Roster.{HasMetOf}
+use Rattle.ti_roster.specs.Rows.{is_left, left_desks, new_desk}
+use Rattle.ti_roster.specs.Rule.{Claims, Moves}
+use Rattle.ti_roster.specs.Seats.{Sitting}
+use Rattle.ti_roster.proofs.Moving.{may_attach, may_meet, may_stay}
+use Rattle.ti_service.specs.Agent.{AgentState, Meets, MeetsSome, Moved, knowing}
+use Rattle.ti_service.specs.Service.{Holds, Member, TakesDesks, member_in}
+
+-- what a handle's seat knows is what the handle knows
+pub seat_view : (cell : TableId) (o : Option Sitting) (s : Sitting) (m : Member) → member_in cell o ≡ m → o ≡ Some s → s.view ≡ m.view
+seat_view cell o s m e is = ap (λ (x : Option Sitting). (member_in cell x).view) (sym is) ∙ ap (λ (x : Member). x.view) e
+
+pub claim_moves : (o : Option EnvNo) (r r' : Log) (seen : List Coming) (res : Result EnvNo TiError) → o ≡ None → Claims r.items o seen → r.user ≡ o
+    → IfOk res (λ e. (e.0 < r.limits.envs) × (mark_of e r.items ≡ None)) → IfOk res (λ e. r' ≡ with_user (with_item r (Attached e)) e) → OnErr res (r' ≡ r) → Moves o r'.user r.items r'.items
+claim_moves o r r' seen (Ok e) nobody claims user free is same = (may_attach o r r' e nobody free.1 is).moves
+claim_moves o r r' seen (Err e) nobody claims user free is same = (may_stay o r r' seen claims user same).moves
+
+met_moves : (u o : Option EnvNo) (r r' : Log) (desks : List FreeState) → r.user ≡ u → r.user ≡ o → HasMetOf u r r' desks → Moves o r'.user r.items r'.items
+met_moves None o r r' desks is user met = absurd met
+met_moves (Some e) o r r' desks is user met = (may_meet o r r' e (threads_in r.items) (sym user ∙ is) user met.1).moves
+
+pub meet_moves : {V : Type 0} (items : V → List FreeState) (o : Option EnvNo) (r r' : Log) (seen : List Coming) (res : Result V TiError) → Claims r.items o seen → r.user ≡ o
+    → IfOk res (λ d. HasMetOf r.user r r' (items d)) → OnErr res (r' ≡ r) → Moves o r'.user r.items r'.items
+meet_moves items o r r' seen (Ok d) claims user met same = met_moves r.user o r r' (items d) (λ i. r.user) user met
+meet_moves items o r r' seen (Err e) claims user met same = (may_stay o r r' seen claims user same).moves
+
+-- Desks that wait
+
+pub all_front : {A : Type 0} (P : A → Type 0) (xs ys : List A) → All P (xs ++ ys) → All P xs
+all_front P [] ys a = All-nil P
+all_front P (x ∷ xs) ys a = All-cons P x xs (All-head P x (xs ++ ys) a) (all_front P xs ys (All-tail P x (xs ++ ys) a))
+
+all_new : (limits : Limits) (e : EnvNo) (l : List Newcomer) → All (λ (f : FreeState). f.desk.view.subject.limits ≡ limits) (map (new_desk limits e) l)
+all_new limits e [] = All-nil (λ (f : FreeState). f.desk.view.subject.limits ≡ limits)
+all_new limits e (n ∷ l) = All-cons (λ (f : FreeState). f.desk.view.subject.limits ≡ limits) (new_desk limits e n) (map (new_desk limits e) l) refl (all_new limits e l)
+
+pub all_left : (mark : Option ℕ) (limits : Limits) (e : EnvNo) (l : List Newcomer) → All (λ (f : FreeState). f.desk.view.subject.limits ≡ limits) (left_desks mark limits e l)
+all_left mark limits e l = all_new limits e (filter (λ n. is_left mark n.thread) l)
+
+pub fold_limits : (s : Environment) (l : List FreeState) → (fold with_desk s l).state.limits ≡ s.state.limits
+fold_limits s [] = refl
+fold_limits s (f ∷ l) = fold_limits (with_desk s f) l
+
+pub reverse_twice : {A : Type 0} (l : List A) → reverse (reverse l) ≡ l
+reverse_twice [] = refl
+reverse_twice (x ∷ l) = ap reverse (reverse-append (x ∷ []) l) ∙ (reverse-append (reverse l) (x ∷ []) ∙ ap (λ k. x ∷ k) (reverse_twice l))
+
+-- one desk more was added
+pub moved_one : (old at now : AgentState) (f : FreeState) → Moved old at [] → reverse at.waiting ≡ f ∷ reverse now.waiting → now.env ≡ with_desk at.env f → Moved old now []
+moved_one old at now f m back is = record {
+  added = m.added ++ f ∷ [];
+  all = m.all ∙ (ap (λ l. m.added ++ l) back ∙ sym (append_assoc m.added (f ∷ []) (reverse now.waiting)));
+  env = is ∙ (ap (λ (s : Environment). with_desk s f) m.env ∙ sym (fold-append with_desk old.env m.added (f ∷ [])));
+}
+
+-- these waited after those that had waited before
+pub moved_on : (old mid more_of new : AgentState) (more : List FreeState) → Moved old mid [] → mid.waiting ≡ [] → more_of.env ≡ mid.env → more_of.waiting ≡ reverse more → Moved more_of new [] → Moved old new more
+moved_on old mid more_of new more m none env waits n = record {
+  added = m.added ++ n.added;
+  all =
+      ap (λ l. l ++ more) (sym (append-nil (reverse old.waiting)) ∙ (m.all ∙ (ap (λ l. m.added ++ reverse l) none ∙ append-nil m.added)))
+      ∙ (ap (λ l. m.added ++ l) (sym (ap reverse waits ∙ reverse_twice more) ∙ (sym (append-nil (reverse more_of.waiting)) ∙ n.all)) ∙ sym (append_assoc m.added n.added (reverse new.waiting)));
+  env = n.env ∙ (ap (λ (s : Environment). fold with_desk s n.added) (env ∙ m.env) ∙ sym (fold-append with_desk old.env m.added n.added));
+}
+
+-- A meeting: the desks that waited were added, the new ones were taken, and some of them were added
+pub meets_some : (old first taken new : AgentState) (desks : List FreeState) (next : ℕ) → Moved old first [] → first.service ≡ old.service → first.waiting ≡ [] → taken.env ≡ first.env → taken.waiting ≡ reverse desks
+    → TakesDesks first.service.view taken.service.view desks next → Moved taken new [] → new.service ≡ taken.service → (k : MeetsSome old new) × (next ≡ threads_in k.found)
+meets_some old first taken new desks next m same none env waits t n service =
+    let more : List FreeState = left_desks (mark_of t.env t.found) old.service.view.limits t.env (live t.found) in
+    let are : desks ≡ more = t.desks_are ∙ ap (λ (x : Member). left_desks (mark_of t.env t.found) x.view.limits t.env (live t.found)) same in (
+      record {
+        env = t.env;
+        place = ap (λ (x : Member). x.view.place) (sym same) ∙ t.place;
+        found = t.found;
+        hold = subst (λ (x : Member × Member). Holds x.0.view x.1.view t.found (Met t.env (threads_in t.found) ∷ [])) (λ j. (same j, sym service j)) t.hold;
+        moved = moved_on old first taken new more m none env (waits ∙ ap reverse are) n;
+      },
+      t.next_is,
+    )
+
+-- all of them were added
+pub meets_all : (old new last : AgentState) → (k : MeetsSome old new) → new.waiting ≡ [] → new.service.cell ≡ old.service.cell → last.service ≡ new.service → last.waiting ≡ [] → last.env ≡ knowing new.env (threads_in k.found) → Meets old last
+meets_all old new last k none cell service last_none env =
+    let more : List FreeState = left_desks (mark_of k.env k.found) old.service.view.limits k.env (live k.found) in
+    let added : k.moved.added ≡ reverse old.waiting ++ more = sym (k.moved.all ∙ (ap (λ (l : List FreeState). k.moved.added ++ reverse l) none ∙ append-nil k.moved.added)) in record {
+      env = k.env;
+      place = k.place;
+      cell = ap (λ (x : Member). x.cell) service ∙ cell;
+      found = k.found;
+      hold = subst (λ (x : Member). Holds old.service.view x.view k.found (Met k.env (threads_in k.found) ∷ [])) (sym service) k.hold;
+      env_is = env ∙ ap (λ (s : Environment). knowing s (threads_in k.found)) (k.moved.env ∙ ap (λ (l : List FreeState). fold with_desk old.env l) added);
+      none_waits = last_none;
+    }
+
+pub if_err : {A E : Type 0} (P : E → Type 0) (r : Result A E) (e : E) → r ≡ Err e → P e → IfErr r P
+if_err P r e is p = subst (λ x. IfErr x P) (sym is) p

@@ -1,0 +1,87 @@
+-- An agent, and what its calls say.
+use Rattle.std.specs.Prelude.{ℕ, ◌≡◌, ◌≢◌, ◌++◌, List, [], ◌∷◌, Some, None, false, reverse}
+use Rattle.std.specs.List.{fold}
+use Rattle.ti_types.specs.declared.error.TiError.{TiError}
+use Rattle.ti_types.specs.declared.error.TiError.TheVariants.{InvalidEnvironment, OutOfMemory}
+use Rattle.ti_types.specs.declared.numbers.EnvNo.{EnvNo}
+use Rattle.ti_types.specs.Refusing.{or_else}
+use Rattle.ti_env.specs.Env.{env_at_no_thread, with_known}
+use Rattle.ti_agent.specs.Desks.{desk_refusal, with_desk}
+use Rattle.ti_agent.specs.Env.{Environment}
+use Rattle.ti_agent.specs.FreeDesk.{FreeState}
+use Rattle.ti_roster.specs.declared.coming.Coming.{Coming}
+use Rattle.ti_roster.specs.declared.coming.Coming.TheVariants.{Attached, Met}
+use Rattle.ti_roster.specs.Log.{live, mark_of, threads_in}
+use Rattle.ti_roster.specs.Rows.{left_desks}
+use Rattle.ti_roster.specs.Rule.{Begins}
+use Rattle.ti_service.specs.Service.{Holds, Looks, Member, meeting_refusal}
+
+-- its handle, its environment, and the desks that it has taken and not added, the last to be added first
+pub record AgentState : Type 0 where
+  pub service : Member
+  pub env : Environment
+  pub waiting : List FreeState
+
+-- the agent with another environment
+abbrev pub with_env : AgentState → Environment → AgentState
+with_env a e = record { service = a.service; env = e; waiting = a.waiting }
+
+-- nothing but what the handle knows has changed
+abbrev pub IsSameBut : AgentState → AgentState → Type 0
+IsSameBut old new = (new.service.cell ≡ old.service.cell) × (new.env ≡ old.env) × (new.waiting ≡ old.waiting)
+
+-- An agent that was just attached. Its environment's number was nobody's, and it is at no thread yet
+pub record IsNewAgent (s : Member) (a : AgentState) : Type 0 where
+  pub found : List Coming
+  pub begins : Begins found s.view.seen
+  pub free : mark_of a.env.env found ≡ None
+  pub cell : a.service.cell ≡ s.cell
+  pub view : a.service.view ≡ record { limits = s.view.limits; seen = found ++ Attached a.env.env ∷ []; taken = 1; holds = false; place = Some a.env.env }
+  pub state : a.env.state ≡ env_at_no_thread s.view.limits
+  pub desks : a.env.desks ≡ []
+  pub waiting : a.waiting ≡ []
+
+-- Of the desks that waited and these, the first ones are the environment's now, and the others wait
+pub record Moved (old new : AgentState) (more : List FreeState) : Type 0 where
+  pub added : List FreeState
+  pub all : reverse old.waiting ++ more ≡ added ++ reverse new.waiting
+  pub env : new.env ≡ fold with_desk old.env added
+
+-- why the next desk that waits was not added
+abbrev pub IsWhyNotOf : Environment → List FreeState → TiError → Type 0
+IsWhyNotOf s [] e = ⊥
+IsWhyNotOf s (f ∷ rest) e = Some e ≡ or_else (desk_refusal s f) (Some OutOfMemory)
+
+abbrev pub IsWhyNot : AgentState → TiError → Type 0
+IsWhyNot a e = IsWhyNotOf a.env (reverse a.waiting) e
+
+-- the environment knows that the numbers below this one were threads
+abbrev pub knowing : Environment → ℕ → Environment
+knowing s n = record { env = s.env; state = with_known s.state n; desks = s.desks }
+
+-- One hold of the roster, in which the environment took its desks at the threads that came since it last did, and are there.
+-- It has them all
+pub record Meets (old new : AgentState) : Type 0 where
+  pub env : EnvNo
+  pub place : old.service.view.place ≡ Some env
+  pub cell : new.service.cell ≡ old.service.cell
+  pub found : List Coming
+  pub hold : Holds old.service.view new.service.view found (Met env (threads_in found) ∷ [])
+  pub env_is : new.env ≡ knowing (fold with_desk old.env (reverse old.waiting ++ left_desks (mark_of env found) old.service.view.limits env (live found))) (threads_in found)
+  pub none_waits : new.waiting ≡ []
+
+-- the same hold, after which some of the desks wait
+pub record MeetsSome (old new : AgentState) : Type 0 where
+  pub env : EnvNo
+  pub place : old.service.view.place ≡ Some env
+  pub found : List Coming
+  pub hold : Holds old.service.view new.service.view found (Met env (threads_in found) ∷ [])
+  pub moved : Moved old new (left_desks (mark_of env found) old.service.view.limits env (live found))
+
+-- Why a meeting failed, and what it left. No desk was lost: the environment's limits are not the service's; a desk that waited
+-- was not added; no desk was taken; or one that was taken was not added
+pub data Keeps (old new : AgentState) (e : TiError) : Type 0 where
+  OtherLimits : old.env.state.limits ≢ old.service.view.limits → new ≡ old → e ≡ InvalidEnvironment → Keeps old new e
+  NotAdded : new.service ≡ old.service → Moved old new [] → IsWhyNot new e → Keeps old new e
+  TookNone : Looks old.service.view new.service.view → Moved old new [] → e ≡ meeting_refusal new.service.view → Keeps old new e
+  TookSome : MeetsSome old new → IsWhyNot new e → Keeps old new e

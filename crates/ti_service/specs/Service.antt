@@ -1,0 +1,89 @@
+-- A handle of the service, and what its calls say.
+use Rattle.std.specs.Prelude.{ℕ, ◌≡◌, ◌+◌, ◌++◌, true, false, if◌then◌else◌, List, [], ◌∷◌, Option, Some, None}
+use Rattle.atomic_table.specs.Seated.{TableId}
+use Rattle.ti_types.specs.Least.{least}
+use Rattle.ti_types.specs.declared.error.TiError.{TiError}
+use Rattle.ti_types.specs.declared.error.TiError.TheVariants.{InvalidEnvironment, OutOfMemory}
+use Rattle.ti_types.specs.declared.numbers.EnvNo.{EnvNo}
+use Rattle.ti_types.specs.declared.numbers.ThreadNo.{ThreadNo}
+use Rattle.ti_agent.specs.FreeDesk.{FreeState}
+use Rattle.ti_cell.specs.Seats.{Sitting as ThreadSitting}
+use Rattle.ti_cell.specs.View.{newcomer, subject_of}
+use Rattle.ti_roster.specs.declared.coming.Coming.{Coming}
+use Rattle.ti_roster.specs.declared.coming.Coming.TheVariants.{Came, Ended, Attached, Met}
+use Rattle.ti_roster.specs.declared.info.ThreadInfo.{ThreadInfo}
+use Rattle.ti_roster.specs.declared.view.RosterView.{RosterView}
+use Rattle.ti_roster.specs.Log.{Log, is_live, live, mark_of, threads_in}
+use Rattle.ti_roster.specs.Roster.{end_refusal, serves}
+use Rattle.ti_roster.specs.Rows.{left_desks}
+use Rattle.ti_roster.specs.Rule.{Begins, Claims}
+use Rattle.ti_roster.specs.Seats.{Sitting}
+use Rattle.ti_roster.specs.View.{first_view}
+
+-- a handle: the roster's cell, and what it knows
+pub record Member : Type 0 where
+  pub cell : TableId
+  pub view : RosterView
+
+-- the handle has its seat between calls
+abbrev pub member_in : TableId → Option Sitting → Member
+member_in cell (Some s) = record { cell = cell; view = s.view }
+member_in cell None = record { cell = cell; view = first_view least }
+
+abbrev pub IsThere : TableId → Option Sitting → Type 0
+IsThere cell (Some s) = s.cell ≡ cell
+IsThere cell None = ⊥
+
+-- the roster as a handle has seen it
+abbrev pub roster_of : RosterView → List Coming → Log
+roster_of v items = record { items = items; limits = v.limits; user = v.place }
+
+abbrev pub roster_seen : RosterView → Log
+roster_seen v = roster_of v v.seen
+
+-- One hold of the roster. It found this list, which begins with what the handle had seen, and added these
+pub record Holds (old new : RosterView) (found more : List Coming) : Type 0 where
+  pub begins : Begins found old.seen
+  pub claims : Claims found old.place old.seen
+  pub new_is : new ≡ record { limits = old.limits; seen = found ++ more; taken = old.taken + 1; holds = false; place = old.place }
+
+-- a hold that added nothing
+abbrev pub Looks : RosterView → RosterView → Type 0
+Looks old new = Holds old new new.seen []
+
+-- A thread came: its number is how many came before it
+pub record Attaches (old new : RosterView) (info : ThreadInfo) (fresh : ThreadSitting) : Type 0 where
+  pub found : List Coming
+  pub hold : Holds old new found (Came (record { thread = record { 0 = threads_in found }; info = info; cell = fresh.cell }) ∷ [])
+  pub fresh_is : fresh.view ≡ newcomer (subject_of old.limits (record { 0 = threads_in found })) 0 (old.limits.envs + 1)
+
+-- a thread that was there was given back
+pub record Ends (old new : RosterView) (t : ThreadNo) : Type 0 where
+  pub found : List Coming
+  pub hold : Holds old new found (Ended t ∷ [])
+  pub there : is_live t found ≡ true
+
+-- it was not given back, for this reason
+pub record RefusesEnd (old new : RosterView) (t : ThreadNo) (e : TiError) : Type 0 where
+  pub looks : Looks old new
+  pub why : e ≡ end_refusal (roster_seen new) t
+
+-- why an environment takes no desks
+abbrev pub meeting_refusal : RosterView → TiError
+meeting_refusal v = if serves (roster_seen v) then OutOfMemory else InvalidEnvironment
+
+-- an environment came, at a place that was nobody's
+pub record Claimed (old new : RosterView) (e : EnvNo) : Type 0 where
+  pub found : List Coming
+  pub begins : Begins found old.seen
+  pub free : mark_of e found ≡ None
+  pub new_is : new ≡ record { limits = old.limits; seen = found ++ Attached e ∷ []; taken = old.taken + 1; holds = false; place = Some e }
+
+-- an environment took its desks at the threads that came since it last did, and are there
+pub record TakesDesks (old new : RosterView) (desks : List FreeState) (next : ℕ) : Type 0 where
+  pub env : EnvNo
+  pub place : old.place ≡ Some env
+  pub found : List Coming
+  pub hold : Holds old new found (Met env (threads_in found) ∷ [])
+  pub desks_are : desks ≡ left_desks (mark_of env found) old.limits env (live found)
+  pub next_is : next ≡ threads_in found

@@ -1,0 +1,25 @@
+//! One service for all threads and all agents of a runtime, which come and go.
+//!
+//! A runtime makes one `Service`, and shares it: each of its threads that attaches others has a handle of its own. A thread
+//! is attached under a number of its own and given back when it has ended. An agent attaches an environment, and meets
+//! the threads that came since it last did.
+//!
+//! This crate uses `ti_roster`, which has the list of who is there, and `ti_agent`, which has an environment's calls. It
+//! promises:
+//!
+//! - No two threads have one number, and none is used again.
+//! - An environment that meets the threads has a desk at each thread that came since it last did and is still there.
+//! - A desk at a thread is at the cell that the thread itself has, from the day it was attached.
+//! - No two agents have one environment's number.
+//! - The list of who is there is held for each coming, going and meeting, and never while a thread is asked.
+#![tactic(auto)]
+
+mod agent;
+mod lends;
+mod service;
+#[cfg(test)]
+mod tests;
+
+pub use agent::Agent;
+pub use service::Service;
+pub use ti_roster::ThreadInfo;

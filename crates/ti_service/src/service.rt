@@ -1,0 +1,319 @@
+//! A handle of the service: threads come and go by it, and tell who is there.
+
+use crate::agent::Agent;
+use std::alloc::Global;
+use std::marker::Model;
+use std::sync::Wait;
+use ti_agent::{Env, FreeDesk};
+use ti_cell::OwnerSeat;
+use ti_handshake::{Ended, Fresh};
+use ti_roster::{RosterSeat, SharedRoster, ThreadInfo};
+use ti_types::{EnvNo, Limits, ThreadNo, TiError};
+
+/// A handle of a service. A runtime makes one, and shares it with whoever attaches threads or environments. The service lives
+/// as long as one of its handles.
+///
+/// Contracts see it as the roster's cell, and what the handle knows: what has happened, as far as it has seen.
+///
+/// # Examples
+///
+/// ```rattle
+/// # use ti_service::{Service, ThreadInfo};
+/// # use ti_types::{Limits, ThreadNo, TiError};
+/// # let alloc = rt.alloc();
+/// # let limits = Limits::new(1, 2, 4, 16, 8).ok_or("the limits are in range")?;
+/// let mut service = Service::make(alloc, limits)?;
+/// let name = String::from_str(alloc, "first")?;
+/// let fresh = service.attach_thread(&rt, alloc, ThreadInfo { name, priority: 5 })?;
+/// // An environment may come later than a thread. It meets the threads that are there.
+/// let mut agent = service.attach_environment(&rt, alloc)?;
+/// agent.meet(&rt, alloc)?;
+/// let running = fresh.start(&rt);
+/// assert!(rt; agent.env().get_thread_state(&rt, ThreadNo(0)) == Ok(0x5));
+/// // A thread may come later than an environment, too. Its number is the next one.
+/// let name = String::from_str(alloc, "second")?;
+/// let late = service.attach_thread(&rt, alloc, ThreadInfo { name, priority: 5 })?;
+/// assert!(rt; agent.env().get_thread_state(&rt, ThreadNo(1)) == Err(TiError::InvalidThread));
+/// assert!(rt; agent.has_news());
+/// agent.meet(&rt, alloc)?;
+/// assert!(rt; agent.env().get_thread_state(&rt, ThreadNo(1)) == Ok(0));
+/// // A thread that has ended is given back, and is there no more.
+/// let Ok(()) = service.end_thread(&rt, running.end(&rt)) else {
+///     return Err("it is there".into());
+/// };
+/// let threads = service.get_all_threads(&rt, alloc)?;
+/// assert!(rt; threads.len() == 1 && threads[0] == ThreadNo(1));
+/// let info = agent.get_thread_info(&rt, alloc, ThreadNo(1))?;
+/// assert!(rt; info.name.as_str() == "second");
+/// let Ok(()) = service.withdraw_thread(&rt, late) else {
+///     return Err("it is there".into());
+/// };
+/// ```
+#[derive(Drop)]
+pub struct Service {
+    roster: SharedRoster,
+    /// `None` only while a call holds the roster.
+    seat: Option<RosterSeat>,
+}
+
+impl Model for Service {
+    ghost use Rattle.ti_service.specs.Service.{Member, IsThere, member_in};
+
+    ghost Value = { Member };
+
+    ghost view = { λ s. member_in s.roster s.seat };
+
+    ghost invariant = { λ s. IsThere s.roster s.seat };
+}
+
+impl Service {
+    /// Makes a service with nobody. Its threads have the depth and the window of these limits. At most `envs`
+    /// environments come to it. An environment has desks at 65,536 threads at most.
+    ///
+    /// 110 OUT_OF_MEMORY if there is no memory for it, and no other error (this profile).
+    pub fn make(alloc: Global, limits: Limits) -> Result<Service, TiError>
+        ensures new { IfOk result (λ s. s.view ≡ first_view limits) }
+        ensures memory { IfErr result (λ e. e ≡ OutOfMemory) }
+    {
+        let (roster, seat) = SharedRoster::make(alloc, limits)?;
+        Ok(Service {
+            roster,
+            seat: Some(seat),
+        })
+    }
+
+    /// One more handle. It knows what this one knows, and is no environment's. It takes no memory. The error is 110
+    /// OUT_OF_MEMORY if there are 2^63 handles already (this profile). Then nothing changes.
+    pub fn share(&mut self) -> Result<Service, TiError>
+        ensures same { self.new ≡ self.old }
+        ensures other { IfOk result (λ s. (s.cell ≡ self.old.cell) × (s.view ≡ split_off self.old.view)) }
+        ensures memory { IfErr result (λ e. e ≡ OutOfMemory) }
+    {
+        let roster = self.roster.share()?;
+        let Some(seat) = &mut self.seat else {
+            unreachable!()
+        };
+        let seat = self.roster.split(seat);
+        Ok(Service {
+            roster,
+            seat: Some(seat),
+        })
+    }
+
+    /// Whether something has happened that this handle has not seen. It is one load.
+    pub fn has_news(&mut self) -> bool
+        ensures same { self.new ≡ self.old }
+    {
+        let Some(seat) = &mut self.seat else {
+            unreachable!()
+        };
+        self.roster.count(seat) > seat.seen_len()
+    }
+
+    /// The limits of the service's threads and environments.
+    pub(crate) fn limits(&self) -> Limits
+        ensures { result ≡ self.now.view.limits }
+    {
+        let Some(seat) = &self.seat else {
+            unreachable!()
+        };
+        seat.limits()
+    }
+
+    /// A place for an environment, which is this handle's from now on.
+    fn claim<R: Wait>(&mut self, rt: &R) -> Result<EnvNo, TiError>
+        requires { self.old.view.place ≡ None }
+        ensures cell { self.new.cell ≡ self.old.cell }
+        ensures claimed { IfOk result (λ e. Claimed self.old.view self.new.view e) }
+        ensures memory { IfErr result (λ e. e ≡ OutOfMemory) }
+    {
+        let Some(seat) = self.seat.take() else {
+            unreachable!()
+        };
+        let mut hold = self.roster.hold(rt, seat);
+        let env = hold.roster().attach();
+        self.seat = Some(hold.store());
+        env
+    }
+
+    /// Attaches an environment. Its number is no other's while it is there. It has no capability, the word 0, and no desk
+    /// yet: it meets the threads by `Agent::meet`.
+    ///
+    /// 110 OUT_OF_MEMORY if there are as many environments as the limits allow, or 2^62 - 1 comings and goings in all, or
+    /// 2^63 handles (this profile). Then nothing changes.
+    pub fn attach_environment<R: Wait>(&mut self, rt: &R, alloc: Global) -> Result<Agent, TiError>
+        ensures same { self.new ≡ self.old }
+        ensures attached { IfOk result (λ a. IsNewAgent self.old a) }
+        ensures memory { IfErr result (λ e. e ≡ OutOfMemory) }
+    {
+        let mut service = self.share()?;
+        let env = service.claim(rt)?;
+        let env = Env::with_no_desks(alloc, env, service.limits());
+        let waiting = Vec::new(alloc);
+        Ok(Agent {
+            service,
+            env,
+            waiting,
+        })
+    }
+
+    /// The desks of this handle's environment at the threads that came since it last took them, and are there. With them
+    /// comes the number of all threads that came.
+    pub(crate) fn meet<R: Wait>(
+        &mut self,
+        rt: &R,
+        alloc: Global,
+    ) -> Result<(Vec<FreeDesk>, u32), TiError>
+        ensures cell { self.new.cell ≡ self.old.cell }
+        ensures taken { IfOk result (λ d. TakesDesks self.old.view self.new.view d.0.items d.1) }
+        ensures refused { IfErr result (λ e. e ≡ meeting_refusal self.new.view) }
+        ensures unchanged { OnErr result (Looks self.old.view self.new.view) }
+    {
+        let Some(seat) = self.seat.take() else {
+            unreachable!()
+        };
+        let mut hold = self.roster.hold(rt, seat);
+        let roster = hold.roster();
+        let next = roster.next();
+        let desks = roster.meet(alloc);
+        self.seat = Some(hold.store());
+        match desks {
+            Ok(desks) => Ok((desks, next)),
+            Err(error) => Err(error),
+        }
+    }
+
+    /// Attaches a thread. It has the next number, and has not started. Environments have a desk there once they meet it.
+    ///
+    /// 110 OUT_OF_MEMORY if there is no memory for the thread, or if there were 2^32 - 1 threads, or 2^62 - 1 comings and
+    /// goings in all (this profile). Then nothing changes but what the handle has seen.
+    pub fn attach_thread<R: Wait>(
+        &mut self,
+        rt: &R,
+        alloc: Global,
+        info: ThreadInfo,
+    ) -> Result<Fresh, TiError>
+        ensures cell { self.new.cell ≡ self.old.cell }
+        ensures attached { IfOk result (λ f. Attaches self.old.view self.new.view info f) }
+        ensures memory { IfErr result (λ e. e ≡ OutOfMemory) }
+        ensures unchanged { OnErr result (Looks self.old.view self.new.view) }
+    {
+        let Some(seat) = self.seat.take() else {
+            unreachable!()
+        };
+        let mut hold = self.roster.hold(rt, seat);
+        let fresh = hold.roster().come(alloc, info);
+        self.seat = Some(hold.store());
+        fresh
+    }
+
+    /// A thread of this number is there no more.
+    fn end<R: Wait>(&mut self, rt: &R, thread: ThreadNo) -> Result<(), TiError>
+        ensures cell { self.new.cell ≡ self.old.cell }
+        ensures gone { OnOk result (Ends self.old.view self.new.view thread) }
+        ensures refused { IfErr result (λ e. RefusesEnd self.old.view self.new.view thread e) }
+    {
+        let Some(seat) = self.seat.take() else {
+            unreachable!()
+        };
+        let mut hold = self.roster.hold(rt, seat);
+        let ended = hold.roster().end(thread);
+        self.seat = Some(hold.store());
+        ended
+    }
+
+    /// Gives a thread back that has ended. It is there no more, and its number is never used again. Its memory is freed
+    /// once the environments that have a desk there have let go of it.
+    ///
+    /// The error is the first of these that fits. Then nothing changes but what the handle has seen, and the thread's seat
+    /// comes back:
+    ///
+    /// - 10 INVALID_THREAD: the service has had no thread of this number.
+    /// - 15 THREAD_NOT_ALIVE: it was given back before.
+    /// - 110 OUT_OF_MEMORY: there were 2^62 - 1 comings and goings in all (this profile).
+    pub fn end_thread<R: Wait>(&mut self, rt: &R, ended: Ended) -> Result<(), (TiError, OwnerSeat)>
+        ensures cell { self.new.cell ≡ self.old.cell }
+        ensures gone { OnOk result (Ends self.old.view self.new.view ended.view.subject.thread) }
+        ensures refused { IfErr result (λ r. RefusesEnd self.old.view self.new.view ended.view.subject.thread r.0) }
+        ensures back { IfErr result (λ r. r.1 ≡ ended) }
+    {
+        let seat = ended.into_seat();
+        match self.end(rt, seat.thread()) {
+            Ok(()) => Ok(()),
+            Err(error) => Err((error, seat)),
+        }
+    }
+
+    /// Gives a thread back that never started. Everything else is as for `end_thread`.
+    pub fn withdraw_thread<R: Wait>(
+        &mut self,
+        rt: &R,
+        fresh: Fresh,
+    ) -> Result<(), (TiError, OwnerSeat)>
+        ensures cell { self.new.cell ≡ self.old.cell }
+        ensures gone { OnOk result (Ends self.old.view self.new.view fresh.view.subject.thread) }
+        ensures refused { IfErr result (λ r. RefusesEnd self.old.view self.new.view fresh.view.subject.thread r.0) }
+        ensures back { IfErr result (λ r. r.1 ≡ fresh) }
+    {
+        let seat = fresh.into_seat();
+        match self.end(rt, seat.thread()) {
+            Ok(()) => Ok(()),
+            Err(error) => Err((error, seat)),
+        }
+    }
+
+    /// GetAllThreads (JVM TI 11): the numbers of the threads that are there, each above those before it. A thread that was
+    /// attached and has not started is among them, and so is one that has ended and was not given back.
+    ///
+    /// 110 OUT_OF_MEMORY if there is no memory for them.
+    pub fn get_all_threads<R: Wait>(
+        &mut self,
+        rt: &R,
+        alloc: Global,
+    ) -> Result<Vec<ThreadNo>, TiError>
+        ensures cell { self.new.cell ≡ self.old.cell }
+        ensures hold { Looks self.old.view self.new.view }
+        ensures threads { IfOk result (λ t. t.items ≡ map (λ n. n.thread) (live self.new.view.seen)) }
+        ensures memory { IfErr result (λ e. e ≡ OutOfMemory) }
+    {
+        let Some(seat) = self.seat.take() else {
+            unreachable!()
+        };
+        let mut hold = self.roster.hold(rt, seat);
+        let threads = hold.roster().threads(alloc);
+        self.seat = Some(hold.store());
+        threads
+    }
+
+    /// GetThreadInfo (JVM TI 11): the name and the priority of a thread that is there, as they were when it was attached.
+    ///
+    /// Errors: 10 INVALID_THREAD, 15 THREAD_NOT_ALIVE if it was given back, 110 OUT_OF_MEMORY if there is no memory for the
+    /// name.
+    pub fn get_thread_info<R: Wait>(
+        &mut self,
+        rt: &R,
+        alloc: Global,
+        thread: ThreadNo,
+    ) -> Result<ThreadInfo, TiError>
+        ensures cell { self.new.cell ≡ self.old.cell }
+        ensures hold { Looks self.old.view self.new.view }
+        ensures told { IfOk result (λ i. IsToldOf (roster_seen self.new.view) thread i) }
+        ensures refused { IfErr result (λ e. e ≡ end_refusal (roster_seen self.new.view) thread) }
+    {
+        let Some(seat) = self.seat.take() else {
+            unreachable!()
+        };
+        let mut hold = self.roster.hold(rt, seat);
+        let info = hold.roster().info(alloc, thread);
+        self.seat = Some(hold.store());
+        info
+    }
+}
+
+ghost use Rattle.std.specs.Prelude.{◌≡◌, None, map, IfOk, IfErr, OnOk, OnErr};
+ghost use Rattle.ti_types.specs.declared.error.TiError.TheVariants.{OutOfMemory};
+ghost use Rattle.ti_roster.specs.View.{first_view, split_off};
+ghost use Rattle.ti_roster.specs.Log.{live};
+ghost use Rattle.ti_roster.specs.Roster.{IsToldOf, end_refusal};
+ghost use Rattle.ti_service.specs.Agent.{IsNewAgent};
+ghost use Rattle.ti_service.specs.Service.{Attaches, Claimed, Ends, Looks, RefusesEnd, TakesDesks, meeting_refusal, roster_seen};
