@@ -17,8 +17,6 @@
 mod agent;
 mod lends;
 mod service;
-#[cfg(test)]
-mod tests;
 
 pub use agent::Agent;
 pub use service::Service;

@@ -136,7 +136,7 @@ impl Service {
         env
     }
 
-    /// Attaches an environment. Its number is no other's while it is there. It has no capability, the word 0, and no desk
+    /// Attaches an environment. Its number was nobody's, and is never free again. It has no capability, the word 0, and no desk
     /// yet: it meets the threads by `Agent::meet`.
     ///
     /// 110 OUT_OF_MEMORY if there are as many environments as the limits allow, or 2^62 - 1 comings and goings in all, or
