@@ -2,7 +2,7 @@
 # `make examples`, `make cases`, `make bench` and `make refused` run the program that `make run` has built: on the examples,
 # on all cases, on large documents (and programs that hold cells and run threads), and with each allocation, each start of a
 # thread, each read and each write refused in turn (and the tests of a core so). `make stress` runs it on live documents that
-# are made up by chance. `make edits` tries the edits that the gate leaves out.
+# are made up by chance, and lets 10,000 threads come to a service and go. `make edits` tries the edits that the gate leaves out.
 # `make jvm` carries walks out on a Java VM and compares its answers with the program's lines. `make try` runs the program on all
 # examples without proving anything.
 .PHONY: run try test examples cases bench refused stress edits jvm
@@ -36,6 +36,7 @@ bench:
 	python3 bench/running.py
 	cd crates/tiprof && rt run -- --samples 0
 	python3 bench/profiling.py
+	cd crates/tichurn && rt run -- cost
 
 refused:
 	python3 ci/refused_memory.py
@@ -44,6 +45,7 @@ refused:
 
 stress:
 	python3 ci/stress.py
+	cd crates/tichurn && rt run -- 10000 200 64
 
 edits:
 	python3 ci/edits.py

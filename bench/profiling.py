@@ -3,12 +3,16 @@
 
     cd crates/tiprof && rt run -- --samples 0; cd ../..
     python3 bench/profiling.py [ROUNDS]
+    python3 bench/profiling.py --callgrind
 
 In each round one worker makes the same jobs at each rate, in both ways, in an order that changes from round to round. A
 line gives the processor time of a job, and how much more it is than in the same round's run with no samples: the median
 over the rounds, and between which values half of them lie. The aims are of handshakes, on four processors with nothing
 else to do. Last comes the peak of the memory of long runs, which has to be below 1.1 times that after a tenth. Otherwise
 the status is 1.
+
+With --callgrind it counts the worker's instructions by valgrind, which no other load changes: of a job, and how many more
+a sample takes. How many samples a job has at a rate comes from a run without valgrind.
 """
 
 import pathlib
@@ -16,6 +20,7 @@ import re
 import statistics
 import subprocess
 import sys
+import tempfile
 
 from usage import watch
 
@@ -26,16 +31,20 @@ JOBS = 100
 MANY = ("--threads", "64", "--samples", "200", "--interval", "1000")
 LONG = 3_600_000
 MOST = 1.1
+# under valgrind: as many rounds of the jobs, and the microseconds between two samples, some ten of which fall on a job
+COUNTED_JOBS = 10
+COUNTED_INTERVAL = 20_000
 SAID = re.compile(
     r"tiprof: (\d+) samples of \d+ threads in (\d+) ms; \d+ live threads seen, \d+ stacks folded; "
     r"(\d+) jobs, (\d+) us of processor"
 )
 
 
-def said(*arguments):
+def said(*arguments, before=()):
     """The numbers of a run's last line: samples, milliseconds, jobs, and microseconds of the processor."""
-    ended = subprocess.run((TIPROF, *arguments), capture_output=True, text=True, check=True)
-    return [int(number) for number in SAID.match(ended.stderr.splitlines()[-1]).groups()]
+    ended = subprocess.run((*before, TIPROF, *arguments), capture_output=True, text=True, check=True)
+    lines = [line for line in ended.stderr.splitlines() if line.startswith("tiprof: ")]
+    return [int(number) for number in SAID.match(lines[-1]).groups()]
 
 
 def job(way, rate):
@@ -99,7 +108,36 @@ def write_memory():
     return flat
 
 
+def counted(way, interval):
+    """The instructions of the worker, which is the thread with the most, its jobs, and the samples, by valgrind."""
+    with tempfile.TemporaryDirectory() as folder:
+        tool = ("valgrind", "--tool=callgrind", "--separate-threads=yes", f"--callgrind-out-file={folder}/out")
+        samples, _, jobs, _ = said(
+            "--threads", "1", "--jobs", str(COUNTED_JOBS), "--interval", str(interval), f"--{way}", before=tool
+        )
+        texts = (file.read_text() for file in pathlib.Path(folder).iterdir())
+        totals = [int(total) for text in texts for total in re.findall(r"^totals: (\d+)$", text, re.M)]
+    return max(totals), jobs, samples
+
+
+def write_instructions():
+    bare, jobs, _ = counted(WAYS[0], 60_000_000)
+    print(f"instructions of the worker, by valgrind: {bare / jobs:.0f} a job")
+    for way in WAYS:
+        instructions, _, samples = counted(way, COUNTED_INTERVAL)
+        each = (instructions - bare) / samples
+        print(f"  {way}: {each:.0f} more a sample ({samples} samples)")
+        for rate in RATES:
+            samples, _, native_jobs, _ = said(
+                "--threads", "1", "--jobs", str(JOBS), "--interval", str(1_000_000 // rate), f"--{way}"
+            )
+            print(f"    {rate:6} a second: {each * samples / native_jobs * jobs / bare * 100:+.3f} % of a job's")
+
+
 def main():
+    if sys.argv[1:] == ["--callgrind"]:
+        write_instructions()
+        return
     rounds = int(sys.argv[1]) if sys.argv[1:] else 12
     write_costs(rounds)
     write_many(min(rounds, 5))

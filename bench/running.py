@@ -5,7 +5,7 @@ A row says what was done, and for each number of environments that asked at once
 who did it: of the processor, and in brackets of the clock (the best of five runs by processor time). A thread takes 65,536
 steps and an environment 1,024 calls at a thread, so a run goes through 32 rounds of four new threads each; making them and
 starting threads of the operating system is no part of the time. `lasting` is one thread that may run as long as its
-process.
+process. So is the thread of `tenth_of_calls`, and that of `coming`: it is asked while other threads come and go.
 
 The next line is the time from a resumption to the suspended thread's next step, of the clock: the environment notes the
 clock before it resumes the thread, which has slept for about a millisecond, and the thread notes it after its step.
@@ -39,6 +39,8 @@ ROWS = (
     ("running", ("1", "2", "4"), "count, running thread that polls"),
     ("all", ("1", "2", "4"), "all stacks of 4 parked threads"),
     ("beside", ("0", "1", "2", "4"), "a step and a poll beside an asked thread"),
+    ("tenth_of_calls", ("1",), "one state of 10,000,000, parked thread"),
+    ("coming", ("1",), "the same while other threads come and go"),
     ("suspended", ("1",), "a suspension of 2 seconds"),
     ("unpolled", ("1",), "a count, no poll for 2 seconds"),
 )

@@ -23,7 +23,7 @@ SPECS = {
 
 # what no document leads to: no cell is in use where all its users are done, no live run gives an illegal history, a
 # capability cannot be had, no event names an environment that is not there, where a trace alone is refused for memory
-# depends on the machine, and no document gives a call a deadline
+# depends on the machine, and no document gives a call a deadline or calls by a form that never waits
 NOT_REACHED = {
     ("faults", "cell"),
     ("live texts", " illegal "),
@@ -31,6 +31,7 @@ NOT_REACHED = {
     ("errors", "116"),
     ("errors", "110"),
     ("errors", "214"),
+    ("errors", "215"),
 }
 
 KINDS = ("monitor", "wait", "timed_wait", "sleep", "park", "timed_park")

@@ -32,7 +32,7 @@ TYPES = {
     "ti_core": ("Core",),
     "ti_env": ("EnvState",),
     "ti_handshake": ("AtSafe", "Desk", "Fresh", "Running", "SharedCell"),
-    "ti_service": ("Service",),
+    "ti_service": ("Agent", "Service"),
     "ti_slot": ("Slot",),
 }
 # A line of a doc comment: its marks, and its text.

@@ -7,3 +7,6 @@ pub mod Tracing
 pub mod Cells
 pub mod InTime
 pub mod Places
+pub mod Clearing
+pub mod Tried
+pub mod Emptying

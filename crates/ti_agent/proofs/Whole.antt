@@ -156,7 +156,7 @@ set_same (x ∷ xs) zero v h = refl
 set_same (x ∷ xs) (suc i) v h = set_same xs i v (omega (arith, h))
 
 -- a call stops nobody
-stops_call : (env : EnvNo) (mine : List Entry) (n : ℕ) (c : Call) → stops_by env (mine ++ Asked env n c ∷ []) ≡ stops_by env mine
+pub stops_call : (env : EnvNo) (mine : List Entry) (n : ℕ) (c : Call) → stops_by env (mine ++ Asked env n c ∷ []) ≡ stops_by env mine
 stops_call env mine n c = fold-append (stops_after env) false mine (Asked env n c ∷ [])
 
 -- the environment after a call

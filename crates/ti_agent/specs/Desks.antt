@@ -7,7 +7,8 @@ use Rattle.ti_types.specs.declared.numbers.ThreadNo.{ThreadNo}
 use Rattle.ti_types.specs.Refusing.{or_else, unless}
 use Rattle.ti_env.specs.Env.{spent_at, with_place, without_place, with_known}
 use Rattle.ti_agent.specs.Env.{Environment, place_in, place_of}
-use Rattle.ti_agent.specs.FreeDesk.{FreeState}
+use Rattle.ti_handshake.specs.Desk.{DeskState}
+use Rattle.ti_agent.specs.FreeDesk.{FreeState, IsClean, clearing}
 
 -- whether a number was no thread's before: it is not below `known`, and above those of all desks
 abbrev pub is_new : Environment → ThreadNo → Bool
@@ -33,5 +34,21 @@ pub record IsTaken (old new : Environment) (t : ThreadNo) (f : FreeState) : Type
   pub there : slice_get old.desks (place_in old.desks t) ≡ Some f.desk
   pub about : f.desk.view.subject.thread ≡ t
   pub spent : f.spent ≡ spent_at old.state (place_of old.desks t)
+  pub gone : place_in new.desks t ≡ length new.desks
+  pub new_is : new ≡ without_desk old t
+
+-- The desk at a thread left, and nothing is left there of what the environment did. To set the word to 0 was its last call.
+-- Nothing else changed, but that the number was a thread once
+pub record IsCleared (old new : Environment) (t : ThreadNo) (f : FreeState) : Type 0 where
+  pub before : DeskState
+  pub there : slice_get old.desks (place_in old.desks t) ≡ Some before
+  pub about : before.view.subject.thread ≡ t
+  pub cell : f.desk.cell ≡ before.cell
+  pub env : f.desk.env ≡ old.env
+  pub limits : f.desk.view.subject.limits ≡ old.state.limits
+  pub thread : f.desk.view.subject.thread ≡ t
+  pub mine : f.desk.view.mine ≡ before.view.mine ++ clearing (record { desk = before; spent = spent_at old.state (place_of old.desks t) })
+  pub spent : f.spent ≡ spent_at old.state (place_of old.desks t) + length (clearing (record { desk = before; spent = spent_at old.state (place_of old.desks t) }))
+  pub clean : IsClean f
   pub gone : place_in new.desks t ≡ length new.desks
   pub new_is : new ≡ without_desk old t

@@ -3,6 +3,8 @@ use Rattle.std.specs.Prelude.{ℕ, zero, suc, ◌≡◌, ◌+◌, ◌-◌, ◌<�
 use Rattle.atomic_table.specs.Seated.{TableId}
 use Rattle.ti_types.specs.declared.numbers.EnvNo.{EnvNo}
 use Rattle.ti_types.specs.declared.numbers.ThreadNo.{ThreadNo}
+use Rattle.ti_types.specs.declared.caps.Caps.{Caps}
+use Rattle.ti_types.specs.Caps.{caps_with}
 use Rattle.ti_types.specs.declared.call.Call.{Call}
 use Rattle.ti_types.specs.declared.error.TiError.{TiError}
 use Rattle.ti_types.specs.declared.error.TiError.TheVariants.{InvalidThread, ThreadNotAlive}
@@ -97,3 +99,7 @@ AreNewDesks env state desks =
 -- the cells of the threads, in the order of their places
 abbrev pub cells_at : List DeskState → List TableId
 cells_at desks = map (λ p. p.cell) desks
+
+-- the capabilities that can be had
+abbrev pub potential_caps : Caps
+potential_caps = caps_with (record { bits = 1 }) (record { bits = 2 })

@@ -1,8 +1,15 @@
 -- A desk that no environment has.
-use Rattle.std.specs.Prelude.{ℕ, ◌≡◌, ◌+◌, ◌-◌, ◌≤◌, false, length}
+use Rattle.std.specs.Prelude.{ℕ, ◌≡◌, ◌+◌, ◌-◌, ◌≤◌, ◌++◌, ◌==◌, nat_lt, Bool, true, false, if◌then◌else◌, List, [], ◌∷◌, length}
+use Rattle.std.specs.List.{fold}
+use Rattle.ti_types.specs.declared.call.Call.TheVariants.{SetWord}
+use Rattle.ti_types.specs.declared.entry.Entry.{Entry}
+use Rattle.ti_types.specs.declared.entry.Entry.TheVariants.{Asked}
+use Rattle.ti_types.specs.declared.event.Ticket.{Ticket}
+use Rattle.ti_types.specs.declared.numbers.EnvNo.{EnvNo}
+use Rattle.ti_handshake.specs.Call.{next_call}
 use Rattle.ti_replay.specs.Legal.{calls_spent}
 use Rattle.ti_replay.specs.Fronts.{stops_by}
-use Rattle.ti_handshake.specs.Desk.{DeskState}
+use Rattle.ti_handshake.specs.Desk.{DeskState, is_out}
 
 -- the desk, and how many calls are spent there
 pub record FreeState : Type 0 where
@@ -15,3 +22,37 @@ pub record IsFree (f : FreeState) : Type 0 where
   pub free : stops_by f.desk.env f.desk.view.mine ≡ false
   pub paid : f.desk.view.subject.limits.calls - f.spent + calls_spent f.desk.env f.desk.view.mine ≤ f.desk.view.subject.limits.calls
   pub within : length f.desk.view.posted ≤ f.desk.view.subject.limits.window
+
+-- the word that an environment asked last to set, after an entry
+abbrev pub word_after : EnvNo → ℕ → Entry → ℕ
+word_after env word (Asked other number (SetWord w)) = if other.0 == env.0 then w else word
+word_after env word _ = word
+
+-- the same after all of these; 0 if it asked for none
+abbrev pub word_asked : EnvNo → List Entry → ℕ
+word_asked env mine = fold (word_after env) 0 mine
+
+-- whether a call is left at a thread
+abbrev pub has_left : FreeState → Bool
+has_left f = nat_lt f.spent f.desk.view.subject.limits.calls
+
+-- Nothing is left of what an environment did at the desk. All of its calls that are out are given up. The last word that was
+-- set is 0, if a call is left to read it
+pub record IsClean (f : FreeState) : Type 0 where
+  pub none_out : (k : Ticket) → is_out f.desk k ≡ false
+  pub no_word : has_left f ≡ true → word_asked f.desk.env f.desk.view.mine ≡ 0
+
+-- the call that sets the word to 0, if one is left
+abbrev pub clearing : FreeState → List Entry
+clearing f = if has_left f then next_call f.desk.view f.desk.env (SetWord 0) ∷ [] else []
+
+-- the word was set to 0, if a call was left
+pub record ClearsWord (old new : FreeState) : Type 0 where
+  pub cell : new.desk.cell ≡ old.desk.cell
+  pub env : new.desk.env ≡ old.desk.env
+  pub subject : new.desk.view.subject ≡ old.desk.view.subject
+  pub posted : new.desk.view.posted ≡ old.desk.view.posted
+  pub cancelled : new.desk.cancelled ≡ old.desk.cancelled
+  pub mine : new.desk.view.mine ≡ old.desk.view.mine ++ clearing old
+  pub spent : new.spent ≡ old.spent + length (clearing old)
+  pub no_word : has_left new ≡ true → word_asked new.desk.env new.desk.view.mine ≡ 0

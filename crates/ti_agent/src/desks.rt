@@ -3,6 +3,7 @@
 use crate::env::Env;
 use crate::free_desk::FreeDesk;
 use std::alloc::Global;
+use std::sync::Wait;
 use ti_env::EnvState;
 use ti_types::{EnvNo, Limits, ThreadNo, TiError};
 
@@ -136,6 +137,37 @@ impl Env {
         Some(FreeDesk { desk, spent })
     }
 
+    /// Takes the desk at a thread out of the environment, as `take_desk` does, and leaves nothing there of what the
+    /// environment did (JVM TI 11, DisposeEnvironment). Its calls that are out are given up, and each still takes place when
+    /// the thread reaches it. Its word is 0 again, if a call is left there: that costs one.
+    ///
+    /// `None` if there is no desk at a thread of this number. The error is 110 OUT_OF_MEMORY if there is no memory to note
+    /// the calls that are given up. Then nothing changes.
+    pub fn clear_desk<R: Wait>(
+        &mut self,
+        rt: &R,
+        alloc: Global,
+        thread: ThreadNo,
+    ) -> Result<Option<FreeDesk>, TiError>
+        ensures cleared { IfOk result (λ r. IfSome r (λ f. IsCleared self.old self.new thread f)) }
+        ensures nobody { IfOk result (λ r. IfNone r (length self.old.desks ≤ place_in self.old.desks thread)) }
+        ensures same { IfOk result (λ r. IfNone r (self.new ≡ self.old)) }
+        ensures memory { IfErr result (λ e. e ≡ OutOfMemory) }
+        ensures unchanged { OnErr result (self.new ≡ self.old) }
+    {
+        let at = self.place_of(thread).0 as usize;
+        if at >= self.desks.len() {
+            return Ok(None);
+        }
+        self.desks[at].cancel_all(rt, alloc)?;
+        let calls = self.state.limits().calls;
+        let Some(mut free) = self.take_desk(thread) else {
+            unreachable!()
+        };
+        free.clear_word(rt, calls);
+        Ok(Some(free))
+    }
+
     /// Notes that the numbers below this one were threads once (this profile). So a call at one of them that has no desk is
     /// answered 15 THREAD_NOT_ALIVE, and not 10 INVALID_THREAD. What is known already stays known.
     pub fn know_threads(&mut self, below: u64)
@@ -145,9 +177,9 @@ impl Env {
     }
 }
 
-ghost use Rattle.std.specs.Prelude.{◌≡◌, ◌<◌, ◌≤◌, [], length, None, Some, IfSome, IfNone, IfErr, OnOk, OnErr};
+ghost use Rattle.std.specs.Prelude.{◌≡◌, ◌<◌, ◌≤◌, [], length, None, Some, IfSome, IfNone, IfOk, IfErr, OnOk, OnErr};
 ghost use Rattle.ti_types.specs.Refusing.{or_else};
 ghost use Rattle.ti_types.specs.declared.error.TiError.TheVariants.{OutOfMemory};
 ghost use Rattle.ti_env.specs.Env.{env_at_no_thread, with_known};
 ghost use Rattle.ti_agent.specs.Env.{outstanding, place_in, thread_at};
-ghost use Rattle.ti_agent.specs.Desks.{desk_refusal, is_new, with_desk, IsTaken};
+ghost use Rattle.ti_agent.specs.Desks.{desk_refusal, is_new, with_desk, IsCleared, IsTaken};

@@ -377,6 +377,14 @@ impl Env {
         Ok(())
     }
 
+    /// GetPotentialCapabilities (JVM TI 11): the capabilities that can be had: `can_suspend` and `can_pop_frame`. It has no
+    /// error.
+    pub fn get_potential_capabilities(&self) -> Result<Caps, TiError>
+        ensures { result ≡ Ok potential_caps }
+    {
+        Ok(Caps::CAN_SUSPEND.add(Caps::CAN_POP_FRAME))
+    }
+
     /// GetCapabilities (JVM TI 11): the capabilities that the environment has. It has no error.
     pub fn get_capabilities(&self) -> Result<Caps, TiError>
         ensures { result ≡ Ok self.now.state.caps }
@@ -394,6 +402,6 @@ ghost use Rattle.ti_env.specs.Env.{with_caps, with_word};
 ghost use Rattle.ti_replay.specs.Admission.{takes_buffer};
 ghost use Rattle.ti_replay.specs.Settling.{waits};
 ghost use Rattle.ti_agent.specs.Buffers.{IsJustBufferOf};
-ghost use Rattle.ti_agent.specs.Env.{Environment, AreNewDesks, place_in, place_of, thread_refusal, told_as, is_full};
+ghost use Rattle.ti_agent.specs.Env.{Environment, AreNewDesks, place_in, place_of, potential_caps, thread_refusal, told_as, is_full};
 ghost use Rattle.ti_agent.specs.Posts.{Posts};
 ghost use Rattle.ti_agent.specs.Asks.{Went, IsCalled, IsKind, is_for_memory, in_state, in_count, in_word, in_location, in_trace, in_done};

@@ -1,8 +1,9 @@
 //! A desk that no environment has.
 
 use std::marker::Model;
+use std::sync::Wait;
 use ti_handshake::Desk;
-use ti_types::{EnvNo, ThreadNo, TiError};
+use ti_types::{Call, EnvNo, ThreadNo, TiError, TraceBuf};
 
 /// A desk that no environment has, with how many calls are spent there (this profile). It goes to an environment of its
 /// number by `Env::add_desk`, and comes back by `Env::take_desk`. So the next environment of this number has what is left.
@@ -59,6 +60,19 @@ impl FreeDesk {
         self.desk.facts();
     }
 
+    /// Sets the environment's word at the thread to 0 by one call there, if a call is left. `calls` is how many there may be
+    /// in all.
+    pub(crate) fn clear_word<R: Wait>(&mut self, rt: &R, calls: u64)
+        requires { calls ≡ self.old.desk.view.subject.limits.calls }
+        ensures { ClearsWord self.old self.new }
+    {
+        if self.spent >= calls {
+            return;
+        }
+        let _done = self.desk.call(rt, Call::SetWord(0), TraceBuf::none());
+        self.spent += 1;
+    }
+
     /// The number of the environments whose desk it may be.
     pub fn env(&self) -> EnvNo
         ensures { result ≡ self.now.desk.env }
@@ -86,4 +100,4 @@ ghost use Rattle.ti_types.specs.declared.error.TiError.TheVariants.{IllegalArgum
 ghost use Rattle.ti_replay.specs.Legal.{is_legal};
 ghost use Rattle.ti_replay.specs.Makers.{made_by};
 ghost use Rattle.ti_handshake.specs.Cancelled.{AreGivenUp};
-ghost use Rattle.ti_agent.specs.FreeDesk.{IsFree};
+ghost use Rattle.ti_agent.specs.FreeDesk.{ClearsWord, IsFree};

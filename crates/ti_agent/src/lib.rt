@@ -7,6 +7,7 @@
 //! - Any other call adds its one entry at the desk of its thread, and spends one call there. Its answer is the desk's.
 //! - A trace of several threads stops each of them before it reads the first. It lets none go before it has read the last.
 //! - Such a trace takes all of its memory before any stop.
+//! - A call that takes no runtime never waits. If it finds its thread's cell in use, nothing changes.
 //! - Desks come and go with their threads. What was spent at a desk goes with it.
 #![tactic(auto)]
 
@@ -19,6 +20,7 @@ mod lists;
 mod posts;
 mod thread_counts;
 mod traces;
+mod tries;
 
 pub use env::Env;
 pub use free_desk::FreeDesk;

@@ -22,7 +22,7 @@ use Rattle.ti_handshake.specs.Seated.{IsThere, place_in}
 
 -- tickets
 
-same_is : (a b : Ticket) → same a b ≡ true → a ≡ b
+pub same_is : (a b : Ticket) → same a b ≡ true → a ≡ b
 same_is a b h =
     let no : a.no ≡ b.no = grind (arith, nat_tests, h) in
     let env : a.env.0 ≡ b.env.0 = grind (arith, nat_tests, h) in
@@ -32,13 +32,13 @@ same_is a b h =
 same_self : (a : Ticket) → same a a ≡ true
 same_self a = grind (arith, nat_tests)
 
-has_last : (k : Ticket) (ts : List Ticket) → has k (ts ++ k ∷ []) ≡ true
+pub has_last : (k : Ticket) (ts : List Ticket) → has k (ts ++ k ∷ []) ≡ true
 has_last k ts = list_any-append (λ (u : Ticket). same u k) ts (k ∷ []) ∙ (let e = same_self k in grind (arith, e))
 
-has_more : (k : Ticket) (ts us : List Ticket) → has k ts ≡ true → has k (ts ++ us) ≡ true
+pub has_more : (k : Ticket) (ts us : List Ticket) → has k ts ≡ true → has k (ts ++ us) ≡ true
 has_more k ts us h = list_any-append (λ (u : Ticket). same u k) ts us ∙ grind (arith, h)
 
-has_without : (j k : Ticket) (ts : List Ticket) → same j k ≡ false → has j (without_ticket k ts) ≡ has j ts
+pub has_without : (j k : Ticket) (ts : List Ticket) → same j k ≡ false → has j (without_ticket k ts) ≡ has j ts
 has_without j k [] h = refl
 has_without j k (u ∷ ts) h =
     elim (cases_Bool (same u k)) [
@@ -50,7 +50,7 @@ has_without j k (u ∷ ts) h =
     ]
 
 -- a ticket that is here and another that is not are two
-apart : (j k : Ticket) (ts : List Ticket) → has j ts ≡ true → has k ts ≡ false → same j k ≡ false
+pub apart : (j k : Ticket) (ts : List Ticket) → has j ts ≡ true → has k ts ≡ false → same j k ≡ false
 apart j k ts h n =
     elim (cases_Bool (same j k)) [
       | inr e ↦ e

@@ -99,7 +99,7 @@ stores s h n m w more k store is legal whole =
     held s.view w n m.history more m.uncollected k.taken (store_is s h n w m.history m.uncollected k store) (ap (λ (t : Thread). t.history) is) (ap (λ (t : Thread). t.uncollected) is) legal whole
 
 -- the history that it found is the slot's
-finds : (s : Sitting) (h : Holding) (n m : Thread) (w : View) (more : List Entry) → Owns s h n → w ≡ stored h.view m.history m.uncollected → m ≡ with_more n more → found s.view w ≡ n.history
+pub finds : (s : Sitting) (h : Holding) (n m : Thread) (w : View) (more : List Entry) → Owns s h n → w ≡ stored h.view m.history m.uncollected → m ≡ with_more n more → found s.view w ≡ n.history
 finds s h n m w more k store is = found_held s.view w n m.history more m.uncollected (store_is s h n w m.history m.uncollected k store) (ap (λ (t : Thread). t.history) is)
 
 -- what is refused of the slot is refused at the history that was found

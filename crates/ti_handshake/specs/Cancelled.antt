@@ -1,5 +1,5 @@
 -- Calls that were given up.
-use Rattle.std.specs.Prelude.{ℕ, ◌≡◌, true, List, [], Option, Some, None, vec_capacity}
+use Rattle.std.specs.Prelude.{ℕ, ◌≡◌, ◌++◌, true, List, [], Option, Some, None, vec_capacity}
 use Rattle.std.specs.Global.{Vec}
 use Rattle.ti_types.specs.declared.event.Ticket.{Ticket}
 use Rattle.ti_slot.specs.Tickets.{has, AreOnce}
@@ -17,3 +17,10 @@ given_in (Some v) = record { tickets = v.items; room = vec_capacity v }
 pub record AreGivenUp (cancelled posted : List Ticket) : Type 0 where
   pub once : AreOnce cancelled
   pub out : (k : Ticket) → has k cancelled ≡ true → has k posted ≡ true
+
+-- all that are out were added, behind those that were given up before
+pub record AddsAll (posted old new : List Ticket) : Type 0 where
+  pub more : List Ticket
+  pub behind : new ≡ old ++ more
+  pub given : AreGivenUp new posted
+  pub all : (k : Ticket) → has k posted ≡ true → has k new ≡ true

@@ -65,6 +65,12 @@ Discards old new thrown = DiscardsOf old.cancelled old new thrown
 abbrev pub with_cancelled : DeskState → List Ticket → DeskState
 with_cancelled p tickets = record p { cancelled = tickets }
 
+-- all calls that were out are given up, behind those that were given up before
+pub record CancelsAll (old new : DeskState) : Type 0 where
+  pub more : List Ticket
+  pub behind : new.cancelled ≡ old.cancelled ++ more
+  pub none_out : (k : Ticket) → is_out new k ≡ false
+
 -- a call that was asked, and was answered
 pub record IsAnsweredAt (old new : DeskState) (call : Call) (answer : Answer) : Type 0 where
   pub posted : new.view.posted ≡ old.view.posted

@@ -47,25 +47,26 @@ impl Cancelled {
         }
     }
 
-    /// Makes room for one more ticket. The tickets stay as they are. The error is 110 OUT_OF_MEMORY if there is no memory
-    /// for it.
-    pub fn reserve(&mut self, alloc: Global) -> Result<(), TiError>
+    /// Makes room for so many more tickets. The tickets stay as they are. The error is 110 OUT_OF_MEMORY if there is no
+    /// memory for it.
+    pub fn reserve(&mut self, alloc: Global, more: usize) -> Result<(), TiError>
         ensures tickets { self.new.tickets ≡ self.old.tickets }
-        ensures room { OnOk result (length self.new.tickets < self.new.room) }
+        ensures room { OnOk result (length self.new.tickets + more ≤ self.new.room) }
         ensures memory { IfErr result (λ e. e ≡ OutOfMemory) }
     {
         if let Some(tickets) = &mut self.tickets {
-            tickets.reserve(1)?;
+            tickets.reserve(more)?;
             return Ok(());
         }
-        self.tickets = Some(Vec::with_capacity(alloc, 4)?);
+        self.tickets = Some(Vec::with_capacity(alloc, more.max(4))?);
         Ok(())
     }
 
     /// Adds a ticket at the end. There has to be room for it.
     pub fn add(&mut self, ticket: Ticket)
         requires { length self.old.tickets < self.old.room }
-        ensures { self.new.tickets ≡ self.old.tickets ++ ticket ∷ [] }
+        ensures tickets { self.new.tickets ≡ self.old.tickets ++ ticket ∷ [] }
+        ensures room { self.new.room ≡ self.old.room }
     {
         match &mut self.tickets {
             None => unreachable!(),
@@ -94,6 +95,6 @@ fn is_same(a: Ticket, b: Ticket) -> bool
     a.no == b.no && a.env.0 == b.env.0 && a.thread.0 == b.thread.0
 }
 
-ghost use Rattle.std.specs.Prelude.{◌≡◌, ◌<◌, [], ◌∷◌, ◌++◌, length, drop, slice_get, IfErr, OnOk};
+ghost use Rattle.std.specs.Prelude.{◌≡◌, ◌<◌, ◌≤◌, ◌+◌, [], ◌∷◌, ◌++◌, length, drop, slice_get, IfErr, OnOk};
 ghost use Rattle.ti_types.specs.declared.error.TiError.TheVariants.{OutOfMemory};
 ghost use Rattle.ti_slot.specs.Tickets.{same, has};

@@ -328,14 +328,14 @@ impl Desk {
 }
 
 /// Whether the ticket is this environment's, and is out.
-fn is_own_out(slot: &Slot, env: EnvNo, ticket: Ticket) -> bool
+pub(crate) fn is_own_out(slot: &Slot, env: EnvNo, ticket: Ticket) -> bool
     ensures { result ≡ (ticket.env.0 == env.0 && has ticket slot.now.uncollected) }
 {
     ticket.env.0 == env.0 && slot.is_out(ticket)
 }
 
 /// Collects the answer to a ticket of this environment. The answer to another environment's ticket is left where it is.
-fn collect_own(slot: &mut Slot, env: EnvNo, ticket: Ticket) -> Option<Answer>
+pub(crate) fn collect_own(slot: &mut Slot, env: EnvNo, ticket: Ticket) -> Option<Answer>
     ensures answer { option_map said result ≡ (if ticket.env.0 == env.0 && has ticket slot.old.uncollected then reply_to slot.old.limits slot.old.history ticket else None) }
     ensures thread { slot.new ≡ with_tickets slot.old (if is_some result then without_ticket ticket slot.old.uncollected else slot.old.uncollected) }
 {

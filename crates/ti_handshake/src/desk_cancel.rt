@@ -7,19 +7,19 @@ use std::mem;
 use std::rt::Clock;
 use std::sync::Wait;
 use std::time::Duration;
-use ti_slot::Asked;
-use ti_types::{Answer, Call, TiError, Ticket, TraceBuf};
+use ti_slot::{Asked, Slot};
+use ti_types::{Answer, Call, EnvNo, TiError, Ticket, TraceBuf};
 
 impl Desk {
     /// The ticket of the call that was given up first. `None` if none was given up.
-    fn first_cancelled(&self) -> Option<Ticket>
+    pub(crate) fn first_cancelled(&self) -> Option<Ticket>
         ensures { result ≡ slice_get self.now.cancelled 0 }
     {
         self.cancelled.first()
     }
 
     /// Takes the list of calls that were given up out of the desk, until `put_cancelled` puts it back.
-    fn take_cancelled(&mut self) -> Cancelled
+    pub(crate) fn take_cancelled(&mut self) -> Cancelled
         ensures tickets { result.tickets ≡ self.old.cancelled }
         ensures given { AreGivenUp result.tickets self.old.view.posted }
         ensures none { self.new ≡ with_cancelled self.old [] }
@@ -28,7 +28,7 @@ impl Desk {
     }
 
     /// Puts a list of calls that were given up in place of the desk's own. Each of them is out.
-    fn put_cancelled(&mut self, cancelled: Cancelled)
+    pub(crate) fn put_cancelled(&mut self, cancelled: Cancelled)
         requires { AreGivenUp cancelled.tickets self.old.view.posted }
         ensures { self.new ≡ with_cancelled self.old cancelled.tickets }
     {
@@ -49,7 +49,7 @@ impl Desk {
         ensures unchanged { OnErr result (self.new ≡ self.old) }
     {
         let mut cancelled = self.take_cancelled();
-        if let Err(error) = cancelled.reserve(alloc) {
+        if let Err(error) = cancelled.reserve(alloc, 1) {
             self.put_cancelled(cancelled);
             return Err(error);
         }
@@ -58,6 +58,43 @@ impl Desk {
         }
         self.put_cancelled(cancelled);
         Ok(())
+    }
+
+    /// Gives up all calls of the desk that are out, in one hold. Each of them still takes place when the thread reaches it.
+    ///
+    /// The error is 110 OUT_OF_MEMORY if there is no memory to note the tickets. Then nothing changes.
+    pub fn cancel_all<R: Wait>(&mut self, rt: &R, alloc: Global) -> Result<(), TiError>
+        ensures here { (self.new.cell ≡ self.old.cell) × (self.new.env ≡ self.old.env) }
+        ensures hold { OnOk result (Holds self.old.view self.new.view []) }
+        ensures cancelled { OnOk result (CancelsAll self.old self.new) }
+        ensures memory { IfErr result (λ e. e ≡ OutOfMemory) }
+        ensures unchanged { OnErr result (self.new ≡ self.old) }
+    {
+        let out = self.out();
+        let mut cancelled = self.take_cancelled();
+        if let Err(error) = cancelled.reserve(alloc, out as usize) {
+            self.put_cancelled(cancelled);
+            return Err(error);
+        }
+        self.add_out(rt, &mut cancelled);
+        self.put_cancelled(cancelled);
+        Ok(())
+    }
+
+    /// Adds the tickets of all calls that are out to a list of some of them, in one hold. There is room for all.
+    fn add_out<R: Wait>(&mut self, rt: &R, cancelled: &mut Cancelled)
+        requires given { AreGivenUp cancelled.old.tickets self.old.view.posted }
+        requires room { length self.old.view.posted ≤ cancelled.old.room }
+        ensures same { IsSame self.old self.new }
+        ensures hold { Holds self.old.view self.new.view [] }
+        ensures added { AddsAll self.old.view.posted cancelled.old.tickets cancelled.new.tickets }
+    {
+        let Some(seat) = self.seat.take() else {
+            unreachable!()
+        };
+        let mut hold = self.cell.hold(rt, seat);
+        add_own_out(hold.slot(), self.env, cancelled);
+        self.seat = Some(hold.store());
     }
 
     /// Looks in one hold for the answer to the call that was given up first. If it is there, it is thrown away, and the call
@@ -131,7 +168,7 @@ impl Desk {
         ensures unchanged { OnErr result (self.new ≡ self.old) }
     {
         let mut cancelled = self.take_cancelled();
-        if let Err(error) = cancelled.reserve(alloc) {
+        if let Err(error) = cancelled.reserve(alloc, 1) {
             self.put_cancelled(cancelled);
             return Err(error);
         }
@@ -149,13 +186,35 @@ impl Desk {
     }
 }
 
-ghost use Rattle.std.specs.Prelude.{◌≡◌, ◌<◌, ◌≤◌, ◌++◌, ◌∷◌, [], true, length, if◌then◌else◌, slice_get, IfOk, IfErr, OnOk, OnErr, MatchResult};
+/// Adds the tickets of all of an environment's calls that are out to a list of some of them. There is room for all.
+pub(crate) fn add_own_out(slot: &Slot, env: EnvNo, cancelled: &mut Cancelled)
+    requires given { AreGivenUp cancelled.old.tickets (tickets_of (env.0 + 1) slot.now.uncollected) }
+    requires room { length (tickets_of (env.0 + 1) slot.now.uncollected) ≤ cancelled.old.room }
+    ensures { AddsAll (tickets_of (env.0 + 1) slot.now.uncollected) cancelled.old.tickets cancelled.new.tickets }
+{
+    slot.tickets();
+    // The number of a call is below the number of entries.
+    let entries = slot.len() as u64;
+    let mut from = 0;
+    while from < entries {
+        let Some(ticket) = slot.next_out(env, from) else {
+            return;
+        };
+        if !cancelled.has(ticket) {
+            cancelled.add(ticket);
+        }
+        from = ticket.no + 1;
+    }
+}
+
+ghost use Rattle.std.specs.Prelude.{◌≡◌, ◌<◌, ◌≤◌, ◌+◌, ◌++◌, ◌∷◌, [], true, length, if◌then◌else◌, slice_get, IfOk, IfErr, OnOk, OnErr, MatchResult};
 ghost use Rattle.std.specs.Option.{option_map};
 ghost use Rattle.ti_types.specs.Answer.{said};
 ghost use Rattle.ti_types.specs.declared.error.TiError.TheVariants.{OutOfMemory};
 ghost use Rattle.ti_replay.specs.Legal.{calls_spent, is_well_formed};
 ghost use Rattle.ti_replay.specs.Settling.{waits};
 ghost use Rattle.ti_slot.specs.Waiting.{IsBufferOf};
+ghost use Rattle.ti_cell.specs.View.{tickets_of};
 ghost use Rattle.ti_handshake.specs.Call.{GoesOn, Holds, next_call};
-ghost use Rattle.ti_handshake.specs.Cancelled.{AreGivenUp};
-ghost use Rattle.ti_handshake.specs.Desk.{Discards, IsAnsweredAt, IsInTime, IsLeft, IsSame, is_out, with_cancelled};
+ghost use Rattle.ti_handshake.specs.Cancelled.{AddsAll, AreGivenUp};
+ghost use Rattle.ti_handshake.specs.Desk.{CancelsAll, Discards, IsAnsweredAt, IsInTime, IsLeft, IsSame, is_out, with_cancelled};

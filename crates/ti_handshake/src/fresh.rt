@@ -7,7 +7,7 @@ use crate::waits::await_unbarred;
 use std::marker::Model;
 use std::sync::Wait;
 use ti_cell::OwnerSeat;
-use ti_types::TiError;
+use ti_types::{ThreadNo, TiError};
 
 /// A thread that has not started. Contracts see it as its seat.
 ///
@@ -32,8 +32,8 @@ use ti_types::TiError;
 /// ```
 #[derive(Drop)]
 pub struct Fresh {
-    cell: SharedCell,
-    seat: OwnerSeat,
+    pub(crate) cell: SharedCell,
+    pub(crate) seat: OwnerSeat,
 }
 
 impl Model for Fresh {
@@ -65,6 +65,13 @@ impl Fresh {
         ensures none { self.now.view.mine ≡ [] }
     {
         let _ = &self.seat;
+    }
+
+    /// The number of the thread (this profile).
+    pub fn thread(&self) -> ThreadNo
+        ensures { result ≡ self.now.view.subject.thread }
+    {
+        self.seat.thread()
     }
 
     /// Starts the thread in one hold. From then on it is alive (JVM TI 11, GetThreadState).

@@ -8,7 +8,7 @@ use std::marker::Model;
 use std::sync::Wait;
 use ti_cell::OwnerSeat;
 use ti_frames::Log;
-use ti_types::TiError;
+use ti_types::{ThreadNo, TiError};
 
 /// A thread that handed over: it is in native code, blocked, or at a poll. Its frames lie in the slot. Contracts see it as
 /// its seat.
@@ -37,9 +37,9 @@ use ti_types::TiError;
 /// ```
 #[derive(Drop)]
 pub struct AtSafe {
-    cell: SharedCell,
-    seat: OwnerSeat,
-    log: Log,
+    pub(crate) cell: SharedCell,
+    pub(crate) seat: OwnerSeat,
+    pub(crate) log: Log,
 }
 
 impl Model for AtSafe {
@@ -68,6 +68,13 @@ impl AtSafe {
         ensures safe { is_safe (view self.now.view.subject.limits self.now.view.seen).mode ≡ true }
     {
         let _ = &self.seat;
+    }
+
+    /// The number of the thread (this profile).
+    pub fn thread(&self) -> ThreadNo
+        ensures { result ≡ self.now.view.subject.thread }
+    {
+        self.seat.thread()
     }
 
     /// Lets the thread return in one hold. While it is suspended or stopped, it may not (HotSpot Runtime Overview; JVM TI
@@ -160,6 +167,13 @@ impl Ended {
         ensures ended { (view self.now.view.subject.limits self.now.view.seen).mode ≡ mode.Ended }
     {
         let _ = &self.seat;
+    }
+
+    /// The number of the thread (this profile).
+    pub fn thread(&self) -> ThreadNo
+        ensures { result ≡ self.now.view.subject.thread }
+    {
+        self.seat.thread()
     }
 
     /// Takes the value apart and gives the thread's seat.

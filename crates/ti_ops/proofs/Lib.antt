@@ -3,3 +3,4 @@ pub mod KeptLaws
 pub mod TableLaws
 pub mod StepLaws
 pub mod ViewLaws
+pub mod NextLaws

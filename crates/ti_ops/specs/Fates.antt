@@ -1,5 +1,5 @@
 -- What has become of the calls that environments asked of one thread.
-use Rattle.std.specs.Prelude.{ℕ, Bool, true, false, ◌==◌, ◌&&◌, List, [], ◌∷◌, ◌++◌, Option, Some, None, slice_index_or, slice_set}
+use Rattle.std.specs.Prelude.{ℕ, ◌≡◌, ◌≤◌, ◌<◌, Bool, true, false, ◌==◌, ◌&&◌, List, [], ◌∷◌, ◌++◌, Option, Some, None, slice_index_or, slice_set}
 use Rattle.std.specs.List.{list_any, count_by}
 use Rattle.ti_types.specs.declared.numbers.EnvNo.{EnvNo}
 use Rattle.ti_types.specs.declared.event.Ticket.{Ticket}
@@ -47,3 +47,12 @@ is_at t u = t.no == u.no && t.env.0 == u.env.0
 -- whether a call is among those that wait
 abbrev pub is_awaited : Ticket → List Pending → Bool
 is_awaited t waiting = list_any (λ p. is_at p.ticket t) waiting
+
+-- a call of an environment by its number
+abbrev pub call_at : EnvNo → ℕ → Ticket
+call_at env n = record { env = env; thread = record { 0 = 0 }; no = n }
+
+-- the first number, from a number on, of which this is true
+abbrev pub IsFirstFrom : (ℕ → Bool) → ℕ → Option ℕ → Type 0
+IsFirstFrom p from None = (n : ℕ) → from ≤ n → p n ≡ false
+IsFirstFrom p from (Some n) = (from ≤ n) × (p n ≡ true) × ((m : ℕ) → from ≤ m → m < n → p m ≡ false)

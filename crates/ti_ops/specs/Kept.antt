@@ -1,5 +1,5 @@
 -- The calls that something is kept of, and their fates.
-use Rattle.std.specs.Prelude.{ℕ, zero, suc, ◌≡◌, ◌<◌, ◌≤◌, ◌*◌, Bool, true, false, if◌then◌else◌, List, [], ◌∷◌, ◌++◌, length, map, drop, slice_index_or}
+use Rattle.std.specs.Prelude.{ℕ, zero, suc, ◌≡◌, ◌<◌, ◌≤◌, ◌*◌, Bool, true, false, if◌then◌else◌, ◌&&◌, ◌==◌, nat_le, Option, Some, None, List, [], ◌∷◌, ◌++◌, length, map, drop, slice_index_or}
 use Rattle.std.specs.List.{All, list_any, sum_by}
 use Rattle.ti_types.specs.declared.numbers.EnvNo.{EnvNo}
 use Rattle.ti_types.specs.declared.event.Ticket.{Ticket}
@@ -90,3 +90,12 @@ pub record IsKept (window first capacity : ℕ) (counts : List Count) (kept : Li
   pub all : sum_by (λ c. c.held) counts ≡ length kept
   pub held : (env : EnvNo) → env.0 < length counts → (count_of counts env.0).held ≡ open_by env (lists_of counts kept)
   pub room : length counts * window ≤ capacity
+
+-- the lower of two numbers, if there is a first one
+abbrev pub lower_of : Option ℕ → ℕ → Option ℕ
+lower_of None n = Some n
+lower_of (Some m) n = if nat_le m n then Some m else Some n
+
+-- the number of a call, if it is the environment's, not below `from`, and nearer to it
+abbrev pub nearer_of : EnvNo → ℕ → Option ℕ → Ticket → Option ℕ
+nearer_of env from next t = if t.env.0 == env.0 && nat_le from t.no then lower_of next t.no else next

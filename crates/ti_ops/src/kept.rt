@@ -1,7 +1,7 @@
 //! What is kept of a call that waits, or whose answer is not collected.
 
 use std::collections::VecDeque;
-use ti_types::{Answer, Call, Ticket, TraceBuf};
+use ti_types::{Answer, Call, EnvNo, Ticket, TraceBuf};
 
 /// A call that waits, or whose answer is not collected.
 #[derive(Drop, Debug)]
@@ -73,6 +73,19 @@ pub fn find_last(kept: &VecDeque<Kept>, before: usize, ticket: Ticket) -> usize
     find(kept, before, ticket)
 }
 
+/// The number of this call if it is the environment's, not below `from`, and nearer to it than `next`. Otherwise `next`.
+pub fn nearer(next: Option<u64>, ticket: Ticket, env: EnvNo, from: u64) -> Option<u64>
+    ensures { result ≡ nearer_of env from next ticket }
+{
+    if ticket.env.0 != env.0 || ticket.no < from {
+        return next;
+    }
+    match next {
+        Some(number) if number <= ticket.no => next,
+        _ => Some(ticket.no),
+    }
+}
+
 /// Takes one of the kept calls out. If it is the last one, the next call gets its place.
 pub fn take_out(kept: &mut VecDeque<Kept>, at: usize) -> Kept
     requires { at < length kept.old.items }
@@ -99,7 +112,7 @@ pub fn take_out(kept: &mut VecDeque<Kept>, at: usize) -> Kept
 }
 
 ghost use Rattle.std.specs.Prelude.{◌≡◌, ◌+◌, ◌≤◌, ◌<◌, true, false, length, take, slice_index_or};
-ghost use Rattle.ti_ops.specs.Kept.{has, has_answer};
+ghost use Rattle.ti_ops.specs.Kept.{has, has_answer, nearer_of};
 ghost use Rattle.ti_ops.specs.declared.kept.Kept.{Kept};
 ghost use Rattle.std.specs.List.{remove};
 ghost use Rattle.std.specs.VecDeque.{deque_capacity};

@@ -1,6 +1,6 @@
 //! The calls that wait at a thread, and the answers that are not collected yet.
 
-use crate::kept::{Count, Kept, Stage, find, find_last, is_answered, take_out};
+use crate::kept::{Count, Kept, Stage, find, find_last, is_answered, nearer, take_out};
 use std::alloc::Global;
 use std::collections::VecDeque;
 use std::marker::Model;
@@ -95,6 +95,18 @@ impl PendingOps {
         find(&self.kept, all, ticket) != all
     }
 
+    /// The number of the first of an environment's calls, from a number on, that waits or has an answer that is not collected.
+    /// `None` if there is none. It goes over the calls that are kept.
+    pub fn next_out(&self, env: EnvNo, from: u64) -> Option<u64>
+        ensures { IsFirstFrom (λ n. is_open (fate_of (call_at env n) self.now.fates)) from result }
+    {
+        let mut next = None;
+        for at in 0..self.kept.len() {
+            next = nearer(next, self.kept[at].ticket, env, from);
+        }
+        next
+    }
+
     /// Puts a call after those that wait. It is its environment's next one, and there is room for it.
     pub fn post(&mut self, ticket: Ticket, call: Call, buf: TraceBuf)
         requires env { ticket.env.0 < length self.old.fates }
@@ -173,6 +185,6 @@ impl PendingOps {
 }
 
 ghost use Rattle.std.specs.Prelude.{◌≡◌, ◌<◌, ◌+◌, ◌^◌, [], ◌∷◌, false, length, replicate, IfOk, IfErr, MatchOption, is_some, if◌then◌else◌};
-ghost use Rattle.ti_ops.specs.Fates.{fates_by, fate_of, open_by, answer_by, is_open, with_call, with_fate, is_awaited};
+ghost use Rattle.ti_ops.specs.Fates.{IsFirstFrom, call_at, fates_by, fate_of, open_by, answer_by, is_open, with_call, with_fate, is_awaited};
 ghost use Rattle.ti_ops.specs.Ops.{with_waiting, with_fates, with_posted};
 ghost use Rattle.ti_ops.specs.declared.fate.Fate.TheVariants as fate;

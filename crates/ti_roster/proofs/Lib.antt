@@ -1,7 +1,10 @@
 pub mod Views
 pub mod Bits
-pub mod Steps
 pub mod Logs
+pub mod Lives
+pub mod Steps
 pub mod Places
 pub mod Rows
 pub mod Moving
+pub mod Returning
+pub mod Searching

@@ -1,12 +1,12 @@
 -- The threads that are there, and their desks.
-use Rattle.std.proofs.Common.{◌≡◌, ◌≢◌, ℕ, zero, suc, ◌<◌, ◌≤◌, ◌-◌, ◌==◌, ◌||◌, Bool, true, false, not, cond, if◌then◌else◌, List, [], ◌∷◌, ◌++◌, length, map, Option, Some, None, refl, sym, ap, ◌∙◌, subst, ⊎_elim, inl, inr, arith, length-append, eq-eqb, ne_eqb}
-use Rattle.std.specs.Prelude.{All, slice_get, slice_set}
+use Rattle.std.proofs.lemmas.List.{length-replicate}
+use Rattle.std.proofs.Common.{◌≡◌, ◌≢◌, ℕ, zero, suc, ◌<◌, ◌≤◌, ◌-◌, ◌==◌, ◌||◌, Bool, true, false, not, cond, if◌then◌else◌, List, [], ◌∷◌, ◌++◌, length, map, drop, Option, Some, None, refl, sym, ap, ◌∙◌, subst, ⊎_elim, inl, inr, arith, length-append, eq-eqb, ne_eqb}
+use Rattle.std.specs.Prelude.{replicate, All, slice_get, slice_set}
 use Rattle.std.specs.List.{filter, list_any, remove}
-use Rattle.std.proofs.lemmas.Bool.{cases_eq}
+use Rattle.std.proofs.lemmas.Bool.{cases_eq, cases_lt}
 use Rattle.std.proofs.lemmas.Bool.Decides.{nat_tests}
 use Rattle.std.proofs.lemmas.List.{map-append}
 use Rattle.std.proofs.lemmas.List.Elements.{All-append, All-cons, All-nil}
-use Rattle.std.proofs.lemmas.List.Sums.{fold-append}
 use Rattle.atomic_table.specs.Seated.{TableId}
 use Rattle.ti_types.specs.declared.limits.Limits.{Limits}
 use Rattle.ti_types.specs.declared.numbers.EnvNo.{EnvNo}
@@ -16,13 +16,14 @@ use Rattle.ti_cell.specs.Seats.{Sitting, env_seats}
 use Rattle.ti_cell.specs.View.{newcomer, subject_of}
 use Rattle.ti_agent.specs.FreeDesk.{FreeState}
 use Rattle.ti_roster.specs.declared.coming.Coming.{Coming}
-use Rattle.ti_roster.specs.declared.coming.Coming.TheVariants.{Came, Ended, Attached, Met}
+use Rattle.ti_roster.specs.declared.coming.Coming.TheVariants.{Came, Ended, Attached, Met, GaveBack, Disposed}
 use Rattle.ti_roster.specs.declared.newcomer.Newcomer.{Newcomer}
 use Rattle.ti_roster.specs.declared.row.Row.{Row}
-use Rattle.ti_roster.specs.Log.{threads_in, mark_of, live, live_after, is_other, is_thread}
-use Rattle.ti_roster.specs.Rows.{AreRows, IsEnvSeat, IsIndex, IsNewRow, IsRow, IsTaken, Rising, and_desk, desk_at, desks_in, is_left, left_desks, new_desk, newcomers}
-use Rattle.ti_roster.proofs.Logs.{threads_more, mark_more}
-use Rattle.ti_roster.proofs.Places.{is_same, nothing_at, get_within, get_front, get_last, get_end, set_here, set_other, remove_get, map_remove, get_map, alike_map, get_there, length_map, length_set}
+use Rattle.ti_roster.specs.Log.{Lies, Unused, Out, Returned, came, came_after, lies, lies_after, threads_in, mark_after, mark_of, live, live_after, is_other, is_thread}
+use Rattle.ti_roster.specs.Rows.{AreLeft, AreRows, IsEnvSeat, IsIndex, IsNewRow, IsPut, IsReturned, IsRow, IsTaken, LiesAs, Rising, and_desk, and_one, desk_at, desks_in, new_desk, newcomers}
+use Rattle.ti_roster.specs.Roster.{IsOwn}
+use Rattle.ti_roster.proofs.Logs.{came_more, lies_more, lies_same, live_more, mark_more, threads_back, threads_ended, threads_met, threads_more}
+use Rattle.ti_roster.proofs.Places.{get_replicated, is_same, nothing_at, get_within, get_front, get_last, get_end, set_here, set_other, remove_get, map_remove, get_map, alike_map, get_there, length_map, length_set}
 
 -- The seats of environments
 
@@ -122,165 +123,170 @@ filter_out t m (x ∷ l) u (suc i) n r e is =
     ap (λ (b : Bool). cond b (x ∷ filter (is_other t) l) (filter (is_other t) l)) (other_is t x (λ same. omega (arith, same, is, h)))
     ∙ ap (λ (k : List Newcomer). x ∷ k) (filter_out t (suc x.thread.0) l u i n r.1 e is)
 
+-- those behind have higher numbers
+pub rising_less : (m : ℕ) (l : List Newcomer) (u i j : ℕ) (n o : Newcomer) → Rising m l u → slice_get l i ≡ Some n → slice_get l j ≡ Some o → i < j → n.thread.0 < o.thread.0
+rising_less m [] u i j n o r a b h = absurd (nothing_at i n a)
+rising_less m (x ∷ l) u zero zero n o r a b h = absurd (omega (arith, h))
+rising_less m (x ∷ l) u zero (suc j) n o r a b h =
+    let least = rising_at (suc x.thread.0) l u j o r.1 b in
+    let same = ap (λ (y : Newcomer). y.thread.0) (is_same x n a) in
+    omega (arith, least, same)
+rising_less m (x ∷ l) u (suc i) zero n o r a b h = absurd (omega (arith, h))
+rising_less m (x ∷ l) u (suc i) (suc j) n o r a b h = rising_less (suc x.thread.0) l u i j n o r.1 a b (omega (arith, h))
+
+pub rising_other : (l : List Newcomer) (u i j : ℕ) (n o : Newcomer) → Rising 0 l u → slice_get l i ≡ Some n → slice_get l j ≡ Some o → i ≢ j → o.thread.0 ≢ n.thread.0
+rising_other l u i j n o r a b other same =
+    elim (cases_lt i j) [
+      | inl less ↦ (let z = rising_less 0 l u i j n o r a b less in omega (arith, z, same))
+      | inr more ↦ (let z = rising_less 0 l u j i o n r b a (omega (arith, more, other)) in omega (arith, z, same))
+    ]
+
 -- One more coming or going
 
-pub live_more : (log : List Coming) (x : Coming) → live (log ++ x ∷ []) ≡ live_after (live log) x
-live_more log x = fold-append live_after [] log (x ∷ [])
-
-abbrev left_by : Option ℕ → Limits → Newcomer → ℕ → Option (Option FreeState)
-left_by mark limits n p = Some (if is_left mark n.thread then Some (new_desk limits (record { 0 = p }) n) else None)
-
-row_same : (log log' : List Coming) (limits : Limits) (r : Row) → ((e : EnvNo) → mark_of e log' ≡ mark_of e log) → IsRow log limits r → IsRow log' limits r
+row_same : (log log' : List Coming) (limits : Limits) (r : Row) → ((e : EnvNo) → lies e r.newcomer.thread log' ≡ lies e r.newcomer.thread log) → IsRow log limits r → IsRow log' limits r
 row_same log log' limits r same k = record {
   places = k.places;
-  each = λ p h. k.each p h ∙ ap (λ (m : Option ℕ). left_by m limits r.newcomer p) (sym (same (record { 0 = p })));
+  each = λ p h. (let d = k.each p h in (d.0, d.1, subst (λ (l : Lies). LiesAs l limits (record { 0 = p }) r.newcomer d.0) (sym (same (record { 0 = p }))) d.2));
 }
 
-left_new : (mark : Option ℕ) (t : ThreadNo) (u : ℕ) → t.0 ≡ u → ((m : ℕ) → mark ≡ Some m → m ≤ u) → is_left mark t ≡ true
-left_new None t u e below = refl
-left_new (Some m) t u e below = let h = below m refl in grind (arith, nat_tests, h, e)
+-- nobody comes or goes, and no desk is moved: only what is noted of a place may change
+rows_stay : (log : List Coming) (limits : Limits) (rows : List Row) (marks marks' : List (Option ℕ)) (x : Coming) → AreRows log limits rows marks → live_after (live log) x ≡ live log → came_after (came log) x ≡ came log
+    → ((e : EnvNo) (t : ThreadNo) → lies_after e t (lies e t log) x ≡ lies e t log) → ((e : EnvNo) (m : ℕ) (t : ThreadNo) → mark_of e (log ++ x ∷ []) ≡ Some m → t.0 < m → lies e t log ≡ Out) → length marks' ≡ limits.envs → ((p : ℕ) → p < limits.envs → slice_get marks' p ≡ Some (mark_of (record { 0 = p }) (log ++ x ∷ [])))
+    → AreRows (log ++ x ∷ []) limits rows marks'
+rows_stay log limits rows marks marks' x k live_same came_same lies_are passed places marks_are = record {
+  live_are = k.live_are ∙ sym now_live;
+  each = λ i q at. row_same log (log ++ x ∷ []) limits q (λ e. lies_more e q.newcomer.thread log x ∙ lies_are e q.newcomer.thread) (k.each i q at);
+  places = places;
+  marks_are = marks_are;
+  fresh = λ e t h. lies_more e t log x ∙ (lies_are e t ∙ k.fresh e t (omega (arith, h, count)));
+  passed = λ e m t is h. lies_more e t log x ∙ (lies_are e t ∙ passed e m t is h);
+  listed = λ i n at. ap (λ (l : List Newcomer). slice_get l n.thread.0) now_came ∙ k.listed i n (ap (λ (l : List Newcomer). slice_get l i) (sym now_live) ∙ at);
+  rising = subst (λ (z : List Newcomer × ℕ). Rising 0 z.0 z.1) (λ j. (sym now_live j, sym count j)) k.rising;
+}
+  where
+    now_live : live (log ++ x ∷ []) ≡ live log
+    now_live = live_more log x ∙ live_same
+
+    now_came : came (log ++ x ∷ []) ≡ came log
+    now_came = came_more log x ∙ came_same
+
+    count : threads_in (log ++ x ∷ []) ≡ threads_in log
+    count = ap (λ (l : List Newcomer). length l) now_came
 
 pub rows_come : (log : List Coming) (limits : Limits) (rows : List Row) (marks : List (Option ℕ)) (r : Row) → AreRows log limits rows marks → IsNewRow limits r → r.newcomer.thread.0 ≡ threads_in log
     → AreRows (log ++ Came r.newcomer ∷ []) limits (rows ++ r ∷ []) marks
 rows_come log limits rows marks r k new number = record {
   live_are = map-append (λ (x : Row). x.newcomer) rows (r ∷ []) ∙ (ap (λ (l : List Newcomer). l ++ r.newcomer ∷ []) k.live_are ∙ sym (live_more log (Came r.newcomer)));
   each = λ i q at. ⊎_elim
-      (λ (old : slice_get rows i ≡ Some q). row_same log log' limits q same (k.each i q old))
+      (λ (old : slice_get rows i ≡ Some q). row_same log log' limits q (λ e. same e q.newcomer.thread) (k.each i q old))
       (λ (is : r ≡ q). subst (λ (x : Row). IsRow log' limits x) is here)
       (get_end rows r q i at);
   places = k.places;
-  marks_are = λ p h. k.marks_are p h ∙ ap (λ (m : Option ℕ). Some m) (sym (same (record { 0 = p })));
-  below = λ e m is. let h = k.below e m (sym (same e) ∙ is) in omega (arith, h, threads_more log r.newcomer);
+  marks_are = λ p h. k.marks_are p h ∙ ap (λ (m : Option ℕ). Some m) (sym (mark_more (record { 0 = p }) log (Came r.newcomer)));
+  fresh = λ e t h. same e t ∙ k.fresh e t (omega (arith, h, threads_more log r.newcomer));
+  passed = λ e m t is h. same e t ∙ k.passed e m t (sym (mark_more e log (Came r.newcomer)) ∙ is) h;
+  listed = listed;
   rising = subst (λ (x : List Newcomer × ℕ). Rising 0 x.0 x.1) (λ j. (sym (live_more log (Came r.newcomer)) j, sym (threads_more log r.newcomer) j)) (rising_end 0 (live log) (threads_in log) r.newcomer number k.rising);
 }
   where
     log' : List Coming
     log' = log ++ Came r.newcomer ∷ []
 
-    same : (e : EnvNo) → mark_of e log' ≡ mark_of e log
-    same e = mark_more e log (Came r.newcomer)
+    same : (e : EnvNo) (t : ThreadNo) → lies e t log' ≡ lies e t log
+    same e t = lies_more e t log (Came r.newcomer)
 
     here : IsRow log' limits r
     here = record {
       places = new.places;
-      each = λ p h. new.each p h ∙ ap (λ (b : Bool). Some (if b then Some (new_desk limits (record { 0 = p }) r.newcomer) else None))
-          (sym (left_new (mark_of (record { 0 = p }) log') r.newcomer.thread (threads_in log) number (λ m is. k.below (record { 0 = p }) m (sym (same (record { 0 = p })) ∙ is))));
+      each = λ p h. (
+        Some (new_desk limits (record { 0 = p }) r.newcomer),
+        new.each p h,
+        subst (λ (l : Lies). LiesAs l limits (record { 0 = p }) r.newcomer (Some (new_desk limits (record { 0 = p }) r.newcomer)))
+            (sym (same (record { 0 = p }) r.newcomer.thread ∙ k.fresh (record { 0 = p }) r.newcomer.thread (omega (arith, number)))) refl,
+      );
     }
 
-pub threads_ended : (log : List Coming) (t : ThreadNo) → threads_in (log ++ Ended t ∷ []) ≡ threads_in log
-threads_ended [] t = refl
-threads_ended (Came n ∷ xs) t = ap suc (threads_ended xs t)
-threads_ended (Ended u ∷ xs) t = threads_ended xs t
-threads_ended (Attached e ∷ xs) t = threads_ended xs t
-threads_ended (Met e m ∷ xs) t = threads_ended xs t
+    listed : (i : ℕ) (n : Newcomer) → slice_get (live log') i ≡ Some n → slice_get (came log') n.thread.0 ≡ Some n
+    listed i n at = ap (λ (l : List Newcomer). slice_get l n.thread.0) (came_more log (Came r.newcomer)) ∙ ⊎_elim
+        (λ (old : slice_get (live log) i ≡ Some n). (let was = k.listed i n old in get_front (came log) (r.newcomer ∷ []) n.thread.0 (get_within (came log) n.thread.0 n was) ∙ was))
+        (λ (is : r.newcomer ≡ n). get_last (came log) r.newcomer n.thread.0 (ap (λ (x : Newcomer). x.thread.0) (sym is) ∙ number) ∙ ap (λ (x : Newcomer). Some x) is)
+        (get_end (live log) r.newcomer n i (ap (λ (l : List Newcomer). slice_get l i) (sym (live_more log (Came r.newcomer))) ∙ at))
 
 pub rows_end : (log : List Coming) (limits : Limits) (rows : List Row) (marks : List (Option ℕ)) (t : ThreadNo) (i : ℕ) → AreRows log limits rows marks → IsIndex (live log) t i
     → AreRows (log ++ Ended t ∷ []) limits (remove rows i) marks
 rows_end log limits rows marks t i k at = record {
-  live_are = map_remove (λ (x : Row). x.newcomer) rows i ∙ (ap (λ (l : List Newcomer). remove l i) k.live_are ∙ (sym out ∙ sym (live_more log (Ended t))));
-  each = λ j q e. let was = remove_get rows i j q e in row_same log log' limits q same (k.each was.0 q was.1);
+  live_are = map_remove (λ (x : Row). x.newcomer) rows i ∙ (ap (λ (l : List Newcomer). remove l i) k.live_are ∙ sym now_live);
+  each = λ j q e. let was = remove_get rows i j q e in row_same log log' limits q (λ f. lies_more f q.newcomer.thread log (Ended t)) (k.each was.0 q was.1);
   places = k.places;
-  marks_are = λ p h. k.marks_are p h ∙ ap (λ (m : Option ℕ). Some m) (sym (same (record { 0 = p })));
-  below = λ e m is. let h = k.below e m (sym (same e) ∙ is) in omega (arith, h, threads_ended log t);
+  marks_are = λ p h. k.marks_are p h ∙ ap (λ (m : Option ℕ). Some m) (sym (mark_more (record { 0 = p }) log (Ended t)));
+  fresh = λ e u h. lies_more e u log (Ended t) ∙ k.fresh e u (omega (arith, h, threads_ended log t));
+  passed = λ e m u is h. lies_more e u log (Ended t) ∙ k.passed e m u (sym (mark_more e log (Ended t)) ∙ is) h;
+  listed = λ j n e. (let was = remove_get (live log) i j n (ap (λ (l : List Newcomer). slice_get l j) (sym now_live) ∙ e) in
+      ap (λ (l : List Newcomer). slice_get l n.thread.0) (came_more log (Ended t)) ∙ k.listed was.0 n was.1);
   rising = subst (λ (x : List Newcomer × ℕ). Rising 0 x.0 x.1) (λ j. (sym (live_more log (Ended t)) j, sym (threads_ended log t) j)) (rising_filter (is_other t) 0 (live log) (threads_in log) k.rising);
 }
   where
     log' : List Coming
     log' = log ++ Ended t ∷ []
 
-    same : (e : EnvNo) → mark_of e log' ≡ mark_of e log
-    same e = mark_more e log (Ended t)
-
-    out : filter (is_other t) (live log) ≡ remove (live log) i
-    out = filter_out t 0 (live log) (threads_in log) i at.one k.rising at.at at.is
-
-pub threads_attached : (log : List Coming) (e : EnvNo) → threads_in (log ++ Attached e ∷ []) ≡ threads_in log
-threads_attached [] t = refl
-threads_attached (Came n ∷ xs) t = ap suc (threads_attached xs t)
-threads_attached (Ended u ∷ xs) t = threads_attached xs t
-threads_attached (Attached e ∷ xs) t = threads_attached xs t
-threads_attached (Met e m ∷ xs) t = threads_attached xs t
+    now_live : live log' ≡ remove (live log) i
+    now_live = live_more log (Ended t) ∙ filter_out t 0 (live log) (threads_in log) i at.one k.rising at.at at.is
 
 -- what is noted of a place that is the environment's, and of the others
-mark_here : (e : EnvNo) (p v : ℕ) (mark : Option ℕ) → e.0 ≡ p → (if e.0 == p then Some v else mark) ≡ Some v
-mark_here e p v mark same = ap (λ (b : Bool). if b then Some v else mark) (eq-eqb e.0 p same)
+mark_here : (e : EnvNo) (p : ℕ) (v mark : Option ℕ) → e.0 ≡ p → (if e.0 == p then v else mark) ≡ v
+mark_here e p v mark same = ap (λ (b : Bool). if b then v else mark) (eq-eqb e.0 p same)
 
-mark_there : (e : EnvNo) (p v : ℕ) (mark : Option ℕ) → e.0 ≢ p → (if e.0 == p then Some v else mark) ≡ mark
-mark_there e p v mark other = ap (λ (b : Bool). if b then Some v else mark) (ne_eqb e.0 p other)
+mark_there : (e : EnvNo) (p : ℕ) (v mark : Option ℕ) → e.0 ≢ p → (if e.0 == p then v else mark) ≡ mark
+mark_there e p v mark other = ap (λ (b : Bool). if b then v else mark) (ne_eqb e.0 p other)
 
-all_left : (t : ThreadNo) → is_left (Some 0) t ≡ true
-all_left t = grind (arith, nat_tests)
+-- what is noted of a place, and of no other, changes
+marks_set : (log : List Coming) (limits : Limits) (marks : List (Option ℕ)) (e : EnvNo) (x : Coming) (v : Option ℕ) → length marks ≡ limits.envs → ((p : ℕ) → p < limits.envs → slice_get marks p ≡ Some (mark_of (record { 0 = p }) log))
+    → ((f : EnvNo) → mark_after f (mark_of f log) x ≡ (if e.0 == f.0 then v else mark_of f log)) → (p : ℕ) → p < limits.envs → slice_get (slice_set marks e.0 v) p ≡ Some (mark_of (record { 0 = p }) (log ++ x ∷ []))
+marks_set log limits marks e x v places are after p h =
+    elim (cases_eq e.0 p) [
+      | inl same ↦
+          let is : mark_of (record { 0 = p }) (log ++ x ∷ []) ≡ v = mark_more (record { 0 = p }) log x ∙ after (record { 0 = p }) ∙ mark_here e p v (mark_of (record { 0 = p }) log) same in
+          ap (λ (i : ℕ). slice_get (slice_set marks i v) p) same ∙ (set_here marks p v (omega (arith, h, places)) ∙ ap (λ (m : Option ℕ). Some m) (sym is))
+      | inr other ↦
+          let is : mark_of (record { 0 = p }) (log ++ x ∷ []) ≡ mark_of (record { 0 = p }) log = mark_more (record { 0 = p }) log x ∙ after (record { 0 = p }) ∙ mark_there e p v (mark_of (record { 0 = p }) log) other in
+          set_other marks e.0 p v (λ same. other (sym same)) ∙ (are p h ∙ ap (λ (m : Option ℕ). Some m) (sym is))
+    ]
 
-pub rows_attach : (log : List Coming) (limits : Limits) (rows : List Row) (marks : List (Option ℕ)) (e : EnvNo) → AreRows log limits rows marks → e.0 < limits.envs → mark_of e log ≡ None
-    → AreRows (log ++ Attached e ∷ []) limits rows (slice_set marks e.0 (Some 0))
-rows_attach log limits rows marks e k there free = record {
-  live_are = k.live_are ∙ sym (live_more log (Attached e));
-  each = λ i q at. one q (k.each i q at);
-  places = length_set marks e.0 (Some 0) ∙ k.places;
-  marks_are = marks_are;
-  below = below;
-  rising = subst (λ (x : List Newcomer × ℕ). Rising 0 x.0 x.1) (λ j. (sym (live_more log (Attached e)) j, sym (threads_attached log e) j)) k.rising;
-}
-  where
-    log' : List Coming
-    log' = log ++ Attached e ∷ []
+-- an environment's place from which no desk was passed, and the others
+none_passed : (log : List Coming) (limits : Limits) (rows : List Row) (marks : List (Option ℕ)) (e : EnvNo) (x : Coming) (v : Option ℕ) → AreRows log limits rows marks → ((m : ℕ) → v ≡ Some m → m ≡ 0)
+    → ((f : EnvNo) → mark_after f (mark_of f log) x ≡ (if e.0 == f.0 then v else mark_of f log)) → (f : EnvNo) (m : ℕ) (t : ThreadNo) → mark_of f (log ++ x ∷ []) ≡ Some m → t.0 < m → lies f t log ≡ Out
+none_passed log limits rows marks e x v k zero_is after f m t is h =
+    elim (cases_eq e.0 f.0) [
+      | inl same ↦ absurd (let z = zero_is m (sym (mark_here e f.0 v (mark_of f log) same) ∙ (sym (mark_more f log x ∙ after f) ∙ is)) in omega (arith, z, h))
+      | inr other ↦ k.passed f m t (sym (mark_there e f.0 v (mark_of f log) other) ∙ (sym (mark_more f log x ∙ after f) ∙ is)) h
+    ]
 
-    now : (f : EnvNo) → mark_of f log' ≡ (if e.0 == f.0 then Some 0 else mark_of f log)
-    now f = mark_more f log (Attached e)
+the_zero : (m : ℕ) → Some 0 ≡ Some m → m ≡ 0
+the_zero m h = sym (is_same 0 m h)
 
-    one : (q : Row) → IsRow log limits q → IsRow log' limits q
-    one q r = record {
-      places = r.places;
-      each = λ p h. elim (cases_eq e.0 p) [
-        | inl same ↦
-            let is : mark_of (record { 0 = p }) log' ≡ Some 0 = now (record { 0 = p }) ∙ mark_here e p 0 (mark_of (record { 0 = p }) log) same in
-            let was : mark_of (record { 0 = p }) log ≡ None = ap (λ (n : ℕ). mark_of (record { 0 = n }) log) (sym same) ∙ free in
-            r.each p h ∙ (ap (λ (m : Option ℕ). left_by m limits q.newcomer p) was
-            ∙ (ap (λ (b : Bool). Some (if b then Some (new_desk limits (record { 0 = p }) q.newcomer) else None)) (sym (all_left q.newcomer.thread))
-            ∙ ap (λ (m : Option ℕ). left_by m limits q.newcomer p) (sym is)))
-        | inr other ↦
-            let is : mark_of (record { 0 = p }) log' ≡ mark_of (record { 0 = p }) log = now (record { 0 = p }) ∙ mark_there e p 0 (mark_of (record { 0 = p }) log) other in
-            r.each p h ∙ ap (λ (m : Option ℕ). left_by m limits q.newcomer p) (sym is)
-      ];
-    }
+no_zero : (m : ℕ) → None ≡ Some m → m ≡ 0
+no_zero m h = cc
 
-    marks_are : (p : ℕ) → p < limits.envs → slice_get (slice_set marks e.0 (Some 0)) p ≡ Some (mark_of (record { 0 = p }) log')
-    marks_are p h =
-        elim (cases_eq e.0 p) [
-          | inl same ↦
-              let is : mark_of (record { 0 = p }) log' ≡ Some 0 = now (record { 0 = p }) ∙ mark_here e p 0 (mark_of (record { 0 = p }) log) same in
-              ap (λ (n : ℕ). slice_get (slice_set marks n (Some 0)) p) same ∙ (set_here marks p (Some 0) (omega (arith, h, k.places)) ∙ ap (λ (m : Option ℕ). Some m) (sym is))
-          | inr other ↦
-              let is : mark_of (record { 0 = p }) log' ≡ mark_of (record { 0 = p }) log = now (record { 0 = p }) ∙ mark_there e p 0 (mark_of (record { 0 = p }) log) other in
-              set_other marks e.0 p (Some 0) (λ same. other (sym same)) ∙ (k.marks_are p h ∙ ap (λ (m : Option ℕ). Some m) (sym is))
-        ]
+pub rows_attach : (log : List Coming) (limits : Limits) (rows : List Row) (marks : List (Option ℕ)) (e : EnvNo) → AreRows log limits rows marks → AreRows (log ++ Attached e ∷ []) limits rows (slice_set marks e.0 (Some 0))
+rows_attach log limits rows marks e k =
+    rows_stay log limits rows marks (slice_set marks e.0 (Some 0)) (Attached e) k refl refl (λ f t. refl) (none_passed log limits rows marks e (Attached e) (Some 0) k the_zero (λ f. refl)) (length_set marks e.0 (Some 0) ∙ k.places) (marks_set log limits marks e (Attached e) (Some 0) k.places k.marks_are (λ f. refl))
 
-    below : (f : EnvNo) (m : ℕ) → mark_of f log' ≡ Some m → m ≤ threads_in log'
-    below f m is =
-        elim (cases_eq e.0 f.0) [
-          | inl same ↦ let zero_is : 0 ≡ m = is_same 0 m (sym (mark_here e f.0 0 (mark_of f log) same) ∙ (sym (now f) ∙ is)) in omega (arith, zero_is)
-          | inr other ↦ let h = k.below f m (sym (mark_there e f.0 0 (mark_of f log) other) ∙ (sym (now f) ∙ is)) in omega (arith, h, threads_attached log e)
-        ]
+pub rows_dispose : (log : List Coming) (limits : Limits) (rows : List Row) (marks : List (Option ℕ)) (e : EnvNo) → AreRows log limits rows marks → AreRows (log ++ Disposed e ∷ []) limits rows (slice_set marks e.0 None)
+rows_dispose log limits rows marks e k =
+    rows_stay log limits rows marks (slice_set marks e.0 None) (Disposed e) k refl refl (λ f t. refl) (none_passed log limits rows marks e (Disposed e) None k no_zero (λ f. refl)) (length_set marks e.0 None ∙ k.places) (marks_set log limits marks e (Disposed e) None k.places k.marks_are (λ f. refl))
 
-pub threads_met : (log : List Coming) (e : EnvNo) (n : ℕ) → threads_in (log ++ Met e n ∷ []) ≡ threads_in log
-threads_met [] e n = refl
-threads_met (Came x ∷ xs) e n = ap suc (threads_met xs e n)
-threads_met (Ended u ∷ xs) e n = threads_met xs e n
-threads_met (Attached f ∷ xs) e n = threads_met xs e n
-threads_met (Met f m ∷ xs) e n = threads_met xs e n
-
-none_left : (n : ℕ) (t : ThreadNo) → t.0 < n → is_left (Some n) t ≡ false
-none_left n t h = grind (arith, nat_tests, h)
-
+-- the threads are the same, with desks moved in their rows
 pub rows_meet : (log : List Coming) (limits : Limits) (rows rows' : List Row) (marks : List (Option ℕ)) (e : EnvNo) → AreRows log limits rows marks → e.0 < limits.envs → length rows' ≡ length rows
     → ((i : ℕ) (r q : Row) → slice_get rows i ≡ Some r → slice_get rows' i ≡ Some q → IsTaken e r q)
     → AreRows (log ++ Met e (threads_in log) ∷ []) limits rows' (slice_set marks e.0 (Some (threads_in log)))
 rows_meet log limits rows rows' marks e k there len taken = record {
   live_are = alike_map (λ (x : Row). x.newcomer) rows rows' len (λ i r q a b. (taken i r q a b).newcomer) ∙ (k.live_are ∙ sym (live_more log (Met e n)));
   each = each;
-  places = length_set marks e.0 (Some (threads_in log)) ∙ k.places;
-  marks_are = marks_are;
-  below = below;
+  places = length_set marks e.0 (Some n) ∙ k.places;
+  marks_are = marks_set log limits marks e (Met e n) (Some n) k.places k.marks_are (λ f. refl);
+  fresh = λ f t h. lies_more f t log (Met e n) ∙ (grind (arith, nat_tests, h, threads_met log e n) ∙ k.fresh f t (omega (arith, h, threads_met log e n)));
+  passed = passed;
+  listed = λ i m at. ap (λ (l : List Newcomer). slice_get l m.thread.0) (came_more log (Met e n)) ∙ k.listed i m (ap (λ (l : List Newcomer). slice_get l i) (sym (live_more log (Met e n))) ∙ at);
   rising = subst (λ (x : List Newcomer × ℕ). Rising 0 x.0 x.1) (λ j. (sym (live_more log (Met e n)) j, sym (threads_met log e n) j)) k.rising;
 }
   where
@@ -290,28 +296,34 @@ rows_meet log limits rows rows' marks e k there len taken = record {
     log' : List Coming
     log' = log ++ Met e n ∷ []
 
-    now : (f : EnvNo) → mark_of f log' ≡ (if e.0 == f.0 then Some n else mark_of f log)
-    now f = mark_more f log (Met e n)
+    passed : (f : EnvNo) (m : ℕ) (t : ThreadNo) → mark_of f log' ≡ Some m → t.0 < m → lies f t log' ≡ Out
+    passed f m t is h = elim (cases_eq e.0 f.0) [
+      | inl same ↦
+          let is_n : n ≡ m = is_same n m (sym (mark_here e f.0 (Some n) (mark_of f log) same) ∙ (sym (mark_more f log (Met e n)) ∙ is)) in
+          let number : t.0 < n = omega (arith, h, is_n) in
+          lies_more f t log (Met e n) ∙ grind (arith, nat_tests, number, same)
+      | inr other ↦ lies_same f t log (Met e n) (ne_eqb e.0 f.0 other) ∙ k.passed f m t (sym (mark_there e f.0 (Some n) (mark_of f log) other) ∙ (sym (mark_more f log (Met e n)) ∙ is)) h
+    ]
 
     one : (r q : Row) → IsRow log limits r → IsTaken e r q → r.newcomer.thread.0 < n → IsRow log' limits q
     one r q row t below = record {
       places = ap (λ (l : List (Option FreeState)). length l) t.desks ∙ (length_set r.desks.items e.0 None ∙ row.places);
       each = λ p h. elim (cases_eq e.0 p) [
         | inl same ↦
-            let is : mark_of (record { 0 = p }) log' ≡ Some n = now (record { 0 = p }) ∙ mark_here e p n (mark_of (record { 0 = p }) log) same in
-            let gone : is_left (Some n) q.newcomer.thread ≡ false = none_left n q.newcomer.thread (subst (λ (x : Newcomer). x.thread.0 < n) (sym t.newcomer) below) in
-            ap (λ (l : List (Option FreeState)). slice_get l p) t.desks
-            ∙ (ap (λ (i : ℕ). slice_get (slice_set r.desks.items i None) p) same
-            ∙ (set_here r.desks.items p None (omega (arith, h, row.places))
-            ∙ (ap (λ (b : Bool). Some (if b then Some (new_desk limits (record { 0 = p }) q.newcomer) else None)) (sym gone)
-            ∙ ap (λ (m : Option ℕ). left_by m limits q.newcomer p) (sym is))))
+            let number : q.newcomer.thread.0 < n = subst (λ (x : Newcomer). x.thread.0 < n) (sym t.newcomer) below in
+            let out : lies (record { 0 = p }) q.newcomer.thread log' ≡ Out = lies_more (record { 0 = p }) q.newcomer.thread log (Met e n) ∙ grind (arith, nat_tests, number, same) in (
+              None,
+              ap (λ (l : List (Option FreeState)). slice_get l p) t.desks
+                  ∙ (ap (λ (i : ℕ). slice_get (slice_set r.desks.items i None) p) same ∙ set_here r.desks.items p None (omega (arith, h, row.places))),
+              subst (λ (l : Lies). LiesAs l limits (record { 0 = p }) q.newcomer None) (sym out) refl,
+            )
         | inr other ↦
-            let is : mark_of (record { 0 = p }) log' ≡ mark_of (record { 0 = p }) log = now (record { 0 = p }) ∙ mark_there e p n (mark_of (record { 0 = p }) log) other in
-            ap (λ (l : List (Option FreeState)). slice_get l p) t.desks
-            ∙ (set_other r.desks.items e.0 p None (λ same. other (sym same))
-            ∙ (row.each p h
-            ∙ (ap (λ (x : Newcomer). left_by (mark_of (record { 0 = p }) log) limits x p) (sym t.newcomer)
-            ∙ ap (λ (m : Option ℕ). left_by m limits q.newcomer p) (sym is))))
+            let d = row.each p h in
+            let stays : lies (record { 0 = p }) q.newcomer.thread log' ≡ lies (record { 0 = p }) q.newcomer.thread log = lies_same (record { 0 = p }) q.newcomer.thread log (Met e n) (ne_eqb e.0 p other) in (
+              d.0,
+              ap (λ (l : List (Option FreeState)). slice_get l p) t.desks ∙ (set_other r.desks.items e.0 p None (λ same. other (sym same)) ∙ d.1),
+              subst (λ (l : Lies). LiesAs l limits (record { 0 = p }) q.newcomer d.0) (sym stays) (subst (λ (x : Newcomer). LiesAs (lies (record { 0 = p }) x.thread log) limits (record { 0 = p }) x d.0) (sym t.newcomer) d.2),
+            )
       ];
     }
 
@@ -322,47 +334,167 @@ rows_meet log limits rows rows' marks e k there len taken = record {
         let live_at : slice_get (live log) i ≡ Some r.0.newcomer = ap (λ (l : List Newcomer). slice_get l i) (sym k.live_are) ∙ get_map (λ (x : Row). x.newcomer) rows i r.0 r.1 in
         one r.0 q (k.each i r.0 r.1) (taken i r.0 q r.1 at) (rising_below 0 (live log) n i r.0.newcomer k.rising live_at)
 
-    marks_are : (p : ℕ) → p < limits.envs → slice_get (slice_set marks e.0 (Some n)) p ≡ Some (mark_of (record { 0 = p }) log')
-    marks_are p h =
-        elim (cases_eq e.0 p) [
-          | inl same ↦
-              let is : mark_of (record { 0 = p }) log' ≡ Some n = now (record { 0 = p }) ∙ mark_here e p n (mark_of (record { 0 = p }) log) same in
-              ap (λ (i : ℕ). slice_get (slice_set marks i (Some n)) p) same ∙ (set_here marks p (Some n) (omega (arith, h, k.places)) ∙ ap (λ (m : Option ℕ). Some m) (sym is))
-          | inr other ↦
-              let is : mark_of (record { 0 = p }) log' ≡ mark_of (record { 0 = p }) log = now (record { 0 = p }) ∙ mark_there e p n (mark_of (record { 0 = p }) log) other in
-              set_other marks e.0 p (Some n) (λ same. other (sym same)) ∙ (k.marks_are p h ∙ ap (λ (m : Option ℕ). Some m) (sym is))
-        ]
+pub rows_back : (log : List Coming) (limits : Limits) (rows : List Row) (marks : List (Option ℕ)) (e : EnvNo) (t : ThreadNo) (i : ℕ) (r q : Row) (f : FreeState) → AreRows log limits rows marks → e.0 < limits.envs → slice_get rows i ≡ Some r → r.newcomer.thread.0 ≡ t.0
+    → IsPut e f r q → IsReturned limits e r.newcomer f → AreRows (log ++ GaveBack e t ∷ []) limits (slice_set rows i q) (slice_set marks e.0 (Some 0))
+rows_back log limits rows marks e t i r q f k there at is put back = record {
+  live_are = alike_map (λ (x : Row). x.newcomer) rows rows' (length_set rows i q) alike ∙ (k.live_are ∙ sym (live_more log (GaveBack e t)));
+  each = each;
+  places = length_set marks e.0 (Some 0) ∙ k.places;
+  marks_are = marks_set log limits marks e (GaveBack e t) (Some 0) k.places k.marks_are (λ g. refl);
+  fresh = λ g u h. lies_more g u log (GaveBack e t) ∙ (past g u (omega (arith, h, threads_back log e t)) ∙ k.fresh g u (omega (arith, h, threads_back log e t)));
+  passed = passed;
+  listed = λ j m e'. ap (λ (l : List Newcomer). slice_get l m.thread.0) (came_more log (GaveBack e t)) ∙ k.listed j m (ap (λ (l : List Newcomer). slice_get l j) (sym (live_more log (GaveBack e t))) ∙ e');
+  rising = subst (λ (x : List Newcomer × ℕ). Rising 0 x.0 x.1) (λ j. (sym (live_more log (GaveBack e t)) j, sym (threads_back log e t) j)) k.rising;
+}
+  where
+    rows' : List Row
+    rows' = slice_set rows i q
 
-    below : (f : EnvNo) (m : ℕ) → mark_of f log' ≡ Some m → m ≤ threads_in log'
-    below f m is =
-        elim (cases_eq e.0 f.0) [
-          | inl same ↦ let is_n : n ≡ m = is_same n m (sym (mark_here e f.0 n (mark_of f log) same) ∙ (sym (now f) ∙ is)) in omega (arith, is_n, threads_met log e n)
-          | inr other ↦ let h = k.below f m (sym (mark_there e f.0 n (mark_of f log) other) ∙ (sym (now f) ∙ is)) in omega (arith, h, threads_met log e n)
-        ]
+    log' : List Coming
+    log' = log ++ GaveBack e t ∷ []
 
-one_left : (b : Bool) (d : FreeState) (n : Newcomer) (f : Newcomer → FreeState) (l : List FreeState) (others : List Newcomer) → d ≡ f n → l ≡ map f others → and_desk (Some (if b then Some d else None)) l ≡ map f (cond b (n ∷ others) others)
-one_left true d n f l others is rest = ap (λ (x : FreeState). x ∷ l) is ∙ ap (λ (k : List FreeState). f n ∷ k) rest
-one_left false d n f l others is rest = rest
+    within : i < length rows
+    within = get_within rows i r at
+
+    live_at : (j : ℕ) (x : Row) → slice_get rows j ≡ Some x → slice_get (live log) j ≡ Some x.newcomer
+    live_at j x a = ap (λ (l : List Newcomer). slice_get l j) (sym k.live_are) ∙ get_map (λ (y : Row). y.newcomer) rows j x a
+
+    alike : (j : ℕ) (x y : Row) → slice_get rows j ≡ Some x → slice_get rows' j ≡ Some y → y.newcomer ≡ x.newcomer
+    alike j x y a b = elim (cases_eq j i) [
+      | inl same ↦
+          let new : q ≡ y = is_same q y (sym (set_here rows i q within) ∙ (ap (slice_get rows') (sym same) ∙ b)) in
+          let old : r ≡ x = is_same r x (sym at ∙ (ap (slice_get rows) (sym same) ∙ a)) in
+          ap (λ (z : Row). z.newcomer) (sym new) ∙ put.newcomer ∙ ap (λ (z : Row). z.newcomer) old
+      | inr other ↦ ap (λ (z : Row). z.newcomer) (sym (is_same x y (sym a ∙ (sym (set_other rows i j q other) ∙ b))))
+    ]
+
+    passed : (g : EnvNo) (m : ℕ) (u : ThreadNo) → mark_of g log' ≡ Some m → u.0 < m → lies g u log' ≡ Out
+    passed g m u is' h = elim (cases_eq e.0 g.0) [
+      | inl same ↦ absurd (let z = is_same 0 m (sym (mark_here e g.0 (Some 0) (mark_of g log) same) ∙ (sym (mark_more g log (GaveBack e t)) ∙ is')) in omega (arith, z, h))
+      | inr other ↦ lies_same g u log (GaveBack e t) (ne_eqb e.0 g.0 other) ∙ k.passed g m u (sym (mark_there e g.0 (Some 0) (mark_of g log) other) ∙ (sym (mark_more g log (GaveBack e t)) ∙ is')) h
+    ]
+
+    -- a number that was no thread's yet is another
+    past : (g : EnvNo) (u : ThreadNo) → threads_in log ≤ u.0 → lies_after g u (lies g u log) (GaveBack e t) ≡ lies g u log
+    past g u h =
+        let below = rising_below 0 (live log) (threads_in log) i r.newcomer k.rising (live_at i r at) in
+        let other : (t.0 == u.0) ≡ false = ne_eqb t.0 u.0 (λ same. omega (arith, same, is, below, h)) in
+        grind (arith, other)
+
+    here : IsRow log' limits q
+    here = record {
+      places = ap (λ (l : List (Option FreeState)). length l) put.desks ∙ (length_set r.desks.items e.0 (Some f) ∙ (k.each i r at).places);
+      each = λ p h. (let row = k.each i r at in elim (cases_eq e.0 p) [
+        | inl same ↦
+            let number : t.0 ≡ q.newcomer.thread.0 = sym (ap (λ (x : Newcomer). x.thread.0) put.newcomer ∙ is) in
+            let returned : lies (record { 0 = p }) q.newcomer.thread log' ≡ Returned = lies_more (record { 0 = p }) q.newcomer.thread log (GaveBack e t) ∙ grind (arith, nat_tests, number, same) in (
+              Some f,
+              ap (λ (l : List (Option FreeState)). slice_get l p) put.desks
+                  ∙ (ap (λ (n : ℕ). slice_get (slice_set r.desks.items n (Some f)) p) same ∙ set_here r.desks.items p (Some f) (omega (arith, h, row.places))),
+              subst (λ (l : Lies). LiesAs l limits (record { 0 = p }) q.newcomer (Some f)) (sym returned)
+                  (subst (λ (z : EnvNo × Newcomer). IsReturned limits z.0 z.1 f) (λ j. (record { 0 = same j }, sym put.newcomer j)) back),
+            )
+        | inr other ↦
+            let d = row.each p h in
+            let stays : lies (record { 0 = p }) q.newcomer.thread log' ≡ lies (record { 0 = p }) q.newcomer.thread log = lies_same (record { 0 = p }) q.newcomer.thread log (GaveBack e t) (ne_eqb e.0 p other) in (
+              d.0,
+              ap (λ (l : List (Option FreeState)). slice_get l p) put.desks ∙ (set_other r.desks.items e.0 p (Some f) (λ same. other (sym same)) ∙ d.1),
+              subst (λ (l : Lies). LiesAs l limits (record { 0 = p }) q.newcomer d.0) (sym stays) (subst (λ (x : Newcomer). LiesAs (lies (record { 0 = p }) x.thread log) limits (record { 0 = p }) x d.0) (sym put.newcomer) d.2),
+            )
+      ]);
+    }
+
+    each : (j : ℕ) (y : Row) → slice_get rows' j ≡ Some y → IsRow log' limits y
+    each j y b = elim (cases_eq j i) [
+      | inl same ↦
+          let new : q ≡ y = is_same q y (sym (set_here rows i q within) ∙ (ap (slice_get rows') (sym same) ∙ b)) in
+          subst (λ (x : Row). IsRow log' limits x) new here
+      | inr other ↦
+          let old : slice_get rows j ≡ Some y = sym (set_other rows i j q other) ∙ b in
+          let number : y.newcomer.thread.0 ≢ r.newcomer.thread.0 = rising_other (live log) (threads_in log) i j r.newcomer y.newcomer k.rising (live_at i r at) (live_at j y old) (λ same. other (sym same)) in
+          let off : (t.0 == y.newcomer.thread.0) ≡ false = ne_eqb t.0 y.newcomer.thread.0 (λ same. number (sym same ∙ sym is)) in
+          row_same log log' limits y (λ g. lies_more g y.newcomer.thread log (GaveBack e t) ∙ grind (arith, off)) (k.each j y old)
+    ]
 
 -- the desks that a meeting takes
-pub desks_left : (log : List Coming) (limits : Limits) (e : EnvNo) (rows : List Row) → e.0 < limits.envs → ((i : ℕ) (r : Row) → slice_get rows i ≡ Some r → IsRow log limits r)
-    → desks_in e rows ≡ left_desks (mark_of e log) limits e (newcomers rows)
+
+one_left : (d : Option FreeState) (l : List FreeState) → and_desk (Some d) l ≡ and_one d l
+one_left (Some f) l = refl
+one_left None l = refl
+
+pub desks_left : (log : List Coming) (limits : Limits) (e : EnvNo) (rows : List Row) → e.0 < limits.envs → ((i : ℕ) (r : Row) → slice_get rows i ≡ Some r → IsRow log limits r) → AreLeft log limits e (newcomers rows) (desks_in e rows)
 desks_left log limits e [] there each = refl
 desks_left log limits e (r ∷ rows) there each =
-    ap (λ (x : Option (Option FreeState)). and_desk x (desks_in e rows)) ((each 0 r refl).each e.0 there)
-    ∙ one_left (is_left (mark_of e log) r.newcomer.thread) (new_desk limits e r.newcomer) r.newcomer (new_desk limits e) (desks_in e rows) (filter (λ n. is_left (mark_of e log) n.thread) (newcomers rows)) refl
-    (desks_left log limits e rows there (λ i q at. each (suc i) q at))
+    let d = (each 0 r refl).each e.0 there in (
+      d.0,
+      desks_in e rows,
+      ap (λ (x : Option (Option FreeState)). and_desk x (desks_in e rows)) d.1 ∙ one_left d.0 (desks_in e rows),
+      d.2,
+      desks_left log limits e rows there (λ i q at. each (suc i) q at),
+    )
 
--- the desks in one row more
-and_more : (x : Option (Option FreeState)) (l m : List FreeState) → and_desk x (l ++ m) ≡ and_desk x l ++ m
-and_more (Some (Some d)) l m = refl
-and_more (Some None) l m = refl
-and_more None l m = refl
+-- they are the environment's own, and each is at a thread that came under its number
+pub left_own : (log : List Coming) (limits : Limits) (e : EnvNo) (l : List Newcomer) (desks : List FreeState) → ((i : ℕ) (n : Newcomer) → slice_get l i ≡ Some n → slice_get (came log) n.thread.0 ≡ Some n) → AreLeft log limits e l desks
+    → All (λ f. IsOwn log limits e f) desks
+left_own log limits e [] desks listed left = subst (λ (d : List FreeState). All (λ f. IsOwn log limits e f) d) (sym left) (All-nil (λ f. IsOwn log limits e f))
+left_own log limits e (n ∷ l) desks listed left =
+    subst (λ (d : List FreeState). All (λ f. IsOwn log limits e f) d) (sym left.2)
+    (one left.0 (lies e n.thread log) left.1 left.3 (left_own log limits e l left.1 (λ i m at. listed (suc i) m at) left.4))
+  where
+    one : (d : Option FreeState) (x : Lies) (rest : List FreeState) → LiesAs x limits e n d → All (λ f. IsOwn log limits e f) rest → All (λ f. IsOwn log limits e f) (and_one d rest)
+    one None x rest is all = all
+    one (Some f) Unused rest is all =
+        All-cons (λ g. IsOwn log limits e g) f rest (subst (λ (g : FreeState). IsOwn log limits e g) (sym (is_same f (new_desk limits e n) is)) (record { at = (n, listed 0 n refl, refl); env = refl; limits_are = refl; clean = record { none_out = λ k. refl; no_word = λ h. refl } })) all
+    one (Some f) Out rest is all = absurd (never is)
+      where
+        never : Some f ≡ None → ⊥
+        never h = cc
+    one (Some f) Returned rest is all =
+        All-cons (λ g. IsOwn log limits e g) f rest
+        (record {
+          at = (n, ap (λ (s : Subject). slice_get (came log) s.thread.0) is.subject ∙ listed 0 n refl, sym is.cell);
+          env = is.env;
+          limits_are = ap (λ (s : Subject). s.limits) is.subject;
+          clean = is.clean;
+        }) all
 
-pub desks_more : (e : EnvNo) (rows : List Row) (r : Row) → desks_in e (rows ++ r ∷ []) ≡ desks_in e rows ++ and_desk (slice_get r.desks.items e.0) []
-desks_more e [] r = refl
-desks_more e (x ∷ rows) r =
-    ap (λ (l : List FreeState). and_desk (slice_get x.desks.items e.0) l) (desks_more e rows r) ∙ and_more (slice_get x.desks.items e.0) (desks_in e rows) (and_desk (slice_get r.desks.items e.0) [])
+-- a row that misses a desk gives none
+missing : (log : List Coming) (limits : Limits) (e : EnvNo) (r : Row) → e.0 < limits.envs → IsRow log limits r → lies e r.newcomer.thread log ≡ Out → slice_get r.desks.items e.0 ≡ Some None
+missing log limits e r there row out =
+    let d = row.each e.0 there in d.1 ∙ ap (λ (x : Option FreeState). Some x) (subst (λ (l : Lies). LiesAs l limits e r.newcomer d.0) out d.2)
+
+set_same : (l : List (Option FreeState)) (i : ℕ) (x : Option FreeState) → slice_get l i ≡ Some x → slice_set l i x ≡ l
+set_same [] i x at = refl
+set_same (y ∷ l) zero x at = ap (λ (z : Option FreeState). z ∷ l) (sym (is_same y x at))
+set_same (y ∷ l) (suc i) x at = ap (λ (m : List (Option FreeState)). y ∷ m) (set_same l i x at)
+
+-- so it is as if it was taken out
+pub taken_before : (log : List Coming) (limits : Limits) (e : EnvNo) (r : Row) → e.0 < limits.envs → IsRow log limits r → lies e r.newcomer.thread log ≡ Out → IsTaken e r r
+taken_before log limits e r there row out = record { newcomer = refl; desks = sym (set_same r.desks.items e.0 None (missing log limits e r there row out)) }
+
+-- and the desks are in the rows behind those that miss theirs
+pub desks_behind : (log : List Coming) (limits : Limits) (e : EnvNo) (rows : List Row) (start : ℕ) → e.0 < limits.envs → ((i : ℕ) (r : Row) → slice_get rows i ≡ Some r → IsRow log limits r)
+    → ((i : ℕ) (r : Row) → i < start → slice_get rows i ≡ Some r → lies e r.newcomer.thread log ≡ Out) → desks_in e rows ≡ desks_in e (drop start rows)
+desks_behind log limits e rows zero there each out = refl
+desks_behind log limits e [] (suc start) there each out = refl
+desks_behind log limits e (r ∷ rows) (suc start) there each out =
+    ap (λ (x : Option (Option FreeState)). and_desk x (desks_in e rows)) (missing log limits e r there (each 0 r refl) (out 0 r (omega arith) refl))
+    ∙ desks_behind log limits e rows start there (λ i q at. each (suc i) q at) (λ i q h at. out (suc i) q (omega (arith, h)) at)
+
+-- the desks in a row and in those behind it
+pub drop_step : (rows : List Row) (i n : ℕ) (r : Row) → n ≡ suc i → slice_get rows i ≡ Some r → drop i rows ≡ r ∷ drop n rows
+drop_step [] i n r e at = absurd (nothing_at i r at)
+drop_step (x ∷ rows) i zero r e at = absurd (omega (arith, e))
+drop_step (x ∷ rows) zero (suc n) r e at =
+    let none : n ≡ 0 = omega (arith, e) in
+    ap (λ (y : Row). y ∷ rows) (is_same x r at) ∙ ap (λ (k : ℕ). r ∷ drop k rows) (sym none)
+drop_step (x ∷ rows) (suc i) (suc n) r e at = drop_step rows i n r (omega (arith, e)) at
+
+pub drop_past : (rows : List Row) (n : ℕ) → length rows ≤ n → drop n rows ≡ []
+drop_past [] zero h = refl
+drop_past [] (suc n) h = refl
+drop_past (x ∷ rows) zero h = absurd (omega (arith, h))
+drop_past (x ∷ rows) (suc n) h = drop_past rows n (omega (arith, h))
 
 -- Threads that are there
 
@@ -383,3 +515,22 @@ none_live (r ∷ rows) t other =
 
 pub rows_count : (rows : List Row) (l : List Newcomer) → newcomers rows ≡ l → length rows ≡ length l
 rows_count rows l e = sym (length_map (λ (r : Row). r.newcomer) rows) ∙ ap (λ (k : List Newcomer). length k) e
+
+-- nothing has happened
+rows_empty : (limits : Limits) → AreRows [] limits [] (replicate limits.envs None)
+rows_empty limits = record {
+  live_are = refl;
+  each = λ i r at. absurd (nothing_at i r at);
+  places = length-replicate limits.envs None;
+  marks_are = λ p h. get_replicated limits.envs p None h;
+  fresh = λ e t h. refl;
+  passed = λ e m t is h. absurd (nothing_noted m is);
+  listed = λ i n at. absurd (nothing_at i n at);
+  rising = omega arith;
+}
+  where
+    nothing_noted : (m : ℕ) → None ≡ Some m → ⊥
+    nothing_noted m e = cc
+
+pub rows_none : (log : List Coming) (limits : Limits) (rows : List Row) (marks : List (Option ℕ)) → log ≡ [] → rows ≡ [] → marks ≡ replicate limits.envs None → AreRows log limits rows marks
+rows_none log limits rows marks none empty free = subst (λ (x : List Coming × List Row × List (Option ℕ)). AreRows x.0 limits x.1 x.2) (λ j. (sym none j, sym empty j, sym free j)) (rows_empty limits)

@@ -11,11 +11,12 @@ use Rattle.ti_types.specs.declared.limits.Limits.{Limits}
 use Rattle.ti_types.specs.declared.numbers.EnvNo.{EnvNo}
 use Rattle.ti_roster.specs.declared.coming.Coming.{Coming}
 use Rattle.ti_roster.specs.declared.view.RosterView.{RosterView}
-use Rattle.ti_roster.specs.Log.{Log, mark_of}
+use Rattle.ti_roster.specs.Log.{Log, mark_of, noted}
 use Rattle.ti_roster.specs.View.{first_view, holding, stored, split_off}
 use Rattle.ti_roster.specs.Word.{word_of}
 use Rattle.ti_roster.specs.Rule.{Begins, Holds, Claims, Placed, Kept, Moves, IsFound, MayStore, locks, frees, glances}
 use Rattle.ti_roster.proofs.Views.{at_end, one_set, one_each_set, one_each_same, one_each_end}
+use Rattle.ti_roster.proofs.Logs.{mark_noted}
 use Rattle.ti_roster.proofs.Bits.{counts, even_is_free, locked_is_more}
 
 abbrev Spot : Type 0
@@ -110,12 +111,12 @@ locks_keep limits slots id me old new even up s r _ at _ =
 further : (more log seen : List Coming) → Begins more log → Begins log seen → Begins more seen
 further more log seen b c = (c.0 ++ b.0, b.1 ∙ (ap (λ (l : List Coming). l ++ b.0) c.1 ∙ append_assoc seen c.0 b.0))
 
--- the marks of a place that is neither the storing seat's nor becomes it
-kept_mark : (log after seen : List Coming) (o : Option EnvNo) → Claims log o seen → ((e : EnvNo) → o ≡ Some e → mark_of e after ≡ mark_of e log) → Claims after o seen
+-- what happened to a place that is neither the storing seat's nor becomes it
+kept_mark : (log after seen : List Coming) (o : Option EnvNo) → Claims log o seen → ((e : EnvNo) → o ≡ Some e → noted e after ≡ noted e log) → Claims after o seen
 kept_mark log after seen None c same = tt
-kept_mark log after seen (Some e) c same = (same e refl ∙ c.0, ap (λ (m : Option ℕ). is_some m) (same e refl) ∙ c.1)
+kept_mark log after seen (Some e) c same = (same e refl ∙ c.0, ap (λ (m : Option ℕ). is_some m) (mark_noted e after log (same e refl)) ∙ c.1)
 
--- the marks of the storing seat's place
+-- and to the storing seat's place
 own_mark : (after : List Coming) (o : Option EnvNo) → ((e : EnvNo) → o ≡ Some e → is_some (mark_of e after) ≡ true) → Claims after o after
 own_mark after None there = tt
 own_mark after (Some e) there = (refl, there e refl)

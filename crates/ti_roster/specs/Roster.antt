@@ -1,16 +1,19 @@
 -- What the roster's calls say.
-use Rattle.std.specs.Prelude.{ℕ, ◌≡◌, ◌<◌, nat_lt, Bool, true, false, is_some, if◌then◌else◌, List, Option, Some, None, slice_get}
+use Rattle.std.specs.Prelude.{ℕ, ◌≡◌, ◌<◌, ◌++◌, ◌&&◌, nat_lt, All, Bool, true, false, is_some, if◌then◌else◌, List, [], ◌∷◌, Option, Some, None, slice_get}
+use Rattle.std.specs.List.{fold}
+use Rattle.ti_types.specs.declared.limits.Limits.{Limits}
 use Rattle.ti_types.specs.declared.error.TiError.{TiError}
 use Rattle.ti_types.specs.declared.error.TiError.TheVariants.{InvalidThread, OutOfMemory, ThreadNotAlive}
 use Rattle.ti_types.specs.declared.numbers.EnvNo.{EnvNo}
 use Rattle.ti_types.specs.declared.numbers.ThreadNo.{ThreadNo}
-use Rattle.ti_agent.specs.FreeDesk.{FreeState}
-use Rattle.ti_roster.specs.declared.coming.Coming.TheVariants.{Met}
+use Rattle.ti_agent.specs.FreeDesk.{FreeState, IsClean}
+use Rattle.ti_roster.specs.declared.coming.Coming.{Coming}
+use Rattle.ti_roster.specs.declared.coming.Coming.TheVariants.{Met, GaveBack, Disposed}
 use Rattle.ti_roster.specs.declared.info.ThreadInfo.{ThreadInfo}
 use Rattle.ti_roster.specs.declared.newcomer.Newcomer.{Newcomer}
 use Rattle.ti_roster.specs.Info.{IsSameInfo}
-use Rattle.ti_roster.specs.Log.{Log, is_live, live, mark_of, threads_in, with_item}
-use Rattle.ti_roster.specs.Rows.{left_desks}
+use Rattle.ti_roster.specs.Log.{Lies, Out, Log, is_live, lies, live, mark_of, threads_in, with_item}
+use Rattle.ti_roster.specs.Rows.{AreLeft, IsAt}
 
 -- how much may happen at most
 abbrev pub most_items : ℕ
@@ -40,10 +43,43 @@ serves_of None envs = false
 abbrev pub serves : Log → Bool
 serves r = serves_of r.user r.limits.envs
 
+-- A desk is the environment's, and at the thread that came under its number. Nothing is left there of what environments did
+pub record IsOwn (log : List Coming) (limits : Limits) (e : EnvNo) (f : FreeState) : Type 0 where
+  pub at : IsAt f.desk.view.subject.thread f.desk.cell log
+  pub env : f.desk.env ≡ e
+  pub limits_are : f.desk.view.subject.limits ≡ limits
+  pub clean : IsClean f
+
 -- the environment that is served took these desks
 abbrev pub HasMetOf : Option EnvNo → Log → Log → List FreeState → Type 0
 HasMetOf None old new desks = ⊥
-HasMetOf (Some e) old new desks = (desks ≡ left_desks (mark_of e old.items) old.limits e (live old.items)) × (new ≡ with_item old (Met e (threads_in old.items)))
+HasMetOf (Some e) old new desks =
+    AreLeft old.items old.limits e (live old.items) desks × All (λ f. IsOwn old.items old.limits e f) desks × (new ≡ with_item old (Met e (threads_in old.items)))
 
 abbrev pub HasMet : Log → Log → List FreeState → Type 0
 HasMet old new desks = HasMetOf old.user old new desks
+
+-- a desk may go back: it is that of the environment that is served
+pub record MayGoBack (r : Log) (f : FreeState) : Type 0 where
+  pub served : r.user ≡ Some f.desk.env
+  pub own : IsOwn r.items r.limits f.desk.env f
+
+abbrev pub is_out : Lies → Bool
+is_out Out = true
+is_out _ = false
+
+-- whether the row of its thread misses a desk
+abbrev pub is_missed : Log → FreeState → Bool
+is_missed r f = is_live f.desk.view.subject.thread r.items && is_out (lies f.desk.env f.desk.view.subject.thread r.items)
+
+-- the roster with a desk that went back, if its row misses it
+abbrev pub and_back : Log → FreeState → Log
+and_back r f = if is_missed r f then with_item r (GaveBack f.desk.env f.desk.view.subject.thread) else r
+
+-- the environment that was served is disposed of, and gave these desks back
+abbrev pub HasDisposedOf : Option EnvNo → Log → Log → List FreeState → Type 0
+HasDisposedOf None old new desks = ⊥
+HasDisposedOf (Some e) old new desks = new ≡ record { items = (fold and_back old desks).items ++ Disposed e ∷ []; limits = old.limits; user = None }
+
+abbrev pub HasDisposed : Log → Log → List FreeState → Type 0
+HasDisposed old new desks = HasDisposedOf old.user old new desks

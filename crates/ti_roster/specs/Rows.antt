@@ -1,17 +1,16 @@
 -- The threads that are there, and the desks that no environment has taken.
-use Rattle.std.specs.Prelude.{ℕ, suc, ◌≡◌, ◌<◌, ◌≤◌, ◌-◌, nat_le, Bool, true, if◌then◌else◌, List, [], ◌∷◌, length, map, Option, Some, None, slice_get, slice_set}
-use Rattle.std.specs.List.{filter}
+use Rattle.std.specs.Prelude.{ℕ, suc, ◌≡◌, ◌<◌, ◌≤◌, ◌-◌, List, [], ◌∷◌, length, map, Option, Some, None, slice_get, slice_set}
 use Rattle.atomic_table.specs.Seated.{TableId}
 use Rattle.ti_types.specs.declared.limits.Limits.{Limits}
 use Rattle.ti_types.specs.declared.numbers.EnvNo.{EnvNo}
 use Rattle.ti_types.specs.declared.numbers.ThreadNo.{ThreadNo}
 use Rattle.ti_cell.specs.Seats.{Sitting}
 use Rattle.ti_cell.specs.View.{newcomer, subject_of}
-use Rattle.ti_agent.specs.FreeDesk.{FreeState}
+use Rattle.ti_agent.specs.FreeDesk.{FreeState, IsClean}
 use Rattle.ti_roster.specs.declared.coming.Coming.{Coming}
 use Rattle.ti_roster.specs.declared.newcomer.Newcomer.{Newcomer}
 use Rattle.ti_roster.specs.declared.row.Row.{Row}
-use Rattle.ti_roster.specs.Log.{live, mark_of, threads_in}
+use Rattle.ti_roster.specs.Log.{Lies, Unused, Out, Returned, came, lies, live, mark_of, threads_in}
 
 -- an unused seat of an environment at this cell
 abbrev pub IsEnvSeat : TableId → Sitting → Type 0
@@ -25,18 +24,34 @@ desk_at s = record { desk = record { cell = s.cell; env = record { 0 = s.view.nu
 abbrev pub new_desk : Limits → EnvNo → Newcomer → FreeState
 new_desk limits e n = record { desk = record { cell = n.cell; env = e; view = newcomer (subject_of limits n.thread) (suc e.0) 0; cancelled = [] }; spent = 0 }
 
--- whether an environment has not taken its desk at a thread, by what is noted of its place
-abbrev pub is_left : Option ℕ → ThreadNo → Bool
-is_left None t = true
-is_left (Some m) t = nat_le m t.0
+-- A desk that an environment gave back at a thread. It is the environment's, at the thread's own cell, and nothing is left
+-- there of what the environment did
+pub record IsReturned (limits : Limits) (e : EnvNo) (n : Newcomer) (f : FreeState) : Type 0 where
+  pub cell : f.desk.cell ≡ n.cell
+  pub env : f.desk.env ≡ e
+  pub subject : f.desk.view.subject ≡ subject_of limits n.thread
+  pub clean : IsClean f
 
--- the desk of an environment in the row of a thread, if it is left there
-abbrev pub left_at : List Coming → Limits → Newcomer → EnvNo → Option FreeState
-left_at log limits n e = if is_left (mark_of e log) n.thread then Some (new_desk limits e n) else None
+-- what is in the row of a thread for an environment's place
+abbrev pub LiesAs : Lies → Limits → EnvNo → Newcomer → Option FreeState → Type 0
+LiesAs Unused limits e n d = d ≡ Some (new_desk limits e n)
+LiesAs Out limits e n d = d ≡ None
+LiesAs Returned limits e n None = ⊥
+LiesAs Returned limits e n (Some f) = IsReturned limits e n f
 
--- the desks of an environment that are left at these threads
-abbrev pub left_desks : Option ℕ → Limits → EnvNo → List Newcomer → List FreeState
-left_desks mark limits e l = map (new_desk limits e) (filter (λ n. is_left mark n.thread) l)
+abbrev pub and_one : Option FreeState → List FreeState → List FreeState
+and_one (Some f) l = f ∷ l
+and_one None l = l
+
+-- these are the desks for an environment's place that are in the rows of these threads, in the order of the threads
+abbrev pub AreLeft : List Coming → Limits → EnvNo → List Newcomer → List FreeState → Type 0
+AreLeft log limits e [] desks = desks ≡ []
+AreLeft log limits e (n ∷ l) desks =
+    (first : Option FreeState) × (rest : List FreeState) × (desks ≡ and_one first rest) × LiesAs (lies e n.thread log) limits e n first × AreLeft log limits e l rest
+
+-- the cell of the thread that came under this number
+abbrev pub IsAt : ThreadNo → TableId → List Coming → Type 0
+IsAt t cell log = (n : Newcomer) × (slice_get (came log) t.0 ≡ Some n) × (n.cell ≡ cell)
 
 abbrev pub newcomers : List Row → List Newcomer
 newcomers rows = map (λ r. r.newcomer) rows
@@ -54,12 +69,17 @@ pub record IsIndex (l : List Newcomer) (t : ThreadNo) (i : ℕ) : Type 0 where
 
 pub record IsRow (log : List Coming) (limits : Limits) (r : Row) : Type 0 where
   pub places : length r.desks.items ≡ limits.envs
-  pub each : (p : ℕ) → p < limits.envs → slice_get r.desks.items p ≡ Some (left_at log limits r.newcomer (record { 0 = p }))
+  pub each : (p : ℕ) → p < limits.envs → (d : Option FreeState) × (slice_get r.desks.items p ≡ Some d) × LiesAs (lies (record { 0 = p }) r.newcomer.thread log) limits (record { 0 = p }) r.newcomer d
 
 -- the row of a thread that has just come: no environment has taken its desk
 pub record IsNewRow (limits : Limits) (r : Row) : Type 0 where
   pub places : length r.desks.items ≡ limits.envs
   pub each : (p : ℕ) → p < limits.envs → slice_get r.desks.items p ≡ Some (Some (new_desk limits (record { 0 = p }) r.newcomer))
+
+-- the row after an environment's desk was put into it
+pub record IsPut (e : EnvNo) (f : FreeState) (old new : Row) : Type 0 where
+  pub newcomer : new.newcomer ≡ old.newcomer
+  pub desks : new.desks.items ≡ slice_set old.desks.items e.0 (Some f)
 
 -- the row after an environment's desk was taken out of it, if it was there
 pub record IsTaken (e : EnvNo) (old new : Row) : Type 0 where
@@ -82,5 +102,7 @@ pub record AreRows (log : List Coming) (limits : Limits) (rows : List Row) (mark
   pub each : (i : ℕ) (r : Row) → slice_get rows i ≡ Some r → IsRow log limits r
   pub places : length marks ≡ limits.envs
   pub marks_are : (p : ℕ) → p < limits.envs → slice_get marks p ≡ Some (mark_of (record { 0 = p }) log)
-  pub below : (e : EnvNo) (m : ℕ) → mark_of e log ≡ Some m → m ≤ threads_in log
+  pub fresh : (e : EnvNo) (t : ThreadNo) → threads_in log ≤ t.0 → lies e t log ≡ Unused
+  pub passed : (e : EnvNo) (m : ℕ) (t : ThreadNo) → mark_of e log ≡ Some m → t.0 < m → lies e t log ≡ Out
+  pub listed : (i : ℕ) (n : Newcomer) → slice_get (live log) i ≡ Some n → slice_get (came log) n.thread.0 ≡ Some n
   pub rising : Rising 0 (live log) (threads_in log)

@@ -8,7 +8,7 @@ use Rattle.ti_types.specs.declared.limits.Limits.{Limits}
 use Rattle.ti_types.specs.declared.numbers.EnvNo.{EnvNo}
 use Rattle.ti_roster.specs.declared.coming.Coming.{Coming}
 use Rattle.ti_roster.specs.declared.view.RosterView.{RosterView}
-use Rattle.ti_roster.specs.Log.{Log, mark_of}
+use Rattle.ti_roster.specs.Log.{Log, mark_of, noted}
 use Rattle.ti_roster.specs.View.{holding, stored}
 use Rattle.ti_roster.specs.Word.{word_of}
 
@@ -20,10 +20,10 @@ Begins log seen = (more : List Coming) × (log ≡ seen ++ more)
 abbrev pub Holds : List Coming → Bool → ℕ → ℕ → RosterView → Type 0
 Holds log locked holder j v = v.holds ≡ true → (locked ≡ true) × (j ≡ holder) × (v.seen ≡ log)
 
--- a seat that is an environment's has seen all that was noted of its place
+-- a seat that is an environment's has seen all that happened to its place
 abbrev pub Claims : List Coming → Option EnvNo → List Coming → Type 0
 Claims log None seen = Unit {0}
-Claims log (Some e) seen = (mark_of e log ≡ mark_of e seen) × (is_some (mark_of e log) ≡ true)
+Claims log (Some e) seen = (noted e log ≡ noted e seen) × (is_some (mark_of e log) ≡ true)
 
 -- no two seats are one environment's
 abbrev pub OneEach : List RosterView → Type 0
@@ -47,10 +47,10 @@ pub record Kept (limits : Limits) (s : State (Option Log) RosterView) : Type 0 w
   pub claims : (j : ℕ) (v : RosterView) → get_elem? s.views j ≡ some v → Claims log v.place v.seen
   pub one_each : OneEach s.views
 
--- What whoever holds may do. A seat becomes an environment's only if the environment's place was free. What is noted of
--- other environments' places stays as it is
+-- What whoever holds may do. A seat becomes an environment's only if the environment's place was free. Nothing happens to
+-- other environments' places
 pub record Moves (old new : Option EnvNo) (before after : List Coming) : Type 0 where
-  pub others : (e : EnvNo) → old ≢ Some e → new ≢ Some e → mark_of e after ≡ mark_of e before
+  pub others : (e : EnvNo) → old ≢ Some e → new ≢ Some e → noted e after ≡ noted e before
   pub there : (e : EnvNo) → new ≡ Some e → is_some (mark_of e after) ≡ true
   pub free : (e : EnvNo) → new ≡ Some e → old ≢ Some e → mark_of e before ≡ None
 

@@ -7,16 +7,16 @@ use Rattle.ti_roster.specs.Log.{Log}
 
 -- the view of the first seat
 abbrev pub first_view : Limits → RosterView
-first_view limits = record { limits = limits; seen = []; taken = 0; holds = false; place = None }
+first_view limits = record { limits = limits; seen = []; found = []; taken = 0; holds = false; place = None }
 
 -- the view with the list seen whole, which it holds
 abbrev pub holding : RosterView → List Coming → RosterView
-holding v log = record { limits = v.limits; seen = log; taken = v.taken + 1; holds = true; place = v.place }
+holding v log = record { limits = v.limits; seen = log; found = log; taken = v.taken + 1; holds = true; place = v.place }
 
 -- the view with the roster that it stored
 abbrev pub stored : RosterView → Log → RosterView
-stored v r = record { limits = v.limits; seen = r.items; taken = v.taken; holds = false; place = r.user }
+stored v r = record { limits = v.limits; seen = r.items; found = v.found; taken = v.taken; holds = false; place = r.user }
 
 -- a seat that was made from another knows what that one knew, and is no environment's
 abbrev pub split_off : RosterView → RosterView
-split_off v = record { limits = v.limits; seen = v.seen; taken = 0; holds = false; place = None }
+split_off v = record { limits = v.limits; seen = v.seen; found = v.found; taken = 0; holds = false; place = None }

@@ -13,4 +13,8 @@ pub enum Coming {
     Attached(EnvNo),
     /// An environment has taken its desks at the threads whose numbers are below this one.
     Met(EnvNo, u32),
+    /// An environment that leaves has given its desk at a thread back.
+    GaveBack(EnvNo, ThreadNo),
+    /// An environment is disposed of, and its place is free.
+    Disposed(EnvNo),
 }

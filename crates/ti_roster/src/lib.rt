@@ -8,15 +8,19 @@
 //! - There is one list of what happened, whatever the users do. It begins with all that a seat has seen (`specs/Rule`).
 //! - A hold gives the roster with that list. What it adds is seen by every later hold.
 //! - A thread's number is how many threads came before it. So no two are equal, and none comes again.
+//! - The starts and ends of threads can be read one by one, in the order in which they happened. The last 4,096 are kept.
 //! - An environment that comes has a place that no other has. Nobody but its own seat takes its desks.
 //! - A hold is stored: one that is let go of is a compile error.
 //! - `try_hold` does not wait. `hold` sleeps after some looks, and a store wakes it; no contract says either.
 #![tactic(auto)]
 
 mod coming;
+mod events;
 mod hold;
 mod info;
 mod lends;
+mod life;
+mod life_event;
 mod newcomer;
 mod roster;
 mod roster_cell;
@@ -29,6 +33,7 @@ mod word;
 pub use coming::Coming;
 pub use hold::RosterHold;
 pub use info::ThreadInfo;
+pub use life_event::{EventAt, LifeEvent, LifeKind, NextEvent};
 pub use newcomer::Newcomer;
 pub use roster::Roster;
 pub use roster_cell::RosterCell;

@@ -2,6 +2,8 @@
 
 use crate::coming::Coming;
 use crate::info::ThreadInfo;
+use crate::life::Life;
+use crate::life_event::{LifeEvent, LifeKind};
 use crate::row::{Row, new_row};
 use std::alloc::Global;
 use std::marker::Model;
@@ -27,10 +29,13 @@ pub struct Roster {
     /// What is noted of each environment's place. `None` while no environment has it. Otherwise the environment has taken its
     /// desks at the threads below this number.
     marks: Vec<Option<u32>>,
+    /// The events of threads' lives.
+    pub(crate) life: Life,
 }
 
 impl Model for Roster {
     ghost use Rattle.std.specs.Prelude.{◌≡◌, ◌<◌, ◌^◌, length};
+    ghost use Rattle.ti_roster.specs.Events.{AreEvents};
     ghost use Rattle.ti_roster.specs.Log.{Log, threads_in};
     ghost use Rattle.ti_roster.specs.Rows.{AreRows};
 
@@ -38,7 +43,7 @@ impl Model for Roster {
 
     ghost view = { λ r. record { items = r.log.items; limits = r.limits; user = r.user } };
 
-    ghost invariant = { λ r. (r.len ≡ length r.log.items) × (r.len < 2 ^ 62) × (r.next ≡ threads_in r.log.items) × AreRows r.log.items r.limits r.rows.items r.marks.items };
+    ghost invariant = { λ r. (r.len ≡ length r.log.items) × (r.len < 2 ^ 62) × (r.next ≡ threads_in r.log.items) × AreRows r.log.items r.limits r.rows.items r.marks.items × AreEvents r.log.items r.life.events };
 }
 
 impl Roster {
@@ -56,6 +61,7 @@ impl Roster {
             user: None,
             rows: Vec::new(alloc),
             marks: vec![in alloc; None; limits.envs as usize]?,
+            life: Life::new(alloc)?,
         })
     }
 
@@ -100,6 +106,10 @@ impl Roster {
         let (fresh, row) = new_row(alloc, self.limits, ThreadNo(self.next), info)?;
         self.rows.reserve(1)?;
         let Row { newcomer, desks } = row;
+        self.life.push(LifeEvent {
+            kind: LifeKind::ThreadStart,
+            thread: newcomer.thread,
+        });
         let coming = Coming::Came(newcomer);
         self.log = self.log.and(&coming);
         let Coming::Came(newcomer) = coming else {
@@ -118,17 +128,36 @@ impl Roster {
         self.index_of(thread).is_some()
     }
 
+    /// How many of the threads that are there have a number below this one. It looks by halves.
+    fn count_below(&self, number: u32) -> usize
+        ensures within { result ≤ length (live self.now.items) }
+        ensures below { (j : ℕ) (n : Newcomer) → j < result → slice_get (live self.now.items) j ≡ Some n → n.thread.0 < number }
+        ensures from { (j : ℕ) (n : Newcomer) → result ≤ j → slice_get (live self.now.items) j ≡ Some n → number ≤ n.thread.0 }
+    {
+        let mut low = 0;
+        let mut high = self.rows.len();
+        while low < high {
+            let middle = low + (high - low) / 2;
+            if self.rows[middle].thread().0 < number {
+                low = middle + 1;
+            } else {
+                high = middle;
+            }
+        }
+        low
+    }
+
     /// The index of a thread's row, if the thread is there.
     fn index_of(&self, thread: ThreadNo) -> Option<usize>
         ensures there { IfSome result (λ i. IsIndex (live self.now.items) thread i) }
         ensures none { IfNone result (is_live thread self.now.items ≡ false) }
     {
-        for i in 0..self.rows.len() {
-            if self.rows[i].thread().0 == thread.0 {
-                return Some(i);
-            }
+        let i = self.count_below(thread.0);
+        if i < self.rows.len() && self.rows[i].thread().0 == thread.0 {
+            Some(i)
+        } else {
+            None
         }
-        None
     }
 
     /// The limits of all threads and environments.
@@ -206,6 +235,10 @@ impl Roster {
             return Err(TiError::OutOfMemory);
         }
         let _row = self.rows.remove(i);
+        self.life.push(LifeEvent {
+            kind: LifeKind::ThreadEnd,
+            thread,
+        });
         self.log = self.log.and(&Coming::Ended(thread));
         self.len += 1;
         Ok(())
@@ -249,6 +282,17 @@ impl Roster {
         Ok(env)
     }
 
+    /// An environment's desks at the threads below this number are in no row.
+    fn first_left(&self, env: EnvNo) -> u32
+        requires { env.0 < self.now.limits.envs }
+        ensures { (t : ThreadNo) → t.0 < result → lies env t self.now.items ≡ Out }
+    {
+        match self.marks[env.0 as usize] {
+            Some(first) => first,
+            None => 0,
+        }
+    }
+
     /// The environment that the roster serves takes its desks at the threads that came since it last did, and are there. The
     /// desks are in the order of their threads' numbers, and unused.
     ///
@@ -270,23 +314,78 @@ impl Roster {
             return Err(TiError::OutOfMemory);
         }
         let mut desks = Vec::with_capacity(alloc, self.rows.len())?;
-        take_desks(&mut self.rows, env, &mut desks);
+        let first = self.count_below(self.first_left(env));
+        take_desks(&mut self.rows, first, env, &mut desks);
         self.marks[env.0 as usize] = Some(self.next);
         self.log = self.log.and(&Coming::Met(env, self.next));
         self.len += 1;
         Ok(desks)
     }
+
+    /// The desk of an environment that leaves goes into the row of its thread. If the thread was given back, or its row has
+    /// the desk, it is let go of.
+    fn take_back(&mut self, desk: FreeDesk)
+        requires may { MayGoBack self.old desk }
+        requires place { desk.desk.env.0 < self.old.limits.envs }
+        requires room { length self.old.items < most_items }
+        ensures { self.new ≡ and_back self.old desk }
+    {
+        let (env, thread) = (desk.env(), desk.thread());
+        let Some(i) = self.index_of(thread) else {
+            return;
+        };
+        let place = env.0 as usize;
+        if self.rows[i].has(place) {
+            return;
+        }
+        self.rows[i].put(place, desk);
+        self.marks[place] = Some(0);
+        self.log = self.log.and(&Coming::GaveBack(env, thread));
+        self.len += 1;
+    }
+
+    /// The environment that the roster serves is disposed of. Its place is free, and the roster serves nobody. Each of its
+    /// desks goes back into the row of its thread, unless the thread was given back: then the desk is let go of.
+    ///
+    /// The error is the first of these that fits, and then nothing changes, and the desks come back:
+    ///
+    /// - 116 INVALID_ENVIRONMENT: the roster serves no environment, or none of this service.
+    /// - 110 OUT_OF_MEMORY: there were 2^62 - 1 comings and goings in all (this profile).
+    pub fn dispose(&mut self, desks: Vec<FreeDesk>) -> Result<(), (TiError, Vec<FreeDesk>)>
+        requires { All (λ f. MayGoBack self.old f) desks.items }
+        ensures disposed { OnOk result (HasDisposed self.old self.new desks.items) }
+        ensures refused { IfErr result (λ r. r.0 ≡ (if serves self.old then OutOfMemory else InvalidEnvironment)) }
+        ensures back { IfErr result (λ r. r.1 ≡ desks) }
+        ensures unchanged { OnErr result (self.new ≡ self.old) }
+    {
+        let env = match self.user {
+            Some(env) if env.0 < self.limits.envs => env,
+            _ => return Err((TiError::InvalidEnvironment, desks)),
+        };
+        if self.len + desks.len() as u64 >= LAST {
+            return Err((TiError::OutOfMemory, desks));
+        }
+        for desk in desks {
+            self.take_back(desk);
+        }
+        self.marks[env.0 as usize] = None;
+        self.log = self.log.and(&Coming::Disposed(env));
+        self.len += 1;
+        self.user = None;
+        Ok(())
+    }
 }
 
-/// Takes the desks of an environment out of all rows, in which there is a place for it.
-fn take_desks(rows: &mut Vec<Row>, env: EnvNo, desks: &mut Vec<FreeDesk>)
+/// Takes the desks of an environment out of the rows from an index on, in which there is a place for it.
+fn take_desks(rows: &mut Vec<Row>, start: usize, env: EnvNo, desks: &mut Vec<FreeDesk>)
     requires places { (i : ℕ) (r : Row) → slice_get rows.old.items i ≡ Some r → env.0 < length r.desks.items }
     requires room { length desks.old.items + length rows.old.items ≤ vec_capacity desks.old }
     ensures count { length rows.new.items ≡ length rows.old.items }
-    ensures each { (i : ℕ) (r q : Row) → slice_get rows.old.items i ≡ Some r → slice_get rows.new.items i ≡ Some q → IsTaken env r q }
-    ensures desks { desks.new.items ≡ desks.old.items ++ desks_in env rows.old.items }
+    ensures before { (i : ℕ) (r q : Row) → i < start → slice_get rows.old.items i ≡ Some r → slice_get rows.new.items i ≡ Some q → q ≡ r }
+    ensures each { (i : ℕ) (r q : Row) → start ≤ i → slice_get rows.old.items i ≡ Some r → slice_get rows.new.items i ≡ Some q → IsTaken env r q }
+    ensures desks { desks.new.items ≡ desks.old.items ++ desks_in env (drop start rows.old.items) }
 {
-    for i in 0..rows.len() {
+    for i in start..rows.len() {
         if let Some(desk) = rows[i].take(env.0 as usize) {
             desks.push_reserved(desk);
         }
@@ -296,11 +395,13 @@ fn take_desks(rows: &mut Vec<Row>, env: EnvNo, desks: &mut Vec<FreeDesk>)
 /// How much may happen at most.
 const LAST: u64 = (1 << 62) - 1;
 
-ghost use Rattle.std.specs.Prelude.{◌≡◌, ◌<◌, ◌≤◌, ◌^◌, ◌+◌, ◌++◌, ◌∷◌, [], ℕ, true, false, length, map, nat_lt, slice_get, vec_capacity, None, Some, IfOk, IfErr, IfSome, IfNone, OnOk, OnErr, if◌then◌else◌};
+ghost use Rattle.std.specs.Prelude.{◌≡◌, ◌<◌, ◌≤◌, ◌^◌, ◌+◌, ◌++◌, ◌∷◌, [], ℕ, All, true, false, drop, length, map, nat_lt, slice_get, vec_capacity, None, Some, IfOk, IfErr, IfSome, IfNone, OnOk, OnErr, if◌then◌else◌};
 ghost use Rattle.ti_types.specs.declared.error.TiError.TheVariants.{InvalidEnvironment, InvalidThread, OutOfMemory, ThreadNotAlive};
 ghost use Rattle.ti_cell.specs.View.{newcomer, subject_of};
 ghost use Rattle.ti_roster.specs.declared.coming.Coming.TheVariants.{Came, Ended, Attached};
-ghost use Rattle.ti_roster.specs.Log.{threads_in, mark_of, live, is_live, with_item, with_user};
+ghost use Rattle.ti_roster.specs.Log.{Out, lies, threads_in, mark_of, live, is_live, with_item, with_user};
+ghost use Rattle.ti_types.specs.declared.numbers.ThreadNo.{ThreadNo};
+ghost use Rattle.ti_roster.specs.declared.newcomer.Newcomer.{Newcomer};
 ghost use Rattle.ti_roster.specs.declared.row.Row.{Row};
-ghost use Rattle.ti_roster.specs.Roster.{AreTaken, HasMet, IsToldOf, end_refusal, most_items, serves};
+ghost use Rattle.ti_roster.specs.Roster.{AreTaken, HasDisposed, HasMet, IsToldOf, MayGoBack, and_back, end_refusal, most_items, serves};
 ghost use Rattle.ti_roster.specs.Rows.{IsIndex, IsTaken, desks_in};

@@ -11,6 +11,7 @@ use std::alloc::{AllocError, Global};
 use std::marker::Model;
 use std::sync::Wait;
 use std::sync::atomic::{AtomicU64, Ordering};
+use std::time::Duration;
 use ti_types::{Limits, TiError};
 
 /// A roster behind one word.
@@ -203,6 +204,19 @@ impl RosterCell {
         };
         if !word.is_free() {
             self.table.shared.park(rt, 0, word.low_half());
+        }
+        self.sleepers.fetch_sub(1, Ordering::SeqCst);
+    }
+
+    /// Sleeps until somebody stores, if no more has happened than the seat has seen, and for at most this time. It may return
+    /// sooner.
+    pub fn sleep_without_news_for<R: Wait>(&self, rt: &R, seat: &RosterSeat, time: Duration) {
+        self.sleepers.fetch_add(1, Ordering::SeqCst);
+        let word = Word {
+            bits: self.table.shared.peek(0),
+        };
+        if word.count() <= seat.seen_len() {
+            self.table.shared.park_timeout(rt, 0, word.low_half(), time);
         }
         self.sleepers.fetch_sub(1, Ordering::SeqCst);
     }

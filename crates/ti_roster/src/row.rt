@@ -33,6 +33,23 @@ impl Row {
     {
         self.desks[place].take()
     }
+
+    /// Whether the desk at a place is here. There has to be such a place.
+    pub(crate) fn has(&self, place: usize) -> bool
+        requires { place < length self.now.desks.items }
+        ensures { (slice_get self.now.desks.items place ≡ Some None) ↔ (result ≡ false) }
+    {
+        self.desks[place].is_some()
+    }
+
+    /// Puts a desk at a place. There has to be such a place.
+    pub(crate) fn put(&mut self, place: usize, desk: FreeDesk)
+        requires { place < length self.old.desks.items }
+        ensures newcomer { self.new.newcomer ≡ self.old.newcomer }
+        ensures put { self.new.desks.items ≡ slice_set self.old.desks.items place (Some desk) }
+    {
+        self.desks[place] = Some(desk);
+    }
 }
 
 /// The row of a new thread, at which no environment has taken its desk, and the thread itself, which has not started.
@@ -78,7 +95,7 @@ fn desks_of(
     Ok(desks)
 }
 
-ghost use Rattle.std.specs.Prelude.{◌≡◌, ◌<◌, ◌+◌, length, map, All, Some, None, slice_get, slice_set, IfOk, IfErr};
+ghost use Rattle.std.specs.Prelude.{◌≡◌, ◌↔◌, ◌<◌, ◌+◌, false, length, map, All, Some, None, slice_get, slice_set, IfOk, IfErr};
 ghost use Rattle.ti_types.specs.declared.error.TiError.TheVariants.{OutOfMemory};
 ghost use Rattle.ti_cell.specs.View.{newcomer, subject_of};
 ghost use Rattle.ti_roster.specs.Rows.{IsEnvSeat, IsNewRow, desk_at};

@@ -11,6 +11,8 @@ pub struct RosterView {
     pub limits: Limits,
     /// A prefix of what happened, which was seen.
     pub seen: LinkedList<Coming>,
+    /// What had happened when the seat last took the cell. What follows in `seen` is its own.
+    pub found: LinkedList<Coming>,
     /// How often the seat took the cell.
     pub taken: u64,
     /// Whether the seat holds the cell.

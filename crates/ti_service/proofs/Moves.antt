@@ -1,27 +1,27 @@
 -- What a handle puts back of the roster.
-use Rattle.std.proofs.Common.{◌≡◌, ℕ, List, [], ◌∷◌, ◌++◌, map, Option, Some, None, refl, sym, ap, ◌∙◌, append-nil, append_assoc, subst}
-use Rattle.std.specs.Prelude.{◌<◌, All, Result, Ok, Err, IfOk, IfErr, OnErr, reverse}
-use Rattle.std.specs.List.{filter, fold}
+use Rattle.std.proofs.Common.{◌≡◌, ℕ, List, [], ◌∷◌, ◌++◌, Option, Some, None, refl, sym, ap, ◌∙◌, append-nil, append_assoc, subst}
+use Rattle.std.specs.Prelude.{All, OnOk, ◌<◌, Result, Ok, Err, IfOk, IfErr, OnErr, reverse}
+use Rattle.std.specs.List.{fold}
 use Rattle.std.proofs.lemmas.List.{reverse-append}
-use Rattle.std.proofs.lemmas.List.Elements.{All-cons, All-head, All-nil, All-tail}
+use Rattle.std.proofs.lemmas.List.Elements.{All-weaker}
 use Rattle.std.proofs.lemmas.List.Sums.{fold-append}
 use Rattle.atomic_table.specs.Seated.{TableId}
 use Rattle.ti_types.specs.declared.error.TiError.{TiError}
-use Rattle.ti_types.specs.declared.limits.Limits.{Limits}
 use Rattle.ti_types.specs.declared.numbers.EnvNo.{EnvNo}
 use Rattle.ti_agent.specs.Desks.{with_desk}
 use Rattle.ti_agent.specs.Env.{Environment}
 use Rattle.ti_agent.specs.FreeDesk.{FreeState}
 use Rattle.ti_roster.specs.declared.coming.Coming.{Coming}
-use Rattle.ti_roster.specs.declared.coming.Coming.TheVariants.{Attached, Met}
-use Rattle.ti_roster.specs.declared.newcomer.Newcomer.{Newcomer}
+use Rattle.ti_roster.specs.declared.coming.Coming.TheVariants.{Attached, Met, Disposed}
 use Rattle.ti_roster.specs.Log.{Log, live, mark_of, threads_in, with_item, with_user}
-use Rattle.ti_roster.specs.Roster.{HasMetOf}
-use Rattle.ti_roster.specs.Rows.{is_left, left_desks, new_desk}
-use Rattle.ti_roster.specs.Rule.{Claims, Moves}
+use Rattle.ti_roster.specs.Roster.{HasDisposedOf, HasMetOf, IsOwn, MayGoBack}
+use Rattle.ti_roster.specs.Rows.{AreLeft}
+use Rattle.ti_roster.specs.Rule.{Begins, Claims, Moves}
 use Rattle.ti_roster.specs.Seats.{Sitting}
-use Rattle.ti_roster.proofs.Moving.{may_attach, may_meet, may_stay}
+use Rattle.ti_roster.proofs.Moving.{may_attach, may_dispose, may_meet, may_stay, other_env, own_then}
+use Rattle.ti_roster.proofs.Returning.{backs_own}
 use Rattle.ti_service.specs.Agent.{AgentState, Meets, MeetsSome, Moved, knowing}
+use Rattle.ti_service.proofs.Homes.{own_later}
 use Rattle.ti_service.specs.Service.{Holds, Member, TakesDesks, member_in}
 
 -- what a handle's seat knows is what the handle knows
@@ -35,29 +35,50 @@ claim_moves o r r' seen (Err e) nobody claims user free is same = (may_stay o r 
 
 met_moves : (u o : Option EnvNo) (r r' : Log) (desks : List FreeState) → r.user ≡ u → r.user ≡ o → HasMetOf u r r' desks → Moves o r'.user r.items r'.items
 met_moves None o r r' desks is user met = absurd met
-met_moves (Some e) o r r' desks is user met = (may_meet o r r' e (threads_in r.items) (sym user ∙ is) user met.1).moves
+met_moves (Some e) o r r' desks is user met = (may_meet o r r' e (threads_in r.items) (sym user ∙ is) user met.2).moves
 
 pub meet_moves : {V : Type 0} (items : V → List FreeState) (o : Option EnvNo) (r r' : Log) (seen : List Coming) (res : Result V TiError) → Claims r.items o seen → r.user ≡ o
     → IfOk res (λ d. HasMetOf r.user r r' (items d)) → OnErr res (r' ≡ r) → Moves o r'.user r.items r'.items
 meet_moves items o r r' seen (Ok d) claims user met same = met_moves r.user o r r' (items d) (λ i. r.user) user met
 meet_moves items o r r' seen (Err e) claims user met same = (may_stay o r r' seen claims user same).moves
 
+-- The environment of a handle is disposed of
+
+-- its desks may go back into the roster as it was found
+pub all_back : (r : Log) (seen : List Coming) (e : EnvNo) (desks : List FreeState) → r.user ≡ Some e → Begins r.items seen → All (IsOwn seen r.limits e) desks → All (λ f. MayGoBack r f) desks
+all_back r seen e desks user b own =
+    All-weaker (IsOwn seen r.limits e) (λ f. MayGoBack r f) (λ f o. (let now = own_later seen r.items r.limits e f b o in record {
+      served = user ∙ ap (λ (x : EnvNo). Some x) (sym o.env);
+      own = subst (λ (x : EnvNo). IsOwn r.items r.limits x f) (sym o.env) now;
+    })) desks own
+
+disposed_moves : (u o : Option EnvNo) (r r' : Log) (desks : List FreeState) → r.user ≡ u → r.user ≡ o → All (λ f. MayGoBack r f) desks → HasDisposedOf u r r' desks → Moves o r'.user r.items r'.items
+disposed_moves None o r r' desks is user may gone = absurd gone
+disposed_moves (Some e) o r r' desks is user may gone =
+    let back = backs_own e r desks is may in
+    let items : r'.items ≡ r.items ++ (back.0 ++ Disposed e ∷ []) = ap (λ (x : Log). x.items) gone ∙ (ap (λ (l : List Coming). l ++ Disposed e ∷ []) back.1 ∙ append_assoc r.items back.0 (Disposed e ∷ [])) in
+    let now : r' ≡ record { items = r.items ++ (back.0 ++ Disposed e ∷ []); limits = r.limits; user = None } = λ j. record { items = items j; limits = (gone j).limits; user = (gone j).user } in
+    (may_dispose o r r' e (back.0 ++ Disposed e ∷ []) (sym user ∙ is) (own_then e back.0 (Disposed e) back.2 (λ f other. other_env e f other)) now).moves
+
+pub leave_moves : {V : Type 0} (o : Option EnvNo) (r r' : Log) (seen : List Coming) (desks : List FreeState) (res : Result (Unit {0}) V) → Claims r.items o seen → r.user ≡ o → All (λ f. MayGoBack r f) desks
+    → OnOk res (HasDisposedOf r.user r r' desks) → OnErr res (r' ≡ r) → Moves o r'.user r.items r'.items
+leave_moves o r r' seen desks (Ok d) claims user may gone same = disposed_moves r.user o r r' desks (λ i. r.user) user may gone
+leave_moves o r r' seen desks (Err e) claims user may gone same = (may_stay o r r' seen claims user same).moves
+
+-- what went back begins with what was there
+disposed_begins : (u : Option EnvNo) (r r' : Log) (desks : List FreeState) → r.user ≡ u → All (λ f. MayGoBack r f) desks → HasDisposedOf u r r' desks → Begins r'.items r.items
+disposed_begins None r r' desks is may gone = absurd gone
+disposed_begins (Some e) r r' desks is may gone =
+    let back = backs_own e r desks is may in (
+      back.0 ++ Disposed e ∷ [],
+      ap (λ (x : Log). x.items) gone ∙ (ap (λ (l : List Coming). l ++ Disposed e ∷ []) back.1 ∙ append_assoc r.items back.0 (Disposed e ∷ [])),
+    )
+
+pub leave_begins : {V : Type 0} (r r' : Log) (desks : List FreeState) (res : Result (Unit {0}) V) → All (λ f. MayGoBack r f) desks → OnOk res (HasDisposedOf r.user r r' desks) → OnErr res (r' ≡ r) → Begins r'.items r.items
+leave_begins r r' desks (Ok d) may gone same = disposed_begins r.user r r' desks refl may gone
+leave_begins r r' desks (Err e) may gone same = ([], ap (λ (x : Log). x.items) same ∙ sym (append-nil r.items))
+
 -- Desks that wait
-
-pub all_front : {A : Type 0} (P : A → Type 0) (xs ys : List A) → All P (xs ++ ys) → All P xs
-all_front P [] ys a = All-nil P
-all_front P (x ∷ xs) ys a = All-cons P x xs (All-head P x (xs ++ ys) a) (all_front P xs ys (All-tail P x (xs ++ ys) a))
-
-all_new : (limits : Limits) (e : EnvNo) (l : List Newcomer) → All (λ (f : FreeState). f.desk.view.subject.limits ≡ limits) (map (new_desk limits e) l)
-all_new limits e [] = All-nil (λ (f : FreeState). f.desk.view.subject.limits ≡ limits)
-all_new limits e (n ∷ l) = All-cons (λ (f : FreeState). f.desk.view.subject.limits ≡ limits) (new_desk limits e n) (map (new_desk limits e) l) refl (all_new limits e l)
-
-pub all_left : (mark : Option ℕ) (limits : Limits) (e : EnvNo) (l : List Newcomer) → All (λ (f : FreeState). f.desk.view.subject.limits ≡ limits) (left_desks mark limits e l)
-all_left mark limits e l = all_new limits e (filter (λ n. is_left mark n.thread) l)
-
-pub fold_limits : (s : Environment) (l : List FreeState) → (fold with_desk s l).state.limits ≡ s.state.limits
-fold_limits s [] = refl
-fold_limits s (f ∷ l) = fold_limits (with_desk s f) l
 
 pub reverse_twice : {A : Type 0} (l : List A) → reverse (reverse l) ≡ l
 reverse_twice [] = refl
@@ -83,30 +104,33 @@ moved_on old mid more_of new more m none env waits n = record {
 
 -- A meeting: the desks that waited were added, the new ones were taken, and some of them were added
 pub meets_some : (old first taken new : AgentState) (desks : List FreeState) (next : ℕ) → Moved old first [] → first.service ≡ old.service → first.waiting ≡ [] → taken.env ≡ first.env → taken.waiting ≡ reverse desks
-    → TakesDesks first.service.view taken.service.view desks next → Moved taken new [] → new.service ≡ taken.service → (k : MeetsSome old new) × (next ≡ threads_in k.found)
-meets_some old first taken new desks next m same none env waits t n service =
-    let more : List FreeState = left_desks (mark_of t.env t.found) old.service.view.limits t.env (live t.found) in
-    let are : desks ≡ more = t.desks_are ∙ ap (λ (x : Member). left_desks (mark_of t.env t.found) x.view.limits t.env (live t.found)) same in (
+    → TakesDesks first.service.view taken.service.view desks next → Moved taken new [] → new.service ≡ taken.service → new.service.cell ≡ old.service.cell → (k : MeetsSome old new) × (next ≡ threads_in k.found)
+meets_some old first taken new desks next m same none env waits t n service cell =
+    let left = subst (λ (x : Member). AreLeft t.found x.view.limits t.env (live t.found) desks) same t.desks_are in (
       record {
         env = t.env;
         place = ap (λ (x : Member). x.view.place) (sym same) ∙ t.place;
+        cell = cell;
         found = t.found;
         hold = subst (λ (x : Member × Member). Holds x.0.view x.1.view t.found (Met t.env (threads_in t.found) ∷ [])) (λ j. (same j, sym service j)) t.hold;
-        moved = moved_on old first taken new more m none env (waits ∙ ap reverse are) n;
+        taken = desks;
+        left = left;
+        moved = moved_on old first taken new desks m none env waits n;
       },
       t.next_is,
     )
 
 -- all of them were added
-pub meets_all : (old new last : AgentState) → (k : MeetsSome old new) → new.waiting ≡ [] → new.service.cell ≡ old.service.cell → last.service ≡ new.service → last.waiting ≡ [] → last.env ≡ knowing new.env (threads_in k.found) → Meets old last
-meets_all old new last k none cell service last_none env =
-    let more : List FreeState = left_desks (mark_of k.env k.found) old.service.view.limits k.env (live k.found) in
-    let added : k.moved.added ≡ reverse old.waiting ++ more = sym (k.moved.all ∙ (ap (λ (l : List FreeState). k.moved.added ++ reverse l) none ∙ append-nil k.moved.added)) in record {
+pub meets_all : (old new last : AgentState) → (k : MeetsSome old new) → new.waiting ≡ [] → last.service ≡ new.service → last.waiting ≡ [] → last.env ≡ knowing new.env (threads_in k.found) → Meets old last
+meets_all old new last k none service last_none env =
+    let added : k.moved.added ≡ reverse old.waiting ++ k.taken = sym (k.moved.all ∙ (ap (λ (l : List FreeState). k.moved.added ++ reverse l) none ∙ append-nil k.moved.added)) in record {
       env = k.env;
       place = k.place;
-      cell = ap (λ (x : Member). x.cell) service ∙ cell;
+      cell = ap (λ (x : Member). x.cell) service ∙ k.cell;
       found = k.found;
       hold = subst (λ (x : Member). Holds old.service.view x.view k.found (Met k.env (threads_in k.found) ∷ [])) (sym service) k.hold;
+      taken = k.taken;
+      left = k.left;
       env_is = env ∙ ap (λ (s : Environment). knowing s (threads_in k.found)) (k.moved.env ∙ ap (λ (l : List FreeState). fold with_desk old.env l) added);
       none_waits = last_none;
     }

@@ -1,34 +1,36 @@
 -- An agent, and what its calls say.
-use Rattle.std.specs.Prelude.{ℕ, ◌≡◌, ◌≢◌, ◌++◌, List, [], ◌∷◌, Some, None, false, reverse}
+use Rattle.std.specs.Prelude.{ℕ, ◌≡◌, ◌++◌, List, [], ◌∷◌, Option, Some, None, false, reverse}
 use Rattle.std.specs.List.{fold}
 use Rattle.ti_types.specs.declared.error.TiError.{TiError}
-use Rattle.ti_types.specs.declared.error.TiError.TheVariants.{InvalidEnvironment, OutOfMemory}
+use Rattle.ti_types.specs.declared.error.TiError.TheVariants.{IllegalArgument, OutOfMemory}
 use Rattle.ti_types.specs.declared.numbers.EnvNo.{EnvNo}
-use Rattle.ti_types.specs.Refusing.{or_else}
+use Rattle.ti_types.specs.Refusing.{or_else, unless}
 use Rattle.ti_env.specs.Env.{env_at_no_thread, with_known}
-use Rattle.ti_agent.specs.Desks.{desk_refusal, with_desk}
+use Rattle.ti_agent.specs.Desks.{is_new, with_desk}
 use Rattle.ti_agent.specs.Env.{Environment}
 use Rattle.ti_agent.specs.FreeDesk.{FreeState}
 use Rattle.ti_roster.specs.declared.coming.Coming.{Coming}
 use Rattle.ti_roster.specs.declared.coming.Coming.TheVariants.{Attached, Met}
 use Rattle.ti_roster.specs.Log.{live, mark_of, threads_in}
-use Rattle.ti_roster.specs.Rows.{left_desks}
+use Rattle.ti_roster.specs.Rows.{AreLeft}
 use Rattle.ti_roster.specs.Rule.{Begins}
-use Rattle.ti_service.specs.Service.{Holds, Looks, Member, meeting_refusal}
+use Rattle.ti_service.specs.Service.{Holds, Looks, Member}
 
--- its handle, its environment, and the desks that it has taken and not added, the last to be added first
+-- Its handle, its environment, and the desks that it has taken and not added, the last to be added first. Then the index of the
+-- next event that it is to be told, or nothing while its events are disabled
 pub record AgentState : Type 0 where
   pub service : Member
   pub env : Environment
   pub waiting : List FreeState
+  pub events : Option ℕ
 
--- the agent with another environment
-abbrev pub with_env : AgentState → Environment → AgentState
-with_env a e = record { service = a.service; env = e; waiting = a.waiting }
+-- nothing but the environment has changed
+abbrev pub IsRest : AgentState → AgentState → Type 0
+IsRest old new = (new.service ≡ old.service) × (new.waiting ≡ old.waiting) × (new.events ≡ old.events)
 
 -- nothing but what the handle knows has changed
 abbrev pub IsSameBut : AgentState → AgentState → Type 0
-IsSameBut old new = (new.service.cell ≡ old.service.cell) × (new.env ≡ old.env) × (new.waiting ≡ old.waiting)
+IsSameBut old new = (new.service.cell ≡ old.service.cell) × (new.env ≡ old.env) × (new.waiting ≡ old.waiting) × (new.events ≡ old.events)
 
 -- An agent that was just attached. Its environment's number was nobody's, and it is at no thread yet
 pub record IsNewAgent (s : Member) (a : AgentState) : Type 0 where
@@ -36,10 +38,11 @@ pub record IsNewAgent (s : Member) (a : AgentState) : Type 0 where
   pub begins : Begins found s.view.seen
   pub free : mark_of a.env.env found ≡ None
   pub cell : a.service.cell ≡ s.cell
-  pub view : a.service.view ≡ record { limits = s.view.limits; seen = found ++ Attached a.env.env ∷ []; taken = 1; holds = false; place = Some a.env.env }
+  pub view : a.service.view ≡ record { limits = s.view.limits; seen = found ++ Attached a.env.env ∷ []; found = found; taken = 1; holds = false; place = Some a.env.env }
   pub state : a.env.state ≡ env_at_no_thread s.view.limits
   pub desks : a.env.desks ≡ []
   pub waiting : a.waiting ≡ []
+  pub events : a.events ≡ None
 
 -- Of the desks that waited and these, the first ones are the environment's now, and the others wait
 pub record Moved (old new : AgentState) (more : List FreeState) : Type 0 where
@@ -47,10 +50,10 @@ pub record Moved (old new : AgentState) (more : List FreeState) : Type 0 where
   pub all : reverse old.waiting ++ more ≡ added ++ reverse new.waiting
   pub env : new.env ≡ fold with_desk old.env added
 
--- why the next desk that waits was not added
+-- Why the next desk that waits was not added: its number is not above those that the environment knows, or there is no memory
 abbrev pub IsWhyNotOf : Environment → List FreeState → TiError → Type 0
 IsWhyNotOf s [] e = ⊥
-IsWhyNotOf s (f ∷ rest) e = Some e ≡ or_else (desk_refusal s f) (Some OutOfMemory)
+IsWhyNotOf s (f ∷ rest) e = Some e ≡ or_else (unless (is_new s f.desk.view.subject.thread) IllegalArgument) (Some OutOfMemory)
 
 abbrev pub IsWhyNot : AgentState → TiError → Type 0
 IsWhyNot a e = IsWhyNotOf a.env (reverse a.waiting) e
@@ -67,21 +70,31 @@ pub record Meets (old new : AgentState) : Type 0 where
   pub cell : new.service.cell ≡ old.service.cell
   pub found : List Coming
   pub hold : Holds old.service.view new.service.view found (Met env (threads_in found) ∷ [])
-  pub env_is : new.env ≡ knowing (fold with_desk old.env (reverse old.waiting ++ left_desks (mark_of env found) old.service.view.limits env (live found))) (threads_in found)
+  pub taken : List FreeState
+  pub left : AreLeft found old.service.view.limits env (live found) taken
+  pub env_is : new.env ≡ knowing (fold with_desk old.env (reverse old.waiting ++ taken)) (threads_in found)
   pub none_waits : new.waiting ≡ []
 
 -- the same hold, after which some of the desks wait
 pub record MeetsSome (old new : AgentState) : Type 0 where
   pub env : EnvNo
   pub place : old.service.view.place ≡ Some env
+  pub cell : new.service.cell ≡ old.service.cell
   pub found : List Coming
   pub hold : Holds old.service.view new.service.view found (Met env (threads_in found) ∷ [])
-  pub moved : Moved old new (left_desks (mark_of env found) old.service.view.limits env (live found))
+  pub taken : List FreeState
+  pub left : AreLeft found old.service.view.limits env (live found) taken
+  pub moved : Moved old new taken
 
--- Why a meeting failed, and what it left. No desk was lost: the environment's limits are not the service's; a desk that waited
--- was not added; no desk was taken; or one that was taken was not added
+-- Why a meeting failed, and what it left. No desk was lost: a desk that waited was not added; no desk was taken; or one that
+-- was taken was not added
 pub data Keeps (old new : AgentState) (e : TiError) : Type 0 where
-  OtherLimits : old.env.state.limits ≢ old.service.view.limits → new ≡ old → e ≡ InvalidEnvironment → Keeps old new e
   NotAdded : new.service ≡ old.service → Moved old new [] → IsWhyNot new e → Keeps old new e
-  TookNone : Looks old.service.view new.service.view → Moved old new [] → e ≡ meeting_refusal new.service.view → Keeps old new e
+  TookNone : new.service.cell ≡ old.service.cell → Looks old.service.view new.service.view → Moved old new [] → e ≡ OutOfMemory → Keeps old new e
   TookSome : MeetsSome old new → IsWhyNot new e → Keeps old new e
+
+-- the desks that waited are the environment's now, and nothing else has changed
+pub record AddsWaiting (old new : AgentState) : Type 0 where
+  pub service : new.service ≡ old.service
+  pub moved : Moved old new []
+  pub none_waits : new.waiting ≡ []

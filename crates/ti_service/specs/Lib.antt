@@ -1,2 +1,6 @@
 pub mod Service
 pub mod Agent
+pub mod Telling
+pub mod Homes
+pub mod Leaving
+pub mod LettingGo

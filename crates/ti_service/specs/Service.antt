@@ -1,5 +1,6 @@
 -- A handle of the service, and what its calls say.
-use Rattle.std.specs.Prelude.{ℕ, ◌≡◌, ◌+◌, ◌++◌, true, false, if◌then◌else◌, List, [], ◌∷◌, Option, Some, None}
+use Rattle.std.specs.Prelude.{All, ℕ, ◌≡◌, ◌+◌, ◌<◌, ◌++◌, true, false, if◌then◌else◌, List, [], ◌∷◌, Option, Some, None}
+use Rattle.std.specs.List.{fold}
 use Rattle.atomic_table.specs.Seated.{TableId}
 use Rattle.ti_types.specs.Least.{least}
 use Rattle.ti_types.specs.declared.error.TiError.{TiError}
@@ -10,12 +11,12 @@ use Rattle.ti_agent.specs.FreeDesk.{FreeState}
 use Rattle.ti_cell.specs.Seats.{Sitting as ThreadSitting}
 use Rattle.ti_cell.specs.View.{newcomer, subject_of}
 use Rattle.ti_roster.specs.declared.coming.Coming.{Coming}
-use Rattle.ti_roster.specs.declared.coming.Coming.TheVariants.{Came, Ended, Attached, Met}
+use Rattle.ti_roster.specs.declared.coming.Coming.TheVariants.{Came, Ended, Attached, Met, Disposed}
 use Rattle.ti_roster.specs.declared.info.ThreadInfo.{ThreadInfo}
 use Rattle.ti_roster.specs.declared.view.RosterView.{RosterView}
 use Rattle.ti_roster.specs.Log.{Log, is_live, live, mark_of, threads_in}
-use Rattle.ti_roster.specs.Roster.{end_refusal, serves}
-use Rattle.ti_roster.specs.Rows.{left_desks}
+use Rattle.ti_roster.specs.Roster.{IsOwn, and_back, end_refusal, serves}
+use Rattle.ti_roster.specs.Rows.{AreLeft}
 use Rattle.ti_roster.specs.Rule.{Begins, Claims}
 use Rattle.ti_roster.specs.Seats.{Sitting}
 use Rattle.ti_roster.specs.View.{first_view}
@@ -45,7 +46,7 @@ roster_seen v = roster_of v v.seen
 pub record Holds (old new : RosterView) (found more : List Coming) : Type 0 where
   pub begins : Begins found old.seen
   pub claims : Claims found old.place old.seen
-  pub new_is : new ≡ record { limits = old.limits; seen = found ++ more; taken = old.taken + 1; holds = false; place = old.place }
+  pub new_is : new ≡ record { limits = old.limits; seen = found ++ more; found = found; taken = old.taken + 1; holds = false; place = old.place }
 
 -- a hold that added nothing
 abbrev pub Looks : RosterView → RosterView → Type 0
@@ -72,12 +73,13 @@ pub record RefusesEnd (old new : RosterView) (t : ThreadNo) (e : TiError) : Type
 abbrev pub meeting_refusal : RosterView → TiError
 meeting_refusal v = if serves (roster_seen v) then OutOfMemory else InvalidEnvironment
 
--- an environment came, at a place that was nobody's
+-- an environment came, at one of the places of the limits, which was nobody's
 pub record Claimed (old new : RosterView) (e : EnvNo) : Type 0 where
   pub found : List Coming
   pub begins : Begins found old.seen
+  pub there : e.0 < old.limits.envs
   pub free : mark_of e found ≡ None
-  pub new_is : new ≡ record { limits = old.limits; seen = found ++ Attached e ∷ []; taken = old.taken + 1; holds = false; place = Some e }
+  pub new_is : new ≡ record { limits = old.limits; seen = found ++ Attached e ∷ []; found = found; taken = old.taken + 1; holds = false; place = Some e }
 
 -- an environment took its desks at the threads that came since it last did, and are there
 pub record TakesDesks (old new : RosterView) (desks : List FreeState) (next : ℕ) : Type 0 where
@@ -85,5 +87,27 @@ pub record TakesDesks (old new : RosterView) (desks : List FreeState) (next : �
   pub place : old.place ≡ Some env
   pub found : List Coming
   pub hold : Holds old new found (Met env (threads_in found) ∷ [])
-  pub desks_are : desks ≡ left_desks (mark_of env found) old.limits env (live found)
+  pub desks_are : AreLeft found old.limits env (live found) desks
+  pub own : All (IsOwn found old.limits env) desks
   pub next_is : next ≡ threads_in found
+
+-- an environment may give these desks back: they are its own
+pub record MayLeave (v : RosterView) (desks : List FreeState) : Type 0 where
+  pub env : EnvNo
+  pub place : v.place ≡ Some env
+  pub there : env.0 < v.limits.envs
+  pub own : All (IsOwn v.seen v.limits env) desks
+
+-- What happened once an environment is disposed of. Each of its desks went back into the row of its thread, if the thread is
+-- there. Then its place was free
+abbrev pub left_log : Log → EnvNo → List FreeState → List Coming
+left_log r e desks = (fold and_back r desks).items ++ Disposed e ∷ []
+
+-- an environment was disposed of, and gave these desks back
+pub record Leaves (old new : RosterView) (desks : List FreeState) : Type 0 where
+  pub env : EnvNo
+  pub place : old.place ≡ Some env
+  pub found : List Coming
+  pub begins : Begins found old.seen
+  pub claims : Claims found old.place old.seen
+  pub new_is : new ≡ record { limits = old.limits; seen = left_log (roster_of old found) env desks; found = found; taken = old.taken + 1; holds = false; place = None }

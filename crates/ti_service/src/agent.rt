@@ -6,31 +6,83 @@ use std::marker::Model;
 use std::sync::Wait;
 use ti_agent::{Env, FreeDesk};
 use ti_roster::ThreadInfo;
-use ti_types::{Limits, ThreadNo, TiError};
+use ti_types::{ThreadNo, TiError};
 
-/// An environment of the service, with its handle. Its calls are those of the `Env` that it lends.
+/// An environment of the service, with its handle. Its calls have the names of JVM TI, and reach the threads that it has met.
 ///
-/// Contracts see it as an `AgentState`: its handle, its environment, and the desks that it has taken and not added yet.
+/// A call at a thread may be refused before it reaches the thread, with the first of these errors that fits:
+///
+/// - 99 MUST_POSSESS_CAPABILITY: it needs a capability that the agent does not have.
+/// - 10 INVALID_THREAD: the agent has met no thread of this number. But 15 THREAD_NOT_ALIVE if a thread of this number had
+///   come by its last meeting, and it has no desk there.
+/// - 103 ILLEGAL_ARGUMENT: its count or depth is negative.
+/// - 209 CALLS_SPENT (this profile): the agent has no call left at this thread.
+///
+/// Then nothing changes. Otherwise the call spends one call at the thread, and gives the thread's answer, an error included.
+///
+/// Contracts see it as an `AgentState`: its handle, its environment, the desks that it has taken and not added yet, and the
+/// next event that it is to be told. The clauses of a call are those of `ti_agent::Env`, over the environment.
+///
+/// # Examples
+///
+/// ```rattle
+/// # use ti_service::{Service, ThreadInfo};
+/// # use ti_types::{Limits, ThreadNo, TiError};
+/// # let alloc = rt.alloc();
+/// # let limits = Limits::new(1, 1, 4, 16, 8).ok_or("the limits are in range")?;
+/// let mut service = Service::make(alloc, limits)?;
+/// let name = String::from_str(alloc, "main")?;
+/// let running = service.attach_thread(&rt, alloc, ThreadInfo { name, priority: 5 })?.start(&rt);
+/// let mut first = service.attach_environment(&rt, alloc)?;
+/// first.meet(&rt, alloc)?;
+/// first.set_thread_local_storage(&rt, ThreadNo(0), 7)?;
+/// // There is one place for an environment. It is free once the first is disposed of, and nothing of it is left there.
+/// assert!(rt; service.attach_environment(&rt, alloc).is_err());
+/// let Ok(_handle) = first.dispose(&rt, alloc) else {
+///     return Err("there is memory".into());
+/// };
+/// let mut second = service.attach_environment(&rt, alloc)?;
+/// second.meet(&rt, alloc)?;
+/// assert!(rt; second.get_thread_local_storage(&rt, ThreadNo(0)) == Ok(0));
+/// // A thread that was given back is let go of, so that its memory is freed.
+/// assert!(rt; !second.let_go(&rt, ThreadNo(0)));
+/// let Ok(()) = service.end_thread(&rt, running.end(&rt)) else {
+///     return Err("it is there".into());
+/// };
+/// assert!(rt; second.let_go(&rt, ThreadNo(0)));
+/// let word = second.get_thread_local_storage(&rt, ThreadNo(0));
+/// assert!(rt; word == Err(TiError::ThreadNotAlive));
+/// ```
 #[derive(Drop)]
 pub struct Agent {
     pub(crate) service: Service,
     pub(crate) env: Env,
     /// Desks that were taken, and could not be added for lack of memory. The last is added first.
     pub(crate) waiting: Vec<FreeDesk>,
+    /// The index of the next event that it is to be told. `None` while its events are disabled.
+    pub(crate) events: Option<u64>,
 }
 
 impl Model for Agent {
-    ghost use Rattle.std.specs.Prelude.{◌≡◌, All};
     ghost use Rattle.ti_service.specs.Agent.{AgentState};
+    ghost use Rattle.ti_service.specs.Homes.{AreOurs};
 
     ghost Value = { AgentState };
 
-    ghost view = { λ a. record { service = a.service; env = a.env; waiting = a.waiting.items } };
+    ghost view = { λ a. record { service = a.service; env = a.env; waiting = a.waiting.items; events = a.events } };
 
-    ghost invariant = { λ a. All (λ f. f.desk.view.subject.limits ≡ a.service.view.limits) a.waiting.items };
+    ghost invariant = { λ a. AreOurs (record { service = a.service; env = a.env; waiting = a.waiting.items; events = a.events }) };
 }
 
 impl Agent {
+    /// What is always true of it (this profile). Its handle and its environment are one environment's, under the same limits.
+    /// Each of its desks is at the cell of a thread that came to the service under the desk's number.
+    pub fn facts(&self)
+        ensures ours { AreOurs self.now }
+    {
+        let _ = &self.waiting;
+    }
+
     /// Whether threads or environments have come or gone since the agent last looked. It is one load.
     pub fn has_news(&mut self) -> bool
         ensures same { self.new ≡ self.old }
@@ -38,17 +90,10 @@ impl Agent {
         self.service.has_news()
     }
 
-    /// The limits of the environment that was lent.
-    fn env_limits(&self) -> Limits
-        ensures { result ≡ self.now.env.state.limits }
-    {
-        self.env.limits()
-    }
-
-    /// Adds the desks that wait to the environment, the lowest number first. The environment is under the service's limits.
-    fn add_waiting(&mut self) -> Result<(), TiError>
-        requires limits { self.old.env.state.limits ≡ self.old.service.view.limits }
+    /// Adds the desks that wait to the environment, the lowest number first.
+    pub(crate) fn add_waiting(&mut self) -> Result<(), TiError>
         ensures service { self.new.service ≡ self.old.service }
+        ensures events { self.new.events ≡ self.old.events }
         ensures moved { Moved self.old self.new [] }
         ensures done { OnOk result (self.new.waiting ≡ []) }
         ensures refused { IfErr result (λ e. IsWhyNot self.new e) }
@@ -70,18 +115,16 @@ impl Agent {
     ///
     /// The error is the first of these that fits:
     ///
-    /// - 116 INVALID_ENVIRONMENT: the environment that was lent is another service's now.
-    /// - 103 ILLEGAL_ARGUMENT: it is another one now, with a desk at a higher number.
+    /// - 103 ILLEGAL_ARGUMENT: a desk's number is not above those before it. The service gives no such desk. But its list
+    ///   does not say so yet, so the contract allows it.
     /// - 110 OUT_OF_MEMORY: there is no memory for the desks, or the environment has a desk at 65,536 threads.
     ///
     /// Then no desk is lost: those that could not be added are added by the next meeting.
     pub fn meet<R: Wait>(&mut self, rt: &R, alloc: Global) -> Result<(), TiError>
         ensures met { OnOk result (Meets self.old self.new) }
         ensures kept { IfErr result (λ e. Keeps self.old self.new e) }
+        ensures events { self.new.events ≡ self.old.events }
     {
-        if !are_same(self.env_limits(), self.service.limits()) {
-            return Err(TiError::InvalidEnvironment);
-        }
         self.add_waiting()?;
         let (desks, next) = self.service.meet(rt, alloc)?;
         self.waiting = desks;
@@ -121,23 +164,10 @@ impl Agent {
     }
 }
 
-/// Whether two limits are the same, number by number.
-fn are_same(a: Limits, b: Limits) -> bool
-    ensures same { result ≡ true → a ≡ b }
-    ensures other { result ≡ false → a ≢ b }
-{
-    a.threads == b.threads
-        && a.envs == b.envs
-        && a.depth == b.depth
-        && a.own == b.own
-        && a.calls == b.calls
-        && a.window == b.window
-        && a.kept == b.kept
-}
-
-ghost use Rattle.std.specs.Prelude.{◌≡◌, ◌≢◌, true, false, [], map, IfOk, IfErr, OnOk, OnErr};
+ghost use Rattle.std.specs.Prelude.{◌≡◌, [], map, IfOk, IfErr, OnOk};
 ghost use Rattle.ti_types.specs.declared.error.TiError.TheVariants.{OutOfMemory};
 ghost use Rattle.ti_roster.specs.Log.{live};
 ghost use Rattle.ti_roster.specs.Roster.{IsToldOf, end_refusal};
 ghost use Rattle.ti_service.specs.Service.{Looks, roster_seen};
+ghost use Rattle.ti_service.specs.Homes.{AreOurs};
 ghost use Rattle.ti_service.specs.Agent.{IsSameBut, IsWhyNot, Keeps, Meets, Moved};

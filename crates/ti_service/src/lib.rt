@@ -10,14 +10,28 @@
 //! - No two threads have one number, and none is used again.
 //! - An environment that meets the threads has a desk at each thread that came since it last did and is still there.
 //! - A desk at a thread is at the cell that the thread itself has, from the day it was attached.
+//! - An agent's calls reach threads of its own service alone.
 //! - No two agents have one environment's number.
+//! - Agents are told threads' starts and ends in one order, each once. What was lost is counted.
 //! - The list of who is there is held for each coming, going and meeting, and never while a thread is asked.
 #![tactic(auto)]
 
 mod agent;
-mod lends;
+mod agent_tries;
+mod call_deadlines;
+mod call_lists;
+mod call_own;
+mod call_posts;
+mod call_tries;
+mod calls;
+mod dispose;
+mod events;
+mod laws;
+mod let_go;
 mod service;
+mod service_tries;
 
 pub use agent::Agent;
+pub use laws::cleared_words_read_zero;
 pub use service::Service;
-pub use ti_roster::ThreadInfo;
+pub use ti_roster::{LifeEvent, LifeKind, NextEvent, ThreadInfo};

@@ -4,10 +4,11 @@ use crate::agent::Agent;
 use std::alloc::Global;
 use std::marker::Model;
 use std::sync::Wait;
+use std::time::Duration;
 use ti_agent::{Env, FreeDesk};
 use ti_cell::OwnerSeat;
 use ti_handshake::{Ended, Fresh};
-use ti_roster::{RosterSeat, SharedRoster, ThreadInfo};
+use ti_roster::{NextEvent, RosterSeat, SharedRoster, ThreadInfo};
 use ti_types::{EnvNo, Limits, ThreadNo, TiError};
 
 /// A handle of a service. A runtime makes one, and shares it with whoever attaches threads or environments. The service lives
@@ -29,14 +30,14 @@ use ti_types::{EnvNo, Limits, ThreadNo, TiError};
 /// let mut agent = service.attach_environment(&rt, alloc)?;
 /// agent.meet(&rt, alloc)?;
 /// let running = fresh.start(&rt);
-/// assert!(rt; agent.env().get_thread_state(&rt, ThreadNo(0)) == Ok(0x5));
+/// assert!(rt; agent.get_thread_state(&rt, ThreadNo(0)) == Ok(0x5));
 /// // A thread may come later than an environment, too. Its number is the next one.
 /// let name = String::from_str(alloc, "second")?;
 /// let late = service.attach_thread(&rt, alloc, ThreadInfo { name, priority: 5 })?;
-/// assert!(rt; agent.env().get_thread_state(&rt, ThreadNo(1)) == Err(TiError::InvalidThread));
+/// assert!(rt; agent.get_thread_state(&rt, ThreadNo(1)) == Err(TiError::InvalidThread));
 /// assert!(rt; agent.has_news());
 /// agent.meet(&rt, alloc)?;
-/// assert!(rt; agent.env().get_thread_state(&rt, ThreadNo(1)) == Ok(0));
+/// assert!(rt; agent.get_thread_state(&rt, ThreadNo(1)) == Ok(0));
 /// // A thread that has ended is given back, and is there no more.
 /// let Ok(()) = service.end_thread(&rt, running.end(&rt)) else {
 ///     return Err("it is there".into());
@@ -51,9 +52,9 @@ use ti_types::{EnvNo, Limits, ThreadNo, TiError};
 /// ```
 #[derive(Drop)]
 pub struct Service {
-    roster: SharedRoster,
+    pub(crate) roster: SharedRoster,
     /// `None` only while a call holds the roster.
-    seat: Option<RosterSeat>,
+    pub(crate) seat: Option<RosterSeat>,
 }
 
 impl Model for Service {
@@ -126,6 +127,7 @@ impl Service {
         ensures cell { self.new.cell ≡ self.old.cell }
         ensures claimed { IfOk result (λ e. Claimed self.old.view self.new.view e) }
         ensures memory { IfErr result (λ e. e ≡ OutOfMemory) }
+        ensures unchanged { OnErr result (Looks self.old.view self.new.view) }
     {
         let Some(seat) = self.seat.take() else {
             unreachable!()
@@ -154,6 +156,7 @@ impl Service {
             service,
             env,
             waiting,
+            events: None,
         })
     }
 
@@ -181,6 +184,31 @@ impl Service {
             Ok(desks) => Ok((desks, next)),
             Err(error) => Err(error),
         }
+    }
+
+    /// This handle's environment is disposed of, and gives these desks back. The handle is no environment's any more.
+    ///
+    /// 110 OUT_OF_MEMORY if there were 2^62 - 1 comings and goings in all (this profile). Then the desks come back, and
+    /// nothing changes but what the handle has seen.
+    pub(crate) fn leave<R: Wait>(
+        &mut self,
+        rt: &R,
+        desks: Vec<FreeDesk>,
+    ) -> Result<(), (TiError, Vec<FreeDesk>)>
+        requires { MayLeave self.old.view desks.items }
+        ensures cell { self.new.cell ≡ self.old.cell }
+        ensures left { OnOk result (Leaves self.old.view self.new.view desks.items) }
+        ensures memory { IfErr result (λ r. r.0 ≡ OutOfMemory) }
+        ensures back { IfErr result (λ r. r.1 ≡ desks) }
+        ensures unchanged { OnErr result (Looks self.old.view self.new.view) }
+    {
+        let Some(seat) = self.seat.take() else {
+            unreachable!()
+        };
+        let mut hold = self.roster.hold(rt, seat);
+        let left = hold.roster().dispose(desks);
+        self.seat = Some(hold.store());
+        left
     }
 
     /// Attaches a thread. It has the next number, and has not started. Environments have a desk there once they meet it.
@@ -308,12 +336,71 @@ impl Service {
         self.seat = Some(hold.store());
         info
     }
+
+    /// How many starts and ends of threads have happened.
+    pub(crate) fn event_count<R: Wait>(&mut self, rt: &R) -> u64
+        ensures cell { self.new.cell ≡ self.old.cell }
+        ensures hold { Looks self.old.view self.new.view }
+        ensures count { result ≡ length (life_of self.new.view.seen) }
+    {
+        let Some(seat) = self.seat.take() else {
+            unreachable!()
+        };
+        let mut hold = self.roster.hold(rt, seat);
+        let count = hold.roster().events();
+        self.seat = Some(hold.store());
+        count
+    }
+
+    /// The first start or end of a thread from this index on that is kept, and how many were lost before it.
+    pub(crate) fn next_event<R: Wait>(&mut self, rt: &R, from: u64) -> Option<NextEvent>
+        ensures cell { self.new.cell ≡ self.old.cell }
+        ensures hold { Looks self.old.view self.new.view }
+        ensures next { result ≡ next_event (life_of self.new.view.seen) from }
+        ensures fits { IfSome result (λ n. from + n.lost < 2 ^ 62) }
+        ensures order { AreInOrder (life_of self.new.view.seen) }
+    {
+        let Some(seat) = self.seat.take() else {
+            unreachable!()
+        };
+        let mut hold = self.roster.hold(rt, seat);
+        let roster = hold.roster();
+        roster.facts();
+        let next = roster.next_event(from);
+        self.seat = Some(hold.store());
+        next
+    }
+
+    /// Sleeps until somebody else has held the roster, if no more has happened than the handle has seen. It sleeps for at most
+    /// this time, and may return sooner.
+    pub(crate) fn sleep_without_news_for<R: Wait>(&self, rt: &R, time: Duration) {
+        let Some(seat) = &self.seat else {
+            unreachable!()
+        };
+        self.roster.sleep_without_news_for(rt, seat, time);
+    }
+
+    /// Whether a thread of this number is there: it was attached, and not given back (this profile).
+    pub fn is_live<R: Wait>(&mut self, rt: &R, thread: ThreadNo) -> bool
+        ensures cell { self.new.cell ≡ self.old.cell }
+        ensures hold { Looks self.old.view self.new.view }
+        ensures live { result ≡ is_live thread self.new.view.seen }
+    {
+        let Some(seat) = self.seat.take() else {
+            unreachable!()
+        };
+        let mut hold = self.roster.hold(rt, seat);
+        let there = hold.roster().is_live(thread);
+        self.seat = Some(hold.store());
+        there
+    }
 }
 
-ghost use Rattle.std.specs.Prelude.{◌≡◌, None, map, IfOk, IfErr, OnOk, OnErr};
+ghost use Rattle.std.specs.Prelude.{◌≡◌, ◌<◌, ◌+◌, ◌^◌, None, length, map, IfOk, IfErr, IfSome, OnOk, OnErr};
+ghost use Rattle.ti_roster.specs.Events.{AreInOrder, life_of, next_event};
 ghost use Rattle.ti_types.specs.declared.error.TiError.TheVariants.{OutOfMemory};
 ghost use Rattle.ti_roster.specs.View.{first_view, split_off};
-ghost use Rattle.ti_roster.specs.Log.{live};
+ghost use Rattle.ti_roster.specs.Log.{is_live, live};
 ghost use Rattle.ti_roster.specs.Roster.{IsToldOf, end_refusal};
 ghost use Rattle.ti_service.specs.Agent.{IsNewAgent};
-ghost use Rattle.ti_service.specs.Service.{Attaches, Claimed, Ends, Looks, RefusesEnd, TakesDesks, meeting_refusal, roster_seen};
+ghost use Rattle.ti_service.specs.Service.{Attaches, Claimed, Ends, Leaves, Looks, MayLeave, RefusesEnd, TakesDesks, meeting_refusal, roster_seen};

@@ -1,5 +1,6 @@
 -- What a slot tells of its tickets, call by call.
-use Rattle.std.proofs.Common.{◌≡◌, ℕ, ◌+◌, ◌<◌, ◌≤◌, true, false, ◌&&◌, if◌then◌else◌, List, [], ◌∷◌, ◌++◌, length, map, get_or, replicate, suc, zero, refl, ap, sym, ◌∙◌, arith, Option, Some, None, append-nil, append_assoc, subst, is_some}
+use Rattle.std.proofs.Common.{◌≡◌, ℕ, ◌+◌, ◌<◌, ◌≤◌, true, false, ◌&&◌, if◌then◌else◌, List, [], ◌∷◌, ◌++◌, length, map, get_or, replicate, suc, zero, refl, ap, sym, ◌∙◌, arith, Option, Some, None, append-nil, append_assoc, subst, is_some, inl, inr}
+use Rattle.std.proofs.lemmas.Bool.{cases_eq}
 use Rattle.std.specs.Option.{option_map}
 use Rattle.std.proofs.lemmas.List.{length-map, length-replicate}
 use Rattle.std.proofs.lemmas.List.Sums.{sum_by-cons, count_by-le-length}
@@ -27,7 +28,7 @@ use Rattle.ti_frames.specs.Frames.{Stack, with_frames}
 use Rattle.ti_ops.specs.declared.fate.Fate.{Fate}
 use Rattle.ti_ops.specs.declared.fate.Fate.TheVariants.{Waiting, Answered, Gone}
 use Rattle.ti_ops.specs.declared.pending.Pending.{Pending}
-use Rattle.ti_ops.specs.Fates.{fates_by, fate_of, open_by, with_call, with_fate, answer_by, is_open}
+use Rattle.ti_ops.specs.Fates.{fates_by, fate_of, open_by, with_call, with_fate, answer_by, is_open, call_at, IsFirstFrom}
 use Rattle.ti_ops.specs.Ops.{Ops, with_posted, with_fates}
 use Rattle.ti_replay.specs.Answers.{is_running, answer_of}
 use Rattle.ti_replay.specs.Settling.{waits, is_hand_over}
@@ -41,7 +42,7 @@ use Rattle.ti_replay.specs.Tickets.{reply_to}
 use Rattle.ti_slot.specs.declared.slot.Slot.TheInside.{Inside}
 use Rattle.ti_slot.specs.Condition.{view_of, frames_or, AreWhereTheyWere}
 use Rattle.ti_slot.specs.Waiting.{answers_of, entries_of, said_in, said_fate, delivered, IsBufferOf}
-use Rattle.ti_slot.specs.Tickets.{Tells, has, held_by, without_ticket, asked_in, open_in, AreAwaited}
+use Rattle.ti_slot.specs.Tickets.{Tells, NoneBetween, IsNextOut, has, held_by, without_ticket, asked_in, open_in, AreAwaited}
 use Rattle.ti_slot.specs.Thread.{Thread, with_more, IsAsked}
 use Rattle.ti_slot.specs.Inside.{IsSlot, IsWhole, costs_in, thread_in}
 use Rattle.ti_slot.specs.Slot.{Mirrors, shelf}
@@ -275,6 +276,22 @@ out_here a t s e =
 
 pub collected_none : (a : Inside) (t : Ticket) → IsWhole a → (t.thread.0 ≡ a.number.0 → ⊥) → has t (thread_in a).uncollected ≡ false
 collected_none a t s e = not_mine a.limits a.number a.history.items a.ops.waiting (said_in a.ops.fates) t e s.1
+
+-- a call of an environment is out if something is left of the call of its number
+out_as : (a : Inside) (env : EnvNo) (k : Ticket) → IsWhole a → k.env.0 ≡ env.0 → k.thread.0 ≡ a.number.0 → has k (thread_in a).uncollected ≡ is_open (fate_of (call_at env k.no) a.ops.fates)
+out_as a env k s here at = sym (out_here a k s at) ∙ ap (λ (e : ℕ). is_open (get_or (get_or a.ops.fates e []) k.no Gone)) here
+
+-- none of an environment's calls between two numbers is out, if nothing is left of them
+pub none_out : (a : Inside) (env : EnvNo) (from past : ℕ) → IsWhole a → ((n : ℕ) → from ≤ n → n < past → is_open (fate_of (call_at env n) a.ops.fates) ≡ false) → NoneBetween (thread_in a).uncollected env from past
+none_out a env from past s none k here above below =
+    elim (cases_eq k.thread.0 a.number.0) [
+      | inl at ↦ out_as a env k s here at ∙ none k.no above below
+      | inr other ↦ collected_none a k s other
+    ]
+
+pub first_out : (a : Inside) (env : EnvNo) (from n : ℕ) → IsWhole a → IsFirstFrom (λ m. is_open (fate_of (call_at env m) a.ops.fates)) from (Some n)
+    → IsNextOut a.number (thread_in a).uncollected env from (Some (record { env = env; thread = a.number; no = n }))
+first_out a env from n s f = (refl, refl, f.0, out_as a env (record { env = env; thread = a.number; no = n }) s refl refl ∙ f.1, none_out a env from n s (λ m above below. f.2 m above below))
 
 told_fate : (x : Fate) (b : Answer) → answer_by x ≡ Some b → x ≡ Answered b
 told_fate Waiting b e = cc

@@ -1,5 +1,5 @@
 -- Which tickets a slot still has.
-use Rattle.std.specs.Prelude.{ℕ, ◌≡◌, ◌≤◌, Bool, false, ◌==◌, ◌&&◌, nat_lt, if◌then◌else◌, length, List, [], ◌∷◌, Some, None}
+use Rattle.std.specs.Prelude.{ℕ, ◌≡◌, ◌≤◌, ◌<◌, Bool, true, false, ◌==◌, ◌&&◌, nat_lt, if◌then◌else◌, length, List, [], ◌∷◌, Option, Some, None}
 use Rattle.std.specs.List.{list_any, flat_map, count_by}
 use Rattle.ti_types.specs.declared.limits.Limits.{Limits}
 use Rattle.ti_types.specs.declared.numbers.EnvNo.{EnvNo}
@@ -33,6 +33,15 @@ without_ticket t (u ∷ tickets) = if same u t then tickets else u ∷ without_t
 abbrev pub AreOnce : List Ticket → Type 0
 AreOnce [] = Unit {0}
 AreOnce (u ∷ tickets) = (has u tickets ≡ false) × AreOnce tickets
+
+-- none of these is the ticket of a call of an environment, from a number on and below another
+abbrev pub NoneBetween : List Ticket → EnvNo → ℕ → ℕ → Type 0
+NoneBetween tickets env from past = (k : Ticket) → k.env.0 ≡ env.0 → from ≤ k.no → k.no < past → has k tickets ≡ false
+
+-- the first ticket of an environment, from a number on, at a thread of this number
+abbrev pub IsNextOut : ThreadNo → List Ticket → EnvNo → ℕ → Option Ticket → Type 0
+IsNextOut number tickets env from None = (past : ℕ) → NoneBetween tickets env from past
+IsNextOut number tickets env from (Some t) = (t.env ≡ env) × (t.thread ≡ number) × (from ≤ t.no) × (has t tickets ≡ true) × NoneBetween tickets env from t.no
 
 -- the ticket of a call
 abbrev pub ticket_in : ThreadNo → Entry → List Ticket

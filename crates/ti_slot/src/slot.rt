@@ -167,6 +167,21 @@ impl Slot {
         }
     }
 
+    /// The ticket of the first of an environment's calls, from a number on, that waits or has an answer that is not
+    /// collected. `None` if there is none.
+    pub fn next_out(&self, env: EnvNo, from: u64) -> Option<Ticket>
+        ensures { IsNextOut self.now.number self.now.uncollected env from result }
+    {
+        match self.ops.next_out(env, from) {
+            None => None,
+            Some(no) => Some(Ticket {
+                env,
+                thread: self.number,
+                no,
+            }),
+        }
+    }
+
     /// Takes the answer to a call that waited, once it is there: the reply of the history to the ticket.
     ///
     /// `None` before that, and for a ticket that was collected, was answered at once or was never given. Then nothing
@@ -338,7 +353,7 @@ ghost use Rattle.ti_replay.specs.Standing.{is_standing};
 ghost use Rattle.ti_replay.specs.Replies.{reply};
 ghost use Rattle.ti_slot.specs.Thread.{new_slot, with_more, with_tickets, done_or, IsAsked, IsLate, read_answer};
 ghost use Rattle.std.specs.Option.{option_map};
-ghost use Rattle.ti_slot.specs.Tickets.{has, held_by, without_ticket, AreOnce};
+ghost use Rattle.ti_slot.specs.Tickets.{has, held_by, without_ticket, AreOnce, IsNextOut};
 ghost use Rattle.ti_types.specs.declared.event.Ticket.{Ticket};
 ghost use Rattle.ti_types.specs.declared.numbers.EnvNo.{EnvNo};
 ghost use Rattle.std.specs.Prelude.{◌&&◌, ◌==◌, nat_lt};

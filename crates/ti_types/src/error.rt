@@ -56,6 +56,8 @@ pub enum TiError {
     StillRunning,
     /// 214: the time of a call with a deadline is over, and the call was given up. It may still take place.
     TimedOut,
+    /// 215: a form that never waits found the cell in use. Nothing has changed: try again.
+    Busy,
 }
 
 impl TiError {
@@ -89,6 +91,7 @@ impl TiError {
             TiError::NotStopped => 212,
             TiError::StillRunning => 213,
             TiError::TimedOut => 214,
+            TiError::Busy => 215,
         }
     }
 }

@@ -1,4 +1,3 @@
-pub mod StationLaws
 pub mod FoldLaws
 pub mod RootsLaws
 pub mod AskedLaws

@@ -6,7 +6,7 @@ use Rattle.tiprof.specs.declared.options.Way.TheVariants.{Handshake, Standing}
 
 -- the options if no argument says otherwise
 abbrev pub usual : Options
-usual = record { seconds = None; samples = None; jobs = None; interval = 1000; threads = 4; way = Handshake; by_thread = false; svg = false }
+usual = record { seconds = None; samples = None; jobs = None; interval = 1000; threads = 4; churn = None; way = Handshake; by_thread = false; svg = false }
 
 -- it ends after a time, a number of samples, or a number of rounds
 abbrev pub is_bounded : Options → Bool
@@ -51,7 +51,8 @@ with_option o word value =
     else (if bytes_eq word (codes "--jobs") then or_none (λ n. record o { jobs = Some n }) (within 1 4294967295 (number_of value))
     else (if bytes_eq word (codes "--interval") then or_none (λ n. record o { interval = n }) (within 1 60000000 (number_of value))
     else (if bytes_eq word (codes "--threads") then or_none (λ n. record o { threads = n }) (within 1 64 (number_of value))
-    else None))))
+    else (if bytes_eq word (codes "--churn") then or_none (λ n. record o { churn = Some n }) (within 1 10000 (number_of value))
+    else None)))))
 
 -- the options with all of these words set
 abbrev pub with_words : Option Options → List (List ℕ) → Option Options

@@ -1,5 +1,4 @@
 pub mod Workers
-pub mod Stations
 pub mod Folds
 pub mod Roots
 pub mod Asked

@@ -1,10 +1,12 @@
--- Stacks, kept apart by what their threads did and by thread.
-use Rattle.std.specs.Prelude.{ℕ, ◌≡◌, ◌≢◌, ◌+◌, ◌==◌, Bool, bit_and, if◌then◌else◌, codes, List, [], Some, slice_get, slice_set}
+-- Stacks, kept apart by what their threads did and by owner.
+use Rattle.std.specs.Prelude.{ℕ, ◌≡◌, ◌≢◌, ◌+◌, ◌==◌, Bool, bit_and, if◌then◌else◌, nat_lt, codes, List, [], Some, slice_get, slice_set}
 use Rattle.ti_types.specs.declared.numbers.MethodNo.{MethodNo}
 use Rattle.tiprof.specs.declared.fold.Fold.{Fold}
 use Rattle.tiprof.specs.declared.fold.Folded.{Folded}
 use Rattle.tiprof.specs.declared.roots.Doing.{Doing}
 use Rattle.tiprof.specs.declared.roots.Doing.TheVariants.{Running, Away}
+use Rattle.tiprof.specs.declared.roots.Owner.{Owner}
+use Rattle.tiprof.specs.declared.roots.Owner.TheVariants.{Workers, Worker, NewThreads}
 use Rattle.tiprof.specs.declared.roots.Part.{Part}
 use Rattle.tiprof.specs.Folds.{seen}
 
@@ -45,9 +47,17 @@ pub record IsAddedTo (old new : Part) (doing : Doing) (methods : List MethodNo) 
   pub given : seen methods (fold_in new doing).stacks.items ≡ seen methods (fold_in old doing).stacks.items + 1
   pub others : (ns : List MethodNo) → ns ≢ methods → seen ns (fold_in new doing).stacks.items ≡ seen ns (fold_in old doing).stacks.items
 
--- the place of a worker's part, if the workers are kept apart, or of the one part
-abbrev pub place_of : Bool → ℕ → ℕ
-place_of by_thread worker = if by_thread then worker else 0
+-- how many parts the workers have
+abbrev pub parts_of_workers : Bool → ℕ → ℕ
+parts_of_workers by_thread workers = if by_thread then workers else 1
+
+-- the place of a thread's part; the threads of the numbers below `workers` are the workers
+abbrev pub place_of : Bool → ℕ → ℕ → ℕ
+place_of by_thread workers thread = if nat_lt thread workers then (if by_thread then thread else 0) else parts_of_workers by_thread workers
+
+-- whose stacks the part at a place has
+abbrev pub owner_at : Bool → ℕ → ℕ → Owner
+owner_at by_thread workers place = if nat_lt place (parts_of_workers by_thread workers) then (if by_thread then Worker place else Workers) else NewThreads
 
 -- there is one more stack of these methods, in the part at this place; the other parts are as they were
 pub record IsAddedAt (old new : List Part) (place : ℕ) (doing : Doing) (methods : List MethodNo) : Type 0 where

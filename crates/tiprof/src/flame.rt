@@ -1,12 +1,12 @@
 //! A flame graph of folded stacks, as one SVG file.
 //!
 //! It has a bar for each prefix of stacks, as wide as the stacks that begin with it. At the foot are the workers, if they
-//! are kept apart. On them is what the threads did: warm bars are of threads that ran, cool ones of threads in native code
+//! are kept apart, and the new threads. On them is what the threads did: warm bars are of threads that ran, cool ones of threads in native code
 //! or blocked. The methods follow, the oldest first.
 
 use crate::fold::{Fold, Folded};
 use crate::method::name_of;
-use crate::roots::{Doing, Part, Roots};
+use crate::roots::{Doing, Owner, Part, Roots};
 use std::alloc::{AllocError, Global};
 use std::fmt::Write;
 use ti_types::MethodNo;
@@ -17,7 +17,7 @@ const WIDTH: u64 = 120_000;
 /// A bar's height, in units.
 const HEIGHT: u64 = 20;
 
-/// The hue of the bars of workers.
+/// The hue of the bars of workers and new threads.
 const GREEN: u32 = 100;
 
 /// The methods of a stack, the oldest first, and how often the stack was seen.
@@ -254,21 +254,29 @@ fn deepest(fold: &Fold) -> usize {
     most
 }
 
-/// How many bars are on top of one another at most.
-fn height_of(roots: &Roots) -> usize {
-    let mut most: usize = 0;
-    for part in roots.parts() {
-        for doing in [Doing::Running, Doing::Away] {
-            most = most.max(deepest(part.fold(doing)));
-        }
-    }
-    most.saturating_add(if roots.is_by_thread() { 2 } else { 1 })
-}
-
 /// How many stacks a part has.
 fn count_of(part: &Part) -> u64 {
     let ran = part.fold(Doing::Running).total();
     ran.saturating_add(part.fold(Doing::Away).total())
+}
+
+/// How many bars are on top of one another at most.
+fn height_of(roots: &Roots) -> usize {
+    let mut most: usize = 1;
+    for (place, part) in roots.parts().iter().enumerate() {
+        if count_of(part) == 0 {
+            continue;
+        }
+        let below: usize = if roots.owner(place) == Owner::Workers {
+            1
+        } else {
+            2
+        };
+        for doing in [Doing::Running, Doing::Away] {
+            most = most.max(deepest(part.fold(doing)).saturating_add(below));
+        }
+    }
+    most
 }
 
 /// The flame graph of all stacks, as an SVG with this title. The error is lack of memory.
@@ -280,14 +288,14 @@ pub fn flame_of(alloc: Global, roots: &Roots, title: &str) -> Result<String, All
     };
     picture.begin(title)?;
     let mut before: u64 = 0;
-    for (number, part) in roots.parts().iter().enumerate() {
+    for (place, part) in roots.parts().iter().enumerate() {
         let count = count_of(part);
-        if roots.is_by_thread() {
-            let name = format!(in alloc; "worker {number}")?;
-            picture.bar(name.as_str(), GREEN, 0, Span { before, count })?;
-            picture.part(alloc, part, 1, before)?;
-        } else {
-            picture.part(alloc, part, 0, before)?;
+        match roots.owner(place).name(alloc)? {
+            Some(name) if count > 0 => {
+                picture.bar(name.as_str(), GREEN, 0, Span { before, count })?;
+                picture.part(alloc, part, 1, before)?;
+            }
+            _ => picture.part(alloc, part, 0, before)?,
         }
         before = before.saturating_add(count);
     }

@@ -2,19 +2,19 @@
 //!
 //! There is a line for each stack, from its root on, with how often the stack was seen.
 //!
-//! The root is the worker, if the workers are kept apart, and then what the thread did. The methods follow, the oldest
-//! first.
+//! The root is the worker, if the workers are kept apart, or `new threads`. Then comes what the thread did. The methods follow,
+//! the oldest first.
 use crate::fold::Folded;
 use crate::method::name_of;
-use crate::roots::{Doing, Roots};
+use crate::roots::{Doing, Owner, Roots};
 use std::alloc::{AllocError, Global};
 use std::fmt::Write;
 
-/// The root of the lines of one worker, or of all workers together.
-fn root_of(alloc: Global, worker: Option<usize>, doing: Doing) -> Result<String, AllocError> {
+/// The root of the lines of an owner's stacks.
+fn root_of(alloc: Global, owner: Owner, doing: Doing) -> Result<String, AllocError> {
     let mut root = String::new(alloc);
-    if let Some(number) = worker {
-        write!(root, "worker {number};")?;
+    if let Some(name) = owner.name(alloc)? {
+        write!(root, "{name};")?;
     }
     root.push_str(doing.word())?;
     Ok(root)
@@ -35,14 +35,10 @@ fn line_of(alloc: Global, root: &str, folded: &Folded) -> Result<String, AllocEr
 /// The lines of all stacks, sorted by their bytes. The error is lack of memory.
 pub fn lines_of(alloc: Global, roots: &Roots) -> Result<Vec<String>, AllocError> {
     let mut lines = Vec::new(alloc);
-    for (number, part) in roots.parts().iter().enumerate() {
-        let worker = if roots.is_by_thread() {
-            Some(number)
-        } else {
-            None
-        };
+    for (place, part) in roots.parts().iter().enumerate() {
+        let owner = roots.owner(place);
         for doing in [Doing::Running, Doing::Away] {
-            let root = root_of(alloc, worker, doing)?;
+            let root = root_of(alloc, owner, doing)?;
             for folded in part.fold(doing).stacks() {
                 lines.push(line_of(alloc, root.as_str(), folded)?)?;
             }

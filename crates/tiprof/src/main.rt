@@ -1,7 +1,8 @@
-//! `tiprof`: a sampling profiler of threads that compute, over `ti_agent`.
+//! `tiprof`: a sampling profiler of threads that compute, over `ti_service`.
 //!
 //! Each worker has a thread of its own. In turn it parses a document, sorts numbers, searches and sleeps, with a frame for
-//! each method. An environment on one more thread takes the stacks of all of them at an interval.
+//! each method. With `--churn`, new threads come and go besides. An agent on one more thread takes the stacks of all of them
+//! at an interval.
 //!
 //! It ends after the given seconds or samples, or when all workers have made their rounds. If none of these is given, it
 //! ends when standard input is closed. Then it writes folded stacks to standard output, or with `--svg` a flame graph. On
@@ -11,6 +12,7 @@
 //! be written. It is 2 for arguments that it does not know, with a line of usage on standard error.
 #![tactic(auto)]
 
+mod churn;
 mod flame;
 mod fold;
 mod folded;
@@ -18,14 +20,15 @@ mod method;
 mod one_sample;
 mod options;
 mod parse;
+mod roles;
 mod roots;
 mod samples;
 mod search;
 mod session;
 mod shared;
 mod sort;
-mod station;
 mod taken;
+mod tally;
 mod work;
 mod worker;
 
@@ -43,6 +46,9 @@ use std::sync::Wait;
 use std::thread::Threads;
 use std::time::CpuClock;
 
+/// How many numbers the longest array of the workers' document has.
+const NUMBERS: u32 = 80_000;
+
 /// The options that the process was started with.
 fn asked<R: Env + AllocGlobal>(rt: &R) -> Option<Options> {
     let mut words = env::args(rt).ok()?;
@@ -56,7 +62,7 @@ fn sampled<R: Threads + Wait + Sync + Clock + CpuClock + Input + Eprint + AllocG
     rt: &R,
     options: Options,
 ) -> Option<Ran> {
-    let text = document(rt.alloc()).ok()?;
+    let text = document(rt.alloc(), NUMBERS).ok()?;
     run(rt, options, text.as_bytes())
 }
 
@@ -90,24 +96,33 @@ fn write_stacks<R: Print + AllocGlobal>(rt: &R, options: Options, ran: &Ran) -> 
     Some(())
 }
 
+/// What is said of the new threads, if any were asked for.
+fn churn_of(alloc: Global, options: Options, ran: &Ran) -> Result<String, AllocError> {
+    match options.churn {
+        Some(_) => format!(in alloc; "; {} new threads came and went", ran.tally.churned),
+        None => Ok(String::new(alloc)),
+    }
+}
+
 /// Writes the stacks, and a line about the run.
 fn report<R: Print + Eprint + AllocGlobal>(rt: &R, options: Options, ran: &Ran) -> Option<()> {
     write_stacks(rt, options, ran)?;
     eprintln!(rt;
-        "tiprof: {} samples of {} threads in {} ms; {} live threads seen, {} stacks folded; {} jobs, {} us of processor",
+        "tiprof: {} samples of {} threads in {} ms; {} live threads seen, {} stacks folded; {} jobs, {} us of processor{}",
         ran.sampled.samples,
         options.threads,
         ran.sampled.millis,
         ran.sampled.taken.live(),
         ran.sampled.taken.roots().total(),
-        ran.jobs,
-        ran.cpu / 1000
+        ran.tally.jobs,
+        ran.tally.cpu / 1000,
+        churn_of(rt.alloc(), options, ran).ok()?
     )
     .ok()
 }
 
 const USAGE: &str =
-    "usage: tiprof [--seconds 1..86400] [--samples N] [--jobs N] [--interval MICROSECONDS] [--threads 1..64] [--handshake | --standing] [--by-thread] [--svg]";
+    "usage: tiprof [--seconds 1..86400] [--samples N] [--jobs N] [--interval MICROSECONDS] [--threads 1..64] [--churn 1..10000] [--handshake | --standing] [--by-thread] [--svg]";
 
 fn main(rt: HostRuntime) -> ExitCode {
     let Some(options) = asked(&rt) else {

@@ -1,13 +1,14 @@
 //! The two ways to sample all threads once.
+use crate::options::Options;
 use crate::roots::Doing;
 use crate::taken::Taken;
 use std::alloc::Global;
 use std::rt::Clock;
 use std::sync::{Mutex, Wait};
 use std::time::Duration;
-use ti_agent::Env;
+use ti_service::Agent;
 use ti_slot::Asked;
-use ti_types::{Call, ThreadNo, Ticket};
+use ti_types::{Call, ThreadNo, TiError, Ticket};
 use ti_vmop::VmTurn;
 
 /// A thread has at most this many frames. All of them are read.
@@ -26,107 +27,154 @@ struct Owed {
     samples: u64,
 }
 
-/// The stacks that threads still have to give, by the threads' numbers.
+/// A thread that is sampled, and the stack that it still has to give.
 ///
-/// Such a thread is not asked again. All samples that it misses would be answered at its next poll, with the same stack.
-#[derive(Drop)]
-pub struct Asking {
-    owed: Vec<Option<Owed>>,
+/// As long as it has to give one, it is not asked again. All samples that it misses would be answered at its next poll, with
+/// the same stack.
+#[derive(Clone, Copy)]
+struct Target {
+    thread: ThreadNo,
+    owed: Option<Owed>,
 }
 
-impl Asking {
-    /// No thread has to give a stack yet. `None` if memory runs out.
-    pub fn new(alloc: Global, threads: u32) -> Option<Asking> {
-        let owed = vec![in alloc; None; threads as usize].ok()?;
-        Some(Asking { owed })
-    }
-
-    /// Takes one sample by handshakes: each thread is asked, and it waits for none. `None` if memory runs out.
-    pub fn sample<R: Wait + AllocGlobal>(
+impl Target {
+    /// Takes the stack that the thread still has to give, and asks it again. If the stack is not there yet, it counts for one
+    /// more sample. `None` if memory runs out.
+    fn sample<R: Wait + AllocGlobal>(
         &mut self,
         rt: &R,
-        env: &mut Env,
+        agent: &mut Agent,
         taken: &mut Taken,
     ) -> Option<()> {
-        for at in 0..self.owed.len() {
-            let thread = u32::try_from(at).ok()?;
-            if let Some(owed) = self.owed.get_mut(at) {
-                sample_one(rt, env, taken, thread, owed)?;
-            }
+        if let Some(Owed { ticket, samples }) = self.owed {
+            let Some(answer) = agent.try_collect(rt, ticket) else {
+                let samples = samples.saturating_add(1);
+                self.owed = Some(Owed { ticket, samples });
+                return Some(());
+            };
+            taken.add_answer(rt.alloc(), self.thread, Doing::Running, answer, samples)?;
         }
+        self.owed = ask(rt, agent, taken, self.thread)?;
         Some(())
     }
 
-    /// Takes the stacks that threads still have to give. It waits for each at most a second. `None` if memory runs out.
-    pub fn finish<R: Wait + Clock + AllocGlobal>(
-        self,
+    /// Takes the stack that the thread still has to give. It waits for it at most a second. `None` if memory runs out.
+    fn finish<R: Wait + Clock + AllocGlobal>(
+        &self,
         rt: &R,
-        env: &mut Env,
+        agent: &mut Agent,
         taken: &mut Taken,
     ) -> Option<()> {
-        for owed in &self.owed {
-            if let Some(Owed { ticket, samples }) = *owed {
-                if let Some(answer) = env.collect_within(rt, ticket, Duration::from_secs(LAST)) {
-                    taken.add_answer(rt.alloc(), ticket.thread.0, Doing::Running, answer, samples)?;
-                }
-            }
-        }
-        Some(())
-    }
-}
-
-/// Takes the stack that a thread still has to give, and asks it again. If the stack is not there yet, it counts for one more
-/// sample.
-fn sample_one<R: Wait + AllocGlobal>(
-    rt: &R,
-    env: &mut Env,
-    taken: &mut Taken,
-    thread: u32,
-    owed: &mut Option<Owed>,
-) -> Option<()> {
-    if let Some(Owed { ticket, samples }) = *owed {
-        let Some(answer) = env.try_collect(rt, ticket) else {
-            let samples = samples.saturating_add(1);
-            *owed = Some(Owed { ticket, samples });
+        let Some(Owed { ticket, samples }) = self.owed else {
             return Some(());
         };
-        taken.add_answer(rt.alloc(), thread, Doing::Running, answer, samples)?;
+        match agent.collect_within(rt, ticket, Duration::from_secs(LAST)) {
+            Some(answer) => {
+                taken.add_answer(rt.alloc(), self.thread, Doing::Running, answer, samples)
+            }
+            None => Some(()),
+        }
     }
-    *owed = ask(rt, env, taken, thread)?;
-    Some(())
 }
 
-/// Asks a thread for its stack. One that is in native code or blocked answers at once, and has nothing more to give.
+/// Asks a thread for its stack. One that is in native code or blocked answers at once, and has nothing more to give. So does
+/// one that is not alive, which has no stack. `None` if memory runs out.
 fn ask<R: Wait + AllocGlobal>(
     rt: &R,
-    env: &mut Env,
+    agent: &mut Agent,
     taken: &mut Taken,
-    thread: u32,
+    thread: ThreadNo,
 ) -> Option<Option<Owed>> {
     let call = Call::Trace {
         start: 0,
         max_count: FRAMES,
     };
-    match env.post(rt, rt.alloc(), ThreadNo(thread), call).ok()? {
-        Asked::Answered(answer) => {
+    match agent.post(rt, rt.alloc(), thread, call) {
+        Ok(Asked::Answered(answer)) => {
             taken.add_answer(rt.alloc(), thread, Doing::Away, answer, 1)?;
             Some(None)
         }
-        Asked::Waiting(ticket) => Some(Some(Owed { ticket, samples: 1 })),
+        Ok(Asked::Waiting(ticket)) => Some(Some(Owed { ticket, samples: 1 })),
+        Err(TiError::ThreadNotAlive) => Some(None),
+        Err(_) => None,
     }
 }
 
-/// Takes one sample of all threads at one moment, at which all are standing. `None` if memory runs out.
-pub fn standing<R: Wait + AllocGlobal>(
-    rt: &R,
-    turn: &Mutex<VmTurn>,
-    env: &mut Env,
-    taken: &mut Taken,
-) -> Option<()> {
-    let (infos, _round) = env.get_all_stack_traces(rt, rt.alloc(), turn, FRAMES).ok()?;
-    for info in &infos {
-        let doing = Doing::of_state(info.state);
-        taken.add(rt.alloc(), info.thread.0, doing, info.frames.frames())?;
+/// An agent, the threads that it samples, and what the samples have brought.
+#[derive(Drop)]
+pub struct Sampler {
+    agent: Agent,
+    /// In the order of their numbers.
+    targets: Vec<Target>,
+    taken: Taken,
+}
+
+impl Sampler {
+    /// It has met nobody yet. `None` if memory runs out.
+    pub fn new(alloc: Global, agent: Agent, options: Options) -> Option<Sampler> {
+        Some(Sampler {
+            agent,
+            targets: Vec::new(alloc),
+            taken: Taken::new(alloc, options)?,
+        })
     }
-    Some(())
+
+    /// Whether threads have come or gone since it last met them.
+    pub fn has_news(&mut self) -> bool {
+        self.agent.has_news()
+    }
+
+    /// Meets the threads that came, and lets go of those that were given back. What they still had to give is there, and is
+    /// taken. `None` if memory runs out.
+    pub fn meet<R: Wait + Clock + AllocGlobal>(&mut self, rt: &R) -> Option<()> {
+        let threads = self.agent.get_all_threads(rt, rt.alloc()).ok()?;
+        for target in self.targets.iter() {
+            if !threads.contains(&target.thread) {
+                target.finish(rt, &mut self.agent, &mut self.taken)?;
+            }
+        }
+        self.targets
+            .retain(|target: &Target| threads.contains(&target.thread));
+        self.agent.let_go_of_all(rt);
+        self.agent.meet(rt, rt.alloc()).ok()?;
+        for thread in threads.iter().skip(self.targets.len()) {
+            let target = Target {
+                thread: *thread,
+                owed: None,
+            };
+            self.targets.push(target).ok()?;
+        }
+        Some(())
+    }
+
+    /// Takes one sample by handshakes: each thread is asked, and it waits for none. `None` if memory runs out.
+    pub fn handshake<R: Wait + AllocGlobal>(&mut self, rt: &R) -> Option<()> {
+        for target in self.targets.iter_mut() {
+            target.sample(rt, &mut self.agent, &mut self.taken)?;
+        }
+        Some(())
+    }
+
+    /// Takes one sample of all threads at one moment, at which all are standing. `None` if memory runs out.
+    pub fn standing<R: Wait + AllocGlobal>(&mut self, rt: &R, turn: &Mutex<VmTurn>) -> Option<()> {
+        let alloc = rt.alloc();
+        let (infos, _round) = self
+            .agent
+            .get_all_stack_traces(rt, alloc, turn, FRAMES)
+            .ok()?;
+        for info in &infos {
+            let doing = Doing::of_state(info.state);
+            self.taken
+                .add(alloc, info.thread, doing, info.frames.frames())?;
+        }
+        Some(())
+    }
+
+    /// Takes the stacks that threads still have to give, and gives all. `None` if memory runs out.
+    pub fn finish<R: Wait + Clock + AllocGlobal>(mut self, rt: &R) -> Option<Taken> {
+        for target in self.targets.iter() {
+            target.finish(rt, &mut self.agent, &mut self.taken)?;
+        }
+        Some(self.taken)
+    }
 }

@@ -22,6 +22,8 @@ pub struct Options {
     pub interval: u32,
     /// How many workers there are, from 1 to 64.
     pub threads: u32,
+    /// How many new threads come a second, from 1 to 10,000. `None` for none.
+    pub churn: Option<u32>,
     /// How a sample is taken.
     pub way: Way,
     /// Whether the stacks of different workers are kept apart.
@@ -79,6 +81,7 @@ impl Options {
             jobs: None,
             interval: 1000,
             threads: 4,
+            churn: None,
             way: Way::Handshake,
             by_thread: false,
             svg: false,
@@ -119,6 +122,7 @@ impl Options {
             "--jobs" => options.jobs = Some(within(value, 1, u32::MAX)?),
             "--interval" => options.interval = within(value, 1, 60_000_000)?,
             "--threads" => options.threads = within(value, 1, 64)?,
+            "--churn" => options.churn = Some(within(value, 1, 10_000)?),
             _ => return None,
         }
         Some(options)

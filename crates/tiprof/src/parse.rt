@@ -255,19 +255,21 @@ fn write_letters(text: &mut String, count: u32) -> Result<(), AllocError> {
     text.push_str("\"")
 }
 
-/// A document of some 1,200,000 bytes: an object of a few long arrays and strings. The error is lack of memory.
-pub fn document(alloc: Global) -> Result<String, AllocError> {
+/// A document: an object of a few arrays and strings. The longest array has so many numbers, and there are some 15 bytes for
+/// each. The error is lack of memory.
+pub fn document(alloc: Global, numbers: u32) -> Result<String, AllocError> {
+    let letters = numbers.saturating_mul(5) / 2;
     let mut text = String::new(alloc);
     text.push_str("{\"series\": ")?;
-    write_series(&mut text, 80_000)?;
+    write_series(&mut text, numbers)?;
     text.push_str(", \"inner\": {\"letters\": ")?;
-    write_letters(&mut text, 200_000)?;
+    write_letters(&mut text, letters)?;
     text.push_str(", \"rows\": [")?;
-    write_series(&mut text, 20_000)?;
+    write_series(&mut text, numbers / 4)?;
     text.push_str(", ")?;
-    write_series(&mut text, 20_000)?;
+    write_series(&mut text, numbers / 4)?;
     text.push_str("]}, \"more\": ")?;
-    write_letters(&mut text, 200_000)?;
+    write_letters(&mut text, letters)?;
     text.push_str("}")?;
     Ok(text)
 }

@@ -1,8 +1,8 @@
-//! Stacks, kept apart by what their threads did and, if asked for, by thread.
+//! Stacks, kept apart by what their threads did and, if asked for, by worker. New threads' stacks are always apart.
 
 use crate::fold::Fold;
 use std::alloc::{AllocError, Global};
-use ti_types::Frame;
+use ti_types::{Frame, ThreadNo};
 
 /// What a thread did when its stack was taken.
 #[derive(Clone, Copy, Debug, PartialEq, Eq)]
@@ -36,7 +36,29 @@ impl Doing {
     }
 }
 
-/// The stacks of one worker, or of all workers together.
+/// Whose stacks a part has.
+#[derive(Clone, Copy, Debug, PartialEq, Eq)]
+pub enum Owner {
+    /// All workers'.
+    Workers,
+    /// Those of the worker of this number.
+    Worker(usize),
+    /// All new threads'.
+    NewThreads,
+}
+
+impl Owner {
+    /// The name at the root of its stacks. `None` if they have none. The error is lack of memory.
+    pub fn name(self, alloc: Global) -> Result<Option<String>, AllocError> {
+        match self {
+            Owner::Workers => Ok(None),
+            Owner::Worker(number) => Ok(Some(format!(in alloc; "worker {number}")?)),
+            Owner::NewThreads => Ok(Some(String::from_str(alloc, "new threads")?)),
+        }
+    }
+}
+
+/// The stacks of one owner.
 #[derive(Drop)]
 pub struct Part {
     running: Fold,
@@ -82,63 +104,78 @@ impl Part {
 /// All stacks.
 #[derive(Drop)]
 pub struct Roots {
-    /// One for each worker, in the order of their numbers, or one for all.
+    /// One for each worker, in the order of their numbers, or one for all. Then one for the new threads.
     parts: Vec<Part>,
+    /// The threads of the numbers below this one are the workers.
+    workers: u32,
     by_thread: bool,
     /// How many stacks were folded.
     total: u64,
+    ghost count: { length parts.items ≡ parts_of_workers by_thread workers + 1 },
     ghost sums: { sum_by folded_in parts.items ≡ total },
 }
 
 impl Roots {
-    /// No stack yet, for each of these workers or for all together. The error is lack of memory.
+    /// No stack yet, for each of these workers or for all together, and for new threads. The error is lack of memory.
     pub fn new(alloc: Global, workers: u32, by_thread: bool) -> Result<Self, AllocError>
         ensures none { IfOk result (λ r. r.total ≡ 0) }
         ensures by_thread { IfOk result (λ r. r.by_thread ≡ by_thread) }
-        ensures count { IfOk result (λ r. length r.parts.items ≡ (if by_thread then workers else 1)) }
+        ensures workers { IfOk result (λ r. r.workers ≡ workers) }
         ensures empty { IfOk result (λ r. All IsEmpty r.parts.items) }
     {
-        let count = if by_thread { workers } else { 1 };
-        let mut parts = Vec::with_capacity(alloc, count as usize)?;
+        let count = if by_thread { workers as usize } else { 1 } + 1;
+        let mut parts = Vec::with_capacity(alloc, count)?;
         for _ in 0..count {
             parts.push_reserved(Part::new(alloc));
         }
         Ok(Roots {
             parts,
+            workers,
             by_thread,
             total: 0,
         })
     }
 
-    #[tactic(auto, using(crate::proofs::RootsLaws::kept_at))]
-    /// Adds one stack of a worker that did this, its newest frame first. It is an error if there is no memory or no such
-    /// worker, or if the total would not fit in 64 bits. Then nothing has changed.
+    /// The place of a thread's part.
+    fn place(&self, thread: ThreadNo) -> usize
+        ensures { result ≡ place_of self.now.by_thread self.now.workers thread.0 }
+    {
+        if thread.0 >= self.workers {
+            self.parts.len() - 1
+        } else if self.by_thread {
+            thread.0 as usize
+        } else {
+            0
+        }
+    }
+
+    #[tactic(auto, using(crate::proofs::RootsLaws::kept_at, crate::proofs::RootsLaws::place_there))]
+    /// Adds one stack of a thread that did this, its newest frame first. It is an error if there is no memory, or if the total
+    /// would not fit in 64 bits. Then nothing has changed.
     pub fn add(
         &mut self,
         alloc: Global,
-        worker: u32,
+        thread: ThreadNo,
         doing: Doing,
         frames: &[Frame],
     ) -> Result<(), AllocError>
         ensures by_thread { self.new.by_thread ≡ self.old.by_thread }
+        ensures workers { self.new.workers ≡ self.old.workers }
         ensures more { OnOk result (self.new.total ≡ self.old.total + 1) }
-        ensures added { OnOk result (IsAddedAt self.old.parts.items self.new.parts.items (place_of self.old.by_thread worker) doing (map (λ x. x.method) frames.now)) }
+        ensures added { OnOk result (IsAddedAt self.old.parts.items self.new.parts.items (place_of self.old.by_thread self.old.workers thread.0) doing (map (λ x. x.method) frames.now)) }
         ensures kept { OnErr result (map stacks_in self.new.parts.items ≡ map stacks_in self.old.parts.items) }
         ensures same { OnErr result (self.new.total ≡ self.old.total) }
     {
-        let at = if self.by_thread { worker as usize } else { 0 };
+        let at = self.place(thread);
         let Some(total) = self.total.checked_add(1) else {
             return Err(AllocError);
         };
-        if at >= self.parts.len() {
-            return Err(AllocError);
-        }
         self.parts[at].add(alloc, doing, frames)?;
         self.total = total;
         Ok(())
     }
 
-    /// The stacks of each worker, in the order of their numbers, or of all together.
+    /// The stacks of each owner: of each worker, in the order of their numbers, or of all workers, and then of the new threads.
     pub fn parts(&self) -> &[Part]
         ensures all { result.now ≡ self.now.parts.items }
         ensures sum { sum_by folded_in result.now ≡ self.now.total }
@@ -146,11 +183,17 @@ impl Roots {
         &self.parts
     }
 
-    /// Whether each worker has a part of its own.
-    pub fn is_by_thread(&self) -> bool
-        ensures { result ≡ self.now.by_thread }
+    /// Whose stacks the part at this place has.
+    pub fn owner(&self, place: usize) -> Owner
+        ensures { result ≡ owner_at self.now.by_thread self.now.workers place }
     {
-        self.by_thread
+        if place >= self.parts.len() - 1 {
+            Owner::NewThreads
+        } else if self.by_thread {
+            Owner::Worker(place)
+        } else {
+            Owner::Workers
+        }
     }
 
     /// How many stacks were folded.
@@ -161,6 +204,6 @@ impl Roots {
     }
 }
 
-ghost use Rattle.std.specs.Prelude.{◌≡◌, ◌+◌, map, length, if◌then◌else◌, OnOk, OnErr, IfOk};
+ghost use Rattle.std.specs.Prelude.{◌≡◌, ◌+◌, map, length, OnOk, OnErr, IfOk};
 ghost use Rattle.std.specs.List.{All, sum_by};
-ghost use Rattle.tiprof.specs.Roots.{doing_of, fold_in, folded_in, IsAddedTo, IsAddedAt, IsEmpty, place_of, stacks_in, word_of};
+ghost use Rattle.tiprof.specs.Roots.{doing_of, fold_in, folded_in, IsAddedTo, IsAddedAt, IsEmpty, owner_at, parts_of_workers, place_of, stacks_in, word_of};

@@ -1,5 +1,5 @@
 //! Takes samples, one after another, until the sampling ends.
-use crate::one_sample::{Asking, standing};
+use crate::one_sample::Sampler;
 use crate::options::{Options, Way};
 use crate::shared::Shared;
 use crate::taken::Taken;
@@ -7,7 +7,7 @@ use std::io;
 use std::rt::Clock;
 use std::sync::Wait;
 use std::time::{Duration, Instant};
-use ti_agent::Env;
+use ti_service::Agent;
 
 /// The seconds between two lines about the progress.
 const PROGRESS: u64 = 5;
@@ -91,10 +91,10 @@ impl Pace {
 pub fn sample<R: Wait + Clock + Eprint + AllocGlobal>(
     rt: &R,
     shared: &Shared,
-    env: Env,
+    agent: Agent,
     options: Options,
 ) -> Option<Sampled> {
-    let sampled = sample_on(rt, shared, env, options);
+    let sampled = sample_on(rt, shared, agent, options);
     shared.stop();
     sampled
 }
@@ -103,12 +103,11 @@ pub fn sample<R: Wait + Clock + Eprint + AllocGlobal>(
 fn sample_on<R: Wait + Clock + Eprint + AllocGlobal>(
     rt: &R,
     shared: &Shared,
-    env: Env,
+    agent: Agent,
     options: Options,
 ) -> Option<Sampled> {
-    let mut env = env;
-    let mut taken = Taken::new(rt.alloc(), options)?;
-    let mut asking = Asking::new(rt.alloc(), options.threads)?;
+    let mut sampler = Sampler::new(rt.alloc(), agent, options)?;
+    sampler.meet(rt)?;
     let mut pace = Pace::new(rt, options)?;
     let most = match options.samples {
         Some(samples) => u64::from(samples),
@@ -119,18 +118,20 @@ fn sample_on<R: Wait + Clock + Eprint + AllocGlobal>(
         let Some(passed) = pace.next(rt, shared, options.threads).ok()? else {
             break;
         };
+        if sampler.has_news() {
+            sampler.meet(rt)?;
+        }
         match options.way {
-            Way::Handshake => asking.sample(rt, &mut env, &mut taken)?,
-            Way::Standing => standing(rt, shared.turn(), &mut env, &mut taken)?,
+            Way::Handshake => sampler.handshake(rt)?,
+            Way::Standing => sampler.standing(rt, shared.turn())?,
         }
         samples = samples.saturating_add(1);
         if pace.says(passed) {
             eprintln!(rt; "tiprof: {samples} samples").ok()?;
         }
     }
-    asking.finish(rt, &mut env, &mut taken)?;
     Some(Sampled {
-        taken,
+        taken: sampler.finish(rt)?,
         samples,
         millis: pace.millis(rt)?,
     })

@@ -2,7 +2,7 @@
 use crate::options::Options;
 use crate::roots::{Doing, Roots};
 use std::alloc::Global;
-use ti_types::{Answer, Frame};
+use ti_types::{Answer, Frame, ThreadNo};
 
 /// The stacks, and how many threads were alive, over all samples.
 #[derive(Drop)]
@@ -22,11 +22,11 @@ impl Taken {
     pub fn add(
         &mut self,
         alloc: Global,
-        worker: u32,
+        thread: ThreadNo,
         doing: Doing,
         frames: &[Frame],
     ) -> Option<()> {
-        self.roots.add(alloc, worker, doing, frames).ok()?;
+        self.roots.add(alloc, thread, doing, frames).ok()?;
         self.live = self.live.saturating_add(1);
         Some(())
     }
@@ -36,7 +36,7 @@ impl Taken {
     pub fn add_answer(
         &mut self,
         alloc: Global,
-        worker: u32,
+        thread: ThreadNo,
         doing: Doing,
         answer: Answer,
         samples: u64,
@@ -45,7 +45,7 @@ impl Taken {
             return Some(());
         };
         for _ in 0..samples {
-            self.add(alloc, worker, doing, buf.frames())?;
+            self.add(alloc, thread, doing, buf.frames())?;
         }
         Some(())
     }

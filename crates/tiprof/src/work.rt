@@ -5,22 +5,13 @@ use crate::parse::parse;
 use crate::search::{WAYS, search};
 use crate::shared::Shared;
 use crate::sort::sort;
+use crate::tally::Tally;
 use crate::worker::{Spent, Worker};
 use std::rt::Clock;
 use std::sync::Wait;
-use std::thread;
-use std::thread::Threads;
 use std::time::{CpuClock, Duration};
-use ti_handshake::{Fresh, SharedCell};
-
-/// A worker that has not started.
-#[derive(Drop)]
-pub struct NewWorker {
-    pub cell: SharedCell,
-    pub fresh: Fresh,
-    pub number: u32,
-    pub ghost here: { fresh.cell ≡ cell },
-}
+use ti_handshake::Fresh;
+use ti_service::Service;
 
 /// What a worker has to do.
 #[derive(Clone, Copy)]
@@ -39,13 +30,6 @@ impl Task<'_> {
             None => u64::MAX,
         }
     }
-}
-
-/// What a worker did.
-#[derive(Clone, Copy, Drop)]
-pub struct Worked {
-    jobs: u64,
-    cpu: u64,
 }
 
 /// How many microseconds a worker sleeps in each round.
@@ -99,54 +83,41 @@ fn jobs<R: Wait + Clock + AllocGlobal>(
     task.jobs()
 }
 
-/// A worker's life, from its start to its end.
-fn work<R: Wait + Clock + CpuClock + AllocGlobal>(
+/// A worker's life, from its start until it is given back. It gives how many jobs were done. `None` if it is not given back.
+fn live<R: Wait + Clock + AllocGlobal>(
     rt: &R,
     shared: &Shared,
-    work: NewWorker,
+    mut service: Service,
+    fresh: Fresh,
     task: Task<'_>,
-) -> Worked {
-    let NewWorker {
-        cell,
-        fresh,
-        number,
-    } = work;
-    let began = rt.thread_cpu_time();
-    let mut worker = Worker::start(rt, cell, fresh);
+) -> Option<u64> {
+    let number = fresh.thread().0;
+    let mut worker = Worker::start(rt, fresh);
     let jobs = jobs(rt, shared, &mut worker, task, number);
-    let _seat = worker.end(rt);
+    service.end_thread(rt, worker.end(rt)?).ok()?;
+    Some(jobs)
+}
+
+/// A worker's life, with its processor time. `None` if it is not given back.
+pub fn work<R: Wait + Clock + CpuClock + AllocGlobal>(
+    rt: &R,
+    shared: &Shared,
+    service: Service,
+    fresh: Fresh,
+    task: Task<'_>,
+) -> Option<Tally> {
+    let began = rt.thread_cpu_time();
+    let jobs = live(rt, shared, service, fresh, task);
     let cpu = match (began, rt.thread_cpu_time()) {
         (Ok(began), Ok(ended)) => ended.saturating_sub(began).as_nanos(),
         _ => 0,
     };
     shared.note_done();
-    Worked {
-        jobs,
+    Some(Tally {
+        jobs: jobs?,
         cpu: u64::try_from(cpu).unwrap_or(u64::MAX),
-    }
-}
-
-/// Runs all workers, each with a thread of its own. It gives how many jobs they did, and their processor time in
-/// nanoseconds. `None` if memory runs out or a thread cannot be started.
-pub fn work_all<R: Threads + Wait + Sync + Clock + CpuClock + AllocGlobal>(
-    rt: &R,
-    shared: &Shared,
-    works: Vec<NewWorker>,
-    task: Task<'_>,
-) -> Option<(u64, u64)> {
-    let worked = thread::map_vec(
-        rt,
-        works,
-        &|one: NewWorker| -> Worked { work(rt, shared, one, task) },
-    )
-    .ok()?;
-    let mut jobs: u64 = 0;
-    let mut cpu: u64 = 0;
-    for one in worked.iter() {
-        jobs = jobs.saturating_add(one.jobs);
-        cpu = cpu.saturating_add(one.cpu);
-    }
-    Some((jobs, cpu))
+        churned: 0,
+    })
 }
 
 ghost use Rattle.std.specs.Prelude.{◌≡◌};

@@ -6,41 +6,43 @@ use std::rt::Clock;
 use std::sync::Wait;
 use std::thread;
 use std::time::Duration;
-use ti_cell::OwnerSeat;
-use ti_handshake::{AtSafe, Fresh, Polled, Running, SharedCell};
+use ti_handshake::{AtSafe, Ended, Fresh, Polled, Running};
+use ti_service::{Service, ThreadInfo};
 use ti_types::{Kind, Step};
 
 /// The thread can go no further. It has no entries left (208), is too deep (201), or has no memory.
 #[derive(Clone, Copy, Debug, PartialEq, Eq)]
 pub struct Spent;
 
-/// A thread that computes. Contracts see its cell.
+/// Attaches a thread of this name. `None` if memory runs out.
+pub fn attach<R: Wait + AllocGlobal>(rt: &R, service: &mut Service, name: String) -> Option<Fresh> {
+    let info = ThreadInfo { name, priority: 5 };
+    service.attach_thread(rt, rt.alloc(), info).ok()
+}
+
+/// A thread that computes. Contracts see the cell at which it runs, if it runs.
 #[derive(Drop)]
 pub struct Worker {
-    cell: SharedCell,
     /// `None` while the thread is in native code or blocked.
     running: Option<Running>,
 }
 
 impl Model for Worker {
+    ghost use Rattle.std.specs.Prelude.{Option};
     ghost use Rattle.atomic_table.specs.Seated.{TableId};
-    ghost use Rattle.tiprof.specs.Workers.{RunsAt};
+    ghost use Rattle.tiprof.specs.Workers.{cell_of};
 
-    ghost Value = { TableId };
+    ghost Value = { Option TableId };
 
-    ghost view = { λ w. w.cell };
-
-    ghost invariant = { λ w. RunsAt w.cell w.running };
+    ghost view = { λ w. cell_of w.running };
 }
 
 impl Worker {
-    /// Starts the thread of a cell. It waits while a stop is in force.
-    pub fn start<R: Wait>(rt: &R, cell: SharedCell, fresh: Fresh) -> Worker
-        requires cell { fresh.cell ≡ cell }
-        ensures cell { result ≡ cell }
+    /// Starts the thread. It waits while a stop is in force.
+    pub fn start<R: Wait>(rt: &R, fresh: Fresh) -> Worker
+        ensures cell { result ≡ Some fresh.cell }
     {
         Worker {
-            cell,
             running: Some(fresh.start(rt)),
         }
     }
@@ -101,8 +103,8 @@ impl Worker {
     /// Enters a native method, and goes into native code. From then on the thread may be stopped and read, until it returns.
     /// `Spent` if the step or the hand-over is refused.
     pub fn native<R: Wait>(&mut self, rt: &R, method: Method) -> Result<AtSafe, Spent>
-        ensures same { self.new ≡ self.old }
-        ensures cell { IfOk result (λ away. away.cell ≡ self.old) }
+        ensures cell { IfOk result (λ away. self.old ≡ Some away.cell) }
+        ensures same { OnErr result (self.new ≡ self.old) }
     {
         self.step(Step::EnterNative(method.number()))?;
         let Some(running) = self.running.take() else {
@@ -119,8 +121,7 @@ impl Worker {
 
     /// Returns from native code or from a block, when it may.
     pub fn back<R: Wait>(&mut self, rt: &R, away: AtSafe)
-        requires cell { away.cell ≡ self.old }
-        ensures same { self.new ≡ self.old }
+        ensures cell { self.new ≡ Some away.cell }
     {
         self.running = Some(away.back(rt));
     }
@@ -145,17 +146,14 @@ impl Worker {
         }
     }
 
-    /// Ends the thread, and gives its seat. The seat has seen the thread's whole history, which is legal.
-    pub fn end<R: Wait>(self, rt: &R) -> Option<OwnerSeat>
-        ensures cell { IfSome result (λ s. s.cell ≡ self) }
-        ensures legal { IfSome result (λ s. is_legal s.view.subject.limits s.view.seen ≡ true) }
+    /// Ends the thread. It has seen its whole history, which is legal. `None` if it does not run.
+    pub fn end<R: Wait>(self, rt: &R) -> Option<Ended>
+        ensures cell { IfSome result (λ e. self ≡ Some e.cell) }
+        ensures legal { IfSome result (λ e. is_legal e.view.subject.limits e.view.seen ≡ true) }
     {
-        let Worker { cell: _, running } = self;
-        let seat = running?.end(rt).into_seat();
-        seat.facts();
-        Some(seat)
+        Some(self.running?.end(rt))
     }
 }
 
-ghost use Rattle.std.specs.Prelude.{◌≡◌, true, IfOk, IfSome};
+ghost use Rattle.std.specs.Prelude.{◌≡◌, true, Some, IfOk, IfSome, OnErr};
 ghost use Rattle.ti_replay.specs.Legal.{is_legal};

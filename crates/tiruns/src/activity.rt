@@ -42,6 +42,19 @@ pub fn park<R: Wait>(rt: &R, fresh: Fresh, frames: u32) -> Option<AtSafe> {
     start(rt, fresh, frames)?.block(rt, Kind::ObjectWait).ok()
 }
 
+/// Starts these threads, each of which enters this many methods and then blocks.
+pub fn park_all<R: Wait + AllocGlobal>(
+    rt: &R,
+    threads: Vec<Fresh>,
+    frames: u32,
+) -> Option<Vec<AtSafe>> {
+    let mut parked = Vec::new(rt.alloc());
+    for fresh in threads {
+        parked.push(park(rt, fresh, frames)?).ok()?;
+    }
+    Some(parked)
+}
+
 /// Enters and leaves a method, again and again, until it has taken this many steps.
 pub fn take_steps<R: Clock + CpuClock>(rt: &R, running: Running, steps: u32) -> Option<Spent> {
     let mut running = running;

@@ -2,12 +2,13 @@
 use crate::activity::WAIT;
 use crate::spent::{Began, Spent};
 use crate::task::{Crowd, Work};
+use crate::world::Agents;
 use std::rt::Clock;
 use std::sync::{Mutex, Wait};
 use std::thread;
 use std::thread::{Threads, join};
 use std::time::{CpuClock, Duration};
-use ti_agent::Env;
+use ti_service::Agent;
 use ti_types::{Caps, ThreadNo, TiError};
 use ti_vmop::VmTurn;
 
@@ -54,24 +55,24 @@ impl Work {
         self,
         rt: &R,
         shared: &Shared,
-        env: &mut Env,
+        agent: &mut Agent,
     ) -> Result<(), TiError> {
         let thread = ThreadNo(0);
         match self {
             Work::State => {
-                let _bits = env.get_thread_state(rt, thread)?;
+                let _bits = agent.get_thread_state(rt, thread)?;
             }
             Work::Word => {
-                let _word = env.get_thread_local_storage(rt, thread)?;
+                let _word = agent.get_thread_local_storage(rt, thread)?;
             }
             Work::Count => {
-                let _count = env.get_frame_count(rt, thread)?;
+                let _count = agent.get_frame_count(rt, thread)?;
             }
             Work::Trace => {
-                let _frames = env.get_stack_trace(rt, rt.alloc(), thread, 0, 32)?;
+                let _frames = agent.get_stack_trace(rt, rt.alloc(), thread, 0, 32)?;
             }
             Work::All => {
-                let _stacks = env.get_all_stack_traces(rt, rt.alloc(), &shared.turn, 32)?;
+                let _stacks = agent.get_all_stack_traces(rt, rt.alloc(), &shared.turn, 32)?;
             }
         }
         Ok(())
@@ -79,31 +80,32 @@ impl Work {
 }
 
 /// Asks this many times.
-pub fn ask_on<R: Wait + Clock + CpuClock + AllocGlobal>(
+fn ask_on<R: Wait + Clock + CpuClock + AllocGlobal>(
     rt: &R,
     shared: &Shared,
-    env: Env,
+    agent: Agent,
     work: Work,
     times: u32,
 ) -> Option<Spent> {
-    let mut env = env;
+    let mut agent = agent;
     let began = Began::now(rt)?;
     for _ in 0..times {
-        if work.once(rt, shared, &mut env).is_err() {
+        if work.once(rt, shared, &mut agent).is_err() {
             return None;
         }
     }
     began.spent(rt, u64::from(times))
 }
 
-/// Asks until all calls are spent, and then notes that it is done.
-fn ask<R: Wait + Clock + CpuClock + AllocGlobal>(
+/// Asks this many times, and then notes that it is done.
+pub fn ask<R: Wait + Clock + CpuClock + AllocGlobal>(
     rt: &R,
     shared: &Shared,
-    env: Env,
+    agent: Agent,
     work: Work,
+    times: u32,
 ) -> Option<Spent> {
-    let spent = ask_on(rt, shared, env, work, work.times());
+    let spent = ask_on(rt, shared, agent, work, times);
     shared.note_done(rt);
     spent
 }
@@ -116,14 +118,14 @@ fn both(one: Option<Spent>, two: Option<Spent>) -> Option<Spent> {
 fn ask_two<R: Threads + Wait + Sync + Clock + CpuClock + AllocGlobal>(
     rt: &R,
     shared: &Shared,
-    envs: (Env, Env),
+    agents: (Agent, Agent),
     work: Work,
 ) -> Option<Spent> {
-    let (first, second) = envs;
+    let (first, second) = agents;
     let (one, two) = join(
         rt,
-        move || -> Option<Spent> { ask(rt, shared, first, work) },
-        move || -> Option<Spent> { ask(rt, shared, second, work) },
+        move || -> Option<Spent> { ask(rt, shared, first, work, work.times()) },
+        move || -> Option<Spent> { ask(rt, shared, second, work, work.times()) },
     );
     both(one, two)
 }
@@ -132,14 +134,14 @@ fn ask_two<R: Threads + Wait + Sync + Clock + CpuClock + AllocGlobal>(
 pub fn ask_all<R: Threads + Wait + Sync + Clock + CpuClock + AllocGlobal>(
     rt: &R,
     shared: &Shared,
-    envs: ((Env, Env), (Env, Env)),
+    agents: Agents,
     work: Work,
     crowd: Crowd,
 ) -> Option<Spent> {
-    let (front, back) = envs;
+    let (front, back) = agents;
     match crowd {
         Crowd::Nobody => Some(Spent::nothing()),
-        Crowd::One => ask(rt, shared, front.0, work),
+        Crowd::One => ask(rt, shared, front.0, work, work.times()),
         Crowd::Two => ask_two(rt, shared, front, work),
         Crowd::Four => {
             let (one, two) = join(
@@ -153,19 +155,23 @@ pub fn ask_all<R: Threads + Wait + Sync + Clock + CpuClock + AllocGlobal>(
 }
 
 /// Suspends thread 0 for a while, and resumes it.
-pub fn suspend<R: Wait + Clock>(rt: &R, env: Env) -> Option<()> {
-    let mut env = env;
-    env.add_capabilities(Caps::CAN_SUSPEND).ok()?;
-    env.suspend_thread(rt, ThreadNo(0)).ok()?;
+pub fn suspend<R: Wait + Clock>(rt: &R, agent: Agent) -> Option<()> {
+    let mut agent = agent;
+    agent.add_capabilities(Caps::CAN_SUSPEND).ok()?;
+    agent.suspend_thread(rt, ThreadNo(0)).ok()?;
     thread::sleep(rt, Duration::from_millis(WAIT));
-    env.resume_thread(rt, ThreadNo(0)).ok()
+    agent.resume_thread(rt, ThreadNo(0)).ok()
 }
 
 /// Asks for one count of thread 0's frames, and then notes that it is done.
-pub fn count_once<R: Wait + Clock + CpuClock>(rt: &R, shared: &Shared, env: Env) -> Option<Spent> {
-    let mut env = env;
+pub fn count_once<R: Wait + Clock + CpuClock>(
+    rt: &R,
+    shared: &Shared,
+    agent: Agent,
+) -> Option<Spent> {
+    let mut agent = agent;
     let began = Began::now(rt);
-    let count = env.get_frame_count(rt, ThreadNo(0)).ok();
+    let count = agent.get_frame_count(rt, ThreadNo(0)).ok();
     let spent = match began {
         Some(began) => began.spent(rt, 1),
         None => None,

@@ -9,35 +9,37 @@
 //! - `beside`: steps and polls of a thread that runs, while a thread beside it is asked for traces.
 //! - `suspended`: the wait of a thread that is suspended for two seconds. `unpolled`: the wait for a count at a thread that
 //!   does not poll for two seconds.
-//! - `resumed`: the time from a resumption to the suspended thread's next step (`resuming.rt`). It writes the median of
+//! - `resumed`: the time from a resumption to the suspended thread's next step (`resumes.rt`). It writes the median of
 //!   1,000 times of the clock, and 0 for the processor.
 //! - `lasting`: 10^9 steps. `calls`: 10^8 states of a parked thread. `posts`: 3,600,000 traces of a thread that runs and
-//!   polls, posted 32 at a time and collected (`posting.rt`). `tenth`, `tenth_of_calls`, `tenth_of_posts`: a tenth of each.
+//!   polls, posted 32 at a time and collected (`posts.rt`). `tenth`, `tenth_of_calls`, `tenth_of_posts`: a tenth of each.
 //!   These threads may run as long as their process.
+//! - `coming`: 10^7 states of such a thread, while other threads come to its service and go (`comings.rt`).
+//!   `tenth_of_calls` is the same with nobody coming.
 //!
-//! The last three items have one round each. ENVS says how many environments ask at once: `0`, `1`, `2` or `4`. It means
+//! The last four items have one round each. ENVS says how many environments ask at once: `0`, `1`, `2` or `4`. It means
 //! nothing if nobody asks, or if only one environment can.
 //!
 //! It writes a line to standard error: how often all together did it, and how many nanoseconds they spent on it. The first
 //! number of nanoseconds is of the processor, the second of the clock. The status is 0, or 1 if memory runs out or something
 //! was refused. It is 2 for other arguments. `bench/running.py` makes a table of these lines.
 //!
-//! It depends on `ti_agent`, and nothing depends on it.
+//! It depends on `ti_service`, and nothing depends on it.
 #![tactic(auto)]
 
 mod activity;
 mod agents;
+mod comings;
 mod measures;
 mod posts;
 mod resumes;
 mod spent;
-mod station;
 mod task;
 mod world;
 
+use crate::measures::measure;
 use crate::spent::Spent;
 use crate::task::{Crowd, Task};
-use crate::world::round;
 use std::env;
 use std::process::ExitCode;
 use std::rt::{Clock, Env};
@@ -53,7 +55,7 @@ fn rounds<R: Threads + Wait + Sync + Clock + CpuClock + AllocGlobal>(
 ) -> Option<Spent> {
     let mut all = Spent::nothing();
     for _ in 0..task.rounds() {
-        all = all.and(round(rt, task, crowd)?);
+        all = all.and(measure(rt, task, crowd)?);
     }
     Some(all)
 }

@@ -1,58 +1,56 @@
 //! The measurements at four new threads, by who runs beside whom.
 use crate::activity::{
-    STEPS, park, poll_late, poll_until_done, start, take_polls, take_steps, wait_suspended,
-    work_beside, work_until_done,
+    STEPS, park, park_all, poll_late, poll_until_done, start, take_polls, take_steps,
+    wait_suspended, work_beside, work_until_done,
 };
-use crate::agents::{Shared, ask_all, ask_on, count_once, suspend};
+use crate::agents::{Shared, ask, ask_all, count_once, suspend};
+use crate::comings::come_until_done;
 use crate::posts::post_all;
 use crate::resumes::ask_resumed;
 use crate::spent::Spent;
 use crate::task::{Alone, Crowd, Single, Task, Work};
+use crate::world::{Agents, World};
 use std::rt::Clock;
 use std::sync::Wait;
 use std::thread::{Threads, join};
 use std::time::CpuClock;
-use ti_agent::Env;
 use ti_handshake::{Fresh, Running};
+use ti_service::{Agent, Service};
 
-/// The four threads, in pairs.
-pub type Fours = ((Fresh, Fresh), (Fresh, Fresh));
-
-/// The four environments, in pairs.
-pub type Envs = ((Env, Env), (Env, Env));
+/// The thread of number 0.
+fn first(threads: Vec<Fresh>) -> Option<Fresh> {
+    threads.into_iter().next()
+}
 
 /// Measures calls at four parked threads of this many frames.
 fn ask_parked<R: Threads + Wait + Sync + Clock + CpuClock + AllocGlobal>(
     rt: &R,
-    threads: Fours,
+    threads: Vec<Fresh>,
     frames: u32,
-    envs: Envs,
+    agents: Agents,
     work: Work,
     crowd: Crowd,
 ) -> Option<Spent> {
-    let ((zero, one), (two, three)) = threads;
-    let _zero = park(rt, zero, frames)?;
-    let _one = park(rt, one, frames)?;
-    let _two = park(rt, two, frames)?;
-    let _three = park(rt, three, frames)?;
+    let _parked = park_all(rt, threads, frames)?;
     let shared = Shared::new();
-    ask_all(rt, &shared, envs, work, crowd)
+    ask_all(rt, &shared, agents, work, crowd)
 }
 
 /// Measures counts at a thread that runs and polls.
 fn ask_running<R: Threads + Wait + Sync + Clock + CpuClock + AllocGlobal>(
     rt: &R,
-    running: Running,
-    envs: Envs,
+    threads: Vec<Fresh>,
+    agents: Agents,
     crowd: Crowd,
 ) -> Option<Spent> {
+    let running = start(rt, first(threads)?, 4)?;
     let shared = Shared::new();
     let shared = &shared;
     let others = crowd.size();
     let (polled, spent) = join(
         rt,
         move || -> Option<()> { poll_until_done(rt, shared, running, others) },
-        move || -> Option<Spent> { ask_all(rt, shared, envs, Work::Count, crowd) },
+        move || -> Option<Spent> { ask_all(rt, shared, agents, Work::Count, crowd) },
     );
     polled?;
     spent
@@ -62,7 +60,7 @@ fn ask_running<R: Threads + Wait + Sync + Clock + CpuClock + AllocGlobal>(
 fn work_on<R: Threads + Wait + Sync + Clock + CpuClock + AllocGlobal>(
     rt: &R,
     running: Running,
-    envs: Envs,
+    agents: Agents,
     crowd: Crowd,
 ) -> Option<Spent> {
     let shared = Shared::new();
@@ -70,7 +68,7 @@ fn work_on<R: Threads + Wait + Sync + Clock + CpuClock + AllocGlobal>(
     let (spent, asked) = join(
         rt,
         move || -> Option<Spent> { work_beside(rt, running) },
-        move || -> Option<Spent> { ask_all(rt, shared, envs, Work::Trace, crowd) },
+        move || -> Option<Spent> { ask_all(rt, shared, agents, Work::Trace, crowd) },
     );
     asked?;
     spent
@@ -80,12 +78,12 @@ fn work_on<R: Threads + Wait + Sync + Clock + CpuClock + AllocGlobal>(
 fn ask_suspended<R: Threads + Wait + Sync + Clock + CpuClock + AllocGlobal>(
     rt: &R,
     running: Running,
-    env: Env,
+    agent: Agent,
 ) -> Option<Spent> {
     let (spent, suspended) = join(
         rt,
         move || -> Option<Spent> { wait_suspended(rt, running) },
-        move || -> Option<()> { suspend(rt, env) },
+        move || -> Option<()> { suspend(rt, agent) },
     );
     suspended?;
     spent
@@ -95,14 +93,14 @@ fn ask_suspended<R: Threads + Wait + Sync + Clock + CpuClock + AllocGlobal>(
 fn ask_unpolled<R: Threads + Wait + Sync + Clock + CpuClock + AllocGlobal>(
     rt: &R,
     running: Running,
-    env: Env,
+    agent: Agent,
 ) -> Option<Spent> {
     let shared = Shared::new();
     let shared = &shared;
     let (polled, spent) = join(
         rt,
         move || -> Option<()> { poll_late(rt, shared, running, 1) },
-        move || -> Option<Spent> { count_once(rt, shared, env) },
+        move || -> Option<Spent> { count_once(rt, shared, agent) },
     );
     polled?;
     spent
@@ -112,7 +110,7 @@ fn ask_unpolled<R: Threads + Wait + Sync + Clock + CpuClock + AllocGlobal>(
 fn ask_posts<R: Threads + Wait + Sync + Clock + CpuClock + AllocGlobal>(
     rt: &R,
     running: Running,
-    env: Env,
+    agent: Agent,
     batches: u32,
 ) -> Option<Spent> {
     let shared = Shared::new();
@@ -120,7 +118,7 @@ fn ask_posts<R: Threads + Wait + Sync + Clock + CpuClock + AllocGlobal>(
     let (worked, spent) = join(
         rt,
         move || -> Option<()> { work_until_done(rt, shared, running, 1) },
-        move || -> Option<Spent> { post_all(rt, shared, env, batches) },
+        move || -> Option<Spent> { post_all(rt, shared, agent, batches) },
     );
     worked?;
     spent
@@ -130,17 +128,41 @@ fn ask_posts<R: Threads + Wait + Sync + Clock + CpuClock + AllocGlobal>(
 fn ask_calls<R: Wait + Clock + CpuClock + AllocGlobal>(
     rt: &R,
     thread: Fresh,
-    env: Env,
+    agent: Agent,
     times: u32,
 ) -> Option<Spent> {
     let _parked = park(rt, thread, 4)?;
     let shared = Shared::new();
-    ask_on(rt, &shared, env, Work::State, times)
+    ask(rt, &shared, agent, Work::State, times)
+}
+
+/// Measures this many states of a parked thread, while other threads come to its service and go.
+fn ask_coming<R: Threads + Wait + Sync + Clock + CpuClock + AllocGlobal>(
+    rt: &R,
+    service: Service,
+    thread: Fresh,
+    agent: Agent,
+    times: u32,
+) -> Option<Spent> {
+    let _parked = park(rt, thread, 4)?;
+    let shared = Shared::new();
+    let shared = &shared;
+    let (came, spent) = join(
+        rt,
+        move || -> Option<()> { come_until_done(rt, shared, service, 1) },
+        move || -> Option<Spent> { ask(rt, shared, agent, Work::State, times) },
+    );
+    came?;
+    spent
 }
 
 /// Measures what a thread does that nobody asks.
-fn measure_alone<R: Wait + Clock + CpuClock>(rt: &R, alone: Alone, thread: Fresh) -> Option<Spent> {
-    let running = start(rt, thread, 0)?;
+fn measure_alone<R: Wait + Clock + CpuClock>(
+    rt: &R,
+    alone: Alone,
+    threads: Vec<Fresh>,
+) -> Option<Spent> {
+    let running = start(rt, first(threads)?, 0)?;
     match alone {
         Alone::Steps => take_steps(rt, running, STEPS),
         Alone::Lasting(steps) => take_steps(rt, running, steps),
@@ -152,47 +174,49 @@ fn measure_alone<R: Wait + Clock + CpuClock>(rt: &R, alone: Alone, thread: Fresh
 fn measure_single<R: Threads + Wait + Sync + Clock + CpuClock + AllocGlobal>(
     rt: &R,
     single: Single,
-    thread: Fresh,
-    env: Env,
+    service: Service,
+    threads: Vec<Fresh>,
+    agent: Agent,
 ) -> Option<Spent> {
+    let thread = first(threads)?;
     match single {
-        Single::Suspended => ask_suspended(rt, start(rt, thread, 4)?, env),
-        Single::Unpolled => ask_unpolled(rt, start(rt, thread, 4)?, env),
-        Single::Resumed => ask_resumed(rt, start(rt, thread, 4)?, env),
-        Single::Posts(batches) => ask_posts(rt, start(rt, thread, 32)?, env, batches),
-        Single::Calls(times) => ask_calls(rt, thread, env, times),
+        Single::Suspended => ask_suspended(rt, start(rt, thread, 4)?, agent),
+        Single::Unpolled => ask_unpolled(rt, start(rt, thread, 4)?, agent),
+        Single::Resumed => ask_resumed(rt, start(rt, thread, 4)?, agent),
+        Single::Posts(batches) => ask_posts(rt, start(rt, thread, 32)?, agent, batches),
+        Single::Calls(times) => ask_calls(rt, thread, agent, times),
+        Single::Coming(times) => ask_coming(rt, service, thread, agent, times),
     }
 }
 
 /// Measures a thread that works beside a parked one, which others ask for traces.
 fn measure_beside<R: Threads + Wait + Sync + Clock + CpuClock + AllocGlobal>(
     rt: &R,
-    parked: Fresh,
-    working: Fresh,
-    envs: Envs,
+    threads: Vec<Fresh>,
+    agents: Agents,
     crowd: Crowd,
 ) -> Option<Spent> {
-    let _parked = park(rt, parked, 256)?;
-    work_on(rt, start(rt, working, 0)?, envs, crowd)
+    let mut threads = threads.into_iter();
+    let _parked = park(rt, threads.next()?, 256)?;
+    work_on(rt, start(rt, threads.next()?, 0)?, agents, crowd)
 }
 
-/// Measures a task at four new threads.
+/// Measures one round of a task, at four new threads.
 pub fn measure<R: Threads + Wait + Sync + Clock + CpuClock + AllocGlobal>(
     rt: &R,
     task: Task,
     crowd: Crowd,
-    threads: Fours,
-    envs: Envs,
 ) -> Option<Spent> {
-    let (front, back) = threads;
-    let (zero, one) = front;
+    let World {
+        service,
+        threads,
+        agents,
+    } = World::make(rt, task.limits()?)?;
     match task {
-        Task::Alone(alone) => measure_alone(rt, alone, zero),
-        Task::Single(single) => measure_single(rt, single, zero, envs.0.0),
-        Task::Beside => measure_beside(rt, zero, one, envs, crowd),
-        Task::Running => ask_running(rt, start(rt, zero, 4)?, envs, crowd),
-        Task::Parked(work, frames) => {
-            ask_parked(rt, ((zero, one), back), frames, envs, work, crowd)
-        }
+        Task::Alone(alone) => measure_alone(rt, alone, threads),
+        Task::Single(single) => measure_single(rt, single, service, threads, agents.0.0),
+        Task::Beside => measure_beside(rt, threads, agents, crowd),
+        Task::Running => ask_running(rt, threads, agents, crowd),
+        Task::Parked(work, frames) => ask_parked(rt, threads, frames, agents, work, crowd),
     }
 }

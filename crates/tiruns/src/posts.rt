@@ -5,7 +5,7 @@ use crate::task::BATCH;
 use std::rt::Clock;
 use std::sync::Wait;
 use std::time::CpuClock;
-use ti_agent::Env;
+use ti_service::Agent;
 use ti_slot::Asked;
 use ti_types::{Answer, Call, ThreadNo, Ticket};
 
@@ -24,31 +24,31 @@ fn trace_in(answer: Answer) -> Option<()> {
 }
 
 /// Posts a trace, and gives its ticket.
-fn post<R: Wait + AllocGlobal>(rt: &R, env: &mut Env) -> Option<Ticket> {
-    match env.post(rt, rt.alloc(), ThreadNo(0), TRACE) {
+fn post<R: Wait + AllocGlobal>(rt: &R, agent: &mut Agent) -> Option<Ticket> {
+    match agent.post(rt, rt.alloc(), ThreadNo(0), TRACE) {
         Ok(Asked::Waiting(ticket)) => Some(ticket),
         _ => None,
     }
 }
 
 /// Posts a trace, and waits for its answer.
-fn post_and_wait<R: Wait + AllocGlobal>(rt: &R, env: &mut Env) -> Option<()> {
-    match env.post(rt, rt.alloc(), ThreadNo(0), TRACE) {
-        Ok(Asked::Waiting(ticket)) => trace_in(env.collect(rt, ticket)),
+fn post_and_wait<R: Wait + AllocGlobal>(rt: &R, agent: &mut Agent) -> Option<()> {
+    match agent.post(rt, rt.alloc(), ThreadNo(0), TRACE) {
+        Ok(Asked::Waiting(ticket)) => trace_in(agent.collect(rt, ticket)),
         _ => None,
     }
 }
 
 /// Posts a batch, and waits for the last answer. Then the other answers are there, since one hand-over answers all calls
 /// that wait.
-fn batch<R: Wait + AllocGlobal>(rt: &R, env: &mut Env) -> Option<()> {
+fn batch<R: Wait + AllocGlobal>(rt: &R, agent: &mut Agent) -> Option<()> {
     let mut tickets = Vec::with_capacity(rt.alloc(), BATCH as usize).ok()?;
     for _ in 1..BATCH {
-        tickets.push(post(rt, env)?).ok()?;
+        tickets.push(post(rt, agent)?).ok()?;
     }
-    post_and_wait(rt, env)?;
+    post_and_wait(rt, agent)?;
     for ticket in tickets.iter() {
-        trace_in(env.try_collect(rt, *ticket)?)?;
+        trace_in(agent.try_collect(rt, *ticket)?)?;
     }
     Some(())
 }
@@ -56,13 +56,13 @@ fn batch<R: Wait + AllocGlobal>(rt: &R, env: &mut Env) -> Option<()> {
 /// Measures this many batches.
 fn post_batches<R: Wait + Clock + CpuClock + AllocGlobal>(
     rt: &R,
-    env: Env,
+    agent: Agent,
     batches: u32,
 ) -> Option<Spent> {
-    let mut env = env;
+    let mut agent = agent;
     let began = Began::now(rt)?;
     for _ in 0..batches {
-        batch(rt, &mut env)?;
+        batch(rt, &mut agent)?;
     }
     began.spent(rt, u64::from(batches) * u64::from(BATCH))
 }
@@ -71,10 +71,10 @@ fn post_batches<R: Wait + Clock + CpuClock + AllocGlobal>(
 pub fn post_all<R: Wait + Clock + CpuClock + AllocGlobal>(
     rt: &R,
     shared: &Shared,
-    env: Env,
+    agent: Agent,
     batches: u32,
 ) -> Option<Spent> {
-    let spent = post_batches(rt, env, batches);
+    let spent = post_batches(rt, agent, batches);
     shared.note_done(rt);
     spent
 }

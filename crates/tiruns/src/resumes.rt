@@ -15,8 +15,8 @@ use std::sync::Wait;
 use std::thread;
 use std::thread::{Threads, join};
 use std::time::{Duration, Instant};
-use ti_agent::Env;
 use ti_handshake::Running;
+use ti_service::Agent;
 use ti_types::{Caps, Step, ThreadNo};
 
 /// How often the thread is suspended and resumed.
@@ -65,17 +65,17 @@ fn resumptions_of<R: Wait + Clock>(
     rt: &R,
     alloc: Global,
     shared: &Shared,
-    env: Env,
+    agent: Agent,
 ) -> Option<Vec<Instant>> {
-    let mut env = env;
-    env.add_capabilities(Caps::CAN_SUSPEND).ok()?;
+    let mut agent = agent;
+    agent.add_capabilities(Caps::CAN_SUSPEND).ok()?;
     let mut resumptions = Vec::with_capacity(alloc, TIMES as usize).ok()?;
     for turn in 0..TIMES {
         await_step(rt, shared, turn)?;
-        env.suspend_thread(rt, ThreadNo(0)).ok()?;
+        agent.suspend_thread(rt, ThreadNo(0)).ok()?;
         thread::sleep(rt, Duration::from_micros(HELD));
         resumptions.push(Instant::now(rt).ok()?).ok()?;
-        env.resume_thread(rt, ThreadNo(0)).ok()?;
+        agent.resume_thread(rt, ThreadNo(0)).ok()?;
     }
     Some(resumptions)
 }
@@ -94,7 +94,7 @@ fn median(alloc: Global, from: &[Instant], to: &[Instant]) -> Option<u64> {
 pub fn ask_resumed<R: Threads + Wait + Sync + Clock + AllocGlobal>(
     rt: &R,
     running: Running,
-    env: Env,
+    agent: Agent,
 ) -> Option<Spent> {
     let shared = Shared::new();
     let shared = &shared;
@@ -102,7 +102,7 @@ pub fn ask_resumed<R: Threads + Wait + Sync + Clock + AllocGlobal>(
     let (steps, resumptions) = join(
         rt,
         move || -> Option<Vec<Instant>> { steps_of(rt, alloc, shared, running) },
-        move || -> Option<Vec<Instant>> { resumptions_of(rt, alloc, shared, env) },
+        move || -> Option<Vec<Instant>> { resumptions_of(rt, alloc, shared, agent) },
     );
     Some(Spent {
         times: 1,

@@ -37,6 +37,8 @@ pub enum Single {
     Resumed,
     /// This many states of a parked thread that may run as long as its process.
     Calls(u32),
+    /// As many, while other threads come to its service and go.
+    Coming(u32),
     /// This many batches of traces, posted at such a thread, which runs and polls, and collected.
     Posts(u32),
 }
@@ -113,9 +115,7 @@ impl Task {
     }
 
     /// The limits of its threads.
-    pub fn limits(self) -> Option<Limits>
-        ensures threads { IfSome result (λ l. l.threads ≡ 4) }
-    {
+    pub fn limits(self) -> Option<Limits> {
         if self.lasts() {
             Limits::lasting(4, 4, 256)
         } else {
@@ -133,6 +133,7 @@ impl Single {
             "resumed" => Some(Single::Resumed),
             "calls" => Some(Single::Calls(100_000_000)),
             "tenth_of_calls" => Some(Single::Calls(10_000_000)),
+            "coming" => Some(Single::Coming(10_000_000)),
             "posts" => Some(Single::Posts(3_600_000 / BATCH)),
             "tenth_of_posts" => Some(Single::Posts(360_000 / BATCH)),
             _ => None,
@@ -162,5 +163,3 @@ impl Crowd {
         }
     }
 }
-
-ghost use Rattle.std.specs.Prelude.{◌≡◌, IfSome};

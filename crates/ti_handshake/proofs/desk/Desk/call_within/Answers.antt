@@ -12,5 +12,5 @@ put_cancelled-requires-in-Err-call_or_leave g c =
     let k = c.in-Err-call_or_leave.ensures.left in
     left_given c.take_cancelled-cancelled.result.tickets c.args.self.now.view.posted _ _ t e.given
     (ap (λ (p : DeskState). has t p.view.posted) (sym e.none) ∙ k.new_one)
-    (c.add.ensures ∙ ap (λ (l : List Ticket). l ++ t ∷ []) c.reserve.ensures.tickets)
+    (c.add.ensures.tickets ∙ ap (λ (l : List Ticket). l ++ t ∷ []) c.reserve.ensures.tickets)
     (k.posted ∙ ap (λ (p : DeskState). p.view.posted ++ t ∷ []) e.none)

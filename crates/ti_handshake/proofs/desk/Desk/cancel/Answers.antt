@@ -17,6 +17,6 @@ put_cancelled-requires-2 g c =
       | then-has_out+then-not-has w ↦
           let there : has t c.args.self.now.view.posted ≡ true = ap (λ (p : DeskState). has t p.view.posted) (sym e.none) ∙ (sym c.has_out.ensures.out ∙ w.if-has_out.true) in
           let new : has t gone ≡ false = ap (has t) (sym c.reserve.ensures.tickets) ∙ (sym w.has.ensures ∙ w.if-not-has.true) in
-          cancel_given gone c.args.self.now.view.posted _ _ t e.given new there (ap (λ (x : Given). x.tickets) w.cancelled-is ∙ (w.add.ensures ∙ ap (λ (l : List Ticket). l ++ t ∷ []) c.reserve.ensures.tickets)) posted
+          cancel_given gone c.args.self.now.view.posted _ _ t e.given new there (ap (λ (x : Given). x.tickets) w.cancelled-is ∙ (w.add.ensures.tickets ∙ ap (λ (l : List Ticket). l ++ t ∷ []) c.reserve.ensures.tickets)) posted
       | else-has_out w ↦ same_given gone c.args.self.now.view.posted _ _ e.given (ap (λ (x : Given). x.tickets) w.cancelled-is ∙ c.reserve.ensures.tickets) posted
     ]

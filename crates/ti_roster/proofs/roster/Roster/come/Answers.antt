@@ -2,13 +2,16 @@ use Rattle.std.proofs.Common.{◌≡◌, ◌+◌, suc, List, [], ◌∷◌, ◌+
 use Rattle.std.proofs.lemmas.Bool.Decides.{nat_tests}
 use Rattle.ti_types.specs.declared.numbers.ThreadNo.{ThreadNo}
 use Rattle.ti_roster.specs.declared.coming.Coming.{Coming}
-use Rattle.ti_roster.specs.declared.coming.Coming.TheVariants.{Came, Ended, Attached, Met}
+use Rattle.ti_roster.specs.declared.coming.Coming.TheVariants.{Came, Ended, Attached, Met, GaveBack, Disposed}
 use Rattle.ti_roster.specs.declared.newcomer.Newcomer.{Newcomer}
 use Rattle.ti_roster.specs.declared.row.Row.{Row}
 use Rattle.ti_roster.specs.Log.{threads_in}
 use Rattle.ti_roster.specs.Rows.{AreRows}
 use Rattle.ti_roster.proofs.Logs.{threads_more}
 use Rattle.ti_roster.proofs.Rows.{rows_come}
+use Rattle.ti_roster.specs.declared.life_event.LifeEvent.{LifeEvent}
+use Rattle.ti_roster.specs.Events.{AreEvents, Lives}
+use Rattle.ti_roster.proofs.Lives.{events_came, life_few}
 use Rattle.ti_roster.proofs.roster.Roster.come.Goals as goal
 
 abbrev newcomer_in : Coming → Newcomer → Newcomer
@@ -16,6 +19,14 @@ newcomer_in (Came n) d = n
 newcomer_in (Ended t) d = d
 newcomer_in (Attached e) d = d
 newcomer_in (Met e m) d = d
+newcomer_in (GaveBack e t) d = d
+newcomer_in (Disposed e) d = d
+
+pub push-requires : goal.push-requires
+push-requires c =
+    let same = ap (λ (l : List LifeEvent). length l) c.self.invariant.4.events_are in
+    let z = life_few c.self.inside.log.items in
+    omega (arith, same, z, c.self.invariant.0, c.if-self-ge-LAST.false)
 
 pub invariant_of-self-2 : goal.invariant_of-self-2
 invariant_of-self-2 c =
@@ -39,4 +50,5 @@ invariant_of-self-2 c =
       omega (arith, c.if-self-ge-LAST.false),
       grind (arith, nat_tests, count, c.self.invariant.2, c.in-Some.ensures, c.in-Some.is, c.checked_add.ensures),
       subst (λ (x : List Coming × List Row). AreRows x.0 limits x.1 marks) (λ j. (sym items j, sym pushed j)) after,
+      subst (λ (x : List Coming × List LifeEvent). AreEvents x.0 x.1) (λ j. (sym items j, sym (ap (λ (l : Lives). l.events) c.push.ensures) j)) (events_came log c.self.inside.life.events row.newcomer number c.self.invariant.4),
     )

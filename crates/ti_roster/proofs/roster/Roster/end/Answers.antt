@@ -7,7 +7,11 @@ use Rattle.ti_roster.specs.declared.row.Row.{Row}
 use Rattle.ti_roster.specs.Log.{Log, is_live, live, threads_in}
 use Rattle.ti_roster.specs.Rows.{AreRows, IsIndex}
 use Rattle.ti_roster.proofs.Places.{get_within}
-use Rattle.ti_roster.proofs.Rows.{rows_count, rows_end, there_live, threads_ended}
+use Rattle.ti_roster.proofs.Logs.{threads_ended}
+use Rattle.ti_roster.proofs.Rows.{rows_count, rows_end, there_live}
+use Rattle.ti_roster.specs.declared.life_event.LifeEvent.{LifeEvent}
+use Rattle.ti_roster.specs.Events.{AreEvents, Lives}
+use Rattle.ti_roster.proofs.Lives.{events_ended, life_few}
 use Rattle.ti_roster.proofs.roster.Roster.end.Goals as goal
 
 pub returns-then-self-ge-LAST-clause-refused : goal.returns-then-self-ge-LAST-clause-refused
@@ -24,6 +28,12 @@ remove-row-requires c =
     let count : length c.self.inside.rows.items ≡ length (live log) = rows_count c.self.inside.rows.items (live log) c.self.invariant.3.live_are in
     omega (arith, within, count, c.self.inside.rows.ok)
 
+pub push-requires : goal.push-requires
+push-requires c =
+    let same = ap (λ (l : List LifeEvent). length l) c.self.invariant.4.events_are in
+    let z = life_few c.self.inside.log.items in
+    omega (arith, same, z, c.self.invariant.0, c.if-self-ge-LAST.false)
+
 pub invariant_of-self : goal.invariant_of-self
 invariant_of-self c =
     let log = c.self.inside.log.items in
@@ -38,6 +48,7 @@ invariant_of-self c =
       omega (arith, c.if-self-ge-LAST.false),
       c.self.invariant.2 ∙ sym count,
       subst (λ (x : List Coming × List Row). AreRows x.0 c.self.inside.limits x.1 marks) (λ j. (sym items j, sym c.remove-row.ensures.items j)) after,
+      subst (λ (x : List Coming × List LifeEvent). AreEvents x.0 x.1) (λ j. (sym items j, sym (ap (λ (l : Lives). l.events) c.push.ensures) j)) (events_ended log c.self.inside.life.events c.args.thread c.in-Some.i at c.self.invariant.4),
     )
 
 pub returns-clause-there : goal.returns-clause-there

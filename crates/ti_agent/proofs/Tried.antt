@@ -1,0 +1,57 @@
+-- Calls that never wait: what comes of each of their results.
+use Rattle.std.proofs.Common.{◌≡◌, ℕ, ◌<◌, Bool, false, [], length, ap, sym, ◌∙◌, subst, Option, Some, None, Result, Ok, Err}
+use Rattle.std.specs.Prelude.{is_some, if◌then◌else◌, slice_get, IfSome, IfOk, IfErr, OnErr}
+use Rattle.std.specs.Option.{option_map}
+use Rattle.ti_types.specs.Answer.{said}
+use Rattle.ti_types.specs.declared.answer.Answer.{Answer}
+use Rattle.ti_types.specs.declared.call.Call.{Call}
+use Rattle.ti_types.specs.declared.error.TiError.{TiError}
+use Rattle.ti_types.specs.declared.error.TiError.TheVariants.{Busy}
+use Rattle.ti_types.specs.declared.event.Ticket.{Ticket}
+use Rattle.ti_types.specs.declared.numbers.ThreadNo.{ThreadNo}
+use Rattle.ti_replay.specs.Tickets.{reply_to}
+use Rattle.ti_slot.specs.Tickets.{has, without_ticket}
+use Rattle.ti_slot.specs.declared.asked.Asked.{Asked as AskedOf}
+use Rattle.ti_handshake.specs.Call.{HoldsWith}
+use Rattle.ti_handshake.specs.Desk.{DeskState, Discards, IsSame, ReplyAtPlace, is_out}
+use Rattle.ti_agent.specs.Deadlines.{DiscardsAt}
+use Rattle.ti_agent.specs.Env.{Environment, IsWhole, place_in}
+use Rattle.ti_agent.specs.Posts.{IsOutIfWaiting, LooksFor, Posts}
+use Rattle.ti_agent.proofs.InTime.{discard_whole, seen_same}
+use Rattle.ti_agent.proofs.Places.{about_at}
+use Rattle.ti_agent.proofs.Posting.{looked_for, out_if_waiting}
+use Rattle.ti_agent.proofs.Whole.{fewer_if, seen_call, whole_seen}
+
+-- a cell that is in use changes nothing
+pub kept : {A : Type 0} (s : Environment) (t : ℕ) (p q : DeskState) (r : Result A TiError) → slice_get s.desks t ≡ Some p → IfErr r (λ e. (e ≡ Busy) × (q ≡ p)) → OnErr r (seen_call s t q ≡ s)
+kept s t p q (Ok u) at same = tt
+kept s t p q (Err e) at same = seen_same s t p q at same.1
+
+pub collect_whole : (s : Environment) (k : Ticket) (t : ℕ) (p q : DeskState) (r : Result (Option Answer) TiError) → IsWhole s → slice_get s.desks t ≡ Some p → IsSame p q
+    → IfOk r (λ o. HoldsWith p.view q.view [] (if is_some o then without_ticket k p.view.posted else p.view.posted)) → IfErr r (λ e. (e ≡ Busy) × (q ≡ p)) → IsWhole (seen_call s t q)
+collect_whole s k t p q (Ok o) whole at same hold busy = whole_seen s t p q _ whole at same.env hold.waits (fewer_if (is_some o) k p.view.posted)
+collect_whole s k t p q (Err e) whole at same hold busy = subst (λ (z : Environment). IsWhole z) (sym (seen_same s t p q at busy.1)) whole
+
+pub collect_looks : (s : Environment) (k : Ticket) (t : ℕ) (p q : DeskState) (r : Result (Option Answer) TiError) → t ≡ place_in s.desks k.thread → slice_get s.desks t ≡ Some p → IsSame p q
+    → IfOk r (λ o. HoldsWith p.view q.view [] (if is_some o then without_ticket k p.view.posted else p.view.posted)) → IfOk r (λ o. IfSome o (λ a. has k q.view.posted ≡ false))
+    → IfOk r (λ o. option_map said o ≡ (if is_out p k then reply_to p.view.subject.limits q.view.seen k else None)) → IfOk r (λ o. IfSome o (λ a. ReplyAtPlace p.view.subject.limits q.view.seen k (said a)))
+    → IfOk r (λ o. place_in s.desks k.thread < length s.desks → LooksFor s (seen_call s t q) k (option_map said o))
+collect_looks s k t p q (Ok o) is at same hold once answer place = λ _. looked_for s k t p q o is at same hold once answer place
+collect_looks s k t p q (Err e) is at same hold once answer place = tt
+
+pub tried_discard : (s : Environment) (t : ℕ) (p q : DeskState) (r : Result Bool TiError) → IsWhole s → slice_get s.desks t ≡ Some p → IfOk r (λ thrown. Discards p q thrown) → IfErr r (λ e. (e ≡ Busy) × (q ≡ p))
+    → IsWhole (seen_call s t q)
+tried_discard s t p q (Ok thrown) whole at discards busy = discard_whole s t p q thrown whole at discards
+tried_discard s t p q (Err e) whole at discards busy = subst (λ (z : Environment). IsWhole z) (sym (seen_same s t p q at busy.1)) whole
+
+pub discards_at : (s : Environment) (thread : ThreadNo) (t : ℕ) (p q : DeskState) (r : Result Bool TiError) → t ≡ place_in s.desks thread → slice_get s.desks t ≡ Some p → IfOk r (λ thrown. Discards p q thrown)
+    → IfOk r (λ thrown. place_in s.desks thread < length s.desks → DiscardsAt s (seen_call s t q) thread thrown)
+discards_at s thread t p q (Ok thrown) is at discards = λ _.
+    let there = ap (slice_get s.desks) (sym is) ∙ at in
+    record { before = p; after = q; there = there; about = about_at s.desks thread p there; discards = discards; new_is = ap (λ (n : ℕ). seen_call s n q) is }
+discards_at s thread t p q (Err e) is at discards = tt
+
+-- if a call was posted and waits, its ticket is out
+pub out_if_posted : (s new : Environment) (thread : ThreadNo) (c : Call) (r : Result AskedOf TiError) → IfOk r (λ a. Posts s new thread c a) → IfOk r (λ a. IsOutIfWaiting new a)
+out_if_posted s new thread c (Ok a) posts = out_if_waiting s new thread c a posts
+out_if_posted s new thread c (Err e) posts = tt

@@ -1,0 +1,250 @@
+//! Calls of an environment that never wait.
+//!
+//! Each is the twin of a call that holds the cell of one thread, and tries to hold it just once. They take no runtime, so
+//! they neither spin nor sleep. If another user holds the cell, or comes first, nothing changes.
+
+use crate::env::Env;
+use crate::free_desk::FreeDesk;
+use crate::posts::buffer_for;
+use std::alloc::Global;
+use ti_slot::Asked;
+use ti_types::{Answer, Call, ThreadNo, TiError, Ticket, TraceBuf};
+
+impl Env {
+    /// Posts an admitted call for which there is room, at the thread at this place, and tries to hold its cell just once.
+    /// The buffer has just the room that the call takes.
+    ///
+    /// The error is `Busy` (215) if the cell is in use. Then nothing changes.
+    fn try_post_one(
+        &mut self,
+        thread: ThreadNo,
+        place: ThreadNo,
+        call: Call,
+        buf: TraceBuf,
+    ) -> Result<Asked, TiError>
+        requires place { place ≡ place_of self.old.desks thread }
+        requires admitted { thread_refusal self.old thread call ≡ None }
+        requires room { (waits call && is_full self.old thread) ≡ false }
+        requires buf { IsJustBufferOf self.old.state.limits call buf }
+        ensures posts { IfOk result (λ a. Posts self.old self.new thread call a) }
+        ensures busy { IfErr result (λ e. (e ≡ Busy) × (self.new ≡ self.old)) }
+    {
+        let _thread = thread;
+        match self.desks[place.0 as usize].try_post(call, buf) {
+            Ok(asked) => {
+                self.state.spend(place);
+                Ok(asked)
+            }
+            Err(_) => Err(TiError::Busy),
+        }
+    }
+
+    /// Posts a call at a thread as `post` does, but tries to hold the thread's cell just once. It spends one call, also if
+    /// the answer is never collected.
+    ///
+    /// It gives the answer, or a ticket if the call waits for the running thread (JEP 312). The answer is the thread's own,
+    /// an error included: 13, 14, 15, 31, 32, and 103 for a trace's `start` (JVM TI 11).
+    ///
+    /// Some calls are refused before they reach the thread, with the first of these that fits:
+    ///
+    /// - 99 MUST_POSSESS_CAPABILITY, 10 INVALID_THREAD or 15 THREAD_NOT_ALIVE, 103 ILLEGAL_ARGUMENT, 209 CALLS_SPENT: as
+    ///   `post` refuses it.
+    /// - 110 OUT_OF_MEMORY: the call may wait and `window` calls are out there, or there is no memory for a trace's frames.
+    /// - 215 (this profile: `Busy`): the thread's cell is in use.
+    ///
+    /// Then nothing changes.
+    ///
+    /// # Examples
+    ///
+    /// ```rattle
+    /// # use ti_agent::Env;
+    /// # use ti_env::EnvState;
+    /// # use ti_handshake::{Desk, Fresh, Polled, SharedCell};
+    /// # use ti_slot::Asked;
+    /// # use ti_types::{Answer, Call, EnvNo, Limits, ThreadNo, TiError};
+    /// # let (alloc, thread) = (rt.alloc(), ThreadNo(0));
+    /// # let limits = Limits::new(1, 2, 4, 16, 8).ok_or("the limits are in range")?;
+    /// # let (cell, own, mut seats) = SharedCell::make(alloc, limits, thread)?;
+    /// # let other = seats.pop().ok_or("there are two environments")?;
+    /// # let seat = seats.pop().ok_or("there are two environments")?;
+    /// # let desk = Desk::new(cell.share()?, seat);
+    /// # let running = Fresh::new(cell.share()?, own).start(&rt);
+    /// # let mut env = Env::new(EnvNo(0), EnvState::new(alloc, limits)?, vec![in alloc; desk]?);
+    /// // While another user holds the thread's cell, nothing is posted.
+    /// let hold = cell.hold(&rt, other);
+    /// let posted = env.try_post(alloc, thread, Call::FrameCount);
+    /// let _other = hold.store();
+    /// assert!(rt; matches!(posted, Err(TiError::Busy)));
+    /// let Asked::Waiting(ticket) = env.try_post(alloc, thread, Call::FrameCount)? else {
+    ///     return Err("a running thread answers later".into());
+    /// };
+    /// assert!(rt; env.try_collect_once(ticket)?.is_none());
+    /// let Ok(Polled::Go(_running)) = running.try_poll() else {
+    ///     return Err("nothing bars the thread".into());
+    /// };
+    /// assert!(rt; matches!(env.try_collect_once(ticket)?, Some(Answer::Count(0))));
+    /// ```
+    pub fn try_post(
+        &mut self,
+        alloc: Global,
+        thread: ThreadNo,
+        call: Call,
+    ) -> Result<Asked, TiError>
+        ensures admitted { IfOk result (λ a. posting_refusal self.old thread call ≡ None) }
+        ensures posts { IfOk result (λ a. Posts self.old self.new thread call a) }
+        ensures out { IfOk result (λ a. IsOutIfWaiting self.new a) }
+        ensures refused { IfErr result (λ e. (Some e ≡ or_else (posting_refusal self.old thread call) (if takes_buffer call then Some OutOfMemory else None)) ⊎ ((e ≡ Busy) × (posting_refusal self.old thread call ≡ None))) }
+        ensures unchanged { IfErr result (λ e. self.new ≡ self.old) }
+    {
+        let place = match self.admit(thread, call) {
+            Ok(place) => place,
+            Err(error) => return Err(error),
+        };
+        if self.has_no_room(thread, place, call) {
+            return Err(TiError::OutOfMemory);
+        }
+        match buffer_for(alloc, self.state.limits(), call) {
+            Ok(buf) => self.try_post_one(thread, place, call, buf),
+            Err(error) => Err(error),
+        }
+    }
+
+    /// The answer to a posted call, if it is there. It is the same as `try_collect`, but tries to hold the thread's cell
+    /// just once. The ticket is then no longer out, so it is answered once.
+    ///
+    /// `None` while the answer is not there, and for a ticket that is not out at this environment. Then nothing is
+    /// collected.
+    ///
+    /// The error is 215 (this profile: `Busy`) if the thread's cell is in use. Then nothing changes.
+    pub fn try_collect_once(&mut self, ticket: Ticket) -> Result<Option<Answer>, TiError>
+        ensures looks { IfOk result (λ r. place_in self.old.desks ticket.thread < length self.old.desks → LooksFor self.old self.new ticket (option_map said r)) }
+        ensures nobody { length self.old.desks ≤ place_in self.old.desks ticket.thread → (self.new ≡ self.old) × (result ≡ Ok None) }
+        ensures busy { IfErr result (λ e. e ≡ Busy) }
+        ensures unchanged { OnErr result (self.new ≡ self.old) }
+    {
+        let at = self.place_of(ticket.thread).0 as usize;
+        if at >= self.desks.len() {
+            return Ok(None);
+        }
+        self.desks[at].try_collect_once(ticket)
+    }
+
+    /// Gives up a call that was posted and not collected (this profile). It is the same as `cancel`, but tries to hold the
+    /// thread's cell just once. The call still takes place when the thread reaches it. It is out until `try_discard` or
+    /// `discard` throws its answer away.
+    ///
+    /// A ticket that is not out at this environment, or was given up before, is left as it is.
+    ///
+    /// The error is one of these. Then nothing changes.
+    ///
+    /// - 110 OUT_OF_MEMORY: there is no memory to note that the call was given up.
+    /// - 215 (this profile: `Busy`): the thread's cell is in use.
+    pub fn try_cancel(&mut self, alloc: Global, ticket: Ticket) -> Result<(), TiError>
+        ensures cancels { OnOk result (place_in self.old.desks ticket.thread < length self.old.desks → Cancels self.old self.new ticket) }
+        ensures nobody { length self.old.desks ≤ place_in self.old.desks ticket.thread → (self.new ≡ self.old) × IsOk result }
+        ensures refused { IfErr result (λ e. (e ≡ OutOfMemory) ⊎ (e ≡ Busy)) }
+        ensures unchanged { OnErr result (self.new ≡ self.old) }
+    {
+        let at = self.place_of(ticket.thread).0 as usize;
+        if at >= self.desks.len() {
+            return Ok(());
+        }
+        self.desks[at].try_cancel(alloc, ticket)
+    }
+
+    /// Looks for the answer to the call that was given up first at a thread (this profile). It is the same as `discard`, but
+    /// tries to hold the thread's cell just once. If the answer is there, it is thrown away, and the call is no longer out.
+    ///
+    /// `true` if an answer was thrown away. `false` if there is none yet, if no call was given up there, or if there is no
+    /// such thread.
+    ///
+    /// The error is 215 (this profile: `Busy`) if the thread's cell is in use. Then nothing changes.
+    pub fn try_discard(&mut self, thread: ThreadNo) -> Result<bool, TiError>
+        ensures discards { IfOk result (λ thrown. place_in self.old.desks thread < length self.old.desks → DiscardsAt self.old self.new thread thrown) }
+        ensures nobody { length self.old.desks ≤ place_in self.old.desks thread → (self.new ≡ self.old) × (result ≡ Ok false) }
+        ensures busy { IfErr result (λ e. e ≡ Busy) }
+        ensures unchanged { OnErr result (self.new ≡ self.old) }
+    {
+        let at = self.place_of(thread).0 as usize;
+        if at >= self.desks.len() {
+            return Ok(false);
+        }
+        self.desks[at].try_discard()
+    }
+
+    /// Gives up all calls that are out at a thread, and sets the environment's word there to 0, if a call is left. It tries to
+    /// hold the thread's cell just once, for both. The place is the thread's, and there is a desk.
+    ///
+    /// The error is 110 OUT_OF_MEMORY, or `Busy` (215) if the cell is in use. Then nothing changes.
+    fn try_empty(&mut self, alloc: Global, thread: ThreadNo, place: ThreadNo) -> Result<(), TiError>
+        requires place { place ≡ place_of self.old.desks thread }
+        requires there { place_in self.old.desks thread < length self.old.desks }
+        ensures emptied { OnOk result (IsEmptied self.old self.new thread) }
+        ensures refused { IfErr result (λ e. (e ≡ OutOfMemory) ⊎ (e ≡ Busy)) }
+        ensures unchanged { OnErr result (self.new ≡ self.old) }
+    {
+        let _thread = thread;
+        if self.state.left(place) == 0 {
+            return self.desks[place.0 as usize].try_cancel_all(alloc);
+        }
+        match self.desks[place.0 as usize].try_clear(alloc) {
+            Ok(()) => {
+                self.state.spend(place);
+                Ok(())
+            }
+            Err(error) => Err(error),
+        }
+    }
+
+    /// Takes the desk at a thread out of the environment, and leaves nothing there of what the environment did (JVM TI 11,
+    /// DisposeEnvironment). It is the same as `clear_desk`, but tries to hold the thread's cell just once, for all of it.
+    ///
+    /// Its calls that are out are given up, and each still takes place when the thread reaches it. Its word is 0 again, if a
+    /// call is left there: that costs one.
+    ///
+    /// `None` if there is no desk at a thread of this number. Then nothing changes.
+    ///
+    /// The error is one of these. Then nothing changes.
+    ///
+    /// - 110 OUT_OF_MEMORY: there is no memory to note the calls that are given up.
+    /// - 215 (this profile: `Busy`): the thread's cell is in use.
+    pub fn try_clear_desk(
+        &mut self,
+        alloc: Global,
+        thread: ThreadNo,
+    ) -> Result<Option<FreeDesk>, TiError>
+        ensures cleared { IfOk result (λ r. IfSome r (λ f. IsCleared self.old self.new thread f)) }
+        ensures nobody { IfOk result (λ r. IfNone r (length self.old.desks ≤ place_in self.old.desks thread)) }
+        ensures same { IfOk result (λ r. IfNone r (self.new ≡ self.old)) }
+        ensures refused { IfErr result (λ e. (e ≡ OutOfMemory) ⊎ (e ≡ Busy)) }
+        ensures there { OnErr result (place_in self.old.desks thread < length self.old.desks) }
+        ensures unchanged { OnErr result (self.new ≡ self.old) }
+    {
+        let place = self.place_of(thread);
+        if place.0 >= self.desk_count() {
+            return Ok(None);
+        }
+        match self.try_empty(alloc, thread, place) {
+            Ok(()) => (),
+            Err(error) => return Err(error),
+        }
+        let Some(free) = self.take_desk(thread) else {
+            unreachable!()
+        };
+        Ok(Some(free))
+    }
+}
+
+ghost use Rattle.std.specs.Prelude.{◌≡◌, ◌⊎◌, ◌<◌, ◌≤◌, ◌&&◌, true, false, length, None, Some, Ok, IfSome, IfNone, IfOk, IfErr, OnOk, OnErr, IsOk, if◌then◌else◌};
+ghost use Rattle.std.specs.Option.{option_map};
+ghost use Rattle.ti_types.specs.Answer.{said};
+ghost use Rattle.ti_types.specs.Refusing.{or_else};
+ghost use Rattle.ti_types.specs.declared.error.TiError.TheVariants.{OutOfMemory, Busy};
+ghost use Rattle.ti_replay.specs.Admission.{takes_buffer};
+ghost use Rattle.ti_replay.specs.Settling.{waits};
+ghost use Rattle.ti_agent.specs.Buffers.{IsJustBufferOf};
+ghost use Rattle.ti_agent.specs.Deadlines.{Cancels, DiscardsAt};
+ghost use Rattle.ti_agent.specs.Desks.{IsCleared};
+ghost use Rattle.ti_agent.specs.Emptied.{IsEmptied};
+ghost use Rattle.ti_agent.specs.Env.{place_in, place_of, thread_refusal, is_full};
+ghost use Rattle.ti_agent.specs.Posts.{posting_refusal, Posts, LooksFor, IsOutIfWaiting};

@@ -1,0 +1,13 @@
+use Rattle.std.proofs.Common.{w32, to_z, of_z}
+use Rattle.ti_types.specs.declared.call.Call.TheVariants.{Location}
+use Rattle.ti_agent.specs.Asks.{in_location}
+use Rattle.ti_service.proofs.Homes.{ours_stay}
+use Rattle.ti_service.proofs.Stays.{called_stays}
+use Rattle.ti_service.proofs.agent.Agent.get_frame_location.Goals as goal
+
+pub invariant_of-self : goal.invariant_of-self
+invariant_of-self g c =
+    let at = c.self.inside in
+    let old = at.env in
+    let new = c.get_frame_location.new.self in
+    ours_stay at.service at.waiting.items old new (called_stays old new c.args.thread (Location (to_z w32 (of_z w32 c.args.depth))) (in_location c.get_frame_location.result) c.get_frame_location.ensures) c.self.invariant

@@ -1,0 +1,52 @@
+use Rattle.std.proofs.Common.{◌≡◌, List, Option, Some, sym, ap, ◌∙◌, subst}
+use Rattle.std.specs.Prelude.{All}
+use Rattle.ti_types.specs.declared.limits.Limits.{Limits}
+use Rattle.ti_types.specs.declared.numbers.EnvNo.{EnvNo}
+use Rattle.ti_roster.specs.declared.coming.Coming.{Coming}
+use Rattle.ti_roster.specs.declared.view.RosterView.{RosterView}
+use Rattle.ti_roster.specs.Log.{Log}
+use Rattle.ti_roster.specs.Roster.{IsOwn, MayGoBack}
+use Rattle.ti_roster.specs.Rule.{Begins, Claims, Moves}
+use Rattle.ti_roster.specs.Seats.{Sitting}
+use Rattle.ti_service.proofs.Moves.{all_back, leave_begins, leave_moves, seat_view}
+use Rattle.ti_service.proofs.service.Service.leave.Given.{Over}
+use Rattle.ti_service.proofs.service.Service.leave.Goals.{After-roster}
+use Rattle.ti_service.proofs.service.Service.leave.Goals as goal
+
+-- the desks may go back into the roster that was found
+back : (g : Over) (c : After-roster g) → All (λ f. MayGoBack c.roster.result.now f) c.args.desks.items
+back g c =
+    let seat : Sitting = c.in-Some.seat in
+    let r : Log = c.roster.result.now in
+    let value : r ≡ c.hold-hold.result.roster = c.roster.ensures.value in
+    let mine : seat.view ≡ c.args.self.now.view = seat_view c.self.inside.roster c.self.inside.seat seat c.args.self.now c.self.view_is (sym c.take.ensures.value ∙ c.in-Some.is) in
+    let user : r.user ≡ Some c.requires.env = ap (λ (x : Log). x.user) value ∙ (c.hold-hold.ensures.roster.1 ∙ (ap (λ (v : RosterView). v.place) mine ∙ c.requires.place)) in
+    let limits : r.limits ≡ c.args.self.now.view.limits = ap (λ (x : Log). x.limits) value ∙ (c.hold-hold.ensures.roster.0 ∙ ap (λ (v : RosterView). v.limits) mine) in
+    let begins : Begins r.items c.args.self.now.view.seen = subst (λ (x : Log × RosterView). Begins x.0.items x.1.seen) (λ j. (sym value j, mine j)) c.hold-hold.ensures.begins in
+    all_back r c.args.self.now.view.seen c.requires.env c.args.desks.items user begins (subst (λ (l : Limits). All (IsOwn c.args.self.now.view.seen l c.requires.env) c.args.desks.items) (sym limits) c.requires.own)
+
+pub dispose-left-requires : goal.dispose-left-requires
+dispose-left-requires g c = back g (goal.at.dispose-left-requires g c).After-roster
+
+pub store-requires-clause-begins : goal.store-requires-clause-begins
+store-requires-clause-begins g c =
+    let r : Log = c.roster.result.now in
+    let r' : Log = c.dispose-left.new.self in
+    let value : r ≡ c.hold-hold.result.roster = c.roster.ensures.value in
+    let seen : c.hold-hold.result.view.seen ≡ r.items = ap (λ (v : RosterView). v.seen) c.hold-hold.ensures.view ∙ ap (λ (x : Log). x.items) (sym value) in
+    subst (λ (l : List Coming). Begins r'.items l) (sym seen)
+    (leave_begins r r' c.args.desks.items c.dispose-left.result (back g (goal.at.store-requires-clause-begins g c).After-roster) c.dispose-left.ensures.disposed c.dispose-left.ensures.unchanged)
+
+pub store-requires-clause-moves : goal.store-requires-clause-moves
+store-requires-clause-moves g c =
+    let seat : Sitting = c.in-Some.seat in
+    let h = c.hold-hold.result in
+    let r : Log = c.roster.result.now in
+    let r' : Log = c.dispose-left.new.self in
+    let value : r ≡ h.roster = c.roster.ensures.value in
+    let place : h.view.place ≡ seat.view.place = ap (λ (v : RosterView). v.place) c.hold-hold.ensures.view in
+    let seen : h.view.seen ≡ r.items = ap (λ (v : RosterView). v.seen) c.hold-hold.ensures.view ∙ ap (λ (x : Log). x.items) (sym value) in
+    let claims : Claims r.items seat.view.place seat.view.seen = subst (λ (x : Log). Claims x.items seat.view.place seat.view.seen) (sym value) c.hold-hold.ensures.claims in
+    let user : r.user ≡ seat.view.place = ap (λ (x : Log). x.user) value ∙ c.hold-hold.ensures.roster.1 in
+    subst (λ (x : Option EnvNo × List Coming). Moves x.0 r'.user x.1 r'.items) (λ j. (sym place j, sym seen j))
+    (leave_moves seat.view.place r r' seat.view.seen c.args.desks.items c.dispose-left.result claims user (back g (goal.at.store-requires-clause-moves g c).After-roster) c.dispose-left.ensures.disposed c.dispose-left.ensures.unchanged)

@@ -1,0 +1,331 @@
+//! Calls of a handle that never wait.
+//!
+//! Each is the twin of a call that holds the roster, and tries to hold it just once. They take no runtime, so they neither
+//! spin nor sleep. If another user holds the roster, or comes first, the error is `Busy` (215, this profile), and nothing
+//! changes.
+
+use crate::agent::Agent;
+use crate::service::Service;
+use std::alloc::Global;
+use ti_agent::{Env, FreeDesk};
+use ti_handshake::{Ended, Fresh};
+use ti_roster::{NextEvent, ThreadInfo};
+use ti_types::{EnvNo, ThreadNo, TiError};
+
+impl Service {
+    /// A place for an environment, which is this handle's from now on.
+    fn try_claim(&mut self) -> Result<EnvNo, TiError>
+        requires { self.old.view.place ≡ None }
+        ensures cell { self.new.cell ≡ self.old.cell }
+        ensures claimed { IfOk result (λ e. Claimed self.old.view self.new.view e) }
+        ensures refused { IfErr result (λ e. ((e ≡ OutOfMemory) × Looks self.old.view self.new.view) ⊎ ((e ≡ Busy) × (self.new ≡ self.old))) }
+    {
+        let Some(seat) = self.seat.take() else {
+            unreachable!()
+        };
+        match self.roster.try_hold(seat) {
+            Ok(mut hold) => {
+                let env = hold.roster().attach();
+                self.seat = Some(hold.store());
+                env
+            }
+            Err(seat) => {
+                self.seat = Some(seat);
+                Err(TiError::Busy)
+            }
+        }
+    }
+
+    /// Attaches an environment, as `attach_environment` does.
+    ///
+    /// The error is one of these. Then nothing changes.
+    ///
+    /// - 110 OUT_OF_MEMORY: as for `attach_environment`.
+    /// - 215 `Busy` (this profile): the roster is in use.
+    pub fn try_attach_environment(&mut self, alloc: Global) -> Result<Agent, TiError>
+        ensures same { self.new ≡ self.old }
+        ensures attached { IfOk result (λ a. IsNewAgent self.old a) }
+        ensures refused { IfErr result (λ e. (e ≡ OutOfMemory) ⊎ (e ≡ Busy)) }
+    {
+        let mut service = self.share()?;
+        let env = service.try_claim()?;
+        let env = Env::with_no_desks(alloc, env, service.limits());
+        let waiting = Vec::new(alloc);
+        Ok(Agent {
+            service,
+            env,
+            waiting,
+            events: None,
+        })
+    }
+
+    /// The desks of this handle's environment, as `meet` gives them.
+    pub(crate) fn try_meet(&mut self, alloc: Global) -> Result<(Vec<FreeDesk>, u32), TiError>
+        ensures cell { self.new.cell ≡ self.old.cell }
+        ensures taken { IfOk result (λ d. TakesDesks self.old.view self.new.view d.0.items d.1) }
+        ensures refused { IfErr result (λ e. ((e ≡ meeting_refusal self.new.view) × Looks self.old.view self.new.view) ⊎ ((e ≡ Busy) × (self.new ≡ self.old))) }
+    {
+        let Some(seat) = self.seat.take() else {
+            unreachable!()
+        };
+        match self.roster.try_hold(seat) {
+            Ok(mut hold) => {
+                let roster = hold.roster();
+                let next = roster.next();
+                let desks = roster.meet(alloc);
+                self.seat = Some(hold.store());
+                match desks {
+                    Ok(desks) => Ok((desks, next)),
+                    Err(error) => Err(error),
+                }
+            }
+            Err(seat) => {
+                self.seat = Some(seat);
+                Err(TiError::Busy)
+            }
+        }
+    }
+
+    /// This handle's environment is disposed of, and gives these desks back, as `leave` does.
+    pub(crate) fn try_leave(&mut self, desks: Vec<FreeDesk>) -> Result<(), (TiError, Vec<FreeDesk>)>
+        requires { MayLeave self.old.view desks.items }
+        ensures cell { self.new.cell ≡ self.old.cell }
+        ensures left { OnOk result (Leaves self.old.view self.new.view desks.items) }
+        ensures refused { IfErr result (λ r. ((r.0 ≡ OutOfMemory) × Looks self.old.view self.new.view) ⊎ ((r.0 ≡ Busy) × (self.new ≡ self.old))) }
+        ensures back { IfErr result (λ r. r.1 ≡ desks) }
+    {
+        let Some(seat) = self.seat.take() else {
+            unreachable!()
+        };
+        match self.roster.try_hold(seat) {
+            Ok(mut hold) => {
+                let left = hold.roster().dispose(desks);
+                self.seat = Some(hold.store());
+                left
+            }
+            Err(seat) => {
+                self.seat = Some(seat);
+                Err((TiError::Busy, desks))
+            }
+        }
+    }
+
+    /// Attaches a thread, as `attach_thread` does. It has the next number, and has not started.
+    ///
+    /// The error is one of these. Then no thread came, and the name is freed.
+    ///
+    /// - 110 OUT_OF_MEMORY: as for `attach_thread`. Nothing changes but what the handle has seen.
+    /// - 215 `Busy` (this profile): the roster is in use. Nothing changes.
+    pub fn try_attach_thread(&mut self, alloc: Global, info: ThreadInfo) -> Result<Fresh, TiError>
+        ensures cell { self.new.cell ≡ self.old.cell }
+        ensures attached { IfOk result (λ f. Attaches self.old.view self.new.view info f) }
+        ensures refused { IfErr result (λ e. ((e ≡ OutOfMemory) × Looks self.old.view self.new.view) ⊎ ((e ≡ Busy) × (self.new ≡ self.old))) }
+    {
+        let Some(seat) = self.seat.take() else {
+            unreachable!()
+        };
+        match self.roster.try_hold(seat) {
+            Ok(mut hold) => {
+                let fresh = hold.roster().come(alloc, info);
+                self.seat = Some(hold.store());
+                fresh
+            }
+            Err(seat) => {
+                self.seat = Some(seat);
+                Err(TiError::Busy)
+            }
+        }
+    }
+
+    /// A thread of this number is there no more.
+    fn try_end(&mut self, thread: ThreadNo) -> Result<(), TiError>
+        ensures cell { self.new.cell ≡ self.old.cell }
+        ensures gone { OnOk result (Ends self.old.view self.new.view thread) }
+        ensures refused { IfErr result (λ e. RefusesEnd self.old.view self.new.view thread e ⊎ ((e ≡ Busy) × (self.new ≡ self.old))) }
+    {
+        let Some(seat) = self.seat.take() else {
+            unreachable!()
+        };
+        match self.roster.try_hold(seat) {
+            Ok(mut hold) => {
+                let ended = hold.roster().end(thread);
+                self.seat = Some(hold.store());
+                ended
+            }
+            Err(seat) => {
+                self.seat = Some(seat);
+                Err(TiError::Busy)
+            }
+        }
+    }
+
+    /// Gives a thread back that has ended, as `end_thread` does.
+    ///
+    /// The error is the first of these that fits. Then the thread comes back as it was:
+    ///
+    /// - 215 `Busy` (this profile): the roster is in use. Nothing changes.
+    /// - 10 INVALID_THREAD, 15 THREAD_NOT_ALIVE, 110 OUT_OF_MEMORY: as for `end_thread`. Nothing changes but what the handle
+    ///   has seen.
+    pub fn try_end_thread(&mut self, ended: Ended) -> Result<(), (TiError, Ended)>
+        ensures cell { self.new.cell ≡ self.old.cell }
+        ensures gone { OnOk result (Ends self.old.view self.new.view ended.view.subject.thread) }
+        ensures refused { IfErr result (λ r. RefusesEnd self.old.view self.new.view ended.view.subject.thread r.0 ⊎ ((r.0 ≡ Busy) × (self.new ≡ self.old))) }
+        ensures back { IfErr result (λ r. r.1 ≡ ended) }
+    {
+        match self.try_end(ended.thread()) {
+            Ok(()) => Ok(()),
+            Err(error) => Err((error, ended)),
+        }
+    }
+
+    /// Gives a thread back that never started. Everything else is as for `try_end_thread`.
+    pub fn try_withdraw_thread(&mut self, fresh: Fresh) -> Result<(), (TiError, Fresh)>
+        ensures cell { self.new.cell ≡ self.old.cell }
+        ensures gone { OnOk result (Ends self.old.view self.new.view fresh.view.subject.thread) }
+        ensures refused { IfErr result (λ r. RefusesEnd self.old.view self.new.view fresh.view.subject.thread r.0 ⊎ ((r.0 ≡ Busy) × (self.new ≡ self.old))) }
+        ensures back { IfErr result (λ r. r.1 ≡ fresh) }
+    {
+        match self.try_end(fresh.thread()) {
+            Ok(()) => Ok(()),
+            Err(error) => Err((error, fresh)),
+        }
+    }
+
+    /// GetAllThreads (JVM TI 11), as `get_all_threads` gives it.
+    ///
+    /// The error is 110 OUT_OF_MEMORY if there is no memory for the numbers, or 215 `Busy` (this profile) if the roster is in
+    /// use. Then nothing changes, but for what the handle has seen with 110.
+    pub fn try_get_all_threads(&mut self, alloc: Global) -> Result<Vec<ThreadNo>, TiError>
+        ensures cell { self.new.cell ≡ self.old.cell }
+        ensures hold { OnOk result (Looks self.old.view self.new.view) }
+        ensures threads { IfOk result (λ t. t.items ≡ map (λ n. n.thread) (live self.new.view.seen)) }
+        ensures refused { IfErr result (λ e. ((e ≡ OutOfMemory) × Looks self.old.view self.new.view) ⊎ ((e ≡ Busy) × (self.new ≡ self.old))) }
+    {
+        let Some(seat) = self.seat.take() else {
+            unreachable!()
+        };
+        match self.roster.try_hold(seat) {
+            Ok(mut hold) => {
+                let threads = hold.roster().threads(alloc);
+                self.seat = Some(hold.store());
+                threads
+            }
+            Err(seat) => {
+                self.seat = Some(seat);
+                Err(TiError::Busy)
+            }
+        }
+    }
+
+    /// GetThreadInfo (JVM TI 11), as `get_thread_info` gives it.
+    ///
+    /// Errors: 10, 15 and 110 as for `get_thread_info`. Then nothing changes but what the handle has seen. 215 `Busy` (this
+    /// profile) if the roster is in use: nothing changes.
+    pub fn try_get_thread_info(
+        &mut self,
+        alloc: Global,
+        thread: ThreadNo,
+    ) -> Result<ThreadInfo, TiError>
+        ensures cell { self.new.cell ≡ self.old.cell }
+        ensures hold { OnOk result (Looks self.old.view self.new.view) }
+        ensures told { IfOk result (λ i. IsToldOf (roster_seen self.new.view) thread i) }
+        ensures refused { IfErr result (λ e. RefusesEnd self.old.view self.new.view thread e ⊎ ((e ≡ Busy) × (self.new ≡ self.old))) }
+    {
+        let Some(seat) = self.seat.take() else {
+            unreachable!()
+        };
+        match self.roster.try_hold(seat) {
+            Ok(mut hold) => {
+                let info = hold.roster().info(alloc, thread);
+                self.seat = Some(hold.store());
+                info
+            }
+            Err(seat) => {
+                self.seat = Some(seat);
+                Err(TiError::Busy)
+            }
+        }
+    }
+
+    /// Whether a thread of this number is there, as `is_live` says. The error is 215 `Busy` (this profile) if the roster is in
+    /// use. Then nothing changes.
+    pub fn try_is_live(&mut self, thread: ThreadNo) -> Result<bool, TiError>
+        ensures cell { self.new.cell ≡ self.old.cell }
+        ensures hold { OnOk result (Looks self.old.view self.new.view) }
+        ensures live { IfOk result (λ there. there ≡ is_live thread self.new.view.seen) }
+        ensures busy { IfErr result (λ e. (e ≡ Busy) × (self.new ≡ self.old)) }
+    {
+        let Some(seat) = self.seat.take() else {
+            unreachable!()
+        };
+        match self.roster.try_hold(seat) {
+            Ok(mut hold) => {
+                let there = hold.roster().is_live(thread);
+                self.seat = Some(hold.store());
+                Ok(there)
+            }
+            Err(seat) => {
+                self.seat = Some(seat);
+                Err(TiError::Busy)
+            }
+        }
+    }
+
+    /// How many starts and ends of threads have happened.
+    pub(crate) fn try_event_count(&mut self) -> Result<u64, TiError>
+        ensures cell { self.new.cell ≡ self.old.cell }
+        ensures hold { OnOk result (Looks self.old.view self.new.view) }
+        ensures count { IfOk result (λ n. n ≡ length (life_of self.new.view.seen)) }
+        ensures busy { IfErr result (λ e. (e ≡ Busy) × (self.new ≡ self.old)) }
+    {
+        let Some(seat) = self.seat.take() else {
+            unreachable!()
+        };
+        match self.roster.try_hold(seat) {
+            Ok(mut hold) => {
+                let count = hold.roster().events();
+                self.seat = Some(hold.store());
+                Ok(count)
+            }
+            Err(seat) => {
+                self.seat = Some(seat);
+                Err(TiError::Busy)
+            }
+        }
+    }
+
+    /// The first start or end of a thread from this index on that is kept, and how many were lost before it.
+    pub(crate) fn try_next_event(&mut self, from: u64) -> Result<Option<NextEvent>, TiError>
+        ensures cell { self.new.cell ≡ self.old.cell }
+        ensures hold { OnOk result (Looks self.old.view self.new.view) }
+        ensures next { IfOk result (λ n. n ≡ next_event (life_of self.new.view.seen) from) }
+        ensures fits { IfOk result (λ n. IfSome n (λ n. from + n.lost < 2 ^ 62)) }
+        ensures order { OnOk result (AreInOrder (life_of self.new.view.seen)) }
+        ensures busy { IfErr result (λ e. (e ≡ Busy) × (self.new ≡ self.old)) }
+    {
+        let Some(seat) = self.seat.take() else {
+            unreachable!()
+        };
+        match self.roster.try_hold(seat) {
+            Ok(mut hold) => {
+                let roster = hold.roster();
+                roster.facts();
+                let next = roster.next_event(from);
+                self.seat = Some(hold.store());
+                Ok(next)
+            }
+            Err(seat) => {
+                self.seat = Some(seat);
+                Err(TiError::Busy)
+            }
+        }
+    }
+}
+
+ghost use Rattle.std.specs.Prelude.{◌≡◌, ◌<◌, ◌+◌, ◌^◌, ◌⊎◌, None, length, map, IfOk, IfErr, IfSome, OnOk};
+ghost use Rattle.ti_roster.specs.Events.{AreInOrder, life_of, next_event};
+ghost use Rattle.ti_types.specs.declared.error.TiError.TheVariants.{Busy, OutOfMemory};
+ghost use Rattle.ti_roster.specs.Log.{is_live, live};
+ghost use Rattle.ti_roster.specs.Roster.{IsToldOf};
+ghost use Rattle.ti_service.specs.Agent.{IsNewAgent};
+ghost use Rattle.ti_service.specs.Service.{Attaches, Claimed, Ends, Leaves, Looks, MayLeave, RefusesEnd, TakesDesks, meeting_refusal, roster_seen};

@@ -1,5 +1,0 @@
-use Rattle.tiprof.proofs.StationLaws.{all_new}
-use Rattle.tiprof.proofs.station.Station.new.Goals as goal
-
-pub invariant_of-result : goal.invariant_of-result
-invariant_of-result c = all_new _ _ _ c.requires.seats
