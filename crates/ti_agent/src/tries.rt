@@ -47,8 +47,11 @@ impl Env {
     ///
     /// Some calls are refused before they reach the thread, with the first of these that fits:
     ///
-    /// - 99 MUST_POSSESS_CAPABILITY, 10 INVALID_THREAD or 15 THREAD_NOT_ALIVE, 103 ILLEGAL_ARGUMENT, 209 CALLS_SPENT: as
-    ///   `post` refuses it.
+    /// - 99 MUST_POSSESS_CAPABILITY: it needs a capability that the environment does not have.
+    /// - 10 INVALID_THREAD: there is no desk at a thread of this number. But 15 THREAD_NOT_ALIVE if there was a thread of this
+    ///   number once.
+    /// - 103 ILLEGAL_ARGUMENT: its count or depth is negative.
+    /// - 209 CALLS_SPENT (this profile): the environment has no call left at this thread.
     /// - 110 OUT_OF_MEMORY: the call may wait and `window` calls are out there, or there is no memory for a trace's frames.
     /// - 215 (this profile: `Busy`): the thread's cell is in use.
     ///

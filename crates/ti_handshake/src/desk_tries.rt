@@ -3,10 +3,7 @@
 //! Each is the twin of a call that holds the cell, and tries to hold it just once. They take no runtime, so they neither
 //! spin nor sleep. If another user holds the cell, or comes first, nothing changes.
 
-use crate::cancelled::Cancelled;
 use crate::desk::{Desk, collect_own, is_own_out};
-use crate::desk_cancel::add_own_out;
-use std::alloc::Global;
 use ti_slot::Asked;
 use ti_types::{Answer, Call, TiError, Ticket, TraceBuf};
 
@@ -126,7 +123,7 @@ impl Desk {
     /// Whether this is the ticket of a call of this desk that is out. It tries to hold the cell just once, and adds nothing.
     ///
     /// The error is `Busy` (215) if the cell is in use. Then nothing changes.
-    fn try_has_out(&mut self, ticket: Ticket) -> Result<bool, TiError>
+    pub(crate) fn try_has_out(&mut self, ticket: Ticket) -> Result<bool, TiError>
         ensures same { IsSame self.old self.new }
         ensures hold { OnOk result (Holds self.old.view self.new.view []) }
         ensures out { IfOk result (λ out. out ≡ has ticket self.old.view.posted) }
@@ -144,200 +141,6 @@ impl Desk {
             Err(seat) => {
                 self.seat = Some(seat);
                 Err(TiError::Busy)
-            }
-        }
-    }
-
-    /// Gives up a posted call whose answer is not collected. It is the same as `cancel`, but tries to hold the cell just
-    /// once. `try_discard` throws its answer away once it is there.
-    ///
-    /// The call still takes place when the thread reaches it. It is out until its answer is thrown away (this profile). A
-    /// ticket that is not out, or was given up before, is left as it is.
-    ///
-    /// The error is one of these. Then nothing changes.
-    ///
-    /// - 110 OUT_OF_MEMORY: there is no memory to note the ticket.
-    /// - `Busy` (215): the cell is in use (this profile).
-    pub fn try_cancel(&mut self, alloc: Global, ticket: Ticket) -> Result<(), TiError>
-        ensures here { (self.new.cell ≡ self.old.cell) × (self.new.env ≡ self.old.env) }
-        ensures hold { OnOk result (Holds self.old.view self.new.view []) }
-        ensures cancelled { OnOk result (self.new.cancelled ≡ (if is_out self.old ticket then self.old.cancelled ++ ticket ∷ [] else self.old.cancelled)) }
-        ensures refused { IfErr result (λ e. (e ≡ OutOfMemory) ⊎ (e ≡ Busy)) }
-        ensures unchanged { OnErr result (self.new ≡ self.old) }
-    {
-        let mut cancelled = self.take_cancelled();
-        if let Err(error) = cancelled.reserve(alloc, 1) {
-            self.put_cancelled(cancelled);
-            return Err(error);
-        }
-        match self.try_has_out(ticket) {
-            Ok(out) => {
-                if out && !cancelled.has(ticket) {
-                    cancelled.add(ticket);
-                }
-                self.put_cancelled(cancelled);
-                Ok(())
-            }
-            Err(error) => {
-                self.put_cancelled(cancelled);
-                Err(error)
-            }
-        }
-    }
-
-    /// Gives up all calls of the desk that are out. It is the same as `cancel_all`, but tries to hold the cell just once.
-    /// Each of them still takes place when the thread reaches it.
-    ///
-    /// The error is one of these. Then nothing changes.
-    ///
-    /// - 110 OUT_OF_MEMORY: there is no memory to note the tickets.
-    /// - `Busy` (215): the cell is in use (this profile).
-    pub fn try_cancel_all(&mut self, alloc: Global) -> Result<(), TiError>
-        ensures here { (self.new.cell ≡ self.old.cell) × (self.new.env ≡ self.old.env) }
-        ensures hold { OnOk result (Holds self.old.view self.new.view []) }
-        ensures cancelled { OnOk result (CancelsAll self.old self.new) }
-        ensures refused { IfErr result (λ e. (e ≡ OutOfMemory) ⊎ (e ≡ Busy)) }
-        ensures unchanged { OnErr result (self.new ≡ self.old) }
-    {
-        let out = self.out();
-        let mut cancelled = self.take_cancelled();
-        if let Err(error) = cancelled.reserve(alloc, out as usize) {
-            self.put_cancelled(cancelled);
-            return Err(error);
-        }
-        match self.try_add_out(&mut cancelled) {
-            Ok(()) => {
-                self.put_cancelled(cancelled);
-                Ok(())
-            }
-            Err(error) => {
-                self.put_cancelled(cancelled);
-                Err(error)
-            }
-        }
-    }
-
-    /// Adds the tickets of all calls that are out to a list of some of them. There is room for all. It tries to hold the
-    /// cell just once.
-    ///
-    /// The error is `Busy` (215) if the cell is in use. Then nothing changes.
-    fn try_add_out(&mut self, cancelled: &mut Cancelled) -> Result<(), TiError>
-        requires given { AreGivenUp cancelled.old.tickets self.old.view.posted }
-        requires room { length self.old.view.posted ≤ cancelled.old.room }
-        ensures same { IsSame self.old self.new }
-        ensures hold { OnOk result (Holds self.old.view self.new.view []) }
-        ensures added { OnOk result (AddsAll self.old.view.posted cancelled.old.tickets cancelled.new.tickets) }
-        ensures busy { IfErr result (λ e. (e ≡ Busy) × (self.new ≡ self.old) × (cancelled.new ≡ cancelled.old)) }
-    {
-        let Some(seat) = self.seat.take() else {
-            unreachable!()
-        };
-        match self.cell.try_hold(seat) {
-            Ok(mut hold) => {
-                add_own_out(hold.slot(), self.env, cancelled);
-                self.seat = Some(hold.store());
-                Ok(())
-            }
-            Err(seat) => {
-                self.seat = Some(seat);
-                Err(TiError::Busy)
-            }
-        }
-    }
-
-    /// Gives up all calls of the desk that are out, and sets the environment's word at the thread to 0. It tries to hold the
-    /// cell just once, for both. It costs one call. Each of the calls still takes place when the thread reaches it.
-    ///
-    /// It is for an environment that leaves the thread (JVM TI 11, DisposeEnvironment). It has a call left at the thread.
-    ///
-    /// The error is one of these. Then nothing changes.
-    ///
-    /// - 110 OUT_OF_MEMORY: there is no memory to note the tickets.
-    /// - `Busy` (215): the cell is in use (this profile).
-    pub fn try_clear(&mut self, alloc: Global) -> Result<(), TiError>
-        requires calls { calls_spent self.old.env self.old.view.mine < self.old.view.subject.limits.calls }
-        ensures here { (self.new.cell ≡ self.old.cell) × (self.new.env ≡ self.old.env) }
-        ensures hold { OnOk result (Holds self.old.view self.new.view (next_call self.old.view self.old.env (SetWord 0) ∷ [])) }
-        ensures cancelled { OnOk result (CancelsAll self.old self.new) }
-        ensures refused { IfErr result (λ e. (e ≡ OutOfMemory) ⊎ (e ≡ Busy)) }
-        ensures unchanged { OnErr result (self.new ≡ self.old) }
-    {
-        let out = self.out();
-        let mut cancelled = self.take_cancelled();
-        if let Err(error) = cancelled.reserve(alloc, out as usize) {
-            self.put_cancelled(cancelled);
-            return Err(error);
-        }
-        match self.try_add_out_and_clear(&mut cancelled) {
-            Ok(()) => {
-                self.put_cancelled(cancelled);
-                Ok(())
-            }
-            Err(error) => {
-                self.put_cancelled(cancelled);
-                Err(error)
-            }
-        }
-    }
-
-    /// Adds the tickets of all calls that are out to a list of some of them, and sets the environment's word to 0. There is
-    /// room for all tickets, and a call is left. It tries to hold the cell just once.
-    ///
-    /// The error is `Busy` (215) if the cell is in use. Then nothing changes.
-    fn try_add_out_and_clear(&mut self, cancelled: &mut Cancelled) -> Result<(), TiError>
-        requires calls { calls_spent self.old.env self.old.view.mine < self.old.view.subject.limits.calls }
-        requires given { AreGivenUp cancelled.old.tickets self.old.view.posted }
-        requires room { length self.old.view.posted ≤ cancelled.old.room }
-        ensures same { IsSame self.old self.new }
-        ensures hold { OnOk result (Holds self.old.view self.new.view (next_call self.old.view self.old.env (SetWord 0) ∷ [])) }
-        ensures added { OnOk result (AddsAll self.old.view.posted cancelled.old.tickets cancelled.new.tickets) }
-        ensures busy { IfErr result (λ e. (e ≡ Busy) × (self.new ≡ self.old) × (cancelled.new ≡ cancelled.old)) }
-    {
-        let Some(seat) = self.seat.take() else {
-            unreachable!()
-        };
-        match self.cell.try_hold(seat) {
-            Ok(mut hold) => {
-                let slot = hold.slot();
-                slot.tickets();
-                add_own_out(slot, self.env, cancelled);
-                drop(slot.ask(self.env, Call::SetWord(0), TraceBuf::none()));
-                self.seat = Some(hold.store());
-                Ok(())
-            }
-            Err(seat) => {
-                self.seat = Some(seat);
-                Err(TiError::Busy)
-            }
-        }
-    }
-
-    /// Looks for the answer to the call that was given up first. It is the same as `discard`, but tries to hold the cell
-    /// just once. If the answer is there, it is thrown away, and the call is no longer out.
-    ///
-    /// Returns whether it was there. If no call was given up, nothing is done, and the result is `false` (this profile).
-    ///
-    /// The error is `Busy` (215) if the cell is in use (this profile). Then nothing changes.
-    pub fn try_discard(&mut self) -> Result<bool, TiError>
-        ensures discards { IfOk result (λ thrown. Discards self.old self.new thrown) }
-        ensures busy { IfErr result (λ e. (e ≡ Busy) × (self.new ≡ self.old)) }
-    {
-        let Some(first) = self.first_cancelled() else {
-            return Ok(false);
-        };
-        let mut cancelled = self.take_cancelled();
-        match self.try_collect_once(first) {
-            Ok(found) => {
-                let thrown = found.is_some();
-                if thrown {
-                    cancelled.remove_first();
-                }
-                self.put_cancelled(cancelled);
-                Ok(thrown)
-            }
-            Err(error) => {
-                self.put_cancelled(cancelled);
-                Err(error)
             }
         }
     }
@@ -461,12 +264,11 @@ impl Desk {
     }
 }
 
-ghost use Rattle.std.specs.Prelude.{◌≡◌, ◌⊎◌, ◌<◌, ◌≤◌, ◌+◌, ◌++◌, true, false, if◌then◌else◌, is_some, [], ◌∷◌, length, Some, None, IfSome, IfOk, IfErr, OnOk, OnErr};
+ghost use Rattle.std.specs.Prelude.{◌≡◌, ◌<◌, ◌≤◌, ◌+◌, ◌++◌, true, false, if◌then◌else◌, is_some, [], ◌∷◌, length, Some, None, IfSome, IfOk, IfErr, OnOk};
 ghost use Rattle.std.specs.Option.{option_map};
 ghost use Rattle.ti_types.specs.Answer.{said};
-ghost use Rattle.ti_types.specs.declared.call.Call.TheVariants.{SetWord};
 ghost use Rattle.ti_types.specs.declared.entry.Entry.TheVariants as entry;
-ghost use Rattle.ti_types.specs.declared.error.TiError.TheVariants.{OutOfMemory, Busy};
+ghost use Rattle.ti_types.specs.declared.error.TiError.TheVariants.{Busy};
 ghost use Rattle.ti_replay.specs.Answers.{done_or, or_zero as or_zero_of};
 ghost use Rattle.ti_replay.specs.Events.{if_none};
 ghost use Rattle.ti_replay.specs.Legal.{calls_spent, is_not_negative, is_well_formed};
@@ -478,5 +280,4 @@ ghost use Rattle.ti_slot.specs.Thread.{IsLate, read_answer};
 ghost use Rattle.ti_slot.specs.Tickets.{has, without_ticket};
 ghost use Rattle.ti_slot.specs.Waiting.{HasRoomFor, IsBufferOf};
 ghost use Rattle.ti_handshake.specs.Call.{Holds, HoldsWith, IsTold, found, next_call, ticket_told};
-ghost use Rattle.ti_handshake.specs.Cancelled.{AddsAll, AreGivenUp};
-ghost use Rattle.ti_handshake.specs.Desk.{CancelsAll, Discards, IsSame, IsTicketOut, ReplyAtPlace, is_out, stop_refusal, read_refusal, go_refusal};
+ghost use Rattle.ti_handshake.specs.Desk.{IsSame, IsTicketOut, ReplyAtPlace, is_out, stop_refusal, read_refusal, go_refusal};

@@ -1,0 +1,214 @@
+//! Calls of a desk that give up calls, and never wait.
+//!
+//! Each is the twin of a call that holds the cell (`desk_cancel`), and tries to hold it just once. If another user holds the
+//! cell, or comes first, nothing changes.
+
+use crate::cancelled::Cancelled;
+use crate::desk::Desk;
+use crate::desk_cancel::add_own_out;
+use std::alloc::Global;
+use ti_types::{Call, TiError, Ticket, TraceBuf};
+
+impl Desk {
+    /// Gives up a posted call whose answer is not collected. It is the same as `cancel`, but tries to hold the cell just
+    /// once. `try_discard` throws its answer away once it is there.
+    ///
+    /// The call still takes place when the thread reaches it. It is out until its answer is thrown away (this profile). A
+    /// ticket that is not out, or was given up before, is left as it is.
+    ///
+    /// The error is one of these. Then nothing changes.
+    ///
+    /// - 110 OUT_OF_MEMORY: there is no memory to note the ticket.
+    /// - `Busy` (215): the cell is in use (this profile).
+    pub fn try_cancel(&mut self, alloc: Global, ticket: Ticket) -> Result<(), TiError>
+        ensures here { (self.new.cell ≡ self.old.cell) × (self.new.env ≡ self.old.env) }
+        ensures hold { OnOk result (Holds self.old.view self.new.view []) }
+        ensures cancelled { OnOk result (self.new.cancelled ≡ (if is_out self.old ticket then self.old.cancelled ++ ticket ∷ [] else self.old.cancelled)) }
+        ensures refused { IfErr result (λ e. (e ≡ OutOfMemory) ⊎ (e ≡ Busy)) }
+        ensures unchanged { OnErr result (self.new ≡ self.old) }
+    {
+        let mut cancelled = self.take_cancelled();
+        if let Err(error) = cancelled.reserve(alloc, 1) {
+            self.put_cancelled(cancelled);
+            return Err(error);
+        }
+        match self.try_has_out(ticket) {
+            Ok(out) => {
+                if out && !cancelled.has(ticket) {
+                    cancelled.add(ticket);
+                }
+                self.put_cancelled(cancelled);
+                Ok(())
+            }
+            Err(error) => {
+                self.put_cancelled(cancelled);
+                Err(error)
+            }
+        }
+    }
+
+    /// Gives up all calls of the desk that are out. It is the same as `cancel_all`, but tries to hold the cell just once.
+    /// Each of them still takes place when the thread reaches it.
+    ///
+    /// The error is one of these. Then nothing changes.
+    ///
+    /// - 110 OUT_OF_MEMORY: there is no memory to note the tickets.
+    /// - `Busy` (215): the cell is in use (this profile).
+    pub fn try_cancel_all(&mut self, alloc: Global) -> Result<(), TiError>
+        ensures here { (self.new.cell ≡ self.old.cell) × (self.new.env ≡ self.old.env) }
+        ensures hold { OnOk result (Holds self.old.view self.new.view []) }
+        ensures cancelled { OnOk result (CancelsAll self.old self.new) }
+        ensures refused { IfErr result (λ e. (e ≡ OutOfMemory) ⊎ (e ≡ Busy)) }
+        ensures unchanged { OnErr result (self.new ≡ self.old) }
+    {
+        let out = self.out();
+        let mut cancelled = self.take_cancelled();
+        if let Err(error) = cancelled.reserve(alloc, out as usize) {
+            self.put_cancelled(cancelled);
+            return Err(error);
+        }
+        match self.try_add_out(&mut cancelled) {
+            Ok(()) => {
+                self.put_cancelled(cancelled);
+                Ok(())
+            }
+            Err(error) => {
+                self.put_cancelled(cancelled);
+                Err(error)
+            }
+        }
+    }
+
+    /// Adds the tickets of all calls that are out to a list of some of them. There is room for all. It tries to hold the
+    /// cell just once.
+    ///
+    /// The error is `Busy` (215) if the cell is in use. Then nothing changes.
+    fn try_add_out(&mut self, cancelled: &mut Cancelled) -> Result<(), TiError>
+        requires given { AreGivenUp cancelled.old.tickets self.old.view.posted }
+        requires room { length self.old.view.posted ≤ cancelled.old.room }
+        ensures same { IsSame self.old self.new }
+        ensures hold { OnOk result (Holds self.old.view self.new.view []) }
+        ensures added { OnOk result (AddsAll self.old.view.posted cancelled.old.tickets cancelled.new.tickets) }
+        ensures busy { IfErr result (λ e. (e ≡ Busy) × (self.new ≡ self.old) × (cancelled.new ≡ cancelled.old)) }
+    {
+        let Some(seat) = self.seat.take() else {
+            unreachable!()
+        };
+        match self.cell.try_hold(seat) {
+            Ok(mut hold) => {
+                add_own_out(hold.slot(), self.env, cancelled);
+                self.seat = Some(hold.store());
+                Ok(())
+            }
+            Err(seat) => {
+                self.seat = Some(seat);
+                Err(TiError::Busy)
+            }
+        }
+    }
+
+    /// Gives up all calls of the desk that are out, and sets the environment's word at the thread to 0. It tries to hold the
+    /// cell just once, for both. It costs one call. Each of the calls still takes place when the thread reaches it.
+    ///
+    /// It is for an environment that leaves the thread (JVM TI 11, DisposeEnvironment). It has a call left at the thread.
+    ///
+    /// The error is one of these. Then nothing changes.
+    ///
+    /// - 110 OUT_OF_MEMORY: there is no memory to note the tickets.
+    /// - `Busy` (215): the cell is in use (this profile).
+    pub fn try_clear(&mut self, alloc: Global) -> Result<(), TiError>
+        requires calls { calls_spent self.old.env self.old.view.mine < self.old.view.subject.limits.calls }
+        ensures here { (self.new.cell ≡ self.old.cell) × (self.new.env ≡ self.old.env) }
+        ensures hold { OnOk result (Holds self.old.view self.new.view (next_call self.old.view self.old.env (SetWord 0) ∷ [])) }
+        ensures cancelled { OnOk result (CancelsAll self.old self.new) }
+        ensures refused { IfErr result (λ e. (e ≡ OutOfMemory) ⊎ (e ≡ Busy)) }
+        ensures unchanged { OnErr result (self.new ≡ self.old) }
+    {
+        let out = self.out();
+        let mut cancelled = self.take_cancelled();
+        if let Err(error) = cancelled.reserve(alloc, out as usize) {
+            self.put_cancelled(cancelled);
+            return Err(error);
+        }
+        match self.try_add_out_and_clear(&mut cancelled) {
+            Ok(()) => {
+                self.put_cancelled(cancelled);
+                Ok(())
+            }
+            Err(error) => {
+                self.put_cancelled(cancelled);
+                Err(error)
+            }
+        }
+    }
+
+    /// Adds the tickets of all calls that are out to a list of some of them, and sets the environment's word to 0. There is
+    /// room for all tickets, and a call is left. It tries to hold the cell just once.
+    ///
+    /// The error is `Busy` (215) if the cell is in use. Then nothing changes.
+    fn try_add_out_and_clear(&mut self, cancelled: &mut Cancelled) -> Result<(), TiError>
+        requires calls { calls_spent self.old.env self.old.view.mine < self.old.view.subject.limits.calls }
+        requires given { AreGivenUp cancelled.old.tickets self.old.view.posted }
+        requires room { length self.old.view.posted ≤ cancelled.old.room }
+        ensures same { IsSame self.old self.new }
+        ensures hold { OnOk result (Holds self.old.view self.new.view (next_call self.old.view self.old.env (SetWord 0) ∷ [])) }
+        ensures added { OnOk result (AddsAll self.old.view.posted cancelled.old.tickets cancelled.new.tickets) }
+        ensures busy { IfErr result (λ e. (e ≡ Busy) × (self.new ≡ self.old) × (cancelled.new ≡ cancelled.old)) }
+    {
+        let Some(seat) = self.seat.take() else {
+            unreachable!()
+        };
+        match self.cell.try_hold(seat) {
+            Ok(mut hold) => {
+                let slot = hold.slot();
+                slot.tickets();
+                add_own_out(slot, self.env, cancelled);
+                drop(slot.ask(self.env, Call::SetWord(0), TraceBuf::none()));
+                self.seat = Some(hold.store());
+                Ok(())
+            }
+            Err(seat) => {
+                self.seat = Some(seat);
+                Err(TiError::Busy)
+            }
+        }
+    }
+
+    /// Looks for the answer to the call that was given up first. It is the same as `discard`, but tries to hold the cell
+    /// just once. If the answer is there, it is thrown away, and the call is no longer out.
+    ///
+    /// Returns whether it was there. If no call was given up, nothing is done, and the result is `false` (this profile).
+    ///
+    /// The error is `Busy` (215) if the cell is in use (this profile). Then nothing changes.
+    pub fn try_discard(&mut self) -> Result<bool, TiError>
+        ensures discards { IfOk result (λ thrown. Discards self.old self.new thrown) }
+        ensures busy { IfErr result (λ e. (e ≡ Busy) × (self.new ≡ self.old)) }
+    {
+        let Some(first) = self.first_cancelled() else {
+            return Ok(false);
+        };
+        let mut cancelled = self.take_cancelled();
+        match self.try_collect_once(first) {
+            Ok(found) => {
+                let thrown = found.is_some();
+                if thrown {
+                    cancelled.remove_first();
+                }
+                self.put_cancelled(cancelled);
+                Ok(thrown)
+            }
+            Err(error) => {
+                self.put_cancelled(cancelled);
+                Err(error)
+            }
+        }
+    }
+}
+
+ghost use Rattle.std.specs.Prelude.{◌≡◌, ◌⊎◌, ◌<◌, ◌≤◌, ◌+◌, ◌++◌, if◌then◌else◌, [], ◌∷◌, length, IfOk, IfErr, OnOk, OnErr};
+ghost use Rattle.ti_types.specs.declared.call.Call.TheVariants.{SetWord};
+ghost use Rattle.ti_types.specs.declared.error.TiError.TheVariants.{OutOfMemory, Busy};
+ghost use Rattle.ti_replay.specs.Legal.{calls_spent};
+ghost use Rattle.ti_handshake.specs.Call.{Holds, next_call};
+ghost use Rattle.ti_handshake.specs.Cancelled.{AddsAll, AreGivenUp};
+ghost use Rattle.ti_handshake.specs.Desk.{CancelsAll, Discards, IsSame, is_out};
