@@ -313,8 +313,8 @@ impl Roster {
         if self.len >= LAST {
             return Err(TiError::OutOfMemory);
         }
-        let mut desks = Vec::with_capacity(alloc, self.rows.len())?;
         let first = self.count_below(self.first_left(env));
+        let mut desks = Vec::with_capacity(alloc, self.rows.len() - first)?;
         take_desks(&mut self.rows, first, env, &mut desks);
         self.marks[env.0 as usize] = Some(self.next);
         self.log = self.log.and(&Coming::Met(env, self.next));
@@ -379,7 +379,7 @@ impl Roster {
 /// Takes the desks of an environment out of the rows from an index on, in which there is a place for it.
 fn take_desks(rows: &mut Vec<Row>, start: usize, env: EnvNo, desks: &mut Vec<FreeDesk>)
     requires places { (i : ℕ) (r : Row) → slice_get rows.old.items i ≡ Some r → env.0 < length r.desks.items }
-    requires room { length desks.old.items + length rows.old.items ≤ vec_capacity desks.old }
+    requires room { length desks.old.items + length rows.old.items ≤ vec_capacity desks.old + start }
     ensures count { length rows.new.items ≡ length rows.old.items }
     ensures before { (i : ℕ) (r q : Row) → i < start → slice_get rows.old.items i ≡ Some r → slice_get rows.new.items i ≡ Some q → q ≡ r }
     ensures each { (i : ℕ) (r q : Row) → start ≤ i → slice_get rows.old.items i ≡ Some r → slice_get rows.new.items i ≡ Some q → IsTaken env r q }
