@@ -3,9 +3,13 @@
 # on all cases, on large documents (and programs that hold cells and run threads), and with each allocation, each start of a
 # thread, each read and each write refused in turn (and the tests of a core so). `make stress` runs it on live documents that
 # are made up by chance, and lets 10,000 threads come to a service and go. `make edits` tries the edits that the gate leaves out.
+# `make lib` builds the library for C into `dist/`. `make capi` tests it: by C programs, under sanitizers and valgrind, and by the
+# bindings for Rust and Python. `make lua` builds the Lua host of `examples/lua` over it, and tests that.
 # `make jvm` carries walks out on a Java VM and compares its answers with the program's lines. `make try` runs the program on all
 # examples without proving anything.
-.PHONY: run try test examples cases bench refused stress edits jvm
+.PHONY: run try test examples cases bench refused stress edits lib capi lua jvm
+
+CAPI = crates/ti_capi/out/libti_capi.a
 
 run:
 	cd crates/tiwalk && rt run < ../../examples/first.json
@@ -28,7 +32,7 @@ examples:
 cases:
 	python3 ci/cases.py
 
-bench:
+bench: lib
 	python3 bench/bench.py
 	cd crates/tiholds && rt run
 	python3 bench/cells.py
@@ -37,6 +41,7 @@ bench:
 	cd crates/tiprof && rt run -- --samples 0
 	python3 bench/profiling.py
 	cd crates/tichurn && rt run -- cost
+	mkdir -p dist && $(CC) -O2 -std=c11 c/tests/bench.c c/cebdyraq_heap.c c/cebdyraq_wait.c $(CAPI) -lpthread -o dist/bench && dist/bench
 
 refused:
 	python3 ci/refused_memory.py
@@ -49,6 +54,18 @@ stress:
 
 edits:
 	python3 ci/edits.py
+
+lib:
+	python3 ci/lib.py
+
+capi: lib
+	python3 c/tests/run.py $(CAPI)
+	python3 bindings/python/test.py $(CAPI)
+	cd bindings/rust && CEBDYRAQ_LIB_DIR=$(CURDIR)/dist/lib cargo test --offline
+
+lua: lib
+	$(MAKE) -C examples/lua CEBDYRAQ_LIB=$(CURDIR)/$(CAPI)
+	cd examples/lua && python3 test.py
 
 jvm:
 	python3 jvm/compare.py

@@ -1,7 +1,8 @@
 //! Calls of an environment that never wait.
 //!
 //! Each is the twin of a call that holds the cell of one thread, and tries to hold it just once. They take no runtime, so
-//! they neither spin nor sleep. If another user holds the cell, or comes first, nothing changes.
+//! they neither spin nor sleep, and they wake nobody (`Env::wake_sleepers_at`). If another user holds the cell, or comes
+//! first, nothing changes.
 
 use crate::env::Env;
 use crate::free_desk::FreeDesk;
@@ -11,6 +12,15 @@ use ti_slot::Asked;
 use ti_types::{Answer, Call, ThreadNo, TiError, Ticket, TraceBuf};
 
 impl Env {
+    /// Wakes whoever sleeps at a thread and may go on: the thread itself, or another environment. A program in which others sleep
+    /// calls it after calls that never wait. It is one load if nobody sleeps. Nothing happens if there is no desk there.
+    pub fn wake_sleepers_at(&self, thread: ThreadNo) {
+        let place = self.place_of(thread);
+        if place.0 < self.state.threads() {
+            self.desks[place.0 as usize].wake_sleepers();
+        }
+    }
+
     /// Posts an admitted call for which there is room, at the thread at this place, and tries to hold its cell just once.
     /// The buffer has just the room that the call takes.
     ///

@@ -290,13 +290,27 @@ impl ThreadCell {
         self.sleepers.remove(wish);
     }
 
-    /// Wakes all who sleep on the word.
-    #[inline(never)]
-    fn wake(&self) {
-        self.table.shared.wake_all(0);
+    /// Wakes whoever sleeps on the cell and may go on, after stores that woke nobody (`Hold::store_quietly`). It is one load
+    /// if nobody sleeps.
+    #[inline(always)]
+    pub fn wake_sleepers(&self) {
+        if self.sleepers.are_there() {
+            self.wake_called();
+        }
     }
 
-    /// Puts the slot back and clears the lock bit. Then it wakes the sleepers, if the store matters to one of them.
+    /// Wakes all who sleep on the word, if it matters to one of them.
+    #[inline(never)]
+    fn wake_called(&self) {
+        let word = Word {
+            bits: self.table.shared.peek(0),
+        };
+        if self.sleepers.are_called(word) {
+            self.table.shared.wake_all(0);
+        }
+    }
+
+    /// Puts the slot back and clears the lock bit. It wakes nobody.
     pub(crate) fn give(&self, seat: &mut Pass, slot: Parked)
         requires seat { (seat.old.table_id ≡ self.now) × (seat.old.me.1 ≡ (0, None) ∷ []) × (seat.old.me.0.holds ≡ true) × (seat.old.me.0.gone ≡ false) }
         requires adds { Adds seat.old.me.0.number seat.old.me.0.seen slot.history }
@@ -309,9 +323,6 @@ impl ThreadCell {
         let word = Word::free(slot.len(), slot.armed(), slot.barred());
         drop(self.table.shared.exchange(seat, 0, Some(slot)));
         self.table.shared.store::<Frees>(seat, 0, word.bits);
-        if self.sleepers.are_called(word) {
-            self.wake();
-        }
     }
 
     /// What the word shows, by one load: the bits that the history has at that moment, and its length. That is at least the

@@ -34,7 +34,26 @@ impl<'a, K> Hold<'a, K> {
     ///
     /// The slot is the one that was held. All that was added to its history since is of this seat's number. The tickets of
     /// all other seats are those that were found.
+    ///
+    /// Whoever sleeps on the cell and may go on is woken.
     pub fn store(self) -> CellSeat<K>
+        requires adds { Adds self.view.number self.view.seen self.slot.history }
+        requires keeps { Keeps self.view.number self.view.found self.slot.uncollected }
+        requires about { IsAbout self.view.subject self.slot }
+        ensures cell { result.cell ≡ self.entry.cell }
+        ensures view { result.view ≡ stored self.entry.view self.entry.slot.history self.entry.slot.uncollected }
+        ensures legal { is_legal result.view.subject.limits result.view.seen ≡ true }
+        ensures begins { StartsWith result.view.seen self.entry.view.seen }
+        ensures mine { result.view.mine ≡ made_by result.view.number result.view.seen }
+    {
+        let cell = self.cell;
+        let seat = self.store_quietly();
+        cell.wake_sleepers();
+        seat
+    }
+
+    /// The same as `store`, but it wakes nobody, and makes no call of the system. `ThreadCell::wake_sleepers` wakes them.
+    pub fn store_quietly(self) -> CellSeat<K>
         requires adds { Adds self.view.number self.view.seen self.slot.history }
         requires keeps { Keeps self.view.number self.view.found self.slot.uncollected }
         requires about { IsAbout self.view.subject self.slot }

@@ -20,7 +20,7 @@
 //! - Only `ThreadCell::make` takes memory, and its only error is lack of it.
 //!
 //! It does not promise that `hold` returns. It waits as long as others hold the cell, so it takes `Wait`. One who waits
-//! sleeps after some looks, and a store wakes it. No contract says either.
+//! sleeps after some looks, and `store` wakes it. `store_quietly` does not. No contract says either.
 #![tactic(auto)]
 
 mod cell;

@@ -54,9 +54,14 @@ impl Sleepers {
         }
     }
 
+    /// Whether somebody sleeps, or is about to, by one load.
+    #[inline(always)]
+    pub fn are_there(&self) -> bool {
+        self.count.load(Ordering::SeqCst) != 0
+    }
+
     /// Whether somebody has to be woken after this word was stored, by one load. If the thread is still barred, the store
     /// does not matter to one who waits until it is not.
-    #[inline(always)]
     pub fn are_called(&self, word: Word) -> bool {
         let count = self.count.load(Ordering::SeqCst);
         count != 0 && (count % UNBARRED != 0 || Wish::Unbarred.is_met(word))

@@ -1,7 +1,7 @@
 //! Calls of a desk that give up calls, and never wait.
 //!
 //! Each is the twin of a call that holds the cell (`desk_cancel`), and tries to hold it just once. If another user holds the
-//! cell, or comes first, nothing changes.
+//! cell, or comes first, nothing changes. They wake nobody (`wake_sleepers`).
 
 use crate::cancelled::Cancelled;
 use crate::desk::Desk;
@@ -97,7 +97,7 @@ impl Desk {
         match self.cell.try_hold(seat) {
             Ok(mut hold) => {
                 add_own_out(hold.slot(), self.env, cancelled);
-                self.seat = Some(hold.store());
+                self.seat = Some(hold.store_quietly());
                 Ok(())
             }
             Err(seat) => {
@@ -164,7 +164,7 @@ impl Desk {
                 slot.tickets();
                 add_own_out(slot, self.env, cancelled);
                 drop(slot.ask(self.env, Call::SetWord(0), TraceBuf::none()));
-                self.seat = Some(hold.store());
+                self.seat = Some(hold.store_quietly());
                 Ok(())
             }
             Err(seat) => {

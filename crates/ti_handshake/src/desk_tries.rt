@@ -1,7 +1,7 @@
 //! Calls of a desk that never wait.
 //!
 //! Each is the twin of a call that holds the cell, and tries to hold it just once. They take no runtime, so they neither
-//! spin nor sleep. If another user holds the cell, or comes first, nothing changes.
+//! spin nor sleep, and they wake nobody (`wake_sleepers`). If another user holds the cell, or comes first, nothing changes.
 
 use crate::desk::{Desk, collect_own, is_own_out};
 use ti_slot::Asked;
@@ -34,7 +34,7 @@ impl Desk {
     /// let hold = cell.hold(&rt, other);
     /// let posted = desk.try_post(Call::FrameCount, TraceBuf::none());
     /// let started = fresh.try_start_once();
-    /// let _other = hold.store();
+    /// let _other = hold.store_quietly();
     /// assert!(rt; posted.is_err());
     /// let Err((error, fresh)) = started else {
     ///     return Err("the cell was in use".into());
@@ -73,7 +73,7 @@ impl Desk {
                 let slot = hold.slot();
                 slot.tickets();
                 let asked = slot.ask(self.env, call, buf);
-                self.seat = Some(hold.store());
+                self.seat = Some(hold.store_quietly());
                 Ok(asked)
             }
             Err(seat) => {
@@ -110,7 +110,7 @@ impl Desk {
                 let slot = hold.slot();
                 slot.tickets();
                 let answer = collect_own(slot, self.env, ticket);
-                self.seat = Some(hold.store());
+                self.seat = Some(hold.store_quietly());
                 Ok(answer)
             }
             Err(seat) => {
@@ -135,7 +135,7 @@ impl Desk {
         match self.cell.try_hold(seat) {
             Ok(mut hold) => {
                 let out = is_own_out(hold.slot(), self.env, ticket);
-                self.seat = Some(hold.store());
+                self.seat = Some(hold.store_quietly());
                 Ok(out)
             }
             Err(seat) => {
@@ -165,7 +165,7 @@ impl Desk {
         match self.cell.try_hold(seat) {
             Ok(mut hold) => {
                 let stopped = hold.slot().stop(self.env);
-                self.seat = Some(hold.store());
+                self.seat = Some(hold.store_quietly());
                 Ok(stopped)
             }
             Err(seat) => {
@@ -198,7 +198,7 @@ impl Desk {
         match self.cell.try_hold(seat) {
             Ok(mut hold) => {
                 let read = hold.slot().read(self.env, max_count, buf);
-                self.seat = Some(hold.store());
+                self.seat = Some(hold.store_quietly());
                 Ok(read)
             }
             Err(seat) => {
@@ -227,7 +227,7 @@ impl Desk {
         match self.cell.try_hold(seat) {
             Ok(mut hold) => {
                 let gone = hold.slot().go(self.env);
-                self.seat = Some(hold.store());
+                self.seat = Some(hold.store_quietly());
                 Ok(gone)
             }
             Err(seat) => {
@@ -253,7 +253,7 @@ impl Desk {
         match self.cell.try_hold(seat) {
             Ok(mut hold) => {
                 let standing = hold.slot().standing(self.env);
-                self.seat = Some(hold.store());
+                self.seat = Some(hold.store_quietly());
                 Ok(standing)
             }
             Err(seat) => {

@@ -137,7 +137,7 @@ impl AtSafe {
 /// A thread that has ended. Contracts see it as its seat.
 #[derive(Drop)]
 pub struct Ended {
-    cell: SharedCell,
+    pub(crate) cell: SharedCell,
     seat: OwnerSeat,
 }
 

@@ -1,7 +1,8 @@
 //! Calls of the thread itself that never wait.
 //!
 //! Each is the twin of a call that holds the cell, and tries to hold it just once. They take no runtime, so they neither
-//! spin nor sleep. If another user holds the cell, or comes first, the thread comes back as it was.
+//! spin nor sleep, and they wake nobody (`wake_sleepers`). If another user holds the cell, or comes first, the thread comes
+//! back as it was.
 
 use crate::fresh::Fresh;
 use crate::polled::Polled;
@@ -32,11 +33,11 @@ impl Fresh {
                 match slot.start() {
                     Ok((frames, log)) => {
                         let left = slot.own_left();
-                        let seat = hold.store();
+                        let seat = hold.store_quietly();
                         Ok(Running::of(cell, seat, frames, log, left))
                     }
                     Err(error) => {
-                        let seat = hold.store();
+                        let seat = hold.store_quietly();
                         Err((error, Fresh { cell, seat }))
                     }
                 }
@@ -68,7 +69,7 @@ impl Running {
             Ok(mut hold) => {
                 let slot = hold.slot();
                 if !slot.armed() {
-                    let seat = hold.store();
+                    let seat = hold.store_quietly();
                     return Ok(Polled::Go(Running::of(cell, seat, frames, log, left)));
                 }
                 match slot.hand_over(frames, &mut log, Safe::AtPoll) {
@@ -78,11 +79,11 @@ impl Running {
                 match slot.back() {
                     Ok(frames) => {
                         let left = slot.own_left();
-                        let seat = hold.store();
+                        let seat = hold.store_quietly();
                         Ok(Polled::Go(Running::of(cell, seat, frames, log, left)))
                     }
                     Err(_) => {
-                        let seat = hold.store();
+                        let seat = hold.store_quietly();
                         Ok(Polled::Stays(AtSafe::of(cell, seat, log)))
                     }
                 }
@@ -145,11 +146,11 @@ impl Running {
         match cell.try_hold(seat) {
             Ok(mut hold) => match hold.slot().hand_over(frames, &mut log, safe) {
                 Ok(()) => {
-                    let seat = hold.store();
+                    let seat = hold.store_quietly();
                     Ok(AtSafe::of(cell, seat, log))
                 }
                 Err((error, frames)) => {
-                    let seat = hold.store();
+                    let seat = hold.store_quietly();
                     Err((error, Running::of(cell, seat, frames, log, left)))
                 }
             },
@@ -176,7 +177,7 @@ impl Running {
         match cell.try_hold(seat) {
             Ok(mut hold) => {
                 hold.slot().end(frames, &mut log);
-                let seat = hold.store();
+                let seat = hold.store_quietly();
                 Ok(Ended::of(cell, seat))
             }
             Err(seat) => Err(Running::of(cell, seat, frames, log, left)),
@@ -207,11 +208,11 @@ impl AtSafe {
                 match slot.back() {
                     Ok(frames) => {
                         let left = slot.own_left();
-                        let seat = hold.store();
+                        let seat = hold.store_quietly();
                         Ok(Running::of(cell, seat, frames, log, left))
                     }
                     Err(error) => {
-                        let seat = hold.store();
+                        let seat = hold.store_quietly();
                         Err((error, AtSafe { cell, seat, log }))
                     }
                 }

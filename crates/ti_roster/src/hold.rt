@@ -31,7 +31,23 @@ impl<'a> RosterHold<'a> {
     ///
     /// The roster is the one that was held: what happened before is the beginning of what has happened now. A place is
     /// claimed only if it was free, and what is noted of others' places stays as it is.
+    ///
+    /// Whoever sleeps on the cell is woken.
     pub fn store(self) -> RosterSeat
+        requires limits { self.roster.limits ≡ self.view.limits }
+        requires begins { Begins self.roster.items self.view.seen }
+        requires moves { Moves self.view.place self.roster.user self.view.seen self.roster.items }
+        ensures cell { result.cell ≡ self.entry.cell }
+        ensures view { result.view ≡ stored self.entry.view self.entry.roster }
+    {
+        let cell = self.cell;
+        let seat = self.store_quietly();
+        cell.wake_sleepers();
+        seat
+    }
+
+    /// The same as `store`, but it wakes nobody, and makes no call of the system. `RosterCell::wake_sleepers` wakes them.
+    pub fn store_quietly(self) -> RosterSeat
         requires limits { self.roster.limits ≡ self.view.limits }
         requires begins { Begins self.roster.items self.view.seen }
         requires moves { Moves self.view.place self.roster.user self.view.seen self.roster.items }

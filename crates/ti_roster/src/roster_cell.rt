@@ -221,7 +221,15 @@ impl RosterCell {
         self.sleepers.fetch_sub(1, Ordering::SeqCst);
     }
 
-    /// Puts the roster back, clears the lock bit, and wakes who sleeps, if there is one.
+    /// Wakes who sleeps, if there is one, after stores that woke nobody (`RosterHold::store_quietly`). It is one load if nobody
+    /// does.
+    pub fn wake_sleepers(&self) {
+        if self.sleepers.load(Ordering::SeqCst) != 0 {
+            self.table.shared.wake_all(0);
+        }
+    }
+
+    /// Puts the roster back, and clears the lock bit. It wakes nobody.
     pub(crate) fn give(&self, seat: &mut Pass, roster: Roster)
         requires seat { (seat.old.table_id ≡ self.now) × (seat.old.me.1 ≡ (0, None) ∷ []) × (seat.old.me.0.holds ≡ true) }
         requires may { MayStore roster seat.old.me.0 }
@@ -230,9 +238,6 @@ impl RosterCell {
         let word = Word::free(roster.len());
         drop(self.table.shared.exchange(seat, 0, Some(roster)));
         self.table.shared.store::<Frees>(seat, 0, word.bits);
-        if self.sleepers.load(Ordering::SeqCst) != 0 {
-            self.table.shared.wake_all(0);
-        }
     }
 
     /// How much has happened, by one load. It is not less than what the seat has seen. The seat is this cell's.

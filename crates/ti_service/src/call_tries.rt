@@ -1,7 +1,7 @@
 //! Calls that an agent posts and collects, and that never wait.
 //!
 //! Each tries to hold the thread's cell just once. If another user holds the cell, or comes first, the error is `Busy` (215,
-//! this profile), and nothing changes.
+//! this profile), and nothing changes. They wake nobody (`wake_sleepers_at`).
 
 use crate::agent::Agent;
 use std::alloc::Global;
@@ -9,6 +9,17 @@ use ti_slot::Asked;
 use ti_types::{Answer, Call, ThreadNo, TiError, Ticket};
 
 impl Agent {
+    /// Wakes whoever sleeps at a thread and may go on: the thread itself, or another agent. A program in which others sleep calls
+    /// it after calls that never wait. It is one load if nobody sleeps. Nothing happens if the agent has no desk there.
+    pub fn wake_sleepers_at(&self, thread: ThreadNo) {
+        self.env.wake_sleepers_at(thread);
+    }
+
+    /// Wakes whoever sleeps because the roster was in use, or until somebody comes or goes.
+    pub fn wake_sleepers(&self) {
+        self.service.wake_sleepers();
+    }
+
     /// Posts a call at a thread, as `post` does. What is answered at once comes with it, so each call can be made so.
     ///
     /// The error is the first of these that fits. Then nothing changes:

@@ -1,8 +1,8 @@
 //! Calls of a handle that never wait.
 //!
 //! Each is the twin of a call that holds the roster, and tries to hold it just once. They take no runtime, so they neither
-//! spin nor sleep. If another user holds the roster, or comes first, the error is `Busy` (215, this profile), and nothing
-//! changes.
+//! spin nor sleep, and they wake nobody (`wake_sleepers`). If another user holds the roster, or comes first, the error is `Busy`
+//! (215, this profile), and nothing changes.
 
 use crate::agent::Agent;
 use crate::service::Service;
@@ -13,6 +13,12 @@ use ti_roster::{NextEvent, ThreadInfo};
 use ti_types::{EnvNo, ThreadNo, TiError};
 
 impl Service {
+    /// Wakes whoever sleeps because the roster was in use, or until somebody comes or goes. A program in which others sleep calls
+    /// it after calls that never wait. It is one load if nobody sleeps.
+    pub fn wake_sleepers(&self) {
+        self.roster.wake_sleepers();
+    }
+
     /// A place for an environment, which is this handle's from now on.
     fn try_claim(&mut self) -> Result<EnvNo, TiError>
         requires { self.old.view.place ≡ None }
@@ -26,7 +32,7 @@ impl Service {
         match self.roster.try_hold(seat) {
             Ok(mut hold) => {
                 let env = hold.roster().attach();
-                self.seat = Some(hold.store());
+                self.seat = Some(hold.store_quietly());
                 env
             }
             Err(seat) => {
@@ -73,7 +79,7 @@ impl Service {
                 let roster = hold.roster();
                 let next = roster.next();
                 let desks = roster.meet(alloc);
-                self.seat = Some(hold.store());
+                self.seat = Some(hold.store_quietly());
                 match desks {
                     Ok(desks) => Ok((desks, next)),
                     Err(error) => Err(error),
@@ -100,7 +106,7 @@ impl Service {
         match self.roster.try_hold(seat) {
             Ok(mut hold) => {
                 let left = hold.roster().dispose(desks);
-                self.seat = Some(hold.store());
+                self.seat = Some(hold.store_quietly());
                 left
             }
             Err(seat) => {
@@ -127,7 +133,7 @@ impl Service {
         match self.roster.try_hold(seat) {
             Ok(mut hold) => {
                 let fresh = hold.roster().come(alloc, info);
-                self.seat = Some(hold.store());
+                self.seat = Some(hold.store_quietly());
                 fresh
             }
             Err(seat) => {
@@ -149,7 +155,7 @@ impl Service {
         match self.roster.try_hold(seat) {
             Ok(mut hold) => {
                 let ended = hold.roster().end(thread);
-                self.seat = Some(hold.store());
+                self.seat = Some(hold.store_quietly());
                 ended
             }
             Err(seat) => {
@@ -207,7 +213,7 @@ impl Service {
         match self.roster.try_hold(seat) {
             Ok(mut hold) => {
                 let threads = hold.roster().threads(alloc);
-                self.seat = Some(hold.store());
+                self.seat = Some(hold.store_quietly());
                 threads
             }
             Err(seat) => {
@@ -237,7 +243,7 @@ impl Service {
         match self.roster.try_hold(seat) {
             Ok(mut hold) => {
                 let info = hold.roster().info(alloc, thread);
-                self.seat = Some(hold.store());
+                self.seat = Some(hold.store_quietly());
                 info
             }
             Err(seat) => {
@@ -261,7 +267,7 @@ impl Service {
         match self.roster.try_hold(seat) {
             Ok(mut hold) => {
                 let there = hold.roster().is_live(thread);
-                self.seat = Some(hold.store());
+                self.seat = Some(hold.store_quietly());
                 Ok(there)
             }
             Err(seat) => {
@@ -284,7 +290,7 @@ impl Service {
         match self.roster.try_hold(seat) {
             Ok(mut hold) => {
                 let count = hold.roster().events();
-                self.seat = Some(hold.store());
+                self.seat = Some(hold.store_quietly());
                 Ok(count)
             }
             Err(seat) => {
@@ -311,7 +317,7 @@ impl Service {
                 let roster = hold.roster();
                 roster.facts();
                 let next = roster.next_event(from);
-                self.seat = Some(hold.store());
+                self.seat = Some(hold.store_quietly());
                 Ok(next)
             }
             Err(seat) => {

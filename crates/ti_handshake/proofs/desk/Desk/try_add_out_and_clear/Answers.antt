@@ -17,14 +17,14 @@ ask-requires-clause-calls c =
     let k = taken (goal.at.ask-requires-clause-calls c).After-slot-slot in
     may_call _ _ _ _ _ k c.requires.calls
 
-pub store-requires-clause-keeps : goal.store-requires-clause-keeps
-store-requires-clause-keeps c =
-    let k = taken (goal.at.store-requires-clause-keeps c).After-slot-slot in
+pub store_quietly-requires-clause-keeps : goal.store_quietly-requires-clause-keeps
+store_quietly-requires-clause-keeps c =
+    let k = taken (goal.at.store_quietly-requires-clause-keeps c).After-slot-slot in
     may_keep _ _ _ _ c.slot-slot.result.now c.ask.new.self k (asked_keeps c.slot-slot.result.now c.ask.new.self _ _ _ c.ask.ensures.asked)
 
 pub returns-in-Ok-clause-hold : goal.returns-in-Ok-clause-hold
 returns-in-Ok-clause-hold c =
     let k = taken (goal.at.returns-in-Ok-clause-hold c).After-slot-slot in
     let p = c.args.self.now in
-    let hold = asks _ _ _ _ _ _ _ _ _ k c.ask.ensures.asked c.store.ensures.view c.store.ensures.legal c.store.ensures.mine in
-    subst (λ (l : List Ticket). HoldsWith p.view c.store.result.view (next_call p.view p.env (SetWord 0) ∷ []) l) (no_ticket (SetWord 0) c.ask.result p.view.posted refl c.ask.ensures.late) hold
+    let hold = asks _ _ _ _ _ _ _ _ _ k c.ask.ensures.asked c.store_quietly.ensures.view c.store_quietly.ensures.legal c.store_quietly.ensures.mine in
+    subst (λ (l : List Ticket). HoldsWith p.view c.store_quietly.result.view (next_call p.view p.env (SetWord 0) ∷ []) l) (no_ticket (SetWord 0) c.ask.result p.view.posted refl c.ask.ensures.late) hold

@@ -20,25 +20,25 @@ ask-asked-requires-clause-room c = λ w.
     let k = taken (goal.at.ask-asked-requires-clause-room c).After-slot-slot in
     has_room _ _ _ _ _ k (c.requires.room w)
 
-pub store-requires-clause-keeps : goal.store-requires-clause-keeps
-store-requires-clause-keeps c =
-    let k = taken (goal.at.store-requires-clause-keeps c).After-slot-slot in
+pub store_quietly-requires-clause-keeps : goal.store_quietly-requires-clause-keeps
+store_quietly-requires-clause-keeps c =
+    let k = taken (goal.at.store_quietly-requires-clause-keeps c).After-slot-slot in
     may_keep _ _ _ _ c.slot-slot.result.now c.ask-asked.new.self k (asked_keeps c.slot-slot.result.now c.ask-asked.new.self _ _ _ c.ask-asked.ensures.asked)
 
 pub returns-in-Ok-clause-hold : goal.returns-in-Ok-clause-hold
 returns-in-Ok-clause-hold c =
     let k = taken (goal.at.returns-in-Ok-clause-hold c).After-slot-slot in
-    asks _ _ _ _ _ _ _ _ _ k c.ask-asked.ensures.asked c.store.ensures.view c.store.ensures.legal c.store.ensures.mine
+    asks _ _ _ _ _ _ _ _ _ k c.ask-asked.ensures.asked c.store_quietly.ensures.view c.store_quietly.ensures.legal c.store_quietly.ensures.mine
 
 pub returns-in-Ok-clause-out : goal.returns-in-Ok-clause-out
 returns-in-Ok-clause-out c =
     let k = taken (goal.at.returns-in-Ok-clause-out c).After-slot-slot in
-    let hold = asks _ _ _ _ _ _ _ _ _ k c.ask-asked.ensures.asked c.store.ensures.view c.store.ensures.legal c.store.ensures.mine in
-    let told_here = told _ _ _ _ _ _ _ _ _ k c.ask-asked.ensures.asked (ticket_fresh c.slot-slot.result.now c.self.inside.env c.tickets.ensures.known) c.store.ensures.view in
-    let now : DeskState = record { cell = c.self.inside.cell; env = c.self.inside.env; view = c.store.result.view; cancelled = c.self.inside.cancelled.tickets } in
-    ticket_out c.args.self.now.view c.store.result.view c.args.self.now.env c.args.call c.ask-asked.result c.self.inside.cancelled.tickets now (given_there _ _ _ _ _ c.self.invariant c.self.view_is) hold.waits.posted told_here refl refl
+    let hold = asks _ _ _ _ _ _ _ _ _ k c.ask-asked.ensures.asked c.store_quietly.ensures.view c.store_quietly.ensures.legal c.store_quietly.ensures.mine in
+    let told_here = told _ _ _ _ _ _ _ _ _ k c.ask-asked.ensures.asked (ticket_fresh c.slot-slot.result.now c.self.inside.env c.tickets.ensures.known) c.store_quietly.ensures.view in
+    let now : DeskState = record { cell = c.self.inside.cell; env = c.self.inside.env; view = c.store_quietly.result.view; cancelled = c.self.inside.cancelled.tickets } in
+    ticket_out c.args.self.now.view c.store_quietly.result.view c.args.self.now.env c.args.call c.ask-asked.result c.self.inside.cancelled.tickets now (given_there _ _ _ _ _ c.self.invariant c.self.view_is) hold.waits.posted told_here refl refl
 
 pub returns-in-Ok-clause-told : goal.returns-in-Ok-clause-told
 returns-in-Ok-clause-told c =
     let k = taken (goal.at.returns-in-Ok-clause-told c).After-slot-slot in
-    told _ _ _ _ _ _ _ _ _ k c.ask-asked.ensures.asked (ticket_fresh c.slot-slot.result.now c.self.inside.env c.tickets.ensures.known) c.store.ensures.view
+    told _ _ _ _ _ _ _ _ _ k c.ask-asked.ensures.asked (ticket_fresh c.slot-slot.result.now c.self.inside.env c.tickets.ensures.known) c.store_quietly.ensures.view

@@ -26,14 +26,14 @@ read-read-requires-clause-calls c =
     let k = taken (goal.at.read-read-requires-clause-calls c).After-slot in
     may_call _ _ _ _ _ k c.requires.calls
 
-pub store-requires-clause-adds : goal.store-requires-clause-adds
-store-requires-clause-adds c =
-    let k = taken (goal.at.store-requires-clause-adds c).After-slot in
+pub store_quietly-requires-clause-adds : goal.store_quietly-requires-clause-adds
+store_quietly-requires-clause-adds c =
+    let k = taken (goal.at.store_quietly-requires-clause-adds c).After-slot in
     adds_held _ _ _ _ _ _ _ _ k refl c.read-read.ensures.thread
 
-pub store-requires-clause-keeps : goal.store-requires-clause-keeps
-store-requires-clause-keeps c =
-    let k = taken (goal.at.store-requires-clause-keeps c).After-slot in
+pub store_quietly-requires-clause-keeps : goal.store_quietly-requires-clause-keeps
+store_quietly-requires-clause-keeps c =
+    let k = taken (goal.at.store_quietly-requires-clause-keeps c).After-slot in
     keeps_all _ _ _ _ c.slot.result.now c.read-read.new.self k (ap (λ (t : Thread). t.uncollected) c.read-read.ensures.thread)
 
 pub returns-in-Ok-clause-hold : goal.returns-in-Ok-clause-hold
@@ -42,4 +42,4 @@ returns-in-Ok-clause-hold c =
     let z : to_z w32 (of_z w32 c.args.max_count) ≡ c.args.max_count = to_z-of_z w32 c.args.max_count c.ranges.max_count in
     let longer : c.read-read.new.self ≡ with_more c.slot.result.now (adds c.args.max_count (in_slot c.slot.result.now c.self.inside.env)) =
     c.read-read.ensures.thread ∙ ap (λ (m : ℤ). with_more c.slot.result.now (adds m (in_slot c.slot.result.now c.self.inside.env))) z in
-    stores_as (adds c.args.max_count) _ _ _ _ _ c.read-read.new.self _ k c.store.ensures.view longer c.store.ensures.legal c.store.ensures.mine
+    stores_as (adds c.args.max_count) _ _ _ _ _ c.read-read.new.self _ k c.store_quietly.ensures.view longer c.store_quietly.ensures.legal c.store_quietly.ensures.mine

@@ -26,22 +26,22 @@ stop-stopped-requires-clause-calls c =
     let k = taken (goal.at.stop-stopped-requires-clause-calls c).After-slot in
     may_call _ _ _ _ _ k c.requires.calls
 
-pub store-requires-clause-adds : goal.store-requires-clause-adds
-store-requires-clause-adds c =
-    let k = taken (goal.at.store-requires-clause-adds c).After-slot in
+pub store_quietly-requires-clause-adds : goal.store_quietly-requires-clause-adds
+store_quietly-requires-clause-adds c =
+    let k = taken (goal.at.store_quietly-requires-clause-adds c).After-slot in
     adds_held _ _ _ _ _ _ _ _ k refl c.stop-stopped.ensures.thread
 
-pub store-requires-clause-keeps : goal.store-requires-clause-keeps
-store-requires-clause-keeps c =
-    let k = taken (goal.at.store-requires-clause-keeps c).After-slot in
+pub store_quietly-requires-clause-keeps : goal.store_quietly-requires-clause-keeps
+store_quietly-requires-clause-keeps c =
+    let k = taken (goal.at.store_quietly-requires-clause-keeps c).After-slot in
     keeps_all _ _ _ _ c.slot.result.now c.stop-stopped.new.self k (ap (λ (t : Thread). t.uncollected) c.stop-stopped.ensures.thread)
 
 pub returns-in-Ok-clause-hold : goal.returns-in-Ok-clause-hold
 returns-in-Ok-clause-hold c =
     let k = taken (goal.at.returns-in-Ok-clause-hold c).After-slot in
-    stores_as adds _ _ _ _ _ c.stop-stopped.new.self _ k c.store.ensures.view c.stop-stopped.ensures.thread c.store.ensures.legal c.store.ensures.mine
+    stores_as adds _ _ _ _ _ c.stop-stopped.new.self _ k c.store_quietly.ensures.view c.stop-stopped.ensures.thread c.store_quietly.ensures.legal c.store_quietly.ensures.mine
 
 pub returns-in-Ok-clause-answer : goal.returns-in-Ok-clause-answer
 returns-in-Ok-clause-answer c =
     let k = taken (goal.at.returns-in-Ok-clause-answer c).After-slot in
-    answers_as (λ x. said c.stop-stopped.result ≡ done_or (why x)) _ _ _ _ _ c.stop-stopped.new.self _ _ k c.store.ensures.view c.stop-stopped.ensures.thread c.stop-stopped.ensures.answer
+    answers_as (λ x. said c.stop-stopped.result ≡ done_or (why x)) _ _ _ _ _ c.stop-stopped.new.self _ _ k c.store_quietly.ensures.view c.stop-stopped.ensures.thread c.stop-stopped.ensures.answer

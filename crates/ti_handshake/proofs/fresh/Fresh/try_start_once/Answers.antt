@@ -11,21 +11,21 @@ use Rattle.ti_handshake.proofs.fresh.Fresh.try_start_once.Goals as goal
 taken : (c : After-slot-slot) → Owns c.self.inside.seat c.in-Ok.hold c.slot-slot.result.now
 taken c = owns c.self.inside.seat c.in-Ok.hold c.slot-slot.result.now c.self.invariant.1.owner c.in-Ok.ensures.view c.in-Ok.ensures.taken c.slot-slot.ensures.value
 
-pub store-seat-requires-in-Err-start-clause-adds : goal.store-seat-requires-in-Err-start-clause-adds
-store-seat-requires-in-Err-start-clause-adds c =
-    let k = taken (goal.at.store-seat-requires-in-Err-start-clause-adds c).After-slot-slot in
+pub store_quietly-seat-requires-in-Err-start-clause-adds : goal.store_quietly-seat-requires-in-Err-start-clause-adds
+store_quietly-seat-requires-in-Err-start-clause-adds c =
+    let k = taken (goal.at.store_quietly-seat-requires-in-Err-start-clause-adds c).After-slot-slot in
     may_store _ _ c.slot-slot.result.now c.start.new.self [] k tt (nothing c.slot-slot.result.now c.start.new.self c.in-Err-start.ensures.thread)
 
-pub store-seat-requires-in-Err-start-clause-keeps : goal.store-seat-requires-in-Err-start-clause-keeps
-store-seat-requires-in-Err-start-clause-keeps c =
-    let k = taken (goal.at.store-seat-requires-in-Err-start-clause-keeps c).After-slot-slot in
+pub store_quietly-seat-requires-in-Err-start-clause-keeps : goal.store_quietly-seat-requires-in-Err-start-clause-keeps
+store_quietly-seat-requires-in-Err-start-clause-keeps c =
+    let k = taken (goal.at.store_quietly-seat-requires-in-Err-start-clause-keeps c).After-slot-slot in
     may_keep _ _ c.slot-slot.result.now c.start.new.self [] k (nothing c.slot-slot.result.now c.start.new.self c.in-Err-start.ensures.thread)
 
 pub returns-in-Err-start-clause-refused : goal.returns-in-Err-start-clause-refused
 returns-in-Err-start-clause-refused c =
     let k = taken (goal.at.returns-in-Err-start-clause-refused c).After-slot-slot in
-    let s = c.store-seat-in-Err-start.ensures in
-    let w = c.store-seat-in-Err-start.result in
+    let s = c.store_quietly-seat-in-Err-start.ensures in
+    let w = c.store_quietly-seat-in-Err-start.result in
     let e = c.in-Err-start.ensures in
     let at = leaves _ w _ _ _ c.start.new.self.history _ k c.self.invariant.0 (c.in-Ok.ensures.cell ∙ c.deref.ensures) s.cell s.view s.mine in
     let b = start_barred _ _ _ _ _ c.self.invariant.1 k (left_at _ _ _ _ (same_history c.slot-slot.result.now c.start.new.self e.thread) at) e.when in
@@ -34,7 +34,7 @@ returns-in-Err-start-clause-refused c =
 pub returns-in-Err-start-clause-busy : goal.returns-in-Err-start-clause-busy
 returns-in-Err-start-clause-busy c = λ busy.
     let k = taken (goal.at.returns-in-Err-start-clause-busy c).After-slot-slot in
-    let s = c.store-seat-in-Err-start.ensures in
-    let at = leaves _ c.store-seat-in-Err-start.result _ _ _ c.start.new.self.history _ k c.self.invariant.0 (c.in-Ok.ensures.cell ∙ c.deref.ensures) s.cell s.view s.mine in
+    let s = c.store_quietly-seat-in-Err-start.ensures in
+    let at = leaves _ c.store_quietly-seat-in-Err-start.result _ _ _ c.start.new.self.history _ k c.self.invariant.0 (c.in-Ok.ensures.cell ∙ c.deref.ensures) s.cell s.view s.mine in
     let b = start_barred _ _ _ _ _ c.self.invariant.1 k (left_at _ _ _ _ (same_history c.slot-slot.result.now c.start.new.self c.in-Err-start.ensures.thread) at) c.in-Err-start.ensures.when in
     cc (sym b.0 ∙ busy)

@@ -22,26 +22,26 @@ end-requires-clause-steps c =
     let k = taken (goal.at.end-requires-clause-steps c).After-slot in
     (home _ _ _ _ _ _ _ c.self.invariant k).steps
 
-pub store-seat-requires-clause-adds : goal.store-seat-requires-clause-adds
-store-seat-requires-clause-adds c =
-    let k = taken (goal.at.store-seat-requires-clause-adds c).After-slot in
+pub store_quietly-seat-requires-clause-adds : goal.store_quietly-seat-requires-clause-adds
+store_quietly-seat-requires-clause-adds c =
+    let k = taken (goal.at.store_quietly-seat-requires-clause-adds c).After-slot in
     may_store _ _ c.slot.result.now c.end.new.self (steps_of c.self.inside.log.steps ++ End ∷ []) k (steps_and c.self.inside.log.steps (End ∷ []) (refl, tt)) c.end.ensures.thread
 
 pub of-requires : goal.of-requires
 of-requires c =
     let k = taken (goal.at.of-requires c).After-slot in
-    let s = c.store-seat.ensures in
-    let at = leaves _ c.store-seat.result _ _ _ c.end.new.self.history _ k c.self.invariant.here (c.in-Ok.ensures.cell ∙ c.deref.ensures) s.cell s.view s.mine in
+    let s = c.store_quietly-seat.ensures in
+    let at = leaves _ c.store_quietly-seat.result _ _ _ c.end.new.self.history _ k c.self.invariant.here (c.in-Ok.ensures.cell ∙ c.deref.ensures) s.cell s.view s.mine in
     record { ended = ended _ _ _ _ _ c.end.new.self c.self.inside.log.steps k at c.self.invariant.here c.end.ensures.thread }
 
 pub returns-in-Ok-clause-hold : goal.returns-in-Ok-clause-hold
 returns-in-Ok-clause-hold c =
     let k = taken (goal.at.returns-in-Ok-clause-hold c).After-slot in
-    let s = c.store-seat.ensures in
+    let s = c.store_quietly-seat.ensures in
     let held = stores _ _ c.slot.result.now c.end.new.self _ (steps_of c.self.inside.log.steps ++ End ∷ []) k s.view c.end.ensures.thread s.legal s.mine in
     subst (λ (x : Runner × Sitting). Holds x.0.view x.1.view (steps_of x.0.steps ++ End ∷ [])) (λ i. (c.self.view_is i, sym c.of.ensures.of i)) held
 
-pub store-seat-requires-clause-keeps : goal.store-seat-requires-clause-keeps
-store-seat-requires-clause-keeps c =
-    let k = taken (goal.at.store-seat-requires-clause-keeps c).After-slot in
+pub store_quietly-seat-requires-clause-keeps : goal.store_quietly-seat-requires-clause-keeps
+store_quietly-seat-requires-clause-keeps c =
+    let k = taken (goal.at.store_quietly-seat-requires-clause-keeps c).After-slot in
     may_keep _ _ c.slot.result.now c.end.new.self (steps_of c.self.inside.log.steps ++ End ∷ []) k c.end.ensures.thread

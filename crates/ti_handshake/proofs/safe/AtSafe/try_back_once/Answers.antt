@@ -11,28 +11,28 @@ use Rattle.ti_handshake.proofs.safe.AtSafe.try_back_once.Goals as goal
 taken : (c : After-slot-slot) → Owns c.self.inside.seat c.in-Ok.hold c.slot-slot.result.now
 taken c = owns c.self.inside.seat c.in-Ok.hold c.slot-slot.result.now c.self.invariant.owner c.in-Ok.ensures.view c.in-Ok.ensures.taken c.slot-slot.ensures.value
 
-pub store-seat-requires-in-Err-back-clause-adds : goal.store-seat-requires-in-Err-back-clause-adds
-store-seat-requires-in-Err-back-clause-adds c =
-    let k = taken (goal.at.store-seat-requires-in-Err-back-clause-adds c).After-slot-slot in
+pub store_quietly-seat-requires-in-Err-back-clause-adds : goal.store_quietly-seat-requires-in-Err-back-clause-adds
+store_quietly-seat-requires-in-Err-back-clause-adds c =
+    let k = taken (goal.at.store_quietly-seat-requires-in-Err-back-clause-adds c).After-slot-slot in
     may_store _ _ c.slot-slot.result.now c.back.new.self [] k tt (nothing c.slot-slot.result.now c.back.new.self c.in-Err-back.ensures.thread)
 
 pub invariant_of-result : goal.invariant_of-result
 invariant_of-result c =
     let k = taken (goal.at.invariant_of-result c).After-slot-slot in
-    let s = c.store-seat-in-Err-back.ensures in
-    let at = leaves _ c.store-seat-in-Err-back.result _ _ _ c.back.new.self.history _ k c.self.invariant.here (c.in-Ok.ensures.cell ∙ c.deref.ensures) s.cell s.view s.mine in
+    let s = c.store_quietly-seat-in-Err-back.ensures in
+    let at = leaves _ c.store_quietly-seat-in-Err-back.result _ _ _ c.back.new.self.history _ k c.self.invariant.here (c.in-Ok.ensures.cell ∙ c.deref.ensures) s.cell s.view s.mine in
     still_safe _ _ _ _ _ _ c.self.invariant k (left_at _ _ _ _ (same_history c.slot-slot.result.now c.back.new.self c.in-Err-back.ensures.thread) at)
 
-pub store-seat-requires-in-Err-back-clause-keeps : goal.store-seat-requires-in-Err-back-clause-keeps
-store-seat-requires-in-Err-back-clause-keeps c =
-    let k = taken (goal.at.store-seat-requires-in-Err-back-clause-keeps c).After-slot-slot in
+pub store_quietly-seat-requires-in-Err-back-clause-keeps : goal.store_quietly-seat-requires-in-Err-back-clause-keeps
+store_quietly-seat-requires-in-Err-back-clause-keeps c =
+    let k = taken (goal.at.store_quietly-seat-requires-in-Err-back-clause-keeps c).After-slot-slot in
     may_keep _ _ c.slot-slot.result.now c.back.new.self [] k (nothing c.slot-slot.result.now c.back.new.self c.in-Err-back.ensures.thread)
 
 pub returns-in-Err-back-clause-refused : goal.returns-in-Err-back-clause-refused
 returns-in-Err-back-clause-refused c =
     let k = taken (goal.at.returns-in-Err-back-clause-refused c).After-slot-slot in
-    let s = c.store-seat-in-Err-back.ensures in
-    let w = c.store-seat-in-Err-back.result in
+    let s = c.store_quietly-seat-in-Err-back.ensures in
+    let w = c.store_quietly-seat-in-Err-back.result in
     let e = c.in-Err-back.ensures in
     let at = leaves _ w _ _ _ c.back.new.self.history _ k c.self.invariant.here (c.in-Ok.ensures.cell ∙ c.deref.ensures) s.cell s.view s.mine in
     let b = back_barred _ _ _ _ _ _ _ c.self.invariant k (left_at _ _ _ _ (same_history c.slot-slot.result.now c.back.new.self e.thread) at) e.when in
@@ -41,7 +41,7 @@ returns-in-Err-back-clause-refused c =
 pub returns-in-Err-back-clause-busy : goal.returns-in-Err-back-clause-busy
 returns-in-Err-back-clause-busy c = λ busy.
     let k = taken (goal.at.returns-in-Err-back-clause-busy c).After-slot-slot in
-    let s = c.store-seat-in-Err-back.ensures in
-    let at = leaves _ c.store-seat-in-Err-back.result _ _ _ c.back.new.self.history _ k c.self.invariant.here (c.in-Ok.ensures.cell ∙ c.deref.ensures) s.cell s.view s.mine in
+    let s = c.store_quietly-seat-in-Err-back.ensures in
+    let at = leaves _ c.store_quietly-seat-in-Err-back.result _ _ _ c.back.new.self.history _ k c.self.invariant.here (c.in-Ok.ensures.cell ∙ c.deref.ensures) s.cell s.view s.mine in
     let b = back_barred _ _ _ _ _ _ _ c.self.invariant k (left_at _ _ _ _ (same_history c.slot-slot.result.now c.back.new.self c.in-Err-back.ensures.thread) at) c.in-Err-back.ensures.when in
     cc (sym b.0 ∙ busy)

@@ -8,8 +8,8 @@ use Rattle.ti_roster.specs.Seats.{Sitting}
 use Rattle.ti_service.proofs.Moves.{claim_moves, seat_view}
 use Rattle.ti_service.proofs.service.Service.try_claim.Goals as goal
 
-pub store-requires-clause-moves : goal.store-requires-clause-moves
-store-requires-clause-moves c =
+pub store_quietly-requires-clause-moves : goal.store_quietly-requires-clause-moves
+store_quietly-requires-clause-moves c =
     let seat : Sitting = c.in-Some.seat in
     let h = c.in-Ok.hold in
     let r : Log = c.roster.result.now in

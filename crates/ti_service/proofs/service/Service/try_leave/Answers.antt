@@ -27,17 +27,17 @@ back c =
 pub dispose-left-requires : goal.dispose-left-requires
 dispose-left-requires c = back (goal.at.dispose-left-requires c).After-roster
 
-pub store-requires-clause-begins : goal.store-requires-clause-begins
-store-requires-clause-begins c =
+pub store_quietly-requires-clause-begins : goal.store_quietly-requires-clause-begins
+store_quietly-requires-clause-begins c =
     let r : Log = c.roster.result.now in
     let r' : Log = c.dispose-left.new.self in
     let value : r ≡ c.in-Ok.hold.roster = c.roster.ensures.value in
     let seen : c.in-Ok.hold.view.seen ≡ r.items = ap (λ (v : RosterView). v.seen) c.in-Ok.ensures.view ∙ ap (λ (x : Log). x.items) (sym value) in
     subst (λ (l : List Coming). Begins r'.items l) (sym seen)
-    (leave_begins r r' c.args.desks.items c.dispose-left.result (back (goal.at.store-requires-clause-begins c).After-roster) c.dispose-left.ensures.disposed c.dispose-left.ensures.unchanged)
+    (leave_begins r r' c.args.desks.items c.dispose-left.result (back (goal.at.store_quietly-requires-clause-begins c).After-roster) c.dispose-left.ensures.disposed c.dispose-left.ensures.unchanged)
 
-pub store-requires-clause-moves : goal.store-requires-clause-moves
-store-requires-clause-moves c =
+pub store_quietly-requires-clause-moves : goal.store_quietly-requires-clause-moves
+store_quietly-requires-clause-moves c =
     let seat : Sitting = c.in-Some.seat in
     let h = c.in-Ok.hold in
     let r : Log = c.roster.result.now in
@@ -48,4 +48,4 @@ store-requires-clause-moves c =
     let claims : Claims r.items seat.view.place seat.view.seen = subst (λ (x : Log). Claims x.items seat.view.place seat.view.seen) (sym value) c.in-Ok.ensures.claims in
     let user : r.user ≡ seat.view.place = ap (λ (x : Log). x.user) value ∙ c.in-Ok.ensures.roster.1 in
     subst (λ (x : Option EnvNo × List Coming). Moves x.0 r'.user x.1 r'.items) (λ j. (sym place j, sym seen j))
-    (leave_moves seat.view.place r r' seat.view.seen c.args.desks.items c.dispose-left.result claims user (back (goal.at.store-requires-clause-moves c).After-roster) c.dispose-left.ensures.disposed c.dispose-left.ensures.unchanged)
+    (leave_moves seat.view.place r r' seat.view.seen c.args.desks.items c.dispose-left.result claims user (back (goal.at.store_quietly-requires-clause-moves c).After-roster) c.dispose-left.ensures.disposed c.dispose-left.ensures.unchanged)

@@ -1,0 +1,161 @@
+#!/usr/bin/env python3
+"""Tests of cebdyraq.py against a small runtime in C.
+
+    test.py ARCHIVE
+
+ARCHIVE is libcebdyraq.a, with or without the files of C that go with it. CC names the C compiler, otherwise cc.
+"""
+
+import ctypes
+import os
+import pathlib
+import subprocess
+import sys
+import tempfile
+import threading
+import time
+import unittest
+
+import cebdyraq
+from cebdyraq import Capability, Code, Environment, Error, EventKind, Frame
+
+HERE = pathlib.Path(__file__).resolve().parent
+C = HERE.parent.parent / "c"
+
+
+def build(archive, folder):
+    made = pathlib.Path(folder) / "libruntime.so"
+    whole = ["-Wl,--whole-archive", str(archive), "-Wl,--no-whole-archive"]
+    members = subprocess.run(["ar", "t", str(archive)], check=True, capture_output=True, text=True).stdout.split()
+    missing = [C / (name + ".c") for name in ("cebdyraq_heap", "cebdyraq_wait") if name + ".o" not in members]
+    subprocess.run([os.environ.get("CC", "cc"), "-shared", "-fPIC", "-O2", "-std=c11", "-o", str(made), *whole,
+                    str(HERE / "runtime.c"), *map(str, missing), "-lpthread"], check=True)
+    return made
+
+
+class WithRuntime(unittest.TestCase):
+    library = None
+
+    def setUp(self):
+        library = self.library
+        library.runtime_service.restype = ctypes.c_void_p
+        library.runtime_signal.restype = ctypes.c_void_p
+        library.runtime_end.restype = ctypes.c_uint32
+        library.runtime_begin()
+        self.env = self.attach()
+        self.env.meet()
+        [self.thread] = self.env.get_all_threads()
+
+    def attach(self):
+        return Environment(self.library, self.library.runtime_service(), self.library.runtime_signal())
+
+    def tearDown(self):
+        self.env.dispose()
+        self.assertEqual(self.library.runtime_end(), 0)
+
+    def assert_code(self, code, call, *arguments, **more):
+        with self.assertRaises(Error) as caught:
+            call(*arguments, **more)
+        self.assertEqual(caught.exception.code, code)
+
+    def test_a_running_thread(self):
+        env, thread = self.env, self.thread
+        self.assertEqual(thread, 0)
+        self.assertEqual(env.get_thread_info(thread), cebdyraq.ThreadInfo("m\u00e4in", 7))
+        self.assertEqual(env.get_thread_state(thread), 0x5)
+        self.assertEqual(env.get_frame_count(thread), 2)
+        self.assertEqual(env.get_frame_location(thread, 1), Frame(1, 10))
+        self.assertEqual(env.get_stack_trace(thread), [Frame(2, 0), Frame(1, 10)])
+        self.assertEqual(env.get_stack_trace(thread, -1, 5), [Frame(1, 10)])
+        self.assert_code(Code.NO_MORE_FRAMES, env.get_frame_location, thread, 2)
+        self.assert_code(Code.ILLEGAL_ARGUMENT, env.get_stack_trace, thread, 2, 1)
+        self.assert_code(Code.ILLEGAL_ARGUMENT, env.get_stack_trace, thread, 0, -1)
+        self.assert_code(Code.INVALID_THREAD, env.get_frame_count, 1)
+        with self.assertRaises(ctypes.ArgumentError):
+            env.get_frame_count(2**32)
+
+    def test_a_native_thread(self):
+        self.library.runtime_go_native()
+        self.assertEqual(self.env.get_thread_state(self.thread), 0x400005)
+        self.assertEqual(self.env.get_stack_trace(self.thread, 0, 1), [Frame(3, -1)])
+
+    def test_suspend_and_pop(self):
+        env, thread = self.env, self.thread
+        self.assert_code(Code.MUST_POSSESS_CAPABILITY, env.suspend_thread, thread)
+        self.assertEqual(env.get_potential_capabilities(), Capability.SUSPEND | Capability.POP_FRAME)
+        env.add_capabilities(Capability.SUSPEND | Capability.POP_FRAME)
+        self.assertEqual(env.suspend_thread_list([thread, thread, 7]),
+                         [Code.OK, Code.THREAD_SUSPENDED, Code.INVALID_THREAD])
+        self.assertEqual(env.get_thread_state(thread), 0x100005)
+        env.pop_frame(thread)
+        self.assertEqual(env.get_stack_trace(thread), [Frame(1, 10)])
+        self.assert_code(Code.NO_MORE_FRAMES, env.pop_frame, thread)
+        self.assertEqual(env.resume_thread_list([thread]), [Code.OK])
+        self.assert_code(Code.THREAD_NOT_SUSPENDED, env.resume_thread, thread)
+        env.suspend_thread(thread, timeout=60)
+        env.resume_thread(thread)
+        env.relinquish_capabilities(Capability.POP_FRAME)
+        self.assertEqual(env.get_capabilities(), Capability.SUSPEND)
+        self.assert_code(Code.NOT_AVAILABLE, env.add_capabilities, 4)
+
+    def test_words(self):
+        env, thread = self.env, self.thread
+        self.assertEqual(env.get_thread_local_storage(thread), 0)
+        env.set_thread_local_storage(thread, 2**64 - 1)
+        self.assertEqual(env.get_thread_local_storage(thread), 2**64 - 1)
+        self.assertEqual(env.get_environment_local_storage(), 0)
+        env.set_environment_local_storage(2**63)
+        self.assertEqual(env.get_environment_local_storage(), 2**63)
+
+    def test_posts(self):
+        env, thread = self.env, self.thread
+        posted = [env.post_frame_count(thread), env.post_stack_trace(thread, 0, 1), env.post_frame_location(thread, 1)]
+        self.assertEqual([call.collect() for call in posted], [2, [Frame(2, 0)], Frame(1, 10)])
+        self.assertEqual(env.out_at(thread), 0)
+        given_up = env.post_frame_count(thread)
+        given_up.cancel()
+        while env.out_at(thread) > 0:
+            env.discard(thread)
+        self.assert_code(Code.MUST_POSSESS_CAPABILITY, env.post_suspend_thread, thread)
+        self.assert_code(Code.MUST_POSSESS_CAPABILITY, env.post_pop_frame, thread)
+
+    def test_two_environments(self):
+        with self.attach() as other:
+            self.assertTrue(self.env.has_news())
+            self.assert_code(Code.OUT_OF_MEMORY, self.attach)
+            self.assert_code(Code.INVALID_THREAD, other.get_thread_state, self.thread)
+            other.meet()
+            other.set_thread_local_storage(self.thread, 5)
+            self.assertEqual(self.env.get_thread_local_storage(self.thread), 0)
+        self.assert_code(Code.MISUSED, other.meet)
+
+    def test_events(self):
+        env = self.env
+        env.set_event_notification_mode(True)
+        began = time.monotonic()
+        self.assert_code(Code.TIMED_OUT, env.next_event, timeout=0.05)
+        self.assertGreaterEqual(time.monotonic() - began, 0.05)
+        self.library.runtime_go_native()
+        ender = threading.Timer(0.1, self.end_and_begin)
+        ender.start()
+        event = env.next_event()
+        ender.join()
+        self.assertEqual(self.failures, 0)
+        self.assertEqual(event, cebdyraq.Event(EventKind.THREAD_END, 0, 0))
+        self.assertTrue(env.let_go(0))
+        self.assertFalse(env.let_go(0))
+        self.assert_code(Code.THREAD_NOT_ALIVE, env.get_thread_state, 0)
+        self.assert_code(Code.THREAD_NOT_ALIVE, env.get_thread_info, 0)
+
+    def end_and_begin(self):
+        """The environment keeps the first service alive. The runtime begins again with another."""
+        self.failures = self.library.runtime_end()
+        self.library.runtime_begin()
+
+
+if __name__ == "__main__":
+    if len(sys.argv) < 2:
+        sys.exit(__doc__)
+    with tempfile.TemporaryDirectory() as temporary:
+        WithRuntime.library = cebdyraq.load(build(pathlib.Path(sys.argv.pop(1)).resolve(), temporary))
+        unittest.main(verbosity=1)

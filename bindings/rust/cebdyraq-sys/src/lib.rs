@@ -1,0 +1,302 @@
+//! The functions of `cebdyraq.h` and `cebdyraq_wait.h`. Their rules are there.
+#![no_std]
+#![allow(non_camel_case_types)]
+
+use core::ffi::c_void;
+use core::ptr::null_mut;
+
+macro_rules! handle {
+    ($($name:ident)*) => { $(
+        /// A handle. It starts empty, and nobody copies it.
+        #[repr(C)]
+        #[derive(Debug)]
+        pub struct $name {
+            kind: u32,
+            at: *mut c_void,
+        }
+
+        impl $name {
+            /// An empty handle.
+            pub const fn empty() -> Self {
+                Self { kind: 0, at: null_mut() }
+            }
+        }
+    )* };
+}
+
+handle! { cq_service cq_thread cq_env }
+
+#[repr(C)]
+#[derive(Clone, Copy, Debug, Default, PartialEq, Eq, Hash)]
+pub struct cq_frame {
+    pub method: u32,
+    pub location: i64,
+}
+
+#[repr(C)]
+#[derive(Clone, Copy, Debug, Default, PartialEq, Eq, Hash)]
+pub struct cq_ticket {
+    pub env: u32,
+    pub thread: u32,
+    pub no: u64,
+}
+
+#[repr(C)]
+#[derive(Clone, Copy, Debug, Default)]
+pub struct cq_answer {
+    pub number: u64,
+    pub frame: cq_frame,
+    pub ticket: cq_ticket,
+}
+
+#[repr(C)]
+#[derive(Clone, Copy, Debug, Default)]
+pub struct cq_thread_info {
+    pub name_length: u64,
+    pub priority: i32,
+}
+
+#[repr(C)]
+#[derive(Clone, Copy, Debug, Default)]
+pub struct cq_event {
+    pub kind: u32,
+    pub thread: u32,
+    pub lost: u64,
+}
+
+/// One for all threads that use a service.
+#[repr(C)]
+#[derive(Debug, Default)]
+pub struct cq_signal {
+    news: u32,
+    sleepers: u32,
+}
+
+macro_rules! codes {
+    ($($name:ident = $code:literal)*) => { $( pub const $name: u32 = $code; )* };
+}
+
+codes! {
+    CQ_OK = 0
+    CQ_INVALID_THREAD = 10
+    CQ_THREAD_NOT_SUSPENDED = 13
+    CQ_THREAD_SUSPENDED = 14
+    CQ_THREAD_NOT_ALIVE = 15
+    CQ_NO_MORE_FRAMES = 31
+    CQ_OPAQUE_FRAME = 32
+    CQ_NOT_AVAILABLE = 98
+    CQ_MUST_POSSESS_CAPABILITY = 99
+    CQ_ILLEGAL_ARGUMENT = 103
+    CQ_OUT_OF_MEMORY = 110
+    CQ_OVERFLOW = 201
+    CQ_NO_FRAME = 202
+    CQ_NOT_JAVA_FRAME = 203
+    CQ_NOT_RUNNING = 204
+    CQ_NOT_SAFE = 205
+    CQ_BARRED = 206
+    CQ_NO_NATIVE_FRAME = 207
+    CQ_OWN_SPENT = 208
+    CQ_CALLS_SPENT = 209
+    CQ_NOT_NEW = 210
+    CQ_TIMED_OUT = 214
+    CQ_BUSY = 215
+    CQ_HELD = 301
+    CQ_WAITING = 302
+    CQ_NONE = 303
+    CQ_MISUSED = 304
+}
+
+extern "C" {
+    // cebdyraq.h
+    pub fn cq_make(depth: u32, envs: u32, window: u32, service: *mut cq_service) -> u32;
+    pub fn cq_share(service: *mut cq_service, other: *mut cq_service) -> u32;
+    pub fn cq_free(service: *mut cq_service) -> u32;
+    pub fn cq_attach_thread(
+        service: *mut cq_service,
+        name: *const u8,
+        length: usize,
+        priority: i32,
+        thread: *mut cq_thread,
+    ) -> u32;
+    pub fn cq_attach_environment(service: *mut cq_service, env: *mut cq_env) -> u32;
+
+    pub fn cq_thread_number(thread: *mut cq_thread, number: *mut u32) -> u32;
+    pub fn cq_start(thread: *mut cq_thread) -> u32;
+    pub fn cq_enter(thread: *mut cq_thread, method: u32) -> u32;
+    pub fn cq_enter_native(thread: *mut cq_thread, method: u32) -> u32;
+    pub fn cq_at(thread: *mut cq_thread, location: u32) -> u32;
+    pub fn cq_leave(thread: *mut cq_thread) -> u32;
+    pub fn cq_set_frames(thread: *mut cq_thread, frames: *const cq_frame, count: usize) -> u32;
+    pub fn cq_poll_clear(thread: *mut cq_thread) -> bool;
+    pub fn cq_poll(thread: *mut cq_thread) -> u32;
+    pub fn cq_native(thread: *mut cq_thread) -> u32;
+    pub fn cq_block(thread: *mut cq_thread, reason: u32) -> u32;
+    pub fn cq_back(thread: *mut cq_thread) -> u32;
+    pub fn cq_end(thread: *mut cq_thread) -> u32;
+    pub fn cq_detach_thread(thread: *mut cq_thread) -> u32;
+
+    pub fn cq_meet(env: *mut cq_env) -> u32;
+    pub fn cq_has_news(env: *mut cq_env) -> bool;
+    pub fn cq_let_go(env: *mut cq_env, thread: u32, gone: *mut bool) -> u32;
+    pub fn cq_get_all_threads(env: *mut cq_env, threads: *mut u32, room: usize, count: *mut u64) -> u32;
+    pub fn cq_get_thread_info(
+        env: *mut cq_env,
+        thread: u32,
+        info: *mut cq_thread_info,
+        name: *mut u8,
+        room: usize,
+    ) -> u32;
+    pub fn cq_get_thread_state(env: *mut cq_env, thread: u32, answer: *mut cq_answer) -> u32;
+    pub fn cq_get_frame_count(env: *mut cq_env, thread: u32, answer: *mut cq_answer) -> u32;
+    pub fn cq_get_frame_location(env: *mut cq_env, thread: u32, depth: i32, answer: *mut cq_answer) -> u32;
+    pub fn cq_get_stack_trace(
+        env: *mut cq_env,
+        thread: u32,
+        start: i32,
+        max_count: i32,
+        answer: *mut cq_answer,
+        frames: *mut cq_frame,
+        room: usize,
+    ) -> u32;
+    pub fn cq_suspend_thread(env: *mut cq_env, thread: u32, answer: *mut cq_answer) -> u32;
+    pub fn cq_resume_thread(env: *mut cq_env, thread: u32, answer: *mut cq_answer) -> u32;
+    pub fn cq_pop_frame(env: *mut cq_env, thread: u32, answer: *mut cq_answer) -> u32;
+    pub fn cq_get_thread_local_storage(env: *mut cq_env, thread: u32, answer: *mut cq_answer) -> u32;
+    pub fn cq_set_thread_local_storage(env: *mut cq_env, thread: u32, word: u64, answer: *mut cq_answer) -> u32;
+    pub fn cq_collect(
+        env: *mut cq_env,
+        ticket: *const cq_ticket,
+        answer: *mut cq_answer,
+        frames: *mut cq_frame,
+        room: usize,
+    ) -> u32;
+    pub fn cq_cancel(env: *mut cq_env, ticket: *const cq_ticket) -> u32;
+    pub fn cq_discard(env: *mut cq_env, thread: u32, thrown: *mut bool) -> u32;
+    pub fn cq_out_at(env: *mut cq_env, thread: u32, count: *mut u32) -> u32;
+    pub fn cq_add_capabilities(env: *mut cq_env, capabilities: u32) -> u32;
+    pub fn cq_relinquish_capabilities(env: *mut cq_env, capabilities: u32) -> u32;
+    pub fn cq_get_capabilities(env: *mut cq_env, capabilities: *mut u32) -> u32;
+    pub fn cq_get_potential_capabilities(env: *mut cq_env, capabilities: *mut u32) -> u32;
+    pub fn cq_get_environment_local_storage(env: *mut cq_env, word: *mut u64) -> u32;
+    pub fn cq_set_environment_local_storage(env: *mut cq_env, word: u64) -> u32;
+    pub fn cq_set_event_notification_mode(env: *mut cq_env, enabled: bool) -> u32;
+    pub fn cq_next_event(env: *mut cq_env, event: *mut cq_event) -> u32;
+    pub fn cq_dispose_environment(env: *mut cq_env) -> u32;
+
+    // cebdyraq_wait.h
+    pub fn cq_wake(signal: *mut cq_signal);
+    pub fn cq_wait_attach_thread(
+        service: *mut cq_service,
+        signal: *mut cq_signal,
+        name: *const u8,
+        length: usize,
+        priority: i32,
+        thread: *mut cq_thread,
+    ) -> u32;
+    pub fn cq_wait_attach_environment(service: *mut cq_service, signal: *mut cq_signal, env: *mut cq_env) -> u32;
+    pub fn cq_wait_start(thread: *mut cq_thread, signal: *mut cq_signal, timeout_ns: i64) -> u32;
+    pub fn cq_wait_poll(thread: *mut cq_thread, signal: *mut cq_signal) -> u32;
+    pub fn cq_wait_native(thread: *mut cq_thread, signal: *mut cq_signal) -> u32;
+    pub fn cq_wait_block(thread: *mut cq_thread, signal: *mut cq_signal, reason: u32) -> u32;
+    pub fn cq_wait_back(thread: *mut cq_thread, signal: *mut cq_signal, timeout_ns: i64) -> u32;
+    pub fn cq_wait_end(thread: *mut cq_thread, signal: *mut cq_signal) -> u32;
+    pub fn cq_wait_detach_thread(thread: *mut cq_thread, signal: *mut cq_signal) -> u32;
+
+    pub fn cq_wait_meet(env: *mut cq_env, signal: *mut cq_signal) -> u32;
+    pub fn cq_wait_let_go(env: *mut cq_env, signal: *mut cq_signal, thread: u32, gone: *mut bool) -> u32;
+    pub fn cq_wait_get_all_threads(
+        env: *mut cq_env,
+        signal: *mut cq_signal,
+        threads: *mut u32,
+        room: usize,
+        count: *mut u64,
+    ) -> u32;
+    pub fn cq_wait_get_thread_info(
+        env: *mut cq_env,
+        signal: *mut cq_signal,
+        thread: u32,
+        info: *mut cq_thread_info,
+        name: *mut u8,
+        room: usize,
+    ) -> u32;
+    pub fn cq_wait_cancel(env: *mut cq_env, signal: *mut cq_signal, ticket: *const cq_ticket) -> u32;
+    pub fn cq_wait_discard(env: *mut cq_env, signal: *mut cq_signal, thread: u32, thrown: *mut bool) -> u32;
+    pub fn cq_wait_set_event_notification_mode(env: *mut cq_env, signal: *mut cq_signal, enabled: bool) -> u32;
+    pub fn cq_wait_dispose_environment(env: *mut cq_env, signal: *mut cq_signal) -> u32;
+    pub fn cq_wait_next_event(env: *mut cq_env, signal: *mut cq_signal, timeout_ns: i64, event: *mut cq_event) -> u32;
+    pub fn cq_wait_get_thread_state(
+        env: *mut cq_env,
+        signal: *mut cq_signal,
+        thread: u32,
+        timeout_ns: i64,
+        state: *mut u32,
+    ) -> u32;
+    pub fn cq_wait_get_frame_count(
+        env: *mut cq_env,
+        signal: *mut cq_signal,
+        thread: u32,
+        timeout_ns: i64,
+        count: *mut u32,
+    ) -> u32;
+    pub fn cq_wait_get_frame_location(
+        env: *mut cq_env,
+        signal: *mut cq_signal,
+        thread: u32,
+        depth: i32,
+        timeout_ns: i64,
+        frame: *mut cq_frame,
+    ) -> u32;
+    pub fn cq_wait_get_stack_trace(
+        env: *mut cq_env,
+        signal: *mut cq_signal,
+        thread: u32,
+        start: i32,
+        max_count: i32,
+        timeout_ns: i64,
+        frames: *mut cq_frame,
+        room: usize,
+        count: *mut u32,
+    ) -> u32;
+    pub fn cq_wait_suspend_thread(env: *mut cq_env, signal: *mut cq_signal, thread: u32, timeout_ns: i64) -> u32;
+    pub fn cq_wait_resume_thread(env: *mut cq_env, signal: *mut cq_signal, thread: u32, timeout_ns: i64) -> u32;
+    pub fn cq_wait_pop_frame(env: *mut cq_env, signal: *mut cq_signal, thread: u32, timeout_ns: i64) -> u32;
+    pub fn cq_wait_get_thread_local_storage(
+        env: *mut cq_env,
+        signal: *mut cq_signal,
+        thread: u32,
+        timeout_ns: i64,
+        word: *mut u64,
+    ) -> u32;
+    pub fn cq_wait_set_thread_local_storage(
+        env: *mut cq_env,
+        signal: *mut cq_signal,
+        thread: u32,
+        word: u64,
+        timeout_ns: i64,
+    ) -> u32;
+    pub fn cq_wait_suspend_thread_list(
+        env: *mut cq_env,
+        signal: *mut cq_signal,
+        threads: *const u32,
+        count: usize,
+        timeout_ns: i64,
+        codes: *mut u32,
+    );
+    pub fn cq_wait_resume_thread_list(
+        env: *mut cq_env,
+        signal: *mut cq_signal,
+        threads: *const u32,
+        count: usize,
+        timeout_ns: i64,
+        codes: *mut u32,
+    );
+    pub fn cq_wait_collect(
+        env: *mut cq_env,
+        signal: *mut cq_signal,
+        ticket: *const cq_ticket,
+        timeout_ns: i64,
+        answer: *mut cq_answer,
+        frames: *mut cq_frame,
+        room: usize,
+    ) -> u32;
+}

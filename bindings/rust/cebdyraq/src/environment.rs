@@ -1,0 +1,294 @@
+use crate::error::{checked, surely, Error};
+use crate::service::{NotShared, Signal};
+use crate::thread::{nanoseconds, Frame};
+use cebdyraq_sys as sys;
+use std::marker::PhantomData;
+use std::sync::Arc;
+use std::time::Duration;
+
+/// Capabilities, as a sum of bits.
+pub mod capabilities {
+    pub const SUSPEND: u32 = 1;
+    pub const POP_FRAME: u32 = 2;
+}
+
+/// What is told of a thread.
+#[derive(Clone, Debug, PartialEq, Eq)]
+pub struct ThreadInfo {
+    pub name: String,
+    pub priority: i32,
+}
+
+/// Which event of a thread's life it is.
+#[derive(Clone, Copy, Debug, PartialEq, Eq, Hash)]
+pub enum EventKind {
+    /// The thread was attached.
+    ThreadStart,
+    /// The thread was given back.
+    ThreadEnd,
+}
+
+/// An event, and how many were lost before it.
+#[derive(Clone, Copy, Debug, PartialEq, Eq, Hash)]
+pub struct Event {
+    pub kind: EventKind,
+    pub thread: u32,
+    pub lost: u64,
+}
+
+/// An agent's environment.
+///
+/// Its calls wait asleep, for ever or for the time that [`Environment::set_timeout`] sets. When it is dropped, it is
+/// disposed of. A thread that it suspended stays suspended.
+#[derive(Debug)]
+pub struct Environment {
+    // Boxed, since a handle stays where it is.
+    pub(crate) handle: Box<sys::cq_env>,
+    pub(crate) signal: Arc<Signal>,
+    pub(crate) timeout: Option<Duration>,
+    _not_shared: NotShared,
+}
+
+// SAFETY: what a handle leads to may go to another thread (cebdyraq.h, what a caller owes).
+unsafe impl Send for Environment {}
+
+impl Environment {
+    pub(crate) fn new(handle: Box<sys::cq_env>, signal: Arc<Signal>) -> Environment {
+        Environment { handle, signal, timeout: None, _not_shared: PhantomData }
+    }
+
+    /// How long a call may wait from now on. `None` is for ever.
+    ///
+    /// When the time is over, the call gives [`Error::TimedOut`] and is given up. It may still take place.
+    pub fn set_timeout(&mut self, timeout: Option<Duration>) {
+        self.timeout = timeout;
+    }
+
+    pub(crate) fn at(&mut self) -> *mut sys::cq_env {
+        &mut *self.handle
+    }
+
+    fn time(&self) -> i64 {
+        nanoseconds(self.timeout)
+    }
+
+    // SAFETY of all calls below: the environment is borrowed, so that this call alone uses the handle. Each pointer
+    // leads to memory of the size that is given, which nothing else leads to.
+
+    /// Meets the threads that were attached since it last did. Its calls reach these from now on.
+    pub fn meet(&mut self) -> Result<(), Error> {
+        checked(unsafe { sys::cq_wait_meet(self.at(), self.signal.at()) })
+    }
+
+    /// Whether threads or environments have come or gone since it last looked. It is one load.
+    pub fn has_news(&mut self) -> bool {
+        unsafe { sys::cq_has_news(self.at()) }
+    }
+
+    /// Lets go of a thread that was given back, and says whether it did.
+    pub fn let_go(&mut self, thread: u32) -> bool {
+        let mut gone = false;
+        surely(unsafe { sys::cq_wait_let_go(self.at(), self.signal.at(), thread, &mut gone) });
+        gone
+    }
+
+    /// GetAllThreads: the numbers of the threads that are there, in rising order.
+    pub fn get_all_threads(&mut self) -> Result<Vec<u32>, Error> {
+        let mut threads = vec![0; 64];
+        loop {
+            let mut count = 0;
+            let (at, room) = (threads.as_mut_ptr(), threads.len());
+            checked(unsafe { sys::cq_wait_get_all_threads(self.at(), self.signal.at(), at, room, &mut count) })?;
+            threads.resize(count as usize, 0);
+            if count as usize <= room {
+                return Ok(threads);
+            }
+        }
+    }
+
+    /// GetThreadInfo: the thread's name and priority.
+    pub fn get_thread_info(&mut self, thread: u32) -> Result<ThreadInfo, Error> {
+        let mut name = vec![0; 64];
+        loop {
+            let mut info = sys::cq_thread_info::default();
+            let (at, room) = (name.as_mut_ptr(), name.len());
+            checked(unsafe { sys::cq_wait_get_thread_info(self.at(), self.signal.at(), thread, &mut info, at, room) })?;
+            name.resize(info.name_length as usize, 0);
+            if name.len() <= room {
+                let name = String::from_utf8(name).expect("a name is UTF-8");
+                return Ok(ThreadInfo { name, priority: info.priority });
+            }
+        }
+    }
+
+    /// GetThreadState: its bits.
+    pub fn get_thread_state(&mut self, thread: u32) -> Result<u32, Error> {
+        let mut state = 0;
+        checked(unsafe {
+            sys::cq_wait_get_thread_state(self.at(), self.signal.at(), thread, self.time(), &mut state)
+        })?;
+        Ok(state)
+    }
+
+    /// GetFrameCount.
+    pub fn get_frame_count(&mut self, thread: u32) -> Result<u32, Error> {
+        let mut count = 0;
+        checked(unsafe { sys::cq_wait_get_frame_count(self.at(), self.signal.at(), thread, self.time(), &mut count) })?;
+        Ok(count)
+    }
+
+    /// GetFrameLocation at a depth, 0 for the newest frame.
+    pub fn get_frame_location(&mut self, thread: u32, depth: i32) -> Result<Frame, Error> {
+        let mut frame = Frame::default();
+        checked(unsafe {
+            sys::cq_wait_get_frame_location(self.at(), self.signal.at(), thread, depth, self.time(), &mut frame)
+        })?;
+        Ok(frame)
+    }
+
+    /// GetStackTrace: at most `max_count` frames, newest first, from `start` on. A negative `start` counts from the
+    /// oldest.
+    pub fn get_stack_trace(&mut self, thread: u32, start: i32, max_count: i32) -> Result<Vec<Frame>, Error> {
+        let mut frames = room_for(max_count);
+        let mut count = 0;
+        let (at, room) = (frames.as_mut_ptr(), frames.len());
+        let time = self.time();
+        checked(unsafe {
+            sys::cq_wait_get_stack_trace(
+                self.at(),
+                self.signal.at(),
+                thread,
+                start,
+                max_count,
+                time,
+                at,
+                room,
+                &mut count,
+            )
+        })?;
+        frames.truncate(count as usize);
+        Ok(frames)
+    }
+
+    /// SuspendThread, with [`capabilities::SUSPEND`].
+    pub fn suspend_thread(&mut self, thread: u32) -> Result<(), Error> {
+        checked(unsafe { sys::cq_wait_suspend_thread(self.at(), self.signal.at(), thread, self.time()) })
+    }
+
+    /// ResumeThread, with [`capabilities::SUSPEND`].
+    pub fn resume_thread(&mut self, thread: u32) -> Result<(), Error> {
+        checked(unsafe { sys::cq_wait_resume_thread(self.at(), self.signal.at(), thread, self.time()) })
+    }
+
+    /// SuspendThreadList: the threads one after the other, and a result for each.
+    pub fn suspend_thread_list(&mut self, threads: &[u32]) -> Vec<Result<(), Error>> {
+        let mut codes = vec![0; threads.len()];
+        let (at, count, time) = (threads.as_ptr(), threads.len(), self.time());
+        unsafe {
+            sys::cq_wait_suspend_thread_list(self.at(), self.signal.at(), at, count, time, codes.as_mut_ptr());
+        }
+        codes.into_iter().map(checked).collect()
+    }
+
+    /// ResumeThreadList: the threads one after the other, and a result for each.
+    pub fn resume_thread_list(&mut self, threads: &[u32]) -> Vec<Result<(), Error>> {
+        let mut codes = vec![0; threads.len()];
+        let (at, count, time) = (threads.as_ptr(), threads.len(), self.time());
+        unsafe {
+            sys::cq_wait_resume_thread_list(self.at(), self.signal.at(), at, count, time, codes.as_mut_ptr());
+        }
+        codes.into_iter().map(checked).collect()
+    }
+
+    /// PopFrame, with [`capabilities::POP_FRAME`].
+    pub fn pop_frame(&mut self, thread: u32) -> Result<(), Error> {
+        checked(unsafe { sys::cq_wait_pop_frame(self.at(), self.signal.at(), thread, self.time()) })
+    }
+
+    /// GetThreadLocalStorage: the environment's word at the thread, 0 at first.
+    pub fn get_thread_local_storage(&mut self, thread: u32) -> Result<u64, Error> {
+        let mut word = 0;
+        checked(unsafe {
+            sys::cq_wait_get_thread_local_storage(self.at(), self.signal.at(), thread, self.time(), &mut word)
+        })?;
+        Ok(word)
+    }
+
+    /// SetThreadLocalStorage.
+    pub fn set_thread_local_storage(&mut self, thread: u32, word: u64) -> Result<(), Error> {
+        checked(unsafe {
+            sys::cq_wait_set_thread_local_storage(self.at(), self.signal.at(), thread, word, self.time())
+        })
+    }
+
+    /// AddCapabilities: all or none.
+    pub fn add_capabilities(&mut self, capabilities: u32) -> Result<(), Error> {
+        checked(unsafe { sys::cq_add_capabilities(self.at(), capabilities) })
+    }
+
+    /// RelinquishCapabilities.
+    pub fn relinquish_capabilities(&mut self, capabilities: u32) {
+        surely(unsafe { sys::cq_relinquish_capabilities(self.at(), capabilities) });
+    }
+
+    /// GetCapabilities.
+    pub fn get_capabilities(&mut self) -> u32 {
+        let mut found = 0;
+        surely(unsafe { sys::cq_get_capabilities(self.at(), &mut found) });
+        found
+    }
+
+    /// GetPotentialCapabilities.
+    pub fn get_potential_capabilities(&mut self) -> u32 {
+        let mut found = 0;
+        surely(unsafe { sys::cq_get_potential_capabilities(self.at(), &mut found) });
+        found
+    }
+
+    /// GetEnvironmentLocalStorage: the environment's own word, 0 at first.
+    pub fn get_environment_local_storage(&mut self) -> u64 {
+        let mut word = 0;
+        surely(unsafe { sys::cq_get_environment_local_storage(self.at(), &mut word) });
+        word
+    }
+
+    /// SetEnvironmentLocalStorage.
+    pub fn set_environment_local_storage(&mut self, word: u64) {
+        surely(unsafe { sys::cq_set_environment_local_storage(self.at(), word) });
+    }
+
+    /// SetEventNotificationMode, of ThreadStart and ThreadEnd at all threads.
+    pub fn set_event_notification_mode(&mut self, enabled: bool) {
+        surely(unsafe { sys::cq_wait_set_event_notification_mode(self.at(), self.signal.at(), enabled) });
+    }
+
+    /// The next event. It sleeps until there is one. Events that are disabled never come.
+    pub fn next_event(&mut self) -> Result<Event, Error> {
+        let mut event = sys::cq_event::default();
+        checked(unsafe { sys::cq_wait_next_event(self.at(), self.signal.at(), self.time(), &mut event) })?;
+        let kind = if event.kind == 0 { EventKind::ThreadStart } else { EventKind::ThreadEnd };
+        Ok(Event { kind, thread: event.thread, lost: event.lost })
+    }
+
+    /// DisposeEnvironment. So does a drop, which has no error.
+    ///
+    /// The environment comes back with the error if there is no memory. It can only be disposed of then.
+    pub fn dispose(mut self) -> Result<(), (Error, Environment)> {
+        match checked(unsafe { sys::cq_wait_dispose_environment(self.at(), self.signal.at()) }) {
+            Ok(()) => Ok(()),
+            Err(error) => Err((error, self)),
+        }
+    }
+}
+
+impl Drop for Environment {
+    fn drop(&mut self) {
+        // An environment that was disposed of is empty, and refuses.
+        unsafe { sys::cq_wait_dispose_environment(self.at(), self.signal.at()) };
+    }
+}
+
+/// Room for the frames of a trace. A stack has 65,536 frames at most.
+pub(crate) fn room_for(max_count: i32) -> Vec<Frame> {
+    vec![Frame::default(); max_count.clamp(0, 65536) as usize]
+}

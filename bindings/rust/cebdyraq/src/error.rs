@@ -1,0 +1,90 @@
+use cebdyraq_sys as sys;
+use std::fmt;
+
+macro_rules! errors {
+    ($($(#[$doc:meta])* $name:ident = $code:ident)*) => {
+        /// Why a call was refused. Those below 200 are errors of JVM TI 11.
+        #[derive(Clone, Copy, Debug, PartialEq, Eq, Hash)]
+        #[repr(u32)]
+        #[non_exhaustive]
+        pub enum Error {
+            $($(#[$doc])* $name = sys::$code,)*
+        }
+
+        impl Error {
+            fn of(code: u32) -> Option<Error> {
+                match code {
+                    $(sys::$code => Some(Error::$name),)*
+                    _ => None,
+                }
+            }
+        }
+    };
+}
+
+errors! {
+    /// There is no thread of this number, or the environment has not met it.
+    InvalidThread = CQ_INVALID_THREAD
+    /// A resumption or a pop, and the thread is not suspended.
+    ThreadNotSuspended = CQ_THREAD_NOT_SUSPENDED
+    /// A suspension, and the thread is suspended.
+    ThreadSuspended = CQ_THREAD_SUSPENDED
+    /// The thread has not started, or has ended.
+    ThreadNotAlive = CQ_THREAD_NOT_ALIVE
+    /// There is no frame at this depth, or there are fewer than two for a pop.
+    NoMoreFrames = CQ_NO_MORE_FRAMES
+    /// A pop, and one of the two newest frames is native.
+    OpaqueFrame = CQ_OPAQUE_FRAME
+    /// A capability that cannot be had.
+    NotAvailable = CQ_NOT_AVAILABLE
+    /// The call needs a capability that the environment does not have.
+    MustPossessCapability = CQ_MUST_POSSESS_CAPABILITY
+    /// An argument is out of its range.
+    IllegalArgument = CQ_ILLEGAL_ARGUMENT
+    /// There is no memory, no place for an environment, or no room in the window of calls.
+    OutOfMemory = CQ_OUT_OF_MEMORY
+    /// The stack has as many frames as the service's depth.
+    Overflow = CQ_OVERFLOW
+    /// A step needs a frame, and there is none.
+    NoFrame = CQ_NO_FRAME
+    /// A new location for a native frame.
+    NotJavaFrame = CQ_NOT_JAVA_FRAME
+    /// The newest frame is not native.
+    NoNativeFrame = CQ_NO_NATIVE_FRAME
+    /// The thread has spent its 2^59 steps.
+    OwnSpent = CQ_OWN_SPENT
+    /// The environment has spent its 2^52 calls at the thread.
+    CallsSpent = CQ_CALLS_SPENT
+    /// The time is over.
+    TimedOut = CQ_TIMED_OUT
+}
+
+impl fmt::Display for Error {
+    fn fmt(&self, f: &mut fmt::Formatter<'_>) -> fmt::Result {
+        write!(f, "{} {:?}", *self as u32, self)
+    }
+}
+
+impl std::error::Error for Error {}
+
+/// The result of a call with this code.
+///
+/// # Panics
+///
+/// If the code is one that the types of this crate rule out.
+pub(crate) fn checked(code: u32) -> Result<(), Error> {
+    match (code, Error::of(code)) {
+        (sys::CQ_OK, _) => Ok(()),
+        (_, Some(error)) => Err(error),
+        (_, None) => panic!("cebdyraq gave the code {code}"),
+    }
+}
+
+/// Of a call that cannot be refused.
+///
+/// # Panics
+///
+/// If it is.
+pub(crate) fn surely(code: u32) {
+    assert_eq!(code, sys::CQ_OK, "cebdyraq refused a call that cannot be refused");
+}

@@ -1,0 +1,127 @@
+use crate::environment::{room_for, Environment};
+use crate::error::{checked, surely, Error};
+use crate::thread::{nanoseconds, Frame};
+use cebdyraq_sys as sys;
+use std::thread::yield_now;
+
+/// A call that may wait for a thread that runs.
+#[derive(Clone, Copy, Debug, PartialEq, Eq, Hash)]
+pub enum Call {
+    FrameCount,
+    FrameLocation { depth: i32 },
+    StackTrace { start: i32, max_count: i32 },
+    Suspend,
+    Pop,
+}
+
+/// The answer to a call.
+#[derive(Clone, Debug, PartialEq, Eq)]
+pub enum Answer {
+    Count(u32),
+    Location(Frame),
+    Trace(Vec<Frame>),
+    Done,
+}
+
+/// A call that is out. It is collected or cancelled by the environment that posted it.
+#[derive(Debug)]
+#[must_use = "a call is out until it is collected or cancelled"]
+pub struct Ticket {
+    call: Call,
+    raw: sys::cq_ticket,
+}
+
+/// An answer, or the ticket of a call that waits.
+#[derive(Debug)]
+pub enum Posted {
+    Answered(Answer),
+    Waiting(Ticket),
+}
+
+impl Call {
+    fn room(self) -> Vec<Frame> {
+        match self {
+            Call::StackTrace { max_count, .. } => room_for(max_count),
+            _ => Vec::new(),
+        }
+    }
+
+    fn answer(self, raw: &sys::cq_answer, mut frames: Vec<Frame>) -> Answer {
+        match self {
+            Call::FrameCount => Answer::Count(raw.number as u32),
+            Call::FrameLocation { .. } => Answer::Location(raw.frame),
+            Call::StackTrace { .. } => {
+                frames.truncate(raw.number as usize);
+                Answer::Trace(frames)
+            }
+            Call::Suspend | Call::Pop => Answer::Done,
+        }
+    }
+}
+
+impl Environment {
+    fn post_once(&mut self, thread: u32, call: Call, answer: &mut sys::cq_answer, frames: &mut [Frame]) -> u32 {
+        let (env, at, room) = (self.at(), frames.as_mut_ptr(), frames.len());
+        // SAFETY: this call alone uses the handle, and the frames are there as long as it lasts.
+        unsafe {
+            match call {
+                Call::FrameCount => sys::cq_get_frame_count(env, thread, answer),
+                Call::FrameLocation { depth } => sys::cq_get_frame_location(env, thread, depth, answer),
+                Call::StackTrace { start, max_count } => {
+                    sys::cq_get_stack_trace(env, thread, start, max_count, answer, at, room)
+                }
+                Call::Suspend => sys::cq_suspend_thread(env, thread, answer),
+                Call::Pop => sys::cq_pop_frame(env, thread, answer),
+            }
+        }
+    }
+
+    /// Posts a call, and does not wait for the thread. The answer is there at once if the thread does not run.
+    pub fn post(&mut self, thread: u32, call: Call) -> Result<Posted, Error> {
+        let mut raw = sys::cq_answer::default();
+        let mut frames = call.room();
+        loop {
+            match self.post_once(thread, call, &mut raw, &mut frames) {
+                sys::CQ_BUSY => yield_now(),
+                sys::CQ_WAITING => return Ok(Posted::Waiting(Ticket { call, raw: raw.ticket })),
+                code => return checked(code).map(|()| Posted::Answered(call.answer(&raw, frames))),
+            }
+        }
+    }
+
+    /// The answer to a call that waited. It sleeps until the answer is there.
+    ///
+    /// When the time is over, it is [`Posted::Waiting`], and the call is out as before.
+    pub fn collect(&mut self, ticket: Ticket) -> Result<Posted, Error> {
+        let mut raw = sys::cq_answer::default();
+        let mut frames = ticket.call.room();
+        let (at, room, time) = (frames.as_mut_ptr(), frames.len(), nanoseconds(self.timeout));
+        // SAFETY: this call alone uses the handle, and the frames are there as long as it lasts.
+        match unsafe { sys::cq_wait_collect(self.at(), self.signal.at(), &ticket.raw, time, &mut raw, at, room) } {
+            sys::CQ_TIMED_OUT => Ok(Posted::Waiting(ticket)),
+            code => checked(code).map(|()| Posted::Answered(ticket.call.answer(&raw, frames))),
+        }
+    }
+
+    /// Gives a call up that waited. It may still take place.
+    pub fn cancel(&mut self, ticket: Ticket) -> Result<(), Error> {
+        // SAFETY: this call alone uses the handle.
+        checked(unsafe { sys::cq_wait_cancel(self.at(), self.signal.at(), &ticket.raw) })
+    }
+
+    /// Throws the answer away to the call that was given up first at the thread, and says whether it was there.
+    pub fn discard(&mut self, thread: u32) -> bool {
+        let mut thrown = false;
+        // SAFETY: this call alone uses the handle.
+        surely(unsafe { sys::cq_wait_discard(self.at(), self.signal.at(), thread, &mut thrown) });
+        thrown
+    }
+
+    /// How many calls of the environment are out at the thread.
+    pub fn out_at(&mut self, thread: u32) -> u32 {
+        let mut count = 0;
+        // SAFETY: this call alone uses the handle.
+        surely(unsafe { sys::cq_out_at(self.at(), thread, &mut count) });
+        count
+    }
+}

@@ -1,0 +1,203 @@
+//! A runtime and its agents, each on a thread of its own.
+
+use cebdyraq::{capabilities, Answer, Call, Ended, Environment, Error, Event, EventKind, Frame, Fresh, Posted};
+use cebdyraq::{Reason, Running, Safe, Service, ThreadInfo};
+use std::sync::atomic::{AtomicBool, Ordering::SeqCst};
+use std::thread;
+use std::time::{Duration, Instant};
+
+fn with_thread() -> (Service, Running, Environment) {
+    let mut service = Service::make(16, 2, 4).unwrap();
+    let running = service.attach_thread("main", 5).unwrap().start();
+    let mut env = service.attach_environment().unwrap();
+    env.meet().unwrap();
+    (service, running, env)
+}
+
+fn may_go_to_another_thread<T: Send>() {}
+
+#[test]
+fn every_value_may_go_to_another_thread() {
+    may_go_to_another_thread::<Service>();
+    may_go_to_another_thread::<Environment>();
+    may_go_to_another_thread::<(Fresh, Running, Safe, Ended)>();
+}
+
+/// Polls on a thread of its own while the agent does something.
+fn while_polling<T>(running: &mut Running, agent: impl FnOnce() -> T) -> T {
+    struct Over<'a>(&'a AtomicBool);
+    impl Drop for Over<'_> {
+        fn drop(&mut self) {
+            self.0.store(true, SeqCst);
+        }
+    }
+    let over = AtomicBool::new(false);
+    thread::scope(|scope| {
+        let is_over = &over;
+        let running = &mut *running;
+        scope.spawn(move || {
+            let running = running;
+            while !is_over.load(SeqCst) {
+                running.poll();
+                thread::yield_now();
+            }
+        });
+        let _over = Over(&over);
+        agent()
+    })
+}
+
+#[test]
+fn a_running_thread_answers_at_its_polls() {
+    let (_service, mut running, mut env) = with_thread();
+    running.enter(1).unwrap();
+    running.at(17).unwrap();
+    running.enter(2).unwrap();
+    running.enter_native(3).unwrap();
+    while_polling(&mut running, || {
+        assert_eq!(env.get_frame_count(0), Ok(3));
+        assert_eq!(env.get_thread_state(0), Ok(0x5));
+        let trace = [(3, -1), (2, 0), (1, 17)].map(|(method, location)| Frame { method, location });
+        assert_eq!(env.get_stack_trace(0, 0, 8).unwrap(), trace);
+        assert_eq!(env.get_stack_trace(0, -1, 8).unwrap(), trace[2..]);
+        assert_eq!(env.get_stack_trace(0, 0, -1), Err(Error::IllegalArgument));
+        assert_eq!(env.get_frame_location(0, 1), Ok(trace[1]));
+        assert_eq!(env.get_frame_location(0, 3), Err(Error::NoMoreFrames));
+        assert_eq!(env.get_frame_count(1), Err(Error::InvalidThread));
+    });
+}
+
+#[test]
+fn a_suspended_thread_stays() {
+    let (_service, mut running, mut env) = with_thread();
+    running.set_frames(&[Frame { method: 2, location: 5 }, Frame { method: 1, location: 9 }]).unwrap();
+    assert_eq!(env.suspend_thread(0), Err(Error::MustPossessCapability));
+    env.add_capabilities(capabilities::SUSPEND | capabilities::POP_FRAME).unwrap();
+    assert_eq!(env.add_capabilities(4), Err(Error::NotAvailable));
+    while_polling(&mut running, || {
+        assert_eq!(env.suspend_thread_list(&[0, 0]), [Ok(()), Err(Error::ThreadSuspended)]);
+        assert_eq!(env.get_thread_state(0), Ok(0x100005));
+        assert_eq!(env.pop_frame(0), Ok(()));
+        assert_eq!(env.get_frame_location(0, 0), Ok(Frame { method: 1, location: 9 }));
+        assert_eq!(env.pop_frame(0), Err(Error::NoMoreFrames));
+        assert_eq!(env.resume_thread_list(&[0, 0]), [Ok(()), Err(Error::ThreadNotSuspended)]);
+    });
+}
+
+#[test]
+fn a_thread_blocks_and_returns() {
+    let (_service, running, mut env) = with_thread();
+    let Err((error, running)) = running.native() else { panic!("it has no native frame") };
+    assert_eq!(error, Error::NoNativeFrame);
+    let states = [
+        (Reason::MonitorEnter, 0x401),
+        (Reason::ObjectWait, 0x191),
+        (Reason::TimedWait, 0x1A1),
+        (Reason::Sleep, 0xE1),
+        (Reason::Park, 0x291),
+        (Reason::TimedPark, 0x2A1),
+    ];
+    let mut running = running;
+    for (reason, state) in states {
+        let safe = running.block(reason).unwrap();
+        assert_eq!(env.get_thread_state(safe.number()), Ok(state));
+        running = safe.back();
+    }
+    env.add_capabilities(capabilities::SUSPEND).unwrap();
+    let safe = running.block(Reason::Park).unwrap();
+    env.suspend_thread(0).unwrap();
+    let began = Instant::now();
+    let Err(safe) = safe.back_within(Duration::from_millis(20)) else { panic!("it is suspended") };
+    assert!(began.elapsed() >= Duration::from_millis(20));
+    env.resume_thread(0).unwrap();
+    let ended = safe.back().end();
+    assert_eq!(env.get_thread_state(0), Ok(0x2));
+    assert!(ended.detach().is_ok());
+}
+
+#[test]
+fn calls_are_posted_and_collected() {
+    let (_service, mut running, mut env) = with_thread();
+    running.enter(4).unwrap();
+    let Ok(Posted::Waiting(count)) = env.post(0, Call::FrameCount) else { panic!("it runs") };
+    let all = Call::StackTrace { start: 0, max_count: 8 };
+    let Ok(Posted::Waiting(trace)) = env.post(0, all) else { panic!("it runs") };
+    let Ok(Posted::Waiting(location)) = env.post(0, Call::FrameLocation { depth: 1 }) else { panic!("it runs") };
+    env.set_timeout(Some(Duration::from_millis(2)));
+    let Ok(Posted::Waiting(count)) = env.collect(count) else { panic!("it does not poll") };
+    assert!(!running.poll_clear());
+    running.poll();
+    assert!(running.poll_clear());
+    assert!(matches!(env.collect(count), Ok(Posted::Answered(Answer::Count(1)))));
+    let frame = Frame { method: 4, location: 0 };
+    assert!(matches!(env.collect(trace), Ok(Posted::Answered(Answer::Trace(frames))) if frames == [frame]));
+    assert!(matches!(env.collect(location), Err(Error::NoMoreFrames)));
+    let Ok(Posted::Waiting(given_up)) = env.post(0, Call::FrameCount) else { panic!("it runs") };
+    env.cancel(given_up).unwrap();
+    assert!(!env.discard(0));
+    assert_eq!(env.get_frame_count(0), Err(Error::TimedOut));
+    assert_eq!(env.out_at(0), 2);
+    running.poll();
+    assert!(env.discard(0) && env.discard(0) && !env.discard(0));
+    assert_eq!(env.out_at(0), 0);
+}
+
+#[test]
+fn words_are_the_environments() {
+    let (mut service, _running, mut env) = with_thread();
+    let mut other = service.attach_environment().unwrap();
+    other.meet().unwrap();
+    env.set_thread_local_storage(0, u64::MAX).unwrap();
+    assert_eq!(env.get_thread_local_storage(0), Ok(u64::MAX));
+    assert_eq!(other.get_thread_local_storage(0), Ok(0));
+    env.set_environment_local_storage(3);
+    assert_eq!((env.get_environment_local_storage(), other.get_environment_local_storage()), (3, 0));
+    assert!(matches!(service.attach_environment(), Err(Error::OutOfMemory)));
+    assert!(other.dispose().is_ok());
+    assert!(service.attach_environment().is_ok());
+    assert_eq!(env.get_potential_capabilities(), 3);
+    env.relinquish_capabilities(3);
+    assert_eq!(env.get_capabilities(), 0);
+}
+
+#[test]
+fn threads_come_and_go() {
+    let (mut service, running, mut env) = with_thread();
+    env.set_event_notification_mode(true);
+    let mut handle = service.share().unwrap();
+    let comer = thread::spawn(move || {
+        thread::sleep(Duration::from_millis(20));
+        handle.attach_thread("sp\u{e4}t", -1).unwrap()
+    });
+    assert_eq!(env.next_event(), Ok(Event { kind: EventKind::ThreadStart, thread: 1, lost: 0 }));
+    let fresh = comer.join().unwrap();
+    assert_eq!(fresh.number(), 1);
+    assert_eq!(env.get_all_threads(), Ok(vec![0, 1]));
+    assert_eq!(env.get_thread_info(1), Ok(ThreadInfo { name: "sp\u{e4}t".to_owned(), priority: -1 }));
+    env.meet().unwrap();
+    assert_eq!(env.get_thread_state(1), Ok(0));
+    drop(fresh);
+    assert!(env.has_news());
+    assert_eq!(env.next_event(), Ok(Event { kind: EventKind::ThreadEnd, thread: 1, lost: 0 }));
+    env.set_timeout(Some(Duration::ZERO));
+    assert_eq!(env.next_event(), Err(Error::TimedOut));
+    assert!(env.let_go(1) && !env.let_go(1) && !env.let_go(0));
+    assert_eq!(env.get_thread_state(1), Err(Error::ThreadNotAlive));
+    drop(service);
+    drop(running);
+    assert_eq!(env.get_thread_state(0), Ok(0x2));
+    assert_eq!(env.get_all_threads(), Ok(vec![]));
+}
+
+#[test]
+fn limits_are_checked() {
+    assert!(matches!(Service::make(0, 1, 1), Err(Error::IllegalArgument)));
+    assert!(matches!(Service::make(1, 33, 1), Err(Error::IllegalArgument)));
+    let mut service = Service::make(1, 1, 1).unwrap();
+    let mut running = service.attach_thread("", 5).unwrap().start();
+    assert_eq!(running.leave(), Err(Error::NoFrame));
+    running.enter_native(1).unwrap();
+    assert_eq!(running.enter(1), Err(Error::Overflow));
+    assert_eq!(running.at(1), Err(Error::NotJavaFrame));
+    assert_eq!(running.set_frames(&[Frame { method: 1, location: -2 }]), Err(Error::IllegalArgument));
+}

@@ -1,0 +1,399 @@
+/* cebdyraq_wait.c: see cebdyraq_wait.h.
+ *
+ * Why no wake-up is lost. Who is about to sleep counts itself in `sleepers`, then reads `news`, and then tries once
+ * more. It sleeps only while `news` is what it read. Who wakes has done its call, and then reads `sleepers`. If the
+ * sleeper is counted, `news` changes. If it is not yet, its last try comes after the call, and succeeds. All of these
+ * steps are sequentially consistent, and so are those of the library. */
+#define _GNU_SOURCE
+#include "cebdyraq_wait.h"
+
+#include <errno.h>
+#include <linux/futex.h>
+#include <sys/syscall.h>
+#include <time.h>
+#include <unistd.h>
+
+enum { FOREVER = -1 };
+static const int64_t SPIN_NS = 20000;  /* how long to spin before sleeping */
+static const int64_t NAP_NS = 50000;   /* the longest sleep of one who met CQ_BUSY, since nobody wakes it */
+
+/* One who waits: it tries a call until the call gives neither CQ_BUSY nor `not_yet`, or the time is over. */
+typedef struct {
+    cq_signal *signal;
+    int64_t timeout;
+    uint32_t not_yet;
+    uint32_t code;    /* what the last try gave */
+    bool tried;
+    bool counted;     /* among the sleepers */
+    uint32_t seen;    /* the news before the last try, once it is counted */
+    int64_t began;    /* when the first try had failed, or -1 */
+} waiter;
+
+static waiter begin(cq_signal *signal, int64_t timeout_ns, uint32_t not_yet) {
+    return (waiter){ .signal = signal, .timeout = timeout_ns, .not_yet = not_yet, .code = CQ_BUSY, .began = -1 };
+}
+
+static int64_t now_ns(void) {
+    struct timespec now;
+    clock_gettime(CLOCK_MONOTONIC, &now);
+    return (int64_t)now.tv_sec * 1000000000 + now.tv_nsec;
+}
+
+/* On a single processor nobody else gets on while one spins. */
+static int64_t spin_ns(void) {
+    static int64_t found = -1;
+    int64_t spin = __atomic_load_n(&found, __ATOMIC_RELAXED);
+    if (spin < 0) {
+        spin = sysconf(_SC_NPROCESSORS_ONLN) > 1 ? SPIN_NS : 0;
+        __atomic_store_n(&found, spin, __ATOMIC_RELAXED);
+    }
+    return spin;
+}
+
+static void spin(void) {
+    for (int i = 0; i < 32; i++) {
+#if defined(__x86_64__) || defined(__i386__)
+        __builtin_ia32_pause();
+#elif defined(__aarch64__)
+        __asm__ volatile("yield");
+#endif
+    }
+}
+
+/* Sleeps while the news are those that it saw, until this time at the latest. A negative time is for ever. */
+static void sleep_until(waiter *w, int64_t end) {
+    struct timespec until = { .tv_sec = end / 1000000000, .tv_nsec = end % 1000000000 };
+    int kept = errno;
+    syscall(SYS_futex, &w->signal->news, FUTEX_WAIT_BITSET_PRIVATE, w->seen, end < 0 ? NULL : &until, NULL,
+            FUTEX_BITSET_MATCH_ANY);
+    errno = kept;
+}
+
+static void sleep_on(waiter *w, int64_t now) {
+    int64_t end = w->timeout < 0 || w->timeout > INT64_MAX - w->began ? FOREVER : w->began + w->timeout;
+    if (w->code == CQ_BUSY && (end < 0 || end > now + NAP_NS)) {
+        end = now + NAP_NS;
+    }
+    sleep_until(w, end);
+}
+
+static bool leave(waiter *w) {
+    if (w->counted) {
+        __atomic_fetch_sub(&w->signal->sleepers, 1, __ATOMIC_SEQ_CST);
+        w->counted = false;
+    }
+    return false;
+}
+
+/* Whether to try once more. It spins or sleeps before that. */
+static bool again(waiter *w) {
+    if (!w->tried) {
+        w->tried = true;
+        return true;
+    }
+    if (w->code != CQ_BUSY && w->code != w->not_yet) {
+        return leave(w);
+    }
+    int64_t now = now_ns();
+    if (w->began < 0) {
+        w->began = now;
+    }
+    if (w->timeout >= 0 && now - w->began >= w->timeout) {
+        w->code = CQ_TIMED_OUT;
+        return leave(w);
+    }
+    if (now - w->began < spin_ns()) {
+        spin();
+        return true;
+    }
+    if (w->counted) {
+        sleep_on(w, now);
+    } else {
+        __atomic_fetch_add(&w->signal->sleepers, 1, __ATOMIC_SEQ_CST);
+        w->counted = true;
+    }
+    w->seen = __atomic_load_n(&w->signal->news, __ATOMIC_SEQ_CST);
+    return true;
+}
+
+void cq_wake(cq_signal *signal) {
+    if (__atomic_load_n(&signal->sleepers, __ATOMIC_SEQ_CST) == 0) {
+        return;
+    }
+    __atomic_fetch_add(&signal->news, 1, __ATOMIC_SEQ_CST);
+    int kept = errno;
+    syscall(SYS_futex, &signal->news, FUTEX_WAKE_PRIVATE, INT32_MAX, NULL, NULL, 0);
+    errno = kept;
+}
+
+/* The code of a call that may let others go on if it succeeds. */
+static uint32_t waking(const waiter *w) {
+    if (w->code == CQ_OK || w->code == CQ_HELD) {
+        cq_wake(w->signal);
+    }
+    return w->code;
+}
+
+/* The service. */
+
+uint32_t cq_wait_attach_thread(cq_service *service, cq_signal *signal, const uint8_t *name, size_t length,
+                               int32_t priority, cq_thread *thread) {
+    waiter w = begin(signal, FOREVER, CQ_BUSY);
+    while (again(&w)) w.code = cq_attach_thread(service, name, length, priority, thread);
+    return waking(&w);
+}
+
+uint32_t cq_wait_attach_environment(cq_service *service, cq_signal *signal, cq_env *env) {
+    waiter w = begin(signal, FOREVER, CQ_BUSY);
+    while (again(&w)) w.code = cq_attach_environment(service, env);
+    return w.code;
+}
+
+/* A thread of the runtime. */
+
+uint32_t cq_wait_start(cq_thread *thread, cq_signal *signal, int64_t timeout_ns) {
+    waiter w = begin(signal, timeout_ns, CQ_BARRED);
+    while (again(&w)) w.code = cq_start(thread);
+    return w.code;
+}
+
+uint32_t cq_wait_poll(cq_thread *thread, cq_signal *signal) {
+    if (cq_poll_clear(thread)) {
+        return CQ_OK;
+    }
+    waiter w = begin(signal, FOREVER, CQ_BUSY);
+    while (again(&w)) w.code = cq_poll(thread);
+    return waking(&w) == CQ_HELD ? cq_wait_back(thread, signal, FOREVER) : w.code;
+}
+
+uint32_t cq_wait_native(cq_thread *thread, cq_signal *signal) {
+    waiter w = begin(signal, FOREVER, CQ_BUSY);
+    while (again(&w)) w.code = cq_native(thread);
+    return waking(&w);
+}
+
+uint32_t cq_wait_block(cq_thread *thread, cq_signal *signal, uint32_t reason) {
+    waiter w = begin(signal, FOREVER, CQ_BUSY);
+    while (again(&w)) w.code = cq_block(thread, reason);
+    return waking(&w);
+}
+
+uint32_t cq_wait_back(cq_thread *thread, cq_signal *signal, int64_t timeout_ns) {
+    waiter w = begin(signal, timeout_ns, CQ_BARRED);
+    while (again(&w)) w.code = cq_back(thread);
+    return w.code;
+}
+
+uint32_t cq_wait_end(cq_thread *thread, cq_signal *signal) {
+    waiter w = begin(signal, FOREVER, CQ_BUSY);
+    while (again(&w)) w.code = cq_end(thread);
+    return waking(&w);
+}
+
+uint32_t cq_wait_detach_thread(cq_thread *thread, cq_signal *signal) {
+    waiter w = begin(signal, FOREVER, CQ_BUSY);
+    while (again(&w)) w.code = cq_detach_thread(thread);
+    return waking(&w);
+}
+
+/* An agent's environment. */
+
+uint32_t cq_wait_meet(cq_env *env, cq_signal *signal) {
+    waiter w = begin(signal, FOREVER, CQ_BUSY);
+    while (again(&w)) w.code = cq_meet(env);
+    return w.code;
+}
+
+uint32_t cq_wait_let_go(cq_env *env, cq_signal *signal, uint32_t thread, bool *gone) {
+    waiter w = begin(signal, FOREVER, CQ_BUSY);
+    while (again(&w)) w.code = cq_let_go(env, thread, gone);
+    return w.code;
+}
+
+uint32_t cq_wait_get_all_threads(cq_env *env, cq_signal *signal, uint32_t *threads, size_t room, uint64_t *count) {
+    waiter w = begin(signal, FOREVER, CQ_BUSY);
+    while (again(&w)) w.code = cq_get_all_threads(env, threads, room, count);
+    return w.code;
+}
+
+uint32_t cq_wait_get_thread_info(cq_env *env, cq_signal *signal, uint32_t thread, cq_thread_info *info, uint8_t *name,
+                                 size_t room) {
+    waiter w = begin(signal, FOREVER, CQ_BUSY);
+    while (again(&w)) w.code = cq_get_thread_info(env, thread, info, name, room);
+    return w.code;
+}
+
+uint32_t cq_wait_cancel(cq_env *env, cq_signal *signal, const cq_ticket *ticket) {
+    waiter w = begin(signal, FOREVER, CQ_BUSY);
+    while (again(&w)) w.code = cq_cancel(env, ticket);
+    return w.code;
+}
+
+uint32_t cq_wait_discard(cq_env *env, cq_signal *signal, uint32_t thread, bool *thrown) {
+    waiter w = begin(signal, FOREVER, CQ_BUSY);
+    while (again(&w)) w.code = cq_discard(env, thread, thrown);
+    return w.code;
+}
+
+uint32_t cq_wait_set_event_notification_mode(cq_env *env, cq_signal *signal, bool enabled) {
+    waiter w = begin(signal, FOREVER, CQ_BUSY);
+    while (again(&w)) w.code = cq_set_event_notification_mode(env, enabled);
+    return w.code;
+}
+
+uint32_t cq_wait_dispose_environment(cq_env *env, cq_signal *signal) {
+    waiter w = begin(signal, FOREVER, CQ_BUSY);
+    while (again(&w)) w.code = cq_dispose_environment(env);
+    return w.code;
+}
+
+uint32_t cq_wait_next_event(cq_env *env, cq_signal *signal, int64_t timeout_ns, cq_event *event) {
+    waiter w = begin(signal, timeout_ns, CQ_NONE);
+    while (again(&w)) w.code = cq_next_event(env, event);
+    return w.code;
+}
+
+/* Calls at a thread. */
+
+uint32_t cq_wait_collect(cq_env *env, cq_signal *signal, const cq_ticket *ticket, int64_t timeout_ns, cq_answer *answer,
+                         cq_frame *frames, size_t room) {
+    waiter w = begin(signal, timeout_ns, CQ_WAITING);
+    while (again(&w)) w.code = cq_collect(env, ticket, answer, frames, room);
+    return w.code;
+}
+
+/* Before a post, answers are thrown away to calls that were given up at the thread, so that these have no place in the window
+ * any more. */
+static waiter begin_post(cq_env *env, cq_signal *signal, uint32_t thread, int64_t timeout_ns) {
+    bool thrown = true;
+    while (thrown && cq_discard(env, thread, &thrown) == CQ_OK) {
+    }
+    return begin(signal, timeout_ns, CQ_BUSY);
+}
+
+/* The code of a call that was posted, once its answer is there. When the time is over, the call is given up. */
+static uint32_t answered(cq_env *env, waiter *w, cq_answer *answer, cq_frame *frames, size_t room) {
+    if (w->code != CQ_WAITING) {
+        return w->code;
+    }
+    cq_ticket ticket = answer->ticket;
+    w->not_yet = CQ_WAITING;
+    while (again(w)) w->code = cq_collect(env, &ticket, answer, frames, room);
+    if (w->code == CQ_TIMED_OUT) {
+        cq_wait_cancel(env, w->signal, &ticket);
+    }
+    return w->code;
+}
+
+static uint32_t answered_without_frames(cq_env *env, waiter *w, cq_answer *answer) {
+    cq_frame none;
+    return answered(env, w, answer, &none, 0);
+}
+
+uint32_t cq_wait_get_thread_state(cq_env *env, cq_signal *signal, uint32_t thread, int64_t timeout_ns,
+                                  uint32_t *state) {
+    cq_answer answer;
+    waiter w = begin_post(env, signal, thread, timeout_ns);
+    while (again(&w)) w.code = cq_get_thread_state(env, thread, &answer);
+    uint32_t code = answered_without_frames(env, &w, &answer);
+    if (code == CQ_OK) *state = (uint32_t)answer.number;
+    return code;
+}
+
+uint32_t cq_wait_get_frame_count(cq_env *env, cq_signal *signal, uint32_t thread, int64_t timeout_ns,
+                                 uint32_t *count) {
+    cq_answer answer;
+    waiter w = begin_post(env, signal, thread, timeout_ns);
+    while (again(&w)) w.code = cq_get_frame_count(env, thread, &answer);
+    uint32_t code = answered_without_frames(env, &w, &answer);
+    if (code == CQ_OK) *count = (uint32_t)answer.number;
+    return code;
+}
+
+uint32_t cq_wait_get_frame_location(cq_env *env, cq_signal *signal, uint32_t thread, int32_t depth, int64_t timeout_ns,
+                                    cq_frame *frame) {
+    cq_answer answer;
+    waiter w = begin_post(env, signal, thread, timeout_ns);
+    while (again(&w)) w.code = cq_get_frame_location(env, thread, depth, &answer);
+    uint32_t code = answered_without_frames(env, &w, &answer);
+    if (code == CQ_OK) *frame = answer.frame;
+    return code;
+}
+
+uint32_t cq_wait_get_stack_trace(cq_env *env, cq_signal *signal, uint32_t thread, int32_t start, int32_t max_count,
+                                 int64_t timeout_ns, cq_frame *frames, size_t room, uint32_t *count) {
+    cq_answer answer;
+    waiter w = begin_post(env, signal, thread, timeout_ns);
+    while (again(&w)) w.code = cq_get_stack_trace(env, thread, start, max_count, &answer, frames, room);
+    uint32_t code = answered(env, &w, &answer, frames, room);
+    if (code == CQ_OK) *count = (uint32_t)answer.number;
+    return code;
+}
+
+uint32_t cq_wait_suspend_thread(cq_env *env, cq_signal *signal, uint32_t thread, int64_t timeout_ns) {
+    cq_answer answer;
+    waiter w = begin_post(env, signal, thread, timeout_ns);
+    while (again(&w)) w.code = cq_suspend_thread(env, thread, &answer);
+    return answered_without_frames(env, &w, &answer);
+}
+
+/* The thread may return now. */
+uint32_t cq_wait_resume_thread(cq_env *env, cq_signal *signal, uint32_t thread, int64_t timeout_ns) {
+    cq_answer answer;
+    waiter w = begin_post(env, signal, thread, timeout_ns);
+    while (again(&w)) w.code = cq_resume_thread(env, thread, &answer);
+    answered_without_frames(env, &w, &answer);
+    return waking(&w);
+}
+
+uint32_t cq_wait_pop_frame(cq_env *env, cq_signal *signal, uint32_t thread, int64_t timeout_ns) {
+    cq_answer answer;
+    waiter w = begin_post(env, signal, thread, timeout_ns);
+    while (again(&w)) w.code = cq_pop_frame(env, thread, &answer);
+    return answered_without_frames(env, &w, &answer);
+}
+
+uint32_t cq_wait_get_thread_local_storage(cq_env *env, cq_signal *signal, uint32_t thread, int64_t timeout_ns,
+                                          uint64_t *word) {
+    cq_answer answer;
+    waiter w = begin_post(env, signal, thread, timeout_ns);
+    while (again(&w)) w.code = cq_get_thread_local_storage(env, thread, &answer);
+    uint32_t code = answered_without_frames(env, &w, &answer);
+    if (code == CQ_OK) *word = answer.number;
+    return code;
+}
+
+uint32_t cq_wait_set_thread_local_storage(cq_env *env, cq_signal *signal, uint32_t thread, uint64_t word,
+                                          int64_t timeout_ns) {
+    cq_answer answer;
+    waiter w = begin_post(env, signal, thread, timeout_ns);
+    while (again(&w)) w.code = cq_set_thread_local_storage(env, thread, word, &answer);
+    return answered_without_frames(env, &w, &answer);
+}
+
+/* Lists. */
+
+typedef uint32_t one_call(cq_env *env, cq_signal *signal, uint32_t thread, int64_t timeout_ns);
+
+static void one_by_one(one_call *call, cq_env *env, cq_signal *signal, const uint32_t *threads, size_t count,
+                       int64_t timeout_ns, uint32_t *codes) {
+    int64_t began = now_ns();
+    for (size_t i = 0; i < count; i++) {
+        int64_t left = timeout_ns;
+        if (timeout_ns >= 0) {
+            int64_t spent = now_ns() - began;
+            left = spent < timeout_ns ? timeout_ns - spent : 0;
+        }
+        codes[i] = call(env, signal, threads[i], left);
+    }
+}
+
+void cq_wait_suspend_thread_list(cq_env *env, cq_signal *signal, const uint32_t *threads, size_t count,
+                                 int64_t timeout_ns, uint32_t *codes) {
+    one_by_one(cq_wait_suspend_thread, env, signal, threads, count, timeout_ns, codes);
+}
+
+void cq_wait_resume_thread_list(cq_env *env, cq_signal *signal, const uint32_t *threads, size_t count,
+                                int64_t timeout_ns, uint32_t *codes) {
+    one_by_one(cq_wait_resume_thread, env, signal, threads, count, timeout_ns, codes);
+}

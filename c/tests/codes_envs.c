@@ -1,0 +1,123 @@
+/* codes_envs.c: the refusals of the environment's functions. */
+#include "codes.h"
+
+#define COUNT(rows) (sizeof(rows) / sizeof((rows)[0]))
+
+MISUSED_ENV(meet, cq_meet(h))
+MISUSED_ENV(let_go, cq_let_go(h, 0, &out.flag))
+MISUSED_ENV(get_all_threads, cq_get_all_threads(h, out.threads, 2, &out.word))
+ON_ENV(get_thread_info, cq_get_thread_info(h, 0, &out.info, out.name, 8))
+ON_ENV(get_thread_state, cq_get_thread_state(h, 0, &out.answer))
+ON_ENV(get_frame_count, cq_get_frame_count(h, 0, &out.answer))
+ON_ENV(get_frame_location, cq_get_frame_location(h, 0, 2, &out.answer))
+ON_ENV(get_stack_trace, cq_get_stack_trace(h, 0, 2, 2, &out.answer, out.frames, 2))
+ON_ENV(suspend_thread, cq_suspend_thread(h, 0, &out.answer))
+ON_ENV(resume_thread, cq_resume_thread(h, 0, &out.answer))
+ON_ENV(pop_frame, cq_pop_frame(h, 0, &out.answer))
+ON_ENV(get_thread_local_storage, cq_get_thread_local_storage(h, 0, &out.answer))
+ON_ENV(set_thread_local_storage, cq_set_thread_local_storage(h, 0, 7, &out.answer))
+ON_ENV(collect, cq_collect(h, &w->ticket, &out.answer, out.frames, 2))
+MISUSED_ENV(cancel, cq_cancel(h, &w->ticket))
+MISUSED_ENV(discard, cq_discard(h, 0, &out.flag))
+MISUSED_ENV(out_at, cq_out_at(h, 0, &out.number))
+ON_ENV(add_capabilities, cq_add_capabilities(h, 5))
+MISUSED_ENV(relinquish_capabilities, cq_relinquish_capabilities(h, 3))
+MISUSED_ENV(get_capabilities, cq_get_capabilities(h, &out.number))
+MISUSED_ENV(get_potential_capabilities, cq_get_potential_capabilities(h, &out.number))
+MISUSED_ENV(get_environment_local_storage, cq_get_environment_local_storage(h, &out.word))
+MISUSED_ENV(set_environment_local_storage, cq_set_environment_local_storage(h, 7))
+MISUSED_ENV(set_event_notification_mode, cq_set_event_notification_mode(h, true))
+ON_ENV(next_event, cq_next_event(h, &out.event))
+MISUSED_ENV(dispose_environment, cq_dispose_environment(h))
+
+static uint32_t has_news_empty(world *w) { return cq_has_news(&w->no_env) ? CQ_OK : CQ_MISUSED; }
+static uint32_t has_news_wrong(world *w) { return cq_has_news((cq_env *)(void *)&w->thread) ? CQ_OK : CQ_MISUSED; }
+
+static uint32_t info_of_none(world *w) { return cq_get_thread_info(&w->env, 1, &out.info, out.name, 8); }
+static uint32_t info_of_far(world *w) { return cq_get_thread_info(&w->env, UINT32_MAX, &out.info, out.name, 8); }
+static uint32_t location_below(world *w) { return cq_get_frame_location(&w->env, 0, -1, &out.answer); }
+static uint32_t trace_below(world *w) { return cq_get_stack_trace(&w->env, 0, 0, -1, &out.answer, out.frames, 2); }
+static uint32_t trace_before_oldest(world *w) {
+    return cq_get_stack_trace(&w->env, 0, -3, 2, &out.answer, out.frames, 2);
+}
+
+/* A call without the capability that it needs. The capability comes back, so that nothing has changed. */
+#define WITHOUT(name, capability) \
+    static uint32_t name##_without(world *w) { \
+        OK(cq_relinquish_capabilities(&w->env, capability)); \
+        uint32_t code = name(w); \
+        OK(cq_add_capabilities(&w->env, capability)); \
+        return code; \
+    }
+WITHOUT(suspend_thread, CQ_CAN_SUSPEND)
+WITHOUT(resume_thread, CQ_CAN_SUSPEND)
+WITHOUT(pop_frame, CQ_CAN_POP_FRAME)
+
+/* A thread of another number. */
+#define OF_NONE(name, call) static uint32_t name##_of_none(world *w) { cq_env *h = &w->env; return call; }
+OF_NONE(get_thread_state, cq_get_thread_state(h, 1, &out.answer))
+OF_NONE(get_frame_count, cq_get_frame_count(h, UINT32_MAX, &out.answer))
+OF_NONE(get_frame_location, cq_get_frame_location(h, 1, -1, &out.answer))
+OF_NONE(get_stack_trace, cq_get_stack_trace(h, 1, 0, -1, &out.answer, out.frames, 2))
+OF_NONE(suspend_thread, cq_suspend_thread(h, 1, &out.answer))
+OF_NONE(resume_thread, cq_resume_thread(h, 1, &out.answer))
+OF_NONE(pop_frame, cq_pop_frame(h, 1, &out.answer))
+OF_NONE(get_thread_local_storage, cq_get_thread_local_storage(h, 1, &out.answer))
+OF_NONE(set_thread_local_storage, cq_set_thread_local_storage(h, 1, 7, &out.answer))
+
+/* What every call at a thread may be refused with. */
+#define AT_A_THREAD(name) \
+    MISUSES(name), { "cq_" #name, CQ_INVALID_THREAD, RUNS, name##_of_none }, \
+    { "cq_" #name, CQ_INVALID_THREAD, UNMET, name }, { "cq_" #name, CQ_THREAD_NOT_ALIVE, LET_GO, name }
+
+/* What the thread itself refuses while it is not alive. */
+#define NOT_ALIVE(name) \
+    { "cq_" #name, CQ_THREAD_NOT_ALIVE, FRESH, name }, { "cq_" #name, CQ_THREAD_NOT_ALIVE, ENDED, name }, \
+    { "cq_" #name, CQ_THREAD_NOT_ALIVE, GIVEN_BACK, name }
+
+#define NO_ROOM(name) { "cq_" #name, CQ_OUT_OF_MEMORY, FULL_WINDOW, name }
+
+const row ENV_ROWS[] = {
+    MISUSES(meet), MISUSES(has_news), MISUSES(let_go), MISUSES(get_all_threads),
+    MISUSES(get_thread_info), { "cq_get_thread_info", CQ_INVALID_THREAD, RUNS, info_of_none },
+    { "cq_get_thread_info", CQ_INVALID_THREAD, RUNS, info_of_far },
+    { "cq_get_thread_info", CQ_THREAD_NOT_ALIVE, GIVEN_BACK, get_thread_info },
+    { "cq_get_thread_info", CQ_THREAD_NOT_ALIVE, LET_GO, get_thread_info },
+    AT_A_THREAD(get_thread_state),
+    AT_A_THREAD(get_frame_count), NOT_ALIVE(get_frame_count), NO_ROOM(get_frame_count),
+    AT_A_THREAD(get_frame_location), NOT_ALIVE(get_frame_location), NO_ROOM(get_frame_location),
+    { "cq_get_frame_location", CQ_ILLEGAL_ARGUMENT, RUNS, location_below },
+    { "cq_get_frame_location", CQ_ILLEGAL_ARGUMENT, FULL_WINDOW, location_below },
+    { "cq_get_frame_location", CQ_ILLEGAL_ARGUMENT, ENDED, location_below },
+    { "cq_get_frame_location", CQ_NO_MORE_FRAMES, NATIVE, get_frame_location },
+    AT_A_THREAD(get_stack_trace), NOT_ALIVE(get_stack_trace), NO_ROOM(get_stack_trace),
+    { "cq_get_stack_trace", CQ_ILLEGAL_ARGUMENT, RUNS, trace_below },
+    { "cq_get_stack_trace", CQ_ILLEGAL_ARGUMENT, FULL_WINDOW, trace_below },
+    { "cq_get_stack_trace", CQ_ILLEGAL_ARGUMENT, NATIVE, get_stack_trace },
+    { "cq_get_stack_trace", CQ_ILLEGAL_ARGUMENT, NATIVE, trace_before_oldest },
+    AT_A_THREAD(suspend_thread), NOT_ALIVE(suspend_thread), NO_ROOM(suspend_thread),
+    { "cq_suspend_thread", CQ_MUST_POSSESS_CAPABILITY, RUNS, suspend_thread_without },
+    { "cq_suspend_thread", CQ_MUST_POSSESS_CAPABILITY, UNMET, suspend_thread_without },
+    { "cq_suspend_thread", CQ_THREAD_SUSPENDED, HELD, suspend_thread },
+    AT_A_THREAD(resume_thread), NOT_ALIVE(resume_thread),
+    { "cq_resume_thread", CQ_MUST_POSSESS_CAPABILITY, HELD, resume_thread_without },
+    { "cq_resume_thread", CQ_THREAD_NOT_SUSPENDED, RUNS, resume_thread },
+    { "cq_resume_thread", CQ_THREAD_NOT_SUSPENDED, NATIVE, resume_thread },
+    AT_A_THREAD(pop_frame), NOT_ALIVE(pop_frame), NO_ROOM(pop_frame),
+    { "cq_pop_frame", CQ_MUST_POSSESS_CAPABILITY, HELD, pop_frame_without },
+    { "cq_pop_frame", CQ_THREAD_NOT_SUSPENDED, NATIVE, pop_frame },
+    { "cq_pop_frame", CQ_NO_MORE_FRAMES, HELD, pop_frame },
+    { "cq_pop_frame", CQ_OPAQUE_FRAME, HELD_IN_NATIVE, pop_frame },
+    AT_A_THREAD(get_thread_local_storage), NOT_ALIVE(get_thread_local_storage),
+    AT_A_THREAD(set_thread_local_storage), NOT_ALIVE(set_thread_local_storage),
+    MISUSES(collect), { "cq_collect", CQ_WAITING, RUNS, collect }, { "cq_collect", CQ_WAITING, WAITS, collect },
+    { "cq_collect", CQ_WAITING, UNMET, collect }, { "cq_collect", CQ_WAITING, LET_GO, collect },
+    MISUSES(cancel), MISUSES(discard), MISUSES(out_at),
+    MISUSES(add_capabilities), { "cq_add_capabilities", CQ_NOT_AVAILABLE, RUNS, add_capabilities },
+    MISUSES(relinquish_capabilities), MISUSES(get_capabilities), MISUSES(get_potential_capabilities),
+    MISUSES(get_environment_local_storage), MISUSES(set_environment_local_storage),
+    MISUSES(set_event_notification_mode),
+    MISUSES(next_event), { "cq_next_event", CQ_NONE, RUNS, next_event },
+    MISUSES(dispose_environment),
+};
+const size_t ENV_ROW_COUNT = COUNT(ENV_ROWS);

@@ -1,0 +1,164 @@
+/* model_envs.c: the environments, but for their calls at threads. */
+#include "model_parts.h"
+
+#include <stdlib.h>
+#include <string.h>
+
+enum { KEPT_EVENTS = 4096 };
+
+uint32_t model_attach_environment(cq_service *service, cq_env *env) {
+    m_service *s = service_of(service);
+    if (s == NULL || env->kind != EMPTY) return CQ_MISUSED;
+    uint32_t place = 0;
+    while (place < s->envs && s->taken[place]) place++;
+    if (place == s->envs) return CQ_OUT_OF_MEMORY;
+    s->taken[place] = true;
+    s->handles++;
+    s->happened++;
+    s->stirred++;
+    m_env *e = calloc(1, sizeof *e);
+    e->service = s;
+    e->place = place;
+    e->asked = s->happened;
+    e->looked = s->stirred;
+    *env = (cq_env){ AN_ENV, e };
+    return CQ_OK;
+}
+
+static m_env *asking(cq_env *env) {
+    m_env *e = env_of(env);
+    if (e != NULL) e->asked = e->service->happened;
+    return e;
+}
+
+uint32_t model_meet(cq_env *env) {
+    m_env *e = asking(env);
+    if (e == NULL) return CQ_MISUSED;
+    for (uint32_t i = e->known; i < e->service->count; i++) {
+        e->service->threads[i]->met[e->place] = e->service->threads[i]->there;
+    }
+    e->known = e->service->count;
+    e->looked = ++e->service->stirred;
+    return CQ_OK;
+}
+
+void model_has_news(cq_env *env, bool *must_be, bool *may_be) {
+    m_env *e = env_of(env);
+    *must_be = e != NULL && e->service->happened > e->asked;
+    *may_be = e != NULL && e->service->stirred > e->looked;
+}
+
+uint32_t model_let_go(cq_env *env, uint32_t thread, bool *gone) {
+    m_env *e = asking(env);
+    if (e == NULL) return CQ_MISUSED;
+    m_thread *t = thread < e->known ? e->service->threads[thread] : NULL;
+    *gone = t != NULL && !t->there && t->met[e->place] && outs(t, e->place) == 0;
+    if (*gone) t->met[e->place] = false;
+    return CQ_OK;
+}
+
+uint32_t model_get_all_threads(cq_env *env, uint32_t *threads, size_t room, uint64_t *count) {
+    m_env *e = asking(env);
+    if (e == NULL) return CQ_MISUSED;
+    *count = 0;
+    for (uint32_t i = 0; i < e->service->count; i++) {
+        if (!e->service->threads[i]->there) continue;
+        if (*count < room) threads[*count] = i;
+        ++*count;
+    }
+    return CQ_OK;
+}
+
+uint32_t model_get_thread_info(cq_env *env, uint32_t thread, cq_thread_info *info, uint8_t *name, size_t room) {
+    m_env *e = asking(env);
+    if (e == NULL) return CQ_MISUSED;
+    if (thread >= e->service->count) return CQ_INVALID_THREAD;
+    m_thread *t = e->service->threads[thread];
+    if (!t->there) return CQ_THREAD_NOT_ALIVE;
+    info->name_length = t->length;
+    info->priority = t->priority;
+    memcpy(name, t->name, t->length < room ? t->length : room);
+    return CQ_OK;
+}
+
+uint32_t model_add_capabilities(cq_env *env, uint32_t capabilities) {
+    m_env *e = env_of(env);
+    if (e == NULL) return CQ_MISUSED;
+    if (capabilities & ~(uint32_t)(CQ_CAN_SUSPEND | CQ_CAN_POP_FRAME)) return CQ_NOT_AVAILABLE;
+    e->capabilities |= capabilities;
+    return CQ_OK;
+}
+
+uint32_t model_relinquish_capabilities(cq_env *env, uint32_t capabilities) {
+    m_env *e = env_of(env);
+    if (e == NULL) return CQ_MISUSED;
+    e->capabilities &= ~capabilities;
+    return CQ_OK;
+}
+
+uint32_t model_get_capabilities(cq_env *env, uint32_t *capabilities) {
+    m_env *e = env_of(env);
+    if (e == NULL) return CQ_MISUSED;
+    *capabilities = e->capabilities;
+    return CQ_OK;
+}
+
+uint32_t model_get_potential_capabilities(cq_env *env, uint32_t *capabilities) {
+    if (env_of(env) == NULL) return CQ_MISUSED;
+    *capabilities = CQ_CAN_SUSPEND | CQ_CAN_POP_FRAME;
+    return CQ_OK;
+}
+
+uint32_t model_get_environment_local_storage(cq_env *env, uint64_t *word) {
+    m_env *e = env_of(env);
+    if (e == NULL) return CQ_MISUSED;
+    *word = e->word;
+    return CQ_OK;
+}
+
+uint32_t model_set_environment_local_storage(cq_env *env, uint64_t word) {
+    m_env *e = env_of(env);
+    if (e == NULL) return CQ_MISUSED;
+    e->word = word;
+    return CQ_OK;
+}
+
+uint32_t model_set_event_notification_mode(cq_env *env, bool enabled) {
+    m_env *e = asking(env);
+    if (e == NULL) return CQ_MISUSED;
+    if (enabled && !e->events) e->next_event = e->service->event_count;
+    e->events = enabled;
+    return CQ_OK;
+}
+
+uint32_t model_next_event(cq_env *env, cq_event *event) {
+    m_env *e = asking(env);
+    if (e == NULL) return CQ_MISUSED;
+    m_service *s = e->service;
+    if (!e->events || e->next_event == s->event_count) return CQ_NONE;
+    uint64_t first = s->event_count > KEPT_EVENTS ? s->event_count - KEPT_EVENTS : 0;
+    uint64_t lost = e->next_event < first ? first - e->next_event : 0;
+    e->next_event += lost;
+    *event = s->events[e->next_event++];
+    event->lost = lost;
+    return CQ_OK;
+}
+
+uint32_t model_dispose_environment(cq_env *env) {
+    m_env *e = env_of(env);
+    if (e == NULL) return CQ_MISUSED;
+    for (uint32_t i = 0; i < e->service->count; i++) {
+        m_thread *t = e->service->threads[i];
+        if (!t->met[e->place]) continue;
+        give_up_all(t, e->place);
+        t->words[e->place] = 0;
+        t->met[e->place] = false;
+    }
+    e->service->taken[e->place] = false;
+    e->service->happened++;
+    e->service->stirred++;
+    let_go_of_service(e->service);
+    free(e);
+    *env = (cq_env){ EMPTY, NULL };
+    return CQ_OK;
+}

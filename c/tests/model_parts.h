@@ -1,0 +1,87 @@
+/* model_parts.h: what model.c and model_calls.c share. */
+#ifndef MODEL_PARTS_H
+#define MODEL_PARTS_H
+
+#include "model.h"
+
+enum { ENVS = 32 };
+enum { EMPTY = 0, A_SERVICE = 1, A_THREAD = 2, AN_ENV = 3 };
+enum { NEW, RUNNING, SAFE, ENDED };
+enum { STATE, COUNT, LOCATION, TRACE, SUSPEND, RESUME, POP, GET_WORD, SET_WORD };
+
+/* A call at a thread, with its answer once it has taken place. */
+typedef struct posted {
+    struct posted *next;
+    uint32_t place;       /* whose it is */
+    cq_ticket ticket;
+    uint32_t kind;
+    int32_t start;        /* of a trace, or the depth of a location */
+    int32_t max_count;
+    uint64_t word;
+    uint64_t given_up;    /* 0 if it was not, and otherwise how many were given up at the thread up to it */
+    bool done;
+    uint32_t code;
+    uint64_t number;
+    cq_frame frame;
+    cq_frame *frames;
+} posted;
+
+typedef struct m_service m_service;
+
+typedef struct {
+    m_service *service;
+    uint32_t number;
+    bool there;           /* it was not given back */
+    uint8_t *name;
+    size_t length;
+    int32_t priority;
+    uint32_t mode;
+    uint32_t bits;        /* its state while it is safe */
+    bool suspended;
+    cq_frame *frames;     /* the oldest first */
+    size_t count;
+    posted *calls;        /* those that are out, in the order of posting */
+    uint64_t given_up;
+    uint64_t posts[ENVS];
+    uint64_t words[ENVS];
+    bool met[ENVS];
+} m_thread;
+
+typedef struct {
+    m_service *service;
+    uint32_t place;
+    uint32_t capabilities;
+    uint64_t word;
+    uint32_t known;       /* it has met the threads below this number */
+    bool events;
+    uint64_t next_event;
+    uint64_t asked;       /* what had happened when it last asked the service anything */
+    uint64_t looked;      /* the same when it last met the threads, with meetings of others */
+} m_env;
+
+struct m_service {
+    uint32_t handles;
+    uint32_t depth, envs, window;
+    m_thread **threads;
+    uint32_t count;
+    bool taken[ENVS];
+    cq_event *events;
+    uint64_t event_count;
+    uint64_t happened;    /* threads and environments that came or went */
+    uint64_t stirred;     /* the same, and meetings */
+};
+
+m_service *service_of(const cq_service *handle);
+m_thread *thread_of(const cq_thread *handle);
+m_env *env_of(const cq_env *handle);
+void let_go_of_service(m_service *service);
+
+/* The waiting calls take place. */
+void hand_over(m_thread *thread);
+bool is_called_for(const m_thread *thread);
+uint32_t outs(const m_thread *thread, uint32_t place);
+bool throw_first(m_thread *thread, uint32_t place);
+void give_up_all(m_thread *thread, uint32_t place);
+void free_call(posted *call);
+
+#endif

@@ -1,0 +1,224 @@
+/* wait.c: who waits sleeps, is woken, and is not woken too early. */
+#define _POSIX_C_SOURCE 200809L
+#include "check.h"
+
+#include <pthread.h>
+#include <stdatomic.h>
+#include <time.h>
+
+static const int64_t MILLISECOND = 1000000, SECOND = 1000000000;
+
+/* A wait that is ended by a wake-up ends long before this. */
+static const int64_t LONG = 60 * (int64_t)1000000000;
+
+static cq_signal signal_of_all;
+static cq_service service;
+static cq_thread thread;
+static cq_env env;
+static atomic_int at;         /* how far the other thread of the operating system is */
+static int64_t time_used;     /* of the processor, while the thread was held */
+
+static int64_t read_clock(clockid_t clock) {
+    struct timespec now;
+    SAME(clock_gettime(clock, &now), 0);
+    return (int64_t)now.tv_sec * SECOND + now.tv_nsec;
+}
+
+static int64_t now_ns(void) { return read_clock(CLOCK_MONOTONIC); }
+
+static void rest(int64_t time) {
+    struct timespec left = { .tv_sec = time / SECOND, .tv_nsec = time % SECOND };
+    while (nanosleep(&left, &left) != 0) { }
+}
+
+static void await(int wanted) {
+    while (atomic_load(&at) < wanted) {
+        rest(MILLISECOND);
+    }
+}
+
+static pthread_t run(void *(*body)(void *)) {
+    pthread_t id;
+    atomic_store(&at, 0);
+    SAME(pthread_create(&id, NULL, body, NULL), 0);
+    return id;
+}
+
+static void join(pthread_t id) { SAME(pthread_join(id, NULL), 0); }
+
+static void set_up(void) {
+    OK(cq_make(8, 1, 8, &service));
+    OK(cq_wait_attach_thread(&service, &signal_of_all, (const uint8_t *)"main", 4, 5, &thread));
+    OK(cq_wait_attach_environment(&service, &signal_of_all, &env));
+    OK(cq_wait_meet(&env, &signal_of_all));
+    OK(cq_add_capabilities(&env, CQ_CAN_SUSPEND));
+    OK(cq_wait_start(&thread, &signal_of_all, -1));
+}
+
+static void tear_down(void) {
+    OK(cq_wait_end(&thread, &signal_of_all));
+    OK(cq_wait_detach_thread(&thread, &signal_of_all));
+    OK(cq_wait_dispose_environment(&env, &signal_of_all));
+    OK(cq_free(&service));
+    SAME(signal_of_all.sleepers, 0);
+}
+
+/* Polls until it was held once. */
+static void *poll_until_held(void *unused) {
+    while (cq_poll_clear(&thread)) {
+        rest(MILLISECOND / 10);
+    }
+    int64_t before = read_clock(CLOCK_THREAD_CPUTIME_ID);
+    OK(cq_wait_poll(&thread, &signal_of_all));
+    time_used = read_clock(CLOCK_THREAD_CPUTIME_ID) - before;
+    atomic_store(&at, 1);
+    return unused;
+}
+
+/* A suspended thread sleeps: in a second it takes less than 50 ms of a processor. A resumption wakes it. */
+static void suspended_thread_sleeps(void) {
+    pthread_t id = run(poll_until_held);
+    OK(cq_wait_suspend_thread(&env, &signal_of_all, 0, -1));
+    rest(SECOND);
+    SAME(atomic_load(&at), 0);
+    int64_t before = now_ns();
+    OK(cq_wait_resume_thread(&env, &signal_of_all, 0, -1));
+    join(id);
+    CHECK(now_ns() - before < LONG);
+    SAME(atomic_load(&at), 1);
+    CHECK(time_used < 50 * MILLISECOND);
+}
+
+/* The thread runs and does not poll, so that no answer comes. A call whose time is over is given up. */
+static void time_outs_are_not_early(void) {
+    static const int64_t times[] = { 0, 10000, MILLISECOND, 60 * MILLISECOND };
+    cq_ticket none = { 0, 0, 1000000 };
+    cq_answer answer;
+    cq_frame frame;
+    cq_event event;
+    uint32_t count = 77;
+    for (size_t i = 0; i < 4; i++) {
+        int64_t before = now_ns();
+        SAME(cq_wait_get_frame_count(&env, &signal_of_all, 0, times[i], &count), CQ_TIMED_OUT);
+        CHECK(now_ns() - before >= times[i]);
+        SAME(count, 77);
+        OK(cq_out_at(&env, 0, &count));
+        SAME(count, 1);
+        CHECK(!cq_poll_clear(&thread));
+        OK(cq_wait_poll(&thread, &signal_of_all));
+        bool thrown = false;
+        OK(cq_wait_discard(&env, &signal_of_all, 0, &thrown));
+        CHECK(thrown);
+        before = now_ns();
+        SAME(cq_wait_next_event(&env, &signal_of_all, times[i], &event), CQ_TIMED_OUT);
+        CHECK(now_ns() - before >= times[i]);
+        before = now_ns();
+        SAME(cq_wait_collect(&env, &signal_of_all, &none, times[i], &answer, &frame, 1), CQ_TIMED_OUT);
+        CHECK(now_ns() - before >= times[i]);
+        count = 77;
+    }
+}
+
+/* A suspension whose time was over still takes place, and then the return of the thread is not waited for any longer.
+ */
+static void suspension_that_is_given_up(void) {
+    uint32_t state;
+    SAME(cq_wait_suspend_thread(&env, &signal_of_all, 0, MILLISECOND), CQ_TIMED_OUT);
+    SAME(cq_poll(&thread), CQ_HELD);
+    cq_wake(&signal_of_all);
+    int64_t before = now_ns();
+    SAME(cq_wait_back(&thread, &signal_of_all, 20 * MILLISECOND), CQ_TIMED_OUT);
+    CHECK(now_ns() - before >= 20 * MILLISECOND);
+    OK(cq_wait_get_thread_state(&env, &signal_of_all, 0, -1, &state));
+    SAME(state, 0x100005);
+    OK(cq_wait_resume_thread(&env, &signal_of_all, 0, -1));
+    OK(cq_wait_back(&thread, &signal_of_all, -1));
+}
+
+/* Each waits for ever for something, and is woken. */
+
+static void *wait_for_event(void *unused) {
+    cq_event event;
+    atomic_store(&at, 1);
+    OK(cq_wait_next_event(&env, &signal_of_all, -1, &event));
+    SAME(event.kind, CQ_THREAD_START);
+    SAME(event.thread, 1);
+    return unused;
+}
+
+static void event_wakes(void) {
+    cq_thread second = { 0, NULL };
+    OK(cq_wait_set_event_notification_mode(&env, &signal_of_all, true));
+    pthread_t id = run(wait_for_event);
+    await(1);
+    rest(20 * MILLISECOND);
+    OK(cq_wait_attach_thread(&service, &signal_of_all, (const uint8_t *)"", 0, 5, &second));
+    join(id);
+    OK(cq_wait_detach_thread(&second, &signal_of_all));
+}
+
+static void *wait_for_count(void *unused) {
+    uint32_t count = 77;
+    atomic_store(&at, 1);
+    OK(cq_wait_get_frame_count(&env, &signal_of_all, 0, -1, &count));
+    SAME(count, 1);
+    return unused;
+}
+
+/* An answer comes when the thread goes into native code. */
+static void hand_over_wakes(void) {
+    OK(cq_enter_native(&thread, 1));
+    pthread_t id = run(wait_for_count);
+    await(1);
+    rest(20 * MILLISECOND);
+    OK(cq_wait_native(&thread, &signal_of_all));
+    join(id);
+    OK(cq_wait_back(&thread, &signal_of_all, -1));
+}
+
+static void *wait_for_lists(void *unused) {
+    const uint32_t threads[] = { 0, 0, 9 };
+    uint32_t codes[3] = { 77, 77, 77 };
+    cq_wait_suspend_thread_list(&env, &signal_of_all, threads, 3, -1, codes);
+    SAME(codes[0], CQ_OK);
+    SAME(codes[1], CQ_THREAD_SUSPENDED);
+    SAME(codes[2], CQ_INVALID_THREAD);
+    atomic_store(&at, 1);
+    rest(20 * MILLISECOND);
+    cq_wait_resume_thread_list(&env, &signal_of_all, threads, 3, -1, codes);
+    SAME(codes[0], CQ_OK);
+    SAME(codes[1], CQ_THREAD_NOT_SUSPENDED);
+    SAME(codes[2], CQ_INVALID_THREAD);
+    return unused;
+}
+
+static void lists(void) {
+    const uint32_t threads[] = { 0, 0 };
+    uint32_t codes[2] = { 77, 77 };
+    pthread_t id = run(wait_for_lists);
+    while (atomic_load(&at) == 0) {
+        OK(cq_wait_poll(&thread, &signal_of_all));
+    }
+    join(id);
+    OK(cq_wait_poll(&thread, &signal_of_all));
+    int64_t before = now_ns();
+    cq_wait_suspend_thread_list(&env, &signal_of_all, threads, 2, 5 * MILLISECOND, codes);
+    CHECK(now_ns() - before >= 5 * MILLISECOND);
+    SAME(codes[0], CQ_TIMED_OUT);
+    SAME(codes[1], CQ_TIMED_OUT);
+    SAME(cq_poll(&thread), CQ_HELD);
+    OK(cq_wait_resume_thread(&env, &signal_of_all, 0, -1));
+    OK(cq_wait_back(&thread, &signal_of_all, -1));
+}
+
+int main(void) {
+    set_up();
+    suspended_thread_sleeps();
+    time_outs_are_not_early();
+    suspension_that_is_given_up();
+    event_wakes();
+    hand_over_wakes();
+    lists();
+    tear_down();
+    return 0;
+}

@@ -1,0 +1,43 @@
+-- The end of what lies behind a handle.
+use Rattle.std.proofs.Common.{◌≡◌, ℕ, ◌⊎◌, inl, inr, Option, Some, refl, sym, ap, subst, ◌∙◌, arith}
+use Rattle.ti_types.specs.TiError.{number_of}
+use Rattle.ti_types.specs.declared.error.TiError.{TiError}
+use Rattle.ti_types.specs.declared.error.TiError.TheVariants.{Busy, OutOfMemory}
+use Rattle.ti_service.specs.Agent.{AgentState}
+use Rattle.ti_capi.specs.declared.held.HeldEnv.{HeldEnv}
+use Rattle.ti_capi.specs.declared.held.HeldThread.{HeldThread}
+use Rattle.ti_capi.specs.Disposing.{DisposesBy, DisposesIn, NoEnvironment, DisposedIn, StaysIn, Disposed, StaysBehind}
+use Rattle.ti_capi.specs.Frames.{Detaches, Detached, GivesBack, StaysHeld}
+use Rattle.ti_capi.specs.Handles.{EnvHandle, ThreadHandle, agent_behind, agent_in, with_held, with_held_env}
+use Rattle.ti_capi.proofs.Behind.{same_env}
+
+-- a refusal has no code 0
+refused_not_0 : (e : TiError) → (e ≡ OutOfMemory) ⊎ (e ≡ Busy) → (code : ℕ) → code ≡ number_of e → code ≡ 0 → ⊥
+refused_not_0 e (inl is) code c z = let f = c ∙ ap number_of is in omega (arith, f, z)
+refused_not_0 e (inr is) code c z = let f = c ∙ ap number_of is in omega (arith, f, z)
+
+-- the environment was disposed of, and the handle is empty
+pub disposed : (old new : EnvHandle) (h n : HeldEnv) (code : ℕ) → old.place.env ≡ Some h → DisposesIn h.agent n.agent code → code ≡ 0 → new.kind ≡ 0 → DisposesBy (agent_in old) old new code
+disposed old new h n code is (NoEnvironment c on nn) z k = absurd (omega (arith, c, z))
+disposed old new h n code is (DisposedIn s m c there gone d) z k =
+    subst (λ (o : Option AgentState). DisposesBy o old new code) (sym (ap agent_behind is ∙ there)) (Disposed m c k d)
+disposed old new h n code is (StaysIn s a e c why there stays st ev) z k = absurd (refused_not_0 e why code c z)
+
+-- it was not
+pub remains : (old : EnvHandle) (h n : HeldEnv) (code : ℕ) → old.place.env ≡ Some h → DisposesIn h.agent n.agent code → (code ≡ 0 → ⊥) → DisposesBy (agent_in old) old (with_held_env old n) code
+remains old h n code is (NoEnvironment c on nn) nz =
+    let same : Some h ≡ Some n = λ i. Some (record { agent = (on ∙ sym nn) i }) in
+    subst (λ (o : Option AgentState). DisposesBy o old (with_held_env old n) code) (sym (ap agent_behind is ∙ on)) (same_env old n (is ∙ same), c)
+remains old h n code is (DisposedIn s m c there gone d) nz = absurd (nz c)
+remains old h n code is (StaysIn s a e c why there stays st ev) nz =
+    subst (λ (o : Option AgentState). DisposesBy o old (with_held_env old n) code) (sym (ap agent_behind is ∙ there)) (StaysBehind a e c why stays st ev)
+
+-- the thread was given back, and the handle is empty
+pub detached : (old new : ThreadHandle) (h n : HeldThread) (code : ℕ) → old.place.thread ≡ Some h → GivesBack h n code → code ≡ 0 → new.kind ≡ 0 → Detaches old.place.thread old new code
+detached old new h n code is back z k =
+    subst (λ (o : Option HeldThread). Detaches o old new code) (sym is) (Detached n z k (subst (λ (c : ℕ). GivesBack h n c) z back))
+
+-- it was not
+pub stays_held : (old : ThreadHandle) (h n : HeldThread) (code : ℕ) → old.place.thread ≡ Some h → GivesBack h n code → (code ≡ 0 → ⊥) → Detaches old.place.thread old (with_held old n) code
+stays_held old h n code is back nz =
+    subst (λ (o : Option HeldThread). Detaches o old (with_held old n) code) (sym is) (StaysHeld n nz refl back)

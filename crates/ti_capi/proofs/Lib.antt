@@ -1,0 +1,7 @@
+mod AsService
+mod AsThread
+mod AsEnv
+mod Over
+mod Behind
+mod Calling
+mod Ending

@@ -1,0 +1,20 @@
+use mir.Val.{of_z, to_z}
+use Rattle.std.proofs.Common.{w32, refl, ap, subst, ◌∙◌}
+use Rattle.std.proofs.lemmas.Int.{to_z-of_z}
+use Rattle.ti_roster.specs.declared.info.ThreadInfo.{ThreadInfo}
+use Rattle.ti_service.specs.Service.{Attaches, Member}
+use Rattle.ti_capi.specs.declared.held.HeldThread.{HeldThread}
+use Rattle.ti_capi.proofs.service_calls.attach_thread.Goals as goal
+
+pub returns-clause-attached : goal.returns-clause-attached
+returns-clause-attached c =
+    let given : ThreadInfo = record { name = c.in_ok-name.name; priority = to_z w32 (of_z w32 c.args.priority) } in record {
+      info = given;
+      fresh = c.in_ok-fresh.fresh;
+      name_is = c.in_ok-name.ensures.same;
+      priority_is = to_z-of_z w32 c.args.priority c.ranges.priority;
+      cell = c.in_ok-fresh.ensures.cell ∙ ap (λ (m : Member). m.cell) c.share.ensures.same;
+      attaches = subst (λ (m : Member). Attaches m.view c.try_attach_thread.new.self.view given c.in_ok-fresh.fresh) c.share.ensures.same c.in_ok-fresh.ensures.attached;
+      thread_is = refl;
+      service_is = ap (λ (h : HeldThread). h.service.cell) (c.deref_mut.ensures.value ∙ c.in-Ok.ensures.ok) ∙ c.in_ok-share.ensures.other.0;
+    }

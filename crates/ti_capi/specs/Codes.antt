@@ -1,0 +1,27 @@
+-- The codes, by number.
+use Rattle.std.specs.Prelude.{ℕ, Result, Ok, Err}
+use Rattle.ti_types.specs.declared.error.TiError.{TiError}
+use Rattle.ti_types.specs.TiError.{number_of}
+use Rattle.ti_thread.specs.declared.any_thread.Told.{Told}
+use Rattle.ti_thread.specs.declared.any_thread.Told.TheVariants.{Done, Stays, Refused}
+
+abbrev pub held : ℕ
+held = 301
+
+abbrev pub waiting : ℕ
+waiting = 302
+
+abbrev pub none_told : ℕ
+none_told = 303
+
+abbrev pub misused : ℕ
+misused = 304
+
+abbrev pub code_told : Told → ℕ
+code_told Done = 0
+code_told Stays = held
+code_told (Refused e) = number_of e
+
+abbrev pub code_done : {X : Type 0} → Result X TiError → ℕ
+code_done (Ok x) = 0
+code_done (Err e) = number_of e

@@ -1,0 +1,62 @@
+-- Frames that a runtime gives, and the end of a thread's handle.
+use Rattle.std.specs.Prelude.{ℕ, ◌≡◌, ◌⊎◌, true, false, List, map, Option, Some, None}
+use Rattle.ti_types.specs.TiError.{number_of}
+use Rattle.ti_types.specs.declared.error.TiError.{TiError}
+use Rattle.ti_types.specs.declared.error.TiError.TheVariants.{Busy, IllegalArgument, NotRunning, OutOfMemory}
+use Rattle.ti_service.specs.Service.{Ends, RefusesEnd}
+use Rattle.ti_thread.specs.AnyThread.{is_running, number_in, may_leave}
+use Rattle.ti_thread.specs.Changes.{SetsFrames}
+use Rattle.ti_thread.specs.declared.any_thread.AnyThread.{AnyThread}
+use Rattle.ti_thread.specs.declared.any_thread.Told.{Told}
+use Rattle.ti_capi.specs.declared.held.HeldThread.{HeldThread}
+use Rattle.ti_capi.specs.declared.values.CqFrame.{CqFrame}
+use Rattle.ti_capi.specs.Codes.{code_told, misused}
+use Rattle.ti_capi.specs.Handles.{ThreadHandle, with_held}
+use Rattle.ti_capi.specs.Values.{are_frames, frame_of}
+
+-- The thread of a box has other frames, or why it does not, and is as it was
+pub data SetsFor (frames : List CqFrame) (t n : AnyThread) (code : ℕ) : Type 0 where
+  NotRuns : code ≡ number_of NotRunning → is_running t ≡ false → n ≡ t → SetsFor frames t n code
+  NoFrames : code ≡ number_of IllegalArgument → is_running t ≡ true → are_frames frames ≡ false → n ≡ t → SetsFor frames t n code
+  NoRoom : code ≡ number_of OutOfMemory → is_running t ≡ true → n ≡ t → SetsFor frames t n code
+  FramesSet : (told : Told) → are_frames frames ≡ true → SetsFrames (map frame_of frames) t n told → code ≡ code_told told → SetsFor frames t n code
+
+abbrev pub SetsTo : Option AnyThread → Option AnyThread → List CqFrame → HeldThread → HeldThread → ℕ → Type 0
+SetsTo (Some t) (Some n) frames old new code = (new.service ≡ old.service) × SetsFor frames t n code
+SetsTo (Some t) None frames old new code = ⊥
+SetsTo None n frames old new code = (new ≡ old) × (code ≡ misused)
+
+abbrev pub SetsIn : List CqFrame → HeldThread → HeldThread → ℕ → Type 0
+SetsIn frames old new code = SetsTo old.thread new.thread frames old new code
+
+abbrev pub SetsBehind : Option HeldThread → Option HeldThread → List CqFrame → ThreadHandle → ThreadHandle → ℕ → Type 0
+SetsBehind (Some h) (Some n) frames old new code = (new ≡ with_held old n) × SetsIn frames h n code
+SetsBehind (Some h) None frames old new code = ⊥
+SetsBehind None n frames old new code = (new ≡ old) × (code ≡ misused)
+
+-- the thread behind a handle has other frames
+abbrev pub Sets : List CqFrame → ThreadHandle → ThreadHandle → ℕ → Type 0
+Sets frames old new code = SetsBehind old.place.thread new.place.thread frames old new code
+
+-- A thread is given back, if it has ended or never started (`ti_service`, `Service::try_end_thread`, `try_withdraw_thread`)
+pub data GivesBackFor (t : AnyThread) (old new : HeldThread) (code : ℕ) : Type 0 where
+  Gone : code ≡ 0 → may_leave t ≡ true → new.thread ≡ None → new.service.cell ≡ old.service.cell → Ends old.service.view new.service.view (number_in t) → GivesBackFor t old new code
+  NotGone : (e : TiError) → code ≡ number_of e → may_leave t ≡ true → new.thread ≡ Some t → new.service.cell ≡ old.service.cell
+      → RefusesEnd old.service.view new.service.view (number_in t) e ⊎ ((e ≡ Busy) × (new.service ≡ old.service)) → GivesBackFor t old new code
+  IsAlive : code ≡ misused → may_leave t ≡ false → new ≡ old → GivesBackFor t old new code
+
+abbrev pub GivesBackTo : Option AnyThread → HeldThread → HeldThread → ℕ → Type 0
+GivesBackTo (Some t) old new code = GivesBackFor t old new code
+GivesBackTo None old new code = (new ≡ old) × (code ≡ misused)
+
+abbrev pub GivesBack : HeldThread → HeldThread → ℕ → Type 0
+GivesBack old new code = GivesBackTo old.thread old new code
+
+-- the same behind a handle, which is empty then
+pub data DetachesFor (h : HeldThread) (new : ThreadHandle) (code : ℕ) : Type 0 where
+  Detached : (n : HeldThread) → code ≡ 0 → new.kind ≡ 0 → GivesBack h n 0 → DetachesFor h new code
+  StaysHeld : (n : HeldThread) → (code ≡ 0 → ⊥) → new.place.thread ≡ Some n → GivesBack h n code → DetachesFor h new code
+
+abbrev pub Detaches : Option HeldThread → ThreadHandle → ThreadHandle → ℕ → Type 0
+Detaches (Some h) old new code = DetachesFor h new code
+Detaches None old new code = (new ≡ old) × (code ≡ misused)

@@ -1,0 +1,17 @@
+-- What a handle of a handle of the service owns: the box of it, or nothing.
+use base.Fml.{Fml, ftrue}
+use base.Stored.{Coded}
+use denote.RawPtr.{Ptr}
+use Rattle.std.specs.Prelude.{Option, None, Some}
+use Rattle.std.specs.Coded.{coded_option}
+use Rattle.std.specs.Box.Ownership.{box_owns}
+use Rattle.std.specs.Global.{Global}
+use Rattle.std_heap.specs.contracts.GlobalAllocator.TheImpl.{ghosts}
+use Rattle.ti_service.specs.contracts.service.Service.{the_row}
+
+abbrev pub service_owns : Global → Ptr → Option the_row.Denot → Fml
+service_owns alloc p None = ftrue
+service_owns alloc p (Some x) = box_owns (ghosts.dealloc_token alloc) the_row p x
+
+abbrev pub service_coded : Coded (Option the_row.Denot)
+service_coded = coded_option the_row.coded

@@ -1,0 +1,17 @@
+pub mod HeldService
+pub mod HeldThread
+pub mod HeldEnv
+pub mod ServiceAt
+pub mod ThreadAt
+pub mod EnvAt
+pub mod Handles
+pub mod Codes
+pub mod Values
+pub mod Answers
+pub mod Asking
+pub mod Calls
+pub mod Disposing
+pub mod Threads
+pub mod Turns
+pub mod Frames
+pub mod Services

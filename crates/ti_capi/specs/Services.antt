@@ -1,0 +1,118 @@
+-- Handles of the service, and what is attached by them.
+use Rattle.std.specs.Prelude.{IsUtf8, ℕ, ℤ, ◌≡◌, ◌⊎◌, ◌==◌, true, false, List, Option, Some, None}
+use Rattle.std.specs.String.{string_bytes}
+use Rattle.ti_types.specs.Limits.{IsWithin, most_calls, most_depth, most_own, most_window}
+use Rattle.ti_types.specs.TiError.{number_of}
+use Rattle.ti_types.specs.declared.error.TiError.{TiError}
+use Rattle.ti_types.specs.declared.error.TiError.TheVariants.{Busy, IllegalArgument, OutOfMemory}
+use Rattle.ti_types.specs.declared.limits.Limits.{Limits}
+use Rattle.ti_cell.specs.Seats.{Sitting}
+use Rattle.ti_roster.specs.declared.info.ThreadInfo.{ThreadInfo}
+use Rattle.ti_roster.specs.View.{first_view, split_off}
+use Rattle.ti_service.specs.Agent.{AgentState, IsNewAgent}
+use Rattle.ti_service.specs.Service.{Attaches as AttachesTo, Looks, Member}
+use Rattle.ti_thread.specs.declared.any_thread.AnyThread.TheVariants.{Fresh}
+use Rattle.ti_capi.specs.declared.held.HeldEnv.{HeldEnv}
+use Rattle.ti_capi.specs.declared.held.HeldThread.{HeldThread}
+use Rattle.ti_capi.specs.Codes.{misused}
+use Rattle.ti_capi.specs.Handles.{EnvHandle, ServiceHandle, ThreadHandle, with_service}
+
+-- the numbers are within their ranges
+abbrev pub AreInRange : ℕ → ℕ → ℕ → Type 0
+AreInRange depth envs window = IsWithin most_depth depth × IsWithin 32 envs × IsWithin most_window window
+
+-- the limits of a service, whose threads may run as long as their process
+pub record AreLimitsOf (depth envs window : ℕ) (l : Limits) : Type 0 where
+  pub depth_is : l.depth ≡ depth
+  pub envs_is : l.envs ≡ envs
+  pub window_is : l.window ≡ window
+  pub own_is : l.own ≡ most_own
+  pub calls_is : l.calls ≡ most_calls
+  pub kept_is : l.kept ≡ false
+
+abbrev pub LimitsOf : ℕ → ℕ → ℕ → Option Limits → Type 0
+LimitsOf depth envs window (Some l) = AreInRange depth envs window × AreLimitsOf depth envs window l
+LimitsOf depth envs window None = AreInRange depth envs window → ⊥
+
+-- a service is made behind an empty handle, or why it is not, and the handle is as it was
+pub data Makes (depth envs window : ℕ) (old new : ServiceHandle) (code : ℕ) : Type 0 where
+  MakeFull : code ≡ misused → (old.kind == 0) ≡ false → new ≡ old → Makes depth envs window old new code
+  MakeOutOfRange : code ≡ number_of IllegalArgument → (old.kind == 0) ≡ true → (AreInRange depth envs window → ⊥) → new ≡ old → Makes depth envs window old new code
+  MakeNoMemory : code ≡ number_of OutOfMemory → (old.kind == 0) ≡ true → AreInRange depth envs window → new ≡ old → Makes depth envs window old new code
+  Made : (l : Limits) → (m : Member) → code ≡ 0 → (old.kind == 0) ≡ true → AreInRange depth envs window → AreLimitsOf depth envs window l
+      → new.place.service ≡ Some m → m.view ≡ first_view l → Makes depth envs window old new code
+
+-- one more handle of the same service
+abbrev pub IsShareOf : Member → Member → Type 0
+IsShareOf m s = (s.cell ≡ m.cell) × (s.view ≡ split_off m.view)
+
+pub data SharesFor (m : Member) (old new : ServiceHandle) (code : ℕ) : Type 0 where
+  ShareFull : code ≡ misused → (old.kind == 0) ≡ false → new ≡ old → SharesFor m old new code
+  ShareNoMemory : code ≡ number_of OutOfMemory → (old.kind == 0) ≡ true → new ≡ old → SharesFor m old new code
+  Shared : (s : Member) → code ≡ 0 → (old.kind == 0) ≡ true → new.place.service ≡ Some s → IsShareOf m s → SharesFor m old new code
+
+-- the first handle knows what it knew
+abbrev pub SharesBehind : Option Member → ServiceHandle → ServiceHandle → ServiceHandle → ServiceHandle → ℕ → Type 0
+SharesBehind (Some m) old new other0 other1 code = (new.place.service ≡ Some m) × SharesFor m other0 other1 code
+SharesBehind None old new other0 other1 code = (new ≡ old) × (other1 ≡ other0) × (code ≡ misused)
+
+abbrev pub Shares : ServiceHandle → ServiceHandle → ServiceHandle → ServiceHandle → ℕ → Type 0
+Shares old new other0 other1 code = SharesBehind old.place.service old new other0 other1 code
+
+-- a handle is freed: it is empty
+abbrev pub FreesBehind : Option Member → ServiceHandle → ServiceHandle → ℕ → Type 0
+FreesBehind (Some m) old new code = (new.kind ≡ 0) × (code ≡ 0)
+FreesBehind None old new code = (new ≡ old) × (code ≡ misused)
+
+abbrev pub Frees : ServiceHandle → ServiceHandle → ℕ → Type 0
+Frees old new code = FreesBehind old.place.service old new code
+
+-- why a name is refused: it is not UTF-8, or there is no memory for it
+abbrev pub NamesWrongly : List ℕ → TiError → Type 0
+NamesWrongly name e = ((e ≡ IllegalArgument) × (IsUtf8 name → ⊥)) ⊎ ((e ≡ OutOfMemory) × IsUtf8 name)
+
+-- A thread with this name and priority came to the service, and has not started. Its box has a handle of the same service
+pub record AttachesThread (name : List ℕ) (priority : ℤ) (m n : Member) (held : HeldThread) : Type 0 where
+  pub info : ThreadInfo
+  pub fresh : Sitting
+  pub name_is : string_bytes info.name ≡ name
+  pub priority_is : info.priority ≡ priority
+  pub cell : n.cell ≡ m.cell
+  pub attaches : AttachesTo m.view n.view info fresh
+  pub thread_is : held.thread ≡ Some (Fresh fresh)
+  pub service_is : held.service.cell ≡ m.cell
+
+-- why no thread came
+abbrev pub RefusesThread : List ℕ → Member → Member → TiError → Type 0
+RefusesThread name m n e =
+    ((e ≡ IllegalArgument) × (IsUtf8 name → ⊥) × (n ≡ m))
+    ⊎ (((e ≡ OutOfMemory) × (n ≡ m)) ⊎ ((n.cell ≡ m.cell) × (((e ≡ OutOfMemory) × Looks m.view n.view) ⊎ ((e ≡ Busy) × (n ≡ m)))))
+
+pub data AttachesFor (name : List ℕ) (priority : ℤ) (m n : Member) (old new : ThreadHandle) (code : ℕ) : Type 0 where
+  AttachFull : code ≡ misused → (old.kind == 0) ≡ false → new ≡ old → n ≡ m → AttachesFor name priority m n old new code
+  AttachRefused : (e : TiError) → code ≡ number_of e → (old.kind == 0) ≡ true → new ≡ old → RefusesThread name m n e → AttachesFor name priority m n old new code
+  Attached : (held : HeldThread) → code ≡ 0 → (old.kind == 0) ≡ true → new.place.thread ≡ Some held → AttachesThread name priority m n held → AttachesFor name priority m n old new code
+
+abbrev pub AttachesBehind : Option Member → Option Member → List ℕ → ℤ → ServiceHandle → ServiceHandle → ThreadHandle → ThreadHandle → ℕ → Type 0
+AttachesBehind (Some m) (Some n) name priority s0 s1 old new code = (s1 ≡ with_service s0 n) × AttachesFor name priority m n old new code
+AttachesBehind (Some m) None name priority s0 s1 old new code = ⊥
+AttachesBehind None n name priority s0 s1 old new code = (s1 ≡ s0) × (new ≡ old) × (code ≡ misused)
+
+abbrev pub Attaches : List ℕ → ℤ → ServiceHandle → ServiceHandle → ThreadHandle → ThreadHandle → ℕ → Type 0
+Attaches name priority s0 s1 old new code = AttachesBehind s0.place.service s1.place.service name priority s0 s1 old new code
+
+-- the box of an environment that was just attached
+abbrev pub HasNewAgent : Member → HeldEnv → Type 0
+HasNewAgent m held = (a : AgentState) × (held.agent ≡ Some a) × IsNewAgent m a
+
+pub data AttachesEnvFor (m : Member) (old new : EnvHandle) (code : ℕ) : Type 0 where
+  EnvFull : code ≡ misused → (old.kind == 0) ≡ false → new ≡ old → AttachesEnvFor m old new code
+  EnvRefused : (e : TiError) → code ≡ number_of e → (old.kind == 0) ≡ true → new ≡ old → (e ≡ OutOfMemory) ⊎ (e ≡ Busy) → AttachesEnvFor m old new code
+  EnvAttached : (held : HeldEnv) → code ≡ 0 → (old.kind == 0) ≡ true → new.place.env ≡ Some held → HasNewAgent m held → AttachesEnvFor m old new code
+
+abbrev pub AttachesEnvBehind : Option Member → ServiceHandle → ServiceHandle → EnvHandle → EnvHandle → ℕ → Type 0
+AttachesEnvBehind (Some m) s0 s1 old new code = (s1.place.service ≡ Some m) × AttachesEnvFor m old new code
+AttachesEnvBehind None s0 s1 old new code = (s1 ≡ s0) × (new ≡ old) × (code ≡ misused)
+
+abbrev pub AttachesEnv : ServiceHandle → ServiceHandle → EnvHandle → EnvHandle → ℕ → Type 0
+AttachesEnv s0 s1 old new code = AttachesEnvBehind s0.place.service s0 s1 old new code

@@ -1,0 +1,39 @@
+//! The codes that are no error of a thread's or of an environment's.
+
+use ti_thread::Told;
+use ti_types::TiError;
+
+/// All is done, or the answer is there.
+pub const CQ_OK: u32 = 0;
+/// The thread is held at its poll.
+pub const CQ_HELD: u32 = 301;
+/// The call waits for the thread.
+pub const CQ_WAITING: u32 = 302;
+/// There is no event.
+pub const CQ_NONE: u32 = 303;
+/// The handle is empty, of another kind, or full when an empty one is wanted.
+pub const CQ_MISUSED: u32 = 304;
+
+/// The code of what a thread's own call comes to.
+pub fn told_code(told: Told) -> u32
+    ensures { result ≡ code_told told }
+{
+    match told {
+        Told::Done => CQ_OK,
+        Told::Stays => CQ_HELD,
+        Told::Refused(error) => error.number(),
+    }
+}
+
+/// The code of what is done or refused.
+pub fn done_code(done: Result<(), TiError>) -> u32
+    ensures { result ≡ code_done done }
+{
+    match done {
+        Ok(()) => CQ_OK,
+        Err(error) => error.number(),
+    }
+}
+
+ghost use Rattle.std.specs.Prelude.{◌≡◌};
+ghost use Rattle.ti_capi.specs.Codes.{code_told, code_done};

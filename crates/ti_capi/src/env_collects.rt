@@ -1,0 +1,89 @@
+//! Answers that an environment collects, and calls that it gives up.
+
+use crate::codes::{CQ_MISUSED, CQ_OK, CQ_WAITING};
+use crate::env_handle::CqEnv;
+use crate::values::{CqAnswer, CqFrame, CqTicket, ticket_in};
+use crate::writes::write_answer;
+use std::alloc::Global;
+use ti_types::ThreadNo;
+
+/// The answer to a call that waited, if it is there.
+#[unsafe(no_mangle)]
+pub extern "C" fn cq_collect(
+    env: &mut CqEnv,
+    ticket: &CqTicket,
+    answer: &mut CqAnswer,
+    frames: &mut [CqFrame],
+) -> u32
+    ensures { Collects (ticket_read ticket.now) env.old env.new result answer.old answer.new frames.old frames.new }
+{
+    let Some(held) = env.held() else {
+        return CQ_MISUSED;
+    };
+    let Some(agent) = &mut held.agent else {
+        return CQ_MISUSED;
+    };
+    match agent.try_collect_once(ticket_in(*ticket)) {
+        Ok(Some(told)) => write_answer(told, answer, frames),
+        Ok(None) => CQ_WAITING,
+        Err(error) => error.number(),
+    }
+}
+
+/// Gives a call up.
+#[unsafe(no_mangle)]
+pub extern "C" fn cq_cancel(alloc: Global, env: &mut CqEnv, ticket: &CqTicket) -> u32
+    ensures { Calls (CancelsBy (ticket_read ticket.now)) ⊤ env.old env.new result }
+{
+    let Some(held) = env.held() else {
+        return CQ_MISUSED;
+    };
+    let Some(agent) = &mut held.agent else {
+        return CQ_MISUSED;
+    };
+    match agent.try_cancel(alloc, ticket_in(*ticket)) {
+        Ok(()) => CQ_OK,
+        Err(error) => error.number(),
+    }
+}
+
+/// Throws the answer away to the call that was given up first at a thread.
+#[unsafe(no_mangle)]
+pub extern "C" fn cq_discard(env: &mut CqEnv, thread: u32, thrown: &mut bool) -> u32
+    ensures { Calls (DiscardsBy (thread_no thread) thrown.old thrown.new) (thrown.new ≡ thrown.old) env.old env.new result }
+{
+    let Some(held) = env.held() else {
+        return CQ_MISUSED;
+    };
+    let Some(agent) = &mut held.agent else {
+        return CQ_MISUSED;
+    };
+    match agent.try_discard(ThreadNo(thread)) {
+        Ok(is_thrown) => {
+            *thrown = is_thrown;
+            CQ_OK
+        }
+        Err(error) => error.number(),
+    }
+}
+
+/// How many calls of the environment are out at a thread.
+#[unsafe(no_mangle)]
+pub extern "C" fn cq_out_at(env: &mut CqEnv, thread: u32, count: &mut u32) -> u32
+    ensures { Calls (λ s n code. (n ≡ s) × (code ≡ 0) × (count.new ≡ outstanding s.env (thread_no thread))) (count.new ≡ count.old) env.old env.new result }
+{
+    let Some(held) = env.held() else {
+        return CQ_MISUSED;
+    };
+    let Some(agent) = &mut held.agent else {
+        return CQ_MISUSED;
+    };
+    *count = agent.out_at(ThreadNo(thread));
+    CQ_OK
+}
+
+ghost use Rattle.std.specs.Prelude.{◌≡◌, ⊤};
+ghost use Rattle.ti_agent.specs.Env.{outstanding};
+ghost use Rattle.ti_capi.specs.Asking.{Collects, thread_no};
+ghost use Rattle.ti_capi.specs.Calls.{Calls, CancelsBy, DiscardsBy};
+ghost use Rattle.ti_capi.specs.Values.{ticket_read};

@@ -1,0 +1,78 @@
+//! Events that an environment is told, and its end.
+
+use crate::codes::{CQ_MISUSED, CQ_NONE, CQ_OK, done_code};
+use crate::env_handle::CqEnv;
+use crate::held::HeldEnv;
+use crate::values::{CqEvent, event_out};
+use std::alloc::Global;
+
+/// SetEventNotificationMode (JVM TI 11), of ThreadStart and ThreadEnd.
+#[unsafe(no_mangle)]
+pub extern "C" fn cq_set_event_notification_mode(env: &mut CqEnv, enabled: bool) -> u32
+    ensures { Calls (EnablesBy enabled) ⊤ env.old env.new result }
+{
+    let Some(held) = env.held() else {
+        return CQ_MISUSED;
+    };
+    let Some(agent) = &mut held.agent else {
+        return CQ_MISUSED;
+    };
+    done_code(agent.try_set_event_notification_mode(enabled))
+}
+
+/// The next event.
+#[unsafe(no_mangle)]
+pub extern "C" fn cq_next_event(env: &mut CqEnv, event: &mut CqEvent) -> u32
+    ensures { Calls (TellsEventBy event.old event.new) (event.new ≡ event.old) env.old env.new result }
+{
+    let Some(held) = env.held() else {
+        return CQ_MISUSED;
+    };
+    let Some(agent) = &mut held.agent else {
+        return CQ_MISUSED;
+    };
+    match agent.try_next_event() {
+        Ok(Some(next)) => {
+            *event = event_out(next);
+            CQ_OK
+        }
+        Ok(None) => CQ_NONE,
+        Err(error) => error.number(),
+    }
+}
+
+/// DisposeEnvironment (JVM TI 11).
+#[unsafe(no_mangle)]
+pub extern "C" fn cq_dispose_environment(alloc: Global, env: &mut CqEnv) -> u32
+    ensures { DisposesBy (agent_in env.old) env.old env.new result }
+{
+    let Some(held) = env.held() else {
+        return CQ_MISUSED;
+    };
+    let code = dispose(alloc, held);
+    if code == CQ_OK {
+        env.clear(alloc);
+    }
+    code
+}
+
+/// Disposes of the environment in a box. It stays there if it is not disposed of.
+fn dispose(alloc: Global, held: &mut HeldEnv) -> u32
+    ensures { DisposesIn held.old.agent held.new.agent result }
+{
+    let Some(agent) = held.agent.take() else {
+        return CQ_MISUSED;
+    };
+    match agent.try_dispose(alloc) {
+        Ok(_service) => CQ_OK,
+        Err((error, agent)) => {
+            held.agent = Some(agent);
+            error.number()
+        }
+    }
+}
+
+ghost use Rattle.std.specs.Prelude.{◌≡◌, ⊤};
+ghost use Rattle.ti_capi.specs.Calls.{Calls, EnablesBy, TellsEventBy};
+ghost use Rattle.ti_capi.specs.Disposing.{DisposesBy, DisposesIn};
+ghost use Rattle.ti_capi.specs.Handles.{agent_in};

@@ -1,0 +1,118 @@
+//! An environment and the list of threads.
+
+use crate::codes::{CQ_MISUSED, CQ_OK};
+use crate::env_handle::CqEnv;
+use crate::values::CqThreadInfo;
+use crate::writes::{write_bytes, write_numbers};
+use std::alloc::Global;
+use ti_types::ThreadNo;
+
+/// Meets the threads that were attached since the environment last did.
+#[unsafe(no_mangle)]
+pub extern "C" fn cq_meet(alloc: Global, env: &mut CqEnv) -> u32
+    ensures { Calls MeetsBy ⊤ env.old env.new result }
+{
+    let Some(held) = env.held() else {
+        return CQ_MISUSED;
+    };
+    let Some(agent) = &mut held.agent else {
+        return CQ_MISUSED;
+    };
+    match agent.try_meet(alloc) {
+        Ok(()) => CQ_OK,
+        Err(error) => error.number(),
+    }
+}
+
+/// Whether threads or environments have come or gone since the environment last looked.
+#[unsafe(no_mangle)]
+pub extern "C" fn cq_has_news(env: &mut CqEnv) -> bool
+    ensures { HasNews env.old env.new result }
+{
+    let Some(held) = env.held() else {
+        return false;
+    };
+    let Some(agent) = &mut held.agent else {
+        return false;
+    };
+    agent.has_news()
+}
+
+/// Lets go of a thread that was given back.
+#[unsafe(no_mangle)]
+pub extern "C" fn cq_let_go(env: &mut CqEnv, thread: u32, gone: &mut bool) -> u32
+    ensures { Calls (LetsGoBy (thread_no thread) gone.old gone.new) (gone.new ≡ gone.old) env.old env.new result }
+{
+    let Some(held) = env.held() else {
+        return CQ_MISUSED;
+    };
+    let Some(agent) = &mut held.agent else {
+        return CQ_MISUSED;
+    };
+    match agent.try_let_go(ThreadNo(thread)) {
+        Ok(is_gone) => {
+            *gone = is_gone;
+            CQ_OK
+        }
+        Err(error) => error.number(),
+    }
+}
+
+/// GetAllThreads (JVM TI 11).
+#[unsafe(no_mangle)]
+pub extern "C" fn cq_get_all_threads(
+    alloc: Global,
+    env: &mut CqEnv,
+    threads: &mut [u32],
+    count: &mut u64,
+) -> u32
+    ensures { Calls (ListsBy threads.old threads.new count.old count.new) ((threads.new ≡ threads.old) × (count.new ≡ count.old)) env.old env.new result }
+{
+    let Some(held) = env.held() else {
+        return CQ_MISUSED;
+    };
+    let Some(agent) = &mut held.agent else {
+        return CQ_MISUSED;
+    };
+    match agent.try_get_all_threads(alloc) {
+        Ok(all) => {
+            *count = all.len() as u64;
+            write_numbers(&all, threads);
+            CQ_OK
+        }
+        Err(error) => error.number(),
+    }
+}
+
+/// GetThreadInfo (JVM TI 11).
+#[unsafe(no_mangle)]
+pub extern "C" fn cq_get_thread_info(
+    alloc: Global,
+    env: &mut CqEnv,
+    thread: u32,
+    info: &mut CqThreadInfo,
+    name: &mut [u8],
+) -> u32
+    ensures { Calls (TellsInfoBy (thread_no thread) info.old info.new name.old name.new) ((info.new ≡ info.old) × (name.new ≡ name.old)) env.old env.new result }
+{
+    let Some(held) = env.held() else {
+        return CQ_MISUSED;
+    };
+    let Some(agent) = &mut held.agent else {
+        return CQ_MISUSED;
+    };
+    match agent.try_get_thread_info(alloc, ThreadNo(thread)) {
+        Ok(told) => {
+            let bytes = told.name.as_bytes();
+            info.name_length = bytes.len() as u64;
+            info.priority = told.priority;
+            write_bytes(bytes, name);
+            CQ_OK
+        }
+        Err(error) => error.number(),
+    }
+}
+
+ghost use Rattle.std.specs.Prelude.{◌≡◌, ⊤};
+ghost use Rattle.ti_capi.specs.Asking.{thread_no};
+ghost use Rattle.ti_capi.specs.Calls.{Calls, HasNews, LetsGoBy, ListsBy, MeetsBy, TellsInfoBy};

@@ -1,0 +1,115 @@
+//! What an environment keeps for itself: its capabilities and its own word. No thread is asked.
+
+use crate::codes::{CQ_MISUSED, CQ_OK, done_code};
+use crate::env_handle::CqEnv;
+use ti_types::{Caps, TiError};
+
+/// AddCapabilities (JVM TI 11): all or none.
+#[unsafe(no_mangle)]
+pub extern "C" fn cq_add_capabilities(env: &mut CqEnv, capabilities: u32) -> u32
+    ensures { Calls (AddsBy capabilities) ⊤ env.old env.new result }
+{
+    let Some(held) = env.held() else {
+        return CQ_MISUSED;
+    };
+    let Some(agent) = &mut held.agent else {
+        return CQ_MISUSED;
+    };
+    if capabilities > 3 {
+        return TiError::NotAvailable.number();
+    }
+    done_code(agent.add_capabilities(Caps {
+        bits: capabilities as u8,
+    }))
+}
+
+/// RelinquishCapabilities (JVM TI 11).
+#[unsafe(no_mangle)]
+pub extern "C" fn cq_relinquish_capabilities(env: &mut CqEnv, capabilities: u32) -> u32
+    ensures { Calls (RelinquishesBy capabilities) ⊤ env.old env.new result }
+{
+    let Some(held) = env.held() else {
+        return CQ_MISUSED;
+    };
+    let Some(agent) = &mut held.agent else {
+        return CQ_MISUSED;
+    };
+    done_code(agent.relinquish_capabilities(Caps {
+        bits: (capabilities & 255) as u8,
+    }))
+}
+
+/// GetCapabilities (JVM TI 11).
+#[unsafe(no_mangle)]
+pub extern "C" fn cq_get_capabilities(env: &mut CqEnv, capabilities: &mut u32) -> u32
+    ensures { Calls (λ s n code. (n ≡ s) × (code ≡ 0) × (capabilities.new ≡ s.env.state.caps.bits)) (capabilities.new ≡ capabilities.old) env.old env.new result }
+{
+    let Some(held) = env.held() else {
+        return CQ_MISUSED;
+    };
+    let Some(agent) = &mut held.agent else {
+        return CQ_MISUSED;
+    };
+    match agent.get_capabilities() {
+        Ok(caps) => {
+            *capabilities = u32::from(caps.bits);
+            CQ_OK
+        }
+        Err(_) => unreachable!(),
+    }
+}
+
+/// GetPotentialCapabilities (JVM TI 11).
+#[unsafe(no_mangle)]
+pub extern "C" fn cq_get_potential_capabilities(env: &mut CqEnv, capabilities: &mut u32) -> u32
+    ensures { Calls (λ s n code. (n ≡ s) × (code ≡ 0) × (capabilities.new ≡ potential_caps.bits)) (capabilities.new ≡ capabilities.old) env.old env.new result }
+{
+    let Some(held) = env.held() else {
+        return CQ_MISUSED;
+    };
+    let Some(_) = &mut held.agent else {
+        return CQ_MISUSED;
+    };
+    *capabilities = u32::from(Caps::CAN_SUSPEND.add(Caps::CAN_POP_FRAME).bits);
+    CQ_OK
+}
+
+/// GetEnvironmentLocalStorage (JVM TI 11).
+#[unsafe(no_mangle)]
+pub extern "C" fn cq_get_environment_local_storage(env: &mut CqEnv, word: &mut u64) -> u32
+    ensures { Calls (λ s n code. (n ≡ s) × (code ≡ 0) × (word.new ≡ s.env.state.word)) (word.new ≡ word.old) env.old env.new result }
+{
+    let Some(held) = env.held() else {
+        return CQ_MISUSED;
+    };
+    let Some(agent) = &mut held.agent else {
+        return CQ_MISUSED;
+    };
+    match agent.get_environment_local_storage() {
+        Ok(own) => {
+            *word = own;
+            CQ_OK
+        }
+        Err(_) => unreachable!(),
+    }
+}
+
+/// SetEnvironmentLocalStorage (JVM TI 11).
+#[unsafe(no_mangle)]
+pub extern "C" fn cq_set_environment_local_storage(env: &mut CqEnv, word: u64) -> u32
+    ensures { Calls (λ s n code. IsRest s n × (n.env ≡ env_with s.env (with_word s.env.state word)) × (code ≡ 0)) ⊤ env.old env.new result }
+{
+    let Some(held) = env.held() else {
+        return CQ_MISUSED;
+    };
+    let Some(agent) = &mut held.agent else {
+        return CQ_MISUSED;
+    };
+    done_code(agent.set_environment_local_storage(word))
+}
+
+ghost use Rattle.std.specs.Prelude.{◌≡◌, ⊤};
+ghost use Rattle.ti_agent.specs.Env.{potential_caps};
+ghost use Rattle.ti_env.specs.Env.{with_word};
+ghost use Rattle.ti_service.specs.Agent.{IsRest};
+ghost use Rattle.ti_capi.specs.Calls.{AddsBy, Calls, RelinquishesBy, env_with};

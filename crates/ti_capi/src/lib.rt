@@ -1,0 +1,43 @@
+//! The service for C, C++ and every language that calls C: the functions of `c/cebdyraq.h`.
+//!
+//! A handle is a struct of the caller's own, which starts as zeros and is then written by this library alone. No function
+//! waits. One that finds a thread's cell or the list of threads in use answers 215, and nothing has changed.
+//!
+//! It promises, of each function and under the duties that the header names:
+//!
+//! - Its code, the numbers and the frames that it writes are those of the call behind it, whose clauses hold.
+//! - If a handle is empty or of another kind, the code is 304. Then nothing changes, and nothing is written.
+#![tactic(auto)]
+
+mod codes;
+mod env_at;
+mod env_collects;
+mod env_events;
+mod env_handle;
+mod env_lends;
+mod env_list;
+mod env_own;
+mod env_posts;
+mod handle_lends;
+mod held;
+mod service_at;
+mod service_calls;
+mod service_handle;
+mod service_lends;
+mod thread_at;
+mod thread_frames;
+mod thread_handle;
+mod thread_lends;
+mod thread_steps;
+mod thread_turns;
+mod values;
+mod writes;
+
+pub use env_at::EnvAt;
+pub use env_handle::CqEnv;
+pub use held::{HeldEnv, HeldThread};
+pub use service_at::ServiceAt;
+pub use service_handle::CqService;
+pub use thread_at::ThreadAt;
+pub use thread_handle::CqThread;
+pub use values::{CqAnswer, CqEvent, CqFrame, CqThreadInfo, CqTicket};

@@ -1,0 +1,105 @@
+//! Frames that the runtime gives, and the end of a thread's handle.
+
+use crate::codes::{CQ_MISUSED, CQ_OK, told_code};
+use crate::held::HeldThread;
+use crate::thread_handle::CqThread;
+use crate::values::{CqFrame, frame_in};
+use std::alloc::Global;
+use ti_thread::AnyThread;
+use ti_types::{Frame, TiError};
+
+/// Reads all frames into a list, which is cleared first. It gives whether each is one.
+fn read_frames(frames: &[CqFrame], into: &mut Vec<Frame>) -> Result<bool, TiError>
+    ensures all { IfOk result (λ all. all ≡ are_frames frames.now) }
+    ensures read { IfOk result (λ all. all ≡ true → into.new.items ≡ map frame_of frames.now) }
+    ensures memory { IfErr result (λ e. e ≡ OutOfMemory) }
+{
+    into.clear();
+    into.reserve(frames.len())?;
+    for i in 0..frames.len() {
+        match frame_in(frames[i]) {
+            Some(frame) => into.push_reserved(frame),
+            None => return Ok(false),
+        }
+    }
+    Ok(true)
+}
+
+/// Replaces all frames of the thread of a box.
+fn set_frames(held: &mut HeldThread, frames: &[CqFrame]) -> u32
+    ensures { SetsIn frames.now held.old held.new result }
+{
+    let Some(thread) = &mut held.thread else {
+        return CQ_MISUSED;
+    };
+    if !thread.is_running() {
+        return TiError::NotRunning.number();
+    }
+    match read_frames(frames, &mut held.frames) {
+        Ok(true) => told_code(thread.set_frames(&held.frames)),
+        Ok(false) => TiError::IllegalArgument.number(),
+        Err(error) => error.number(),
+    }
+}
+
+/// Replaces all frames of the thread, which are listed newest first.
+#[unsafe(no_mangle)]
+pub extern "C" fn cq_set_frames(thread: &mut CqThread, frames: &[CqFrame]) -> u32
+    ensures { Sets frames.now thread.old thread.new result }
+{
+    match thread.held() {
+        Some(held) => set_frames(held, frames),
+        None => CQ_MISUSED,
+    }
+}
+
+/// Gives the thread of a box back, if it has ended or never started. It stays if it is not given back.
+fn give_back(held: &mut HeldThread) -> u32
+    ensures { GivesBack held.old held.new result }
+{
+    match held.thread.take() {
+        Some(AnyThread::Ended(ended)) => match held.service.try_end_thread(ended) {
+            Ok(()) => CQ_OK,
+            Err((error, ended)) => {
+                held.thread = Some(AnyThread::Ended(ended));
+                error.number()
+            }
+        },
+        Some(AnyThread::Fresh(fresh)) => match held.service.try_withdraw_thread(fresh) {
+            Ok(()) => CQ_OK,
+            Err((error, fresh)) => {
+                held.thread = Some(AnyThread::Fresh(fresh));
+                error.number()
+            }
+        },
+        Some(AnyThread::Running(running)) => {
+            held.thread = Some(AnyThread::Running(running));
+            CQ_MISUSED
+        }
+        Some(AnyThread::Safe(safe)) => {
+            held.thread = Some(AnyThread::Safe(safe));
+            CQ_MISUSED
+        }
+        None => CQ_MISUSED,
+    }
+}
+
+/// Gives a thread back that has ended or never started.
+#[unsafe(no_mangle)]
+pub extern "C" fn cq_detach_thread(alloc: Global, thread: &mut CqThread) -> u32
+    ensures { Detaches thread.old.place.thread thread.old thread.new result }
+{
+    let Some(held) = thread.held() else {
+        return CQ_MISUSED;
+    };
+    let code = give_back(held);
+    if code == CQ_OK {
+        thread.clear(alloc);
+    }
+    code
+}
+
+ghost use Rattle.std.specs.Prelude.{◌≡◌, true, map, IfOk, IfErr};
+ghost use Rattle.ti_types.specs.declared.error.TiError.TheVariants.{OutOfMemory};
+ghost use Rattle.ti_capi.specs.Frames.{Detaches, GivesBack, Sets, SetsIn};
+ghost use Rattle.ti_capi.specs.Values.{are_frames, frame_of};

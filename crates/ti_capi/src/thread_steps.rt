@@ -1,0 +1,83 @@
+//! Steps of a thread, and its looks.
+
+use crate::codes::{CQ_MISUSED, CQ_OK, told_code};
+use crate::thread_handle::CqThread;
+use ti_types::{MethodNo, Step};
+
+/// The number of the thread.
+#[unsafe(no_mangle)]
+pub extern "C" fn cq_thread_number(thread: &mut CqThread, number: &mut u32) -> u32
+    ensures { NumberBehind thread.old.place.thread thread.old thread.new number.old number.new result }
+{
+    let Some(held) = thread.held() else {
+        return CQ_MISUSED;
+    };
+    let Some(thread) = &mut held.thread else {
+        return CQ_MISUSED;
+    };
+    *number = thread.thread().0;
+    CQ_OK
+}
+
+/// Makes a step.
+fn step(thread: &mut CqThread, step: Step) -> u32
+    ensures { Changes (Steps step) thread.old thread.new result }
+{
+    let Some(held) = thread.held() else {
+        return CQ_MISUSED;
+    };
+    let Some(thread) = &mut held.thread else {
+        return CQ_MISUSED;
+    };
+    told_code(thread.step(step))
+}
+
+/// Enters a method.
+#[unsafe(no_mangle)]
+pub extern "C" fn cq_enter(thread: &mut CqThread, method: u32) -> u32
+    ensures { Changes (Steps (step.Enter (method_no method))) thread.old thread.new result }
+{
+    step(thread, Step::Enter(MethodNo(method)))
+}
+
+/// Enters a native method.
+#[unsafe(no_mangle)]
+pub extern "C" fn cq_enter_native(thread: &mut CqThread, method: u32) -> u32
+    ensures { Changes (Steps (step.EnterNative (method_no method))) thread.old thread.new result }
+{
+    step(thread, Step::EnterNative(MethodNo(method)))
+}
+
+/// Moves the newest frame on.
+#[unsafe(no_mangle)]
+pub extern "C" fn cq_at(thread: &mut CqThread, location: u32) -> u32
+    ensures { Changes (Steps (step.At location)) thread.old thread.new result }
+{
+    step(thread, Step::At(location))
+}
+
+/// Leaves the newest frame.
+#[unsafe(no_mangle)]
+pub extern "C" fn cq_leave(thread: &mut CqThread) -> u32
+    ensures { Changes (Steps step.Leave) thread.old thread.new result }
+{
+    step(thread, Step::Leave)
+}
+
+/// Whether nobody calls for the thread (JEP 312).
+#[unsafe(no_mangle)]
+pub extern "C" fn cq_poll_clear(thread: &mut CqThread) -> bool
+    ensures { LooksBehind thread.old.place.thread thread.new.place.thread thread.old thread.new result }
+{
+    let Some(held) = thread.held() else {
+        return true;
+    };
+    let Some(thread) = &mut held.thread else {
+        return true;
+    };
+    thread.poll_clear()
+}
+
+ghost use Rattle.ti_types.specs.declared.step.Step.TheVariants as step;
+ghost use Rattle.ti_thread.specs.Changes.{Steps};
+ghost use Rattle.ti_capi.specs.Threads.{Changes, LooksBehind, NumberBehind, method_no};

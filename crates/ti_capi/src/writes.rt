@@ -1,0 +1,69 @@
+//! What is written to memory of the caller's: as much as there is room for.
+
+use crate::codes::CQ_OK;
+use crate::values::{CqAnswer, CqFrame, frame_out};
+use ti_types::{Answer, Frame, ThreadNo};
+
+/// How many of these items there is room for.
+fn smaller(items: usize, room: usize) -> usize
+    ensures { result ≡ min items room }
+{
+    if items < room { items } else { room }
+}
+
+/// Writes as many of the frames as there is room for.
+fn write_frames(frames: &[Frame], room: &mut [CqFrame])
+    ensures { room.new ≡ over (map frame_written frames.now) room.old }
+{
+    for i in 0..smaller(frames.len(), room.len()) {
+        room[i] = frame_out(frames[i]);
+    }
+}
+
+/// Writes as many of the numbers as there is room for.
+pub(crate) fn write_numbers(threads: &[ThreadNo], room: &mut [u32])
+    ensures { room.new ≡ over (map (λ t. t.0) threads.now) room.old }
+{
+    for i in 0..smaller(threads.len(), room.len()) {
+        room[i] = threads[i].0;
+    }
+}
+
+/// Writes as many of the bytes as there is room for.
+pub(crate) fn write_bytes(bytes: &[u8], room: &mut [u8])
+    ensures { room.new ≡ over bytes.now room.old }
+{
+    for i in 0..smaller(bytes.len(), room.len()) {
+        room[i] = bytes[i];
+    }
+}
+
+/// Writes an answer, and gives its code.
+pub(crate) fn write_answer(answer: Answer, out: &mut CqAnswer, room: &mut [CqFrame]) -> u32
+    ensures { IsWritten answer result out.old out.new room.old room.new }
+{
+    match answer {
+        Answer::Done => (),
+        Answer::State(bits) => out.number = u64::from(bits),
+        Answer::Count(count) => out.number = u64::from(count),
+        Answer::Trace(trace) => {
+            let frames = trace.frames();
+            out.number = frames.len() as u64;
+            write_frames(frames, room);
+        }
+        Answer::Location(frame) => out.frame = frame_out(frame),
+        Answer::Word(word) => out.number = word,
+        Answer::Caps(caps) => out.number = u64::from(caps.bits),
+        Answer::Stack { frames, .. } => {
+            let frames = frames.frames();
+            out.number = frames.len() as u64;
+            write_frames(frames, room);
+        }
+        Answer::Refused(error) => return error.number(),
+    }
+    CQ_OK
+}
+
+ghost use Rattle.std.specs.Prelude.{◌≡◌, map, min};
+ghost use Rattle.ti_capi.specs.Values.{frame_written, over};
+ghost use Rattle.ti_capi.specs.Answers.{IsWritten};

@@ -1,0 +1,45 @@
+//! Who wakes others after calls that never wait.
+//!
+//! A call that never waits makes no call of the system, so it wakes nobody. A program in which others sleep at the same thread
+//! calls one of these after it. No contract says who wakes up, or when.
+
+use crate::desk::Desk;
+use crate::fresh::Fresh;
+use crate::running::Running;
+use crate::safe::{AtSafe, Ended};
+
+impl Fresh {
+    /// Wakes whoever sleeps at this thread and may go on. It is one load if nobody sleeps.
+    pub fn wake_sleepers(&self) {
+        self.cell.wake_sleepers();
+    }
+}
+
+impl Running {
+    /// Wakes whoever sleeps at this thread and may go on. It is one load if nobody sleeps.
+    pub fn wake_sleepers(&self) {
+        self.cell.wake_sleepers();
+    }
+}
+
+impl AtSafe {
+    /// Wakes whoever sleeps at this thread and may go on. It is one load if nobody sleeps.
+    pub fn wake_sleepers(&self) {
+        self.cell.wake_sleepers();
+    }
+}
+
+impl Ended {
+    /// Wakes whoever sleeps at this thread and may go on. It is one load if nobody sleeps.
+    pub fn wake_sleepers(&self) {
+        self.cell.wake_sleepers();
+    }
+}
+
+impl Desk {
+    /// Wakes whoever sleeps at this thread and may go on: the thread itself, or another environment. It is one load if nobody
+    /// sleeps.
+    pub fn wake_sleepers(&self) {
+        self.cell.wake_sleepers();
+    }
+}

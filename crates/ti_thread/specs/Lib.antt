@@ -1,0 +1,3 @@
+pub mod AnyThread
+pub mod Turns
+pub mod Changes

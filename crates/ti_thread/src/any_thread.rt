@@ -1,0 +1,69 @@
+//! A thread in any state, and what its calls say.
+
+use ti_handshake::{AtSafe, Ended, Fresh, Running};
+use ti_types::{ThreadNo, TiError};
+
+/// What a call of the thread's own comes to.
+#[derive(Clone, Copy, Debug, PartialEq, Eq)]
+pub enum Told {
+    /// It has happened, and the thread is in the state that the call leads to.
+    Done,
+    /// The thread handed over at its poll, and is barred: it stays there until it returns by `back`.
+    Stays,
+    /// It is refused.
+    Refused(TiError),
+}
+
+/// A thread, by its state.
+///
+/// # Examples
+///
+/// ```rattle
+/// # use ti_handshake::{Fresh, SharedCell};
+/// # use ti_thread::{AnyThread, Told};
+/// # use ti_types::{Limits, ThreadNo, TiError};
+/// # let limits = Limits::new(1, 1, 4, 16, 8).ok_or("the limits are in range")?;
+/// # let (cell, own, _seats) = SharedCell::make(rt.alloc(), limits, ThreadNo(0))?;
+/// let (thread, told) = AnyThread::Fresh(Fresh::new(cell, own)).start();
+/// assert!(rt; told == Told::Done);
+/// // A thread that runs cannot return: it is not safe.
+/// let (thread, told) = thread.back();
+/// assert!(rt; told == Told::Refused(TiError::NotSafe));
+/// let (_thread, told) = thread.end();
+/// assert!(rt; told == Told::Done);
+/// ```
+#[derive(Drop)]
+pub enum AnyThread {
+    /// It has not started.
+    Fresh(Fresh),
+    /// It runs, and owns its frames.
+    Running(Running),
+    /// It is in native code, blocked, or held at a poll.
+    Safe(AtSafe),
+    /// It has ended.
+    Ended(Ended),
+}
+
+impl AnyThread {
+    /// The number of the thread (this profile).
+    pub fn thread(&self) -> ThreadNo
+        ensures { result ≡ number_in self.now }
+    {
+        match self {
+            AnyThread::Fresh(fresh) => fresh.thread(),
+            AnyThread::Running(running) => running.thread(),
+            AnyThread::Safe(safe) => safe.thread(),
+            AnyThread::Ended(ended) => ended.thread(),
+        }
+    }
+
+    /// Whether the thread runs.
+    pub fn is_running(&self) -> bool
+        ensures { result ≡ is_running_in self.now }
+    {
+        matches!(self, AnyThread::Running(_))
+    }
+}
+
+ghost use Rattle.std.specs.Prelude.{◌≡◌};
+ghost use Rattle.ti_thread.specs.AnyThread.{number_in, is_running as is_running_in};

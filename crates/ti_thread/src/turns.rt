@@ -1,0 +1,161 @@
+//! Calls that lead to another state. Each tries to hold the thread's cell just once.
+
+use crate::any_thread::{AnyThread, Told};
+use ti_handshake::Polled;
+use ti_types::{Kind, TiError};
+
+impl AnyThread {
+    /// Starts the thread: it runs, and is alive (JVM TI 11, GetThreadState).
+    ///
+    /// Refused with the first of these that fits (this profile). Then the thread has not started by this call.
+    ///
+    /// - `NotNew` (210): it has started before.
+    /// - `Busy` (215): its cell is in use.
+    /// - `Barred` (206): a stop is in force.
+    pub fn start(self) -> (AnyThread, Told)
+        ensures { Starts self result.0 result.1 }
+    {
+        match self {
+            AnyThread::Fresh(fresh) => match fresh.try_start_once() {
+                Ok(running) => (AnyThread::Running(running), Told::Done),
+                Err((error, fresh)) => (AnyThread::Fresh(fresh), Told::Refused(error)),
+            },
+            AnyThread::Running(running) => not_new(AnyThread::Running(running)),
+            AnyThread::Safe(safe) => not_new(AnyThread::Safe(safe)),
+            AnyThread::Ended(ended) => not_new(AnyThread::Ended(ended)),
+        }
+    }
+
+    /// Polls (JEP 312). If nobody calls for the thread, nothing happens. Otherwise it hands over, and the waiting calls take
+    /// place. `Told::Stays` if it is barred after that.
+    ///
+    /// Refused with the first of these that fits (this profile). Then nothing changes.
+    ///
+    /// - `NotRunning` (204): the thread does not run.
+    /// - `Busy` (215): its cell is in use.
+    pub fn poll(self) -> (AnyThread, Told)
+        ensures { Polls self result.0 result.1 }
+    {
+        match self {
+            AnyThread::Running(running) => match running.try_poll() {
+                Ok(Polled::Go(running)) => (AnyThread::Running(running), Told::Done),
+                Ok(Polled::Stays(safe)) => (AnyThread::Safe(safe), Told::Stays),
+                Err(running) => (AnyThread::Running(running), Told::Refused(TiError::Busy)),
+            },
+            AnyThread::Fresh(fresh) => not_running(AnyThread::Fresh(fresh)),
+            AnyThread::Safe(safe) => not_running(AnyThread::Safe(safe)),
+            AnyThread::Ended(ended) => not_running(AnyThread::Ended(ended)),
+        }
+    }
+
+    /// Goes into native code. The waiting calls take place (JEP 312).
+    ///
+    /// Refused with the first of these that fits (this profile). Then the thread runs on, and no entry is added.
+    ///
+    /// - `NotRunning` (204): the thread does not run.
+    /// - `Busy` (215): its cell is in use.
+    /// - `NoNativeFrame` (207): the newest frame is not native, or there is none.
+    /// - `OwnSpent` (208): less than 2 is left to spend.
+    pub fn native(self) -> (AnyThread, Told)
+        ensures { HandsOver IntoNative self result.0 result.1 }
+    {
+        match self {
+            AnyThread::Running(running) => match running.try_native() {
+                Ok(safe) => (AnyThread::Safe(safe), Told::Done),
+                Err((error, running)) => (AnyThread::Running(running), Told::Refused(error)),
+            },
+            AnyThread::Fresh(fresh) => not_running(AnyThread::Fresh(fresh)),
+            AnyThread::Safe(safe) => not_running(AnyThread::Safe(safe)),
+            AnyThread::Ended(ended) => not_running(AnyThread::Ended(ended)),
+        }
+    }
+
+    /// Blocks for the reason `kind`. The waiting calls take place (JEP 312).
+    ///
+    /// Refused with the first of these that fits (this profile). Then the thread runs on, and no entry is added.
+    ///
+    /// - `NotRunning` (204): the thread does not run.
+    /// - `Busy` (215): its cell is in use.
+    /// - `OwnSpent` (208): less than 2 is left to spend.
+    pub fn block(self, kind: Kind) -> (AnyThread, Told)
+        ensures { HandsOver (IntoBlocked kind) self result.0 result.1 }
+    {
+        match self {
+            AnyThread::Running(running) => match running.try_block(kind) {
+                Ok(safe) => (AnyThread::Safe(safe), Told::Done),
+                Err((error, running)) => (AnyThread::Running(running), Told::Refused(error)),
+            },
+            AnyThread::Fresh(fresh) => not_running(AnyThread::Fresh(fresh)),
+            AnyThread::Safe(safe) => not_running(AnyThread::Safe(safe)),
+            AnyThread::Ended(ended) => not_running(AnyThread::Ended(ended)),
+        }
+    }
+
+    /// Returns, and runs (HotSpot Runtime Overview).
+    ///
+    /// Refused with the first of these that fits (this profile). Then the thread is safe as before.
+    ///
+    /// - `NotSafe` (205): the thread is not safe.
+    /// - `Busy` (215): its cell is in use.
+    /// - `Barred` (206): it is suspended, or a stop is in force.
+    pub fn back(self) -> (AnyThread, Told)
+        ensures { Returns self result.0 result.1 }
+    {
+        match self {
+            AnyThread::Safe(safe) => match safe.try_back_once() {
+                Ok(running) => (AnyThread::Running(running), Told::Done),
+                Err((error, safe)) => (AnyThread::Safe(safe), Told::Refused(error)),
+            },
+            AnyThread::Fresh(fresh) => not_safe(AnyThread::Fresh(fresh)),
+            AnyThread::Running(running) => not_safe(AnyThread::Running(running)),
+            AnyThread::Ended(ended) => not_safe(AnyThread::Ended(ended)),
+        }
+    }
+
+    /// Ends the thread. The waiting calls take place at a thread that is no longer alive (JVM TI 11, GetThreadState).
+    ///
+    /// Refused with the first of these that fits (this profile). Then nothing changes.
+    ///
+    /// - `NotRunning` (204): the thread does not run.
+    /// - `Busy` (215): its cell is in use.
+    pub fn end(self) -> (AnyThread, Told)
+        ensures { Ends self result.0 result.1 }
+    {
+        match self {
+            AnyThread::Running(running) => match running.try_end() {
+                Ok(ended) => (AnyThread::Ended(ended), Told::Done),
+                Err(running) => (AnyThread::Running(running), Told::Refused(TiError::Busy)),
+            },
+            AnyThread::Fresh(fresh) => not_running(AnyThread::Fresh(fresh)),
+            AnyThread::Safe(safe) => not_running(AnyThread::Safe(safe)),
+            AnyThread::Ended(ended) => not_running(AnyThread::Ended(ended)),
+        }
+    }
+}
+
+/// The thread as it is: it has started before.
+fn not_new(thread: AnyThread) -> (AnyThread, Told)
+    ensures { (result.0 ≡ thread) × (result.1 ≡ Refused NotNew) }
+{
+    (thread, Told::Refused(TiError::NotNew))
+}
+
+/// The thread as it is: it does not run.
+fn not_running(thread: AnyThread) -> (AnyThread, Told)
+    ensures { (result.0 ≡ thread) × (result.1 ≡ Refused NotRunning) }
+{
+    (thread, Told::Refused(TiError::NotRunning))
+}
+
+/// The thread as it is: it is not safe.
+fn not_safe(thread: AnyThread) -> (AnyThread, Told)
+    ensures { (result.0 ≡ thread) × (result.1 ≡ Refused NotSafe) }
+{
+    (thread, Told::Refused(TiError::NotSafe))
+}
+
+ghost use Rattle.std.specs.Prelude.{◌≡◌};
+ghost use Rattle.ti_types.specs.declared.error.TiError.TheVariants.{NotNew, NotRunning, NotSafe};
+ghost use Rattle.ti_types.specs.declared.state.Safe.TheVariants.{Native as IntoNative, Blocked as IntoBlocked};
+ghost use Rattle.ti_thread.specs.declared.any_thread.Told.TheVariants.{Refused};
+ghost use Rattle.ti_thread.specs.Turns.{Starts, Polls, HandsOver, Returns, Ends};

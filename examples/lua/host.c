@@ -1,0 +1,240 @@
+/* host.c: the life of a script, its safepoint, and how it hands its frames over. */
+#include "host.h"
+
+#include <lauxlib.h>
+#include <lualib.h>
+#include <stdio.h>
+#include <stdlib.h>
+#include <string.h>
+#include <sys/eventfd.h>
+#include <unistd.h>
+
+/* ------------------------------------------------------------------------------------------------------------------
+ * Safepoints.
+ */
+
+struct script *script_of(lua_State *L) {
+    return *(struct script **)lua_getextraspace(L);
+}
+
+static bool complain(struct script *script, const char *what, uint32_t code) {
+    if (code == CQ_OK)
+        return false;
+    if (!script->complained)
+        fprintf(stderr, "cqlua: %s: %s is refused with code %u\n", script->path, what, code);
+    script->complained = true;
+    return true;
+}
+
+/* Gives the stack to the service. If there is no memory for it, it gives an empty one. */
+static void give_stack(struct script *script, lua_State *L) {
+    size_t count = stack_read(script, L);
+    if (complain(script, "the stack", cq_set_frames(&script->thread, script->frames, count)))
+        cq_set_frames(&script->thread, script->frames, 0);
+}
+
+/* The safepoint. The Lua stack is read only when an agent calls for the thread. */
+static void on_count(lua_State *L, lua_Debug *ar) {
+    struct script *script = script_of(L);
+    (void)ar;
+    if (!script->inspected || cq_poll_clear(&script->thread))
+        return;
+    give_stack(script, L);
+    complain(script, "a poll", cq_wait_poll(&script->thread, &script->host->signal));
+}
+
+bool script_native(struct script *script, lua_State *L) {
+    if (!script->inspected || script->away)
+        return false;
+    give_stack(script, L);
+    script->away = !complain(script, "native code", cq_wait_native(&script->thread, &script->host->signal));
+    return script->away;
+}
+
+bool script_block(struct script *script, lua_State *L, uint32_t reason) {
+    if (!script->inspected || script->away)
+        return false;
+    give_stack(script, L);
+    script->away = !complain(script, "blocking", cq_wait_block(&script->thread, &script->host->signal, reason));
+    return script->away;
+}
+
+void script_back(struct script *script) {
+    complain(script, "the return", cq_wait_back(&script->thread, &script->host->signal, -1));
+    script->away = false;
+}
+
+/* ------------------------------------------------------------------------------------------------------------------
+ * A script's run.
+ */
+
+static int add_traceback(lua_State *L) {
+    const char *message = luaL_tolstring(L, 1, NULL);
+    luaL_traceback(L, L, message, 1);
+    return 1;
+}
+
+/* Calls the function on the top, if it was loaded. The message of an error, with its traceback, is left there. */
+static int call(lua_State *L, int loaded) {
+    if (loaded != LUA_OK)
+        return loaded;
+    lua_pushcfunction(L, add_traceback);
+    lua_insert(L, -2);
+    int code = lua_pcall(L, 0, 0, -2);
+    lua_remove(L, code == LUA_OK ? -1 : -2);
+    return code;
+}
+
+static int run_statements(lua_State *L, const struct host *host) {
+    int code = LUA_OK;
+    for (size_t i = 0; i < host->statement_count && code == LUA_OK; i++) {
+        const char *statement = host->statements[i];
+        code = call(L, luaL_loadbuffer(L, statement, strlen(statement), "=(command line)"));
+    }
+    return code;
+}
+
+/* Lua's libraries, and the host's functions over them. What cannot be made throws. */
+static int open_libraries(lua_State *L) {
+    luaL_openlibs(L);
+    open_coroutines(L);
+    open_blocking(L);
+    lua_newtable(L);
+    lua_pushstring(L, script_of(L)->path);
+    lua_rawseti(L, -2, 0);
+    lua_setglobal(L, "arg");
+    return 0;
+}
+
+static bool run_state(struct script *script, lua_State *L) {
+    *(struct script **)lua_getextraspace(L) = script;
+    script->chain[0] = L;
+    script->links = 1;
+    lua_gc(L, LUA_GCGEN, 0, 0);
+    lua_pushcfunction(L, open_libraries);
+    int code = lua_pcall(L, 0, 0, 0);
+    lua_sethook(L, on_count, LUA_MASKCOUNT, INSTRUCTIONS);
+    if (code == LUA_OK)
+        code = run_statements(L, script->host);
+    if (code == LUA_OK)
+        code = call(L, luaL_loadfile(L, script->path));
+    if (code != LUA_OK)
+        fprintf(stderr, "cqlua: %s\n", lua_tostring(L, -1));
+    lua_close(L);
+    return code == LUA_OK;
+}
+
+static const char *name_of(const struct script *script) {
+    const char *slash = strrchr(script->path, '/');
+    return slash ? slash + 1 : script->path;
+}
+
+/* The system's tools show its number and name. */
+static void name_thread(struct script *script) {
+    char name[16];
+    snprintf(name, sizeof name, "%d %s", (int)(script - script->host->scripts) % 1000, name_of(script));
+    pthread_setname_np(pthread_self(), name);
+}
+
+/* Tells that a script is over, and after the last one that all are. */
+static void leave_host(struct host *host) {
+    if (atomic_fetch_sub(&host->living, 1) == 1 && eventfd_write(host->ended, 1))
+        perror("cqlua: eventfd");
+}
+
+static void *run_script(void *arg) {
+    struct script *script = arg;
+    cq_signal *signal = &script->host->signal;
+    name_thread(script);
+    if (script->host->inspected)
+        script->inspected = !complain(script, "the start", cq_wait_start(&script->thread, signal, -1));
+    sem_post(&script->host->alive);
+    lua_State *L = luaL_newstate();
+    script->failed = !L || !run_state(script, L);
+    if (!L)
+        fprintf(stderr, "cqlua: %s: no memory for a state\n", script->path);
+    if (script->inspected)
+        complain(script, "the end", cq_wait_end(&script->thread, signal));
+    if (script->host->inspected)
+        complain(script, "the detachment", cq_wait_detach_thread(&script->thread, signal));
+    leave_host(script->host);
+    return NULL;
+}
+
+/* ------------------------------------------------------------------------------------------------------------------
+ * All scripts.
+ */
+
+/* Attaches a script by the last part of its path, or by a number if that is not UTF-8. */
+static uint32_t attach(struct host *host, struct script *script) {
+    const char *name = name_of(script);
+    char other[32];
+    snprintf(other, sizeof other, "script %zu", (size_t)(script - host->scripts));
+    uint32_t code = cq_wait_attach_thread(&host->service, &host->signal, (const uint8_t *)name, strlen(name), 5,
+                                          &script->thread);
+    if (code == CQ_ILLEGAL_ARGUMENT)
+        code = cq_wait_attach_thread(&host->service, &host->signal, (const uint8_t *)other, strlen(other), 5,
+                                     &script->thread);
+    return code;
+}
+
+static int refused(const char *what, uint32_t code) {
+    fprintf(stderr, "cqlua: %s is refused with code %u\n", what, code);
+    return -1;
+}
+
+int host_make(struct host *host, char **paths, size_t count, bool inspected) {
+    host->scripts = calloc(count, sizeof *host->scripts);
+    host->ended = eventfd(0, EFD_CLOEXEC);
+    if (!host->scripts || host->ended < 0 || sem_init(&host->alive, 0, 0) || methods_make()) {
+        perror("cqlua");
+        return -1;
+    }
+    host->count = count;
+    host->inspected = inspected;
+    atomic_init(&host->living, count);
+    uint32_t code = inspected ? cq_make(FRAMES, 2, 8, &host->service) : CQ_OK;
+    if (code != CQ_OK)
+        return refused("the service", code);
+    for (size_t i = 0; i < count; i++) {
+        struct script *script = &host->scripts[i];
+        script->host = host;
+        script->path = paths[i];
+        code = inspected ? attach(host, script) : CQ_OK;
+        if (code != CQ_OK)
+            return refused(script->path, code);
+    }
+    return 0;
+}
+
+int host_start(struct host *host) {
+    for (; host->started < host->count; host->started++) {
+        struct script *script = &host->scripts[host->started];
+        int error = pthread_create(&script->pthread, NULL, run_script, script);
+        if (error) {
+            fprintf(stderr, "cqlua: %s: %s\n", script->path, strerror(error));
+            return -1;
+        }
+    }
+    for (size_t i = 0; i < host->count; i++)
+        while (sem_wait(&host->alive))
+            continue;
+    return 0;
+}
+
+bool host_join(struct host *host) {
+    bool failed = false;
+    for (size_t i = 0; i < host->started; i++) {
+        pthread_join(host->scripts[i].pthread, NULL);
+        failed = failed || host->scripts[i].failed;
+    }
+    return failed;
+}
+
+void host_free(struct host *host) {
+    if (host->inspected)
+        cq_free(&host->service);
+    close(host->ended);
+    sem_destroy(&host->alive);
+    free(host->scripts);
+}

@@ -1,0 +1,106 @@
+#!/usr/bin/env python3
+"""What the service costs: python3 measure.py [--rounds N] [--callgrind] [SCRIPT..]
+
+Each round runs each script in three ways, one after the other, and each round begins with another way: without the
+service, attached with nobody asking, and sampled 1,000 times a second. A ratio is that of two runs of one round. The
+tables have the medians of the ratios, and between which values half of them lie. The time on processors is that of the
+process, less what the agent took. On a machine with other work it says more than the clock.
+
+With --callgrind valgrind counts the instructions of the first two ways, which no other work changes. The table has the
+least of five runs, since Lua's hashes differ from run to run.
+"""
+import argparse
+import os
+import pathlib
+import re
+import statistics
+import subprocess
+import sys
+import tempfile
+import time
+
+HERE = pathlib.Path(__file__).resolve().parent
+SCRIPTS = HERE / "scripts"
+CQLUA = str((HERE / os.environ.get("OUT", "out") / "cqlua").resolve())
+SIZES = {"nbody.lua": 60000, "binary_trees.lua": 13, "fannkuch.lua": 9, "spectral_norm.lua": 250, "sleeper.lua": 5}
+COUNTED = {"nbody.lua": 5000, "binary_trees.lua": 10, "fannkuch.lua": 7, "spectral_norm.lua": 100, "sleeper.lua": 1}
+WAYS = {"without": ["run", "--no-service"], "attached": ["run"], "sampled": ["prof", "--rate", "1000"]}
+ASKED = {("attached", "without"): 1.02, ("sampled", "attached"): 1.03}
+
+
+def run(way, name, folder):
+    """The time of a run on the clock, and of the scripts' threads on processors."""
+    words = [CQLUA, *WAYS[way], "-e", f"N = {SIZES[name]}"]
+    if way == "sampled":
+        words += ["-o", str(pathlib.Path(folder) / "profile.txt")]
+    start = time.perf_counter()
+    process = subprocess.Popen([*words, name], cwd=SCRIPTS, stdout=subprocess.DEVNULL, stderr=subprocess.PIPE,
+                               text=True)
+    text = process.stderr.read()
+    _, status, usage = os.wait4(process.pid, 0)
+    process.returncode = os.waitstatus_to_exitcode(status)
+    seconds = time.perf_counter() - start
+    if process.returncode:
+        sys.exit(f"{' '.join(words)}: {text}")
+    agent = re.search(r"the agent took ([\d.]+) s", text)
+    return seconds, usage.ru_utime + usage.ru_stime - (float(agent.group(1)) if agent else 0)
+
+
+def row(name, rounds, which):
+    """A line of a table. `rounds` has the two times of each way, for each round, and the table is of one of them."""
+    times = {way: [one[way][which] for one in rounds] for way in WAYS}
+    cells = [name, f"{statistics.median(times['without']):.2f}"]
+    for above, below in ASKED:
+        low, middle, high = statistics.quantiles((a / b for a, b in zip(times[above], times[below])), n=4)
+        cells.append(f"{middle:.3f} ({low:.3f} to {high:.3f})")
+    return "| " + " | ".join(cells) + " |"
+
+
+def instructions(way, name):
+    """How many the least of five runs takes, by valgrind."""
+    words = ["valgrind", "--tool=callgrind", "--callgrind-out-file=/dev/null", CQLUA, *WAYS[way], "-e",
+             f"N = {COUNTED[name]}", name]
+    texts = [subprocess.run(words, cwd=SCRIPTS, capture_output=True, text=True).stderr for _ in range(5)]
+    return min(int(re.search(r"Collected : (\d+)", text).group(1)) for text in texts)
+
+
+def count_instructions(names):
+    print("\n| script | millions of instructions without | attached / without |\n|---|---|---|")
+    for name in names:
+        without, attached = instructions("without", name), instructions("attached", name)
+        print(f"| {name} | {without / 1e6:.1f} | {attached / without:.5f} |", flush=True)
+
+
+def table(title, results, which):
+    heads = ["script", "without, s"] + [f"{above} / {below}" for above, below in ASKED]
+    print(f"\n{title}:\n\n| " + " | ".join(heads) + " |\n" + "|---" * len(heads) + "|")
+    for name, rounds in results.items():
+        print(row(name, rounds, which))
+
+
+def main():
+    parser = argparse.ArgumentParser()
+    parser.add_argument("--rounds", type=int, default=30)
+    parser.add_argument("--callgrind", action="store_true")
+    parser.add_argument("scripts", nargs="*", default=list(SIZES))
+    options = parser.parse_args()
+    if subprocess.run(["make", "-s", "-C", str(HERE)]).returncode:
+        sys.exit(1)
+    if options.callgrind:
+        return count_instructions(options.scripts)
+    print(f"{options.rounds} rounds, {os.cpu_count()} processors, load {os.getloadavg()[0]:.1f} at the start")
+    print("asked: " + ", ".join(f"{above} / {below} at most {most}" for (above, below), most in ASKED.items()))
+    sys.stdout.flush()
+    ways, results = list(WAYS), {name: [] for name in options.scripts}
+    with tempfile.TemporaryDirectory() as folder:
+        for number in range(options.rounds):
+            first = number % len(ways)
+            for name in options.scripts:
+                results[name].append({way: run(way, name, folder) for way in ways[first:] + ways[:first]})
+    table("On the clock", results, 0)
+    table("On processors, the scripts' threads", results, 1)
+    print(f"\nload {os.getloadavg()[0]:.1f} at the end")
+
+
+if __name__ == "__main__":
+    main()

@@ -1,0 +1,120 @@
+/* methods.c: the table of methods. Numbers count from 0, and a hash table with open addressing leads to them. */
+#include "methods.h"
+
+#include <pthread.h>
+#include <stdio.h>
+#include <stdlib.h>
+#include <string.h>
+
+static pthread_mutex_t lock = PTHREAD_MUTEX_INITIALIZER;
+static struct method **methods;  /* by number; there is room for half as many as places */
+static uint32_t count;
+static uint32_t *places;         /* a number and one, or 0 for an empty place */
+static size_t place_count;       /* a power of two */
+
+static uint64_t hash_text(uint64_t hash, const char *text) {
+    for (; *text; text++)
+        hash = (hash ^ (unsigned char)*text) * 0x100000001b3u;
+    return (hash ^ 0xff) * 0x100000001b3u;
+}
+
+static uint64_t hash_of(const char *source, int line, const char *name) {
+    uint64_t hash = hash_text(hash_text(0xcbf29ce484222325u, source), name);
+    hash = (hash ^ (uint32_t)line) * 0x9e3779b97f4a7c15u;
+    return hash ^ (hash >> 29);
+}
+
+/* The place of the method, or the empty place at which it would be. */
+static size_t place_of(const char *source, int line, const char *name) {
+    size_t at = hash_of(source, line, name) & (place_count - 1);
+    for (; places[at]; at = (at + 1) & (place_count - 1)) {
+        const struct method *m = methods[places[at] - 1];
+        if (m->line == line && !strcmp(m->source, source) && !strcmp(m->name, name))
+            break;
+    }
+    return at;
+}
+
+/* Makes the table of this size, and puts the methods into it. */
+static int grow(size_t size) {
+    uint32_t *more_places = calloc(size, sizeof *more_places);
+    if (!more_places)
+        return -1;
+    struct method **more = realloc(methods, size / 2 * sizeof *more);
+    if (!more) {
+        free(more_places);
+        return -1;
+    }
+    methods = more;
+    free(places);
+    places = more_places;
+    place_count = size;
+    for (uint32_t i = 0; i < count; i++)
+        places[place_of(methods[i]->source, methods[i]->line, methods[i]->name)] = i + 1;
+    return 0;
+}
+
+static struct method *make_method(const char *source, int line, const char *name) {
+    struct method *m = malloc(sizeof *m);
+    if (!m)
+        return NULL;
+    *m = (struct method){ strdup(source), line, strdup(name), count };
+    if (m->source && m->name)
+        return m;
+    free(m->source);
+    free(m->name);
+    free(m);
+    return NULL;
+}
+
+static const struct method *find(const char *source, int line, const char *name) {
+    size_t at = place_of(source, line, name);
+    if (places[at])
+        return methods[places[at] - 1];
+    if (count == place_count / 2) {
+        if (grow(place_count * 2))
+            return NULL;
+        at = place_of(source, line, name);
+    }
+    struct method *m = make_method(source, line, name);
+    if (!m)
+        return NULL;
+    methods[count++] = m;
+    places[at] = count;
+    return m;
+}
+
+const struct method *methods_find(const char *source, int line, const char *name) {
+    pthread_mutex_lock(&lock);
+    const struct method *m = find(source, line, name);
+    pthread_mutex_unlock(&lock);
+    return m;
+}
+
+const struct method *methods_get(uint32_t number) {
+    pthread_mutex_lock(&lock);
+    const struct method *m = methods[number < count ? number : METHOD_UNKNOWN];
+    pthread_mutex_unlock(&lock);
+    return m;
+}
+
+int methods_make(void) {
+    if (grow(1024))
+        return -1;
+    if (!methods_find("[C]", -1, "(no memory for the method)") || !methods_find("[C]", -1, "(frames left out)"))
+        return -1;
+    return 0;
+}
+
+void method_text(uint32_t number, char *text, size_t size) {
+    const struct method *m = methods_get(number);
+    if (number <= METHOD_LEFT_OUT)
+        snprintf(text, size, "%s", m->name);
+    else if (m->line < 0)
+        snprintf(text, size, "[C] %s", m->name);
+    else
+        snprintf(text, size, "%s (%s:%d)", m->name, m->source, m->line);
+    for (; *text; text++)
+        if (*text == ';' || (unsigned char)*text < ' ')
+            *text = ':';
+}

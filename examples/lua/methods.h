@@ -1,0 +1,33 @@
+/* methods.h: the numbers of methods. One table serves all states of the process, and all agents. */
+#ifndef METHODS_H
+#define METHODS_H
+
+#include <stddef.h>
+#include <stdint.h>
+
+/* A method. Once made it stays as it is, and where it is, until the process ends. */
+struct method {
+    char *source;    /* the file's name, or the short form of a text that was loaded, or "[C]" */
+    int line;        /* where it is defined: 0 for a main chunk, -1 for a C function */
+    char *name;
+    uint32_t number;
+};
+
+enum {
+    METHOD_UNKNOWN = 0,  /* there was no memory for the method */
+    METHOD_LEFT_OUT = 1  /* stands for frames that a deep stack does not show */
+};
+
+/* Makes the table, with the two methods above. Returns 0, or -1 when there is no memory. */
+int methods_make(void);
+
+/* The method of this source, line and name. It is made if it is new. NULL when there is no memory. */
+const struct method *methods_find(const char *source, int line, const char *name);
+
+/* The method of a number that methods_find gave. */
+const struct method *methods_get(uint32_t number);
+
+/* Writes "name (source:line)", or "[C] name" of a C function. No semicolon and no control character is in it. */
+void method_text(uint32_t number, char *text, size_t size);
+
+#endif
