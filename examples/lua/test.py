@@ -5,23 +5,18 @@ Variables of the Makefile go on to it from the environment: CEBDYRAQ_LIB, CEBDYR
 """
 import collections
 import math
-import os
 import pathlib
 import re
-import shutil
 import subprocess
 import sys
 import tempfile
 import time
 import xml.etree.ElementTree
 
-HERE = pathlib.Path(__file__).resolve().parent
-SCRIPTS = HERE / "scripts"
-CQLUA = str((HERE / os.environ.get("OUT", "out") / "cqlua").resolve())
-LUA = shutil.which("lua5.4") or shutil.which("lua")
-RATE = 1000
-PROMPT = "(cqlua) "
+sys.dont_write_bytecode = True
+from checks import CQLUA, HERE, LUA, SCRIPTS, SLEEPER, WORKER, Debugger, check, cqlua, failed, passed, run, script
 
+RATE = 1000
 KNOWN = {  # what each program is known to write, by its size
     ("nbody.lua", 1000): "-0.169075164\n-0.169087605\n",
     ("spectral_norm.lua", 100): "1.274219991\n",
@@ -35,58 +30,6 @@ KNOWN = {  # what each program is known to write, by its size
         "long lived tree of depth 10\t check: 2047\n",
 }
 PLAIN = {"nbody.lua": 100000, "binary_trees.lua": 12, "fannkuch.lua": 8, "spectral_norm.lua": 200, "sleeper.lua": 3}
-
-WORKER = """
-    local function step(s, i)
-        return (s * 31 + i) % 1000003
-    end
-    local function work()
-        local s = 0
-        for i = 1, 50000 do
-            s = step(s, i)
-        end
-        return s
-    end
-    local function stop() local file = io.open(STOP) return file and file:close() end
-    repeat local s = work() until stop()
-    print("the worker has ended")
-"""
-SLEEPER = """
-    repeat sleep(0.02) local file = io.open(STOP) until file
-    print("the sleeper has ended")
-"""
-
-passed = failed = 0
-
-
-def check(name, ok, detail=""):
-    global passed, failed
-    passed, failed = passed + bool(ok), failed + (not ok)
-    print(("ok      " if ok else "FAILED  ") + name + (f": {detail}" if detail and not ok else ""), flush=True)
-    return ok
-
-
-def run(*words, **more):
-    return subprocess.run(words, cwd=SCRIPTS, capture_output=True, text=True, timeout=600, **more)
-
-
-def cqlua(*words, **more):
-    return run(CQLUA, *words, **more)
-
-
-def script(folder, name, text):
-    path = pathlib.Path(folder) / name
-    path.write_text(text)
-    return str(path)
-
-
-def folded(path):
-    """The stacks of a profile, and how often each was seen. A line that does not parse is an error."""
-    stacks = collections.Counter()
-    for line in pathlib.Path(path).read_text().splitlines():
-        stack, count = re.fullmatch(r"(.+) (\d+)", line).groups()
-        stacks[tuple(stack.split(";"))] += int(count)
-    return stacks
 
 
 # ----------------------------------------------------------------------------------------------------------------------
@@ -168,6 +111,15 @@ def test_coroutines_as_plain(folder):
 
 # ----------------------------------------------------------------------------------------------------------------------
 # The profiler.
+
+def folded(path):
+    """The stacks of a profile, and how often each was seen. A line that does not parse is an error."""
+    stacks = collections.Counter()
+    for line in pathlib.Path(path).read_text().splitlines():
+        stack, count = re.fullmatch(r"(.+) (\d+)", line).groups()
+        stacks[tuple(stack.split(";"))] += int(count)
+    return stacks
+
 
 def profile(folder, *words):
     path = str(pathlib.Path(folder) / "profile.txt")
@@ -310,44 +262,6 @@ def test_top(folder):
 # ----------------------------------------------------------------------------------------------------------------------
 # The debugger, by a pipe.
 
-class Debugger:
-    def __init__(self, *scripts):
-        self.process = subprocess.Popen([CQLUA, "debug", *scripts], cwd=SCRIPTS, stdin=subprocess.PIPE,
-                                        stdout=subprocess.PIPE)
-        self.read()
-
-    def read(self):
-        """What is written up to the next prompt, or to the end."""
-        text = b""
-        while not text.endswith(PROMPT.encode()):
-            more = os.read(self.process.stdout.fileno(), 65536)
-            if not more:
-                return text.decode()
-            text += more
-        return text.decode()[:-len(PROMPT)]
-
-    def say(self, command):
-        self.process.stdin.write(command.encode() + b"\n")
-        self.process.stdin.flush()
-        return self.read()
-
-    def processor_time(self, name):
-        """Of the thread of this name, in seconds."""
-        for task in pathlib.Path(f"/proc/{self.process.pid}/task").iterdir():
-            if (task / "comm").read_text().startswith(name):
-                fields = (task / "stat").read_text().rsplit(")", 1)[1].split()
-                spent = (int(fields[11]) + int(fields[12])) / os.sysconf("SC_CLK_TCK")
-                exact = task / "schedstat"
-                return int(exact.read_text().split()[0]) / 1e9 if exact.exists() else spent
-        return None
-
-    def end(self):
-        self.process.stdin.close()
-        text = self.read()
-        self.process.stdout.close()
-        return self.process.wait(), text
-
-
 def test_debug(folder):
     stop = pathlib.Path(folder) / "stop"
     first, second = script(folder, "first.lua", WORKER), script(folder, "second.lua", WORKER)
@@ -421,7 +335,7 @@ def main():
                     test(*[folder][:test.__code__.co_argcount])
                 except Exception as error:  # a test that falls over is one that failed
                     check(name, False, repr(error))
-    print(f"{passed} passed, {failed} failed")
+    print(f"{len(passed)} passed, {len(failed)} failed")
     sys.exit(1 if failed else 0)
 
 

@@ -1,0 +1,91 @@
+"""What the tests have in common: how a program is run, a debugger is talked to, and a check is counted."""
+import os
+import pathlib
+import shutil
+import subprocess
+
+HERE = pathlib.Path(__file__).resolve().parent
+SCRIPTS = HERE / "scripts"
+CQLUA = str((HERE / os.environ.get("OUT", "out") / "cqlua").resolve())
+LUA = shutil.which("lua5.4") or shutil.which("lua")
+PROMPT = "(cqlua) "
+
+WORKER = """
+    local function step(s, i)
+        return (s * 31 + i) % 1000003
+    end
+    local function work()
+        local s = 0
+        for i = 1, 50000 do
+            s = step(s, i)
+        end
+        return s
+    end
+    local function stop() local file = io.open(STOP) return file and file:close() end
+    repeat local s = work() until stop()
+    print("the worker has ended")
+"""
+SLEEPER = """
+    repeat sleep(0.02) local file = io.open(STOP) until file
+    print("the sleeper has ended")
+"""
+
+passed, failed = [], []
+
+
+def check(name, ok, detail=""):
+    (passed if ok else failed).append(name)
+    print(("ok      " if ok else "FAILED  ") + name + (f": {detail}" if detail and not ok else ""), flush=True)
+    return ok
+
+
+def run(*words, **more):
+    return subprocess.run(words, cwd=SCRIPTS, capture_output=True, text=True, timeout=600, **more)
+
+
+def cqlua(*words, **more):
+    return run(CQLUA, *words, **more)
+
+
+def script(folder, name, text):
+    path = pathlib.Path(folder) / name
+    path.write_text(text)
+    return str(path)
+
+
+class Debugger:
+    def __init__(self, *scripts):
+        self.process = subprocess.Popen([CQLUA, "debug", *scripts], cwd=SCRIPTS, stdin=subprocess.PIPE,
+                                        stdout=subprocess.PIPE)
+        self.read()
+
+    def read(self):
+        """What is written up to the next prompt, or to the end."""
+        text = b""
+        while not text.endswith(PROMPT.encode()):
+            more = os.read(self.process.stdout.fileno(), 65536)
+            if not more:
+                return text.decode()
+            text += more
+        return text.decode()[:-len(PROMPT)]
+
+    def say(self, command):
+        self.process.stdin.write(command.encode() + b"\n")
+        self.process.stdin.flush()
+        return self.read()
+
+    def processor_time(self, name):
+        """Of the thread of this name, in seconds."""
+        for task in pathlib.Path(f"/proc/{self.process.pid}/task").iterdir():
+            if (task / "comm").read_text().startswith(name):
+                fields = (task / "stat").read_text().rsplit(")", 1)[1].split()
+                spent = (int(fields[11]) + int(fields[12])) / os.sysconf("SC_CLK_TCK")
+                exact = task / "schedstat"
+                return int(exact.read_text().split()[0]) / 1e9 if exact.exists() else spent
+        return None
+
+    def end(self):
+        self.process.stdin.close()
+        text = self.read()
+        self.process.stdout.close()
+        return self.process.wait(), text
