@@ -221,8 +221,9 @@ uint32_t cq_detach_thread(cq_thread *thread);
  * thread is lost: the next meeting has those that are missing. */
 uint32_t cq_meet(cq_env *env);
 
-/* Whether threads or environments have come or gone, or another environment has met threads, since the environment last
- * looked at the list. It is one load. False of a handle that is misused. */
+/* Whether threads or environments have come or gone, or another environment has met, since the environment last looked at
+ * the list. It is one load. False of a handle that is misused. An environment that was just attached has looked, and has
+ * met no thread: it meets once without news. A meeting is news to all others, even if it meets nobody. */
 bool cq_has_news(cq_env *env);
 
 /* Lets go of a thread that was given back, so that its memory can be freed, and writes whether it did. It does not while a
@@ -255,7 +256,7 @@ uint32_t cq_get_frame_location(cq_env *env, uint32_t thread, int32_t depth, cq_a
 
 /* GetStackTrace: at most `max_count` frames, newest first, from `start` on, which counts from the oldest if it is negative.
  * Writes as many as there is `room` for, and to `answer->number` how many there are.
- * CQ_THREAD_NOT_ALIVE, CQ_ILLEGAL_ARGUMENT if there is no frame at `start`. */
+ * CQ_THREAD_NOT_ALIVE, CQ_ILLEGAL_ARGUMENT if there is no frame at `start`, but for 0 on an empty stack. */
 uint32_t cq_get_stack_trace(cq_env *env, uint32_t thread, int32_t start, int32_t max_count, cq_answer *answer,
                             cq_frame *frames, size_t room);
 
