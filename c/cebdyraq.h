@@ -221,9 +221,9 @@ uint32_t cq_detach_thread(cq_thread *thread);
  * thread is lost: the next meeting has those that are missing. */
 uint32_t cq_meet(cq_env *env);
 
-/* Whether threads or environments have come or gone, or another environment has met, since the environment last looked at
- * the list. It is one load. False of a handle that is misused. An environment that was just attached has looked, and has
- * met no thread: it meets once without news. A meeting is news to all others, even if it meets nobody. */
+/* Whether threads or environments have come or gone, or another environment has met threads that came, since the environment
+ * last looked at the list. It is one load. False of a handle that is misused. An environment that was just attached has
+ * looked, and has met no thread: it meets once without news. */
 bool cq_has_news(cq_env *env);
 
 /* Lets go of a thread that was given back, so that its memory can be freed, and writes whether it did. It does not while a

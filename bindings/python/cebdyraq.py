@@ -278,7 +278,7 @@ class Environment:
         self._call("cq_wait_meet", self._signal)
 
     def has_news(self):
-        """Says whether others came, went or met since it last looked. Meet once before: attaching is a look."""
+        """Says whether others came, went or met threads since it last looked. Meet once before: attaching is a look."""
         return self._plain_call("cq_has_news")
 
     def let_go(self, thread):

@@ -80,7 +80,6 @@ static void add_event(m_service *s, uint32_t kind, uint32_t thread) {
     s->events = realloc(s->events, (s->event_count + 1) * sizeof *s->events);
     s->events[s->event_count++] = (cq_event){ kind, thread, 0 };
     s->happened++;
-    s->stirred++;
 }
 
 uint32_t model_attach_thread(cq_service *service, const uint8_t *name, size_t length, int32_t priority,

@@ -61,8 +61,8 @@ uint32_t model_dispose_environment(cq_env *env);
  * whether that is a new name among the calls that are out there. */
 bool model_rename(cq_env *env, const cq_ticket *name);
 
-/* What cq_has_news may say: `may_be` is false if nothing has come or gone since the environment last met the threads.
- * `must_be` is true if something has since it last asked the service anything. In between the header leaves it open. */
+/* What cq_has_news may say: `may_be` is false if nothing has happened since the environment last met the threads. `must_be` is
+ * true if something has since it last asked the service anything. In between the header leaves it open. */
 void model_has_news(cq_env *env, bool *must_be, bool *may_be);
 
 #endif

@@ -15,12 +15,11 @@ uint32_t model_attach_environment(cq_service *service, cq_env *env) {
     s->taken[place] = true;
     s->handles++;
     s->happened++;
-    s->stirred++;
     m_env *e = calloc(1, sizeof *e);
     e->service = s;
     e->place = place;
     e->asked = s->happened;
-    e->looked = s->stirred;
+    e->looked = s->happened;
     *env = (cq_env){ AN_ENV, e };
     return CQ_OK;
 }
@@ -37,15 +36,17 @@ uint32_t model_meet(cq_env *env) {
     for (uint32_t i = e->known; i < e->service->count; i++) {
         e->service->threads[i]->met[e->place] = e->service->threads[i]->there;
     }
+    if (e->known < e->service->count) e->service->happened++;
     e->known = e->service->count;
-    e->looked = ++e->service->stirred;
+    e->asked = e->service->happened;
+    e->looked = e->service->happened;
     return CQ_OK;
 }
 
 void model_has_news(cq_env *env, bool *must_be, bool *may_be) {
     m_env *e = env_of(env);
     *must_be = e != NULL && e->service->happened > e->asked;
-    *may_be = e != NULL && e->service->stirred > e->looked;
+    *may_be = e != NULL && e->service->happened > e->looked;
 }
 
 uint32_t model_let_go(cq_env *env, uint32_t thread, bool *gone) {
@@ -156,7 +157,6 @@ uint32_t model_dispose_environment(cq_env *env) {
     }
     e->service->taken[e->place] = false;
     e->service->happened++;
-    e->service->stirred++;
     let_go_of_service(e->service);
     free(e);
     *env = (cq_env){ EMPTY, NULL };

@@ -56,7 +56,7 @@ typedef struct {
     bool events;
     uint64_t next_event;
     uint64_t asked;       /* what had happened when it last asked the service anything */
-    uint64_t looked;      /* the same when it last met the threads, with meetings of others */
+    uint64_t looked;      /* the same when it last met the threads */
 } m_env;
 
 struct m_service {
@@ -67,8 +67,7 @@ struct m_service {
     bool taken[ENVS];
     cq_event *events;
     uint64_t event_count;
-    uint64_t happened;    /* threads and environments that came or went */
-    uint64_t stirred;     /* the same, and meetings */
+    uint64_t happened;    /* threads and environments that came or went, and meetings of threads that came */
 };
 
 m_service *service_of(const cq_service *handle);

@@ -5,6 +5,7 @@ pub mod Lives
 pub mod Steps
 pub mod Places
 pub mod Rows
+pub mod Meeting
 pub mod Moving
 pub mod Returning
 pub mod Searching

@@ -1,9 +1,10 @@
 -- What whoever holds the roster may do to it.
-use Rattle.std.proofs.Common.{◌≡◌, ◌≢◌, ℕ, ◌==◌, true, false, is_some, if◌then◌else◌, List, [], ◌∷◌, ◌++◌, Option, Some, None, refl, sym, ap, ◌∙◌, subst, eq-eqb, ne_eqb, append-nil, append_assoc}
+use Rattle.std.proofs.Common.{◌≡◌, ◌≢◌, Bool, ℕ, ◌==◌, true, false, is_some, if◌then◌else◌, List, [], ◌∷◌, ◌++◌, Option, Some, None, refl, sym, ap, ◌∙◌, subst, eq-eqb, ne_eqb, append-nil, append_assoc}
 use Rattle.ti_types.specs.declared.numbers.EnvNo.{EnvNo}
 use Rattle.ti_roster.specs.declared.coming.Coming.{Coming}
 use Rattle.ti_roster.specs.declared.coming.Coming.TheVariants.{Attached, Met}
-use Rattle.ti_roster.specs.Log.{Log, is_about, mark_of, noted}
+use Rattle.ti_roster.specs.Log.{Log, is_about, mark_of, noted, threads_in, with_items}
+use Rattle.ti_roster.specs.Roster.{has_met_all, meeting}
 use Rattle.ti_roster.specs.Rule.{Begins, Claims, Moves}
 use Rattle.ti_roster.proofs.Logs.{mark_more, mark_noted, noted_same}
 
@@ -61,6 +62,14 @@ may_meet o r r' e n mine user is = subst (λ (y : Log). MayBe o r y) (sym is) (r
   });
   limits = refl;
 })
+
+-- the same, whether there was somebody to meet or not
+pub may_meet_any : (o : Option EnvNo) (r r' : Log) (seen : List Coming) (e : EnvNo) → Claims r.items o seen → o ≡ Some e → r.user ≡ o → r' ≡ with_items r (meeting e r.items) → MayBe o r r'
+may_meet_any o r r' seen e claims mine user is = by_whether (has_met_all e r.items) is
+  where
+    by_whether : (b : Bool) → r' ≡ with_items r (if b then [] else Met e (threads_in r.items) ∷ []) → MayBe o r r'
+    by_whether true same = may_stay o r r' seen claims user (same ∙ ap (λ (l : List Coming). record { items = l; limits = r.limits; user = r.user }) (append-nil r.items))
+    by_whether false added = may_meet o r r' e (threads_in r.items) mine user added
 
 -- an environment came, where nobody was
 pub may_attach : (o : Option EnvNo) (r r' : Log) (e : EnvNo) → o ≡ None → mark_of e r.items ≡ None → r' ≡ record { items = r.items ++ Attached e ∷ []; limits = r.limits; user = Some e } → MayBe o r r'

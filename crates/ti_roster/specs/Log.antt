@@ -18,6 +18,10 @@ pub record Log : Type 0 where
 abbrev pub with_item : Log → Coming → Log
 with_item r x = record { items = r.items ++ x ∷ []; limits = r.limits; user = r.user }
 
+-- the roster with these comings and goings besides
+abbrev pub with_items : Log → List Coming → Log
+with_items r more = record { items = r.items ++ more; limits = r.limits; user = r.user }
+
 -- the roster in the service of an environment
 abbrev pub with_user : Log → EnvNo → Log
 with_user r e = record { items = r.items; limits = r.limits; user = Some e }

@@ -1,5 +1,5 @@
 -- What the roster's calls say.
-use Rattle.std.specs.Prelude.{ℕ, ◌≡◌, ◌<◌, ◌++◌, ◌&&◌, nat_lt, All, Bool, true, false, is_some, if◌then◌else◌, List, [], ◌∷◌, Option, Some, None, slice_get}
+use Rattle.std.specs.Prelude.{ℕ, ◌≡◌, ◌<◌, ◌++◌, ◌==◌, ◌&&◌, nat_lt, All, Bool, true, false, is_some, if◌then◌else◌, List, [], ◌∷◌, Option, Some, None, slice_get}
 use Rattle.std.specs.List.{fold}
 use Rattle.ti_types.specs.declared.limits.Limits.{Limits}
 use Rattle.ti_types.specs.declared.error.TiError.{TiError}
@@ -12,7 +12,7 @@ use Rattle.ti_roster.specs.declared.coming.Coming.TheVariants.{Met, GaveBack, Di
 use Rattle.ti_roster.specs.declared.info.ThreadInfo.{ThreadInfo}
 use Rattle.ti_roster.specs.declared.newcomer.Newcomer.{Newcomer}
 use Rattle.ti_roster.specs.Info.{IsSameInfo}
-use Rattle.ti_roster.specs.Log.{Lies, Out, Log, is_live, lies, live, mark_of, threads_in, with_item}
+use Rattle.ti_roster.specs.Log.{Lies, Out, Log, is_live, lies, live, mark_of, threads_in, with_item, with_items}
 use Rattle.ti_roster.specs.Rows.{AreLeft, IsAt}
 
 -- how much may happen at most
@@ -50,11 +50,23 @@ pub record IsOwn (log : List Coming) (limits : Limits) (e : EnvNo) (f : FreeStat
   pub limits_are : f.desk.view.subject.limits ≡ limits
   pub clean : IsClean f
 
+-- whether an environment has taken its desks at all of so many threads
+abbrev pub is_up_to : ℕ → Option ℕ → Bool
+is_up_to n (Some m) = m == n
+is_up_to n None = false
+
+abbrev pub has_met_all : EnvNo → List Coming → Bool
+has_met_all e log = is_up_to (threads_in log) (mark_of e log)
+
+-- what a meeting adds to what happened: nothing if no thread came since the last one
+abbrev pub meeting : EnvNo → List Coming → List Coming
+meeting e log = if has_met_all e log then [] else Met e (threads_in log) ∷ []
+
 -- the environment that is served took these desks
 abbrev pub HasMetOf : Option EnvNo → Log → Log → List FreeState → Type 0
 HasMetOf None old new desks = ⊥
 HasMetOf (Some e) old new desks =
-    AreLeft old.items old.limits e (live old.items) desks × All (λ f. IsOwn old.items old.limits e f) desks × (new ≡ with_item old (Met e (threads_in old.items)))
+    AreLeft old.items old.limits e (live old.items) desks × All (λ f. IsOwn old.items old.limits e f) desks × (new ≡ with_items old (meeting e old.items))
 
 abbrev pub HasMet : Log → Log → List FreeState → Type 0
 HasMet old new desks = HasMetOf old.user old new desks

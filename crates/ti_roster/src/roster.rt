@@ -293,8 +293,19 @@ impl Roster {
         }
     }
 
+    /// Whether an environment has taken its desks at all threads that came. It has one of the places.
+    fn has_met_all(&self, env: EnvNo) -> bool
+        requires { env.0 < self.now.limits.envs }
+        ensures { result ≡ has_met_all env self.now.items }
+    {
+        match self.marks[env.0 as usize] {
+            Some(mark) => mark == self.next,
+            None => false,
+        }
+    }
+
     /// The environment that the roster serves takes its desks at the threads that came since it last did, and are there. The
-    /// desks are in the order of their threads' numbers, and unused.
+    /// desks are in the order of their threads' numbers, and unused. If no thread came, nothing changes.
     ///
     /// The error is the first of these that fits, and then nothing changes:
     ///
@@ -310,6 +321,9 @@ impl Roster {
             Some(env) if env.0 < self.limits.envs => env,
             _ => return Err(TiError::InvalidEnvironment),
         };
+        if self.has_met_all(env) {
+            return Ok(Vec::new(alloc));
+        }
         if self.len >= LAST {
             return Err(TiError::OutOfMemory);
         }
@@ -403,5 +417,5 @@ ghost use Rattle.ti_roster.specs.Log.{Out, lies, threads_in, mark_of, live, is_l
 ghost use Rattle.ti_types.specs.declared.numbers.ThreadNo.{ThreadNo};
 ghost use Rattle.ti_roster.specs.declared.newcomer.Newcomer.{Newcomer};
 ghost use Rattle.ti_roster.specs.declared.row.Row.{Row};
-ghost use Rattle.ti_roster.specs.Roster.{AreTaken, HasDisposed, HasMet, IsToldOf, MayGoBack, and_back, end_refusal, most_items, serves};
+ghost use Rattle.ti_roster.specs.Roster.{AreTaken, HasDisposed, HasMet, IsToldOf, MayGoBack, and_back, end_refusal, has_met_all, most_items, serves};
 ghost use Rattle.ti_roster.specs.Rows.{IsIndex, IsTaken, desks_in};

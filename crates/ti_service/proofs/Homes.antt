@@ -18,8 +18,8 @@ use Rattle.ti_roster.specs.declared.coming.Coming.{Coming}
 use Rattle.ti_roster.specs.declared.coming.Coming.TheVariants.{Came, Ended, Attached, Met, GaveBack, Disposed}
 use Rattle.ti_roster.specs.declared.newcomer.Newcomer.{Newcomer}
 use Rattle.ti_roster.specs.declared.view.RosterView.{RosterView}
-use Rattle.ti_roster.specs.Log.{came, came_after, threads_in}
-use Rattle.ti_roster.specs.Roster.{IsOwn}
+use Rattle.ti_roster.specs.Log.{came, came_after}
+use Rattle.ti_roster.specs.Roster.{IsOwn, meeting}
 use Rattle.ti_roster.specs.Rows.{IsAt}
 use Rattle.ti_roster.specs.Rule.{Begins}
 use Rattle.ti_service.specs.Agent.{AgentState}
@@ -174,7 +174,7 @@ holds_ours old new env waiting found more h o =
 pub taken_ours : (old new : RosterView) (desks : List FreeState) (next : ℕ) (t : TakesDesks old new desks next) → All (IsOwn new.seen new.limits t.env) desks
 taken_ours old new desks next t =
     let same : new.limits ≡ old.limits = ap (λ (v : RosterView). v.limits) t.hold.new_is in
-    let more : Begins new.seen t.found = (Met t.env (threads_in t.found) ∷ [], ap (λ (v : RosterView). v.seen) t.hold.new_is) in
+    let more : Begins new.seen t.found = (meeting t.env t.found, ap (λ (v : RosterView). v.seen) t.hold.new_is) in
     subst (λ (l : Limits). All (IsOwn new.seen l t.env) desks) (sym same)
     (All-weaker (IsOwn t.found old.limits t.env) (IsOwn new.seen old.limits t.env) (λ f c. own_later t.found new.seen old.limits t.env f more c) desks t.own)
 
@@ -182,7 +182,7 @@ taken_ours old new desks next t =
 pub ours_took : (old new : Member) (env : Environment) (waiting desks now : List FreeState) (next : ℕ) → TakesDesks old.view new.view desks next → (All (IsOwn new.view.seen new.view.limits env.env) desks → All (IsOwn new.view.seen new.view.limits env.env) now) → AreOurs (agent_of old env waiting)
     → AreOurs (agent_of new env now)
 ours_took old new env waiting desks now next t turn o =
-    let k : AreOurs (agent_of new env waiting) = holds_ours old new env waiting t.found (Met t.env (threads_in t.found) ∷ []) t.hold o in
+    let k : AreOurs (agent_of new env waiting) = holds_ours old new env waiting t.found (meeting t.env t.found) t.hold o in
     let same : t.env ≡ env.env = some_env t.env env.env (sym t.place ∙ o.place) in
     record {
       place = k.place;

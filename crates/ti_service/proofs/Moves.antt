@@ -12,13 +12,13 @@ use Rattle.ti_agent.specs.Desks.{with_desk}
 use Rattle.ti_agent.specs.Env.{Environment}
 use Rattle.ti_agent.specs.FreeDesk.{FreeState}
 use Rattle.ti_roster.specs.declared.coming.Coming.{Coming}
-use Rattle.ti_roster.specs.declared.coming.Coming.TheVariants.{Attached, Met, Disposed}
+use Rattle.ti_roster.specs.declared.coming.Coming.TheVariants.{Attached, Disposed}
 use Rattle.ti_roster.specs.Log.{Log, live, mark_of, threads_in, with_item, with_user}
-use Rattle.ti_roster.specs.Roster.{HasDisposedOf, HasMetOf, IsOwn, MayGoBack}
+use Rattle.ti_roster.specs.Roster.{HasDisposedOf, HasMetOf, IsOwn, MayGoBack, meeting}
 use Rattle.ti_roster.specs.Rows.{AreLeft}
 use Rattle.ti_roster.specs.Rule.{Begins, Claims, Moves}
 use Rattle.ti_roster.specs.Seats.{Sitting}
-use Rattle.ti_roster.proofs.Moving.{may_attach, may_dispose, may_meet, may_stay, other_env, own_then}
+use Rattle.ti_roster.proofs.Moving.{may_attach, may_dispose, may_meet_any, may_stay, other_env, own_then}
 use Rattle.ti_roster.proofs.Returning.{backs_own}
 use Rattle.ti_service.specs.Agent.{AgentState, Meets, MeetsSome, Moved, knowing}
 use Rattle.ti_service.proofs.Homes.{own_later}
@@ -33,13 +33,13 @@ pub claim_moves : (o : Option EnvNo) (r r' : Log) (seen : List Coming) (res : Re
 claim_moves o r r' seen (Ok e) nobody claims user free is same = (may_attach o r r' e nobody free.1 is).moves
 claim_moves o r r' seen (Err e) nobody claims user free is same = (may_stay o r r' seen claims user same).moves
 
-met_moves : (u o : Option EnvNo) (r r' : Log) (desks : List FreeState) → r.user ≡ u → r.user ≡ o → HasMetOf u r r' desks → Moves o r'.user r.items r'.items
-met_moves None o r r' desks is user met = absurd met
-met_moves (Some e) o r r' desks is user met = (may_meet o r r' e (threads_in r.items) (sym user ∙ is) user met.2).moves
+met_moves : (u o : Option EnvNo) (r r' : Log) (seen : List Coming) (desks : List FreeState) → Claims r.items o seen → r.user ≡ u → r.user ≡ o → HasMetOf u r r' desks → Moves o r'.user r.items r'.items
+met_moves None o r r' seen desks claims is user met = absurd met
+met_moves (Some e) o r r' seen desks claims is user met = (may_meet_any o r r' seen e claims (sym user ∙ is) user met.2).moves
 
 pub meet_moves : {V : Type 0} (items : V → List FreeState) (o : Option EnvNo) (r r' : Log) (seen : List Coming) (res : Result V TiError) → Claims r.items o seen → r.user ≡ o
     → IfOk res (λ d. HasMetOf r.user r r' (items d)) → OnErr res (r' ≡ r) → Moves o r'.user r.items r'.items
-meet_moves items o r r' seen (Ok d) claims user met same = met_moves r.user o r r' (items d) (λ i. r.user) user met
+meet_moves items o r r' seen (Ok d) claims user met same = met_moves r.user o r r' seen (items d) claims (λ i. r.user) user met
 meet_moves items o r r' seen (Err e) claims user met same = (may_stay o r r' seen claims user same).moves
 
 -- The environment of a handle is disposed of
@@ -112,7 +112,7 @@ meets_some old first taken new desks next m same none env waits t n service cell
         place = ap (λ (x : Member). x.view.place) (sym same) ∙ t.place;
         cell = cell;
         found = t.found;
-        hold = subst (λ (x : Member × Member). Holds x.0.view x.1.view t.found (Met t.env (threads_in t.found) ∷ [])) (λ j. (same j, sym service j)) t.hold;
+        hold = subst (λ (x : Member × Member). Holds x.0.view x.1.view t.found (meeting t.env t.found)) (λ j. (same j, sym service j)) t.hold;
         taken = desks;
         left = left;
         moved = moved_on old first taken new desks m none env waits n;
@@ -128,7 +128,7 @@ meets_all old new last k none service last_none env =
       place = k.place;
       cell = ap (λ (x : Member). x.cell) service ∙ k.cell;
       found = k.found;
-      hold = subst (λ (x : Member). Holds old.service.view x.view k.found (Met k.env (threads_in k.found) ∷ [])) (sym service) k.hold;
+      hold = subst (λ (x : Member). Holds old.service.view x.view k.found (meeting k.env k.found)) (sym service) k.hold;
       taken = k.taken;
       left = k.left;
       env_is = env ∙ ap (λ (s : Environment). knowing s (threads_in k.found)) (k.moved.env ∙ ap (λ (l : List FreeState). fold with_desk old.env l) added);

@@ -10,8 +10,9 @@ use Rattle.ti_agent.specs.Desks.{is_new, with_desk}
 use Rattle.ti_agent.specs.Env.{Environment}
 use Rattle.ti_agent.specs.FreeDesk.{FreeState}
 use Rattle.ti_roster.specs.declared.coming.Coming.{Coming}
-use Rattle.ti_roster.specs.declared.coming.Coming.TheVariants.{Attached, Met}
+use Rattle.ti_roster.specs.declared.coming.Coming.TheVariants.{Attached}
 use Rattle.ti_roster.specs.Log.{live, mark_of, threads_in}
+use Rattle.ti_roster.specs.Roster.{meeting}
 use Rattle.ti_roster.specs.Rows.{AreLeft}
 use Rattle.ti_roster.specs.Rule.{Begins}
 use Rattle.ti_service.specs.Service.{Holds, Looks, Member}
@@ -69,7 +70,7 @@ pub record Meets (old new : AgentState) : Type 0 where
   pub place : old.service.view.place ≡ Some env
   pub cell : new.service.cell ≡ old.service.cell
   pub found : List Coming
-  pub hold : Holds old.service.view new.service.view found (Met env (threads_in found) ∷ [])
+  pub hold : Holds old.service.view new.service.view found (meeting env found)
   pub taken : List FreeState
   pub left : AreLeft found old.service.view.limits env (live found) taken
   pub env_is : new.env ≡ knowing (fold with_desk old.env (reverse old.waiting ++ taken)) (threads_in found)
@@ -81,7 +82,7 @@ pub record MeetsSome (old new : AgentState) : Type 0 where
   pub place : old.service.view.place ≡ Some env
   pub cell : new.service.cell ≡ old.service.cell
   pub found : List Coming
-  pub hold : Holds old.service.view new.service.view found (Met env (threads_in found) ∷ [])
+  pub hold : Holds old.service.view new.service.view found (meeting env found)
   pub taken : List FreeState
   pub left : AreLeft found old.service.view.limits env (live found) taken
   pub moved : Moved old new taken

@@ -11,11 +11,11 @@ use Rattle.ti_agent.specs.FreeDesk.{FreeState}
 use Rattle.ti_cell.specs.Seats.{Sitting as ThreadSitting}
 use Rattle.ti_cell.specs.View.{newcomer, subject_of}
 use Rattle.ti_roster.specs.declared.coming.Coming.{Coming}
-use Rattle.ti_roster.specs.declared.coming.Coming.TheVariants.{Came, Ended, Attached, Met, Disposed}
+use Rattle.ti_roster.specs.declared.coming.Coming.TheVariants.{Came, Ended, Attached, Disposed}
 use Rattle.ti_roster.specs.declared.info.ThreadInfo.{ThreadInfo}
 use Rattle.ti_roster.specs.declared.view.RosterView.{RosterView}
 use Rattle.ti_roster.specs.Log.{Log, is_live, live, mark_of, threads_in}
-use Rattle.ti_roster.specs.Roster.{IsOwn, and_back, end_refusal, serves}
+use Rattle.ti_roster.specs.Roster.{IsOwn, and_back, end_refusal, meeting, serves}
 use Rattle.ti_roster.specs.Rows.{AreLeft}
 use Rattle.ti_roster.specs.Rule.{Begins, Claims}
 use Rattle.ti_roster.specs.Seats.{Sitting}
@@ -86,7 +86,7 @@ pub record TakesDesks (old new : RosterView) (desks : List FreeState) (next : �
   pub env : EnvNo
   pub place : old.place ≡ Some env
   pub found : List Coming
-  pub hold : Holds old new found (Met env (threads_in found) ∷ [])
+  pub hold : Holds old new found (meeting env found)
   pub desks_are : AreLeft found old.limits env (live found) desks
   pub own : All (IsOwn found old.limits env) desks
   pub next_is : next ≡ threads_in found

@@ -83,7 +83,8 @@ impl Agent {
         let _ = &self.waiting;
     }
 
-    /// Whether threads or environments have come or gone since the agent last looked. It is one load.
+    /// Whether threads or environments have come or gone, or another agent has met threads that came, since this one last
+    /// looked. It is one load. Attaching is a look, so an agent meets once without news.
     pub fn has_news(&mut self) -> bool
         ensures same { self.new ≡ self.old }
     {

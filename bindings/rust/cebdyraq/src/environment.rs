@@ -80,9 +80,9 @@ impl Environment {
         checked(unsafe { sys::cq_wait_meet(self.at(), self.signal.at()) })
     }
 
-    /// Whether threads or environments have come or gone, or another environment has met, since it last looked. It is one
-    /// load. An environment that was just attached has looked, and has met no thread: it meets once without news. A
-    /// meeting is news to all others, even if it meets nobody.
+    /// Whether threads or environments have come or gone, or another environment has met threads that came, since it last
+    /// looked. It is one load. An environment that was just attached has looked, and has met no thread: it meets once
+    /// without news.
     pub fn has_news(&mut self) -> bool {
         unsafe { sys::cq_has_news(self.at()) }
     }

@@ -1,4 +1,4 @@
-use Rattle.std.proofs.Common.{◌≡◌, ◌+◌, ◌<◌, ℕ, List, [], ◌∷◌, ◌++◌, length, length-append, drop, inl, inr, Option, Some, ap, sym, ◌∙◌, subst, arith}
+use Rattle.std.proofs.Common.{◌≡◌, ◌+◌, ◌<◌, ℕ, List, [], ◌∷◌, ◌++◌, length, length-append, drop, false, inl, inr, Option, Some, ap, sym, ◌∙◌, subst, arith}
 use Rattle.std.specs.Prelude.{slice_get, slice_set}
 use Rattle.ti_roster.specs.declared.row.Row.{Row}
 use Rattle.std.proofs.lemmas.Bool.{cases_lt}
@@ -7,15 +7,16 @@ use Rattle.ti_agent.specs.FreeDesk.{FreeState}
 use Rattle.ti_roster.specs.declared.coming.Coming.{Coming}
 use Rattle.ti_roster.specs.declared.coming.Coming.TheVariants.{Met}
 use Rattle.ti_roster.specs.declared.newcomer.Newcomer.{Newcomer}
-use Rattle.ti_roster.specs.Log.{Log, Out, lies, live, threads_in, with_item}
-use Rattle.ti_roster.specs.Roster.{HasMet, HasMetOf}
+use Rattle.ti_roster.specs.Log.{Log, Out, lies, live, threads_in, with_items}
+use Rattle.ti_roster.specs.Roster.{HasMet, HasMetOf, has_met_all, meeting}
 use Rattle.ti_roster.specs.Rows.{AreLeft, AreRows, IsTaken, desks_in}
 use Rattle.ti_roster.proofs.Logs.{threads_met}
+use Rattle.ti_roster.proofs.Meeting.{none_left, notes_it, notes_nothing}
 use Rattle.ti_roster.proofs.Rows.{desks_behind, desks_left, left_own, rows_meet, taken_before}
 use Rattle.ti_roster.proofs.Searching.{live_at}
 use Rattle.ti_roster.specs.Events.{AreEvents}
 use Rattle.ti_roster.proofs.Lives.{events_met}
-use Rattle.ti_roster.proofs.roster.Roster.meet.Goals.{After-count_below-first, After-take_desks}
+use Rattle.ti_roster.proofs.roster.Roster.meet.Goals.{After-has_met_all, After-count_below-first, After-take_desks}
 use Rattle.ti_roster.proofs.roster.Roster.meet.Goals as goal
 
 -- the rows before the first one in which a desk may lie miss theirs
@@ -36,6 +37,21 @@ all_taken c out i r q a b =
           (taken_before c.self.inside.log.items c.self.inside.limits c.in-Some.env r c.if-env-self.true (c.self.invariant.3.each i r a) (out i r before a))
       | inr from ↦ c.take_desks.ensures.each i r q from a b
     ]
+
+-- what the code found is so of the list
+met_all : (c : After-has_met_all) → has_met_all c.in-Some.env c.self.inside.log.items ≡ c.has_met_all.result
+met_all c = ap (λ (x : Log). has_met_all c.in-Some.env x.items) c.self.view_is ∙ sym c.has_met_all.ensures
+
+pub returns-then-has_met_all-clause-met : goal.returns-then-has_met_all-clause-met
+returns-then-has_met_all-clause-met c =
+    let log = c.self.inside.log.items in
+    let limits = c.self.inside.limits in
+    let e : EnvNo = c.in-Some.env in
+    let old : Log = record { items = log; limits = limits; user = c.self.inside.user } in
+    let all = met_all (goal.at.returns-then-has_met_all-clause-met c).After-has_met_all ∙ c.if-has_met_all.true in
+    let left : AreLeft log limits e (live log) [] = none_left log limits c.self.inside.rows.items c.self.inside.marks.items e c.self.invariant.3 all in
+    let met : HasMet old old [] = subst (λ (u : Option EnvNo). HasMetOf u old old []) (sym c.in-Some.is) (left, left_own log limits e (live log) [] c.self.invariant.3.listed left, notes_nothing old e all) in
+    subst (λ (x : Log × List FreeState). HasMet x.0 x.0 x.1) (λ j. (c.self.view_is j, sym c.new.ensures.items j)) met
 
 pub invariant_of-self : goal.invariant_of-self
 invariant_of-self c =
@@ -72,6 +88,7 @@ returns-clause-met c =
     let left : AreLeft log limits e (live log) c.take_desks.new.desks.items =
     subst (λ (x : List Newcomer × List FreeState). AreLeft log limits e x.0 x.1) (λ j. (c.self.invariant.3.live_are j, sym got j)) (desks_left log limits e rows c.if-env-self.true c.self.invariant.3.each) in
     let now : Log = record { items = c.and-self-inside.result.items; limits = limits; user = c.self.inside.user } in
-    let after : now ≡ with_item old (Met e (threads_in log)) = ap (λ (l : List Coming). record { items = l; limits = limits; user = c.self.inside.user }) items in
+    let some : has_met_all e log ≡ false = met_all (goal.at.returns-clause-met c).After-has_met_all ∙ c.if-has_met_all.false in
+    let after : now ≡ with_items old (meeting e log) = ap (λ (l : List Coming). record { items = l; limits = limits; user = c.self.inside.user }) items ∙ notes_it old e some in
     subst (λ (x : Log). HasMet x now c.take_desks.new.desks.items) c.self.view_is
     (subst (λ (u : Option EnvNo). HasMetOf u old now c.take_desks.new.desks.items) (sym c.in-Some.is) (left, left_own log limits e (live log) c.take_desks.new.desks.items c.self.invariant.3.listed left, after))
