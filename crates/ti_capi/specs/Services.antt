@@ -23,6 +23,7 @@ AreInRange depth envs window = IsWithin most_depth depth × IsWithin 32 envs × 
 
 -- the limits of a service, whose threads may run as long as their process
 pub record AreLimitsOf (depth envs window : ℕ) (l : Limits) : Type 0 where
+  pub threads_is : l.threads ≡ 1
   pub depth_is : l.depth ≡ depth
   pub envs_is : l.envs ≡ envs
   pub window_is : l.window ≡ window
