@@ -26,7 +26,7 @@ const FEW: u32 = 4;
 const CALLS: u32 = 1_000_000;
 
 /// How many calls of an environment may be out at a thread.
-const WINDOW: u32 = 4;
+const WINDOW: u32 = 2;
 
 /// What it costs.
 #[derive(Clone, Copy)]
