@@ -1,4 +1,4 @@
-# `make run` builds the program and runs it on a first example. `make test` is the whole gate.
+# `make run` builds the program and runs it on a first example. `make test` is the whole gate, with the C programs of `c/tests`.
 # `make examples`, `make cases`, `make bench` and `make refused` run the program that `make run` has built: on the examples,
 # on all cases, on large documents (and programs that hold cells and run threads), and with each allocation, each start of a
 # thread, each read and each write refused in turn (and the tests of a core so). `make stress` runs it on live documents that

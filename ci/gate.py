@@ -1,27 +1,32 @@
 #!/usr/bin/env python3
-"""Runs `rt ci`, and then each case (`ci/cases.py`) on the programs that it has built.
+"""Runs `rt ci`, then each case (`ci/cases.py`) on the programs that it has built, and the C programs over the library.
 
 `rt ci` leaves `tiwalk` in `crates/tiwalk/out` as LLVM builds it, and, where Rattle's own compiler took it, as that builds
-it. Its output is passed on, but for its last line 'N passed, M failed': the cases are added to those counts, and the sums
-are the last line here.
+it. It builds no static library, so `ci/lib.py` does that, over the libraries that were proved. The output of `rt ci` is passed
+on, but for its last line 'N passed, M failed': what is tried besides is added to those counts, and the sums are the last line
+here.
 """
 
+import os
 import pathlib
 import re
+import shutil
 import subprocess
 import sys
 
 sys.dont_write_bytecode = True
 
 import cases
+import lib
+import proved_libraries
 
 PROGRAMS = ("crates/tiwalk/out/tiwalk", "crates/tiwalk/out/tiwalk.by-rattle")
 
 
-def run_ci():
-    """How many passed and failed of what `rt ci` tries, and its status."""
+def counts_of(*command):
+    """How many passed and failed of what a command tries, and its status. It prints all but the counts, its last line."""
     last = ""
-    with subprocess.Popen(["rt", "ci"], stdout=subprocess.PIPE, text=True, errors="replace") as started:
+    with subprocess.Popen(command, stdout=subprocess.PIPE, text=True, errors="replace") as started:
         for line in started.stdout:
             print(last, end="", flush=True)
             last = line
@@ -32,12 +37,28 @@ def run_ci():
     return int(counts[1]), int(counts[2]), started.returncode
 
 
+def try_library():
+    """The same of the C programs, over a library that is built first. Without a C compiler none is tried."""
+    if not shutil.which(os.environ.get("CC", "cc")):
+        print("there is no C compiler: the C programs are not tried")
+        return 0, 0, 0
+    proved_libraries.note(lib.CRATE, lib.TOP)
+    if subprocess.run([sys.executable, "ci/lib.py"]).returncode:
+        print("the library for C was not built")
+        return 0, 1, 1
+    return counts_of(sys.executable, "c/tests/run.py", lib.ARCHIVE)
+
+
 def main():
-    passed, failed, status = run_ci()
+    passed, failed, status = counts_of("rt", "ci")
     programs = [program for program in PROGRAMS if pathlib.Path(program).is_file()] or PROGRAMS[:1]
     for program in programs:
         well, ill = cases.run_all(program)
         print(f"cases on {program}: {well} passed, {ill} failed")
+        passed, failed = passed + well, failed + ill
+    if not status:
+        well, ill, status = try_library()
+        print(f"C programs: {well} passed, {ill} failed")
         passed, failed = passed + well, failed + ill
     print(f"{passed} passed, {failed} failed")
     return 1 if failed or status else 0

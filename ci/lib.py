@@ -15,6 +15,7 @@ import tempfile
 
 TOP = os.path.dirname(os.path.dirname(os.path.abspath(__file__)))
 CRATE = f"{TOP}/crates/ti_capi"
+ARCHIVE = f"{CRATE}/out/libti_capi.a"
 HEADERS = ["cebdyraq.h", "cebdyraq_wait.h"]
 SOURCES = ["cebdyraq_heap.c", "cebdyraq_wait.c"]
 PKG_CONFIG = """prefix=${pcfiledir}/../..
@@ -57,7 +58,7 @@ def main():
     copy(f"{TOP}/c", SOURCES, f"{dist}/src")
     os.makedirs(f"{dist}/lib/pkgconfig")
     archive = f"{dist}/lib/libcebdyraq.a"
-    shutil.copy(f"{CRATE}/out/libti_capi.a", archive)
+    shutil.copy(ARCHIVE, archive)
     os.chmod(archive, 0o644)
     with tempfile.TemporaryDirectory() as room:
         run("ar", "r", archive, *objects(room))
