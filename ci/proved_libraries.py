@@ -22,7 +22,7 @@ def note(crate, top):
             folder = pathlib.Path(library.folder, "out", "rlib")
             if folder.is_dir():
                 (folder / "stamp").write_text(library.stamp(), encoding="utf-8")
-    except (ImportError, AttributeError, OSError) as why:
+    except (ImportError, AttributeError, TypeError, OSError, SystemExit) as why:
         print(f"the libraries are proved once more: {why}", flush=True)
     finally:
         sys.path.pop(0)
