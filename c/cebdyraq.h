@@ -24,7 +24,8 @@
  *
  * A function gives CQ_OK or the first code of its list that fits. Codes below 200 are errors of JVM TI 11 and have its
  * numbers. With any code but CQ_OK, CQ_HELD and CQ_WAITING nothing has changed, unless the function says more.
- * CQ_MISUSED comes before all others: the handle is empty or of another kind. So does a handle after its end.
+ * CQ_MISUSED comes before all others: the handle is empty or of another kind. So it is with a handle after its end, and with
+ * an environment while it gathers a trace.
  *
  * WHAT A CALLER OWES
  *
@@ -71,12 +72,15 @@ enum {
     CQ_OWN_SPENT = 208,               /* the thread has spent its 2^59 steps */
     CQ_CALLS_SPENT = 209,             /* the environment has spent its 2^52 calls at the thread */
     CQ_NOT_NEW = 210,                 /* a start of a thread that has started */
+    CQ_ALREADY_STOPPED = 211,         /* another environment's trace has stopped the thread: call again later */
+    CQ_STILL_RUNNING = 213,           /* a thread of the trace has not come to its next poll: call again later */
     CQ_TIMED_OUT = 214,               /* cebdyraq_wait.h alone: the time is over */
     CQ_BUSY = 215,                    /* another thread uses it at this moment: call again */
     CQ_HELD = 301,                    /* the thread is held at its poll, and returns by cq_back */
     CQ_WAITING = 302,                 /* the call waits for the thread: collect its answer later */
-    CQ_NONE = 303,                    /* there is no event to be told */
-    CQ_MISUSED = 304                  /* the handle is empty, of another kind, or full when an empty one is wanted */
+    CQ_NONE = 303,                    /* there is no event to be told, or no trace */
+    CQ_MISUSED = 304                  /* the handle is empty, of another kind, or full when an empty one is wanted. Or the
+                                         environment gathers a trace, or has none to go on with */
 };
 
 /* Bits of GetThreadState (JVM TI 11). */
@@ -134,6 +138,9 @@ typedef struct { uint64_t name_length; int32_t priority; } cq_thread_info;
 
 /* An event: CQ_THREAD_START or CQ_THREAD_END, the thread's number, and how many events were lost before it. */
 typedef struct { uint32_t kind; uint32_t thread; uint64_t lost; } cq_event;
+
+/* What a trace of several threads tells of one: its number, its state (GetThreadState), and how many frames there are. */
+typedef struct { uint32_t thread; uint32_t state; uint64_t frame_count; } cq_stack_info;
 
 /* ------------------------------------------------------------------------------------------------------------------
  * The service. It lives as long as a handle of it, a thread or an environment.
@@ -287,6 +294,57 @@ uint32_t cq_discard(cq_env *env, uint32_t thread, bool *thrown);
 
 /* How many calls of the environment are out at the thread. CQ_MISUSED. */
 uint32_t cq_out_at(cq_env *env, uint32_t thread, uint32_t *count);
+
+/* ------------------------------------------------------------------------------------------------------------------
+ * Traces of several threads at one moment (GetAllStackTraces, GetThreadListStackTraces).
+ *
+ * A trace is begun, and gathered step by step. First each thread is stopped, in the order of the numbers. Then each is seen
+ * standing, then each is read, and then each is let go. So all stand before the first is read, and all are read before the
+ * first is let go.
+ *
+ * A thread that runs when it is stopped runs on to its next poll. There it is CQ_HELD. It may also go native, block or end.
+ * Until a thread is let go, its cq_start and cq_back are CQ_BARRED. So a trace has to be gone on with until its end.
+ *
+ * While an environment gathers a trace, its other calls give CQ_MISUSED, also cq_dispose_environment. Afterwards it has its
+ * words, its capabilities and its calls that are out as before.
+ *
+ * All memory is taken when the trace begins. It spends one call at each thread for the stop, and one for each read.
+ */
+
+/* Begins GetAllStackTraces: of all threads that the environment has met, with at most `max_count` frames of each, newest first.
+ * Only those that are alive are told of, in the order of their numbers. Nothing is stopped yet. What the last trace has
+ * gathered is thrown away. CQ_MISUSED, CQ_ILLEGAL_ARGUMENT if `max_count` is negative, CQ_CALLS_SPENT if fewer than two calls
+ * are left at a thread, CQ_OUT_OF_MEMORY. */
+uint32_t cq_gather_all_stack_traces(cq_env *env, int32_t max_count);
+
+/* The same for GetThreadListStackTraces: of each element of a list, in its order. A thread that is named twice is stopped once
+ * and read twice. One that is not alive has no frames. CQ_MISUSED, CQ_INVALID_THREAD also if the environment has let go of one,
+ * CQ_ILLEGAL_ARGUMENT if `max_count` is negative, CQ_OUT_OF_MEMORY, which may come before these two, CQ_CALLS_SPENT if fewer
+ * calls are left at a thread than its stop and its reads cost. */
+uint32_t cq_gather_thread_list_stack_traces(cq_env *env, const uint32_t *threads, size_t count, int32_t max_count);
+
+/* Goes on with the trace. It does one thing at one thread, or nothing between two of the four parts. CQ_OK: it writes to `over`
+ * whether the trace has come to its end. While it has not, call again. CQ_MISUSED also if no trace is gathered.
+ * CQ_ALREADY_STOPPED: another environment's trace has stopped the next thread. CQ_STILL_RUNNING: the next thread still runs. It
+ * has not polled yet, gone native, blocked or ended. CQ_BUSY. With these three nothing is written: call again later. */
+uint32_t cq_gather_step(cq_env *env, bool *over);
+
+/* Gives the trace up if not all of its threads were seen standing yet. From then on each step lets a thread go that it has
+ * stopped, until it is over. Otherwise nothing happens, and the trace goes on to its end. CQ_MISUSED also if no trace is
+ * gathered. */
+uint32_t cq_gather_give_up(cq_env *env);
+
+/* How many threads the environment's last trace tells of. What it has gathered stays until the next one begins, or the
+ * environment is disposed of. CQ_MISUSED, CQ_NONE if none was made, or if the last was given up. */
+uint32_t cq_gathered(cq_env *env, uint64_t *count);
+
+/* What the last trace tells of one thread, by an index from 0. Writes as many frames as there is `room` for, newest first, and
+ * to `info` how many there are. CQ_MISUSED, CQ_NONE as for cq_gathered, CQ_ILLEGAL_ARGUMENT if there is no such index. */
+uint32_t cq_gathered_stack(cq_env *env, uint64_t index, cq_stack_info *info, cq_frame *frames, size_t room);
+
+/* ------------------------------------------------------------------------------------------------------------------
+ * What is the environment's own.
+ */
 
 /* AddCapabilities: all or none. CQ_MISUSED, CQ_NOT_AVAILABLE. RelinquishCapabilities, GetCapabilities and
  * GetPotentialCapabilities: CQ_MISUSED. */

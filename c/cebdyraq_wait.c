@@ -3,7 +3,14 @@
  * Why no wake-up is lost. Who is about to sleep counts itself in `sleepers`, then reads `news`, and then tries once
  * more. It sleeps only while `news` is what it read. Who wakes has done its call, and then reads `sleepers`. If the
  * sleeper is counted, `news` changes. If it is not yet, its last try comes after the call, and succeeds. All of these
- * steps are sequentially consistent, and so are those of the library. */
+ * steps are sequentially consistent, and so are those of the library.
+ *
+ * A try of a trace is many steps, up to the first that fails. The trace sleeps for that one alone. What lets it go on comes
+ * after that step, and so after `news` was read. Then `news` has changed, and the trace does not sleep.
+ *
+ * Two that gather at once do not wait for each other in a ring. Both stop threads in the order of their numbers. So who meets a
+ * thread that the other has stopped has itself stopped none that the other still wants to stop. The other wakes it when it
+ * has let all threads go, also if its time was over. */
 #define _GNU_SOURCE
 #include "cebdyraq_wait.h"
 
@@ -27,10 +34,13 @@ typedef struct {
     bool counted;     /* among the sleepers */
     uint32_t seen;    /* the news before the last try, once it is counted */
     int64_t began;    /* when the first try had failed, or -1 */
+    int64_t stuck;    /* since when it comes no further, or -1 */
 } waiter;
 
 static waiter begin(cq_signal *signal, int64_t timeout_ns, uint32_t not_yet) {
-    return (waiter){ .signal = signal, .timeout = timeout_ns, .not_yet = not_yet, .code = CQ_BUSY, .began = -1 };
+    return (waiter){
+        .signal = signal, .timeout = timeout_ns, .not_yet = not_yet, .code = CQ_BUSY, .began = -1, .stuck = -1,
+    };
 }
 
 static int64_t now_ns(void) {
@@ -98,11 +108,14 @@ static bool again(waiter *w) {
     if (w->began < 0) {
         w->began = now;
     }
+    if (w->stuck < 0) {
+        w->stuck = now;
+    }
     if (w->timeout >= 0 && now - w->began >= w->timeout) {
         w->code = CQ_TIMED_OUT;
         return leave(w);
     }
-    if (now - w->began < spin_ns()) {
+    if (now - w->stuck < spin_ns()) {
         spin();
         return true;
     }
@@ -369,6 +382,50 @@ uint32_t cq_wait_set_thread_local_storage(cq_env *env, cq_signal *signal, uint32
     waiter w = begin_post(env, signal, thread, timeout_ns);
     while (again(&w)) w.code = cq_set_thread_local_storage(env, thread, word, &answer);
     return answered_without_frames(env, &w, &answer);
+}
+
+/* Traces of several threads. */
+
+/* Goes on with a trace as far as it can. CQ_OK at its end, CQ_WAITING if another has to do something first, and CQ_BUSY. */
+static uint32_t step_on(cq_env *env, waiter *w) {
+    bool over = false;
+    uint32_t code = CQ_OK;
+    while (!over && (code = cq_gather_step(env, &over)) == CQ_OK) {
+        w->stuck = -1;
+    }
+    return code == CQ_ALREADY_STOPPED || code == CQ_STILL_RUNNING ? CQ_WAITING : code;
+}
+
+/* Goes on with a trace until its end, or until the time is over. */
+static uint32_t step_to_end(cq_env *env, cq_signal *signal, int64_t timeout_ns) {
+    waiter w = begin(signal, timeout_ns, CQ_WAITING);
+    while (again(&w)) w.code = step_on(env, &w);
+    return w.code;
+}
+
+/* A trace that has begun, until its end. When the time is over, it is given up if it still can be. Then it waits only while
+ * threads are used by others. At the end all are woken who sleep: threads that were stopped, and traces that met them so. */
+static uint32_t gathered(cq_env *env, cq_signal *signal, int64_t timeout_ns, uint64_t *count) {
+    uint32_t code = step_to_end(env, signal, timeout_ns);
+    if (code == CQ_TIMED_OUT && cq_gather_give_up(env) == CQ_OK) {
+        code = step_to_end(env, signal, FOREVER);
+    }
+    cq_wake(signal);
+    if (code != CQ_OK) return code;
+    return cq_gathered(env, count) == CQ_NONE ? CQ_TIMED_OUT : CQ_OK;
+}
+
+uint32_t cq_wait_get_all_stack_traces(cq_env *env, cq_signal *signal, int32_t max_count, int64_t timeout_ns,
+                                      uint64_t *count) {
+    uint32_t code = cq_gather_all_stack_traces(env, max_count);
+    return code == CQ_OK ? gathered(env, signal, timeout_ns, count) : code;
+}
+
+uint32_t cq_wait_get_thread_list_stack_traces(cq_env *env, cq_signal *signal, const uint32_t *threads,
+                                              size_t thread_count, int32_t max_count, int64_t timeout_ns,
+                                              uint64_t *count) {
+    uint32_t code = cq_gather_thread_list_stack_traces(env, threads, thread_count, max_count);
+    return code == CQ_OK ? gathered(env, signal, timeout_ns, count) : code;
 }
 
 /* Lists. */

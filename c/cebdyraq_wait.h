@@ -6,7 +6,8 @@
  * Each function has the codes of its namesake in cebdyraq.h, but for these:
  *
  * - CQ_BUSY is never given. Who meets it tries again.
- * - CQ_WAITING, CQ_HELD, CQ_BARRED and CQ_NONE are never given. The function waits for what they stand for.
+ * - CQ_WAITING, CQ_HELD, CQ_BARRED, CQ_NONE, CQ_ALREADY_STOPPED and CQ_STILL_RUNNING are never given. The function waits for
+ *   what they stand for.
  * - CQ_TIMED_OUT: the time is over. Only functions with a `timeout_ns` give it.
  *
  * A `timeout_ns` is in nanoseconds. 0 is one try, and a negative one is for ever. The time runs from the first try that
@@ -28,8 +29,8 @@ typedef struct { uint32_t news; uint32_t sleepers; } cq_signal;
 /* Wakes those who sleep. It is one load if nobody does.
  *
  * The functions below do it by themselves. A program that also uses functions of cebdyraq.h calls it after each that
- * may let another go on: cq_poll, cq_native, cq_block, cq_end, cq_resume_thread, cq_attach_thread and cq_detach_thread.
- */
+ * may let another go on: cq_poll, cq_native, cq_block, cq_end, cq_resume_thread, cq_attach_thread and cq_detach_thread. So it
+ * does after the last cq_gather_step of a trace. */
 void cq_wake(cq_signal *signal);
 
 /* ------------------------------------------------------------------------------------------------------------------
@@ -109,6 +110,22 @@ void cq_wait_suspend_thread_list(cq_env *env, cq_signal *signal, const uint32_t 
                                  int64_t timeout_ns, uint32_t *codes);
 void cq_wait_resume_thread_list(cq_env *env, cq_signal *signal, const uint32_t *threads, size_t count,
                                 int64_t timeout_ns, uint32_t *codes);
+
+/* GetAllStackTraces and GetThreadListStackTraces: a trace is begun, and gathered to its end. With CQ_OK it is there, for
+ * cq_gathered_stack, and `count` is how many threads it tells of. It sleeps until each thread that runs has polled, gone
+ * native, blocked or ended, and while another environment's trace has stopped one. Threads that it has stopped sleep
+ * until all are let go.
+ *
+ * When the time is over before all of the threads stand, the trace is given up, with CQ_TIMED_OUT. What it has stopped is
+ * let go before the function returns. If all were seen standing by then, it comes to its end, with CQ_OK. Either may take
+ * longer than the time, but waits only while a thread is used by others.
+ *
+ * Each other code is one of cq_gather_all_stack_traces or cq_gather_thread_list_stack_traces. Then nothing was begun. */
+uint32_t cq_wait_get_all_stack_traces(cq_env *env, cq_signal *signal, int32_t max_count, int64_t timeout_ns,
+                                      uint64_t *count);
+uint32_t cq_wait_get_thread_list_stack_traces(cq_env *env, cq_signal *signal, const uint32_t *threads,
+                                              size_t thread_count, int32_t max_count, int64_t timeout_ns,
+                                              uint64_t *count);
 
 /* The answer to a call that was posted by a function of cebdyraq.h. It sleeps until the answer is there, and for ever
  * for a ticket that is not out. After CQ_TIMED_OUT the call is out as before. */

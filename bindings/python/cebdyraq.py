@@ -50,6 +50,8 @@ class Code(enum.IntEnum):
     OWN_SPENT = 208
     CALLS_SPENT = 209
     NOT_NEW = 210
+    ALREADY_STOPPED = 211
+    STILL_RUNNING = 213
     TIMED_OUT = 214
     BUSY = 215
     HELD = 301
@@ -78,6 +80,7 @@ class Error(Exception):
 
 Frame = collections.namedtuple("Frame", "method location")
 ThreadInfo = collections.namedtuple("ThreadInfo", "name priority")
+StackInfo = collections.namedtuple("StackInfo", "thread state frames")
 Event = collections.namedtuple("Event", "kind thread lost")
 
 
@@ -105,6 +108,10 @@ class _Event(ctypes.Structure):
     _fields_ = [("kind", ctypes.c_uint32), ("thread", ctypes.c_uint32), ("lost", ctypes.c_uint64)]
 
 
+class _StackInfo(ctypes.Structure):
+    _fields_ = [("thread", ctypes.c_uint32), ("state", ctypes.c_uint32), ("frame_count", ctypes.c_uint64)]
+
+
 _U32, _U64, _I32, _I64, _SIZE = ctypes.c_uint32, ctypes.c_uint64, ctypes.c_int32, ctypes.c_int64, ctypes.c_size_t
 _BOOL, _AT = ctypes.c_bool, ctypes.c_void_p
 
@@ -121,6 +128,11 @@ def _in_range(kind, least, most):
 
 
 _NUMBER, _WORD, _INT = _in_range(_U32, 0, 2**32 - 1), _in_range(_U64, 0, 2**64 - 1), _in_range(_I32, -2**31, 2**31 - 1)
+
+
+def _numbers(threads):
+    return (_U32 * len(threads))(*(_NUMBER.from_param(thread) for thread in threads))
+
 
 # The arguments of each function, after the handle. A pointer is a void pointer here.
 _FUNCTIONS = {
@@ -139,6 +151,9 @@ _FUNCTIONS = {
     "cq_wait_suspend_thread_list": [_AT, _AT, _SIZE, _I64, _AT],
     "cq_wait_resume_thread_list": [_AT, _AT, _SIZE, _I64, _AT],
     "cq_wait_pop_frame": [_AT, _NUMBER, _I64],
+    "cq_wait_get_all_stack_traces": [_AT, _INT, _I64, _AT],
+    "cq_wait_get_thread_list_stack_traces": [_AT, _AT, _SIZE, _INT, _I64, _AT],
+    "cq_gathered_stack": [_WORD, _AT, _AT, _SIZE],
     "cq_wait_get_thread_local_storage": [_AT, _NUMBER, _I64, _AT],
     "cq_wait_set_thread_local_storage": [_AT, _NUMBER, _WORD, _I64],
     "cq_wait_collect": [_AT, _AT, _I64, _AT, _AT, _SIZE],
@@ -324,6 +339,38 @@ class Environment:
                           _nanoseconds(timeout), frames, len(frames))
         return [Frame(frame.method, frame.location) for frame in frames[:count]]
 
+    def get_all_stack_traces(self, max_count=1024, timeout=None):
+        """A StackInfo of each thread that is alive, all at one moment. No thread runs until all were read."""
+        return self._gather("cq_wait_get_all_stack_traces", max_count, _nanoseconds(timeout))
+
+    def get_thread_list_stack_traces(self, threads, max_count=1024, timeout=None):
+        """The same of each of these threads, in their order. One that is not alive has no frames."""
+        return self._gather("cq_wait_get_thread_list_stack_traces", _numbers(threads), len(threads), max_count,
+                            _nanoseconds(timeout))
+
+    def _gather(self, name, *arguments):
+        """Makes a trace, and reads all that it has gathered before another call of the environment is made."""
+        count = _U64()
+        with self._one_at_a_time:
+            code = getattr(self._library, name)(ctypes.byref(self._handle), self._signal, *arguments,
+                                                ctypes.byref(count))
+            if code != Code.OK:
+                raise Error(code)
+            return [self._gathered_stack(index) for index in range(count.value)]
+
+    def _gathered_stack(self, index):
+        info, frames = _StackInfo(), _room_for(0)
+        for _ in range(2):
+            code = self._library.cq_gathered_stack(ctypes.byref(self._handle), index, ctypes.byref(info), frames,
+                                                   len(frames))
+            if code != Code.OK:
+                raise Error(code)
+            if info.frame_count <= len(frames):
+                break
+            frames = _room_for(info.frame_count)
+        told = [Frame(frame.method, frame.location) for frame in frames[:info.frame_count]]
+        return StackInfo(info.thread, info.state, told)
+
     def suspend_thread(self, thread, timeout=None):
         self._call("cq_wait_suspend_thread", self._signal, thread, _nanoseconds(timeout))
 
@@ -331,7 +378,7 @@ class Environment:
         self._call("cq_wait_resume_thread", self._signal, thread, _nanoseconds(timeout))
 
     def _list(self, name, threads, timeout):
-        wanted, codes = (_U32 * len(threads))(*threads), (_U32 * len(threads))()
+        wanted, codes = _numbers(threads), (_U32 * len(threads))()
         self._plain_call(name, self._signal, wanted, len(threads), _nanoseconds(timeout), codes)
         return [Code(code) for code in codes]
 

@@ -17,7 +17,7 @@ import time
 import unittest
 
 import cebdyraq
-from cebdyraq import Capability, Code, Environment, Error, EventKind, Frame
+from cebdyraq import Capability, Code, Environment, Error, EventKind, Frame, StackInfo
 
 HERE = pathlib.Path(__file__).resolve().parent
 C = HERE.parent.parent / "c"
@@ -78,6 +78,40 @@ class WithRuntime(unittest.TestCase):
         self.library.runtime_go_native()
         self.assertEqual(self.env.get_thread_state(self.thread), 0x400005)
         self.assertEqual(self.env.get_stack_trace(self.thread, 0, 1), [Frame(3, -1)])
+
+    def test_all_stacks(self):
+        env, thread = self.env, self.thread
+        whole = StackInfo(thread, 0x5, [Frame(2, 0), Frame(1, 10)])
+        self.assertEqual(env.get_all_stack_traces(), [whole])
+        self.assertEqual(env.get_all_stack_traces(1, timeout=60), [StackInfo(thread, 0x5, [Frame(2, 0)])])
+        self.assertEqual(env.get_thread_list_stack_traces([thread, thread], 2), [whole, whole])
+        self.assertEqual(env.get_thread_list_stack_traces([]), [])
+        self.assert_code(Code.INVALID_THREAD, env.get_thread_list_stack_traces, [thread, 1])
+        self.assert_code(Code.ILLEGAL_ARGUMENT, env.get_all_stack_traces, -1)
+        with self.assertRaises(OverflowError):
+            env.get_thread_list_stack_traces([2**32])
+        self.library.runtime_go_native()
+        frames = [Frame(3, -1), Frame(2, 0), Frame(1, 10)]
+        self.assertEqual(env.get_all_stack_traces(timeout=0), [StackInfo(thread, 0x400005, frames)])
+        with self.attach() as other:
+            self.assertEqual(other.get_all_stack_traces(), [])
+
+    def test_stacks_by_two_python_threads(self):
+        """Each has what its own trace has gathered."""
+        failures = []
+
+        def trace(max_count):
+            for _ in range(200):
+                [info] = self.env.get_all_stack_traces(max_count)
+                if len(info.frames) != max_count:
+                    failures.append(info)
+
+        tracers = [threading.Thread(target=trace, args=(max_count,)) for max_count in (1, 2)]
+        for tracer in tracers:
+            tracer.start()
+        for tracer in tracers:
+            tracer.join()
+        self.assertEqual(failures, [])
 
     def test_suspend_and_pop(self):
         env, thread = self.env, self.thread

@@ -7,7 +7,7 @@
 
 #include <time.h>
 
-enum { FRAMES = 32 };
+enum { FRAMES = 32, OTHERS = 16 };
 
 static cq_service service;
 static cq_thread thread;
@@ -96,6 +96,40 @@ static void set_frames(void) {
     tell("cq_set_frames, 2 of 32 frames differ", now_ns() - began);
 }
 
+static cq_thread others[OTHERS];
+static uint32_t numbers[OTHERS];
+
+static void set_up_others(void) {
+    for (uint32_t i = 0; i < OTHERS; i++) {
+        OK(cq_attach_thread(&service, (const uint8_t *)"other", 5, 5, &others[i]));
+        OK(cq_thread_number(&others[i], &numbers[i]));
+        OK(cq_start(&others[i]));
+        for (uint32_t k = 1; k < FRAMES; k++) OK(cq_enter(&others[i], k));
+        OK(cq_enter_native(&others[i], 0));
+        OK(cq_native(&others[i]));
+    }
+    OK(cq_meet(&env));
+}
+
+static void traces(void) {
+    uint64_t times = rounds / OTHERS + 1;
+    cq_stack_info info;
+    set_up_others();
+    double began = now_ns();
+    for (uint64_t i = 0; i < times; i++) {
+        OK(cq_gather_thread_list_stack_traces(&env, numbers, OTHERS, FRAMES));
+        for (bool over = false; !over;) OK(cq_gather_step(&env, &over));
+        for (uint64_t k = 0; k < OTHERS; k++) OK(cq_gathered_stack(&env, k, &info, frames, FRAMES));
+        SAME(info.frame_count, FRAMES);
+    }
+    tell("a trace of 16 native threads of 32 frames", (now_ns() - began) * (double)rounds / (double)times);
+    for (uint32_t i = 0; i < OTHERS; i++) {
+        OK(cq_back(&others[i]));
+        OK(cq_end(&others[i]));
+        OK(cq_detach_thread(&others[i]));
+    }
+}
+
 int main(int count, char **words) {
     if (count > 1) rounds = strtoull(words[1], NULL, 0);
     OK(cq_make(64, 1, 8, &service));
@@ -110,6 +144,7 @@ int main(int count, char **words) {
     state();
     trace();
     set_frames();
+    traces();
     OK(cq_end(&thread));
     OK(cq_detach_thread(&thread));
     OK(cq_dispose_environment(&env));

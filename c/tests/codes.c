@@ -1,8 +1,8 @@
 /* codes.c: each function gives each code of its list in cebdyraq.h, and nothing changes then.
  *
- * Not here, since one thread cannot have them: CQ_BUSY, CQ_OWN_SPENT and CQ_CALLS_SPENT (2^59 steps and 2^52 calls),
- * CQ_BARRED of cq_start (nothing in cebdyraq.h stops a thread that has not started), and CQ_ILLEGAL_ARGUMENT of cq_meet
- * (the list of threads is always in order). */
+ * Not here, since one thread cannot have them: CQ_BUSY, CQ_OWN_SPENT and CQ_CALLS_SPENT (2^59 steps and 2^52 calls), and
+ * CQ_ILLEGAL_ARGUMENT of cq_meet (the list of threads is always in order). In gather.c, since they need a trace that is
+ * gathered: CQ_BARRED of cq_start, CQ_ALREADY_STOPPED and CQ_STILL_RUNNING. */
 #include "codes.h"
 
 outputs out;
@@ -169,5 +169,6 @@ int main(void) {
     check_rows(ENV_ROWS, ENV_ROW_COUNT);
     printf("%zu refusals\n", SERVICE_ROW_COUNT + THREAD_ROW_COUNT + ENV_ROW_COUNT);
     printf("%" PRIu32 " refusals for lack of memory\n", refuse_memory());
+    printf("%" PRIu32 " calls refused while a trace is gathered\n", refuse_while_gathering());
     return 0;
 }

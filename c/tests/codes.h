@@ -38,6 +38,7 @@ typedef struct {
     cq_frame frames[2];
     cq_event event;
     cq_thread_info info;
+    cq_stack_info stack;
     uint64_t word;
     uint32_t number;
     uint32_t threads[2];
@@ -81,6 +82,9 @@ extern const size_t SERVICE_ROW_COUNT, THREAD_ROW_COUNT, ENV_ROW_COUNT;
 
 /* Runs all that has to do with memory. It gives how many refusals of memory were told. */
 uint32_t refuse_memory(void);
+
+/* Makes each call of an environment while it gathers a trace. It gives how many calls these are. */
+uint32_t refuse_while_gathering(void);
 
 /* Rows of a call, on an empty handle and on one of another kind. */
 #define MISUSES(name) { "cq_" #name, CQ_MISUSED, RUNS, name##_empty }, { "cq_" #name, CQ_MISUSED, RUNS, name##_wrong }

@@ -3,6 +3,9 @@
 
 #define COUNT(rows) (sizeof(rows) / sizeof((rows)[0]))
 
+/* The world's thread, and one that is not there. */
+static const uint32_t LISTED[] = { 0, 1 };
+
 MISUSED_ENV(meet, cq_meet(h))
 MISUSED_ENV(let_go, cq_let_go(h, 0, &out.flag))
 MISUSED_ENV(get_all_threads, cq_get_all_threads(h, out.threads, 2, &out.word))
@@ -20,6 +23,12 @@ ON_ENV(collect, cq_collect(h, &w->ticket, &out.answer, out.frames, 2))
 MISUSED_ENV(cancel, cq_cancel(h, &w->ticket))
 MISUSED_ENV(discard, cq_discard(h, 0, &out.flag))
 MISUSED_ENV(out_at, cq_out_at(h, 0, &out.number))
+MISUSED_ENV(gather_all_stack_traces, cq_gather_all_stack_traces(h, 2))
+MISUSED_ENV(gather_thread_list_stack_traces, cq_gather_thread_list_stack_traces(h, LISTED, 1, 2))
+ON_ENV(gather_step, cq_gather_step(h, &out.flag))
+ON_ENV(gather_give_up, cq_gather_give_up(h))
+ON_ENV(gathered, cq_gathered(h, &out.word))
+ON_ENV(gathered_stack, cq_gathered_stack(h, 0, &out.stack, out.frames, 2))
 ON_ENV(add_capabilities, cq_add_capabilities(h, 5))
 MISUSED_ENV(relinquish_capabilities, cq_relinquish_capabilities(h, 3))
 MISUSED_ENV(get_capabilities, cq_get_capabilities(h, &out.number))
@@ -40,6 +49,15 @@ static uint32_t trace_below(world *w) { return cq_get_stack_trace(&w->env, 0, 0,
 static uint32_t trace_before_oldest(world *w) {
     return cq_get_stack_trace(&w->env, 0, -3, 2, &out.answer, out.frames, 2);
 }
+
+static uint32_t gather_all_below(world *w) { return cq_gather_all_stack_traces(&w->env, -1); }
+static uint32_t gather_all_lowest(world *w) { return cq_gather_all_stack_traces(&w->env, INT32_MIN); }
+static uint32_t gather_one(world *w) { return cq_gather_thread_list_stack_traces(&w->env, LISTED, 1, 2); }
+static uint32_t gather_two(world *w) { return cq_gather_thread_list_stack_traces(&w->env, LISTED, 2, 2); }
+static uint32_t gather_list_below(world *w) { return cq_gather_thread_list_stack_traces(&w->env, LISTED, 1, -1); }
+static uint32_t gather_none_below(world *w) { return cq_gather_thread_list_stack_traces(&w->env, LISTED, 0, -1); }
+/* CQ_INVALID_THREAD comes first. */
+static uint32_t gather_two_below(world *w) { return cq_gather_thread_list_stack_traces(&w->env, LISTED, 2, -1); }
 
 /* A call without the capability that it needs. The capability comes back, so that nothing has changed. */
 #define WITHOUT(name, capability) \
@@ -113,6 +131,22 @@ const row ENV_ROWS[] = {
     MISUSES(collect), { "cq_collect", CQ_WAITING, RUNS, collect }, { "cq_collect", CQ_WAITING, WAITS, collect },
     { "cq_collect", CQ_WAITING, UNMET, collect }, { "cq_collect", CQ_WAITING, LET_GO, collect },
     MISUSES(cancel), MISUSES(discard), MISUSES(out_at),
+    MISUSES(gather_all_stack_traces), { "cq_gather_all_stack_traces", CQ_ILLEGAL_ARGUMENT, RUNS, gather_all_below },
+    { "cq_gather_all_stack_traces", CQ_ILLEGAL_ARGUMENT, NATIVE, gather_all_lowest },
+    { "cq_gather_all_stack_traces", CQ_ILLEGAL_ARGUMENT, UNMET, gather_all_below },
+    MISUSES(gather_thread_list_stack_traces),
+    { "cq_gather_thread_list_stack_traces", CQ_INVALID_THREAD, RUNS, gather_two },
+    { "cq_gather_thread_list_stack_traces", CQ_INVALID_THREAD, UNMET, gather_one },
+    { "cq_gather_thread_list_stack_traces", CQ_INVALID_THREAD, LET_GO, gather_one },
+    { "cq_gather_thread_list_stack_traces", CQ_INVALID_THREAD, HELD, gather_two_below },
+    { "cq_gather_thread_list_stack_traces", CQ_ILLEGAL_ARGUMENT, RUNS, gather_list_below },
+    { "cq_gather_thread_list_stack_traces", CQ_ILLEGAL_ARGUMENT, GIVEN_BACK, gather_list_below },
+    { "cq_gather_thread_list_stack_traces", CQ_ILLEGAL_ARGUMENT, UNMET, gather_none_below },
+    MISUSES(gather_step), { "cq_gather_step", CQ_MISUSED, RUNS, gather_step },
+    { "cq_gather_step", CQ_MISUSED, HELD, gather_step },
+    MISUSES(gather_give_up), { "cq_gather_give_up", CQ_MISUSED, RUNS, gather_give_up },
+    MISUSES(gathered), { "cq_gathered", CQ_NONE, RUNS, gathered }, { "cq_gathered", CQ_NONE, UNMET, gathered },
+    MISUSES(gathered_stack), { "cq_gathered_stack", CQ_NONE, RUNS, gathered_stack },
     MISUSES(add_capabilities), { "cq_add_capabilities", CQ_NOT_AVAILABLE, RUNS, add_capabilities },
     MISUSES(relinquish_capabilities), MISUSES(get_capabilities), MISUSES(get_potential_capabilities),
     MISUSES(get_environment_local_storage), MISUSES(set_environment_local_storage),

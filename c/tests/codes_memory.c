@@ -32,6 +32,36 @@ static uint32_t get_word(world *w) { return cq_get_thread_local_storage(&w->env,
 static uint32_t set_word(world *w) { return cq_set_thread_local_storage(&w->env, 0, 7, &out.answer); }
 static uint32_t cancel(world *w) { return cq_cancel(&w->env, &w->ticket); }
 
+/* A trace that has begun needs no more memory, whatever the thread does. */
+static uint32_t gathered(world *w, uint32_t begun) {
+    uint32_t code = begun;
+    bool over = false;
+    if (begun != CQ_OK) return begun;
+    while (!over) {
+        code = cq_gather_step(&w->env, &over);
+        if (code == CQ_STILL_RUNNING) SAME(cq_poll(&w->thread), CQ_HELD);
+        CHECK(code == CQ_OK || code == CQ_STILL_RUNNING);
+    }
+    OK(cq_gathered(&w->env, &out.word));
+    CHECK(out.word > 0);
+    return cq_gathered_stack(&w->env, out.word - 1, &out.stack, out.frames, 2);
+}
+static uint32_t gather_all(world *w) { return gathered(w, cq_gather_all_stack_traces(&w->env, 2)); }
+static uint32_t gather_list(world *w) {
+    static const uint32_t threads[] = { 0, 0, 0 };
+    return gathered(w, cq_gather_thread_list_stack_traces(&w->env, threads, 3, INT32_MAX));
+}
+static uint32_t gather_and_give_up(world *w) {
+    bool over = false;
+    uint32_t code = cq_gather_all_stack_traces(&w->env, 2);
+    if (code != CQ_OK) return code;
+    OK(cq_gather_step(&w->env, &over));
+    OK(cq_gather_give_up(&w->env));
+    while (!over) OK(cq_gather_step(&w->env, &over));
+    SAME(cq_gathered(&w->env, &out.word), CQ_NONE);
+    return CQ_OK;
+}
+
 /* The code here is that of the success. */
 static const row WITH_MEMORY[] = {
     { "cq_make", CQ_OK, RUNS, make }, { "cq_share", CQ_OK, RUNS, share },
@@ -51,6 +81,12 @@ static const row WITH_MEMORY[] = {
     { "cq_resume_thread", CQ_OK, HELD, resume_thread }, { "cq_pop_frame", CQ_WAITING, FULL_STACK, pop_frame },
     { "cq_get_thread_local_storage", CQ_OK, RUNS, get_word }, { "cq_set_thread_local_storage", CQ_OK, RUNS, set_word },
     { "cq_cancel", CQ_OK, WAITS, cancel },
+    { "cq_gather_all_stack_traces", CQ_OK, FULL_STACK, gather_all },
+    { "cq_gather_all_stack_traces", CQ_OK, NATIVE, gather_all },
+    { "cq_gather_all_stack_traces", CQ_OK, FULL_WINDOW, gather_all },
+    { "cq_gather_all_stack_traces", CQ_OK, RUNS, gather_and_give_up },
+    { "cq_gather_thread_list_stack_traces", CQ_OK, FULL_STACK, gather_list },
+    { "cq_gather_thread_list_stack_traces", CQ_OK, FRESH, gather_list },
 };
 
 /* One try with so many blocks. It gives whether memory was lacking. */
@@ -168,6 +204,28 @@ static uint32_t dispose_without(void) {
     }
 }
 
+/* A trace that lacks memory leaves the one before it. */
+static uint32_t gather_again_without(void) {
+    uint32_t lacking = 0;
+    for (long blocks = 0;; blocks++) {
+        world w;
+        build(&w, NATIVE, 2);
+        OK(gather_all(&w));
+        heap_refuse_after(blocks);
+        uint32_t code = gather_list(&w);
+        heap_refuse_after(-1);
+        OK(cq_gathered(&w.env, &out.word));
+        SAME(out.word, code == CQ_OK ? 3 : 1);
+        OK(cq_gathered_stack(&w.env, 0, &out.stack, out.frames, 2));
+        SAME(out.stack.frame_count, 1);
+        SAME(out.frames[0].method, 3);
+        tear_down(&w);
+        if (code == CQ_OK) return lacking;
+        SAME(code, CQ_OUT_OF_MEMORY);
+        lacking++;
+    }
+}
+
 uint32_t refuse_memory(void) {
     uint32_t lacking = 0;
     for (size_t i = 0; i < COUNT(WITH_MEMORY); i++) {
@@ -182,5 +240,5 @@ uint32_t refuse_memory(void) {
     build(&w, WAITS, 2);
     OK(end_and_discard(&w));
     tear_down(&w);
-    return lacking + dispose_without();
+    return lacking + dispose_without() + gather_again_without();
 }

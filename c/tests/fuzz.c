@@ -80,7 +80,21 @@ static void keep_services(void) {
 
 /* The end of a sequence. */
 
+/* Gives up each trace that is gathered, and goes on with it to its end. */
+static void end_traces(void) {
+    for (uint32_t i = 0; i < SLOTS; i++) {
+        bool over = false;
+        uint32_t code = model_gather_give_up(&slots[i].model.env);
+        agree("cq_gather_give_up in the end", cq_gather_give_up(&slots[i].real.env), code);
+        while (code == CQ_OK && !over) {
+            code = step_both(&slots[i], &over);
+        }
+        CHECK(code == CQ_OK || code == CQ_MISUSED);
+    }
+}
+
 static void dispose_all(void) {
+    end_traces();
     for (uint32_t i = 0; i < SLOTS; i++) {
         if (env_of(&slots[i].model.env) == NULL) continue;
         OK(cq_dispose_environment(&slots[i].real.env));

@@ -30,8 +30,11 @@ uint32_t pick_number(void);
 /* The library and the model give the same. Otherwise the program ends, and tells how to run it once more. */
 void agree(const char *what, uint64_t real, uint64_t model);
 
-/* Makes a service with two threads that run and an environment that has met them. */
+/* Makes a service with two threads that run, and one or two environments that have met them. */
 void furnish(void);
+
+/* Makes a step of a trace at both. It gives the code, and whether the trace is over. */
+uint32_t step_both(slot *agent, bool *over);
 
 /* Makes one random call at a random handle. */
 void any_call(void);

@@ -275,6 +275,93 @@ static void out_at(void) {
     agree("how many calls are out", real, model);
 }
 
+/* Traces of several threads. */
+
+static void gather_all_stack_traces(void) {
+    slot *s = pick_agent();
+    int32_t max_count = pick_small();
+    BOTH(gather_all_stack_traces, (&s->real.env, max_count), (&s->model.env, max_count));
+}
+
+static void gather_thread_list_stack_traces(void) {
+    slot *s = pick_agent();
+    int32_t max_count = pick_small();
+    uint32_t threads[4], count = below(5);
+    for (uint32_t i = 0; i < count; i++) {
+        threads[i] = below(6) == 0 ? pick_number() : below(2);
+    }
+    BOTH(gather_thread_list_stack_traces, (&s->real.env, threads, count, max_count),
+         (&s->model.env, threads, count, max_count));
+}
+
+uint32_t step_both(slot *s, bool *over) {
+    bool real = true, model = true;
+    uint32_t code = BOTH(gather_step, (&s->real.env, &real), (&s->model.env, &model));
+    agree("whether a trace is over", real, model);
+    *over = real;
+    return code;
+}
+
+/* An agent: mostly one that gathers a trace, if there is one. */
+static slot *pick_gatherer(void) {
+    slot *s = pick_agent();
+    for (uint32_t i = 0; i < 4 && gathering_of(&s->model.env) == NULL; i++) s = pick_agent();
+    return s;
+}
+
+static void gather_give_up(void) {
+    slot *s = pick_gatherer();
+    BOTH(gather_give_up, (&s->real.env), (&s->model.env));
+}
+
+static uint64_t gathered_by(slot *s) {
+    uint64_t real = 99, model = 99;
+    uint32_t code = BOTH(gathered, (&s->real.env, &real), (&s->model.env, &model));
+    agree("how many threads a trace tells of", real, model);
+    return code == CQ_OK ? real : 0;
+}
+
+static void gathered(void) { gathered_by(pick_agent()); }
+
+static void gathered_stack_by(slot *s, uint64_t index) {
+    uint32_t room = below(FRAMES + 1);
+    cq_stack_info real = { 99, 99, 99 }, model = { 99, 99, 99 };
+    mark();
+    BOTH(gathered_stack, (&s->real.env, index, &real, real_written.frames, room),
+         (&s->model.env, index, &model, model_written.frames, room));
+    agree("a thread that a trace tells of", real.thread, model.thread);
+    agree("its state", real.state, model.state);
+    agree("its number of frames", real.frame_count, model.frame_count);
+    agree_on_written(CQ_OK);
+}
+
+static void gathered_stack(void) {
+    gathered_stack_by(pick_agent(), below(24) == 0 ? UINT64_MAX - below(2) : below(4));
+}
+
+static void poll_all(void) {
+    for (uint32_t i = 0; i < SLOTS; i++) {
+        if (thread_of(&slots[i].model.thread) != NULL) {
+            BOTH(poll, (&slots[i].real.thread), (&slots[i].model.thread));
+        }
+    }
+}
+
+/* Some steps of a trace. When one still runs, all threads poll sometimes. What was gathered is read at the end. */
+static void gather_step(void) {
+    slot *s = pick_gatherer();
+    bool over = false;
+    for (uint32_t i = below(20); i > 0 && !over; i--) {
+        uint32_t code = step_both(s, &over);
+        if (code == CQ_STILL_RUNNING && below(2) == 0) {
+            poll_all();
+        } else if (code != CQ_OK) {
+            return;
+        }
+    }
+    for (uint64_t i = over ? gathered_by(s) : 0; i > 0; i--) gathered_stack_by(s, i - 1);
+}
+
 static void add_capabilities(void) {
     slot *s = pick_agent();
     uint32_t capabilities = below(8) == 0 ? pick_number() : below(4);
@@ -323,6 +410,12 @@ static void dispose_environment(void) {
     BOTH(dispose_environment, (&s->real.env), (&s->model.env));
 }
 
+static void attach_agent(slot *s, slot *agent) {
+    BOTH(attach_environment, (&s->real.service, &agent->real.env), (&s->model.service, &agent->model.env));
+    BOTH(meet, (&agent->real.env), (&agent->model.env));
+    BOTH(add_capabilities, (&agent->real.env, 3), (&agent->model.env, 3));
+}
+
 void furnish(void) {
     static const uint8_t name[] = "main";
     slot *s = &slots[0], *agent = &slots[1];
@@ -336,6 +429,7 @@ void furnish(void) {
     }
     BOTH(meet, (&agent->real.env), (&agent->model.env));
     BOTH(add_capabilities, (&agent->real.env, 3), (&agent->model.env, 3));
+    if (envs > 1) attach_agent(s, &slots[4]);
 }
 
 typedef struct { uint32_t weight; void (*make)(void); } weighted;
@@ -348,7 +442,9 @@ static const weighted CALLS[] = {
     { 5, get_thread_state }, { 6, get_frame_count }, { 6, get_frame_location }, { 10, get_stack_trace },
     { 9, suspend_thread }, { 7, resume_thread }, { 7, pop_frame },
     { 3, get_thread_local_storage }, { 3, set_thread_local_storage }, { 14, collect }, { 5, cancel }, { 4, discard },
-    { 4, out_at }, { 3, add_capabilities }, { 1, relinquish_capabilities }, { 1, get_capabilities },
+    { 4, out_at }, { 4, gather_all_stack_traces }, { 4, gather_thread_list_stack_traces }, { 20, gather_step },
+    { 2, gather_give_up }, { 2, gathered }, { 4, gathered_stack },
+    { 3, add_capabilities }, { 1, relinquish_capabilities }, { 1, get_capabilities },
     { 2, environment_local_storage }, { 3, set_event_notification_mode }, { 4, next_event }, { 1, dispose_environment },
 };
 

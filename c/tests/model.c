@@ -6,7 +6,10 @@
 
 m_service *service_of(const cq_service *handle) { return handle->kind == A_SERVICE ? handle->at : NULL; }
 m_thread *thread_of(const cq_thread *handle) { return handle->kind == A_THREAD ? handle->at : NULL; }
-m_env *env_of(const cq_env *handle) { return handle->kind == AN_ENV ? handle->at : NULL; }
+m_env *env_of(const cq_env *handle) {
+    m_env *e = handle->kind == AN_ENV ? handle->at : NULL;
+    return e != NULL && e->trace.phase == NO_TRACE ? e : NULL;
+}
 
 static void free_thread(m_thread *thread) {
     while (thread->calls != NULL) {
@@ -96,6 +99,7 @@ uint32_t model_attach_thread(cq_service *service, const uint8_t *name, size_t le
     t->length = length;
     t->priority = priority;
     t->mode = NEW;
+    t->stopped_by = NOBODY;
     t->frames = malloc(s->depth * sizeof *t->frames);
     s->threads = realloc(s->threads, (s->count + 1) * sizeof *s->threads);
     s->threads[s->count++] = t;
@@ -116,6 +120,7 @@ uint32_t model_start(cq_thread *thread) {
     m_thread *t = thread_of(thread);
     if (t == NULL) return CQ_MISUSED;
     if (t->mode != NEW) return CQ_NOT_NEW;
+    if (t->stopped_by != NOBODY) return CQ_BARRED;
     t->mode = RUNNING;
     return CQ_OK;
 }
@@ -171,6 +176,8 @@ bool model_poll_clear(cq_thread *thread) {
     return t == NULL || t->mode != RUNNING || !is_called_for(t);
 }
 
+static bool is_barred(const m_thread *t) { return t->suspended || t->stopped_by != NOBODY; }
+
 static void become_safe(m_thread *t, uint32_t bits) {
     t->mode = SAFE;
     t->bits = bits;
@@ -183,7 +190,7 @@ uint32_t model_poll(cq_thread *thread) {
     if (t->mode != RUNNING) return CQ_NOT_RUNNING;
     if (!is_called_for(t)) return CQ_OK;
     become_safe(t, CQ_STATE_ALIVE | CQ_STATE_RUNNABLE);
-    if (t->suspended) return CQ_HELD;
+    if (is_barred(t)) return CQ_HELD;
     t->mode = RUNNING;
     return CQ_OK;
 }
@@ -212,7 +219,7 @@ uint32_t model_back(cq_thread *thread) {
     m_thread *t = thread_of(thread);
     if (t == NULL) return CQ_MISUSED;
     if (t->mode != SAFE) return CQ_NOT_SAFE;
-    if (t->suspended) return CQ_BARRED;
+    if (is_barred(t)) return CQ_BARRED;
     t->mode = RUNNING;
     return CQ_OK;
 }

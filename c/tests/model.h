@@ -47,6 +47,12 @@ uint32_t model_collect(cq_env *env, const cq_ticket *ticket, cq_answer *answer, 
 uint32_t model_cancel(cq_env *env, const cq_ticket *ticket);
 uint32_t model_discard(cq_env *env, uint32_t thread, bool *thrown);
 uint32_t model_out_at(cq_env *env, uint32_t thread, uint32_t *count);
+uint32_t model_gather_all_stack_traces(cq_env *env, int32_t max_count);
+uint32_t model_gather_thread_list_stack_traces(cq_env *env, const uint32_t *threads, size_t count, int32_t max_count);
+uint32_t model_gather_step(cq_env *env, bool *over);
+uint32_t model_gather_give_up(cq_env *env);
+uint32_t model_gathered(cq_env *env, uint64_t *count);
+uint32_t model_gathered_stack(cq_env *env, uint64_t index, cq_stack_info *info, cq_frame *frames, size_t room);
 uint32_t model_add_capabilities(cq_env *env, uint32_t capabilities);
 uint32_t model_relinquish_capabilities(cq_env *env, uint32_t capabilities);
 uint32_t model_get_capabilities(cq_env *env, uint32_t *capabilities);

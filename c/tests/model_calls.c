@@ -12,16 +12,16 @@ void free_call(posted *call) {
 
 /* Calls at a thread. */
 
-static bool is_alive(const m_thread *t) { return t->mode == RUNNING || t->mode == SAFE; }
+bool is_alive(const m_thread *t) { return t->mode == RUNNING || t->mode == SAFE; }
 
-static uint32_t state_bits(const m_thread *t) {
+uint32_t state_bits(const m_thread *t) {
     static const uint32_t bits[] = {
         [NEW] = 0, [RUNNING] = CQ_STATE_ALIVE | CQ_STATE_RUNNABLE, [ENDED] = CQ_STATE_TERMINATED,
     };
     return (t->mode == SAFE ? t->bits : bits[t->mode]) | (t->suspended ? CQ_STATE_SUSPENDED : 0);
 }
 
-static cq_frame from_newest(const m_thread *t, size_t depth) { return t->frames[t->count - 1 - depth]; }
+cq_frame from_newest(const m_thread *t, size_t depth) { return t->frames[t->count - 1 - depth]; }
 
 static uint32_t trace(const m_thread *t, posted *call) {
     int64_t count = (int64_t)t->count;
@@ -83,6 +83,7 @@ void hand_over(m_thread *t) {
 }
 
 bool is_called_for(const m_thread *t) {
+    if (t->stopped_by != NOBODY) return true;
     for (const posted *call = t->calls; call != NULL; call = call->next) {
         if (!call->done) return true;
     }
@@ -203,8 +204,7 @@ uint32_t model_set_thread_local_storage(cq_env *env, uint32_t thread, uint64_t w
     return post(env, thread, (posted){ .kind = SET_WORD, .word = word }, answer, NULL, 0);
 }
 
-/* The thread that the environment has met under this number. */
-static m_thread *met(const m_env *e, uint32_t thread) {
+m_thread *met(const m_env *e, uint32_t thread) {
     return thread < e->known && e->service->threads[thread]->met[e->place] ? e->service->threads[thread] : NULL;
 }
 

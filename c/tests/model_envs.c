@@ -158,6 +158,7 @@ uint32_t model_dispose_environment(cq_env *env) {
     e->service->taken[e->place] = false;
     e->service->happened++;
     let_go_of_service(e->service);
+    free_trace(&e->trace);
     free(e);
     *env = (cq_env){ EMPTY, NULL };
     return CQ_OK;

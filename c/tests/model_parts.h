@@ -1,4 +1,4 @@
-/* model_parts.h: what model.c and model_calls.c share. */
+/* model_parts.h: what the files of the model share. */
 #ifndef MODEL_PARTS_H
 #define MODEL_PARTS_H
 
@@ -6,7 +6,9 @@
 
 enum { ENVS = 32 };
 enum { EMPTY = 0, A_SERVICE = 1, A_THREAD = 2, AN_ENV = 3 };
+enum { NOBODY = ENVS };
 enum { NEW, RUNNING, SAFE, ENDED };
+enum { NO_TRACE, STOPPING, SEEING, READING, LETTING_GO, GIVING_UP };
 enum { STATE, COUNT, LOCATION, TRACE, SUSPEND, RESUME, POP, GET_WORD, SET_WORD };
 
 /* A call at a thread, with its answer once it has taken place. */
@@ -38,6 +40,7 @@ typedef struct {
     uint32_t mode;
     uint32_t bits;        /* its state while it is safe */
     bool suspended;
+    uint32_t stopped_by;  /* the place of the environment whose trace has stopped it, or NOBODY */
     cq_frame *frames;     /* the oldest first */
     size_t count;
     posted *calls;        /* those that are out, in the order of posting */
@@ -47,8 +50,28 @@ typedef struct {
     bool met[ENVS];
 } m_thread;
 
+/* What a trace of several threads tells of one. */
+typedef struct { cq_stack_info info; cq_frame *frames; } m_told;
+
+/* A trace of several threads: one that is gathered, or the last one. */
+typedef struct {
+    uint32_t phase;
+    m_thread **stops;     /* the threads to stop, each once, in the order of their numbers */
+    size_t stop_count;
+    m_thread **reads;     /* the threads to read */
+    size_t read_count;
+    int32_t max_count;
+    bool alive_only;
+    size_t done;          /* how many threads of this phase are done */
+    size_t stopped;       /* how many were stopped when it was given up */
+    bool is_there;        /* it came to its end, and was not given up */
+    m_told *told;
+    size_t told_count;
+} m_trace;
+
 typedef struct {
     m_service *service;
+    m_trace trace;
     uint32_t place;
     uint32_t capabilities;
     uint64_t word;
@@ -72,7 +95,9 @@ struct m_service {
 
 m_service *service_of(const cq_service *handle);
 m_thread *thread_of(const cq_thread *handle);
+/* The environment, if it gathers no trace, and if it gathers one. */
 m_env *env_of(const cq_env *handle);
+m_env *gathering_of(const cq_env *handle);
 void let_go_of_service(m_service *service);
 
 /* The waiting calls take place. */
@@ -82,5 +107,12 @@ uint32_t outs(const m_thread *thread, uint32_t place);
 bool throw_first(m_thread *thread, uint32_t place);
 void give_up_all(m_thread *thread, uint32_t place);
 void free_call(posted *call);
+bool is_alive(const m_thread *thread);
+uint32_t state_bits(const m_thread *thread);
+cq_frame from_newest(const m_thread *thread, size_t depth);
+
+/* The thread that the environment has met under this number, or NULL. */
+m_thread *met(const m_env *env, uint32_t thread);
+void free_trace(m_trace *trace);
 
 #endif

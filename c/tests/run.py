@@ -20,7 +20,7 @@ HERE = pathlib.Path(__file__).resolve().parent
 WAIT = [HERE.parent / "cebdyraq_wait.c"]
 HEAP = [HERE.parent / "cebdyraq_heap.c"]
 COUNTED_HEAP = [HERE / "counted_heap.c"]
-MODEL = [HERE / name for name in ("model.c", "model_calls.c", "model_envs.c")]
+MODEL = [HERE / name for name in ("model.c", "model_calls.c", "model_envs.c", "model_traces.c")]
 
 PLAIN, ADDRESS, THREAD, VALGRIND = "plain", "address,undefined", "thread", "valgrind"
 MODES = [PLAIN, ADDRESS, THREAD, VALGRIND]
@@ -38,12 +38,15 @@ class Program:
         return any(source.suffix == ".cpp" for source in self.sources)
 
 
-CODES = ["codes.c", "codes_threads.c", "codes_envs.c", "codes_memory.c"]
+CODES = ["codes.c", "codes_threads.c", "codes_envs.c", "codes_memory.c", "codes_gather.c"]
 PROGRAMS = [
     Program("two_threads", ["two_threads.c"], HEAP),
     Program("life", ["life.c"], COUNTED_HEAP),
     Program("codes", CODES, COUNTED_HEAP),
+    Program("gather", ["gather.c"], COUNTED_HEAP),
     Program("wait", ["wait.c"], HEAP),
+    Program("gather_waits", ["gather_waits.c"], HEAP, {VALGRIND: ["100"]}),
+    Program("gather_busy", ["gather_busy.c"], HEAP, wait=[]),
     Program("turns", ["turns.c"], HEAP, {VALGRIND: ["100"]}, wait=[HERE / "slow_wait.c"]),
     Program("cxx", ["cxx.cpp"], HEAP),
     Program("fuzz", ["fuzz.c", "fuzz_calls.c"], MODEL + COUNTED_HEAP,

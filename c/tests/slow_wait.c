@@ -33,6 +33,12 @@ static uint32_t slow_collect(cq_env *env, const cq_ticket *ticket, cq_answer *an
     return code;
 }
 
+static uint32_t slow_gather_step(cq_env *env, bool *over) {
+    uint32_t code = cq_gather_step(env, over);
+    be_slow(5000);
+    return code;
+}
+
 static long slow_syscall(long number, uint32_t *at, int what, uint32_t value, const struct timespec *until, void *none,
                          uint32_t bits) {
     if (what == FUTEX_WAIT_BITSET_PRIVATE) {
@@ -43,5 +49,6 @@ static long slow_syscall(long number, uint32_t *at, int what, uint32_t value, co
 
 #define cq_back slow_back
 #define cq_collect slow_collect
+#define cq_gather_step slow_gather_step
 #define syscall slow_syscall
 #include "../cebdyraq_wait.c"

@@ -176,6 +176,46 @@ static void be_impatient(asker *a, uint32_t thread) {
     CHECK(code == CQ_OK || is_gone(code) || code == CQ_TIMED_OUT);
 }
 
+static void check_told(asker *a, uint64_t index, cq_stack_info *info) {
+    cq_frame frames[DEPTH];
+    OK(cq_gathered_stack(&a->env, index, info, frames, DEPTH));
+    check_state(info->state);
+    CHECK(info->frame_count <= DEPTH);
+    for (uint64_t i = 0; i < info->frame_count; i++) {
+        check_frame(info->thread, frames[i]);
+    }
+}
+
+/* All threads at one moment. So no more are alive than there are at once. It is not always waited for long. */
+static void ask_all(asker *a) {
+    cq_stack_info info;
+    uint64_t count = 0, least = 0;
+    int64_t time = roll(a->dice, 4) == 0 ? (int64_t)roll(a->dice, 30000) : -1;
+    uint32_t code = cq_wait_get_all_stack_traces(&a->env, shared, DEPTH, time, &count);
+    CHECK(code == CQ_OK || (time >= 0 && code == CQ_TIMED_OUT));
+    CHECK(count <= WORKERS);
+    for (uint64_t i = 0; i < count; i++) {
+        check_told(a, i, &info);
+        CHECK((info.state & CQ_STATE_ALIVE) != 0);
+        CHECK(info.thread >= least);
+        least = (uint64_t)info.thread + 1;
+    }
+}
+
+/* Two threads of a list, the first of them twice. It stands, so that no frames come to it in between. One may be popped. */
+static void ask_two(asker *a, uint32_t thread) {
+    uint32_t other = a->threads[roll(a->dice, a->count)], list[] = { thread, other, thread };
+    cq_stack_info told[3];
+    uint64_t count = 0;
+    uint32_t code = cq_wait_get_thread_list_stack_traces(&a->env, shared, list, 3, DEPTH, -1, &count);
+    CHECK(code == CQ_OK ? count == 3 : code == CQ_INVALID_THREAD);
+    for (uint64_t i = 0; i < count; i++) {
+        check_told(a, i, &told[i]);
+        SAME(told[i].thread, list[i]);
+    }
+    CHECK(count == 0 || told[2].frame_count <= told[0].frame_count);
+}
+
 static void ask_events(asker *a) {
     cq_event event;
     uint32_t code = cq_wait_next_event(&a->env, shared, 0, &event);
@@ -212,6 +252,7 @@ static void ask(asker *a, uint32_t thread) {
     case 20: ask_info(a, thread); break;
     case 21: case 22: be_impatient(a, thread); break;
     case 23: ask_events(a); break;
+    case 24: roll(a->dice, 2) == 0 ? ask_all(a) : ask_two(a, thread); break;
     default: ask_trace(a, thread, frames, &count); break;
     }
 }

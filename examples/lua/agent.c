@@ -53,8 +53,7 @@ void agent_meet(struct agent *agent) {
         }
 }
 
-/* The state in Java's words, as GetThreadState's bits give it. */
-static void state_text(uint32_t bits, char *text, size_t size) {
+void state_text(uint32_t bits, char *text, size_t size) {
     const char *java = "NEW";
     if (bits & CQ_STATE_TERMINATED)
         java = "TERMINATED";
@@ -70,7 +69,7 @@ static void state_text(uint32_t bits, char *text, size_t size) {
              bits & CQ_STATE_SUSPENDED ? ", suspended" : "");
 }
 
-static void read_name(struct agent *agent, uint32_t thread, char *name) {
+void agent_name(struct agent *agent, uint32_t thread, char *name) {
     cq_thread_info info;
     size_t room = NAME - 1, length = 0;
     if (cq_wait_get_thread_info(&agent->env, &agent->host->signal, thread, &info, (uint8_t *)name, room) == CQ_OK)
@@ -84,7 +83,7 @@ bool agent_look(struct agent *agent, uint32_t thread, struct look *look) {
         return false;
     if (look->bits & CQ_STATE_TERMINATED)
         return false;
-    read_name(agent, thread, look->name);
+    agent_name(agent, thread, look->name);
     state_text(look->bits, look->state, sizeof look->state);
     look->answered = cq_wait_get_stack_trace(&agent->env, signal, thread, 0, FRAMES, PATIENCE_NS, &look->newest, 1,
                                              &look->depth) == CQ_OK;

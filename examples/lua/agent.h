@@ -39,11 +39,17 @@ void agent_meet(struct agent *agent);
 /* Looks at a thread. False if it has gone, or has ended. */
 bool agent_look(struct agent *agent, uint32_t thread, struct look *look);
 
+/* Writes a thread's name, which is empty if the thread has gone. There is room for NAME bytes. */
+void agent_name(struct agent *agent, uint32_t thread, char *name);
+
 /* Detaches the environment. */
 void agent_close(struct agent *agent);
 
 /* Sleeps so long, or until the last script has ended. Returns whether it has. */
 bool agent_rest(struct agent *agent, int milliseconds);
+
+/* Writes the state in Java's words, as GetThreadState's bits give it. */
+void state_text(uint32_t bits, char *text, size_t size);
 
 /* Writes a frame as "function file:line", or "[C] function". */
 void frame_text(const cq_frame *frame, char *text, size_t size);

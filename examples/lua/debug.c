@@ -28,7 +28,7 @@ struct debugger {
 
 static const char HELP[] =
     "threads             all threads, and where they are\n"
-    "bt N                the stack of thread N, newest frame first\n"
+    "bt N, or all        the stack of thread N, newest frame first, or all stacks at one moment\n"
     "suspend N, or all   holds threads at their next polls\n"
     "resume N, or all    lets them go on\n"
     "quit                resumes what was suspended; the scripts run on\n";
@@ -63,16 +63,39 @@ static void show_threads(struct debugger *d) {
     }
 }
 
+/* The frames that were read last. */
+static void show_frames(const struct debugger *d, uint64_t count) {
+    char text[LINE];
+    for (uint64_t i = 0; i < count; i++) {
+        frame_text(&d->frames[i], text, sizeof text);
+        printf("#%-3u %s\n", (unsigned)i, text);
+    }
+}
+
 static void show_stack(struct debugger *d, uint32_t thread) {
     uint32_t count = 0;
-    char text[LINE];
     uint32_t code = cq_wait_get_stack_trace(&d->agent.env, &d->agent.host->signal, thread, 0, FRAMES, PATIENCE_NS,
                                             d->frames, FRAMES, &count);
     if (code != CQ_OK)
         printf("thread %u: %s\n", thread, word_of(code));
-    for (uint32_t i = 0; code == CQ_OK && i < count; i++) {
-        frame_text(&d->frames[i], text, sizeof text);
-        printf("#%-3u %s\n", i, text);
+    show_frames(d, count);
+}
+
+/* All threads that are alive, at one moment: none runs until all stacks are read. */
+static void show_all_stacks(struct debugger *d) {
+    uint64_t count = 0;
+    cq_stack_info info;
+    char name[NAME], state[LINE];
+    uint32_t code = cq_wait_get_all_stack_traces(&d->agent.env, &d->agent.host->signal, FRAMES, PATIENCE_NS, &count);
+    if (code != CQ_OK)
+        printf("bt all: %s\n", code == CQ_TIMED_OUT ? "a thread has not polled yet" : word_of(code));
+    for (uint64_t i = 0; i < count; i++) {
+        if (cq_gathered_stack(&d->agent.env, i, &info, d->frames, FRAMES) != CQ_OK)
+            return;
+        agent_name(&d->agent, info.thread, name);
+        state_text(info.state, state, sizeof state);
+        printf("thread %u  %s  %s\n", info.thread, name, state);
+        show_frames(d, info.frame_count);
     }
 }
 
@@ -153,7 +176,7 @@ static void run_at(struct debugger *d, const char *verb, const char *whom) {
     else if (!strcmp(verb, "bt") && !all)
         show_stack(d, (uint32_t)number);
     else if (!strcmp(verb, "bt"))
-        printf("bt wants the number of one thread\n");
+        show_all_stacks(d);
     else if (all)
         act_on_all(d, verb);
     else

@@ -280,6 +280,13 @@ def test_debug(folder):
     check(f"meanwhile it is woken by others, and takes {1000 * spent:.2f} ms of {seconds:.1f} s", spent < seconds / 100)
     check("bt of a thread that runs moves", len(moving) > 1, moving)
     check("threads has it as suspended", "first.lua  RUNNABLE, suspended" in d.say("threads"))
+    all_one, all_moving = d.say("bt all"), {d.say("bt all") for _ in range(100)}
+    check("bt all has the stacks of all threads", re.findall(r"^thread (\d)  (\w+).lua  ", all_one, re.M) ==
+          [("0", "first"), ("1", "second"), ("2", "sleeps")] and
+          len(re.findall(r"^#\d+ +main chunk ", all_one, re.M)) == 3, all_one)
+    check("bt all of a suspended thread is the same as bt", all_one.startswith(
+          "thread 0  first.lua  RUNNABLE, suspended\n" + one + "thread 1  second.lua  RUNNABLE\n"), all_one + one)
+    check("bt all of threads that run moves", len(all_moving) > 1, all_one)
     check("resume 0", d.say("resume 0") == "resume 0: done\n")
     check("a second resume is refused", d.say("resume 0") == "resume 0: it is not suspended\n")
     check("there is no thread 9", "there is no thread" in d.say("bt 9") and "there is no thread" in d.say("suspend x"))
@@ -290,6 +297,7 @@ def test_debug(folder):
     stands = [d.processor_time(f"{n} ") for n in range(3)]
     time.sleep(1)
     check("with all suspended, none takes any processor time", stands == [d.processor_time(f"{n} ") for n in range(3)])
+    check("bt all of suspended threads", d.say("bt all").count(", suspended\n") == 3)
     check("resume all", d.say("resume all").count("done") == 3)
     time.sleep(0.2)
     later = [d.processor_time(f"{n} ") for n in range(3)]
@@ -312,6 +320,9 @@ def test_debug_ends(folder):
                   "for i = 1, 3e6 do s = i end print('got on')\n")
     d = Debugger(busy)
     time.sleep(0.3)
+    all_text = d.say("bt all")
+    check("bt all waits for a thread that does not poll, but not for ever", all_text.startswith(
+          ("bt all: a thread has not polled yet\n", "thread 0  busy.lua  RUNNABLE\n")), all_text)
     text = d.say("suspend 0")
     status, last = d.end()
     check("a thread that does not poll is suspended later, and resumed at the end", not status and "got on" in last and

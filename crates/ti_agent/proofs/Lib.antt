@@ -10,3 +10,5 @@ pub mod Places
 pub mod Clearing
 pub mod Tried
 pub mod Emptying
+pub mod StepByStep
+pub mod AtWork

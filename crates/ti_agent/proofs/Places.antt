@@ -135,7 +135,7 @@ names_set (x ∷ l) (suc i) p q (suc j) at same = names_set l i p q j at same
 pub order_set : (l : List DeskState) (i : ℕ) (p q : DeskState) → slice_get l i ≡ Some p → q.view.subject ≡ p.view.subject → AreInOrder l → AreInOrder (slice_set l i q)
 order_set l i p q at same order = order_stays l (slice_set l i q) (length-set l i q) (λ j. names_set l i p q j at same) order
 
-each_name : (old new : List DeskState) → length new ≡ length old → ((i : ℕ) (p q : DeskState) → slice_get old i ≡ Some p → slice_get new i ≡ Some q → q.view.subject ≡ p.view.subject) → (i : ℕ) → thread_at new i ≡ thread_at old i
+pub each_name : (old new : List DeskState) → length new ≡ length old → ((i : ℕ) (p q : DeskState) → slice_get old i ≡ Some p → slice_get new i ≡ Some q → q.view.subject ≡ p.view.subject) → (i : ℕ) → thread_at new i ≡ thread_at old i
 each_name [] [] len same i = refl
 each_name [] (q ∷ new) len same i = absurd (omega (arith, len))
 each_name (p ∷ old) [] len same i = absurd (omega (arith, len))

@@ -62,11 +62,11 @@ pub limits_all : (s : EnvValue) (l : Listed) → (spend_all s l).limits ≡ s.li
 limits_all s [] = refl
 limits_all s (y ∷ l) = limits_all (with_spent s y.0) l
 
-count_spent : (s : EnvValue) (l : Listed) → length (spend_all s l).spent ≡ length s.spent
+pub count_spent : (s : EnvValue) (l : Listed) → length (spend_all s l).spent ≡ length s.spent
 count_spent s [] = refl
 count_spent s (y ∷ l) = count_spent (with_spent s y.0) l ∙ length-set s.spent y.0.0 (spent_at s y.0 + 1)
 
-spent_listed : (s : EnvValue) (l : Listed) (n i : ℕ) → AreDistinct l → AreThere n l → length s.spent ≡ n → is_listed i l ≡ true → spent_at (spend_all s l) (record { 0 = i }) ≡ spent_at s (record { 0 = i }) + 1
+pub spent_listed : (s : EnvValue) (l : Listed) (n i : ℕ) → AreDistinct l → AreThere n l → length s.spent ≡ n → is_listed i l ≡ true → spent_at (spend_all s l) (record { 0 = i }) ≡ spent_at s (record { 0 = i }) + 1
 spent_listed s [] n i d t count h = cc
 spent_listed s (y ∷ l) n i d t count h =
     let here : y.0.0 < n = grind (arith, nat_tests, t) in
@@ -96,16 +96,16 @@ paid_listed s (y ∷ l) i paid h =
           paid_listed s l i still rest
     ]
 
-stop_costs : (env : EnvNo) → call_cost env (Stop env) ≡ 1
+pub stop_costs : (env : EnvNo) → call_cost env (Stop env) ≡ 1
 stop_costs env = ap (λ (b : Bool). if b then 1 else 0) (eq-eqb env.0 env.0 refl)
 
 read_costs : (env : EnvNo) (m : ℤ) → call_cost env (Read env m) ≡ 1
 read_costs env m = ap (λ (b : Bool). if b then 1 else 0) (eq-eqb env.0 env.0 refl)
 
-stops_go : (env : EnvNo) (mine : List Entry) → stops_by env (mine ++ Go env ∷ []) ≡ false
+pub stops_go : (env : EnvNo) (mine : List Entry) → stops_by env (mine ++ Go env ∷ []) ≡ false
 stops_go env mine = fold-append (stops_after env) false mine (Go env ∷ []) ∙ ap (λ (b : Bool). if b then false else stops_by env mine) (eq-eqb env.0 env.0 refl)
 
-go_costs : (env : EnvNo) (mine : List Entry) → calls_spent env (mine ++ Go env ∷ []) ≡ calls_spent env mine
+pub go_costs : (env : EnvNo) (mine : List Entry) → calls_spent env (mine ++ Go env ∷ []) ≡ calls_spent env mine
 go_costs env mine = sum_by-append (call_cost env) mine (Go env ∷ []) ∙ omega arith
 
 -- After the stops

@@ -7,6 +7,7 @@
 //! - Any other call adds its one entry at the desk of its thread, and spends one call there. Its answer is the desk's.
 //! - A trace of several threads stops each of them before it reads the first. It lets none go before it has read the last.
 //! - Such a trace takes all of its memory before any stop.
+//! - The same trace can be made step by step, without a wait. What comes of it is the same (`Gathering`).
 //! - A call that takes no runtime never waits. If it finds its thread's cell in use, nothing changes.
 //! - Desks come and go with their threads. What was spent at a desk goes with it.
 #![tactic(auto)]
@@ -16,6 +17,9 @@ mod deadlines;
 mod desks;
 mod env;
 mod free_desk;
+mod gathering;
+mod gathering_begins;
+mod gathering_steps;
 mod lists;
 mod posts;
 mod thread_counts;
@@ -24,3 +28,4 @@ mod tries;
 
 pub use env::Env;
 pub use free_desk::FreeDesk;
+pub use gathering::{Gathering, Phase};

@@ -13,7 +13,7 @@ use ti_vmop::{Round, Standing, VmTurn, stop_all};
 
 /// Makes `count` empty buffers. Each has room for the lesser of `max_count` frames and the depth limit. 110 OUT_OF_MEMORY if
 /// there is no memory for them.
-fn buffers(
+pub(crate) fn buffers(
     alloc: Global,
     count: usize,
     max_count: i32,
@@ -32,7 +32,7 @@ fn buffers(
 }
 
 /// The state and the frames of a thread, from the answer to a read.
-fn told_of(thread: ThreadNo, answer: Answer) -> StackInfo
+pub(crate) fn told_of(thread: ThreadNo, answer: Answer) -> StackInfo
     requires stack { is_stack (said answer) ≡ true }
     ensures told { told_info result ∷ [] ≡ told_stack thread (said answer) }
     ensures thread { result.thread ≡ thread }
@@ -127,7 +127,7 @@ fn trace_each<R: Wait>(
 impl Env {
     /// How many threads there are, if all may be traced. It does not try the memory. 103 ILLEGAL_ARGUMENT if `max_count` is
     /// negative, and 209 CALLS_SPENT if a thread has fewer than two calls left.
-    fn admit_all(&self, max_count: i32) -> Result<u32, TiError>
+    pub(crate) fn admit_all(&self, max_count: i32) -> Result<u32, TiError>
         ensures count { IfOk result (λ n. n ≡ length self.now.state.spent) }
         ensures desks { IfOk result (λ n. n ≡ length self.now.desks) }
         ensures admitted { OnOk result (refusal_of_all self.now.state max_count ≡ None) }
@@ -157,7 +157,11 @@ impl Env {
     }
 
     /// The places of these threads. 110 OUT_OF_MEMORY if there is no memory for the list.
-    fn places(&self, alloc: Global, threads: &[ThreadNo]) -> Result<Vec<ThreadNo>, TiError>
+    pub(crate) fn places(
+        &self,
+        alloc: Global,
+        threads: &[ThreadNo],
+    ) -> Result<Vec<ThreadNo>, TiError>
         ensures all { IfOk result (λ v. v.items ≡ places_of self.now.desks threads.now) }
         ensures memory { IfErr result (λ e. e ≡ OutOfMemory) }
     {
@@ -170,7 +174,7 @@ impl Env {
 
     /// Whether the threads of a list may be traced. It tries neither their calls nor the memory. 10 INVALID_THREAD if there
     /// is no desk at one of them, and 103 ILLEGAL_ARGUMENT if `max_count` is negative.
-    fn admit_list(&self, threads: &[ThreadNo], max_count: i32) -> Result<(), TiError>
+    pub(crate) fn admit_list(&self, threads: &[ThreadNo], max_count: i32) -> Result<(), TiError>
         ensures admitted { OnOk result (refusal_of_list self.now.state (places_of self.now.desks threads.now) max_count ≡ None) }
         ensures refused { IfErr result (λ e. refusal_of_list self.now.state (places_of self.now.desks threads.now) max_count ≡ Some e) }
     {

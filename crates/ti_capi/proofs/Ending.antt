@@ -17,20 +17,19 @@ refused_not_0 e (inl is) code c z = let f = c ∙ ap number_of is in omega (arit
 refused_not_0 e (inr is) code c z = let f = c ∙ ap number_of is in omega (arith, f, z)
 
 -- the environment was disposed of, and the handle is empty
-pub disposed : (old new : EnvHandle) (h n : HeldEnv) (code : ℕ) → old.place.env ≡ Some h → DisposesIn h.agent n.agent code → code ≡ 0 → new.kind ≡ 0 → DisposesBy (agent_in old) old new code
+pub disposed : (old new : EnvHandle) (h n : HeldEnv) (code : ℕ) → old.place.env ≡ Some h → DisposesIn h n code → code ≡ 0 → new.kind ≡ 0 → DisposesBy (agent_in old) old new code
 disposed old new h n code is (NoEnvironment c on nn) z k = absurd (omega (arith, c, z))
 disposed old new h n code is (DisposedIn s m c there gone d) z k =
     subst (λ (o : Option AgentState). DisposesBy o old new code) (sym (ap agent_behind is ∙ there)) (Disposed m c k d)
 disposed old new h n code is (StaysIn s a e c why there stays st ev) z k = absurd (refused_not_0 e why code c z)
 
 -- it was not
-pub remains : (old : EnvHandle) (h n : HeldEnv) (code : ℕ) → old.place.env ≡ Some h → DisposesIn h.agent n.agent code → (code ≡ 0 → ⊥) → DisposesBy (agent_in old) old (with_held_env old n) code
+pub remains : (old : EnvHandle) (h n : HeldEnv) (code : ℕ) → old.place.env ≡ Some h → DisposesIn h n code → (code ≡ 0 → ⊥) → DisposesBy (agent_in old) old (with_held_env old n) code
 remains old h n code is (NoEnvironment c on nn) nz =
-    let same : Some h ≡ Some n = λ i. Some (record { agent = (on ∙ sym nn) i }) in
-    subst (λ (o : Option AgentState). DisposesBy o old (with_held_env old n) code) (sym (ap agent_behind is ∙ on)) (same_env old n (is ∙ same), c)
+    subst (λ (o : Option AgentState). DisposesBy o old (with_held_env old n) code) (sym (ap agent_behind is ∙ on)) (same_env old n (is ∙ ap (λ (x : HeldEnv). Some x) (sym nn)), c)
 remains old h n code is (DisposedIn s m c there gone d) nz = absurd (nz c)
 remains old h n code is (StaysIn s a e c why there stays st ev) nz =
-    subst (λ (o : Option AgentState). DisposesBy o old (with_held_env old n) code) (sym (ap agent_behind is ∙ there)) (StaysBehind a e c why stays st ev)
+    subst (λ (o : Option AgentState). DisposesBy o old (with_held_env old n) code) (sym (ap agent_behind is ∙ there)) (StaysBehind h a e c why is (ap (with_held_env old) stays) st ev)
 
 -- the thread was given back, and the handle is empty
 pub detached : (old new : ThreadHandle) (h n : HeldThread) (code : ℕ) → old.place.thread ≡ Some h → GivesBack h n code → code ≡ 0 → new.kind ≡ 0 → Detaches old.place.thread old new code

@@ -5,3 +5,4 @@ mod Over
 mod Behind
 mod Calling
 mod Ending
+mod Traced

@@ -31,9 +31,13 @@ CallsTo (Some s) (Some n) R unwritten code = R s n code
 CallsTo (Some s) None R unwritten code = ⊥
 CallsTo None n R unwritten code = (n ≡ None) × (code ≡ misused) × unwritten
 
+-- a call of the environment changes nothing else behind a handle
+abbrev pub IsSameBeside : HeldEnv → HeldEnv → Type 0
+IsSameBeside h n = (n.trace ≡ h.trace) × (n.stacks ≡ h.stacks)
+
 -- the same behind a handle: if it is empty or of another kind, nothing changes
 abbrev pub CallsBehind : Option HeldEnv → Option HeldEnv → (AgentState → AgentState → ℕ → Type 0) → (unwritten : Type 0) → EnvHandle → EnvHandle → ℕ → Type 0
-CallsBehind (Some h) (Some n) R unwritten old new code = (new ≡ with_held_env old n) × CallsTo h.agent n.agent R unwritten code
+CallsBehind (Some h) (Some n) R unwritten old new code = (new ≡ with_held_env old n) × IsSameBeside h n × CallsTo h.agent n.agent R unwritten code
 CallsBehind (Some h) None R unwritten old new code = ⊥
 CallsBehind None n R unwritten old new code = (new ≡ old) × (code ≡ misused) × unwritten
 

@@ -7,20 +7,22 @@ use Rattle.ti_service.specs.Agent.{AgentState}
 use Rattle.ti_service.specs.Leaving.{Disposes, StaysOn}
 use Rattle.ti_service.specs.Service.{Member}
 use Rattle.ti_capi.specs.Codes.{misused}
-use Rattle.ti_capi.specs.Handles.{EnvHandle, agent_in}
+use Rattle.ti_capi.specs.declared.held.HeldEnv.{HeldEnv}
+use Rattle.ti_capi.specs.Handles.{EnvHandle, env_held_with, with_held_env}
 
 -- the environment is disposed of, and the handle is empty; or it stays, and can be disposed of later
 -- (`ti_service`, `Agent::try_dispose`)
-pub data DisposesIn (old new : Option AgentState) (code : ℕ) : Type 0 where
-  NoEnvironment : code ≡ misused → old ≡ None → new ≡ None → DisposesIn old new code
-  DisposedIn : (s : AgentState) → (m : Member) → code ≡ 0 → old ≡ Some s → new ≡ None → Disposes s m → DisposesIn old new code
-  StaysIn : (s n : AgentState) → (e : TiError) → code ≡ number_of e → (e ≡ OutOfMemory) ⊎ (e ≡ Busy) → old ≡ Some s → new ≡ Some n → StaysOn s n → n.events ≡ s.events → DisposesIn old new code
+pub data DisposesIn (old new : HeldEnv) (code : ℕ) : Type 0 where
+  NoEnvironment : code ≡ misused → old.agent ≡ None → new ≡ old → DisposesIn old new code
+  DisposedIn : (s : AgentState) → (m : Member) → code ≡ 0 → old.agent ≡ Some s → new ≡ env_held_with old None → Disposes s m → DisposesIn old new code
+  StaysIn : (s n : AgentState) → (e : TiError) → code ≡ number_of e → (e ≡ OutOfMemory) ⊎ (e ≡ Busy) → old.agent ≡ Some s → new ≡ env_held_with old (Some n) → StaysOn s n → n.events ≡ s.events → DisposesIn old new code
 
 -- the same behind a handle
-pub data DisposesBehind (s : AgentState) (new : EnvHandle) (code : ℕ) : Type 0 where
-  Disposed : (m : Member) → code ≡ 0 → new.kind ≡ 0 → Disposes s m → DisposesBehind s new code
-  StaysBehind : (n : AgentState) → (e : TiError) → code ≡ number_of e → (e ≡ OutOfMemory) ⊎ (e ≡ Busy) → agent_in new ≡ Some n → StaysOn s n → n.events ≡ s.events → DisposesBehind s new code
+pub data DisposesBehind (s : AgentState) (old new : EnvHandle) (code : ℕ) : Type 0 where
+  Disposed : (m : Member) → code ≡ 0 → new.kind ≡ 0 → Disposes s m → DisposesBehind s old new code
+  StaysBehind : (h : HeldEnv) → (n : AgentState) → (e : TiError) → code ≡ number_of e → (e ≡ OutOfMemory) ⊎ (e ≡ Busy) → old.place.env ≡ Some h → new ≡ with_held_env old (env_held_with h (Some n)) → StaysOn s n → n.events ≡ s.events
+      → DisposesBehind s old new code
 
 abbrev pub DisposesBy : Option AgentState → EnvHandle → EnvHandle → ℕ → Type 0
-DisposesBy (Some s) old new code = DisposesBehind s new code
+DisposesBy (Some s) old new code = DisposesBehind s old new code
 DisposesBy None old new code = (new ≡ old) × (code ≡ misused)

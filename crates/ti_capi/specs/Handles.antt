@@ -1,6 +1,7 @@
 -- Handles, and what lies behind them.
 use Rattle.std.specs.Prelude.{ℕ, Option, Some, None}
 use Rattle.ti_service.specs.Agent.{AgentState}
+use Rattle.ti_service.specs.Gathering.{TraceState}
 use Rattle.ti_service.specs.Service.{Member}
 use Rattle.ti_thread.specs.declared.any_thread.AnyThread.{AnyThread}
 use Rattle.ti_capi.specs.declared.held.HeldThread.{HeldThread}
@@ -40,6 +41,14 @@ agent_behind None = None
 
 abbrev pub agent_in : EnvHandle → Option AgentState
 agent_in h = agent_behind h.place.env
+
+-- the same thing behind a handle, with this environment, or with none
+abbrev pub env_held_with : HeldEnv → Option AgentState → HeldEnv
+env_held_with h a = record { agent = a; trace = h.trace; stacks = h.stacks }
+
+-- the same with this trace
+abbrev pub env_held_tracing : HeldEnv → TraceState → HeldEnv
+env_held_tracing h t = record { agent = h.agent; trace = Some t; stacks = h.stacks }
 
 -- the same thing behind a handle, with another thread
 abbrev pub held_with : HeldThread → AnyThread → HeldThread

@@ -10,6 +10,7 @@ pub mod Values
 pub mod Answers
 pub mod Asking
 pub mod Calls
+pub mod Gathers
 pub mod Disposing
 pub mod Threads
 pub mod Turns

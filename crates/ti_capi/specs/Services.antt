@@ -104,7 +104,7 @@ Attaches name priority s0 s1 old new code = AttachesBehind s0.place.service s1.p
 
 -- the box of an environment that was just attached
 abbrev pub HasNewAgent : Member → HeldEnv → Type 0
-HasNewAgent m held = (a : AgentState) × (held.agent ≡ Some a) × IsNewAgent m a
+HasNewAgent m held = (a : AgentState) × (held.agent ≡ Some a) × IsNewAgent m a × (held.trace ≡ None) × (held.stacks ≡ None)
 
 pub data AttachesEnvFor (m : Member) (old new : EnvHandle) (code : ℕ) : Type 0 where
   EnvFull : code ≡ misused → (old.kind == 0) ≡ false → new ≡ old → AttachesEnvFor m old new code

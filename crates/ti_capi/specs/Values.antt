@@ -5,6 +5,7 @@ use Rattle.ti_types.specs.declared.event.Ticket.{Ticket}
 use Rattle.ti_types.specs.declared.place.Frame.{Frame}
 use Rattle.ti_types.specs.declared.place.Place.{Place}
 use Rattle.ti_types.specs.declared.place.Place.TheVariants.{Java, Native}
+use Rattle.ti_types.specs.declared.stack.StackInfo.{StackInfo}
 use Rattle.ti_types.specs.declared.state.Kind.{Kind}
 use Rattle.ti_types.specs.declared.state.Kind.TheVariants as kind
 use Rattle.ti_roster.specs.declared.life_event.LifeKind.{LifeKind}
@@ -13,6 +14,7 @@ use Rattle.ti_roster.specs.declared.life_event.NextEvent.{NextEvent}
 use Rattle.ti_capi.specs.declared.values.CqFrame.{CqFrame}
 use Rattle.ti_capi.specs.declared.values.CqTicket.{CqTicket}
 use Rattle.ti_capi.specs.declared.values.CqEvent.{CqEvent}
+use Rattle.ti_capi.specs.declared.values.CqStackInfo.{CqStackInfo}
 
 -- a location: that of a native frame is -1
 abbrev pub location_of : Place → ℤ
@@ -52,6 +54,10 @@ kind_written ThreadEnd = 1
 
 abbrev pub event_written : NextEvent → CqEvent
 event_written n = record { kind = kind_written n.event.kind; thread = n.event.thread.0; lost = n.lost }
+
+-- a thread, its state, and how many frames were read
+abbrev pub stack_written : StackInfo → CqStackInfo
+stack_written x = record { thread = x.thread.0; state = x.state; frame_count = length x.frames.frames }
 
 -- the reasons to block, by number
 abbrev pub reasons : List Kind

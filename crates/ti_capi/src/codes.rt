@@ -9,9 +9,9 @@ pub const CQ_OK: u32 = 0;
 pub const CQ_HELD: u32 = 301;
 /// The call waits for the thread.
 pub const CQ_WAITING: u32 = 302;
-/// There is no event.
+/// There is no event, or no trace that was read.
 pub const CQ_NONE: u32 = 303;
-/// The handle is empty, of another kind, or full when an empty one is wanted.
+/// The handle is empty, of another kind, or full when an empty one is wanted. Or its environment makes a trace step by step.
 pub const CQ_MISUSED: u32 = 304;
 
 /// The code of what a thread's own call comes to.

@@ -58,7 +58,7 @@ pub extern "C" fn cq_dispose_environment(alloc: Global, env: &mut CqEnv) -> u32
 
 /// Disposes of the environment in a box. It stays there if it is not disposed of.
 fn dispose(alloc: Global, held: &mut HeldEnv) -> u32
-    ensures { DisposesIn held.old.agent held.new.agent result }
+    ensures { DisposesIn held.old held.new result }
 {
     let Some(agent) = held.agent.take() else {
         return CQ_MISUSED;

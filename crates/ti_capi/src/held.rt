@@ -1,8 +1,8 @@
 //! What lies behind a handle.
 
-use ti_service::{Agent, Service};
+use ti_service::{Agent, Gathering, Service};
 use ti_thread::AnyThread;
-use ti_types::Frame;
+use ti_types::{Frame, StackInfo};
 
 /// A thread, and a handle of its service, by which it is given back.
 #[derive(Drop)]
@@ -17,6 +17,10 @@ pub struct HeldThread {
 /// An environment.
 #[derive(Drop)]
 pub struct HeldEnv {
-    /// `None` only while a call works on it.
+    /// `None` while a call works on it, and while it makes a trace step by step.
     pub agent: Option<Agent>,
+    /// The trace that it makes. It has the agent.
+    pub trace: Option<Gathering>,
+    /// What the last trace tells. `None` if there was none, or it was given up.
+    pub stacks: Option<Vec<StackInfo>>,
 }

@@ -7,6 +7,7 @@
 //!
 //! - Its code, the numbers and the frames that it writes are those of the call behind it, whose clauses hold.
 //! - If a handle is empty or of another kind, the code is 304. Then nothing changes, and nothing is written.
+//! - While an environment makes a trace step by step, its other calls have the code 304 too, and change nothing.
 #![tactic(auto)]
 
 mod codes;
@@ -18,6 +19,7 @@ mod env_lends;
 mod env_list;
 mod env_own;
 mod env_posts;
+mod env_traces;
 mod handle_lends;
 mod held;
 mod service_at;
@@ -40,4 +42,4 @@ pub use service_at::ServiceAt;
 pub use service_handle::CqService;
 pub use thread_at::ThreadAt;
 pub use thread_handle::CqThread;
-pub use values::{CqAnswer, CqEvent, CqFrame, CqThreadInfo, CqTicket};
+pub use values::{CqAnswer, CqEvent, CqFrame, CqStackInfo, CqThreadInfo, CqTicket};

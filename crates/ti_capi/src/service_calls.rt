@@ -164,7 +164,12 @@ fn attach_environment(alloc: Global, service: &mut Service) -> Result<Box<HeldEn
     ensures attached { IfOk result (λ b. HasNewAgent service.old b.value) }
     ensures refused { IfErr result (λ e. (e ≡ OutOfMemory) ⊎ (e ≡ Busy)) }
 {
-    let Ok(mut held) = Box::new(alloc, HeldEnv { agent: None }) else {
+    let held = HeldEnv {
+        agent: None,
+        trace: None,
+        stacks: None,
+    };
+    let Ok(mut held) = Box::new(alloc, held) else {
         return Err(TiError::OutOfMemory);
     };
     held.agent = Some(service.try_attach_environment(alloc)?);

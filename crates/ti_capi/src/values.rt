@@ -46,6 +46,15 @@ pub struct CqEvent {
     pub lost: u64,
 }
 
+/// What a trace of several threads tells of one: its number, its state, and how many of its frames were read.
+#[repr(C)]
+#[derive(Clone, Copy)]
+pub struct CqStackInfo {
+    pub thread: u32,
+    pub state: u32,
+    pub frame_count: u64,
+}
+
 /// A frame as C has it.
 pub(crate) fn frame_out(frame: Frame) -> CqFrame
     ensures { result ≡ frame_written frame }

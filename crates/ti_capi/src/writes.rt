@@ -1,8 +1,8 @@
 //! What is written to memory of the caller's: as much as there is room for.
 
 use crate::codes::CQ_OK;
-use crate::values::{CqAnswer, CqFrame, frame_out};
-use ti_types::{Answer, Frame, ThreadNo};
+use crate::values::{CqAnswer, CqFrame, CqStackInfo, frame_out};
+use ti_types::{Answer, Frame, StackInfo, ThreadNo};
 
 /// How many of these items there is room for.
 fn smaller(items: usize, room: usize) -> usize
@@ -38,6 +38,20 @@ pub(crate) fn write_bytes(bytes: &[u8], room: &mut [u8])
     }
 }
 
+/// Writes what is told of a thread.
+pub(crate) fn write_stack(stack: &StackInfo, out: &mut CqStackInfo, room: &mut [CqFrame])
+    ensures info { out.new ≡ stack_written stack.now }
+    ensures frames { room.new ≡ over (map frame_written stack.now.frames.frames) room.old }
+{
+    let frames = stack.frames.frames();
+    *out = CqStackInfo {
+        thread: stack.thread.0,
+        state: stack.state,
+        frame_count: frames.len() as u64,
+    };
+    write_frames(frames, room);
+}
+
 /// Writes an answer, and gives its code.
 pub(crate) fn write_answer(answer: Answer, out: &mut CqAnswer, room: &mut [CqFrame]) -> u32
     ensures { IsWritten answer result out.old out.new room.old room.new }
@@ -65,5 +79,5 @@ pub(crate) fn write_answer(answer: Answer, out: &mut CqAnswer, room: &mut [CqFra
 }
 
 ghost use Rattle.std.specs.Prelude.{◌≡◌, map, min};
-ghost use Rattle.ti_capi.specs.Values.{frame_written, over};
+ghost use Rattle.ti_capi.specs.Values.{frame_written, over, stack_written};
 ghost use Rattle.ti_capi.specs.Answers.{IsWritten};

@@ -1,6 +1,6 @@
 -- What each call of an environment leaves: its desks are where they were.
-use Rattle.std.proofs.Common.{◌≡◌, ℤ, Bool, true, false, inl, inr, List, [], ◌∷◌, length, refl, ap, ◌∙◌, Option, Some, None, Result, Ok, Err}
-use Rattle.std.specs.Prelude.{◌<◌, ◌≤◌, IfOk, IfErr, OnOk, OnErr}
+use Rattle.std.proofs.Common.{◌≡◌, ℤ, Bool, true, false, inl, inr, List, [], ◌∷◌, length, refl, ap, sym, subst, ◌∙◌, Option, Some, None, Result, Ok, Err}
+use Rattle.std.specs.Prelude.{◌<◌, ◌≤◌, IfOk, IfErr, IfSome, IfNone, OnOk, OnErr, take}
 use Rattle.std.proofs.lemmas.Bool.{cases_lt}
 use Rattle.ti_types.specs.declared.answer.Answer.{Answer}
 use Rattle.ti_types.specs.declared.call.Call.{Call}
@@ -14,13 +14,15 @@ use Rattle.ti_types.specs.declared.stack.StackInfo.{StackInfo}
 use Rattle.ti_env.specs.Env.{EnvValue, with_spent}
 use Rattle.ti_slot.specs.declared.asked.Asked.{Asked as AskedOf}
 use Rattle.ti_handshake.specs.Desk.{DeskState, DiscardsOf}
+use Rattle.ti_vmop.specs.Tries.{AtDeskOf}
 use Rattle.ti_vmop.specs.Turns.{AtDesk, AtEach, Listed, is_listed, spend_all}
 use Rattle.ti_vmop.specs.declared.global_stops.Round.{Round}
 use Rattle.ti_agent.specs.Asks.{IsCalled, IsCalledBy, Went, is_for_memory, is_timed_out, refusal_of}
 use Rattle.ti_agent.specs.Deadlines.{Cancels, ComesAs, DiscardsAt, GivesUpAt, IsCalledWithin, IsCalledWithinBy}
 use Rattle.ti_agent.specs.Env.{Environment, place_in, place_of, thread_refusal}
 use Rattle.ti_agent.specs.Posts.{Collects, LooksFor, Posts, WaitsFor}
-use Rattle.ti_agent.specs.Traces.{IsTraced, ReadsEach, Telling, TracesAlive}
+use Rattle.ti_agent.specs.Gathering.{Gathered, Gathers, GivesUp, IsGathered, IsLetGo}
+use Rattle.ti_agent.specs.Traces.{HasRead, IsTraced, LetsGo, ReadsEach, Stops, Telling, TracesAlive}
 use Rattle.ti_service.specs.Homes.{home_of, homes_of}
 use Rattle.ti_service.proofs.Homes.{StaysHome, homes_alike, same_home, stays_at, stays_same, stays_then, stays_to}
 
@@ -145,17 +147,21 @@ reads_stays old new max_count (x ∷ more) h =
       homes = each_home ((x.place, 0) ∷ []) old.desks h.0.desks (λ e. Read e max_count ∷ []) h.1.desks;
     }) (reads_stays h.0 new max_count more h.2)
 
-traced_stays : (old new : Environment) (max_count : ℤ) (stopping : Listed) (places threads : List ThreadNo) (infos : List StackInfo) (round : Round) → IsTraced old new max_count stopping places threads infos round → StaysHome old new
-traced_stays old new max_count stopping places threads infos round h =
-    stays_then old h.stopped new (record {
-      env = h.stops.env_is;
-      limits = ap (λ (s : EnvValue). s.limits) h.stops.state_is ∙ spent_limits old.state stopping;
-      homes = each_home stopping old.desks h.stopped.desks (λ e. Stop e ∷ []) h.stops.desks;
-    }) (stays_then h.stopped h.seen new (reads_stays h.stopped h.seen max_count h.reads.tellings h.reads.reads) (record {
-      env = h.goes.env_is;
-      limits = ap (λ (s : EnvValue). s.limits) h.goes.state_is;
-      homes = each_home stopping h.seen.desks new.desks (λ e. Go e ∷ []) h.goes.desks;
+-- one desk after another was stopped, read and let go
+round_stays : (old stopped seen new : Environment) (max_count : ℤ) (stopping : Listed) (places threads : List ThreadNo) (infos : List StackInfo) → Stops old stopped stopping → HasRead stopped seen max_count places threads infos → LetsGo seen new stopping → StaysHome old new
+round_stays old stopped seen new max_count stopping places threads infos stops reads goes =
+    stays_then old stopped new (record {
+      env = stops.env_is;
+      limits = ap (λ (s : EnvValue). s.limits) stops.state_is ∙ spent_limits old.state stopping;
+      homes = each_home stopping old.desks stopped.desks (λ e. Stop e ∷ []) stops.desks;
+    }) (stays_then stopped seen new (reads_stays stopped seen max_count reads.tellings reads.reads) (record {
+      env = goes.env_is;
+      limits = ap (λ (s : EnvValue). s.limits) goes.state_is;
+      homes = each_home stopping seen.desks new.desks (λ e. Go e ∷ []) goes.desks;
     }))
+
+traced_stays : (old new : Environment) (max_count : ℤ) (stopping : Listed) (places threads : List ThreadNo) (infos : List StackInfo) (round : Round) → IsTraced old new max_count stopping places threads infos round → StaysHome old new
+traced_stays old new max_count stopping places threads infos round h = round_stays old h.stopped h.seen new max_count stopping places threads infos h.stops h.reads h.goes
 
 pub all_traced_stays : {V : Type 0} (infos : V → List StackInfo) (round : V → Round) (old new : Environment) (max_count : ℤ) (r : Result V TiError) → IfOk r (λ v. TracesAlive old new max_count (infos v) (round v)) → OnErr r (new ≡ old) → StaysHome old new
 all_traced_stays infos round old new max_count (Ok v) h same = traced_stays old new max_count _ _ _ h.all (round v) h.traced
@@ -165,3 +171,38 @@ pub list_traced_stays : {V : Type 0} (infos : V → List StackInfo) (round : V �
     → IfOk r (λ v. IsTraced old new max_count stopping places threads (infos v) (round v)) → OnErr r (new ≡ old) → StaysHome old new
 list_traced_stays infos round old new max_count stopping places threads (Ok v) h same = traced_stays old new max_count stopping places threads (infos v) (round v) h
 list_traced_stays infos round old new max_count stopping places threads (Err e) h same = stays_same old new same
+
+-- Traces that were made step by step
+
+gathered_stays : (old new : Environment) (max_count : ℤ) (stopping : Listed) (places threads : List ThreadNo) (infos : List StackInfo) → IsGathered old new max_count stopping places threads infos → StaysHome old new
+gathered_stays old new max_count stopping places threads infos h = round_stays old h.stopped h.seen new max_count stopping places threads infos h.stops h.reads h.goes
+
+at_desk_of : (done listed : Bool) (p q : DeskState) (more : List Entry) → AtDeskOf done listed p q more → home_of q ≡ home_of p
+at_desk_of true listed p q more h = same_home p q h.same.cell h.goes.subject
+at_desk_of false true p q more (inl is) = ap home_of is
+at_desk_of false true p q more (inr h) = same_home p q h.same.cell h.goes.subject
+at_desk_of false false p q more h = ap home_of h
+
+let_go_stays : (old new : Environment) (stopping : Listed) → IsLetGo old new stopping → StaysHome old new
+let_go_stays old new stopping h =
+    let stopped : Listed = take h.count stopping in
+    let mid : Environment = record { env = new.env; state = new.state; desks = h.stopped } in
+    stays_then old mid new (record {
+      env = h.env_is;
+      limits = ap (λ (s : EnvValue). s.limits) h.state_is ∙ spent_limits old.state stopped;
+      homes = homes_alike old.desks h.stopped h.stops.0 (λ i p q a b. at_desk_of (is_listed i stopped) (is_listed i stopping) p q (Stop p.env ∷ []) (h.stops.1 i p q a b));
+    }) (record {
+      env = refl;
+      limits = refl;
+      homes = each_home stopped h.stopped new.desks (λ e. Go e ∷ []) h.goes;
+    })
+
+one_start : (x y : Environment) → x ∷ [] ≡ y ∷ [] → x ≡ y
+one_start x y e = cc
+
+-- the trace has come to its end, or was given up
+pub finished_stays : {V : Type 0} (infos : V → List StackInfo) (g : Gathered) (start new : Environment) (told : Option V) → g.began ≡ start ∷ [] → IfSome told (λ v. Gathers g new (infos v)) → IfNone told (GivesUp g new) → StaysHome start new
+finished_stays infos g start new (Some v) began h none =
+    subst (λ (s : Environment). StaysHome s new) (one_start h.start start (sym h.began_is ∙ began)) (gathered_stays h.start new g.max_count g.stopping g.places _ h.all h.gathered)
+finished_stays infos g start new None began some h =
+    subst (λ (s : Environment). StaysHome s new) (one_start h.start start (sym h.began_is ∙ began)) (let_go_stays h.start new g.stopping h.let_go)

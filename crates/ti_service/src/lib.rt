@@ -11,6 +11,7 @@
 //! - An environment that meets the threads has a desk at each thread that came since it last did and is still there.
 //! - A desk at a thread is at the cell that the thread itself has, from the day it was attached.
 //! - An agent's calls reach threads of its own service alone.
+//! - An agent that makes a trace of several threads step by step comes back at its end, with what was read.
 //! - No two agents have one environment's number.
 //! - Agents are told threads' starts and ends in one order, each once. What was lost is counted.
 //! - The list of who is there is held for each coming, going and meeting, and never while a thread is asked.
@@ -26,12 +27,14 @@ mod call_tries;
 mod calls;
 mod dispose;
 mod events;
+mod gathering;
 mod laws;
 mod let_go;
 mod service;
 mod service_tries;
 
 pub use agent::Agent;
+pub use gathering::Gathering;
 pub use laws::cleared_words_read_zero;
 pub use service::Service;
 pub use ti_roster::{LifeEvent, LifeKind, NextEvent, ThreadInfo};

@@ -1,6 +1,6 @@
 -- A global operation at one thread.
 use Rattle.std.proofs.Common.{◌≡◌, ℕ, ◌+◌, Bool, true, false, cond, ℤ, List, [], ◌∷◌, ◌++◌, length, refl, ap, sym, ◌∙◌, arith, subst, eq-eqb, Option, Some, None}
-use Rattle.std.specs.Prelude.{take, drop, is_none, is_some, if◌then◌else◌, IfSome, MatchOption}
+use Rattle.std.specs.Prelude.{take, drop, is_none, is_some, if◌then◌else◌, IfSome, MatchOption, Result, Ok, Err, IfOk, OnOk}
 use Rattle.std.proofs.lemmas.Bool.{and_parts}
 use Rattle.std.proofs.lemmas.Bool.Decides.{nat_tests}
 use Rattle.std.proofs.lemmas.List.{append_cancel_right}
@@ -30,12 +30,13 @@ use Rattle.ti_replay.specs.View.{view}
 use Rattle.ti_replay.proofs.CostLaws.{goes_on-append}
 use Rattle.ti_slot.specs.Thread.{read_answer}
 use Rattle.ti_cell.specs.declared.view.View.{View}
-use Rattle.ti_handshake.specs.Call.{Waits, found, added}
+use Rattle.ti_handshake.specs.Call.{Holds, Waits, found, added}
 use Rattle.ti_handshake.proofs.Holding.{added_is}
-use Rattle.ti_handshake.specs.Desk.{DeskState, is_anothers}
+use Rattle.ti_handshake.specs.Desk.{DeskState, IsSame, is_anothers, read_refusal}
 use Rattle.ti_replay.proofs.AloneLaws.{made-append, none_since}
 use Rattle.ti_replay.specs.Fronts.{stops_by, lets_go, IsStill, TellsOf, popped_behind}
 use Rattle.ti_vmop.specs.Desks.{DesksStay}
+use Rattle.ti_vmop.specs.Turns.{HasAdded, IsRead}
 use Rattle.ti_replay.proofs.FrontLaws.{stops_are_own, front_stays, front_stays_by_own}
 
 -- what was found has of the seat's entries just those that were made before
@@ -174,3 +175,25 @@ desks_stay env old new number whole goes stands stays later =
     goes.whole ∙ (ap (made_by old.number) later.1 ∙ (made-append old.number old.seen later.0 ∙ ap (λ (l : List Entry). l ++ more) (sym whole))) in
     let own : added old new ≡ made_by (env.0 + 1) later.0 = added_is old new more mine ∙ ap (λ (n : ℕ). made_by n later.0) number in
     front_stays_by_own old.subject.limits env old.seen new.seen goes.legal stands later (ap (lets_go env) (sym own) ∙ stays)
+
+-- Tries
+
+pub tries_added : {A B : Type 0} → (p q : DeskState) (m n : ℤ) (r : Result A B) → m ≡ n → IsSame p q → p.view.number ≡ p.env.0 + 1 → p.view.mine ≡ made_by p.view.number p.view.seen
+    → is_standing p.view.subject.limits p.view.seen p.env ≡ true → OnOk r (Holds p.view q.view (if_none (read_refusal p q m) (Read p.env m ∷ []))) → OnOk r (HasAdded p q (Read p.env n ∷ []))
+tries_added p q m n (Err b) e same number whole stands k = k
+tries_added p q m n (Ok a) e same number whole stands k =
+    let hold = recount p q.view _ m n e k.waits in
+    let at = finds p q.view (Read p.env n) _ (omega arith) number whole hold stands in
+    let w = read_holds p q.view n _ _ refl at hold in
+    record { same = same; goes = w.goes; mine = w.mine; posted = w.posted }
+
+pub tries_read : {A B : Type 0} → (p q : DeskState) (m n : ℤ) (r : Result A B) (f : A → Answer) → m ≡ n → p.view.number ≡ p.env.0 + 1 → p.view.mine ≡ made_by p.view.number p.view.seen
+    → is_standing p.view.subject.limits p.view.seen p.env ≡ true → OnOk r (Holds p.view q.view (if_none (read_refusal p q m) (Read p.env m ∷ [])))
+    → IfOk r (λ a. read_answer (read_refusal p q m) (reply p.view.subject.limits q.view.seen (length (found p.view q.view))) ≡ Some (f a)) → IfOk r (λ a. IsRead p q n (f a))
+tries_read p q m n (Err b) f e number whole stands k told = told
+tries_read p q m n (Ok a) f e number whole stands k told =
+    let hold = recount p q.view _ m n e k.waits in
+    let at = finds p q.view (Read p.env n) _ (omega arith) number whole hold stands in
+    let w = read_holds p q.view n _ _ refl at hold in
+    let replied = read_replies p q.view n _ (f a) _ refl at told in
+    record { last = w.last; replied = replied; here = hold.here; tells = read_tells p q.view n (f a) _ at w replied; stands = read_stands p q.view n _ at w }

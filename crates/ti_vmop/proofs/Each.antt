@@ -78,7 +78,7 @@ set_here [] t x w e = cc
 set_here (y ∷ ys) zero x w e = cc
 set_here (y ∷ ys) (suc t) x w e = set_here ys t x w e
 
-set_there : (l : List DeskState) (t i : ℕ) (x w : DeskState) → t ≢ i → slice_get (slice_set l t x) i ≡ Some w → slice_get l i ≡ Some w
+pub set_there : (l : List DeskState) (t i : ℕ) (x w : DeskState) → t ≢ i → slice_get (slice_set l t x) i ≡ Some w → slice_get l i ≡ Some w
 set_there [] t i x w n e = e
 set_there (y ∷ ys) zero zero x w n e = absurd (n refl)
 set_there (y ∷ ys) zero (suc i) x w n e = e

@@ -1,11 +1,8 @@
 -- Threads that were stopped, and are let go when a time is over.
-use Rattle.std.proofs.Common.{◌≡◌, ℕ, zero, suc, ◌+◌, ◌<◌, ◌≤◌, Bool, true, false, List, [], ◌∷◌, ◌++◌, length, take, drop, refl, ap, sym, ◌∙◌, arith, subst, eq-eqb, Some, append-nil}
+use Rattle.std.proofs.Common.{◌≡◌, ℕ, zero, suc, ◌<◌, ◌≤◌, Bool, true, false, List, [], ◌∷◌, length, take, drop, refl, sym, ◌∙◌, arith, subst, eq-eqb, Some, append-nil}
 use Rattle.std.specs.Prelude.{if◌then◌else◌, slice_get, slice_index_or, slice_set}
-use Rattle.std.proofs.lemmas.Bool.{cases_Bool}
 use Rattle.std.proofs.lemmas.List.Sums.{fold-append}
-use Rattle.ti_types.specs.declared.entry.Entry.{Entry}
 use Rattle.ti_types.specs.declared.entry.Entry.TheVariants.{Stop}
-use Rattle.ti_types.specs.declared.numbers.EnvNo.{EnvNo}
 use Rattle.ti_types.specs.declared.numbers.ThreadNo.{ThreadNo}
 use Rattle.ti_replay.specs.Fronts.{stops_by, stops_after}
 use Rattle.ti_handshake.specs.Desk.{DeskState, IsSame}
@@ -67,7 +64,7 @@ all_stopped threads n old new e s =
 
 -- who was stopped is, until it is let go
 
-now_stops : (x y : DeskState) → HasAdded x y (Stop x.env ∷ []) → stops_by y.env y.view.mine ≡ true
+pub now_stops : (x y : DeskState) → HasAdded x y (Stop x.env ∷ []) → stops_by y.env y.view.mine ≡ true
 now_stops x y h =
     (λ i. stops_by (h.same.env i) (h.mine i)) ∙ (fold-append (stops_after x.env) false x.view.mine (Stop x.env ∷ []) ∙ grind (arith, eq-eqb x.env.0 x.env.0 refl))
 

@@ -64,6 +64,14 @@ pub struct cq_event {
     pub lost: u64,
 }
 
+#[repr(C)]
+#[derive(Clone, Copy, Debug, Default)]
+pub struct cq_stack_info {
+    pub thread: u32,
+    pub state: u32,
+    pub frame_count: u64,
+}
+
 /// One for all threads that use a service.
 #[repr(C)]
 #[derive(Debug, Default)]
@@ -98,6 +106,8 @@ codes! {
     CQ_OWN_SPENT = 208
     CQ_CALLS_SPENT = 209
     CQ_NOT_NEW = 210
+    CQ_ALREADY_STOPPED = 211
+    CQ_STILL_RUNNING = 213
     CQ_TIMED_OUT = 214
     CQ_BUSY = 215
     CQ_HELD = 301
@@ -173,6 +183,23 @@ extern "C" {
     pub fn cq_cancel(env: *mut cq_env, ticket: *const cq_ticket) -> u32;
     pub fn cq_discard(env: *mut cq_env, thread: u32, thrown: *mut bool) -> u32;
     pub fn cq_out_at(env: *mut cq_env, thread: u32, count: *mut u32) -> u32;
+    pub fn cq_gather_all_stack_traces(env: *mut cq_env, max_count: i32) -> u32;
+    pub fn cq_gather_thread_list_stack_traces(
+        env: *mut cq_env,
+        threads: *const u32,
+        count: usize,
+        max_count: i32,
+    ) -> u32;
+    pub fn cq_gather_step(env: *mut cq_env, over: *mut bool) -> u32;
+    pub fn cq_gather_give_up(env: *mut cq_env) -> u32;
+    pub fn cq_gathered(env: *mut cq_env, count: *mut u64) -> u32;
+    pub fn cq_gathered_stack(
+        env: *mut cq_env,
+        index: u64,
+        info: *mut cq_stack_info,
+        frames: *mut cq_frame,
+        room: usize,
+    ) -> u32;
     pub fn cq_add_capabilities(env: *mut cq_env, capabilities: u32) -> u32;
     pub fn cq_relinquish_capabilities(env: *mut cq_env, capabilities: u32) -> u32;
     pub fn cq_get_capabilities(env: *mut cq_env, capabilities: *mut u32) -> u32;
@@ -290,6 +317,22 @@ extern "C" {
         timeout_ns: i64,
         codes: *mut u32,
     );
+    pub fn cq_wait_get_all_stack_traces(
+        env: *mut cq_env,
+        signal: *mut cq_signal,
+        max_count: i32,
+        timeout_ns: i64,
+        count: *mut u64,
+    ) -> u32;
+    pub fn cq_wait_get_thread_list_stack_traces(
+        env: *mut cq_env,
+        signal: *mut cq_signal,
+        threads: *const u32,
+        thread_count: usize,
+        max_count: i32,
+        timeout_ns: i64,
+        count: *mut u64,
+    ) -> u32;
     pub fn cq_wait_collect(
         env: *mut cq_env,
         signal: *mut cq_signal,

@@ -19,6 +19,16 @@ pub struct ThreadInfo {
     pub priority: i32,
 }
 
+/// What a trace of several threads tells of one.
+#[derive(Clone, Debug, PartialEq, Eq)]
+pub struct StackInfo {
+    pub thread: u32,
+    /// The bits of GetThreadState.
+    pub state: u32,
+    /// Newest first.
+    pub frames: Vec<Frame>,
+}
+
 /// Which event of a thread's life it is.
 #[derive(Clone, Copy, Debug, PartialEq, Eq, Hash)]
 pub enum EventKind {
@@ -170,6 +180,48 @@ impl Environment {
         })?;
         frames.truncate(count as usize);
         Ok(frames)
+    }
+
+    /// GetAllStackTraces: all threads that are alive at one moment, in the order of their numbers. There are at most
+    /// `max_count` frames of each, newest first. No thread runs until all were read.
+    ///
+    /// With [`Error::TimedOut`] all threads run on, and none was read.
+    pub fn get_all_stack_traces(&mut self, max_count: i32) -> Result<Vec<StackInfo>, Error> {
+        let mut count = 0;
+        checked(unsafe {
+            sys::cq_wait_get_all_stack_traces(self.at(), self.signal.at(), max_count, self.time(), &mut count)
+        })?;
+        Ok((0..count).map(|index| self.gathered_stack(index)).collect())
+    }
+
+    /// GetThreadListStackTraces: the same of each thread of a list, in the list's order. One that is not alive has no
+    /// frames.
+    pub fn get_thread_list_stack_traces(&mut self, threads: &[u32], max_count: i32) -> Result<Vec<StackInfo>, Error> {
+        let mut count = 0;
+        let (at, length, time) = (threads.as_ptr(), threads.len(), self.time());
+        checked(unsafe {
+            sys::cq_wait_get_thread_list_stack_traces(
+                self.at(),
+                self.signal.at(),
+                at,
+                length,
+                max_count,
+                time,
+                &mut count,
+            )
+        })?;
+        Ok((0..count).map(|index| self.gathered_stack(index)).collect())
+    }
+
+    /// What the trace that was just made tells of a thread.
+    fn gathered_stack(&mut self, index: u64) -> StackInfo {
+        let mut info = sys::cq_stack_info::default();
+        let mut frames = Vec::new();
+        surely(unsafe { sys::cq_gathered_stack(self.at(), index, &mut info, frames.as_mut_ptr(), 0) });
+        frames.resize(info.frame_count as usize, Frame::default());
+        let (at, room) = (frames.as_mut_ptr(), frames.len());
+        surely(unsafe { sys::cq_gathered_stack(self.at(), index, &mut info, at, room) });
+        StackInfo { thread: info.thread, state: info.state, frames }
     }
 
     /// SuspendThread, with [`capabilities::SUSPEND`].

@@ -54,7 +54,7 @@ mod posts;
 mod service;
 mod thread;
 
-pub use environment::{capabilities, Environment, Event, EventKind, ThreadInfo};
+pub use environment::{capabilities, Environment, Event, EventKind, StackInfo, ThreadInfo};
 pub use error::Error;
 pub use posts::{Answer, Call, Posted, Ticket};
 pub use service::Service;

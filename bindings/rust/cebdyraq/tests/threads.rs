@@ -1,7 +1,7 @@
 //! A runtime and its agents, each on a thread of its own.
 
 use cebdyraq::{capabilities, Answer, Call, Ended, Environment, Error, Event, EventKind, Frame, Fresh, Posted};
-use cebdyraq::{Reason, Running, Safe, Service, ThreadInfo};
+use cebdyraq::{Reason, Running, Safe, Service, StackInfo, ThreadInfo};
 use std::sync::atomic::{AtomicBool, Ordering::SeqCst};
 use std::thread;
 use std::time::{Duration, Instant};
@@ -140,6 +140,41 @@ fn calls_are_posted_and_collected() {
     running.poll();
     assert!(env.discard(0) && env.discard(0) && !env.discard(0));
     assert_eq!(env.out_at(0), 0);
+}
+
+#[test]
+fn all_stacks_are_of_one_moment() {
+    let (mut service, mut running, mut env) = with_thread();
+    let mut second = service.attach_thread("second", 5).unwrap().start();
+    let fresh = service.attach_thread("fresh", 5).unwrap();
+    running.enter(1).unwrap();
+    running.at(17).unwrap();
+    running.enter(2).unwrap();
+    second.enter_native(3).unwrap();
+    let Ok(second) = second.native() else { panic!("the newest frame is native") };
+    env.meet().unwrap();
+    let told = |thread, state, frames: &[(u32, i64)]| StackInfo {
+        thread,
+        state,
+        frames: frames.iter().map(|&(method, location)| Frame { method, location }).collect(),
+    };
+    while_polling(&mut running, || {
+        let all = [told(0, 0x5, &[(2, 0), (1, 17)]), told(1, 0x400005, &[(3, -1)])];
+        assert_eq!(env.get_all_stack_traces(8).unwrap(), all);
+        let list = [told(2, 0, &[]), told(0, 0x5, &[(2, 0)]), told(1, 0x400005, &[(3, -1)]), told(0, 0x5, &[(2, 0)])];
+        assert_eq!(env.get_thread_list_stack_traces(&[2, 0, 1, 0], 1).unwrap(), list);
+        assert_eq!(env.get_thread_list_stack_traces(&[], 1), Ok(vec![]));
+        assert_eq!(env.get_thread_list_stack_traces(&[0, 3], 1), Err(Error::InvalidThread));
+        assert_eq!(env.get_all_stack_traces(-1), Err(Error::IllegalArgument));
+    });
+    env.set_timeout(Some(Duration::from_millis(20)));
+    let began = Instant::now();
+    assert_eq!(env.get_all_stack_traces(8), Err(Error::TimedOut));
+    assert!(began.elapsed() >= Duration::from_millis(20));
+    assert!(running.poll_clear());
+    let _second = second.back();
+    let _fresh = fresh.start();
+    running.leave().unwrap();
 }
 
 #[test]

@@ -1,4 +1,4 @@
-use Rattle.std.proofs.Common.{◌≡◌, ◌<◌, length, ap, sym, ◌∙◌, arith}
+use Rattle.std.proofs.Common.{◌<◌, length, ap, sym, ◌∙◌, arith}
 use Rattle.ti_agent.specs.Env.{Environment, thread_at}
 use Rattle.ti_agent.proofs.Places.{name_of}
 use Rattle.ti_agent.proofs.env.Env.thread_at.Goals as goal

@@ -1,0 +1,47 @@
+use Rattle.std.proofs.Common.{◌≡◌, ◌<◌, ◌+◌, length, ap, arith, subst, sym, ◌∙◌}
+use Rattle.ti_agent.specs.Gathering.{Gathered}
+use Rattle.ti_agent.specs.declared.gathering.Phase.TheVariants as phase
+use Rattle.ti_agent.proofs.AtWork.{barred, not_stopped, stop_calls, stop_left, stop_there, stopped}
+use Rattle.ti_agent.proofs.gathering.Gathering.stop_next.Goals.{After-index}
+use Rattle.ti_agent.proofs.gathering.Gathering.stop_next.Goals as goal
+
+-- the trace as its fields have it
+abbrev trace : After-index → Gathered
+trace c = record { began = c.self.inside.began.items; now = record { env = c.self.inside.env; state = c.self.inside.state; desks = c.self.inside.desks.items }; stopping = c.self.inside.stopping.items; places = c.self.inside.places.items; max_count = c.self.inside.max_count; is_alive_only = c.self.inside.is_alive_only; bufs = c.self.inside.bufs.items; infos = c.self.inside.infos.items; phase = c.self.inside.phase }
+
+is : (c : After-index) → (trace c).phase ≡ phase.Stopping c.args.stopped
+is c = ap (λ (g : Gathered). g.phase) c.self.view_is ∙ c.requires.at
+
+within : (c : After-index) → c.args.stopped < length (trace c).stopping
+within c = subst (λ (g : Gathered). c.args.stopped < length g.stopping) (sym c.self.view_is) c.requires.next
+
+pub try_stop_one-requires : goal.try_stop_one-requires
+try_stop_one-requires c =
+    let l = (goal.at.try_stop_one-requires c).After-index in
+    record { calls = stop_calls (trace l) c.self.invariant.0 c.args.stopped c.index.result.now c.index_mut.result.now (is l) (within l) c.index.ensures c.index_mut.ensures.value }
+
+pub invariant_of-self : goal.invariant_of-self
+invariant_of-self c =
+    let l = (goal.at.invariant_of-self c).After-index in (
+      not_stopped (trace l) c.self.invariant.0 c.args.stopped c.index.result.now c.index_mut.result.now c.try_stop_one.new.desk (is l) (within l) c.index.ensures c.index_mut.ensures.value
+          (barred c.index_mut.result.now c.try_stop_one.new.desk _ c.in_err-try_stop_one.ensures.barred),
+      c.self.invariant.1,
+    )
+
+pub spend-requires-clause-there : goal.spend-requires-clause-there
+spend-requires-clause-there c =
+    let l = (goal.at.spend-requires-clause-there c).After-index in
+    stop_there (trace l) c.self.invariant.0 c.args.stopped c.index.result.now (is l) (within l) c.index.ensures
+
+pub spend-requires-clause-left : goal.spend-requires-clause-left
+spend-requires-clause-left c =
+    let l = (goal.at.spend-requires-clause-left c).After-index in
+    stop_left (trace l) c.self.invariant.0 c.args.stopped c.index.result.now (is l) (within l) c.index.ensures
+
+pub invariant_of-self-2 : goal.invariant_of-self-2
+invariant_of-self-2 c =
+    let l = (goal.at.invariant_of-self-2 c).After-index in (
+      stopped (trace l) c.self.invariant.0 c.args.stopped (c.args.stopped + 1) c.index.result.now c.index_mut.result.now c.try_stop_one.new.desk c.spend.new.self (is l) (within l) (omega arith) c.index.ensures c.index_mut.ensures.value
+          c.in_ok-try_stop_one.ensures.stopped c.spend.ensures,
+      c.self.invariant.1,
+    )
