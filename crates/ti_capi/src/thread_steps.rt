@@ -20,6 +20,7 @@ pub extern "C" fn cq_thread_number(thread: &mut CqThread, number: &mut u32) -> u
 }
 
 /// Makes a step.
+#[inline(always)]
 fn step(thread: &mut CqThread, step: Step) -> u32
     ensures { Changes (Steps step) thread.old thread.new result }
 {

@@ -54,6 +54,7 @@ impl Frames {
     }
 
     /// The frame at a depth, 0 for the newest. `None` if there is no such frame (JVM TI 11, GetFrameLocation).
+    #[inline(always)]
     pub fn top(&self, depth: usize) -> Option<Frame>
         ensures { result ≡ slice_get self.now.frames depth }
     {
@@ -69,6 +70,7 @@ impl Frames {
     /// - `Overflow` (201): a method is entered at the depth limit.
     /// - `NoFrame` (202): the newest frame is moved on or left, and there is none.
     /// - `NotJavaFrame` (203): the newest frame is moved on, and is native.
+    #[inline(always)]
     pub fn refusal(&self, step: Step) -> Option<TiError>
         ensures { result ≡ step_refusal self.now.depth self.now.frames step }
     {
@@ -95,6 +97,7 @@ impl Frames {
     }
 
     /// Makes a step, unless it is refused as `refusal` says. A refused step changes nothing.
+    #[inline(always)]
     pub fn apply(&mut self, step: Step) -> Result<(), TiError>
         ensures when { MatchResult result
             (λ _. step_refusal self.old.depth self.old.frames step ≡ None)
@@ -111,6 +114,7 @@ impl Frames {
     }
 
     /// Makes a step that is not refused.
+    #[inline(always)]
     fn make(&mut self, step: Step)
         requires { step_refusal self.old.depth self.old.frames step ≡ None }
         ensures { self.new ≡ with_frames self.old (frames_after self.old.frames step) }
@@ -223,17 +227,16 @@ impl Frames {
     }
 
     /// Adds a newest frame.
+    #[inline(always)]
     fn push(&mut self, frame: Frame)
         requires { length self.old.frames < self.old.depth }
         ensures { self.new ≡ with_frames self.old (frame ∷ self.old.frames) }
     {
-        match self.items.push(frame) {
-            Ok(()) => (),
-            Err(_) => unreachable!(),
-        }
+        self.items.push_reserved(frame);
     }
 
     /// Takes the newest frame away.
+    #[inline(always)]
     fn pop(&mut self)
         ensures room { 0 < length self.old.frames → length self.new.frames < self.new.depth }
         ensures frames { self.new ≡ with_frames self.old (without_newest self.old.frames) }

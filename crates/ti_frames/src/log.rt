@@ -44,6 +44,7 @@ impl Log {
     }
 
     /// How many steps there are, at most the room.
+    #[inline(always)]
     pub fn len(&self) -> usize
         ensures len { result ≡ length self.now.steps }
         ensures fits { result ≤ self.now.room }
@@ -67,6 +68,7 @@ impl Log {
     }
 
     /// Adds a step at the end. There has to be room for it: `is_full` is the test.
+    #[inline(always)]
     pub fn push(&mut self, step: Step)
         requires { length self.old.steps < self.old.room }
         ensures { self.new ≡ with_steps self.old (self.old.steps ++ step ∷ []) }

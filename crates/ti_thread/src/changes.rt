@@ -13,6 +13,7 @@ impl AnyThread {
     /// - `NoFrame` (202): the newest frame is moved on or left, and there is none.
     /// - `NotJavaFrame` (203): the newest frame is moved on, and is native.
     /// - `OwnSpent` (208): nothing is left to spend.
+    #[inline(always)]
     pub fn step(&mut self, step: Step) -> Told
         ensures { Steps step self.old self.new result }
     {

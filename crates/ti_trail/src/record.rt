@@ -69,6 +69,7 @@ impl<T> Record<T> {
     }
 
     /// How many items there are, at most the room.
+    #[inline(always)]
     pub fn len(&self) -> u64
         ensures len { result ≡ length self.now.items }
         ensures fits { result ≤ self.now.room }
@@ -111,6 +112,7 @@ impl<T> Record<T> {
 
 impl<T: Drop> Record<T> {
     /// Adds an item at the end. There has to be room for it.
+    #[inline(always)]
     pub fn push(&mut self, item: T)
         requires { length self.old.items < self.old.room }
         ensures { self.new ≡ with_items self.old (self.old.items ++ item ∷ []) }
@@ -118,10 +120,7 @@ impl<T: Drop> Record<T> {
         self.trail = self.trail.and(&item);
         self.len += 1;
         if let Some(items) = &mut self.kept {
-            match items.push(item) {
-                Ok(()) => (),
-                Err(_) => unreachable!(),
-            }
+            items.push_reserved(item);
         }
     }
 
