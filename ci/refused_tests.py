@@ -1,5 +1,5 @@
 #!/usr/bin/env python3
-"""Runs the tests of `ti_tests` and `ti_agent_tests` with the first allocation of each test refused, then with the second
+"""Runs the tests of `ti_tests` and `ti_trace_tests` with the first allocation of each test refused, then with the second
 alone, and so on.
 
 The tests of `memory` have to pass each time: the call that wants the memory says 110, and all is as it was. (The other
@@ -18,7 +18,7 @@ import subprocess
 import sys
 
 CRATES = pathlib.Path(__file__).resolve().parent.parent / "crates"
-TURNS = (("ti_tests", "lists::"), ("ti_agent_tests", "traces::"))
+TURNS = (("ti_tests", "lists::"), ("ti_trace_tests", "traces::"))
 
 
 def results(crate, refused):

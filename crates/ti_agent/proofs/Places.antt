@@ -9,13 +9,11 @@ use Rattle.std.proofs.lemmas.List.Edits.{length-remove}
 use Rattle.ti_types.specs.declared.entry.Entry.{Entry}
 use Rattle.ti_types.specs.declared.numbers.EnvNo.{EnvNo}
 use Rattle.ti_types.specs.declared.numbers.ThreadNo.{ThreadNo}
-use Rattle.ti_env.specs.Env.{EnvValue}
-use Rattle.ti_cell.specs.View.{subject_of}
 use Rattle.ti_cell.specs.declared.view.Subject.{Subject}
 use Rattle.ti_handshake.specs.Desk.{DeskState}
 use Rattle.ti_vmop.specs.Turns.{Listed, AtDesk, AtEach, is_listed}
 use Rattle.ti_vmop.proofs.Each.{at_index, set_here}
-use Rattle.ti_agent.specs.Env.{Environment, AreInOrder, AreNewDesks, place_in, places_of, thread_at, threads_at, threads_of}
+use Rattle.ti_agent.specs.Env.{Environment, AreInOrder, place_in, places_of, thread_at, threads_at, threads_of}
 use Rattle.ti_agent.specs.FreeDesk.{FreeState}
 use Rattle.ti_agent.specs.Desks.{desk_refusal, is_new, with_desk, IsTaken}
 use Rattle.ti_agent.specs.Traces.{are_there, each_thread}
@@ -233,29 +231,7 @@ places_are desks (t ∷ threads) numbered there =
     let rest = places_are desks threads numbered (and_parts _ _ there).1 in
     λ j. (record { 0 = here j }) ∷ rest j
 
--- new desks at such threads
-pub new_numbered : (env : EnvNo) (state : EnvValue) (desks : List DeskState)
-    → ((i : ℕ) (p : DeskState) → slice_get desks i ≡ Some p → (p.env ≡ env) × (p.view.subject ≡ subject_of state.limits (record { 0 = i })) × (p.view.mine ≡ []))
-    → AreNewDesks env state desks
-new_numbered env state desks new = (
-  numbered_order desks (λ i p at. ap (λ (s : Subject). s.thread) (new i p at).1),
-  λ i p at. ((new i p at).0, ap (λ (s : Subject). s.limits) (new i p at).1, (new i p at).2),
-)
-
 -- the one desk of an environment
-pub one_new : (env : EnvNo) (state : EnvValue) (p : DeskState) → p.env ≡ env → p.view.subject.limits ≡ state.limits → p.view.mine ≡ [] → AreNewDesks env state (p ∷ [])
-one_new env state p is limits none = (alone, each)
-  where
-    alone : AreInOrder (p ∷ [])
-    alone i j h k = absurd (omega (arith, h, k))
-
-    each : (i : ℕ) (q : DeskState) → slice_get (p ∷ []) i ≡ Some q → (q.env ≡ env) × (q.view.subject.limits ≡ state.limits) × (q.view.mine ≡ [])
-    each zero q at = subst (λ (x : DeskState). (x.env ≡ env) × (x.view.subject.limits ≡ state.limits) × (x.view.mine ≡ [])) (is_same p q at) (is, limits, none)
-    each (suc i) q at = absurd (nothing at)
-      where
-        nothing : slice_get [] i ≡ Some q → ⊥
-        nothing e = cc
-
 pub only_desk : (d p : DeskState) (t : ThreadNo) → slice_get (d ∷ []) (place_in (d ∷ []) t) ≡ Some p → (place_in (d ∷ []) t ≡ 0) × (d ≡ p)
 only_desk d p t at =
     elim (cases_eq d.view.subject.thread.0 t.0) [

@@ -26,19 +26,18 @@ use ti_types::{Answer, Call, Caps, EnvNo, Frame, ThreadNo, TiError, TraceBuf};
 /// # Examples
 ///
 /// ```rattle
-/// # use ti_agent::Env;
-/// # use ti_env::EnvState;
-/// # use ti_handshake::{Desk, Fresh, SharedCell};
+/// # use ti_agent::{Env, FreeDesk};
+/// # use ti_handshake::SharedCell;
 /// # use ti_types::{Caps, EnvNo, Kind, Limits, MethodNo, Step, ThreadNo, TiError};
 /// # let (alloc, thread) = (rt.alloc(), ThreadNo(0));
 /// # let limits = Limits::new(1, 1, 4, 16, 8).ok_or("the limits are in range")?;
-/// # let (cell, own, mut seats) = SharedCell::make(alloc, limits, thread)?;
-/// # let seat = seats.pop().ok_or("there is one environment")?;
-/// # let desk = Desk::new(cell.share()?, seat);
-/// # let mut running = Fresh::new(cell, own).start(&rt);
+/// let (_cell, fresh, mut desks) = SharedCell::make(alloc, limits, thread)?;
+/// let mut running = fresh.start(&rt);
 /// running.step(Step::Enter(MethodNo(3)))?;
-/// let state = EnvState::new(alloc, limits)?;
-/// let mut env = Env::new(EnvNo(0), state, vec![in alloc; desk]?);
+/// let desk = desks.pop().ok_or("there is one environment")?;
+/// let free = FreeDesk::new(desk).ok().ok_or("the desk is new")?;
+/// let mut env = Env::with_no_desks(alloc, EnvNo(0), limits);
+/// assert!(rt; env.add_desk(free).is_ok());
 /// // A thread that sleeps answers at once. One that runs answers at its next poll.
 /// let Ok(_asleep) = running.block(&rt, Kind::Sleep) else {
 ///     return Err("the thread has 2 left to spend".into());
@@ -71,19 +70,6 @@ impl Model for Env {
 }
 
 impl Env {
-    /// Makes an environment of these desks, which are in the order of their threads' numbers. All desks are under the limits of
-    /// the state, and none has made a call. The state has as many places as there are desks.
-    pub fn new(env: EnvNo, state: EnvState, desks: Vec<Desk>) -> Env
-        requires count { length state.spent ≡ length desks.items }
-        requires desks { AreNewDesks env state desks.items }
-        ensures { result ≡ record { env = env; state = state; desks = desks.items } }
-    {
-        for desk in &desks {
-            desk.facts();
-        }
-        Env { env, state, desks }
-    }
-
     /// The desks of the environment, in the order of their places. Their seats may go back to the owners'
     /// (`ThreadCell::rejoin`). What the environment kept for itself is gone, as after DisposeEnvironment (JVM TI 11).
     pub fn into_desks(self) -> Vec<Desk>
@@ -402,6 +388,6 @@ ghost use Rattle.ti_env.specs.Env.{with_caps, with_word};
 ghost use Rattle.ti_replay.specs.Admission.{takes_buffer};
 ghost use Rattle.ti_replay.specs.Settling.{waits};
 ghost use Rattle.ti_agent.specs.Buffers.{IsJustBufferOf};
-ghost use Rattle.ti_agent.specs.Env.{Environment, AreNewDesks, place_in, place_of, potential_caps, thread_refusal, told_as, is_full};
+ghost use Rattle.ti_agent.specs.Env.{Environment, place_in, place_of, potential_caps, thread_refusal, told_as, is_full};
 ghost use Rattle.ti_agent.specs.Posts.{Posts};
 ghost use Rattle.ti_agent.specs.Asks.{Went, IsCalled, IsKind, is_for_memory, in_state, in_count, in_word, in_location, in_trace, in_done};

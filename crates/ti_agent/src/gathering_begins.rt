@@ -123,18 +123,18 @@ impl Env {
     /// # Examples
     ///
     /// ```rattle
-    /// # use ti_agent::Env;
-    /// # use ti_env::EnvState;
-    /// # use ti_handshake::{Desk, Fresh, Polled, SharedCell};
+    /// # use ti_agent::{Env, FreeDesk};
+    /// # use ti_handshake::{Polled, SharedCell};
     /// # use ti_types::{Answer, EnvNo, Limits, MethodNo, Step, ThreadNo, TiError};
     /// # let (alloc, thread) = (rt.alloc(), ThreadNo(0));
     /// # let limits = Limits::new(1, 1, 4, 16, 8).ok_or("the limits are in range")?;
-    /// # let (cell, own, mut seats) = SharedCell::make(alloc, limits, thread)?;
-    /// # let seat = seats.pop().ok_or("there is one environment")?;
-    /// # let desk = Desk::new(cell.share()?, seat);
-    /// # let mut running = Fresh::new(cell, own).start(&rt);
+    /// # let (_cell, fresh, mut desks) = SharedCell::make(alloc, limits, thread)?;
+    /// # let mut running = fresh.start(&rt);
     /// # running.step(Step::Enter(MethodNo(3)))?;
-    /// # let env = Env::new(EnvNo(0), EnvState::new(alloc, limits)?, vec![in alloc; desk]?);
+    /// # let desk = desks.pop().ok_or("there is one environment")?;
+    /// # let free = FreeDesk::new(desk).ok().ok_or("the desk is new")?;
+    /// # let mut env = Env::with_no_desks(alloc, EnvNo(0), limits);
+    /// # assert!(rt; env.add_desk(free).is_ok());
     /// let Ok(mut trace) = env.gather_all_stack_traces(alloc, 8) else {
     ///     return Err("there is memory".into());
     /// };

@@ -70,19 +70,19 @@ impl Env {
     /// # Examples
     ///
     /// ```rattle
-    /// # use ti_agent::Env;
-    /// # use ti_env::EnvState;
-    /// # use ti_handshake::{Desk, Fresh, Polled, SharedCell};
+    /// # use ti_agent::{Env, FreeDesk};
+    /// # use ti_handshake::{Polled, SharedCell};
     /// # use ti_slot::Asked;
     /// # use ti_types::{Answer, Call, EnvNo, Limits, ThreadNo, TiError};
     /// # let (alloc, thread) = (rt.alloc(), ThreadNo(0));
     /// # let limits = Limits::new(1, 2, 4, 16, 8).ok_or("the limits are in range")?;
-    /// # let (cell, own, mut seats) = SharedCell::make(alloc, limits, thread)?;
-    /// # let other = seats.pop().ok_or("there are two environments")?;
-    /// # let seat = seats.pop().ok_or("there are two environments")?;
-    /// # let desk = Desk::new(cell.share()?, seat);
-    /// # let running = Fresh::new(cell.share()?, own).start(&rt);
-    /// # let mut env = Env::new(EnvNo(0), EnvState::new(alloc, limits)?, vec![in alloc; desk]?);
+    /// # let (cell, fresh, mut desks) = SharedCell::make(alloc, limits, thread)?;
+    /// # let other = desks.pop().ok_or("there are two environments")?.into_seat();
+    /// # let desk = desks.pop().ok_or("there are two environments")?;
+    /// # let running = fresh.start(&rt);
+    /// # let free = FreeDesk::new(desk).ok().ok_or("the desk is new")?;
+    /// # let mut env = Env::with_no_desks(alloc, EnvNo(0), limits);
+    /// # assert!(rt; env.add_desk(free).is_ok());
     /// // While another user holds the thread's cell, nothing is posted.
     /// let hold = cell.hold(&rt, other);
     /// let posted = env.try_post(alloc, thread, Call::FrameCount);

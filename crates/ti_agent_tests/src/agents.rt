@@ -1,77 +1,17 @@
 //! Environments at running threads: calls, suspensions, traces.
 
-use std::alloc::Global;
+use crate::made::{TURNS, await_held, environment, make};
 use std::sync::{Mutex, Wait};
 use std::test::*;
 use std::thread;
 use std::thread::{Threads, join};
 use ti_agent::Env;
-use ti_cell::EnvSeat;
-use ti_env::EnvState;
-use ti_handshake::{AtSafe, Desk, Fresh, Polled, Running, SharedCell};
-use ti_types::{Caps, EnvNo, Limits, MethodNo, Place, Step, ThreadNo, TiError};
+use ti_handshake::{AtSafe, Running};
+use ti_types::{Caps, Limits, MethodNo, Place, Step, ThreadNo, TiError};
 use ti_vmop::VmTurn;
-
-/// How many turns a loop takes at most.
-pub(crate) const TURNS: u32 = 100_000_000;
 
 /// How often the second environment asks for the thread's state.
 const STATES: u32 = 100;
-
-/// The environment of a seat, under limits of one thread. `None` if memory runs out.
-pub(crate) fn environment(
-    alloc: Global,
-    limits: Limits,
-    cell: &SharedCell,
-    env: EnvNo,
-    seat: EnvSeat,
-) -> Option<Env>
-    requires one { limits.threads ≡ 1 }
-    requires seat { IsNewSeat cell.now limits (record { 0 = 0 }) env seat }
-    ensures desk { IfSome result (λ e. HasDeskAt cell.now e) }
-{
-    let state = EnvState::new(alloc, limits).ok()?;
-    let mut desks = Vec::with_capacity(alloc, 1).ok()?;
-    desks.push_reserved(Desk::new(cell.share().ok()?, seat));
-    Some(Env::new(env, state, desks))
-}
-
-/// The seats of two environments at a thread's cell.
-pub(crate) fn both(
-    cell: &SharedCell,
-    limits: Limits,
-    thread: ThreadNo,
-    seats: Vec<EnvSeat>,
-) -> Option<(EnvSeat, EnvSeat)>
-    requires seats { seats.items ≡ env_seats cell.now (subject_of limits thread) 2 }
-    requires envs { limits.envs ≡ 2 }
-    ensures first { IfSome result (λ s. IsNewSeat cell.now limits thread (record { 0 = 0 }) s.0) }
-    ensures second { IfSome result (λ s. IsNewSeat cell.now limits thread (record { 0 = 1 }) s.1) }
-{
-    let _cell = cell;
-    let _limits = limits;
-    let _thread = thread;
-    let mut seats = seats;
-    let two = seats.pop()?;
-    let one = seats.pop()?;
-    Some((one, two))
-}
-
-/// Polls until the thread is held. If that does not happen, the thread ends, so that nobody waits for it.
-pub(crate) fn await_held<R: Wait>(rt: &R, running: Running) -> Option<AtSafe> {
-    let mut running = running;
-    for _ in 0..TURNS {
-        if !running.poll_clear() {
-            match running.poll(rt) {
-                Polled::Go(again) => running = again,
-                Polled::Stays(safe) => return Some(safe),
-            }
-        }
-        thread::yield_now();
-    }
-    let _ended = running.end(rt);
-    None
-}
 
 /// Tries to return until the thread may.
 fn await_let_go<R: Wait>(rt: &R, held: AtSafe) -> Option<Running> {
@@ -206,16 +146,12 @@ fn inspected<R: Threads + Wait + Sync + AllocGlobal>(
     rt: &R,
     limits: Limits,
 ) -> Option<(Option<u32>, Result<(), u32>, bool)>
-    requires one { limits.threads ≡ 1 }
     requires envs { limits.envs ≡ 2 }
 {
-    let Ok((cell, own, seats)) = SharedCell::make(rt.alloc(), limits, ThreadNo(0)) else {
-        return None;
-    };
-    let (one, two) = both(&cell, limits, ThreadNo(0), seats)?;
-    let first = environment(rt.alloc(), limits, &cell, EnvNo(0), one)?;
-    let second = environment(rt.alloc(), limits, &cell, EnvNo(1), two)?;
-    let Ok(mut running) = Fresh::new(cell, own).try_start(rt) else {
+    let (_cell, fresh, one, two) = make(rt.alloc(), limits, ThreadNo(0))?;
+    let first = environment(rt.alloc(), limits, one)?;
+    let second = environment(rt.alloc(), limits, two)?;
+    let Ok(mut running) = fresh.try_start(rt) else {
         return None;
     };
     let _outer = running.step(Step::Enter(MethodNo(0)));
@@ -250,7 +186,4 @@ fn an_environment_inspects_a_running_thread(rt: HostRuntime) -> Result<(), Fail>
     Ok(())
 }
 
-ghost use Rattle.std.specs.Prelude.{◌≡◌, ◌+◌, ◌<◌, IfSome};
-ghost use Rattle.ti_cell.specs.View.{subject_of, newcomer};
-ghost use Rattle.ti_cell.specs.Seats.{env_seats};
-ghost use Rattle.ti_agent_tests.specs.Agents.{HasDeskAt, IsNewSeat};
+ghost use Rattle.std.specs.Prelude.{◌≡◌};

@@ -2,9 +2,7 @@
 //!
 //! Both are asked before it waits for the first, and both are standing before the first is read.
 
-use crate::agents::{TURNS, await_held, both};
-use crate::hand_overs::expect;
-use crate::rounds::at_two;
+use crate::made::{TURNS, await_held, environment_at_both, expect, make};
 use std::alloc::Global;
 use std::marker::Model;
 use std::sync::{Mutex, Wait};
@@ -14,7 +12,7 @@ use std::thread::{Threads, join};
 use ti_agent::Env;
 use ti_cell::EnvSeat;
 use ti_handshake::{AtSafe, Fresh, Running, SharedCell};
-use ti_types::{Caps, EnvNo, Limits, StackInfo, ThreadNo, TiError};
+use ti_types::{Caps, Limits, StackInfo, ThreadNo, TiError};
 use ti_vmop::VmTurn;
 
 /// How often a thread tries to return while a stop is in force.
@@ -83,23 +81,6 @@ struct BothHeld {
 enum Which {
     All,
     Listed,
-}
-
-/// An environment with a desk at each of two threads. `None` if memory runs out.
-pub(crate) fn environment(
-    alloc: Global,
-    limits: Limits,
-    first: &SharedCell,
-    one: EnvSeat,
-    second: &SharedCell,
-    two: EnvSeat,
-) -> Option<Env>
-    requires threads { limits.threads ≡ 2 }
-    requires one { IsNewSeat first.now limits (record { 0 = 0 }) (record { 0 = 0 }) one }
-    requires two { IsNewSeat second.now limits (record { 0 = 1 }) (record { 0 = 0 }) two }
-{
-    let (state, desks) = at_two(alloc, limits, first, one, second, two)?;
-    Some(Env::new(EnvNo(0), state, desks))
 }
 
 /// Both threads poll until they are held, the second first. If one is not held, the threads that still run end.
@@ -272,41 +253,41 @@ fn trace_together<R: Threads + Wait + Sync + AllocGlobal>(
     Ok((env, threads))
 }
 
-/// An environment suspends, resumes and traces two threads. Another environment has a seat at the first.
-fn in_turn<R: Threads + Wait + Sync + AllocGlobal>(rt: &R, limits: Limits) -> Result<(), Fail>
-    requires threads { limits.threads ≡ 2 }
+/// Two threads that have not started, an environment at both, and another one's seat at the first. `None` if memory runs out.
+fn make_both(alloc: Global, limits: Limits) -> Option<(Fresh, Fresh, Env, Watch)>
     requires envs { limits.envs ≡ 2 }
 {
-    let alloc = rt.alloc();
-    let Ok((first, own_first, seats_first)) = SharedCell::make(alloc, limits, ThreadNo(0)) else {
-        return Err("there is memory".into());
-    };
-    let Ok((second, own_second, seats_second)) = SharedCell::make(alloc, limits, ThreadNo(1)) else {
-        return Err("there is memory".into());
-    };
-    let Some((one, seat)) = both(&first, limits, ThreadNo(0), seats_first) else {
-        return Err("there are two environments".into());
-    };
-    let Some((two, _seat)) = both(&second, limits, ThreadNo(1), seats_second) else {
-        return Err("there are two environments".into());
-    };
-    let Some(mut env) = environment(alloc, limits, &first, one, &second, two) else {
+    let (cell, first, one, another) = make(alloc, limits, ThreadNo(0))?;
+    let (_cell, second, two, _desk) = make(alloc, limits, ThreadNo(1))?;
+    let env = environment_at_both(alloc, limits, one, two)?;
+    let seat = another.into_seat();
+    Some((first, second, env, Watch { cell, seat }))
+}
+
+/// Both threads start.
+fn start_both<R: Wait>(rt: &R, watch: Watch, first: Fresh, second: Fresh) -> Option<BothRun> {
+    let first = first.try_start(rt).ok()?;
+    let second = second.try_start(rt).ok()?;
+    Some(BothRun {
+        watch,
+        first,
+        second,
+    })
+}
+
+/// An environment suspends, resumes and traces two threads. Another environment has a seat at the first.
+fn in_turn<R: Threads + Wait + Sync + AllocGlobal>(rt: &R, limits: Limits) -> Result<(), Fail>
+    requires envs { limits.envs ≡ 2 }
+{
+    let Some((first, second, mut env, watch)) = make_both(rt.alloc(), limits) else {
         return Err("there is memory".into());
     };
     expect(
         env.add_capabilities(Caps::CAN_SUSPEND).is_ok(),
         "it can be had",
     )?;
-    let Ok(running_first) = Fresh::new(first.share()?, own_first).try_start(rt) else {
+    let Some(threads) = start_both(rt, watch, first, second) else {
         return Err("no stop stands".into());
-    };
-    let Ok(running_second) = Fresh::new(second, own_second).try_start(rt) else {
-        return Err("no stop stands".into());
-    };
-    let threads = BothRun {
-        watch: Watch { cell: first, seat },
-        first: running_first,
-        second: running_second,
     };
     let (env, threads) = suspend_together(rt, env, threads)?;
     let (env, threads) = trace_together(rt, env, threads, Which::All)?;
@@ -327,4 +308,3 @@ fn two_threads_are_suspended_and_traced_together(rt: HostRuntime) -> Result<(), 
 }
 
 ghost use Rattle.std.specs.Prelude.{◌≡◌};
-ghost use Rattle.ti_agent_tests.specs.Agents.{IsNewSeat};

@@ -1,6 +1,6 @@
 //! Whoever waits sleeps: how much processor time long waits take.
 
-use crate::agents::{TURNS, await_held, both, environment};
+use crate::made::{TURNS, await_held, environment, make};
 use std::rt::Clock;
 use std::sync::Wait;
 use std::sync::atomic::{AtomicBool, Ordering};
@@ -9,8 +9,8 @@ use std::thread;
 use std::thread::{Threads, join};
 use std::time::{CpuClock, Duration};
 use ti_agent::Env;
-use ti_handshake::{Fresh, Polled, Running, SharedCell};
-use ti_types::{Caps, EnvNo, Limits, ThreadNo};
+use ti_handshake::{Polled, Running};
+use ti_types::{Caps, Limits, ThreadNo};
 
 /// How many milliseconds a wait lasts.
 const WAIT: u64 = 300;
@@ -86,15 +86,11 @@ fn waited<R: Threads + Wait + Sync + Clock + CpuClock + AllocGlobal>(
     rt: &R,
     limits: Limits,
 ) -> Option<(Option<Duration>, Option<Duration>)>
-    requires one { limits.threads ≡ 1 }
     requires envs { limits.envs ≡ 2 }
 {
-    let Ok((cell, own, seats)) = SharedCell::make(rt.alloc(), limits, ThreadNo(0)) else {
-        return None;
-    };
-    let (one, _two) = both(&cell, limits, ThreadNo(0), seats)?;
-    let env = environment(rt.alloc(), limits, &cell, EnvNo(0), one)?;
-    let Ok(running) = Fresh::new(cell, own).try_start(rt) else {
+    let (_cell, fresh, one, _two) = make(rt.alloc(), limits, ThreadNo(0))?;
+    let env = environment(rt.alloc(), limits, one)?;
+    let Ok(running) = fresh.try_start(rt) else {
         return None;
     };
     let goes_on = AtomicBool::new(false);

@@ -17,14 +17,13 @@ use ti_types::{Answer, Call, EnvNo, ThreadNo, Ticket, TraceBuf};
 /// # Examples
 ///
 /// ```rattle
-/// # use ti_handshake::{Desk, Fresh, Polled, SharedCell};
+/// # use ti_handshake::{Polled, SharedCell};
 /// # use ti_slot::Asked;
 /// # use ti_types::{Answer, Call, Limits, ThreadNo, TraceBuf};
 /// # let limits = Limits::new(1, 1, 4, 16, 8).ok_or("the limits are in range")?;
-/// # let (cell, own, mut seats) = SharedCell::make(rt.alloc(), limits, ThreadNo(0))?;
-/// # let seat = seats.pop().ok_or("there is one environment")?;
-/// let mut desk = Desk::new(cell.share()?, seat);
-/// let running = Fresh::new(cell, own).start(&rt);
+/// let (_cell, fresh, mut desks) = SharedCell::make(rt.alloc(), limits, ThreadNo(0))?;
+/// let mut desk = desks.pop().ok_or("there is one environment")?;
+/// let running = fresh.start(&rt);
 /// let state = desk.call(&rt, Call::State, TraceBuf::none());
 /// assert!(rt; matches!(state, Answer::State(0x5)));
 /// // The thread has its frames while it runs, so a call about them waits for its next poll.
@@ -59,7 +58,7 @@ impl Model for Desk {
 
 impl Desk {
     /// The desk of the environment that has this seat. The seat is this cell's, and not the owner's.
-    pub fn new(cell: SharedCell, seat: EnvSeat) -> Desk
+    pub(crate) fn at(cell: SharedCell, seat: EnvSeat) -> Desk
         requires cell { seat.cell ≡ cell }
         requires number { 0 < seat.view.number }
         requires there { seat.view.number ≤ seat.view.subject.limits.envs }

@@ -21,15 +21,13 @@ impl Desk {
     /// # Examples
     ///
     /// ```rattle
-    /// # use ti_handshake::{Desk, Fresh, Polled, SharedCell};
+    /// # use ti_handshake::{Polled, SharedCell};
     /// # use ti_slot::Asked;
     /// # use ti_types::{Answer, Call, Limits, ThreadNo, TiError, TraceBuf};
     /// # let limits = Limits::new(1, 2, 4, 16, 8).ok_or("the limits are in range")?;
-    /// # let (cell, own, mut seats) = SharedCell::make(rt.alloc(), limits, ThreadNo(0))?;
-    /// let other = seats.pop().ok_or("there are two environments")?;
-    /// let seat = seats.pop().ok_or("there are two environments")?;
-    /// let mut desk = Desk::new(cell.share()?, seat);
-    /// let fresh = Fresh::new(cell.share()?, own);
+    /// # let (cell, fresh, mut desks) = SharedCell::make(rt.alloc(), limits, ThreadNo(0))?;
+    /// let other = desks.pop().ok_or("there are two environments")?.into_seat();
+    /// let mut desk = desks.pop().ok_or("there are two environments")?;
     /// // While another user holds the cell, nothing changes. The buffer and the thread come back.
     /// let hold = cell.hold(&rt, other);
     /// let posted = desk.try_post(Call::FrameCount, TraceBuf::none());

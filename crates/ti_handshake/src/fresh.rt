@@ -14,13 +14,11 @@ use ti_types::{ThreadNo, TiError};
 /// # Examples
 ///
 /// ```rattle
-/// # use ti_handshake::{Desk, Fresh, SharedCell};
+/// # use ti_handshake::SharedCell;
 /// # use ti_types::{Answer, Limits, ThreadNo, TiError};
 /// # let limits = Limits::new(1, 1, 4, 16, 8).ok_or("the limits are in range")?;
-/// let (cell, own, mut seats) = SharedCell::make(rt.alloc(), limits, ThreadNo(0))?;
-/// let seat = seats.pop().ok_or("there is one environment")?;
-/// let mut desk = Desk::new(cell.share()?, seat);
-/// let fresh = Fresh::new(cell, own);
+/// let (_cell, fresh, mut desks) = SharedCell::make(rt.alloc(), limits, ThreadNo(0))?;
+/// let mut desk = desks.pop().ok_or("there is one environment")?;
 /// // The thread does not start while a stop is in force.
 /// assert!(rt; matches!(desk.try_stop(&rt), Answer::Done));
 /// let Err((error, fresh)) = fresh.try_start(&rt) else {
@@ -50,7 +48,7 @@ impl Model for Fresh {
 
 impl Fresh {
     /// The thread of this cell. The seat is the owner's at this cell, and has made no entry.
-    pub fn new(cell: SharedCell, seat: OwnerSeat) -> Fresh
+    pub(crate) fn at(cell: SharedCell, seat: OwnerSeat) -> Fresh
         requires cell { seat.cell ≡ cell }
         requires owner { seat.view.number ≡ 0 }
         requires none { seat.view.mine ≡ [] }

@@ -19,10 +19,9 @@ use ti_types::{ThreadNo, TiError};
 /// # use ti_handshake::{Desk, Fresh, SharedCell};
 /// # use ti_types::{Answer, Call, Kind, Limits, ThreadNo, TiError, TraceBuf};
 /// # let limits = Limits::new(1, 1, 4, 16, 8).ok_or("the limits are in range")?;
-/// # let (cell, own, mut seats) = SharedCell::make(rt.alloc(), limits, ThreadNo(0))?;
-/// # let seat = seats.pop().ok_or("there is one environment")?;
-/// # let mut desk = Desk::new(cell.share()?, seat);
-/// let Ok(asleep) = Fresh::new(cell, own).start(&rt).block(&rt, Kind::Sleep) else {
+/// # let (_cell, fresh, mut desks) = SharedCell::make(rt.alloc(), limits, ThreadNo(0))?;
+/// # let mut desk = desks.pop().ok_or("there is one environment")?;
+/// let Ok(asleep) = fresh.start(&rt).block(&rt, Kind::Sleep) else {
 ///     return Err("the thread has 2 left to spend".into());
 /// };
 /// // A suspension of a safe thread takes place at once. The thread may not return until it is resumed.

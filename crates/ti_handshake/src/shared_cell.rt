@@ -1,10 +1,12 @@
 //! A cell that a thread and its environments share.
 
+use crate::desk::Desk;
+use crate::fresh::Fresh;
 use std::alloc::Global;
 use std::marker::Model;
 use std::ops::Deref;
 use std::sync::Arc;
-use ti_cell::{EnvSeat, OwnerSeat, ThreadCell};
+use ti_cell::{EnvSeat, ThreadCell};
 use ti_types::{Limits, ThreadNo, TiError};
 
 /// A counted reference to a cell. The cell lives as long as there is a reference to it. Contracts see it as the cell.
@@ -12,13 +14,12 @@ use ti_types::{Limits, ThreadNo, TiError};
 /// # Examples
 ///
 /// ```rattle
-/// # use ti_handshake::{Desk, Fresh, SharedCell};
+/// # use ti_handshake::SharedCell;
 /// # use ti_types::{Limits, ThreadNo};
 /// # let limits = Limits::new(1, 1, 4, 16, 8).ok_or("the limits are in range")?;
-/// let (cell, own, mut seats) = SharedCell::make(rt.alloc(), limits, ThreadNo(0))?;
-/// let seat = seats.pop().ok_or("there is one environment")?;
-/// let desk = Desk::new(cell.share()?, seat);
-/// let ended = Fresh::new(cell.share()?, own).start(&rt).end(&rt);
+/// let (cell, fresh, mut desks) = SharedCell::make(rt.alloc(), limits, ThreadNo(0))?;
+/// let desk = desks.pop().ok_or("there is one environment")?;
+/// let ended = fresh.start(&rt).end(&rt);
 /// // Both give their seats and references back. The last reference gives the cell.
 /// let (mut own, seat) = (ended.into_seat(), desk.into_seat());
 /// let cell = cell.into_cell().ok_or("no other reference is left")?;
@@ -43,25 +44,30 @@ impl Model for SharedCell {
 }
 
 impl SharedCell {
-    /// Makes a cell with the slot of a thread that has not started, and gives the first reference to it. With it come the
-    /// thread's own seat and one seat for each environment, as `ThreadCell::make` gives them.
+    /// Makes a thread that has not started, and gives a reference to its cell. With it comes one unused desk for each
+    /// environment, in the order of their numbers.
+    ///
+    /// So a thread and a desk are always at the cell that their seat is of: nobody outside puts a seat and a cell together.
     ///
     /// The error is 110 OUT_OF_MEMORY if there is no memory for all that, and no other (this profile).
     pub fn make(
         alloc: Global,
         limits: Limits,
         number: ThreadNo,
-    ) -> Result<(SharedCell, OwnerSeat, Vec<EnvSeat>), TiError>
-        ensures own { IfOk result (λ m. (m.1.cell ≡ m.0) × (m.1.view ≡ newcomer (subject_of limits number) 0 (limits.envs + 1))) }
-        ensures others { IfOk result (λ m. m.2.items ≡ env_seats m.0 (subject_of limits number) limits.envs) }
+    ) -> Result<(SharedCell, Fresh, Vec<Desk>), TiError>
+        ensures fresh { IfOk result (λ m. (m.1.cell ≡ m.0) × (m.1.view ≡ newcomer (subject_of limits number) 0 (limits.envs + 1))) }
+        ensures desks { IfOk result (λ m. m.2.items ≡ new_desks m.0 (subject_of limits number) limits.envs) }
         ensures memory { IfErr result (λ e. e ≡ OutOfMemory) }
     {
-        let (cell, own, others) = ThreadCell::make(alloc, limits, number)?;
-        Ok((SharedCell::new(alloc, cell)?, own, others))
+        let (cell, own, seats) = ThreadCell::make(alloc, limits, number)?;
+        let cell = SharedCell::new(alloc, cell)?;
+        let desks = desks_of(alloc, &cell, seats)?;
+        let fresh = Fresh::at(cell.share()?, own);
+        Ok((cell, fresh, desks))
     }
 
     /// The first reference to this cell. The error is 110 OUT_OF_MEMORY if there is no memory for the cell (this profile).
-    pub fn new(alloc: Global, cell: ThreadCell) -> Result<SharedCell, TiError>
+    fn new(alloc: Global, cell: ThreadCell) -> Result<SharedCell, TiError>
         ensures cell { IfOk result (λ s. s ≡ cell) }
         ensures memory { IfErr result (λ e. e ≡ OutOfMemory) }
     {
@@ -91,6 +97,21 @@ impl SharedCell {
     }
 }
 
+/// A desk for each of these seats, in their order. The seats are environments' seats at this cell.
+///
+/// 110 OUT_OF_MEMORY if there is no memory for them, or if there are 2^63 references to the cell.
+fn desks_of(alloc: Global, cell: &SharedCell, seats: Vec<EnvSeat>) -> Result<Vec<Desk>, TiError>
+    requires { All (λ s. IsEnvSeat cell.now s) seats.items }
+    ensures desks { IfOk result (λ d. d.items ≡ map desk_at seats.items) }
+    ensures memory { IfErr result (λ e. e ≡ OutOfMemory) }
+{
+    let mut desks = Vec::with_capacity(alloc, seats.len())?;
+    for seat in seats {
+        desks.push_reserved(Desk::at(cell.share()?, seat));
+    }
+    Ok(desks)
+}
+
 impl Deref for SharedCell {
     ghost use Rattle.std.specs.Prelude.{◌≡◌};
 
@@ -103,7 +124,7 @@ impl Deref for SharedCell {
     }
 }
 
-ghost use Rattle.std.specs.Prelude.{◌≡◌, ◌+◌, IfOk, IfErr, IfSome};
+ghost use Rattle.std.specs.Prelude.{◌≡◌, ◌+◌, map, All, IfOk, IfErr, IfSome};
 ghost use Rattle.ti_types.specs.declared.error.TiError.TheVariants.{OutOfMemory};
 ghost use Rattle.ti_cell.specs.View.{subject_of, newcomer};
-ghost use Rattle.ti_cell.specs.Seats.{env_seats};
+ghost use Rattle.ti_handshake.specs.NewDesks.{IsEnvSeat, desk_at, new_desks};

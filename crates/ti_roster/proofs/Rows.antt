@@ -12,61 +12,58 @@ use Rattle.ti_types.specs.declared.limits.Limits.{Limits}
 use Rattle.ti_types.specs.declared.numbers.EnvNo.{EnvNo}
 use Rattle.ti_types.specs.declared.numbers.ThreadNo.{ThreadNo}
 use Rattle.ti_cell.specs.declared.view.Subject.{Subject}
-use Rattle.ti_cell.specs.Seats.{Sitting, env_seats}
-use Rattle.ti_cell.specs.View.{newcomer, subject_of}
+use Rattle.ti_cell.specs.View.{subject_of}
+use Rattle.ti_handshake.specs.Desk.{DeskState}
+use Rattle.ti_handshake.specs.NewDesks.{new_desks, new_desk as unused}
 use Rattle.ti_agent.specs.FreeDesk.{FreeState}
 use Rattle.ti_roster.specs.declared.coming.Coming.{Coming}
 use Rattle.ti_roster.specs.declared.coming.Coming.TheVariants.{Came, Ended, Attached, Met, GaveBack, Disposed}
 use Rattle.ti_roster.specs.declared.newcomer.Newcomer.{Newcomer}
 use Rattle.ti_roster.specs.declared.row.Row.{Row}
 use Rattle.ti_roster.specs.Log.{Lies, Unused, Out, Returned, came, came_after, lies, lies_after, threads_in, mark_after, mark_of, live, live_after, is_other, is_thread}
-use Rattle.ti_roster.specs.Rows.{AreLeft, AreRows, IsEnvSeat, IsIndex, IsNewRow, IsPut, IsReturned, IsRow, IsTaken, LiesAs, Rising, and_desk, and_one, desk_at, desks_in, new_desk, newcomers}
+use Rattle.ti_roster.specs.Rows.{AreLeft, AreRows, IsIndex, IsNewRow, IsPut, IsReturned, IsRow, IsTaken, IsUnused, LiesAs, Rising, and_desk, and_one, desks_in, free_at, new_desk, newcomers}
 use Rattle.ti_roster.specs.Roster.{IsOwn}
 use Rattle.ti_roster.proofs.Logs.{came_more, lies_more, lies_same, live_more, mark_more, threads_back, threads_ended, threads_met, threads_more}
 use Rattle.ti_roster.proofs.Places.{get_replicated, is_same, nothing_at, get_within, get_front, get_last, get_end, set_here, set_other, remove_get, map_remove, get_map, alike_map, get_there, length_map, length_set}
 
--- The seats of environments
+-- The desks of a thread that has just come
 
-length_seats : (cell : TableId) (s : Subject) (n : ℕ) → length (env_seats cell s n) ≡ n
-length_seats cell s zero = refl
-length_seats cell s (suc n) =
-    let h = length_seats cell s n in
-    let k = length-append (env_seats cell s n) (record { cell = cell; view = newcomer s (suc n) 0 } ∷ []) in
+length_desks : (cell : TableId) (s : Subject) (n : ℕ) → length (new_desks cell s n) ≡ n
+length_desks cell s zero = refl
+length_desks cell s (suc n) =
+    let h = length_desks cell s n in
+    let k = length-append (new_desks cell s n) (unused cell s (record { 0 = n }) ∷ []) in
     omega (arith, h, k)
 
-seat_at : (cell : TableId) (s : Subject) (n p : ℕ) → p < n → slice_get (env_seats cell s n) p ≡ Some (record { cell = cell; view = newcomer s (suc p) 0 })
-seat_at cell s zero p h = absurd (omega (arith, h))
-seat_at cell s (suc n) p h =
+desk_at : (cell : TableId) (s : Subject) (n p : ℕ) → p < n → slice_get (new_desks cell s n) p ≡ Some (unused cell s (record { 0 = p }))
+desk_at cell s zero p h = absurd (omega (arith, h))
+desk_at cell s (suc n) p h =
     elim (cases_eq p n) [
       | inl same ↦
-          get_last (env_seats cell s n) (record { cell = cell; view = newcomer s (suc n) 0 }) p (same ∙ sym (length_seats cell s n)) ∙ ap (λ (k : ℕ). Some (record { cell = cell; view = newcomer s (suc k) 0 })) (sym same)
+          get_last (new_desks cell s n) (unused cell s (record { 0 = n })) p (same ∙ sym (length_desks cell s n)) ∙ ap (λ (k : ℕ). Some (unused cell s (record { 0 = k }))) (sym same)
       | inr other ↦
           let below : p < n = omega (arith, h, other) in
-          get_front (env_seats cell s n) (record { cell = cell; view = newcomer s (suc n) 0 } ∷ []) p (omega (arith, below, length_seats cell s n)) ∙ seat_at cell s n p below
+          get_front (new_desks cell s n) (unused cell s (record { 0 = n }) ∷ []) p (omega (arith, below, length_desks cell s n)) ∙ desk_at cell s n p below
     ]
 
-pub seats_are : (cell : TableId) (s : Subject) (n : ℕ) → n ≤ s.limits.envs → All (λ x. IsEnvSeat cell x) (env_seats cell s n)
-seats_are cell s zero h = All-nil (λ x. IsEnvSeat cell x)
-seats_are cell s (suc n) h =
-    All-append (λ x. IsEnvSeat cell x) (env_seats cell s n) (record { cell = cell; view = newcomer s (suc n) 0 } ∷ []) (seats_are cell s n (omega (arith, h)))
-    (All-cons (λ x. IsEnvSeat cell x) (record { cell = cell; view = newcomer s (suc n) 0 }) [] (refl, omega arith, h, refl) (All-nil (λ x. IsEnvSeat cell x)))
+pub desks_unused : (cell : TableId) (s : Subject) (n : ℕ) → All IsUnused (new_desks cell s n)
+desks_unused cell s zero = All-nil IsUnused
+desks_unused cell s (suc n) =
+    All-append IsUnused (new_desks cell s n) (unused cell s (record { 0 = n }) ∷ []) (desks_unused cell s n)
+    (All-cons IsUnused (unused cell s (record { 0 = n })) [] refl (All-nil IsUnused))
 
-back_one : (p : ℕ) → suc p - 1 ≡ p
-back_one p = omega arith
-
-pub new_row_is : (limits : Limits) (r : Row) → r.desks.items ≡ map (λ s. Some (desk_at s)) (env_seats r.newcomer.cell (subject_of limits r.newcomer.thread) limits.envs) → IsNewRow limits r
+pub new_row_is : (limits : Limits) (r : Row) → r.desks.items ≡ map (λ d. Some (free_at d)) (new_desks r.newcomer.cell (subject_of limits r.newcomer.thread) limits.envs) → IsNewRow limits r
 new_row_is limits r e = record {
-  places = ap (λ (l : List (Option FreeState)). length l) e ∙ (length_map (λ (s : Sitting). Some (desk_at s)) seats ∙ length_seats r.newcomer.cell (subject_of limits r.newcomer.thread) limits.envs);
+  places = ap (λ (l : List (Option FreeState)). length l) e ∙ (length_map (λ (d : DeskState). Some (free_at d)) desks ∙ length_desks r.newcomer.cell (subject_of limits r.newcomer.thread) limits.envs);
   each = λ p h.
       let cell : TableId = r.newcomer.cell in
       let subject : Subject = subject_of limits r.newcomer.thread in
       ap (λ (l : List (Option FreeState)). slice_get l p) e
-      ∙ (get_map (λ (s : Sitting). Some (desk_at s)) seats p (record { cell = cell; view = newcomer subject (suc p) 0 }) (seat_at cell subject limits.envs p h)
-      ∙ ap (λ (k : ℕ). Some (Some (record { desk = record { cell = cell; env = record { 0 = k }; view = newcomer subject (suc p) 0; cancelled = [] }; spent = 0 }))) (back_one p));
+      ∙ get_map (λ (d : DeskState). Some (free_at d)) desks p (unused cell subject (record { 0 = p })) (desk_at cell subject limits.envs p h);
 }
   where
-    seats : List Sitting
-    seats = env_seats r.newcomer.cell (subject_of limits r.newcomer.thread) limits.envs
+    desks : List DeskState
+    desks = new_desks r.newcomer.cell (subject_of limits r.newcomer.thread) limits.envs
 
 -- Numbers that rise
 

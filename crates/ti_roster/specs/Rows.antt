@@ -4,7 +4,7 @@ use Rattle.atomic_table.specs.Seated.{TableId}
 use Rattle.ti_types.specs.declared.limits.Limits.{Limits}
 use Rattle.ti_types.specs.declared.numbers.EnvNo.{EnvNo}
 use Rattle.ti_types.specs.declared.numbers.ThreadNo.{ThreadNo}
-use Rattle.ti_cell.specs.Seats.{Sitting}
+use Rattle.ti_handshake.specs.Desk.{DeskState}
 use Rattle.ti_cell.specs.View.{newcomer, subject_of}
 use Rattle.ti_agent.specs.FreeDesk.{FreeState, IsClean}
 use Rattle.ti_roster.specs.declared.coming.Coming.{Coming}
@@ -12,13 +12,13 @@ use Rattle.ti_roster.specs.declared.newcomer.Newcomer.{Newcomer}
 use Rattle.ti_roster.specs.declared.row.Row.{Row}
 use Rattle.ti_roster.specs.Log.{Lies, Unused, Out, Returned, came, lies, live, mark_of, threads_in}
 
--- an unused seat of an environment at this cell
-abbrev pub IsEnvSeat : TableId → Sitting → Type 0
-IsEnvSeat cell s = (s.cell ≡ cell) × (0 < s.view.number) × (s.view.number ≤ s.view.subject.limits.envs) × (s.view.seen ≡ [])
+-- a desk that has seen nothing of its thread
+abbrev pub IsUnused : DeskState → Type 0
+IsUnused d = d.view.seen ≡ []
 
--- the desk that has a seat
-abbrev pub desk_at : Sitting → FreeState
-desk_at s = record { desk = record { cell = s.cell; env = record { 0 = s.view.number - 1 }; view = s.view; cancelled = [] }; spent = 0 }
+-- a desk that no environment has, and at which nothing is spent
+abbrev pub free_at : DeskState → FreeState
+free_at d = record { desk = d; spent = 0 }
 
 -- the desk of an environment at a thread, as it was when the thread was attached
 abbrev pub new_desk : Limits → EnvNo → Newcomer → FreeState

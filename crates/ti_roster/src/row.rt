@@ -4,7 +4,6 @@ use crate::info::ThreadInfo;
 use crate::newcomer::Newcomer;
 use std::alloc::Global;
 use ti_agent::FreeDesk;
-use ti_cell::EnvSeat;
 use ti_handshake::{Desk, Fresh, SharedCell};
 use ti_types::{Limits, ThreadNo, TiError};
 
@@ -65,37 +64,29 @@ pub(crate) fn new_row(
     ensures row { IfOk result (λ m. (m.1.newcomer.thread ≡ thread) × (m.1.newcomer.info ≡ info) × IsNewRow limits m.1) }
     ensures memory { IfErr result (λ e. e ≡ OutOfMemory) }
 {
-    let (cell, own, seats) = SharedCell::make(alloc, limits, thread)?;
-    let desks = desks_of(alloc, &cell, seats)?;
-    let fresh = Fresh::new(cell.share()?, own);
+    let (cell, fresh, desks) = SharedCell::make(alloc, limits, thread)?;
+    let desks = free_desks(alloc, desks)?;
     let newcomer = Newcomer { thread, info, cell };
     Ok((fresh, Row { newcomer, desks }))
 }
 
-/// A desk for each of these seats, in their order. The seats are environments' seats at this cell, and unused.
-///
-/// 110 OUT_OF_MEMORY if there is no memory for them, or if there are 2^63 references to the cell.
-fn desks_of(
-    alloc: Global,
-    cell: &SharedCell,
-    seats: Vec<EnvSeat>,
-) -> Result<Vec<Option<FreeDesk>>, TiError>
-    requires { All (λ s. IsEnvSeat cell.now s) seats.items }
-    ensures desks { IfOk result (λ d. d.items ≡ map (λ s. Some (desk_at s)) seats.items) }
+/// These desks for environments to take, in their order. They are unused. 110 OUT_OF_MEMORY if there is no memory for them.
+fn free_desks(alloc: Global, desks: Vec<Desk>) -> Result<Vec<Option<FreeDesk>>, TiError>
+    requires { All IsUnused desks.items }
+    ensures desks { IfOk result (λ f. f.items ≡ map (λ d. Some (free_at d)) desks.items) }
     ensures memory { IfErr result (λ e. e ≡ OutOfMemory) }
 {
-    let mut desks = Vec::with_capacity(alloc, seats.len())?;
-    for seat in seats {
-        let desk = Desk::new(cell.share()?, seat);
-        let Ok(free) = FreeDesk::new(desk) else {
+    let mut free = Vec::with_capacity(alloc, desks.len())?;
+    for desk in desks {
+        let Ok(one) = FreeDesk::new(desk) else {
             unreachable!()
         };
-        desks.push_reserved(Some(free));
+        free.push_reserved(Some(one));
     }
-    Ok(desks)
+    Ok(free)
 }
 
 ghost use Rattle.std.specs.Prelude.{◌≡◌, ◌↔◌, ◌<◌, ◌+◌, false, length, map, All, Some, None, slice_get, slice_set, IfOk, IfErr};
 ghost use Rattle.ti_types.specs.declared.error.TiError.TheVariants.{OutOfMemory};
 ghost use Rattle.ti_cell.specs.View.{newcomer, subject_of};
-ghost use Rattle.ti_roster.specs.Rows.{IsEnvSeat, IsNewRow, desk_at};
+ghost use Rattle.ti_roster.specs.Rows.{IsNewRow, IsUnused, free_at};

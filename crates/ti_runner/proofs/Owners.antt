@@ -1,4 +1,4 @@
--- The owners' seats of cells: they are made, go to the walks, and come back.
+-- The owners' seats of cells: they go to the walks, and come back.
 use Rattle.std.proofs.Common.{◌≡◌, ℕ, suc, ◌<◌, ◌++◌, List, [], ◌∷◌, length, map, refl, ap, sym, ◌∙◌, arith, subst, Some, slice_index_or, slice_set}
 use Rattle.std.specs.Prelude.{slice_get}
 use Rattle.std.specs.List.{All}
@@ -14,7 +14,7 @@ use Rattle.atomic_table.specs.Seated.{TableId}
 use Rattle.ti_cell.specs.Seats.{Sitting}
 use Rattle.ti_runner.specs.declared.thread_walk.Walked.{Walked}
 use Rattle.ti_runner.specs.declared.activities.SeatOf.{SeatOf}
-use Rattle.ti_runner.specs.Cells.{IsNewOwner, IsBack, AreOwners, AreBack, seats_at}
+use Rattle.ti_runner.specs.Cells.{IsBack, AreBack, seats_at}
 
 -- what stands after a front
 pub seam : {A : Type 0} (pre : List A) (x : A) (rest all : List A) (d : A) → pre ++ x ∷ rest ≡ all → slice_index_or all (length pre) d ≡ x
@@ -28,19 +28,9 @@ pub seam_on : {A B : Type 0} (f : B → A) (pre : List B) (x : B) (y : A) (rest 
 seam_on f [] x y rest all h e = subst (λ z. z ∷ rest ≡ all) (sym e) h
 seam_on f (p ∷ pre) x y rest all h e = ap (λ l. f p ∷ l) (seam_on f pre x y rest (map f pre ++ y ∷ rest) refl e) ∙ h
 
--- no seat, and one more
-pub owners_none : (cells : List TableId) (owners : List Sitting) → cells ≡ [] → owners ≡ [] → AreOwners cells owners
-owners_none cells owners none bare = record {
-  here = ap seats_at bare ∙ sym none;
-  new = subst (λ l. All IsNewOwner l) (sym bare) (All-nil IsNewOwner);
-}
-
-pub owners_push : (cells : List TableId) (owners : List Sitting) (cell : TableId) (s : Sitting) → AreOwners cells owners → s.cell ≡ cell → IsNewOwner s
-    → AreOwners (cells ++ cell ∷ []) (owners ++ s ∷ [])
-owners_push cells owners cell s k at new = record {
-  here = map-append (λ (z : Sitting). z.cell) owners (s ∷ []) ∙ ap (λ l. l ++ s.cell ∷ []) k.here ∙ ap (λ c. cells ++ c ∷ []) at;
-  new = All-append IsNewOwner owners (s ∷ []) k.new (All-cons IsNewOwner s [] new (All-nil IsNewOwner));
-}
+-- one more seat
+pub seats_push : (cells : List TableId) (seats : List Sitting) (cell : TableId) (s : Sitting) → seats_at seats ≡ cells → s.cell ≡ cell → seats_at (seats ++ s ∷ []) ≡ cells ++ cell ∷ []
+seats_push cells seats cell s here at = map-append (λ (z : Sitting). z.cell) seats (s ∷ []) ∙ ap (λ l. l ++ s.cell ∷ []) here ∙ ap (λ c. cells ++ c ∷ []) at
 
 -- the seat that came back to one of the cells
 pub back_at : (cells : List TableId) (walked : List Walked) (k : ℕ) (d : TableId) (w : Walked) → AreBack cells walked → k < length cells

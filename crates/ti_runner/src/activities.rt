@@ -9,8 +9,7 @@ use std::sync::{Mutex, Wait};
 use std::thread;
 use std::thread::{Promise, PromisedHandle, Scope, Threads, join_promised};
 use ti_agent::Env;
-use ti_cell::OwnerSeat;
-use ti_handshake::SharedCell;
+use ti_handshake::{Fresh, SharedCell};
 use ti_live::{AgentCall, Listed, Script};
 use ti_types::{EnvNo, Event, ThreadNo};
 use ti_vmop::VmTurn;
@@ -46,25 +45,19 @@ fn start_walk<'s, E, R: Wait + Sync, G: Gate>(
     alloc: Global,
     gate: &'s G,
     cell: &'s SharedCell,
-    seat: OwnerSeat,
+    fresh: Fresh,
     thread: ThreadNo,
     operations: &'s [Event],
 ) -> Result<PromisedHandle<Walked, SeatOf<'s>>, RunFault>
-    requires cell { seat.cell ≡ cell.now }
-    requires new { IsNewOwner seat }
+    requires cell { fresh.cell ≡ cell.now }
     ensures { IfOk result (λ h. h.promise.0.now ≡ cell.now) }
 {
     let refused = Vec::with_capacity(alloc, operations.len())?;
-    let Ok(shared) = cell.share() else {
-        return Err(RunFault::Memory);
-    };
     let started = scope.spawn_with(
         SeatOf(cell),
         move || -> Walked
-            requires cell { seat.cell ≡ shared }
-            requires new { IsNewOwner seat }
-            ensures { IsBack shared result.seat }
-        { walk(rt, gate, shared, seat, thread, operations, refused) },
+            ensures { IsBack fresh.cell result.seat }
+        { walk(rt, gate, fresh, thread, operations, refused) },
     );
     match started {
         Ok(handle) => Ok(handle),
@@ -110,16 +103,16 @@ fn start_walks<'s, E, R: Wait + Sync, G: Gate>(
     alloc: Global,
     gate: &'s G,
     cells: &'s [SharedCell],
-    owners: Vec<OwnerSeat>,
+    threads: Vec<Fresh>,
     walks: &'s [Listed<Event>],
 ) -> Result<Vec<PromisedHandle<Walked, SeatOf<'s>>>, RunFault>
-    requires owners { AreOwners cells.now owners.items }
+    requires threads { seats_at threads.items ≡ cells.now }
     requires count { length cells.now ≡ length walks.now }
     ensures { IfOk result (λ hs. map (λ h. h.promise.0.now) hs.items ≡ cells.now) }
 {
     let mut walkers = Vec::with_capacity(alloc, cells.len())?;
     let mut number: u32 = 0;
-    for own in owners {
+    for fresh in threads {
         let k = walkers.len();
         walkers.push_reserved(start_walk(
             scope,
@@ -127,7 +120,7 @@ fn start_walks<'s, E, R: Wait + Sync, G: Gate>(
             alloc,
             gate,
             &cells[k],
-            own,
+            fresh,
             ThreadNo(number),
             walks[k].as_slice(),
         )?);
@@ -179,11 +172,11 @@ fn in_scope<'s, E, R: Threads + Wait + Sync, G: Gate>(
     gate: &'s G,
     script: &'s Script,
     cells: &'s [SharedCell],
-    owners: Vec<OwnerSeat>,
+    threads: Vec<Fresh>,
     envs: Vec<Env>,
     turn: &'s Mutex<VmTurn>,
 ) -> Result<Left, RunFault>
-    requires owners { AreOwners cells.now owners.items }
+    requires threads { seats_at threads.items ≡ cells.now }
     requires desks { All (λ e. cells_at e.desks ≡ cells.now) envs.items }
     requires walks { length cells.now ≡ length script.now.walks }
     requires calls { length envs.items ≡ length script.now.calls }
@@ -196,7 +189,7 @@ fn in_scope<'s, E, R: Threads + Wait + Sync, G: Gate>(
         alloc,
         gate,
         cells,
-        owners,
+        threads,
         script.walks.as_slice(),
     )?;
     let agents = start_agents(
@@ -220,11 +213,11 @@ pub(crate) fn activities<R: Threads + Wait + Sync, G: Gate>(
     gate: &G,
     script: &Script,
     cells: &[SharedCell],
-    owners: Vec<OwnerSeat>,
+    threads: Vec<Fresh>,
     envs: Vec<Env>,
     turn: &Mutex<VmTurn>,
 ) -> Result<Left, RunFault>
-    requires owners { AreOwners cells.now owners.items }
+    requires threads { seats_at threads.items ≡ cells.now }
     requires desks { All (λ e. cells_at e.desks ≡ cells.now) envs.items }
     requires walks { length cells.now ≡ length script.now.walks }
     requires calls { length envs.items ≡ length script.now.calls }
@@ -235,17 +228,17 @@ pub(crate) fn activities<R: Threads + Wait + Sync, G: Gate>(
         thread::scope_env(),
         rt,
         move |scope| -> Result<Left, RunFault>
-            requires owners { AreOwners cells.now owners.items }
+            requires threads { seats_at threads.items ≡ cells.now }
             requires desks { All (λ e. cells_at e.desks ≡ cells.now) envs.items }
             requires walks { length cells.now ≡ length script.now.walks }
             requires calls { length envs.items ≡ length script.now.calls }
             ensures walked { IfOk result (λ left. AreBack cells.entry.now left.0.items) }
             ensures called { IfOk result (λ left. All (λ c. seats_at c.seats.items ≡ cells.entry.now) left.1.items) }
-        { in_scope(scope, rt, alloc, gate, script, cells, owners, envs, turn) },
+        { in_scope(scope, rt, alloc, gate, script, cells, threads, envs, turn) },
     )
 }
 
 ghost use Rattle.std.specs.Prelude.{◌≡◌, ◌≤◌, IfOk, [], length, map, vec_capacity};
 ghost use Rattle.std.specs.List.{All};
 ghost use Rattle.ti_agent.specs.Env.{cells_at};
-ghost use Rattle.ti_runner.specs.Cells.{IsNewOwner, IsBack, AreOwners, AreBack, seats_at};
+ghost use Rattle.ti_runner.specs.Cells.{IsBack, AreBack, seats_at};

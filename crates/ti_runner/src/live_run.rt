@@ -36,12 +36,12 @@ pub fn run_live<R: Threads + Wait + Sync + AllocGlobal, G: Gate>(
     }
     let Cells {
         cells,
-        owners,
-        seats,
+        threads,
+        desks,
     } = make_cells(alloc, limits)?;
-    let envs = environments(alloc, limits, &cells, seats)?;
+    let envs = environments(alloc, limits, &cells, desks)?;
     let turn = Mutex::new(VmTurn::new());
-    let (walked, called) = activities(rt, alloc, gate, script, &cells, owners, envs, &turn)?;
+    let (walked, called) = activities(rt, alloc, gate, script, &cells, threads, envs, &turn)?;
     let mut walked = walked;
     let mut told = Told::new(alloc);
     give_back(&cells, &mut walked, called, &mut told)?;

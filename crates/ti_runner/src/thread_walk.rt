@@ -3,7 +3,7 @@
 use crate::gate::Gate;
 use std::sync::Wait;
 use ti_cell::OwnerSeat;
-use ti_handshake::{AtSafe, Ended, Fresh, Polled, Running, SharedCell};
+use ti_handshake::{AtSafe, Ended, Fresh, Polled, Running};
 use ti_live::Refusal;
 use ti_types::{Event, Kind, Step, ThreadNo, TiError};
 
@@ -172,21 +172,17 @@ fn leave<R: Wait>(rt: &R, phase: Phase) -> OwnerSeat
 pub(crate) fn walk<R: Wait, G: Gate>(
     rt: &R,
     gate: &G,
-    cell: SharedCell,
-    seat: OwnerSeat,
+    fresh: Fresh,
     thread: ThreadNo,
     operations: &[Event],
     refused: Vec<Refusal>,
 ) -> Walked
-    requires cell { seat.cell ≡ cell }
-    requires owner { seat.view.number ≡ 0 }
-    requires none { seat.view.mine ≡ [] }
-    ensures cell { result.seat.cell ≡ cell }
+    ensures cell { result.seat.cell ≡ fresh.cell }
     ensures owner { result.seat.view.number ≡ 0 }
 {
     let mut refused = refused;
     let mut spent = false;
-    let mut phase = Phase::New(Fresh::new(cell, seat));
+    let mut phase = Phase::New(fresh);
     let mut number: u32 = 0;
     for operation in operations {
         if !gate.before_op(thread, number) {
@@ -212,5 +208,5 @@ pub(crate) fn walk<R: Wait, G: Gate>(
     }
 }
 
-ghost use Rattle.std.specs.Prelude.{◌≡◌, []};
+ghost use Rattle.std.specs.Prelude.{◌≡◌};
 ghost use Rattle.ti_runner.specs.Walks.{cell_of, cell_of_handed};

@@ -19,12 +19,12 @@ pub enum Told {
 /// # Examples
 ///
 /// ```rattle
-/// # use ti_handshake::{Fresh, SharedCell};
+/// # use ti_handshake::SharedCell;
 /// # use ti_thread::{AnyThread, Told};
 /// # use ti_types::{Limits, ThreadNo, TiError};
 /// # let limits = Limits::new(1, 1, 4, 16, 8).ok_or("the limits are in range")?;
-/// # let (cell, own, _seats) = SharedCell::make(rt.alloc(), limits, ThreadNo(0))?;
-/// let (thread, told) = AnyThread::Fresh(Fresh::new(cell, own)).start();
+/// # let (_cell, fresh, _desks) = SharedCell::make(rt.alloc(), limits, ThreadNo(0))?;
+/// let (thread, told) = AnyThread::Fresh(fresh).start();
 /// assert!(rt; told == Told::Done);
 /// // A thread that runs cannot return: it is not safe.
 /// let (thread, told) = thread.back();

@@ -3,4 +3,4 @@ use Rattle.ti_runner.specs.Walks.{cell_of}
 use Rattle.ti_runner.proofs.thread_walk.walk.Given as goal
 
 abbrev pub invariant-loop-operation : goal.invariant-loop-operation
-invariant-loop-operation g l = cell_of l.phase ≡ l.fn.cell
+invariant-loop-operation g l = cell_of l.phase ≡ l.fn.fresh.cell

@@ -1,4 +1,0 @@
-pub mod HandOvers
-pub mod Stops
-pub mod AtCell
-pub mod ClearPolls

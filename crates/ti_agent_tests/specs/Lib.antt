@@ -1,4 +1,0 @@
-pub mod Cells
-pub mod Agents
-pub mod HandOvers
-pub mod ClearPolls

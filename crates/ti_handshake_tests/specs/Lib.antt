@@ -1,0 +1,2 @@
+pub mod HandOvers
+pub mod ClearPolls
