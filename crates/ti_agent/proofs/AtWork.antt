@@ -29,17 +29,17 @@ use Rattle.ti_agent.specs.declared.gathering.Phase.TheVariants as phase
 use Rattle.ti_agent.proofs.Tracing.{may_read, roomy_last, whole_after_go}
 use Rattle.ti_agent.proofs.StepByStep.{come, distinct_of, given_up_stopping, go_again_done, go_done, let_go, may_stop_next, none, read_done, reads_left, reads_listed, reads_over, reads_there, see_done, see_looked, sees_over, set_back, stands_next, stop_done, stop_looked, stops_next, stops_over, there_of, whole_let_go, with_read, nowhere}
 
-element : (l : Listed) (n : ℕ) (x : ThreadNo × ℕ) → n < length l → x ≡ slice_index_or l n x → slice_index_or l n none ≡ x
+pub element : (l : Listed) (n : ℕ) (x : ThreadNo × ℕ) → n < length l → x ≡ slice_index_or l n x → slice_index_or l n none ≡ x
 element [] n x h e = absurd (omega (arith, h))
 element (y ∷ l) zero x h e = sym e
 element (y ∷ l) (suc n) x h e = element l n x (omega (arith, h)) e
 
 -- Where it is
 
-is_stopping : (g : Gathered) (w : IsAtWork g) (n : ℕ) → g.phase ≡ phase.Stopping n → IsStopping w.start g n
+pub is_stopping : (g : Gathered) (w : IsAtWork g) (n : ℕ) → g.phase ≡ phase.Stopping n → IsStopping w.start g n
 is_stopping g w n is = subst (λ (p : Phase). IsAt p w.start g) is w.at
 
-is_seeing : (g : Gathered) (w : IsAtWork g) (n : ℕ) → g.phase ≡ phase.Seeing n → IsSeeing w.start g n
+pub is_seeing : (g : Gathered) (w : IsAtWork g) (n : ℕ) → g.phase ≡ phase.Seeing n → IsSeeing w.start g n
 is_seeing g w n is = subst (λ (p : Phase). IsAt p w.start g) is w.at
 
 is_reading : (g : Gathered) (w : IsAtWork g) → g.phase ≡ phase.Reading → IsReading w.start g

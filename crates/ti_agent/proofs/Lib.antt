@@ -12,3 +12,4 @@ pub mod Tried
 pub mod Emptying
 pub mod StepByStep
 pub mod AtWork
+pub mod Barred

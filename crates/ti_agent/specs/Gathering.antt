@@ -1,5 +1,5 @@
 -- A trace of several threads that is made step by step. A list of threads is one of their places, if nothing else is said.
-use Rattle.std.specs.Prelude.{ℕ, ℤ, ◌≡◌, ◌⊎◌, ◌+◌, ◌≤◌, ◌==◌, nat_lt, Bool, true, false, if◌then◌else◌, List, [], ◌∷◌, length, take, drop}
+use Rattle.std.specs.Prelude.{ℕ, ℤ, ◌≡◌, ◌⊎◌, ◌+◌, ◌<◌, ◌≤◌, ◌==◌, nat_lt, Bool, true, false, if◌then◌else◌, List, [], ◌∷◌, length, take, drop, Some, slice_get, slice_set}
 use Rattle.std.specs.List.{filter}
 use Rattle.ti_types.specs.declared.entry.Entry.TheVariants.{Stop, Go}
 use Rattle.ti_types.specs.declared.error.TiError.{TiError}
@@ -8,8 +8,9 @@ use Rattle.ti_types.specs.declared.numbers.ThreadNo.{ThreadNo}
 use Rattle.ti_types.specs.declared.stack.StackInfo.{StackInfo}
 use Rattle.ti_types.specs.Frames as buffer
 use Rattle.ti_types.specs.Numbers.{is_not_negative}
-use Rattle.ti_handshake.specs.Desk.{DeskState}
-use Rattle.ti_vmop.specs.Turns.{Listed, are_paid, spend_all, AtEach, AllStand}
+use Rattle.ti_replay.specs.Standing.{is_standing}
+use Rattle.ti_handshake.specs.Desk.{DeskState, stop_refusal}
+use Rattle.ti_vmop.specs.Turns.{Listed, are_paid, spend_all, AtEach, AllStand, HasAdded}
 use Rattle.ti_vmop.specs.Tries.{AtFirst}
 use Rattle.ti_agent.specs.Buffers.{AreRoomy}
 use Rattle.ti_agent.specs.Env.{Environment, IsWhole, thread_at, threads_at}
@@ -173,11 +174,49 @@ pub record Begins (s : Environment) (g : Gathered) (stopping : Listed) (places :
   pub none_read : g.infos ≡ []
   pub phase_is : g.phase ≡ phase.Stopping 0
 
--- what may bar a step: another's stop, a thread that runs, or a cell in use
-abbrev pub MayMeet : Phase → TiError → Type 0
-MayMeet (phase.Stopping n) e = (e ≡ AlreadyStopped) ⊎ (e ≡ Busy)
-MayMeet (phase.Seeing n) e = (e ≡ StillRunning) ⊎ (e ≡ Busy)
-MayMeet _ e = e ≡ Busy
+-- there is a thread at which the next step does something
+abbrev pub HasNextAt : Phase → Gathered → Type 0
+HasNextAt (phase.Stopping n) g = n < length g.stopping
+HasNextAt (phase.Seeing n) g = n < length g.stopping
+HasNextAt phase.Reading g = length g.infos < length g.places
+HasNextAt (phase.LettingGo n) g = n < length g.stopping
+HasNextAt (phase.GivingUp k n) g = n < k
+
+-- the next thread's cell was in use, and nothing changed
+abbrev pub IsInUse : Gathered → Gathered → TiError → Type 0
+IsInUse old new e = (e ≡ Busy) × HasNextAt old.phase old × (new ≡ old)
+
+-- the same trace, with another desk at a place
+abbrev pub with_desk_at : Gathered → ℕ → DeskState → Gathered
+with_desk_at g i q = record g { now = record { env = g.now.env; state = g.now.state; desks = slice_set g.now.desks i q } }
+
+-- The desk of the next thread to stop looked at the thread, and saw this of it. It added nothing, and nothing else changed
+pub record LooksAt (n : ℕ) (old new : Gathered) (Saw : DeskState → DeskState → Type 0) : Type 0 where
+  pub thread : ThreadNo × ℕ
+  pub next : slice_get old.stopping n ≡ Some thread
+  pub before : DeskState
+  pub there : slice_get old.now.desks thread.0.0 ≡ Some before
+  pub after : DeskState
+  pub looked : HasAdded before after []
+  pub saw : Saw before after
+  pub new_is : new ≡ with_desk_at old thread.0.0 after
+
+-- a stop is in force at the thread as the desk found it
+abbrev pub SawStopped : DeskState → DeskState → Type 0
+SawStopped p q = stop_refusal p q ≡ Some AlreadyStopped
+
+-- the thread runs, as far as the desk saw
+abbrev pub SawRunning : DeskState → DeskState → Type 0
+SawRunning p q = is_standing q.view.subject.limits q.view.seen q.env ≡ false
+
+-- why a step was barred, and what it left
+abbrev pub IsBarredAt : Phase → Gathered → Gathered → TiError → Type 0
+IsBarredAt (phase.Stopping n) old new e = IsInUse old new e ⊎ ((e ≡ AlreadyStopped) × LooksAt n old new SawStopped)
+IsBarredAt (phase.Seeing n) old new e = IsInUse old new e ⊎ ((e ≡ StillRunning) × LooksAt n old new SawRunning)
+IsBarredAt _ old new e = IsInUse old new e
+
+abbrev pub IsBarred : Gathered → Gathered → TiError → Type 0
+IsBarred old new e = IsBarredAt old.phase old new e
 
 -- what a step did that was not barred, when so many threads are to be stopped
 abbrev pub GoesOnFrom : ℕ → Phase → Gathered → Gathered → Type 0

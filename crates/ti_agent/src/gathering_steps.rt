@@ -13,7 +13,7 @@ impl Gathering {
         ensures same { IsSameWork self.old self.new }
         ensures on { OnOk result (self.new.phase ≡ phase.Stopping (stopped + 1)) }
         ensures stays { OnErr result (self.new.phase ≡ self.old.phase) }
-        ensures why { IfErr result (λ e. MayMeet self.old.phase e) }
+        ensures why { IfErr result (λ e. IsBarred self.old self.new e) }
     {
         let (place, _reads) = self.stopping[stopped];
         try_stop_one(&mut self.desks[place.0 as usize])?;
@@ -29,7 +29,7 @@ impl Gathering {
         ensures same { IsSameWork self.old self.new }
         ensures on { OnOk result (self.new.phase ≡ phase.Seeing (seen + 1)) }
         ensures stays { OnErr result (self.new.phase ≡ self.old.phase) }
-        ensures why { IfErr result (λ e. MayMeet self.old.phase e) }
+        ensures why { IfErr result (λ e. IsBarred self.old self.new e) }
     {
         let (place, _reads) = self.stopping[seen];
         try_see_one(&mut self.desks[place.0 as usize])?;
@@ -44,7 +44,7 @@ impl Gathering {
         ensures same { IsSameWork self.old self.new }
         ensures on { OnOk result (length self.new.infos ≡ length self.old.infos + 1) }
         ensures stays { self.new.phase ≡ self.old.phase }
-        ensures why { IfErr result (λ e. MayMeet self.old.phase e) }
+        ensures why { IfErr result (λ e. IsBarred self.old self.new e) }
     {
         let place = self.places[self.infos.len()];
         let Some(buf) = self.bufs.pop() else {
@@ -72,7 +72,7 @@ impl Gathering {
         ensures same { IsSameWork self.old self.new }
         ensures on { OnOk result (self.new.phase ≡ phase.LettingGo (gone + 1)) }
         ensures stays { OnErr result (self.new.phase ≡ self.old.phase) }
-        ensures why { IfErr result (λ e. MayMeet self.old.phase e) }
+        ensures why { IfErr result (λ e. IsBarred self.old self.new e) }
     {
         let (place, _reads) = self.stopping[gone];
         try_go_one(&mut self.desks[place.0 as usize])?;
@@ -87,7 +87,7 @@ impl Gathering {
         ensures same { IsSameWork self.old self.new }
         ensures on { OnOk result (self.new.phase ≡ phase.GivingUp stopped (gone + 1)) }
         ensures stays { OnErr result (self.new.phase ≡ self.old.phase) }
-        ensures why { IfErr result (λ e. MayMeet self.old.phase e) }
+        ensures why { IfErr result (λ e. IsBarred self.old self.new e) }
     {
         let (place, _reads) = self.stopping[gone];
         try_go_again(&mut self.desks[place.0 as usize])?;
@@ -104,13 +104,13 @@ impl Gathering {
     ///
     /// - 211 ALREADY_STOPPED (this profile): the next thread to stop is stopped by another environment.
     /// - 213 STILL_RUNNING (this profile): the next thread to read runs. It has not come to its next poll.
-    /// - 215 (this profile: `Busy`): the next thread's cell is in use.
+    /// - 215 (this profile: `Busy`): the next thread's cell is in use. Nothing has changed.
     pub fn step(&mut self) -> Result<bool, TiError>
         ensures same { IsSameWork self.old self.new }
         ensures given_up { is_given_up self.new.phase ≡ is_given_up self.old.phase }
         ensures on { OnOk result (GoesOn self.old self.new) }
         ensures ended { IfOk result (λ over. over ≡ has_ended self.new) }
-        ensures why { IfErr result (λ e. MayMeet self.old.phase e) }
+        ensures why { IfErr result (λ e. IsBarred self.old self.new e) }
         ensures stays { OnErr result (self.new.phase ≡ self.old.phase) }
     {
         let count = self.stopping.len();
@@ -131,5 +131,5 @@ impl Gathering {
 }
 
 ghost use Rattle.std.specs.Prelude.{◌≡◌, ◌<◌, ◌+◌, length, IfOk, IfErr, OnOk, OnErr};
-ghost use Rattle.ti_agent.specs.Gathering.{has_ended, is_given_up, GoesOn, IsSameWork, MayMeet};
+ghost use Rattle.ti_agent.specs.Gathering.{has_ended, is_given_up, GoesOn, IsBarred, IsSameWork};
 ghost use Rattle.ti_agent.specs.declared.gathering.Phase.TheVariants as phase;

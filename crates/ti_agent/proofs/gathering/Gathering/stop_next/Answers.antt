@@ -1,7 +1,9 @@
-use Rattle.std.proofs.Common.{◌≡◌, ◌<◌, ◌+◌, length, ap, arith, subst, sym, ◌∙◌}
-use Rattle.ti_agent.specs.Gathering.{Gathered}
+use Rattle.std.proofs.Common.{rules, ◌≡◌, ◌<◌, ◌+◌, length, ap, arith, subst, sym, ◌∙◌}
+use Rattle.ti_types.specs.declared.error.TiError.{TiError}
+use Rattle.ti_agent.specs.Gathering.{Gathered, IsBarred, with_desk_at}
 use Rattle.ti_agent.specs.declared.gathering.Phase.TheVariants as phase
 use Rattle.ti_agent.proofs.AtWork.{barred, not_stopped, stop_calls, stop_left, stop_there, stopped}
+use Rattle.ti_agent.proofs.Barred.{if_err, stop_barred}
 use Rattle.ti_agent.proofs.gathering.Gathering.stop_next.Goals.{After-index}
 use Rattle.ti_agent.proofs.gathering.Gathering.stop_next.Goals as goal
 
@@ -19,6 +21,16 @@ pub try_stop_one-requires : goal.try_stop_one-requires
 try_stop_one-requires c =
     let l = (goal.at.try_stop_one-requires c).After-index in
     record { calls = stop_calls (trace l) c.self.invariant.0 c.args.stopped c.index.result.now c.index_mut.result.now (is l) (within l) c.index.ensures c.index_mut.ensures.value }
+
+pub returns-in_err-try_stop_one-clause-why : goal.returns-in_err-try_stop_one-clause-why
+returns-in_err-try_stop_one-clause-why c =
+    let l = (goal.at.returns-in_err-try_stop_one-clause-why c).After-index in
+    let x = c.index.result.now in
+    let q = c.try_stop_one.new.desk in
+    let e : TiError = c.in_err-try_stop_one.field-0.0 in
+    let new : Gathered = with_desk_at (trace l) x.0.0 q in
+    let why : IsBarred (trace l) new e = stop_barred (trace l) c.self.invariant.0 c.args.stopped x c.index_mut.result.now q e (is l) (within l) c.index.ensures c.index_mut.ensures.value c.in_err-try_stop_one.ensures.barred in
+    if_err (λ (d : TiError). IsBarred c.args.self.now new d) c.from_residual.result e (search rules) (subst (λ (g : Gathered). IsBarred g new e) c.self.view_is why)
 
 pub invariant_of-self : goal.invariant_of-self
 invariant_of-self c =
