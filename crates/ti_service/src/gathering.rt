@@ -215,13 +215,13 @@ impl Gathering {
     ///
     /// - 211 ALREADY_STOPPED (this profile): the next thread to stop is stopped by another environment.
     /// - 213 STILL_RUNNING (this profile): the next thread to read runs. It has not come to its next poll.
-    /// - 215 (this profile: `Busy`): the next thread's cell is in use.
+    /// - 215 (this profile: `Busy`): the next thread's cell is in use. Nothing has changed.
     pub fn step(&mut self) -> Result<bool, TiError>
         ensures same { IsSameWork self.old.trace self.new.trace }
         ensures given_up { is_given_up self.new.trace.phase ≡ is_given_up self.old.trace.phase }
         ensures on { OnOk result (GoesOn self.old.trace self.new.trace) }
         ensures ended { IfOk result (λ over. over ≡ has_ended self.new.trace) }
-        ensures why { IfErr result (λ e. MayMeet self.old.trace.phase e) }
+        ensures why { IfErr result (λ e. IsBarred self.old.trace self.new.trace e) }
         ensures stays { OnErr result (self.new.trace.phase ≡ self.old.trace.phase) }
         ensures rest { IsTraceRest self.old self.new }
     {
@@ -271,6 +271,6 @@ ghost use Rattle.std.specs.Prelude.{◌≡◌, true, false, not, is_some, length
 ghost use Rattle.ti_types.specs.declared.error.TiError.TheVariants.{OutOfMemory};
 ghost use Rattle.ti_types.specs.Refusing.{or_else};
 ghost use Rattle.ti_agent.specs.Env.{places_of};
-ghost use Rattle.ti_agent.specs.Gathering.{Begins, GivesUp, GoesOn, Gathers, IsSameWork, MayMeet, has_ended, is_given_up};
+ghost use Rattle.ti_agent.specs.Gathering.{Begins, GivesUp, GoesOn, Gathers, IsBarred, IsSameWork, has_ended, is_given_up};
 ghost use Rattle.ti_agent.specs.Traces.{IsListRefused, all_once, each_once, each_thread, refusal_of_all, refusal_of_counted, refusal_of_list};
 ghost use Rattle.ti_service.specs.Gathering.{HasRest, IsOurTrace, IsTraceRest, given_up};
