@@ -6,7 +6,7 @@ use Rattle.ti_types.specs.TiError.{number_of}
 use Rattle.ti_types.specs.declared.error.TiError.{TiError}
 use Rattle.ti_types.specs.declared.stack.StackInfo.{StackInfo}
 use Rattle.ti_service.specs.Agent.{AgentState}
-use Rattle.ti_agent.specs.Gathering.{Gathers, GivesUp, GoesOn, MayMeet, is_given_up}
+use Rattle.ti_agent.specs.Gathering.{Gathers, GivesUp, GoesOn, IsBarred, is_given_up}
 use Rattle.ti_service.specs.Gathering.{HasRest, TraceState}
 use Rattle.ti_capi.specs.declared.held.HeldEnv.{HeldEnv}
 use Rattle.ti_capi.specs.Gathers.{AllDone, Begun, BeginsIn, BeginsTo, IsBegun, IsFinished, IsNotOver, IsOver, IsStepped, MoreToDo, NotBegun, PutsBack, StepMet, StepsIn, StepsTo, Works, WorksBehind}
@@ -55,5 +55,5 @@ stepped t m b0 b1 o h n there gone steps on (IsOver a told over ended end is) =
 stepped t m b0 b1 o h n there gone steps on (IsNotOver over ended is) = subst (λ (x : Option TraceState). StepsTo x b0 b1 h n 0) (sym there) (MoreToDo m refl over steps on ended is)
 
 -- and one that met something
-pub met : (t m : TraceState) (e : TiError) (b : Bool) (h : HeldEnv) (code : ℕ) → h.trace ≡ Some t → code ≡ number_of e → IsStepped t m → MayMeet t.trace.phase e → m.trace.phase ≡ t.trace.phase → StepsIn b b h (env_held_tracing h m) code
+pub met : (t m : TraceState) (e : TiError) (b : Bool) (h : HeldEnv) (code : ℕ) → h.trace ≡ Some t → code ≡ number_of e → IsStepped t m → IsBarred t.trace m.trace e → m.trace.phase ≡ t.trace.phase → StepsIn b b h (env_held_tracing h m) code
 met t m e b h code there is steps why stays = subst (λ (x : Option TraceState). StepsTo x b b h (env_held_tracing h m) code) (sym there) (StepMet m e is refl steps why stays refl)

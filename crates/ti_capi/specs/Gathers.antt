@@ -8,7 +8,7 @@ use Rattle.ti_types.specs.declared.error.TiError.TheVariants.{IllegalArgument, O
 use Rattle.ti_types.specs.declared.numbers.ThreadNo.{ThreadNo}
 use Rattle.ti_types.specs.declared.stack.StackInfo.{StackInfo}
 use Rattle.ti_agent.specs.Env.{places_of}
-use Rattle.ti_agent.specs.Gathering.{Begins, Gathers, GivesUp, GoesOn, IsSameWork, MayMeet, has_ended, is_given_up}
+use Rattle.ti_agent.specs.Gathering.{Begins, Gathers, GivesUp, GoesOn, IsBarred, IsSameWork, has_ended, is_given_up}
 use Rattle.ti_agent.specs.Traces.{IsListRefused, all_once, each_once, each_thread, refusal_of_all, refusal_of_counted, refusal_of_list}
 use Rattle.ti_service.specs.Agent.{AgentState}
 use Rattle.ti_service.specs.Gathering.{HasRest, IsTraceRest, TraceState, given_up}
@@ -88,7 +88,7 @@ pub data StepsFor (t : TraceState) (b0 b1 : Bool) (h n : HeldEnv) (code : ℕ) :
   MoreToDo : (m : TraceState) → code ≡ 0 → b1 ≡ false → IsStepped t m → GoesOn t.trace m.trace → has_ended m.trace ≡ false → n ≡ env_held_tracing h m → StepsFor t b0 b1 h n code
   AllDone : (m : TraceState) → (a : AgentState) → (told : Option (Vec StackInfo)) → code ≡ 0 → b1 ≡ true → IsStepped t m → GoesOn t.trace m.trace → has_ended m.trace ≡ true → IsFinished m a told
       → n ≡ record { agent = Some a; trace = None; stacks = told } → StepsFor t b0 b1 h n code
-  StepMet : (m : TraceState) → (e : TiError) → code ≡ number_of e → b1 ≡ b0 → IsStepped t m → MayMeet t.trace.phase e → m.trace.phase ≡ t.trace.phase → n ≡ env_held_tracing h m → StepsFor t b0 b1 h n code
+  StepMet : (m : TraceState) → (e : TiError) → code ≡ number_of e → b1 ≡ b0 → IsStepped t m → IsBarred t.trace m.trace e → m.trace.phase ≡ t.trace.phase → n ≡ env_held_tracing h m → StepsFor t b0 b1 h n code
 
 abbrev pub StepsTo : Option TraceState → Bool → Bool → HeldEnv → HeldEnv → ℕ → Type 0
 StepsTo (Some t) b0 b1 h n code = StepsFor t b0 b1 h n code
