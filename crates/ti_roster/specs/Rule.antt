@@ -9,7 +9,7 @@ use Rattle.ti_types.specs.declared.numbers.EnvNo.{EnvNo}
 use Rattle.ti_roster.specs.declared.coming.Coming.{Coming}
 use Rattle.ti_roster.specs.declared.view.RosterView.{RosterView}
 use Rattle.ti_roster.specs.Log.{Log, mark_of, noted}
-use Rattle.ti_roster.specs.View.{holding, stored}
+use Rattle.ti_roster.specs.View.{AreWithin, glanced, holding, stored}
 use Rattle.ti_roster.specs.Word.{word_of}
 
 -- the list begins with these
@@ -34,7 +34,8 @@ abbrev pub Placed : Limits → List Coming → Bool → List (maybe.Option (Opti
 Placed limits log false homes = (r : Log) × (homes ≡ some (Some r) ∷ []) × (r.items ≡ log) × (r.limits ≡ limits)
 Placed limits log true homes = homes ≡ none ∷ []
 
--- There is one list of what happened, whose length the word has. It begins with what each seat has seen
+-- There is one list of what happened, whose length the word has. It begins with what each seat has seen, and is as long as
+-- each look showed
 pub record Kept (limits : Limits) (s : State (Option Log) RosterView) : Type 0 where
   pub log : List Coming
   pub locked : Bool
@@ -44,6 +45,7 @@ pub record Kept (limits : Limits) (s : State (Option Log) RosterView) : Type 0 w
   pub about : (j : ℕ) (v : RosterView) → get_elem? s.views j ≡ some v → v.limits ≡ limits
   pub begins : (j : ℕ) (v : RosterView) → get_elem? s.views j ≡ some v → Begins log v.seen
   pub holds : (j : ℕ) (v : RosterView) → get_elem? s.views j ≡ some v → Holds log locked holder j v
+  pub looked : (j : ℕ) (v : RosterView) → get_elem? s.views j ≡ some v → AreWithin (length log) v.looked
   pub claims : (j : ℕ) (v : RosterView) → get_elem? s.views j ≡ some v → Claims log v.place v.seen
   pub one_each : OneEach s.views
 
@@ -56,7 +58,7 @@ pub record Moves (old new : Option EnvNo) (before after : List Coming) : Type 0 
 
 -- the roster as whoever holds finds it
 abbrev pub IsFound : Log → RosterView → Type 0
-IsFound r v = Begins r.items v.seen × Claims r.items v.place v.seen × (r.limits ≡ v.limits)
+IsFound r v = Begins r.items v.seen × Claims r.items v.place v.seen × (r.limits ≡ v.limits) × AreWithin (length r.items) v.looked
 
 -- the roster as whoever holds may put it back
 abbrev pub MayStore : Log → RosterView → Type 0
@@ -73,6 +75,6 @@ locks st m found m' = (found ≡ st.first → (r : Log) × (m' ≡ (holding m.0 
 abbrev pub frees : Step (Option Log) → Mine → ℕ → Mine → Type 0
 frees st m found m' = (r : Log) → m.1 ≡ (0, Some r) ∷ [] → m' ≡ (stored m.0 r, [])
 
--- the word was read; it counts as much as was seen, or more
+-- the word was read; it counts as much as was seen and as each earlier look showed, or more
 abbrev pub glances : Step (Option Log) → Mine → ℕ → Mine → Type 0
-glances st m found m' = (m' ≡ m) × (length m.0.seen ≤ found / 2)
+glances st m found m' = (m' ≡ (glanced m.0 (found / 2), m.1)) × (length m.0.seen ≤ found / 2) × AreWithin (found / 2) m.0.looked

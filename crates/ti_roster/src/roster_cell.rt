@@ -86,8 +86,8 @@ impl RosterCell {
     /// Sets the lock bit and takes the roster out, once nobody holds the cell. Between its looks it pauses, then yields its
     /// processor, and then it sleeps.
     ///
-    /// The list of what happened begins with all that the seat has seen. The seat is this cell's, and comes back when the
-    /// hold is stored.
+    /// The list of what happened begins with all that the seat has seen, and is as long as each of its looks showed. The seat
+    /// is this cell's, and comes back when the hold is stored.
     pub fn hold<'a, R: Wait>(&'a self, rt: &R, seat: RosterSeat) -> RosterHold<'a>
         requires cell { seat.cell ≡ self.now }
         ensures cell { result.cell ≡ self.now }
@@ -95,6 +95,7 @@ impl RosterCell {
         ensures begins { Begins result.roster.items seat.view.seen }
         ensures claims { Claims result.roster.items seat.view.place seat.view.seen }
         ensures roster { (result.roster.limits ≡ seat.view.limits) × (result.roster.user ≡ seat.view.place) }
+        ensures looked { AreWithin (length result.roster.items) seat.view.looked }
     {
         let RosterSeat {
             mut seat,
@@ -119,6 +120,7 @@ impl RosterCell {
         ensures begins { IfOk result (λ h. Begins h.roster.items seat.view.seen) }
         ensures claims { IfOk result (λ h. Claims h.roster.items seat.view.place seat.view.seen) }
         ensures roster { IfOk result (λ h. (h.roster.limits ≡ seat.view.limits) × (h.roster.user ≡ seat.view.place)) }
+        ensures looked { IfOk result (λ h. AreWithin (length h.roster.items) seat.view.looked) }
         ensures busy { IfErr result (λ s. s ≡ seat) }
     {
         let RosterSeat {
@@ -240,11 +242,13 @@ impl RosterCell {
         self.table.shared.store::<Frees>(seat, 0, word.bits);
     }
 
-    /// How much has happened, by one load. It is not less than what the seat has seen. The seat is this cell's.
+    /// How much has happened, by one load. It is no less than what the seat has seen, or than any earlier look of it showed.
+    /// Whoever holds the cell with this seat later finds at least as much. The seat is this cell's.
     pub fn count(&self, seat: &mut RosterSeat) -> u64
         requires cell { seat.old.cell ≡ self.now }
-        ensures seat { seat.new ≡ seat.old }
+        ensures seat { (seat.new.cell ≡ seat.old.cell) × (seat.new.view ≡ glanced seat.old.view result) }
         ensures count { length seat.old.view.seen ≤ result }
+        ensures looked { AreWithin result seat.old.view.looked }
     {
         Word {
             bits: self.table.shared.load::<Glances>(&mut seat.seat, 0),
@@ -255,5 +259,5 @@ impl RosterCell {
 
 ghost use Rattle.std.specs.Prelude.{◌≡◌, ◌≤◌, true, [], ◌∷◌, length, None, IfOk, IfErr, IfSome, IfNone};
 ghost use Rattle.ti_types.specs.declared.error.TiError.TheVariants.{OutOfMemory};
-ghost use Rattle.ti_roster.specs.View.{first_view, holding, stored, split_off};
+ghost use Rattle.ti_roster.specs.View.{AreWithin, first_view, glanced, holding, stored, split_off};
 ghost use Rattle.ti_roster.specs.Rule.{Begins, Claims, IsFound, MayStore};

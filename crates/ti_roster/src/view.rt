@@ -13,6 +13,8 @@ pub struct RosterView {
     pub seen: LinkedList<Coming>,
     /// What had happened when the seat last took the cell. What follows in `seen` is its own.
     pub found: LinkedList<Coming>,
+    /// How much had happened at each look of the seat, the earliest first.
+    pub looked: LinkedList<u64>,
     /// How often the seat took the cell.
     pub taken: u64,
     /// Whether the seat holds the cell.
