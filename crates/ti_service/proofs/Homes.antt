@@ -1,5 +1,5 @@
 -- An agent's desks stay at the threads of its service.
-use Rattle.std.proofs.Common.{◌≡◌, ◌<◌, ℕ, zero, suc, List, [], ◌∷◌, ◌++◌, length, refl, ap, sym, ◌∙◌, arith, subst, append_assoc, Option, Some, None, Result, Ok, Err}
+use Rattle.std.proofs.Common.{◌≡◌, ◌<◌, Bool, ℕ, zero, suc, List, [], ◌∷◌, ◌++◌, length, refl, ap, sym, ◌∙◌, arith, subst, append-nil, append_assoc, Option, Some, None, Result, Ok, Err}
 use Rattle.std.specs.Prelude.{All, OnErr, OnOk, slice_get, slice_set}
 use Rattle.std.specs.List.{fold}
 use Rattle.std.proofs.lemmas.List.Sums.{fold-append}
@@ -25,7 +25,7 @@ use Rattle.ti_roster.specs.Rule.{Begins}
 use Rattle.ti_service.specs.Agent.{AgentState}
 use Rattle.ti_service.specs.Homes.{AreOurs, HasCome, Home, home_of, homes_of}
 use Rattle.ti_roster.proofs.Places.{get_front, get_within}
-use Rattle.ti_service.specs.Service.{Holds, Member, TakesDesks}
+use Rattle.ti_service.specs.Service.{Holds, Member, TakesDesks, TellsNews, with_look}
 
 -- Threads that came
 
@@ -162,6 +162,11 @@ ours_added service env new all rest f is added o =
       homes = subst (λ (l : List Home). All P l) (sym (map-append home_of env.desks (f.desk ∷ []))) (All-push P (homes_of env.desks) (home_of f.desk) o.homes last.1.at);
       waiting = last.0;
     })
+
+-- a look: the handle has seen what it had seen
+pub looked_at : (old new : Member) (env : Environment) (waiting : List FreeState) (news : Bool) → TellsNews old new news → AreOurs (agent_of old env waiting) → AreOurs (agent_of new env waiting)
+looked_at old new env waiting news h o =
+    subst (λ (m : Member). AreOurs (agent_of m env waiting)) (sym h.new_is) (ours_later old (with_look old h.count) env waiting ([], sym (append-nil old.view.seen)) refl refl o)
 
 -- A hold of the roster: the handle has seen more, and keeps its place
 

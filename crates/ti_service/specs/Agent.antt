@@ -33,13 +33,14 @@ IsRest old new = (new.service ≡ old.service) × (new.waiting ≡ old.waiting) 
 abbrev pub IsSameBut : AgentState → AgentState → Type 0
 IsSameBut old new = (new.service.cell ≡ old.service.cell) × (new.env ≡ old.env) × (new.waiting ≡ old.waiting) × (new.events ≡ old.events)
 
--- An agent that was just attached. Its environment's number was nobody's, and it is at no thread yet
+-- An agent that was just attached. Its environment's number was nobody's, and it is at no thread yet. Its handle has held the
+-- roster once, and has not looked
 pub record IsNewAgent (s : Member) (a : AgentState) : Type 0 where
   pub found : List Coming
   pub begins : Begins found s.view.seen
   pub free : mark_of a.env.env found ≡ None
   pub cell : a.service.cell ≡ s.cell
-  pub view : a.service.view ≡ record { limits = s.view.limits; seen = found ++ Attached a.env.env ∷ []; found = found; taken = 1; holds = false; place = Some a.env.env }
+  pub view : a.service.view ≡ record { limits = s.view.limits; seen = found ++ Attached a.env.env ∷ []; found = found; looked = []; taken = 1; holds = false; place = Some a.env.env }
   pub state : a.env.state ≡ env_at_no_thread s.view.limits
   pub desks : a.env.desks ≡ []
   pub waiting : a.waiting ≡ []

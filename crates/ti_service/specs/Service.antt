@@ -1,5 +1,5 @@
 -- A handle of the service, and what its calls say.
-use Rattle.std.specs.Prelude.{All, ℕ, ◌≡◌, ◌+◌, ◌<◌, ◌++◌, true, false, if◌then◌else◌, List, [], ◌∷◌, Option, Some, None}
+use Rattle.std.specs.Prelude.{All, ℕ, ◌≡◌, ◌+◌, ◌<◌, ◌≤◌, ◌++◌, nat_lt, Bool, true, false, if◌then◌else◌, length, List, [], ◌∷◌, Option, Some, None}
 use Rattle.std.specs.List.{fold}
 use Rattle.atomic_table.specs.Seated.{TableId}
 use Rattle.ti_types.specs.Least.{least}
@@ -19,7 +19,7 @@ use Rattle.ti_roster.specs.Roster.{IsOwn, and_back, end_refusal, meeting, serves
 use Rattle.ti_roster.specs.Rows.{AreLeft}
 use Rattle.ti_roster.specs.Rule.{Begins, Claims}
 use Rattle.ti_roster.specs.Seats.{Sitting}
-use Rattle.ti_roster.specs.View.{first_view}
+use Rattle.ti_roster.specs.View.{AreWithin, first_view, glanced}
 
 -- a handle: the roster's cell, and what it knows
 pub record Member : Type 0 where
@@ -42,11 +42,26 @@ roster_of v items = record { items = items; limits = v.limits; user = v.place }
 abbrev pub roster_seen : RosterView → Log
 roster_seen v = roster_of v v.seen
 
--- One hold of the roster. It found this list, which begins with what the handle had seen, and added these
+-- the handle after one more look, at which so much had happened
+abbrev pub with_look : Member → ℕ → Member
+with_look m count = record { cell = m.cell; view = glanced m.view count }
+
+-- One look. It showed how much had happened: no less than was seen, or than any earlier look showed. There is news exactly if
+-- it was more than was seen
+pub record TellsNews (old new : Member) (news : Bool) : Type 0 where
+  pub count : ℕ
+  pub new_is : new ≡ with_look old count
+  pub seen : length old.view.seen ≤ count
+  pub looked : AreWithin count old.view.looked
+  pub news_is : news ≡ nat_lt (length old.view.seen) count
+
+-- One hold of the roster. It found this list, and added these. The list begins with what the handle had seen, and is as long
+-- as each of its looks showed
 pub record Holds (old new : RosterView) (found more : List Coming) : Type 0 where
   pub begins : Begins found old.seen
   pub claims : Claims found old.place old.seen
-  pub new_is : new ≡ record { limits = old.limits; seen = found ++ more; found = found; taken = old.taken + 1; holds = false; place = old.place }
+  pub looked : AreWithin (length found) old.looked
+  pub new_is : new ≡ record { limits = old.limits; seen = found ++ more; found = found; looked = old.looked; taken = old.taken + 1; holds = false; place = old.place }
 
 -- a hold that added nothing
 abbrev pub Looks : RosterView → RosterView → Type 0
@@ -77,9 +92,10 @@ meeting_refusal v = if serves (roster_seen v) then OutOfMemory else InvalidEnvir
 pub record Claimed (old new : RosterView) (e : EnvNo) : Type 0 where
   pub found : List Coming
   pub begins : Begins found old.seen
+  pub looked : AreWithin (length found) old.looked
   pub there : e.0 < old.limits.envs
   pub free : mark_of e found ≡ None
-  pub new_is : new ≡ record { limits = old.limits; seen = found ++ Attached e ∷ []; found = found; taken = old.taken + 1; holds = false; place = Some e }
+  pub new_is : new ≡ record { limits = old.limits; seen = found ++ Attached e ∷ []; found = found; looked = old.looked; taken = old.taken + 1; holds = false; place = Some e }
 
 -- an environment took its desks at the threads that came since it last did, and are there
 pub record TakesDesks (old new : RosterView) (desks : List FreeState) (next : ℕ) : Type 0 where
@@ -110,4 +126,5 @@ pub record Leaves (old new : RosterView) (desks : List FreeState) : Type 0 where
   pub found : List Coming
   pub begins : Begins found old.seen
   pub claims : Claims found old.place old.seen
-  pub new_is : new ≡ record { limits = old.limits; seen = left_log (roster_of old found) env desks; found = found; taken = old.taken + 1; holds = false; place = None }
+  pub looked : AreWithin (length found) old.looked
+  pub new_is : new ≡ record { limits = old.limits; seen = left_log (roster_of old found) env desks; found = found; looked = old.looked; taken = old.taken + 1; holds = false; place = None }

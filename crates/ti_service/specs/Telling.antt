@@ -48,6 +48,7 @@ pub record HasLooked (old new : RosterView) : Type 0 where
   pub begins : Begins new.seen old.seen
   pub limits : new.limits ≡ old.limits
   pub place : new.place ≡ old.place
+  pub looked : new.looked ≡ old.looked
 
 -- some holds that told of no event, and then one that did or that was the last
 pub record TellsInTime (old new : AgentState) (told : Option NextEvent) : Type 0 where

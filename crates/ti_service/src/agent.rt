@@ -83,10 +83,12 @@ impl Agent {
         let _ = &self.waiting;
     }
 
-    /// Whether threads or environments have come or gone, or another agent has met threads that came, since this one last
-    /// looked. It is one load. Attaching is a look, so an agent meets once without news.
+    /// Whether threads or environments have come or gone, or another agent has met threads that came, since this one last held
+    /// the list. It is one load, and true exactly if more had happened at that load than the agent has seen. Attaching holds
+    /// the list too, so an agent meets once without news. Nothing changes but that its handle has looked.
     pub fn has_news(&mut self) -> bool
-        ensures same { self.new ≡ self.old }
+        ensures rest { IsSameBut self.old self.new }
+        ensures tells { TellsNews self.old.service self.new.service result }
     {
         self.service.has_news()
     }
@@ -169,6 +171,6 @@ ghost use Rattle.std.specs.Prelude.{◌≡◌, [], map, IfOk, IfErr, OnOk};
 ghost use Rattle.ti_types.specs.declared.error.TiError.TheVariants.{OutOfMemory};
 ghost use Rattle.ti_roster.specs.Log.{live};
 ghost use Rattle.ti_roster.specs.Roster.{IsToldOf, end_refusal};
-ghost use Rattle.ti_service.specs.Service.{Looks, roster_seen};
+ghost use Rattle.ti_service.specs.Service.{Looks, TellsNews, roster_seen};
 ghost use Rattle.ti_service.specs.Homes.{AreOurs};
 ghost use Rattle.ti_service.specs.Agent.{IsSameBut, IsWhyNot, Keeps, Meets, Moved};

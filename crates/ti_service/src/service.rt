@@ -101,9 +101,11 @@ impl Service {
         })
     }
 
-    /// Whether something has happened that this handle has not seen. It is one load.
+    /// Whether something has happened that this handle has not seen. It is one load, and true exactly if more had happened at
+    /// that load. Once it is true, it stays so until a call of this handle holds the roster. That call finds what is new.
+    /// Nothing changes but that the handle has looked.
     pub fn has_news(&mut self) -> bool
-        ensures same { self.new ≡ self.old }
+        ensures tells { TellsNews self.old self.new result }
     {
         let Some(seat) = &mut self.seat else {
             unreachable!()
@@ -403,4 +405,4 @@ ghost use Rattle.ti_roster.specs.View.{first_view, split_off};
 ghost use Rattle.ti_roster.specs.Log.{is_live, live};
 ghost use Rattle.ti_roster.specs.Roster.{IsToldOf, end_refusal};
 ghost use Rattle.ti_service.specs.Agent.{IsNewAgent};
-ghost use Rattle.ti_service.specs.Service.{Attaches, Claimed, Ends, Leaves, Looks, MayLeave, RefusesEnd, TakesDesks, meeting_refusal, roster_seen};
+ghost use Rattle.ti_service.specs.Service.{Attaches, Claimed, Ends, Leaves, Looks, MayLeave, RefusesEnd, TakesDesks, TellsNews, meeting_refusal, roster_seen};
