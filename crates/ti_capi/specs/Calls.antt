@@ -16,7 +16,7 @@ use Rattle.ti_roster.specs.declared.info.ThreadInfo.{ThreadInfo}
 use Rattle.ti_roster.specs.declared.life_event.NextEvent.{NextEvent}
 use Rattle.ti_service.specs.Agent.{AddsWaiting, AgentState, IsRest, IsSameBut, Keeps, Meets}
 use Rattle.ti_service.specs.LettingGo.{LetsGo}
-use Rattle.ti_service.specs.Service.{Looks, RefusesEnd, roster_seen}
+use Rattle.ti_service.specs.Service.{Looks, RefusesEnd, TellsNews, roster_seen}
 use Rattle.ti_service.specs.Telling.{Enables, TellsNext, with_events}
 use Rattle.ti_capi.specs.declared.values.CqEvent.{CqEvent}
 use Rattle.ti_capi.specs.declared.values.CqThreadInfo.{CqThreadInfo}
@@ -63,13 +63,21 @@ pub data MeetsBy (s n : AgentState) (code : ℕ) : Type 0 where
   Met : code ≡ 0 → Meets s n → n.events ≡ s.events → MeetsBy s n code
   NotMet : (e : TiError) → code ≡ number_of e → Keeps s n e ⊎ ((e ≡ Busy) × AddsWaiting s n) → n.events ≡ s.events → MeetsBy s n code
 
--- whether there are news: the environment is as it was
-abbrev pub HasNewsBehind : Option HeldEnv → EnvHandle → EnvHandle → Bool → Type 0
-HasNewsBehind (Some h) old new news = new.place.env ≡ Some h
-HasNewsBehind None old new news = (new ≡ old) × (news ≡ false)
+-- Whether there is news: the environment looked, and that is all that changes (`ti_service`, `Agent::has_news`). If there is no
+-- environment, there is no news
+abbrev pub TellsNewsOf : Option AgentState → Option AgentState → Bool → Type 0
+TellsNewsOf (Some s) (Some n) news = IsSameBut s n × TellsNews s.service n.service news
+TellsNewsOf (Some s) None news = ⊥
+TellsNewsOf None n news = (n ≡ None) × (news ≡ false)
+
+-- the same behind a handle: if it is empty or of another kind, nothing changes
+abbrev pub HasNewsBehind : Option HeldEnv → Option HeldEnv → EnvHandle → EnvHandle → Bool → Type 0
+HasNewsBehind (Some h) (Some n) old new news = (new ≡ with_held_env old n) × IsSameBeside h n × TellsNewsOf h.agent n.agent news
+HasNewsBehind (Some h) None old new news = ⊥
+HasNewsBehind None n old new news = (new ≡ old) × (news ≡ false)
 
 abbrev pub HasNews : EnvHandle → EnvHandle → Bool → Type 0
-HasNews old new news = HasNewsBehind old.place.env old new news
+HasNews old new news = HasNewsBehind old.place.env new.place.env old new news
 
 -- a thread is let go of, or not (`ti_service`, `Agent::try_let_go`)
 pub data LetsGoBy (t : ThreadNo) (b0 b1 : Bool) (s n : AgentState) (code : ℕ) : Type 0 where

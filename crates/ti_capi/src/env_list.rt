@@ -24,7 +24,8 @@ pub extern "C" fn cq_meet(alloc: Global, env: &mut CqEnv) -> u32
     }
 }
 
-/// Whether threads or environments have come or gone since the environment last looked.
+/// Whether threads or environments have come or gone since the environment last held the list, by one load. No of a handle
+/// without an environment.
 #[unsafe(no_mangle)]
 pub extern "C" fn cq_has_news(env: &mut CqEnv) -> bool
     ensures { HasNews env.old env.new result }
