@@ -5,6 +5,11 @@
  * sleeper is counted, `news` changes. If it is not yet, its last try comes after the call, and succeeds. All of these
  * steps are sequentially consistent, and so are those of the library.
  *
+ * Who is woken. Threads that are barred sleep apart from agents. Each sleeps for the news of one thread, by one of 31 bits,
+ * and an agent that waits for an event by one more. An agent that makes a trace of several threads has all bits. So a hand-over
+ * wakes agents that wait for its thread, and a resumption the thread. Threads whose numbers have one bit wake each other's,
+ * which then sleep on.
+ *
  * A try of a trace is many steps, up to the first that fails. The trace sleeps for that one alone. What lets it go on comes
  * after that step, and so after `news` was read. Then `news` has changed, and the trace does not sleep.
  *
@@ -23,10 +28,13 @@
 enum { FOREVER = -1 };
 static const int64_t SPIN_NS = 20000;  /* how long to spin before sleeping */
 static const int64_t NAP_NS = 50000;   /* the longest sleep of one who met CQ_BUSY, since nobody wakes it */
+static const uint32_t COMINGS = (uint32_t)1 << 31;  /* the bit of those who wait for an event */
 
 /* One who waits: it tries a call until the call gives neither CQ_BUSY nor `not_yet`, or the time is over. */
 typedef struct {
     cq_signal *signal;
+    cq_sleepers *among;
+    uint32_t bits;    /* of the threads whose news it waits for */
     int64_t timeout;
     uint32_t not_yet;
     uint32_t code;    /* what the last try gave */
@@ -37,10 +45,30 @@ typedef struct {
     int64_t stuck;    /* since when it comes no further, or -1 */
 } waiter;
 
+/* One who waits among the agents, for news of any thread. */
 static waiter begin(cq_signal *signal, int64_t timeout_ns, uint32_t not_yet) {
     return (waiter){
-        .signal = signal, .timeout = timeout_ns, .not_yet = not_yet, .code = CQ_BUSY, .began = -1, .stuck = -1,
+        .signal = signal, .among = &signal->agents, .bits = FUTEX_BITSET_MATCH_ANY, .timeout = timeout_ns,
+        .not_yet = not_yet, .code = CQ_BUSY, .began = -1, .stuck = -1,
     };
+}
+
+static uint32_t bit_of(uint32_t thread) {
+    return (uint32_t)1 << thread % 31;
+}
+
+static uint32_t bit_of_own(cq_thread *thread) {
+    uint32_t number = 0;
+    cq_thread_number(thread, &number);
+    return bit_of(number);
+}
+
+/* A thread that waits until nothing bars it. */
+static waiter begin_own(cq_thread *thread, cq_signal *signal, int64_t timeout_ns) {
+    waiter w = begin(signal, timeout_ns, CQ_BARRED);
+    w.among = &signal->threads;
+    w.bits = bit_of_own(thread);
+    return w;
 }
 
 static int64_t now_ns(void) {
@@ -74,8 +102,7 @@ static void spin(void) {
 static void sleep_until(waiter *w, int64_t end) {
     struct timespec until = { .tv_sec = end / 1000000000, .tv_nsec = end % 1000000000 };
     int kept = errno;
-    syscall(SYS_futex, &w->signal->news, FUTEX_WAIT_BITSET_PRIVATE, w->seen, end < 0 ? NULL : &until, NULL,
-            FUTEX_BITSET_MATCH_ANY);
+    syscall(SYS_futex, &w->among->news, FUTEX_WAIT_BITSET_PRIVATE, w->seen, end < 0 ? NULL : &until, NULL, w->bits);
     errno = kept;
 }
 
@@ -89,7 +116,7 @@ static void sleep_on(waiter *w, int64_t now) {
 
 static bool leave(waiter *w) {
     if (w->counted) {
-        __atomic_fetch_sub(&w->signal->sleepers, 1, __ATOMIC_SEQ_CST);
+        __atomic_fetch_sub(&w->among->sleepers, 1, __ATOMIC_SEQ_CST);
         w->counted = false;
     }
     return false;
@@ -122,27 +149,45 @@ static bool again(waiter *w) {
     if (w->counted) {
         sleep_on(w, now);
     } else {
-        __atomic_fetch_add(&w->signal->sleepers, 1, __ATOMIC_SEQ_CST);
+        __atomic_fetch_add(&w->among->sleepers, 1, __ATOMIC_SEQ_CST);
         w->counted = true;
     }
-    w->seen = __atomic_load_n(&w->signal->news, __ATOMIC_SEQ_CST);
+    w->seen = __atomic_load_n(&w->among->news, __ATOMIC_SEQ_CST);
     return true;
 }
 
-void cq_wake(cq_signal *signal) {
-    if (__atomic_load_n(&signal->sleepers, __ATOMIC_SEQ_CST) == 0) {
+static bool has_sleepers(const cq_sleepers *among) {
+    return __atomic_load_n(&among->sleepers, __ATOMIC_SEQ_CST) != 0;
+}
+
+/* Wakes those of them who wait for news of one of these threads. */
+static void wake(cq_sleepers *among, uint32_t bits) {
+    if (!has_sleepers(among)) {
         return;
     }
-    __atomic_fetch_add(&signal->news, 1, __ATOMIC_SEQ_CST);
+    __atomic_fetch_add(&among->news, 1, __ATOMIC_SEQ_CST);
     int kept = errno;
-    syscall(SYS_futex, &signal->news, FUTEX_WAKE_PRIVATE, INT32_MAX, NULL, NULL, 0);
+    syscall(SYS_futex, &among->news, FUTEX_WAKE_BITSET_PRIVATE, INT32_MAX, NULL, NULL, bits);
     errno = kept;
 }
 
-/* The code of a call that may let others go on if it succeeds. */
-static uint32_t waking(const waiter *w) {
-    if (w->code == CQ_OK || w->code == CQ_HELD) {
-        cq_wake(w->signal);
+void cq_wake(cq_signal *signal) {
+    wake(&signal->threads, FUTEX_BITSET_MATCH_ANY);
+    wake(&signal->agents, FUTEX_BITSET_MATCH_ANY);
+}
+
+/* The code of a call by which a thread may have handed over. If it has, those go on who wait for its answers. */
+static uint32_t handed_over(const waiter *w, cq_thread *thread) {
+    if ((w->code == CQ_OK || w->code == CQ_HELD) && has_sleepers(&w->signal->agents)) {
+        wake(&w->signal->agents, bit_of_own(thread));
+    }
+    return w->code;
+}
+
+/* The code of a call by which a thread may have come or gone. If it has, those go on who wait for events. */
+static uint32_t came_or_went(const waiter *w) {
+    if (w->code == CQ_OK) {
+        wake(&w->signal->agents, COMINGS);
     }
     return w->code;
 }
@@ -153,7 +198,7 @@ uint32_t cq_wait_attach_thread(cq_service *service, cq_signal *signal, const uin
                                int32_t priority, cq_thread *thread) {
     waiter w = begin(signal, FOREVER, CQ_BUSY);
     while (again(&w)) w.code = cq_attach_thread(service, name, length, priority, thread);
-    return waking(&w);
+    return came_or_went(&w);
 }
 
 uint32_t cq_wait_attach_environment(cq_service *service, cq_signal *signal, cq_env *env) {
@@ -165,7 +210,7 @@ uint32_t cq_wait_attach_environment(cq_service *service, cq_signal *signal, cq_e
 /* A thread of the runtime. */
 
 uint32_t cq_wait_start(cq_thread *thread, cq_signal *signal, int64_t timeout_ns) {
-    waiter w = begin(signal, timeout_ns, CQ_BARRED);
+    waiter w = begin_own(thread, signal, timeout_ns);
     while (again(&w)) w.code = cq_start(thread);
     return w.code;
 }
@@ -176,23 +221,23 @@ uint32_t cq_wait_poll(cq_thread *thread, cq_signal *signal) {
     }
     waiter w = begin(signal, FOREVER, CQ_BUSY);
     while (again(&w)) w.code = cq_poll(thread);
-    return waking(&w) == CQ_HELD ? cq_wait_back(thread, signal, FOREVER) : w.code;
+    return handed_over(&w, thread) == CQ_HELD ? cq_wait_back(thread, signal, FOREVER) : w.code;
 }
 
 uint32_t cq_wait_native(cq_thread *thread, cq_signal *signal) {
     waiter w = begin(signal, FOREVER, CQ_BUSY);
     while (again(&w)) w.code = cq_native(thread);
-    return waking(&w);
+    return handed_over(&w, thread);
 }
 
 uint32_t cq_wait_block(cq_thread *thread, cq_signal *signal, uint32_t reason) {
     waiter w = begin(signal, FOREVER, CQ_BUSY);
     while (again(&w)) w.code = cq_block(thread, reason);
-    return waking(&w);
+    return handed_over(&w, thread);
 }
 
 uint32_t cq_wait_back(cq_thread *thread, cq_signal *signal, int64_t timeout_ns) {
-    waiter w = begin(signal, timeout_ns, CQ_BARRED);
+    waiter w = begin_own(thread, signal, timeout_ns);
     while (again(&w)) w.code = cq_back(thread);
     return w.code;
 }
@@ -200,13 +245,13 @@ uint32_t cq_wait_back(cq_thread *thread, cq_signal *signal, int64_t timeout_ns) 
 uint32_t cq_wait_end(cq_thread *thread, cq_signal *signal) {
     waiter w = begin(signal, FOREVER, CQ_BUSY);
     while (again(&w)) w.code = cq_end(thread);
-    return waking(&w);
+    return handed_over(&w, thread);
 }
 
 uint32_t cq_wait_detach_thread(cq_thread *thread, cq_signal *signal) {
     waiter w = begin(signal, FOREVER, CQ_BUSY);
     while (again(&w)) w.code = cq_detach_thread(thread);
-    return waking(&w);
+    return came_or_went(&w);
 }
 
 /* An agent's environment. */
@@ -262,6 +307,7 @@ uint32_t cq_wait_dispose_environment(cq_env *env, cq_signal *signal) {
 
 uint32_t cq_wait_next_event(cq_env *env, cq_signal *signal, int64_t timeout_ns, cq_event *event) {
     waiter w = begin(signal, timeout_ns, CQ_NONE);
+    w.bits = COMINGS;
     while (again(&w)) w.code = cq_next_event(env, event);
     return w.code;
 }
@@ -271,6 +317,7 @@ uint32_t cq_wait_next_event(cq_env *env, cq_signal *signal, int64_t timeout_ns, 
 uint32_t cq_wait_collect(cq_env *env, cq_signal *signal, const cq_ticket *ticket, int64_t timeout_ns, cq_answer *answer,
                          cq_frame *frames, size_t room) {
     waiter w = begin(signal, timeout_ns, CQ_WAITING);
+    w.bits = bit_of(ticket->thread);
     while (again(&w)) w.code = cq_collect(env, ticket, answer, frames, room);
     return w.code;
 }
@@ -281,7 +328,9 @@ static waiter begin_post(cq_env *env, cq_signal *signal, uint32_t thread, int64_
     bool thrown = true;
     while (thrown && cq_discard(env, thread, &thrown) == CQ_OK) {
     }
-    return begin(signal, timeout_ns, CQ_BUSY);
+    waiter w = begin(signal, timeout_ns, CQ_BUSY);
+    w.bits = bit_of(thread);
+    return w;
 }
 
 /* The code of a call that was posted, once its answer is there. When the time is over, the call is given up. */
@@ -355,8 +404,9 @@ uint32_t cq_wait_resume_thread(cq_env *env, cq_signal *signal, uint32_t thread, 
     cq_answer answer;
     waiter w = begin_post(env, signal, thread, timeout_ns);
     while (again(&w)) w.code = cq_resume_thread(env, thread, &answer);
-    answered_without_frames(env, &w, &answer);
-    return waking(&w);
+    uint32_t code = answered_without_frames(env, &w, &answer);
+    if (code == CQ_OK) wake(&signal->threads, bit_of(thread));
+    return code;
 }
 
 uint32_t cq_wait_pop_frame(cq_env *env, cq_signal *signal, uint32_t thread, int64_t timeout_ns) {

@@ -24,9 +24,10 @@ extern "C" {
 #endif
 
 /* One for all threads that use a service. Zeros at first, and then for these functions alone. */
-typedef struct { uint32_t news; uint32_t sleepers; } cq_signal;
+typedef struct { uint32_t news; uint32_t sleepers; } cq_sleepers;
+typedef struct { cq_sleepers threads; cq_sleepers agents; } cq_signal;
 
-/* Wakes those who sleep. It is one load if nobody does.
+/* Wakes all who sleep. It is two loads if nobody does.
  *
  * The functions below do it by themselves. A program that also uses functions of cebdyraq.h calls it after each that
  * may let another go on: cq_poll, cq_native, cq_block, cq_end, cq_resume_thread, cq_attach_thread and cq_detach_thread. So it

@@ -101,6 +101,7 @@ int main(void) {
     }
     for (uint32_t i = 0; i < THREADS; i++) OK(cq_back(&threads[i]));
     tear_down();
-    SAME(signal_of_all.sleepers, 0);
+    SAME(signal_of_all.threads.sleepers, 0);
+    SAME(signal_of_all.agents.sleepers, 0);
     return 0;
 }

@@ -76,7 +76,8 @@ static void tear_down(void) {
     OK(cq_wait_dispose_environment(&env, &signal_of_all));
     OK(cq_wait_dispose_environment(&other, &signal_of_all));
     OK(cq_free(&service));
-    SAME(signal_of_all.sleepers, 0);
+    SAME(signal_of_all.threads.sleepers, 0);
+    SAME(signal_of_all.agents.sleepers, 0);
 }
 
 static uint32_t number_of(const cq_thread *thread) { return (uint32_t)(thread - threads); }

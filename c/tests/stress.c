@@ -144,7 +144,8 @@ int main(int count, char **words) {
     uint64_t steps = join_all();
     OK(cq_free(&service));
     SAME(heap_blocks(), 0);
-    SAME(signal_of_all.sleepers, 0);
+    SAME(signal_of_all.threads.sleepers, 0);
+    SAME(signal_of_all.agents.sleepers, 0);
     uint64_t came = atomic_load(&threads_that_came);
     printf("%" PRIu64 " calls, %" PRIu64 " threads, %" PRIu64 " steps\n", calls, came, steps);
     return 0;

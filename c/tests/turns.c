@@ -116,6 +116,7 @@ int main(int count, char **words) {
     OK(cq_wait_dispose_environment(&env, &signal_of_all));
     OK(cq_wait_dispose_environment(&other, &signal_of_all));
     OK(cq_free(&service));
-    SAME(signal_of_all.sleepers, 0);
+    SAME(signal_of_all.threads.sleepers, 0);
+    SAME(signal_of_all.agents.sleepers, 0);
     return 0;
 }

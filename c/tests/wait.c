@@ -1,9 +1,10 @@
 /* wait.c: who waits sleeps, is woken, and is not woken too early. */
-#define _POSIX_C_SOURCE 200809L
+#define _GNU_SOURCE
 #include "check.h"
 
 #include <pthread.h>
 #include <stdatomic.h>
+#include <sys/resource.h>
 #include <time.h>
 
 static const int64_t MILLISECOND = 1000000, SECOND = 1000000000;
@@ -17,6 +18,7 @@ static cq_thread thread;
 static cq_env env;
 static atomic_int at;         /* how far the other thread of the operating system is */
 static int64_t time_used;     /* of the processor, while the thread was held */
+static long sleeps;           /* how often it slept meanwhile */
 
 static int64_t read_clock(clockid_t clock) {
     struct timespec now;
@@ -25,6 +27,12 @@ static int64_t read_clock(clockid_t clock) {
 }
 
 static int64_t now_ns(void) { return read_clock(CLOCK_MONOTONIC); }
+
+static long sleeps_so_far(void) {
+    struct rusage used;
+    SAME(getrusage(RUSAGE_THREAD, &used), 0);
+    return used.ru_nvcsw;
+}
 
 static void rest(int64_t time) {
     struct timespec left = { .tv_sec = time / SECOND, .tv_nsec = time % SECOND };
@@ -60,7 +68,8 @@ static void tear_down(void) {
     OK(cq_wait_detach_thread(&thread, &signal_of_all));
     OK(cq_wait_dispose_environment(&env, &signal_of_all));
     OK(cq_free(&service));
-    SAME(signal_of_all.sleepers, 0);
+    SAME(signal_of_all.threads.sleepers, 0);
+    SAME(signal_of_all.agents.sleepers, 0);
 }
 
 /* Polls until it was held once. */
@@ -69,16 +78,41 @@ static void *poll_until_held(void *unused) {
         rest(MILLISECOND / 10);
     }
     int64_t before = read_clock(CLOCK_THREAD_CPUTIME_ID);
+    long slept = sleeps_so_far();
     OK(cq_wait_poll(&thread, &signal_of_all));
+    sleeps = sleeps_so_far() - slept;
     time_used = read_clock(CLOCK_THREAD_CPUTIME_ID) - before;
     atomic_store(&at, 1);
     return unused;
 }
 
-/* A suspended thread sleeps: in a second it takes less than 50 ms of a processor. A resumption wakes it. */
+/* Another thread hands over for its count, this often. It runs and is asked on this thread of the operating system. */
+static void another_hands_over(int times) {
+    cq_thread second = { 0, NULL };
+    uint32_t number;
+    OK(cq_wait_attach_thread(&service, &signal_of_all, (const uint8_t *)"", 0, 5, &second));
+    OK(cq_thread_number(&second, &number));
+    OK(cq_wait_meet(&env, &signal_of_all));
+    OK(cq_wait_start(&second, &signal_of_all, -1));
+    for (int i = 0; i < times; i++) {
+        cq_answer answer;
+        cq_frame frame;
+        SAME(cq_get_frame_count(&env, number, &answer), CQ_WAITING);
+        cq_ticket ticket = answer.ticket;
+        OK(cq_wait_poll(&second, &signal_of_all));
+        OK(cq_collect(&env, &ticket, &answer, &frame, 1));
+        rest(MILLISECOND / 10);
+    }
+    OK(cq_wait_end(&second, &signal_of_all));
+    OK(cq_wait_detach_thread(&second, &signal_of_all));
+}
+
+/* A suspended thread sleeps: in a second it takes less than 50 ms of a processor, and it wakes a few times at most, though
+ * another hands over 500 times. A resumption wakes it. */
 static void suspended_thread_sleeps(void) {
     pthread_t id = run(poll_until_held);
     OK(cq_wait_suspend_thread(&env, &signal_of_all, 0, -1));
+    another_hands_over(500);
     rest(SECOND);
     SAME(atomic_load(&at), 0);
     int64_t before = now_ns();
@@ -87,6 +121,7 @@ static void suspended_thread_sleeps(void) {
     CHECK(now_ns() - before < LONG);
     SAME(atomic_load(&at), 1);
     CHECK(time_used < 50 * MILLISECOND);
+    CHECK(sleeps < 20);
 }
 
 /* The thread runs and does not poll, so that no answer comes. A call whose time is over is given up. */
@@ -142,7 +177,7 @@ static void *wait_for_event(void *unused) {
     atomic_store(&at, 1);
     OK(cq_wait_next_event(&env, &signal_of_all, -1, &event));
     SAME(event.kind, CQ_THREAD_START);
-    SAME(event.thread, 1);
+    SAME(event.thread, 2);
     return unused;
 }
 

@@ -72,12 +72,20 @@ pub struct cq_stack_info {
     pub frame_count: u64,
 }
 
+/// Those who sleep for one kind of news.
+#[repr(C)]
+#[derive(Debug, Default)]
+pub struct cq_sleepers {
+    news: u32,
+    sleepers: u32,
+}
+
 /// One for all threads that use a service.
 #[repr(C)]
 #[derive(Debug, Default)]
 pub struct cq_signal {
-    news: u32,
-    sleepers: u32,
+    threads: cq_sleepers,
+    agents: cq_sleepers,
 }
 
 macro_rules! codes {
