@@ -40,21 +40,20 @@ struct Target {
 impl Target {
     /// Takes the stack that the thread still has to give, and asks it again. If the stack is not there yet, it counts for one
     /// more sample. `None` if memory runs out.
-    fn sample<R: Wait + AllocGlobal>(
-        &mut self,
-        rt: &R,
-        agent: &mut Agent,
-        taken: &mut Taken,
-    ) -> Option<()> {
+    ///
+    /// It waits for nobody. A thread that hands over may lose its processor just then, and others that want to run come first.
+    fn sample(&mut self, alloc: Global, agent: &mut Agent, taken: &mut Taken) -> Option<()> {
         if let Some(Owed { ticket, samples }) = self.owed {
-            let Some(answer) = agent.try_collect(rt, ticket) else {
+            let tried = agent.try_collect_once(ticket);
+            agent.wake_sleepers_at(self.thread);
+            let Ok(Some(answer)) = tried else {
                 let samples = samples.saturating_add(1);
                 self.owed = Some(Owed { ticket, samples });
                 return Some(());
             };
-            taken.add_answer(rt.alloc(), self.thread, Doing::Running, answer, samples)?;
+            taken.add_answer(alloc, self.thread, Doing::Running, answer, samples)?;
         }
-        self.owed = ask(rt, agent, taken, self.thread)?;
+        self.owed = ask(alloc, agent, taken, self.thread)?;
         Some(())
     }
 
@@ -78,9 +77,9 @@ impl Target {
 }
 
 /// Asks a thread for its stack. One that is in native code or blocked answers at once, and has nothing more to give. So does
-/// one that is not alive, which has no stack. `None` if memory runs out.
-fn ask<R: Wait + AllocGlobal>(
-    rt: &R,
+/// one that is not alive, which has no stack. One whose cell is in use is asked at the next sample. `None` if memory runs out.
+fn ask(
+    alloc: Global,
     agent: &mut Agent,
     taken: &mut Taken,
     thread: ThreadNo,
@@ -89,13 +88,15 @@ fn ask<R: Wait + AllocGlobal>(
         start: 0,
         max_count: FRAMES,
     };
-    match agent.post(rt, rt.alloc(), thread, call) {
+    let asked = agent.try_post(alloc, thread, call);
+    agent.wake_sleepers_at(thread);
+    match asked {
         Ok(Asked::Answered(answer)) => {
-            taken.add_answer(rt.alloc(), thread, Doing::Away, answer, 1)?;
+            taken.add_answer(alloc, thread, Doing::Away, answer, 1)?;
             Some(None)
         }
         Ok(Asked::Waiting(ticket)) => Some(Some(Owed { ticket, samples: 1 })),
-        Err(TiError::ThreadNotAlive) => Some(None),
+        Err(TiError::ThreadNotAlive | TiError::Busy) => Some(None),
         Err(_) => None,
     }
 }
@@ -148,9 +149,9 @@ impl Sampler {
     }
 
     /// Takes one sample by handshakes: each thread is asked, and it waits for none. `None` if memory runs out.
-    pub fn handshake<R: Wait + AllocGlobal>(&mut self, rt: &R) -> Option<()> {
+    pub fn handshake(&mut self, alloc: Global) -> Option<()> {
         for target in self.targets.iter_mut() {
-            target.sample(rt, &mut self.agent, &mut self.taken)?;
+            target.sample(alloc, &mut self.agent, &mut self.taken)?;
         }
         Some(())
     }

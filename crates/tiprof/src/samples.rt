@@ -122,7 +122,7 @@ fn sample_on<R: Wait + Clock + Eprint + AllocGlobal>(
             sampler.meet(rt)?;
         }
         match options.way {
-            Way::Handshake => sampler.handshake(rt)?,
+            Way::Handshake => sampler.handshake(rt.alloc())?,
             Way::Standing => sampler.standing(rt, shared.turn())?,
         }
         samples = samples.saturating_add(1);
