@@ -1,13 +1,15 @@
 /* bench.c: what some calls cost, in nanoseconds. It is no test.
  *
  *     bench [ROUNDS]
+ *
+ * Everything is measured TURNS times, each time over so many rounds. It tells the least and the middle of these.
  */
 #define _POSIX_C_SOURCE 200809L
 #include "check.h"
 
 #include <time.h>
 
-enum { FRAMES = 32, OTHERS = 16 };
+enum { FRAMES = 32, OTHERS = 16, TURNS = 11, CALLS = 16 };
 
 static cq_service service;
 static cq_thread thread;
@@ -22,13 +24,40 @@ static double now_ns(void) {
     return (double)now.tv_sec * 1e9 + (double)now.tv_nsec;
 }
 
-static void tell(const char *what, double ns) { printf("%-44s %8.1f ns\n", what, ns / (double)rounds); }
+/* What was measured of one call: a number of nanoseconds for each turn. */
+typedef struct {
+    const char *what;
+    double each[TURNS];
+    uint64_t turns;
+} measured;
+
+static measured calls[CALLS];
+
+static void note(const char *what, double ns) {
+    measured *call = calls;
+    while (call->what != NULL && strcmp(call->what, what) != 0) call++;
+    call->what = what;
+    call->each[call->turns++] = ns / (double)rounds;
+}
+
+static int in_order(const void *one, const void *other) {
+    double a = *(const double *)one, b = *(const double *)other;
+    return (a > b) - (a < b);
+}
+
+static void tell_all(void) {
+    printf("%-44s %8s %8s\n", "nanoseconds", "least", "middle");
+    for (measured *call = calls; call->what != NULL; call++) {
+        qsort(call->each, call->turns, sizeof call->each[0], in_order);
+        printf("%-44s %8.1f %8.1f\n", call->what, call->each[0], call->each[call->turns / 2]);
+    }
+}
 
 static void poll_clear(void) {
     uint64_t clear = 0;
     double began = now_ns();
     for (uint64_t i = 0; i < rounds; i++) clear += cq_poll_clear(&thread);
-    tell("cq_poll_clear", now_ns() - began);
+    note("cq_poll_clear", now_ns() - began);
     SAME(clear, rounds);
 }
 
@@ -38,13 +67,13 @@ static void enter_and_leave(void) {
         OK(cq_enter(&thread, 1));
         OK(cq_leave(&thread));
     }
-    tell("cq_enter and cq_leave", now_ns() - began);
+    note("cq_enter and cq_leave", now_ns() - began);
 }
 
 static void poll(void) {
     double began = now_ns();
     for (uint64_t i = 0; i < rounds; i++) OK(cq_poll(&thread));
-    tell("cq_poll, and nobody calls", now_ns() - began);
+    note("cq_poll, and nobody calls", now_ns() - began);
 }
 
 static void native_and_back(void) {
@@ -54,14 +83,14 @@ static void native_and_back(void) {
         OK(cq_native(&thread));
         OK(cq_back(&thread));
     }
-    tell("cq_native and cq_back", now_ns() - began);
+    note("cq_native and cq_back", now_ns() - began);
 }
 
 static void state(void) {
     OK(cq_native(&thread));
     double began = now_ns();
     for (uint64_t i = 0; i < rounds; i++) OK(cq_get_thread_state(&env, 0, &answer));
-    tell("cq_get_thread_state at a native thread", now_ns() - began);
+    note("cq_get_thread_state at a native thread", now_ns() - began);
     OK(cq_back(&thread));
     OK(cq_leave(&thread));
 }
@@ -81,9 +110,9 @@ static void trace(void) {
         collects += now_ns() - polled;
         SAME(answer.number, FRAMES);
     }
-    tell("a trace of 32 frames: the post", posts);
-    tell("a trace of 32 frames: the poll", polls);
-    tell("a trace of 32 frames: the collection", collects);
+    note("a trace of 32 frames: the post", posts);
+    note("a trace of 32 frames: the poll", polls);
+    note("a trace of 32 frames: the collection", collects);
 }
 
 static void set_frames(void) {
@@ -93,7 +122,8 @@ static void set_frames(void) {
         frames[1].location = (int64_t)(i % 50);
         OK(cq_set_frames(&thread, frames, FRAMES));
     }
-    tell("cq_set_frames, 2 of 32 frames differ", now_ns() - began);
+    note("cq_set_frames, 2 of 32 frames differ", now_ns() - began);
+    OK(cq_set_frames(&thread, frames, 0));
 }
 
 static cq_thread others[OTHERS];
@@ -122,12 +152,25 @@ static void traces(void) {
         for (uint64_t k = 0; k < OTHERS; k++) OK(cq_gathered_stack(&env, k, &info, frames, FRAMES));
         SAME(info.frame_count, FRAMES);
     }
-    tell("a trace of 16 native threads of 32 frames", (now_ns() - began) * (double)rounds / (double)times);
+    note("a trace of 16 native threads of 32 frames", (now_ns() - began) * (double)rounds / (double)times);
     for (uint32_t i = 0; i < OTHERS; i++) {
         OK(cq_back(&others[i]));
         OK(cq_end(&others[i]));
         OK(cq_detach_thread(&others[i]));
+        bool gone;
+        OK(cq_let_go(&env, numbers[i], &gone));
     }
+}
+
+static void turn(void) {
+    poll_clear();
+    enter_and_leave();
+    poll();
+    native_and_back();
+    state();
+    trace();
+    set_frames();
+    traces();
 }
 
 int main(int count, char **words) {
@@ -137,14 +180,8 @@ int main(int count, char **words) {
     OK(cq_attach_environment(&service, &env));
     OK(cq_meet(&env));
     OK(cq_start(&thread));
-    poll_clear();
-    enter_and_leave();
-    poll();
-    native_and_back();
-    state();
-    trace();
-    set_frames();
-    traces();
+    for (int i = 0; i < TURNS; i++) turn();
+    tell_all();
     OK(cq_end(&thread));
     OK(cq_detach_thread(&thread));
     OK(cq_dispose_environment(&env));

@@ -1,5 +1,7 @@
 pub mod Replied
 pub mod Posting
+pub mod ListTrying
+pub mod SameLimits
 pub mod Whole
 pub mod Listing
 pub mod TimesLaws

@@ -1,8 +1,9 @@
 -- Desks that come and go while an environment is at work.
-use Rattle.std.specs.Prelude.{◌≡◌, ◌+◌, ◌==◌, ◌&&◌, nat_le, nat_lt, Bool, [], ◌∷◌, ◌++◌, length, Option, Some, slice_get, remove}
+use Rattle.std.specs.Prelude.{◌≡◌, ◌+◌, ◌==◌, ◌&&◌, not, nat_le, nat_lt, Bool, if◌then◌else◌, [], ◌∷◌, ◌++◌, length, Option, Some, slice_get, remove}
 use Rattle.std.specs.List.{list_all}
 use Rattle.ti_types.specs.declared.error.TiError.{TiError}
 use Rattle.ti_types.specs.declared.error.TiError.TheVariants.{InvalidEnvironment, IllegalArgument}
+use Rattle.ti_types.specs.declared.limits.Limits.{Limits}
 use Rattle.ti_types.specs.declared.numbers.ThreadNo.{ThreadNo}
 use Rattle.ti_types.specs.Refusing.{or_else, unless}
 use Rattle.ti_env.specs.Env.{spent_at, with_place, without_place, with_known}
@@ -14,10 +15,17 @@ use Rattle.ti_agent.specs.FreeDesk.{FreeState, IsClean, clearing}
 abbrev pub is_new : Environment → ThreadNo → Bool
 is_new s t = nat_le s.state.known t.0 && list_all (λ p. nat_lt p.view.subject.thread.0 t.0) s.desks
 
--- why a desk is not added, lack of memory aside: it is another environment's, or its thread's number is not new
+-- whether two limits are the same, number by number
+abbrev pub are_same : Limits → Limits → Bool
+are_same a b =
+    (a.threads == b.threads) && (a.envs == b.envs) && (a.depth == b.depth) && (a.own == b.own) && (a.calls == b.calls) && (a.window == b.window)
+    && (if a.kept then b.kept else not b.kept)
+
+-- why a desk is not added, lack of memory aside: it is another environment's, or under other limits, or its thread's number is
+-- not new
 abbrev pub desk_refusal : Environment → FreeState → Option TiError
 desk_refusal s f =
-    or_else (unless (f.desk.env.0 == s.env.0) InvalidEnvironment)
+    or_else (unless (f.desk.env.0 == s.env.0 && are_same f.desk.view.subject.limits s.state.limits) InvalidEnvironment)
     (unless (is_new s f.desk.view.subject.thread) IllegalArgument)
 
 -- one desk more, at a place of its own, with what is spent there

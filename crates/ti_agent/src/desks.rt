@@ -78,25 +78,44 @@ impl Env {
     }
 
     /// Adds a desk, behind the others (this profile). The environment's calls reach its thread from then on, and have what is
-    /// left there. The desk is under the limits of the environment.
+    /// left there.
     ///
     /// The error is the first of these that fits:
     ///
-    /// - 116 INVALID_ENVIRONMENT: it is another environment's desk.
+    /// - 116 INVALID_ENVIRONMENT: it is another environment's desk, or its thread is under other limits.
     /// - 103 ILLEGAL_ARGUMENT: its thread's number is not above those of all desks, or is of a thread that was there before
     ///   (`take_desk`, `know_threads`).
     /// - 110 OUT_OF_MEMORY: there is no memory for it, or there are 65,536 desks.
     ///
     /// Then nothing changes, and the desk comes back as it was.
+    ///
+    /// # Examples
+    ///
+    /// ```rattle
+    /// # use ti_agent::{Env, FreeDesk};
+    /// # use ti_handshake::SharedCell;
+    /// # use ti_types::{EnvNo, Limits, ThreadNo, TiError};
+    /// # let alloc = rt.alloc();
+    /// # let limits = Limits::new(1, 1, 4, 16, 8).ok_or("the limits are in range")?;
+    /// # let others = limits.with_window(2).ok_or("the window is in range")?;
+    /// # let (_cell, _fresh, mut desks) = SharedCell::make(alloc, limits, ThreadNo(0))?;
+    /// # let desk = desks.pop().ok_or("there is one environment")?;
+    /// # let free = FreeDesk::new(desk).ok().ok_or("the desk is new")?;
+    /// let mut env = Env::with_no_desks(alloc, EnvNo(0), others);
+    /// let Err((TiError::InvalidEnvironment, free)) = env.add_desk(free) else {
+    ///     return Err("the desk is under other limits".into());
+    /// };
+    /// let mut env = Env::with_no_desks(alloc, EnvNo(0), limits);
+    /// assert!(rt; env.add_desk(free).is_ok());
+    /// ```
     pub fn add_desk(&mut self, free: FreeDesk) -> Result<(), (TiError, FreeDesk)>
-        requires limits { free.desk.view.subject.limits ≡ self.old.state.limits }
         ensures admitted { OnOk result (desk_refusal self.old free ≡ None) }
         ensures added { OnOk result (self.new ≡ with_desk self.old free) }
         ensures refused { IfErr result (λ r. Some r.0 ≡ or_else (desk_refusal self.old free) (Some OutOfMemory)) }
         ensures back { IfErr result (λ r. r.1 ≡ free) }
         ensures unchanged { OnErr result (self.new ≡ self.old) }
     {
-        if free.env().0 != self.env.0 {
+        if free.env().0 != self.env.0 || !are_same(free.limits(), self.limits()) {
             return Err((TiError::InvalidEnvironment, free));
         }
         if !self.is_new(free.thread()) {
@@ -160,11 +179,10 @@ impl Env {
             return Ok(None);
         }
         self.desks[at].cancel_all(rt, alloc)?;
-        let calls = self.state.limits().calls;
         let Some(mut free) = self.take_desk(thread) else {
             unreachable!()
         };
-        free.clear_word(rt, calls);
+        free.clear_word(rt);
         Ok(Some(free))
     }
 
@@ -177,9 +195,22 @@ impl Env {
     }
 }
 
+/// Whether these limits are the same.
+fn are_same(one: Limits, other: Limits) -> bool
+    ensures { result ≡ are_same one other }
+{
+    one.threads == other.threads
+        && one.envs == other.envs
+        && one.depth == other.depth
+        && one.own == other.own
+        && one.calls == other.calls
+        && one.window == other.window
+        && one.kept == other.kept
+}
+
 ghost use Rattle.std.specs.Prelude.{◌≡◌, ◌<◌, ◌≤◌, [], length, None, Some, IfSome, IfNone, IfOk, IfErr, OnOk, OnErr};
 ghost use Rattle.ti_types.specs.Refusing.{or_else};
 ghost use Rattle.ti_types.specs.declared.error.TiError.TheVariants.{OutOfMemory};
 ghost use Rattle.ti_env.specs.Env.{env_at_no_thread, with_known};
 ghost use Rattle.ti_agent.specs.Env.{outstanding, place_in, thread_at};
-ghost use Rattle.ti_agent.specs.Desks.{desk_refusal, is_new, with_desk, IsCleared, IsTaken};
+ghost use Rattle.ti_agent.specs.Desks.{are_same, desk_refusal, is_new, with_desk, IsCleared, IsTaken};

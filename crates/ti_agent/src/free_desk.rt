@@ -3,7 +3,7 @@
 use std::marker::Model;
 use std::sync::Wait;
 use ti_handshake::Desk;
-use ti_types::{Call, EnvNo, ThreadNo, TiError, TraceBuf};
+use ti_types::{Call, EnvNo, Limits, ThreadNo, TiError, TraceBuf};
 
 /// A desk that no environment has, with how many calls are spent there (this profile). It goes to an environment of its
 /// number by `Env::add_desk`, and comes back by `Env::take_desk`. So the next environment of this number has what is left.
@@ -60,17 +60,22 @@ impl FreeDesk {
         self.desk.facts();
     }
 
-    /// Sets the environment's word at the thread to 0 by one call there, if a call is left. `calls` is how many there may be
-    /// in all.
-    pub(crate) fn clear_word<R: Wait>(&mut self, rt: &R, calls: u64)
-        requires { calls ≡ self.old.desk.view.subject.limits.calls }
+    /// Sets the environment's word at the thread to 0 by one call there, if a call is left.
+    pub(crate) fn clear_word<R: Wait>(&mut self, rt: &R)
         ensures { ClearsWord self.old self.new }
     {
-        if self.spent >= calls {
+        if self.spent >= self.limits().calls {
             return;
         }
         let _done = self.desk.call(rt, Call::SetWord(0), TraceBuf::none());
         self.spent += 1;
+    }
+
+    /// The limits of the thread that it is at.
+    pub fn limits(&self) -> Limits
+        ensures { result ≡ self.now.desk.view.subject.limits }
+    {
+        self.desk.limits()
     }
 
     /// The number of the environments whose desk it may be.

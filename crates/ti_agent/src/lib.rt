@@ -20,6 +20,7 @@ mod free_desk;
 mod gathering;
 mod gathering_begins;
 mod gathering_steps;
+mod list_tries;
 mod lists;
 mod posts;
 mod thread_counts;

@@ -146,7 +146,6 @@ fn inspected<R: Threads + Wait + Sync + AllocGlobal>(
     rt: &R,
     limits: Limits,
 ) -> Option<(Option<u32>, Result<(), u32>, bool)>
-    requires envs { limits.envs ≡ 2 }
 {
     let (_cell, fresh, one, two) = make(rt.alloc(), limits, ThreadNo(0))?;
     let first = environment(rt.alloc(), limits, one)?;
@@ -185,5 +184,3 @@ fn an_environment_inspects_a_running_thread(rt: HostRuntime) -> Result<(), Fail>
     assert!(rt; states);
     Ok(())
 }
-
-ghost use Rattle.std.specs.Prelude.{◌≡◌};

@@ -23,8 +23,6 @@ pub(crate) fn make(
     limits: Limits,
     thread: ThreadNo,
 ) -> Option<(SharedCell, Fresh, Desk, Desk)>
-    requires envs { limits.envs ≡ 2 }
-    ensures limits { IfSome result (λ m. (m.2.view.subject.limits ≡ limits) × (m.3.view.subject.limits ≡ limits)) }
     ensures cell { IfSome result (λ m. m.3.cell ≡ m.0) }
 {
     let Ok((cell, fresh, mut desks)) = SharedCell::make(alloc, limits, thread) else {
@@ -37,8 +35,6 @@ pub(crate) fn make(
 
 /// Adds a desk that has not been used, behind the others. It gives whether there was memory for it.
 fn add(env: &mut Env, desk: Desk) -> bool
-    requires limits { desk.view.subject.limits ≡ env.old.state.limits }
-    ensures limits { env.new.state.limits ≡ env.old.state.limits }
 {
     let Ok(free) = FreeDesk::new(desk) else {
         return false;
@@ -48,8 +44,6 @@ fn add(env: &mut Env, desk: Desk) -> bool
 
 /// The environment of a desk. `None` if memory runs out.
 pub(crate) fn environment(alloc: Global, limits: Limits, desk: Desk) -> Option<Env>
-    requires limits { desk.view.subject.limits ≡ limits }
-    ensures limits { IfSome result (λ e. e.state.limits ≡ limits) }
 {
     let mut env = Env::with_no_desks(alloc, desk.env(), limits);
     if add(&mut env, desk) { Some(env) } else { None }
@@ -62,8 +56,6 @@ pub(crate) fn environment_at_both(
     one: Desk,
     two: Desk,
 ) -> Option<Env>
-    requires one { one.view.subject.limits ≡ limits }
-    requires two { two.view.subject.limits ≡ limits }
 {
     let mut env = environment(alloc, limits, one)?;
     if add(&mut env, two) { Some(env) } else { None }

@@ -1,5 +1,5 @@
 -- All calls of a desk that are out are given up.
-use Rattle.std.proofs.Common.{◌≡◌, ℕ, suc, ◌+◌, ◌<◌, ◌≤◌, ◌==◌, ◌&&◌, nat_lt, not, Bool, true, false, inl, inr, List, [], ◌∷◌, ◌++◌, length, append-nil, append_assoc, refl, ap, sym, ◌∙◌, subst, arith, Option, Some, None}
+use Rattle.std.proofs.Common.{◌≡◌, ℕ, suc, ◌+◌, ◌<◌, ◌≤◌, ◌==◌, ◌&&◌, nat_lt, true, false, inl, inr, List, [], ◌∷◌, ◌++◌, length, append-nil, append_assoc, refl, ap, sym, ◌∙◌, subst, arith, Some, None}
 use Rattle.std.proofs.lemmas.Bool.{cases_Bool, cases_lt}
 use Rattle.std.proofs.lemmas.Bool.Decides.{nat_tests}
 use Rattle.std.proofs.lemmas.List.Sums.{sum_by-cons}
@@ -9,7 +9,7 @@ use Rattle.ti_types.specs.declared.event.Ticket.{Ticket}
 use Rattle.ti_types.specs.declared.numbers.EnvNo.{EnvNo}
 use Rattle.ti_types.specs.declared.numbers.ThreadNo.{ThreadNo}
 use Rattle.ti_replay.specs.Legal.{asked_by, ask_count}
-use Rattle.ti_slot.specs.Tickets.{has, without_ticket, AreOnce, IsNextOut, NoneBetween, same}
+use Rattle.ti_slot.specs.Tickets.{has, without_ticket, IsNextOut, same}
 use Rattle.ti_slot.specs.Thread.{Thread}
 use Rattle.ti_cell.specs.View.{tickets_of}
 use Rattle.ti_handshake.specs.Cancelled.{AddsAll, AreGivenUp, Given}

@@ -1,13 +1,13 @@
 -- A desk and its calls that were given up.
-use Rattle.std.proofs.Common.{◌≡◌, ℕ, ◌+◌, ◌<◌, ◌&&◌, ◌||◌, not, Bool, true, false, if◌then◌else◌, inl, inr, List, [], ◌∷◌, ◌++◌, append-nil, drop, refl, ap, sym, ◌∙◌, subst, arith, Option, Some, None}
-use Rattle.std.specs.Prelude.{slice_get, is_some}
+use Rattle.std.proofs.Common.{◌≡◌, ◌<◌, Bool, true, false, if◌then◌else◌, inl, inr, List, [], ◌∷◌, ◌++◌, append-nil, drop, refl, ap, sym, ◌∙◌, subst, arith, Option, Some, None}
+use Rattle.std.specs.Prelude.{slice_get}
 use Rattle.std.proofs.lemmas.Bool.{cases_Bool}
 use Rattle.std.proofs.lemmas.Bool.Decides.{nat_tests}
 use Rattle.std.proofs.lemmas.List.Folds.{list_any-append}
 use Rattle.atomic_table.specs.Seated.{TableId}
-use Rattle.ti_types.specs.declared.answer.Answer.{Answer}
 use Rattle.ti_types.specs.declared.call.Call.{Call}
 use Rattle.ti_types.specs.declared.event.Ticket.{Ticket}
+use Rattle.ti_types.specs.declared.limits.Limits.{Limits}
 use Rattle.ti_types.specs.declared.numbers.EnvNo.{EnvNo}
 use Rattle.ti_slot.specs.declared.asked.Asked as asked
 use Rattle.ti_slot.specs.declared.asked.Asked.TheVariants.{Answered, Waiting}
@@ -17,7 +17,7 @@ use Rattle.ti_cell.specs.declared.view.View.{View}
 use Rattle.ti_cell.specs.Seats.{Sitting}
 use Rattle.ti_handshake.specs.Call.{IsTold, ticket_told}
 use Rattle.ti_handshake.specs.Cancelled.{AreGivenUp}
-use Rattle.ti_handshake.specs.Desk.{DeskState, Sits, IsTicketOut, is_out}
+use Rattle.ti_handshake.specs.Desk.{DeskState, IsTicketOut, is_out}
 use Rattle.ti_handshake.specs.Seated.{IsThere, place_in}
 
 -- tickets
@@ -71,18 +71,18 @@ pub place_given : (cell : TableId) (env : EnvNo) (o : Option Sitting) (g : List 
 place_given cell env None g p is = ap (λ (x : DeskState). x.cancelled) (sym is)
 place_given cell env (Some s) g p is = ap (λ (x : DeskState). x.cancelled) (sym is)
 
-pub given_there : (cell : TableId) (env : EnvNo) (o : Option Sitting) (g : List Ticket) (p : DeskState) → IsThere cell env o g → place_in cell env o g ≡ p → AreGivenUp g p.view.posted
-given_there cell env None g p k is = absurd k
-given_there cell env (Some s) g p k is = subst (λ (x : DeskState). AreGivenUp g x.view.posted) is k.1
+pub given_there : (cell : TableId) (env : EnvNo) (limits : Limits) (o : Option Sitting) (g : List Ticket) (p : DeskState) → IsThere cell env limits o g → place_in cell env o g ≡ p → AreGivenUp g p.view.posted
+given_there cell env limits None g p k is = absurd k
+given_there cell env limits (Some s) g p k is = subst (λ (x : DeskState). AreGivenUp g x.view.posted) is k.1
 
-pub seat_again : (cell : TableId) (env : EnvNo) (o : Option Sitting) (g z : List Ticket) (p : DeskState) (s : Sitting) → IsThere cell env o g → place_in cell env o g ≡ p
-    → s.cell ≡ cell → s.view.number ≡ p.view.number → s.view.subject ≡ p.view.subject → AreGivenUp z s.view.posted → IsThere cell env (Some s) z
-seat_again cell env None g z p s k is here number subject given = absurd k
-seat_again cell env (Some t) g z p s k is here number subject given =
+pub seat_again : (cell : TableId) (env : EnvNo) (limits : Limits) (o : Option Sitting) (g z : List Ticket) (p : DeskState) (s : Sitting) → IsThere cell env limits o g → place_in cell env o g ≡ p
+    → s.cell ≡ cell → s.view.number ≡ p.view.number → s.view.subject ≡ p.view.subject → AreGivenUp z s.view.posted → IsThere cell env limits (Some s) z
+seat_again cell env limits None g z p s k is here number subject given = absurd k
+seat_again cell env limits (Some t) g z p s k is here number subject given =
     let view : t.view ≡ p.view = ap (λ (x : DeskState). x.view) is in
     let same_number : s.view.number ≡ t.view.number = number ∙ sym (ap (λ (v : View). v.number) view) in
     let same_subject : s.view.subject ≡ t.view.subject = subject ∙ sym (ap (λ (v : View). v.subject) view) in
-    (record { here = here; number = same_number ∙ k.0.number; there = subst (λ (x : Subject). env.0 < x.limits.envs) (sym same_subject) k.0.there }, given)
+    (record { here = here; number = same_number ∙ k.0.number; there = subst (λ (x : Subject). env.0 < x.limits.envs) (sym same_subject) k.0.there }, given, k.2 ∙ sym (ap (λ (x : Subject). x.limits) same_subject))
 
 -- a call that was not given up is out if it is posted
 pub out_posted : (p : DeskState) (t : Ticket) → has t p.cancelled ≡ false → is_out p t ≡ has t p.view.posted
@@ -104,6 +104,10 @@ ticket_out v w env call (Waiting k) g q given more told view same =
     ] in
     let none : has k q.cancelled ≡ false = ap (has k) same ∙ new in
     grind (arith, posted, none)
+
+-- those that were given up stay out when more is posted
+pub posted_given : (g posted more left : List Ticket) → AreGivenUp g posted → left ≡ posted ++ more → AreGivenUp g left
+posted_given g posted more left given is = subst (λ (l : List Ticket). AreGivenUp g l) (sym is) (record { once = given.once; out = λ k h. has_more k posted more (given.out k h) })
 
 -- those that were given up stay out where another's answer is collected
 pub still_given : (g posted : List Ticket) (t : Ticket) (b : Bool) → AreGivenUp g posted → has t g ≡ false → AreGivenUp g (if b then without_ticket t posted else posted)

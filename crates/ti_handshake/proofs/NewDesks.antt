@@ -13,11 +13,11 @@ use Rattle.ti_handshake.specs.NewDesks.{IsEnvSeat, desk_at, new_desk, new_desks}
 a_seat : TableId → Subject → ℕ → Sitting
 a_seat cell s n = record { cell = cell; view = newcomer s (suc n) 0 }
 
-pub seats_are : (cell : TableId) (s : Subject) (n : ℕ) → n ≤ s.limits.envs → All (λ x. IsEnvSeat cell x) (env_seats cell s n)
-seats_are cell s zero h = All-nil (λ x. IsEnvSeat cell x)
+pub seats_are : (cell : TableId) (s : Subject) (n : ℕ) → n ≤ s.limits.envs → All (λ x. IsEnvSeat cell s.limits x) (env_seats cell s n)
+seats_are cell s zero h = All-nil (λ x. IsEnvSeat cell s.limits x)
 seats_are cell s (suc n) h =
-    All-append (λ x. IsEnvSeat cell x) (env_seats cell s n) (record { cell = cell; view = newcomer s (suc n) 0 } ∷ []) (seats_are cell s n (omega (arith, h)))
-    (All-cons (λ x. IsEnvSeat cell x) (record { cell = cell; view = newcomer s (suc n) 0 }) [] (refl, omega arith, h) (All-nil (λ x. IsEnvSeat cell x)))
+    All-append (λ x. IsEnvSeat cell s.limits x) (env_seats cell s n) (record { cell = cell; view = newcomer s (suc n) 0 } ∷ []) (seats_are cell s n (omega (arith, h)))
+    (All-cons (λ x. IsEnvSeat cell s.limits x) (record { cell = cell; view = newcomer s (suc n) 0 }) [] (refl, omega arith, h, refl) (All-nil (λ x. IsEnvSeat cell s.limits x)))
 
 back_one : (n : ℕ) → suc n - 1 ≡ n
 back_one n = omega arith

@@ -4,12 +4,13 @@ use Rattle.atomic_table.specs.Seated.{TableId}
 use Rattle.ti_cell.specs.declared.view.Subject.{Subject}
 use Rattle.ti_cell.specs.Seats.{Sitting}
 use Rattle.ti_cell.specs.View.{newcomer}
+use Rattle.ti_types.specs.declared.limits.Limits.{Limits}
 use Rattle.ti_types.specs.declared.numbers.EnvNo.{EnvNo}
 use Rattle.ti_handshake.specs.Desk.{DeskState}
 
--- a seat of an environment at this cell
-abbrev pub IsEnvSeat : TableId → Sitting → Type 0
-IsEnvSeat cell s = (s.cell ≡ cell) × (0 < s.view.number) × (s.view.number ≤ s.view.subject.limits.envs)
+-- a seat of an environment at this cell, under these limits
+abbrev pub IsEnvSeat : TableId → Limits → Sitting → Type 0
+IsEnvSeat cell limits s = (s.cell ≡ cell) × (0 < s.view.number) × (s.view.number ≤ s.view.subject.limits.envs) × (limits ≡ s.view.subject.limits)
 
 -- the desk that has a seat
 abbrev pub desk_at : Sitting → DeskState

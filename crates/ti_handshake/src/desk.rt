@@ -5,11 +5,11 @@ use crate::shared_cell::SharedCell;
 use crate::waits::{Deadline, await_news, await_news_until};
 use std::marker::Model;
 use std::rt::Clock;
-use std::sync::Wait;
+use std::sync::{Arc, Wait};
 use std::time::Duration;
 use ti_cell::EnvSeat;
 use ti_slot::{Asked, Slot};
-use ti_types::{Answer, Call, EnvNo, ThreadNo, Ticket, TraceBuf};
+use ti_types::{Answer, Call, EnvNo, Limits, ThreadNo, Ticket, TraceBuf};
 
 /// One environment at one thread. Contracts see it as a `DeskState`: its cell, its environment, its seat's view, and its calls
 /// that were given up and are still out.
@@ -43,9 +43,12 @@ pub struct Desk {
     /// `None` only while a call holds the cell.
     pub(crate) seat: Option<EnvSeat>,
     pub(crate) cancelled: Cancelled,
+    /// The limits of its thread, which all desks there share.
+    pub(crate) limits: Arc<Limits>,
 }
 
 impl Model for Desk {
+    ghost use Rattle.std.specs.Arc.{arc_value};
     ghost use Rattle.ti_handshake.specs.Desk.{DeskState};
     ghost use Rattle.ti_handshake.specs.Seated.{IsThere, place_in};
 
@@ -53,15 +56,17 @@ impl Model for Desk {
 
     ghost view = { λ d. place_in d.cell d.env d.seat d.cancelled.tickets };
 
-    ghost invariant = { λ d. IsThere d.cell d.env d.seat d.cancelled.tickets };
+    ghost invariant = { λ d. IsThere d.cell d.env (arc_value d.limits) d.seat d.cancelled.tickets };
 }
 
 impl Desk {
-    /// The desk of the environment that has this seat. The seat is this cell's, and not the owner's.
-    pub(crate) fn at(cell: SharedCell, seat: EnvSeat) -> Desk
+    /// The desk of the environment that has this seat. The seat is this cell's, and not the owner's. Its thread is under these
+    /// limits.
+    pub(crate) fn at(cell: SharedCell, seat: EnvSeat, limits: Arc<Limits>) -> Desk
         requires cell { seat.cell ≡ cell }
         requires number { 0 < seat.view.number }
         requires there { seat.view.number ≤ seat.view.subject.limits.envs }
+        requires limits { arc_value limits ≡ seat.view.subject.limits }
         ensures cell { result.cell ≡ cell }
         ensures env { result.env.0 + 1 ≡ seat.view.number }
         ensures view { result.view ≡ seat.view }
@@ -73,6 +78,7 @@ impl Desk {
             env,
             seat: Some(seat),
             cancelled: Cancelled::none(),
+            limits,
         }
     }
 
@@ -110,6 +116,13 @@ impl Desk {
             unreachable!()
         };
         seat.thread()
+    }
+
+    /// The limits of the thread that it is at (this profile).
+    pub fn limits(&self) -> Limits
+        ensures { result ≡ self.now.view.subject.limits }
+    {
+        *self.limits
     }
 
     /// How many entries of the thread's history the desk has seen (this profile).
@@ -320,6 +333,7 @@ impl Desk {
             env: _,
             seat,
             cancelled: _,
+            limits: _,
         } = self;
         let Some(seat) = seat else { unreachable!() };
         seat
@@ -345,6 +359,7 @@ pub(crate) fn collect_own(slot: &mut Slot, env: EnvNo, ticket: Ticket) -> Option
 }
 
 ghost use Rattle.std.specs.Prelude.{List, ◌≡◌, ◌==◌, ◌&&◌, ◌<◌, ◌≤◌, ◌+◌, ◌++◌, true, false, if◌then◌else◌, is_some, [], ◌∷◌, length, Some, None, IfSome};
+ghost use Rattle.std.specs.Arc.{arc_value};
 ghost use Rattle.std.specs.Option.{option_map};
 ghost use Rattle.ti_types.specs.Answer.{said};
 ghost use Rattle.ti_replay.specs.Makers.{made_by};

@@ -61,7 +61,8 @@ impl SharedCell {
     {
         let (cell, own, seats) = ThreadCell::make(alloc, limits, number)?;
         let cell = SharedCell::new(alloc, cell)?;
-        let desks = desks_of(alloc, &cell, seats)?;
+        let shared = shared_limits(alloc, limits)?;
+        let desks = desks_of(alloc, &cell, &shared, seats)?;
         let fresh = Fresh::at(cell.share()?, own);
         Ok((cell, fresh, desks))
     }
@@ -97,17 +98,35 @@ impl SharedCell {
     }
 }
 
-/// A desk for each of these seats, in their order. The seats are environments' seats at this cell.
+/// The limits, once for all desks at a thread. 110 OUT_OF_MEMORY if there is no memory for them.
+fn shared_limits(alloc: Global, limits: Limits) -> Result<Arc<Limits>, TiError>
+    ensures limits { IfOk result (λ l. arc_value l ≡ limits) }
+    ensures memory { IfErr result (λ e. e ≡ OutOfMemory) }
+{
+    match Arc::new(alloc, limits) {
+        Ok(limits) => Ok(limits),
+        Err(_) => Err(TiError::OutOfMemory),
+    }
+}
+
+/// A desk for each of these seats, in their order. The seats are environments' seats at this cell, under these limits.
 ///
-/// 110 OUT_OF_MEMORY if there is no memory for them, or if there are 2^63 references to the cell.
-fn desks_of(alloc: Global, cell: &SharedCell, seats: Vec<EnvSeat>) -> Result<Vec<Desk>, TiError>
-    requires { All (λ s. IsEnvSeat cell.now s) seats.items }
+/// 110 OUT_OF_MEMORY if there is no memory for them, or if there are 2^63 references to the cell or the limits.
+fn desks_of(
+    alloc: Global,
+    cell: &SharedCell,
+    limits: &Arc<Limits>,
+    seats: Vec<EnvSeat>,
+) -> Result<Vec<Desk>, TiError>
+    requires { All (λ s. IsEnvSeat cell.now (arc_value limits.now) s) seats.items }
     ensures desks { IfOk result (λ d. d.items ≡ map desk_at seats.items) }
     ensures memory { IfErr result (λ e. e ≡ OutOfMemory) }
 {
     let mut desks = Vec::with_capacity(alloc, seats.len())?;
     for seat in seats {
-        desks.push_reserved(Desk::at(cell.share()?, seat));
+        let cell = cell.share()?;
+        let limits = Arc::try_clone(limits)?;
+        desks.push_reserved(Desk::at(cell, seat, limits));
     }
     Ok(desks)
 }
@@ -125,6 +144,7 @@ impl Deref for SharedCell {
 }
 
 ghost use Rattle.std.specs.Prelude.{◌≡◌, ◌+◌, map, All, IfOk, IfErr, IfSome};
+ghost use Rattle.std.specs.Arc.{arc_value};
 ghost use Rattle.ti_types.specs.declared.error.TiError.TheVariants.{OutOfMemory};
 ghost use Rattle.ti_cell.specs.View.{subject_of, newcomer};
 ghost use Rattle.ti_handshake.specs.NewDesks.{IsEnvSeat, desk_at, new_desks};

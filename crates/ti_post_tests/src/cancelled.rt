@@ -112,7 +112,6 @@ fn suspend_in_vain<R: Wait + Clock + AllocGlobal>(
 
 /// Tests an environment with a window of one, at a thread that runs.
 fn ask_one<R: Wait + Clock + AllocGlobal>(rt: &R, limits: Limits) -> Result<(), Fail>
-    requires envs { limits.envs ≡ 2 }
 {
     let Some((fresh, one, _two)) = make(rt.alloc(), limits, THREAD) else {
         return Err("there is memory".into());
@@ -137,5 +136,3 @@ fn calls_are_given_up(rt: HostRuntime) -> Result<(), Fail> {
     };
     ask_one(&rt, limits)
 }
-
-ghost use Rattle.std.specs.Prelude.{◌≡◌};

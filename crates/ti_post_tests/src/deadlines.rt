@@ -48,7 +48,6 @@ fn wait_in_turn<R: Wait + Clock + AllocGlobal>(
 
 /// Tests an environment at a thread that runs.
 fn ask_one<R: Wait + Clock + AllocGlobal>(rt: &R, limits: Limits) -> Result<(), Fail>
-    requires envs { limits.envs ≡ 2 }
 {
     let Some((fresh, one, _two)) = make(rt.alloc(), limits, ThreadNo(0)) else {
         return Err("there is memory".into());
@@ -69,5 +68,3 @@ fn a_deadline_leaves_the_call_out(rt: HostRuntime) -> Result<(), Fail> {
     };
     ask_one(&rt, limits)
 }
-
-ghost use Rattle.std.specs.Prelude.{◌≡◌};

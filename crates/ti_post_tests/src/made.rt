@@ -15,8 +15,6 @@ pub(crate) fn expect(holds: bool, what: &'static str) -> Result<(), Fail> {
 
 /// A thread that has not started, and the desks of two environments there. `None` if memory runs out.
 pub(crate) fn make(alloc: Global, limits: Limits, thread: ThreadNo) -> Option<(Fresh, Desk, Desk)>
-    requires envs { limits.envs ≡ 2 }
-    ensures limits { IfSome result (λ m. (m.1.view.subject.limits ≡ limits) × (m.2.view.subject.limits ≡ limits)) }
 {
     let Ok((_cell, fresh, mut desks)) = SharedCell::make(alloc, limits, thread) else {
         return None;
@@ -28,8 +26,6 @@ pub(crate) fn make(alloc: Global, limits: Limits, thread: ThreadNo) -> Option<(F
 
 /// Adds a desk that has not been used, behind the others. It gives whether there was memory for it.
 pub(crate) fn add(env: &mut Env, desk: Desk) -> bool
-    requires limits { desk.view.subject.limits ≡ env.old.state.limits }
-    ensures limits { env.new.state.limits ≡ env.old.state.limits }
 {
     let Ok(free) = FreeDesk::new(desk) else {
         return false;
@@ -39,8 +35,6 @@ pub(crate) fn add(env: &mut Env, desk: Desk) -> bool
 
 /// The environment of a desk. `None` if memory runs out.
 pub(crate) fn environment(alloc: Global, limits: Limits, desk: Desk) -> Option<Env>
-    requires limits { desk.view.subject.limits ≡ limits }
-    ensures limits { IfSome result (λ e. e.state.limits ≡ limits) }
 {
     let mut env = Env::with_no_desks(alloc, desk.env(), limits);
     if add(&mut env, desk) { Some(env) } else { None }
@@ -73,5 +67,3 @@ pub(crate) fn post_count<R: Wait + AllocGlobal>(rt: &R, env: &mut Env) -> Result
         _ => Err("the count waits for the thread".into()),
     }
 }
-
-ghost use Rattle.std.specs.Prelude.{◌≡◌, IfSome};

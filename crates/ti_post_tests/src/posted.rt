@@ -40,8 +40,6 @@ fn is_in(answer: &Option<Answer>, method: MethodNo) -> bool {
 
 /// An environment with a desk at each of two threads. `None` if memory runs out.
 fn environment_at_both(alloc: Global, limits: Limits, one: Desk, two: Desk) -> Option<Env>
-    requires one { one.view.subject.limits ≡ limits }
-    requires two { two.view.subject.limits ≡ limits }
 {
     let mut env = environment(alloc, limits, one)?;
     if add(&mut env, two) { Some(env) } else { None }
@@ -135,7 +133,6 @@ fn ask_at_once<R: Wait + AllocGlobal>(rt: &R, env: &mut Env) -> Result<(), Fail>
 
 /// Two threads that have not started, and an environment at both. `None` if memory runs out.
 fn make_both(alloc: Global, limits: Limits) -> Option<(Fresh, Fresh, Env)>
-    requires envs { limits.envs ≡ 2 }
 {
     let (first, one, _desk) = make(alloc, limits, ThreadNo(0))?;
     let (second, two, _desk) = make(alloc, limits, ThreadNo(1))?;
@@ -157,7 +154,6 @@ fn spend_the_last<R: Wait + AllocGlobal>(rt: &R, env: &mut Env) -> Result<(), Fa
 
 /// An environment asks two threads, under limits of four calls. Each thread runs in a method.
 fn ask_both<R: Wait + AllocGlobal>(rt: &R, limits: Limits) -> Result<(), Fail>
-    requires envs { limits.envs ≡ 2 }
 {
     let Some((first, second, mut env)) = make_both(rt.alloc(), limits) else {
         return Err("there is memory".into());
@@ -179,5 +175,3 @@ fn an_agent_asks_two_threads_and_goes_on(rt: HostRuntime) -> Result<(), Fail> {
     };
     ask_both(&rt, limits)
 }
-
-ghost use Rattle.std.specs.Prelude.{◌≡◌};

@@ -45,7 +45,6 @@ fn fill_and_collect<R: Wait + AllocGlobal>(
 
 /// Tests an environment with a window of one, at a thread that runs.
 fn ask_one<R: Wait + AllocGlobal>(rt: &R, limits: Limits) -> Result<(), Fail>
-    requires envs { limits.envs ≡ 2 }
 {
     let Some((fresh, one, _two)) = make(rt.alloc(), limits, ThreadNo(0)) else {
         return Err("there is memory".into());
@@ -70,5 +69,3 @@ fn a_post_past_the_window_is_refused(rt: HostRuntime) -> Result<(), Fail> {
     };
     ask_one(&rt, limits)
 }
-
-ghost use Rattle.std.specs.Prelude.{◌≡◌};

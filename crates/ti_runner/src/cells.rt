@@ -61,9 +61,8 @@ fn take_desk(
     }
 }
 
-/// Adds an unused desk to an environment under its limits. The errors are those of `FreeDesk::new` and `Env::add_desk`.
+/// Adds an unused desk to an environment. The errors are those of `FreeDesk::new` and `Env::add_desk`.
 fn add_desk(environment: &mut Env, desk: Desk) -> Result<(), TiError>
-    requires limits { desk.view.subject.limits ≡ environment.old.state.limits }
     ensures added { OnOk result (cells_at environment.new.desks ≡ cells_at environment.old.desks ++ desk.cell ∷ []) }
     ensures limits { OnOk result (environment.new.state.limits ≡ environment.old.state.limits) }
 {

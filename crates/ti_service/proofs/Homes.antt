@@ -1,5 +1,5 @@
 -- An agent's desks stay at the threads of its service.
-use Rattle.std.proofs.Common.{◌≡◌, ◌<◌, Bool, ℕ, zero, suc, List, [], ◌∷◌, ◌++◌, length, refl, ap, sym, ◌∙◌, arith, subst, append-nil, append_assoc, Option, Some, None, Result, Ok, Err}
+use Rattle.std.proofs.Common.{◌≡◌, ◌==◌, ◌&&◌, ◌<◌, Bool, true, eq-eqb, ℕ, zero, suc, List, [], ◌∷◌, ◌++◌, length, refl, ap, sym, ◌∙◌, arith, subst, append-nil, append_assoc, Option, Some, None, Result, Ok, Err}
 use Rattle.std.specs.Prelude.{All, OnErr, OnOk, slice_get, slice_set}
 use Rattle.std.specs.List.{fold}
 use Rattle.std.proofs.lemmas.List.Sums.{fold-append}
@@ -9,9 +9,13 @@ use Rattle.std.proofs.lemmas.List.{map-append}
 use Rattle.std.proofs.lemmas.List.Elements.{All-pop, All-push, All-weaker}
 use Rattle.ti_types.specs.declared.limits.Limits.{Limits}
 use Rattle.ti_types.specs.declared.numbers.EnvNo.{EnvNo}
+use Rattle.ti_types.specs.declared.error.TiError.{TiError}
+use Rattle.ti_types.specs.declared.error.TiError.TheVariants.{IllegalArgument, InvalidEnvironment, OutOfMemory}
+use Rattle.ti_types.specs.Refusing.{or_else, unless}
 use Rattle.ti_env.specs.Env.{EnvValue}
 use Rattle.ti_handshake.specs.Desk.{DeskState}
-use Rattle.ti_agent.specs.Desks.{with_desk}
+use Rattle.ti_agent.specs.Desks.{are_same, desk_refusal, is_new, with_desk}
+use Rattle.ti_agent.proofs.SameLimits.{limits_same}
 use Rattle.ti_agent.specs.Env.{Environment}
 use Rattle.ti_agent.specs.FreeDesk.{FreeState}
 use Rattle.ti_roster.specs.declared.coming.Coming.{Coming}
@@ -147,8 +151,18 @@ pub last_ours : (service : Member) (env : Environment) (all rest : List FreeStat
 last_ours service env all rest f is o = All-pop (IsOwn service.view.seen service.view.limits env.env) all rest (Some f) is o.waiting
 
 -- it may be added
-pub last_limits : (service : Member) (env : Environment) (all rest : List FreeState) (f : FreeState) → all ≡ rest ++ f ∷ [] → AreOurs (agent_of service env all) → f.desk.view.subject.limits ≡ env.state.limits
+last_limits : (service : Member) (env : Environment) (all rest : List FreeState) (f : FreeState) → all ≡ rest ++ f ∷ [] → AreOurs (agent_of service env all) → f.desk.view.subject.limits ≡ env.state.limits
 last_limits service env all rest f is o = (last_ours service env all rest f is o).1.limits_are ∙ sym o.limits
+
+-- if it is not, its number is not new, or there is no memory
+pub why_not : (service : Member) (env : Environment) (all rest : List FreeState) (f : FreeState) (e : TiError) → all ≡ rest ++ f ∷ [] → AreOurs (agent_of service env all)
+    → Some e ≡ or_else (desk_refusal env f) (Some OutOfMemory) → Some e ≡ or_else (unless (is_new env f.desk.view.subject.thread) IllegalArgument) (Some OutOfMemory)
+why_not service env all rest f e is o told =
+    let number : f.desk.env.0 ≡ env.env.0 = ap (λ (x : EnvNo). x.0) (last_ours service env all rest f is o).1.env in
+    let its_own : (f.desk.env.0 == env.env.0) ≡ true = eq-eqb f.desk.env.0 env.env.0 number in
+    let alike : are_same f.desk.view.subject.limits env.state.limits ≡ true = limits_same f.desk.view.subject.limits env.state.limits (last_limits service env all rest f is o) in
+    let fits : (f.desk.env.0 == env.env.0 && are_same f.desk.view.subject.limits env.state.limits) ≡ true = (λ i. its_own i && alike i) in
+    told ∙ ap (λ (b : Bool). or_else (or_else (unless b InvalidEnvironment) (unless (is_new env f.desk.view.subject.thread) IllegalArgument)) (Some OutOfMemory)) fits
 
 -- it was added
 pub ours_added : (service : Member) (env new : Environment) (all rest : List FreeState) (f : FreeState) → all ≡ rest ++ f ∷ [] → new ≡ with_desk env f → AreOurs (agent_of service env all) → AreOurs (agent_of service new rest)

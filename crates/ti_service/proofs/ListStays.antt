@@ -10,9 +10,12 @@ use Rattle.ti_types.specs.declared.error.TiError.{TiError}
 use Rattle.ti_types.specs.declared.numbers.ThreadNo.{ThreadNo}
 use Rattle.ti_agent.specs.Env.{Environment}
 use Rattle.ti_agent.specs.Lists.{CollectsEach, IsCollected, IsPosted, IsPostedBy, PostsEach, WentEach}
+use Rattle.ti_agent.specs.ListTries.{IsTried, TriesEach}
 use Rattle.ti_agent.specs.Posts.{posting_refusal}
+use Rattle.ti_slot.specs.declared.asked.Asked.{Asked}
 use Rattle.ti_service.specs.Homes.{homes_of}
 use Rattle.ti_service.proofs.Homes.{StaysHome, homes_set, same_home, stays_same, stays_then}
+use Rattle.ti_service.proofs.Stays.{posts_stays}
 
 -- One desk was set that is at the same thread and cell as the one before it. In this form the desk before it need not be named
 abbrev pub cell_in : Option DeskState → Option TableId
@@ -84,3 +87,18 @@ each_collected old new (x ∷ xs) [] h = absurd h
 pub each_stays : {V : Type 0} (codes : V → List ℕ) (P : TiError → Type 0) (old new : Environment) (c : Call) (threads : List ThreadNo) (r : Result V TiError) → IfOk r (λ v. WentEach old new c threads (codes v)) → IfErr r (λ e. P e × (new ≡ old)) → StaysHome old new
 each_stays codes P old new c threads (Ok v) h same = stays_then old h.between new (each_posted old h.between c threads h.posted h.posts) (each_collected h.between new h.posted (codes v) h.collects)
 each_stays codes P old new c threads (Err e) h same = stays_same old new same.1
+
+-- one was tried
+one_tried : (old new : Environment) (c : Call) (t : ThreadNo) (x : Result Asked TiError) → IsTried old new c t x → StaysHome old new
+one_tried old new c t (Ok a) h = posts_stays old new t c a h.1
+one_tried old new c t (Err e) h = stays_same old new h.0
+
+each_tried : (old new : Environment) (c : Call) (threads : List ThreadNo) (xs : List (Result Asked TiError)) → TriesEach old new c threads xs → StaysHome old new
+each_tried old new c [] [] h = stays_same old new h
+each_tried old new c (t ∷ ts) (x ∷ xs) h = stays_then old h.0 new (one_tried old h.0 c t x h.1) (each_tried h.0 new c ts xs h.2)
+each_tried old new c [] (x ∷ xs) h = absurd h
+each_tried old new c (t ∷ ts) [] h = absurd h
+
+pub each_try_stays : {V : Type 0} (tried : V → List (Result Asked TiError)) (P : TiError → Type 0) (old new : Environment) (c : Call) (threads : List ThreadNo) (r : Result V TiError) → IfOk r (λ v. TriesEach old new c threads (tried v)) → IfErr r (λ e. P e × (new ≡ old)) → StaysHome old new
+each_try_stays tried P old new c threads (Ok v) h same = each_tried old new c threads (tried v) h
+each_try_stays tried P old new c threads (Err e) h same = stays_same old new same.1

@@ -3,6 +3,7 @@
 use crate::agent::Agent;
 use std::alloc::Global;
 use std::sync::{Mutex, Wait};
+use ti_slot::Asked;
 use ti_types::{StackInfo, ThreadNo, TiError};
 use ti_vmop::{Round, VmTurn};
 
@@ -42,6 +43,44 @@ impl Agent {
         ensures rest { IsRest self.old self.new }
     {
         self.env.resume_thread_list(rt, alloc, threads)
+    }
+
+    /// SuspendThreadList (JVM TI 11), but it never waits (this profile). It tries to post a suspension at each thread, in the
+    /// list's order, by one try at its cell. It gives for each what `try_post` gives:
+    ///
+    /// - the thread's answer, which is 14 or 15 if it refuses;
+    /// - a ticket, if the thread runs: `try_collect_once` has the answer later;
+    /// - an error, and then nothing changed at that thread: 10 INVALID_THREAD, 15 THREAD_NOT_ALIVE, 209 CALLS_SPENT, 110
+    ///   OUT_OF_MEMORY if `window` calls are out there, 215 BUSY if its cell is in use.
+    ///
+    /// The whole call is refused with 99 MUST_POSSESS_CAPABILITY, and then with 110 if there is no memory for the list. Then
+    /// nothing was tried.
+    pub fn try_suspend_thread_list(
+        &mut self,
+        alloc: Global,
+        threads: &[ThreadNo],
+    ) -> Result<Vec<Result<Asked, TiError>>, TiError>
+        ensures each { IfOk result (λ all. TriesEach self.old.env self.new.env call.Suspend threads.now all.items) }
+        ensures capable { OnOk result (has_all self.old.env.state.caps (needed_by call.Suspend) ≡ true) }
+        ensures refused { IfErr result (λ e. (e ≡ (if has_all self.old.env.state.caps (needed_by call.Suspend) then OutOfMemory else MustPossessCapability)) × (self.new.env ≡ self.old.env)) }
+        ensures rest { IsRest self.old self.new }
+    {
+        self.env.try_suspend_thread_list(alloc, threads)
+    }
+
+    /// ResumeThreadList (JVM TI 11), but it never waits (this profile). It is as `try_suspend_thread_list`. A thread's answer
+    /// is 13 or 15 if it refuses, and comes at once: a resumption gets no ticket.
+    pub fn try_resume_thread_list(
+        &mut self,
+        alloc: Global,
+        threads: &[ThreadNo],
+    ) -> Result<Vec<Result<Asked, TiError>>, TiError>
+        ensures each { IfOk result (λ all. TriesEach self.old.env self.new.env call.Resume threads.now all.items) }
+        ensures capable { OnOk result (has_all self.old.env.state.caps (needed_by call.Resume) ≡ true) }
+        ensures refused { IfErr result (λ e. (e ≡ (if has_all self.old.env.state.caps (needed_by call.Resume) then OutOfMemory else MustPossessCapability)) × (self.new.env ≡ self.old.env)) }
+        ensures rest { IsRest self.old self.new }
+    {
+        self.env.try_resume_thread_list(alloc, threads)
     }
 
     /// GetAllStackTraces (JVM TI 11): the state and frames of each thread that is alive, in the order of their desks.
@@ -119,5 +158,6 @@ ghost use Rattle.ti_types.specs.declared.call.Call.TheVariants as call;
 ghost use Rattle.ti_types.specs.declared.error.TiError.TheVariants.{OutOfMemory, MustPossessCapability};
 ghost use Rattle.ti_agent.specs.Env.{places_of};
 ghost use Rattle.ti_agent.specs.Lists.{WentEach};
+ghost use Rattle.ti_agent.specs.ListTries.{TriesEach};
 ghost use Rattle.ti_agent.specs.Traces.{each_once, refusal_of_all, refusal_of_list, refusal_of_counted, IsListRefused, IsTraced, TracesAlive};
 ghost use Rattle.ti_service.specs.Agent.{IsRest};

@@ -16,7 +16,6 @@ pub(crate) fn expect(holds: bool, what: &'static str) -> Result<(), Fail> {
 
 /// Adds a desk that has not been used, behind the others. It gives whether there was memory for it.
 pub(crate) fn add(env: &mut Env, desk: Desk) -> bool
-    requires limits { desk.view.subject.limits ≡ env.old.state.limits }
     ensures limits { env.new.state.limits ≡ env.old.state.limits }
     ensures added { result ≡ true → env.new.desks ≡ env.old.desks ++ desk ∷ [] }
 {
@@ -28,7 +27,6 @@ pub(crate) fn add(env: &mut Env, desk: Desk) -> bool
 
 /// The environment of a desk. `None` if memory runs out.
 pub(crate) fn environment(alloc: Global, limits: Limits, desk: Desk) -> Option<Env>
-    requires limits { desk.view.subject.limits ≡ limits }
     ensures limits { IfSome result (λ e. e.state.limits ≡ limits) }
     ensures desk { IfSome result (λ e. HasDeskAt desk.cell e) }
 {

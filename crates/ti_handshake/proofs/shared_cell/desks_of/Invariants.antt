@@ -1,5 +1,6 @@
 use Rattle.std.proofs.Common.{◌≡◌, ◌+◌, ◌≤◌, ◌++◌, length, map}
 use Rattle.std.specs.Prelude.{All, vec_capacity}
+use Rattle.std.specs.Arc.{arc_value}
 use Rattle.std.specs.Vec.Iter.{into_iter_items}
 use Rattle.ti_cell.specs.Seats.{Sitting}
 use Rattle.ti_handshake.specs.NewDesks.{IsEnvSeat, desk_at}
@@ -9,4 +10,4 @@ abbrev pub invariant-loop-seat : goal.invariant-loop-seat
 invariant-loop-seat l =
     (l.desks.items ++ map desk_at (into_iter_items l.seat-iterator) ≡ map desk_at l.fn.seats.items)
     × (length l.desks.items + length (into_iter_items l.seat-iterator) ≤ vec_capacity l.desks)
-    × All (λ (s : Sitting). IsEnvSeat l.fn.cell s) (into_iter_items l.seat-iterator)
+    × All (λ (s : Sitting). IsEnvSeat l.fn.cell (arc_value l.fn.limits) s) (into_iter_items l.seat-iterator)

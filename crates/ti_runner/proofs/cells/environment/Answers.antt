@@ -21,9 +21,6 @@ take_desk-desk-requires c =
           (slice_get_read c.args.cells.now (length c.args.cells.now) at.thread c.index-cells-k.result refl (omega (arith, c.requires.count, c.loop-thread-test.true)) (search rules));
     }
 
-pub add_desk-requires : goal.add_desk-requires
-add_desk-requires c = record { limits = ap (λ (d : DeskState). d.view.subject.limits) c.take_desk-desk.ensures.desk ∙ sym c.loop-thread.invariant.0 }
-
 pub loop-thread-preserved : goal.loop-thread-preserved
 loop-thread-preserved c =
     let at = c.loop-thread in

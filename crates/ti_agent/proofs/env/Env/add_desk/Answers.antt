@@ -3,8 +3,9 @@ use Rattle.ti_types.specs.declared.numbers.EnvNo.{EnvNo}
 use Rattle.ti_env.specs.Env.{EnvValue}
 use Rattle.ti_handshake.specs.Desk.{DeskState}
 use Rattle.ti_agent.specs.Env.{Environment, IsWhole}
-use Rattle.ti_agent.specs.Desks.{is_new}
+use Rattle.ti_agent.specs.Desks.{are_same, is_new}
 use Rattle.ti_agent.specs.FreeDesk.{FreeState}
+use Rattle.ti_agent.proofs.SameLimits.{same_limits}
 use Rattle.ti_agent.proofs.Whole.{whole_more}
 use Rattle.ti_agent.proofs.env.Env.add_desk.Goals as goal
 
@@ -15,7 +16,8 @@ invariant_of-self-2 c =
     let same : f ≡ c.args.free = c.free.view_is in
     let number : f.desk.env.0 ≡ s.env.0 = ap (λ (x : FreeState). x.desk.env.0) same ∙ (sym (ap (λ (x : EnvNo). x.0) c.env.ensures) ∙ c.if-env-self.false) in
     let env : f.desk.env ≡ s.env = λ j. record { 0 = number j } in
-    let limits : f.desk.view.subject.limits ≡ s.state.limits = ap (λ (x : FreeState). x.desk.view.subject.limits) same ∙ (c.requires.limits ∙ ap (λ (x : Environment). x.state.limits) (sym c.self.view_is)) in
+    let alike : are_same c.limits.result c.limits-else-env-self.result ≡ true = grind (arith, c.are_same.ensures, c.if-not-are_same.false) in
+    let limits : f.desk.view.subject.limits ≡ s.state.limits = ap (λ (x : FreeState). x.desk.view.subject.limits) same ∙ (sym c.limits.ensures ∙ (same_limits c.limits.result c.limits-else-env-self.result alike ∙ (c.limits-else-env-self.ensures ∙ ap (λ (x : Environment). x.state.limits) (sym c.self.view_is)))) in
     let thread : c.thread.result ≡ f.desk.view.subject.thread = c.thread.ensures ∙ ap (λ (x : FreeState). x.desk.view.subject.thread) (sym same) in
     let told : c.is_new.result ≡ is_new s f.desk.view.subject.thread = c.is_new.ensures ∙ (ap (λ (x : Environment). is_new x c.thread.result) (sym c.self.view_is) ∙ ap (is_new s) thread) in
     let new : is_new s f.desk.view.subject.thread ≡ true = sym told ∙ grind (arith, c.if-not-is_new.false) in

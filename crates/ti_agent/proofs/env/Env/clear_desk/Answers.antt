@@ -1,12 +1,9 @@
-use Rattle.std.proofs.Common.{◌≡◌, ◌<◌, length, ap, sym, ◌∙◌, subst, arith, length-set}
+use Rattle.std.proofs.Common.{◌<◌, length, ap, subst, arith, length-set}
 use Rattle.std.proofs.lemmas.Bool.Decides.{nat_tests}
-use Rattle.ti_types.specs.declared.limits.Limits.{Limits}
 use Rattle.ti_types.specs.declared.numbers.ThreadNo.{ThreadNo}
-use Rattle.ti_cell.specs.declared.view.Subject.{Subject}
-use Rattle.ti_handshake.specs.Desk.{DeskState}
 use Rattle.ti_agent.specs.Desks.{IsCleared}
 use Rattle.ti_agent.specs.Env.{Environment}
-use Rattle.ti_agent.proofs.Clearing.{cleared, it_leaves, still_there, whole_cancelled}
+use Rattle.ti_agent.proofs.Clearing.{cleared, still_there, whole_cancelled}
 use Rattle.ti_agent.proofs.Whole.{found_in, desk_there}
 use Rattle.ti_agent.proofs.env.Env.clear_desk.Goals as goal
 
@@ -30,20 +27,6 @@ unreachable-requires g c =
     let still = still_there s t i c.index_mut.result.now c.cancel_all.new.self is at c.in_ok-cancel_all.ensures.hold in
     let long = length-set s.desks i c.cancel_all.new.self in
     omega (arith, c.in_default.ensures.nobody, still, long, within)
-
-pub clear_word-requires : goal.clear_word-requires
-clear_word-requires g c =
-    let s : Environment = record { env = c.self.inside.env; state = c.self.inside.state; desks = c.self.inside.desks.items } in
-    let t = c.args.thread in
-    let i = c.place_of-at.result.0 in
-    let p = c.index_mut.result.now in
-    let is = ap (λ (x : ThreadNo). x.0) (found_in c.args.self.now s t c.place_of-at.result c.self.view_is c.place_of-at.ensures) in
-    let within : i < length s.desks = grind (arith, nat_tests, c.if-at-len.false, c.len.ensures) in
-    let at = desk_there s i p within c.index_mut.ensures.value in
-    let hold = c.in_ok-cancel_all.ensures.hold in
-    let it = it_leaves s t i p c.cancel_all.new.self _ c.in-Some.free is at hold c.in-Some.ensures.taken in
-    let subject : c.in-Some.free.desk.view.subject ≡ p.view.subject = ap (λ (x : DeskState). x.view.subject) (sym it) ∙ hold.waits.goes.subject in
-    ap (λ (l : Limits). l.calls) c.limits-calls.ensures ∙ sym (ap (λ (x : Subject). x.limits.calls) subject ∙ ap (λ (l : Limits). l.calls) (c.self.invariant.desks i p at).about)
 
 pub returns-clause-cleared : goal.returns-clause-cleared
 returns-clause-cleared g c =

@@ -1,4 +1,4 @@
-use Rattle.std.proofs.Common.{◌≡◌, ◌++◌, ◌∷◌, [], List, not, true, false, ap, sym, ◌∙◌, arith}
+use Rattle.std.proofs.Common.{◌≡◌, ◌++◌, ◌∷◌, [], List, true, false, ap, sym, ◌∙◌}
 use Rattle.ti_types.specs.declared.event.Ticket.{Ticket}
 use Rattle.ti_slot.specs.Tickets.{has}
 use Rattle.ti_handshake.specs.Cancelled.{Given}

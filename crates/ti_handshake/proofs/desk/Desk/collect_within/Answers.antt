@@ -1,8 +1,7 @@
-use Rattle.std.proofs.Common.{◌≡◌, [], List, is_some, if◌then◌else◌, sym, ◌∙◌, ap, subst}
+use Rattle.std.proofs.Common.{[], List, is_some, if◌then◌else◌, subst}
 use Rattle.ti_types.specs.declared.event.Ticket.{Ticket}
 use Rattle.ti_slot.specs.Tickets.{without_ticket}
-use Rattle.ti_cell.specs.declared.view.View.{View}
-use Rattle.ti_handshake.specs.Call.{Waits, WaitsWith}
+use Rattle.ti_handshake.specs.Call.{WaitsWith}
 use Rattle.ti_handshake.proofs.Holding.{waits_with}
 use Rattle.ti_handshake.proofs.desk.Desk.collect_within.Goals as goal
 

@@ -9,7 +9,7 @@ use Rattle.ti_handshake.proofs.desk.Desk.post.Goals as goal
 
 -- the slot that the desk took
 taken : (g : Over) (c : After-slot-slot g) → Took c.args.self.now c.self.inside.env c.in-Some.seat c.hold-hold.result c.slot-slot.result.now
-taken g c = took _ _ _ _ _ _ _ c.hold-hold.result _ c.self.invariant c.self.view_is c.in-Some.is c.take.ensures.value c.hold-hold.ensures.view c.hold-hold.ensures.taken c.slot-slot.ensures.value
+taken g c = took _ _ _ _ _ _ _ _ c.hold-hold.result _ c.self.invariant c.self.view_is c.in-Some.is c.take.ensures.value c.hold-hold.ensures.view c.hold-hold.ensures.taken c.slot-slot.ensures.value
 
 pub ask-asked-requires-clause-calls : goal.ask-asked-requires-clause-calls
 ask-asked-requires-clause-calls g c =
@@ -37,7 +37,7 @@ returns-clause-out g c =
     let hold = asks _ _ _ _ _ _ _ _ _ k c.ask-asked.ensures.asked c.store.ensures.view c.store.ensures.legal c.store.ensures.mine in
     let told_here = told _ _ _ _ _ _ _ _ _ k c.ask-asked.ensures.asked (ticket_fresh c.slot-slot.result.now c.self.inside.env c.tickets.ensures.known) c.store.ensures.view in
     let now : DeskState = record { cell = c.self.inside.cell; env = c.self.inside.env; view = c.store.result.view; cancelled = c.self.inside.cancelled.tickets } in
-    ticket_out c.args.self.now.view c.store.result.view c.args.self.now.env c.args.call c.ask-asked.result c.self.inside.cancelled.tickets now (given_there _ _ _ _ _ c.self.invariant c.self.view_is) hold.waits.posted told_here refl refl
+    ticket_out c.args.self.now.view c.store.result.view c.args.self.now.env c.args.call c.ask-asked.result c.self.inside.cancelled.tickets now (given_there _ _ _ _ _ _ c.self.invariant c.self.view_is) hold.waits.posted told_here refl refl
 
 pub returns-clause-told : goal.returns-clause-told
 returns-clause-told g c =

@@ -20,7 +20,7 @@ adds max_count x = if_none (why max_count x) (entry.Read x.env max_count ∷ [])
 
 -- the slot that the desk took
 taken : (g : Over) (c : After-slot g) → Took c.args.self.now c.self.inside.env c.in-Some.seat c.hold-hold.result c.slot.result.now
-taken g c = took _ _ _ _ _ _ _ c.hold-hold.result _ c.self.invariant c.self.view_is c.in-Some.is c.take.ensures.value c.hold-hold.ensures.view c.hold-hold.ensures.taken c.slot.ensures.value
+taken g c = took _ _ _ _ _ _ _ _ c.hold-hold.result _ c.self.invariant c.self.view_is c.in-Some.is c.take.ensures.value c.hold-hold.ensures.view c.hold-hold.ensures.taken c.slot.ensures.value
 
 pub read-answer-requires-clause-calls : goal.read-answer-requires-clause-calls
 read-answer-requires-clause-calls g c =

@@ -1,4 +1,4 @@
-use Rattle.std.proofs.Common.{◌≡◌, sym, ◌∙◌, [], false, Bool, Option, Some, None, is_some, MatchOption}
+use Rattle.std.proofs.Common.{◌≡◌, sym, ◌∙◌, [], false, Option, Some, None, is_some, MatchOption}
 use Rattle.ti_handshake.specs.Call.{Waits}
 use Rattle.ti_handshake.proofs.Holding.{waits_then, waits_looked}
 use Rattle.ti_handshake.proofs.desk.Desk.stop_until.Goals as goal

@@ -11,7 +11,7 @@ use Rattle.ti_handshake.proofs.desk.Desk.try_collect.Goals as goal
 
 -- the slot that the desk took
 taken : (g : Over) (c : After-slot-slot g) → Took c.args.self.now c.self.inside.env c.in-Some.seat c.hold-hold.result c.slot-slot.result.now
-taken g c = took _ _ _ _ _ _ _ c.hold-hold.result _ c.self.invariant c.self.view_is c.in-Some.is c.take.ensures.value c.hold-hold.ensures.view c.hold-hold.ensures.taken c.slot-slot.ensures.value
+taken g c = took _ _ _ _ _ _ _ _ c.hold-hold.result _ c.self.invariant c.self.view_is c.in-Some.is c.take.ensures.value c.hold-hold.ensures.view c.hold-hold.ensures.taken c.slot-slot.ensures.value
 
 pub store-requires-clause-adds : goal.store-requires-clause-adds
 store-requires-clause-adds g c =
@@ -50,6 +50,6 @@ invariant_of-self g c =
     let k = taken g (goal.at.invariant_of-self g c).After-slot-slot in
     let hold = collects _ _ _ _ c.slot-slot.result.now c.collect_own-answer.new.slot _ _ _ k (own_answered i.env c.args.ticket _ _ _ c.collect_own-answer.ensures.answer) c.collect_own-answer.ensures.thread c.store.ensures.view c.store.ensures.legal c.store.ensures.mine in
     let none : has c.args.ticket i.cancelled.tickets ≡ false = sym c.has.ensures ∙ c.if-has.false in
-    let given = still_given i.cancelled.tickets c.args.self.now.view.posted c.args.ticket (is_some c.collect_own-answer.result) (given_there i.cell i.env i.seat i.cancelled.tickets c.args.self.now c.self.invariant c.self.view_is) none in
-    seat_again i.cell i.env i.seat i.cancelled.tickets i.cancelled.tickets c.args.self.now c.store.result c.self.invariant c.self.view_is
+    let given = still_given i.cancelled.tickets c.args.self.now.view.posted c.args.ticket (is_some c.collect_own-answer.result) (given_there i.cell i.env _ i.seat i.cancelled.tickets c.args.self.now c.self.invariant c.self.view_is) none in
+    seat_again i.cell i.env _ i.seat i.cancelled.tickets i.cancelled.tickets c.args.self.now c.store.result c.self.invariant c.self.view_is
     (c.store.ensures.cell ∙ c.hold-hold.ensures.cell ∙ c.deref.ensures) hold.waits.goes.number hold.waits.goes.subject (subst (λ (l : List Ticket). AreGivenUp i.cancelled.tickets l) (sym hold.waits.posted) given)

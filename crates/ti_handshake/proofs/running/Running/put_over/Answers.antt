@@ -1,4 +1,4 @@
-use Rattle.std.proofs.Common.{◌≡◌, ◌<◌, ◌≤◌, ◌+◌, ◌-◌, subst, sym, ◌∙◌, Some, None, arith, length}
+use Rattle.std.proofs.Common.{◌≡◌, ◌<◌, ◌≤◌, ◌+◌, ◌-◌, subst, sym, Some, None, arith, length}
 use Rattle.ti_types.specs.declared.error.TiError.TheVariants.{Overflow, OwnSpent}
 use Rattle.ti_frames.specs.Changes.{steps_keeping}
 use Rattle.ti_handshake.specs.Thread.{Runner, frames_refusal, logged}
