@@ -145,8 +145,7 @@ fn watch<R: Wait>(rt: &R, env: Env) -> bool {
 fn inspected<R: Threads + Wait + Sync + AllocGlobal>(
     rt: &R,
     limits: Limits,
-) -> Option<(Option<u32>, Result<(), u32>, bool)>
-{
+) -> Option<(Option<u32>, Result<(), u32>, bool)> {
     let (_cell, fresh, one, two) = make(rt.alloc(), limits, ThreadNo(0))?;
     let first = environment(rt.alloc(), limits, one)?;
     let second = environment(rt.alloc(), limits, two)?;

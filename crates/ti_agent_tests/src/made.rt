@@ -34,8 +34,7 @@ pub(crate) fn make(
 }
 
 /// Adds a desk that has not been used, behind the others. It gives whether there was memory for it.
-fn add(env: &mut Env, desk: Desk) -> bool
-{
+fn add(env: &mut Env, desk: Desk) -> bool {
     let Ok(free) = FreeDesk::new(desk) else {
         return false;
     };
@@ -43,8 +42,7 @@ fn add(env: &mut Env, desk: Desk) -> bool
 }
 
 /// The environment of a desk. `None` if memory runs out.
-pub(crate) fn environment(alloc: Global, limits: Limits, desk: Desk) -> Option<Env>
-{
+pub(crate) fn environment(alloc: Global, limits: Limits, desk: Desk) -> Option<Env> {
     let mut env = Env::with_no_desks(alloc, desk.env(), limits);
     if add(&mut env, desk) { Some(env) } else { None }
 }
@@ -55,8 +53,7 @@ pub(crate) fn environment_at_both(
     limits: Limits,
     one: Desk,
     two: Desk,
-) -> Option<Env>
-{
+) -> Option<Env> {
     let mut env = environment(alloc, limits, one)?;
     if add(&mut env, two) { Some(env) } else { None }
 }

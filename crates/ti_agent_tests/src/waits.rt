@@ -85,8 +85,7 @@ fn run_environment<R: Wait + Clock + CpuClock>(
 fn waited<R: Threads + Wait + Sync + Clock + CpuClock + AllocGlobal>(
     rt: &R,
     limits: Limits,
-) -> Option<(Option<Duration>, Option<Duration>)>
-{
+) -> Option<(Option<Duration>, Option<Duration>)> {
     let (_cell, fresh, one, _two) = make(rt.alloc(), limits, ThreadNo(0))?;
     let env = environment(rt.alloc(), limits, one)?;
     let Ok(running) = fresh.try_start(rt) else {

@@ -111,8 +111,7 @@ fn suspend_in_vain<R: Wait + Clock + AllocGlobal>(
 }
 
 /// Tests an environment with a window of one, at a thread that runs.
-fn ask_one<R: Wait + Clock + AllocGlobal>(rt: &R, limits: Limits) -> Result<(), Fail>
-{
+fn ask_one<R: Wait + Clock + AllocGlobal>(rt: &R, limits: Limits) -> Result<(), Fail> {
     let Some((fresh, one, _two)) = make(rt.alloc(), limits, THREAD) else {
         return Err("there is memory".into());
     };

@@ -47,8 +47,7 @@ fn wait_in_turn<R: Wait + Clock + AllocGlobal>(
 }
 
 /// Tests an environment at a thread that runs.
-fn ask_one<R: Wait + Clock + AllocGlobal>(rt: &R, limits: Limits) -> Result<(), Fail>
-{
+fn ask_one<R: Wait + Clock + AllocGlobal>(rt: &R, limits: Limits) -> Result<(), Fail> {
     let Some((fresh, one, _two)) = make(rt.alloc(), limits, ThreadNo(0)) else {
         return Err("there is memory".into());
     };

@@ -14,8 +14,7 @@ pub(crate) fn expect(holds: bool, what: &'static str) -> Result<(), Fail> {
 }
 
 /// A thread that has not started, and the desks of two environments there. `None` if memory runs out.
-pub(crate) fn make(alloc: Global, limits: Limits, thread: ThreadNo) -> Option<(Fresh, Desk, Desk)>
-{
+pub(crate) fn make(alloc: Global, limits: Limits, thread: ThreadNo) -> Option<(Fresh, Desk, Desk)> {
     let Ok((_cell, fresh, mut desks)) = SharedCell::make(alloc, limits, thread) else {
         return None;
     };
@@ -25,8 +24,7 @@ pub(crate) fn make(alloc: Global, limits: Limits, thread: ThreadNo) -> Option<(F
 }
 
 /// Adds a desk that has not been used, behind the others. It gives whether there was memory for it.
-pub(crate) fn add(env: &mut Env, desk: Desk) -> bool
-{
+pub(crate) fn add(env: &mut Env, desk: Desk) -> bool {
     let Ok(free) = FreeDesk::new(desk) else {
         return false;
     };
@@ -34,8 +32,7 @@ pub(crate) fn add(env: &mut Env, desk: Desk) -> bool
 }
 
 /// The environment of a desk. `None` if memory runs out.
-pub(crate) fn environment(alloc: Global, limits: Limits, desk: Desk) -> Option<Env>
-{
+pub(crate) fn environment(alloc: Global, limits: Limits, desk: Desk) -> Option<Env> {
     let mut env = Env::with_no_desks(alloc, desk.env(), limits);
     if add(&mut env, desk) { Some(env) } else { None }
 }

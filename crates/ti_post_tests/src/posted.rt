@@ -39,8 +39,7 @@ fn is_in(answer: &Option<Answer>, method: MethodNo) -> bool {
 }
 
 /// An environment with a desk at each of two threads. `None` if memory runs out.
-fn environment_at_both(alloc: Global, limits: Limits, one: Desk, two: Desk) -> Option<Env>
-{
+fn environment_at_both(alloc: Global, limits: Limits, one: Desk, two: Desk) -> Option<Env> {
     let mut env = environment(alloc, limits, one)?;
     if add(&mut env, two) { Some(env) } else { None }
 }
@@ -132,8 +131,7 @@ fn ask_at_once<R: Wait + AllocGlobal>(rt: &R, env: &mut Env) -> Result<(), Fail>
 }
 
 /// Two threads that have not started, and an environment at both. `None` if memory runs out.
-fn make_both(alloc: Global, limits: Limits) -> Option<(Fresh, Fresh, Env)>
-{
+fn make_both(alloc: Global, limits: Limits) -> Option<(Fresh, Fresh, Env)> {
     let (first, one, _desk) = make(alloc, limits, ThreadNo(0))?;
     let (second, two, _desk) = make(alloc, limits, ThreadNo(1))?;
     let env = environment_at_both(alloc, limits, one, two)?;
@@ -153,8 +151,7 @@ fn spend_the_last<R: Wait + AllocGlobal>(rt: &R, env: &mut Env) -> Result<(), Fa
 }
 
 /// An environment asks two threads, under limits of four calls. Each thread runs in a method.
-fn ask_both<R: Wait + AllocGlobal>(rt: &R, limits: Limits) -> Result<(), Fail>
-{
+fn ask_both<R: Wait + AllocGlobal>(rt: &R, limits: Limits) -> Result<(), Fail> {
     let Some((first, second, mut env)) = make_both(rt.alloc(), limits) else {
         return Err("there is memory".into());
     };

@@ -44,8 +44,7 @@ fn fill_and_collect<R: Wait + AllocGlobal>(
 }
 
 /// Tests an environment with a window of one, at a thread that runs.
-fn ask_one<R: Wait + AllocGlobal>(rt: &R, limits: Limits) -> Result<(), Fail>
-{
+fn ask_one<R: Wait + AllocGlobal>(rt: &R, limits: Limits) -> Result<(), Fail> {
     let Some((fresh, one, _two)) = make(rt.alloc(), limits, ThreadNo(0)) else {
         return Err("there is memory".into());
     };

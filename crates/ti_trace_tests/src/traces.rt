@@ -57,8 +57,7 @@ fn trace_one_twice<R: Wait + AllocGlobal>(rt: &R, env: &mut Env) -> Result<(), F
 }
 
 /// An environment with a desk at each of two threads. `None` if memory runs out.
-fn environment_at_both(alloc: Global, limits: Limits, one: Desk, two: Desk) -> Option<Env>
-{
+fn environment_at_both(alloc: Global, limits: Limits, one: Desk, two: Desk) -> Option<Env> {
     let mut env = environment(alloc, limits, one)?;
     if add(&mut env, two) { Some(env) } else { None }
 }
