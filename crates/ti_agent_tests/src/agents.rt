@@ -145,7 +145,9 @@ fn watch<R: Wait>(rt: &R, env: Env) -> bool {
 fn inspected<R: Threads + Wait + Sync + AllocGlobal>(
     rt: &R,
     limits: Limits,
-) -> Option<(Option<u32>, Result<(), u32>, bool)> {
+) -> Option<(Option<u32>, Result<(), u32>, bool)>
+    requires envs { limits.envs ≡ 2 }
+{
     let (_cell, fresh, one, two) = make(rt.alloc(), limits, ThreadNo(0))?;
     let first = environment(rt.alloc(), limits, one)?;
     let second = environment(rt.alloc(), limits, two)?;
@@ -183,3 +185,5 @@ fn an_environment_inspects_a_running_thread(rt: HostRuntime) -> Result<(), Fail>
     assert!(rt; states);
     Ok(())
 }
+
+ghost use Rattle.std.specs.Prelude.{◌≡◌};

@@ -23,6 +23,7 @@ pub(crate) fn make(
     limits: Limits,
     thread: ThreadNo,
 ) -> Option<(SharedCell, Fresh, Desk, Desk)>
+    requires envs { limits.envs ≡ 2 }
     ensures cell { IfSome result (λ m. m.3.cell ≡ m.0) }
 {
     let Ok((cell, fresh, mut desks)) = SharedCell::make(alloc, limits, thread) else {

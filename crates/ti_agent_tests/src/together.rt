@@ -254,7 +254,9 @@ fn trace_together<R: Threads + Wait + Sync + AllocGlobal>(
 }
 
 /// Two threads that have not started, an environment at both, and another one's seat at the first. `None` if memory runs out.
-fn make_both(alloc: Global, limits: Limits) -> Option<(Fresh, Fresh, Env, Watch)> {
+fn make_both(alloc: Global, limits: Limits) -> Option<(Fresh, Fresh, Env, Watch)>
+    requires envs { limits.envs ≡ 2 }
+{
     let (cell, first, one, another) = make(alloc, limits, ThreadNo(0))?;
     let (_cell, second, two, _desk) = make(alloc, limits, ThreadNo(1))?;
     let env = environment_at_both(alloc, limits, one, two)?;
@@ -274,7 +276,9 @@ fn start_both<R: Wait>(rt: &R, watch: Watch, first: Fresh, second: Fresh) -> Opt
 }
 
 /// An environment suspends, resumes and traces two threads. Another environment has a seat at the first.
-fn in_turn<R: Threads + Wait + Sync + AllocGlobal>(rt: &R, limits: Limits) -> Result<(), Fail> {
+fn in_turn<R: Threads + Wait + Sync + AllocGlobal>(rt: &R, limits: Limits) -> Result<(), Fail>
+    requires envs { limits.envs ≡ 2 }
+{
     let Some((first, second, mut env, watch)) = make_both(rt.alloc(), limits) else {
         return Err("there is memory".into());
     };

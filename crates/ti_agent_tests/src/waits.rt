@@ -85,7 +85,9 @@ fn run_environment<R: Wait + Clock + CpuClock>(
 fn waited<R: Threads + Wait + Sync + Clock + CpuClock + AllocGlobal>(
     rt: &R,
     limits: Limits,
-) -> Option<(Option<Duration>, Option<Duration>)> {
+) -> Option<(Option<Duration>, Option<Duration>)>
+    requires envs { limits.envs ≡ 2 }
+{
     let (_cell, fresh, one, _two) = make(rt.alloc(), limits, ThreadNo(0))?;
     let env = environment(rt.alloc(), limits, one)?;
     let Ok(running) = fresh.try_start(rt) else {
@@ -120,3 +122,5 @@ fn who_waits_sleeps(rt: HostRuntime) -> Result<(), Fail> {
     assert!(rt; asking < Duration::from_millis(MOST));
     Ok(())
 }
+
+ghost use Rattle.std.specs.Prelude.{◌≡◌};
