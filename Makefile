@@ -1,8 +1,9 @@
-# `make run` builds the program and runs it on a first example. `make test` is the whole gate, with the C programs of `c/tests`.
+# `make run` builds the program and runs it on a first example. `make test` is the whole gate: with `rt ci` it runs the tests of
+# `tests/`, all cases, the C programs of `c/tests` and the snippets of the pages (`ci/gate.py`).
 # `make examples`, `make cases`, `make bench` and `make refused` run the program that `make run` has built: on the examples,
 # on all cases, on large documents (and programs that hold cells and run threads), and with each allocation, each start of a
-# thread, each read and each write refused in turn (and the tests of a core so). `make stress` runs it on live documents that
-# are made up by chance, and lets 10,000 threads come to a service and go. `make edits` tries the edits that the gate leaves out.
+# thread, each read and each write refused in turn (and the tests of a core so). `make stress` runs it on random live documents,
+# and lets 10,000 threads come to a service and go. `make edits` tries the edits that the gate leaves out.
 # `make lib` builds the library for C into `dist/`. `make capi` tests it: by C programs, under sanitizers and valgrind, and by the
 # bindings for Rust and Python. `make lua` builds the Lua host of `examples/lua` over it, and tests that.
 # `make jvm` carries walks out on a Java VM and compares its answers with the program's lines. `make try` runs the program on all

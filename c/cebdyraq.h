@@ -76,6 +76,8 @@ enum {
     CQ_STILL_RUNNING = 213,           /* a thread of the trace has not come to its next poll: call again later */
     CQ_TIMED_OUT = 214,               /* cebdyraq_wait.h alone: the time is over */
     CQ_BUSY = 215,                    /* another thread uses it at this moment: call again */
+    CQ_FULL = 216,                    /* a bound other than memory leaves no place for it: the window, `envs`, or a count of 32 or
+                                         64 bits that no process reaches */
     CQ_HELD = 301,                    /* the thread is held at its poll, and returns by cq_back */
     CQ_WAITING = 302,                 /* the call waits for the thread: collect its answer later */
     CQ_NONE = 303,                    /* there is no event to be told, or no trace */
@@ -152,7 +154,7 @@ typedef struct { uint32_t thread; uint32_t state; uint64_t frame_count; } cq_sta
 uint32_t cq_make(uint32_t depth, uint32_t envs, uint32_t window, cq_service *service);
 
 /* One more handle of the same service, for another thread of the operating system. `other` is empty.
- * CQ_MISUSED, CQ_OUT_OF_MEMORY. */
+ * CQ_MISUSED, CQ_OUT_OF_MEMORY, CQ_FULL. */
 uint32_t cq_share(cq_service *service, cq_service *other);
 
 /* Frees a handle of the service. CQ_MISUSED. */
@@ -160,11 +162,11 @@ uint32_t cq_free(cq_service *service);
 
 /* Attaches a thread, which has not started. It has the next number: 0, 1, 2 and so on, and no number is used again. Its name
  * is UTF-8, `length` bytes. The service only keeps the priority, 1 to 10 in Java. `thread` is empty.
- * CQ_MISUSED, CQ_ILLEGAL_ARGUMENT if the name is not UTF-8, CQ_OUT_OF_MEMORY, CQ_BUSY. */
+ * CQ_MISUSED, CQ_ILLEGAL_ARGUMENT if the name is not UTF-8, CQ_OUT_OF_MEMORY, CQ_FULL, CQ_BUSY. */
 uint32_t cq_attach_thread(cq_service *service, const uint8_t *name, size_t length, int32_t priority, cq_thread *thread);
 
 /* Attaches an environment. It has no capability, the word 0, and has met no thread yet. `env` is empty.
- * CQ_MISUSED, CQ_OUT_OF_MEMORY also if there are as many as the service allows, CQ_BUSY. */
+ * CQ_MISUSED, CQ_OUT_OF_MEMORY, CQ_FULL if there are as many as the service allows, CQ_BUSY. */
 uint32_t cq_attach_environment(cq_service *service, cq_env *env);
 
 /* ------------------------------------------------------------------------------------------------------------------
@@ -216,7 +218,7 @@ uint32_t cq_back(cq_thread *thread);
 uint32_t cq_end(cq_thread *thread);
 
 /* Gives a thread back that has ended or never started. Its handle is empty then. Its memory is freed when each environment
- * has let go of it. CQ_MISUSED also if the thread is alive, CQ_OUT_OF_MEMORY, CQ_BUSY. */
+ * has let go of it. CQ_MISUSED also if the thread is alive, CQ_FULL, CQ_BUSY. */
 uint32_t cq_detach_thread(cq_thread *thread);
 
 /* ------------------------------------------------------------------------------------------------------------------
@@ -224,8 +226,8 @@ uint32_t cq_detach_thread(cq_thread *thread);
  */
 
 /* Meets the threads that were attached since the environment last did. Its calls reach these from now on.
- * CQ_MISUSED, CQ_ILLEGAL_ARGUMENT if the list of threads is not in order, which it always is, CQ_OUT_OF_MEMORY, CQ_BUSY. No
- * thread is lost: the next meeting has those that are missing. */
+ * CQ_MISUSED, CQ_ILLEGAL_ARGUMENT if the list of threads is not in order, which it always is, CQ_OUT_OF_MEMORY, CQ_FULL if it
+ * has met 65,536 threads that it has not let go of, CQ_BUSY. No thread is lost: the next meeting has those that are missing. */
 uint32_t cq_meet(cq_env *env);
 
 /* Whether threads or environments have come or gone, or another environment has met threads that came, since the environment
@@ -248,7 +250,7 @@ uint32_t cq_get_thread_info(cq_env *env, uint32_t thread, cq_thread_info *info, 
 
 /* Calls at a thread. CQ_OK: the answer is there. CQ_WAITING: the thread runs, and `answer->ticket` is the call's ticket, for
  * cq_collect. Each may be refused, with CQ_MISUSED, CQ_MUST_POSSESS_CAPABILITY, CQ_INVALID_THREAD or CQ_THREAD_NOT_ALIVE,
- * CQ_ILLEGAL_ARGUMENT, CQ_CALLS_SPENT, CQ_OUT_OF_MEMORY also if a window of calls is out at the thread, or CQ_BUSY. Then
+ * CQ_ILLEGAL_ARGUMENT, CQ_CALLS_SPENT, CQ_FULL if a window of calls is out at the thread, CQ_OUT_OF_MEMORY, or CQ_BUSY. Then
  * the thread's own errors come, which each function names.
  */
 
@@ -366,8 +368,8 @@ uint32_t cq_set_event_notification_mode(cq_env *env, bool enabled);
 uint32_t cq_next_event(cq_env *env, cq_event *event);
 
 /* DisposeEnvironment: calls that wait are given up, its words are 0 again, and its place is free. A thread that it suspended
- * stays suspended. The handle is empty then. CQ_MISUSED, CQ_OUT_OF_MEMORY, CQ_BUSY. With either of the last two it may have
- * left some of its threads, and can only be disposed of by another call. */
+ * stays suspended. The handle is empty then. CQ_MISUSED, CQ_OUT_OF_MEMORY, CQ_FULL, CQ_BUSY. With any of the last three it may
+ * have left some of its threads, and can only be disposed of by another call. */
 uint32_t cq_dispose_environment(cq_env *env);
 
 #ifdef __cplusplus

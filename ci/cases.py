@@ -1,17 +1,17 @@
 #!/usr/bin/env python3
-"""Runs `tiwalk` on each case, and compares standard output, standard error and status with what the case wants.
+"""Runs `tiwalk` and `tilint` on each case, and compares standard output, standard error and status with what it wants.
 
 The cases are the documents of `cases/` and `examples/`, those that are made (`ci/made_cases.py`), and the ends of a
 process that no document shows (`ci/process_ends.py`). What they want was worked out from the rules. The last line is
 'N passed, M failed'.
 
-    ci/cases.py [PROGRAM..]     crates/tiwalk/out/tiwalk by default: `make run` builds it
+    ci/cases.py [PROGRAM..]     crates/tiwalk/out/tiwalk by default (`make run` builds it), and crates/tilint/out/tilint if built
     ci/cases.py --examples      the documents of `examples/` alone
     ci/cases.py --covered       runs nothing, and wants a case for each word of the documents, each text and each fault
 
 Of a case NAME of `cases/`, NAME.in is the document and NAME.out what standard output gets, NAME.err what standard error
 gets, NAME.status the status, and NAME.args has the arguments, one a line. A file that is not there says: nothing,
-nothing, 0, `walk`. Of an example NAME.json is the document and NAME.out the text, with status 1 where it begins with
+nothing, 0, `walk`. The cases of `cases/lint` are those of `tilint`. Of an example NAME.json is the document and NAME.out the text, with status 1 where it begins with
 `illegal`; one whose name has `history` in it is given to `check`, one whose name begins with `live` to `live`.
 """
 
@@ -28,6 +28,7 @@ import made_cases
 import process_ends
 
 PROGRAM = "crates/tiwalk/out/tiwalk"
+LINT = "crates/tilint/out/tilint"
 SECONDS = 60
 
 
@@ -50,8 +51,8 @@ def read(path, otherwise):
     return path.read_bytes() if path.exists() else otherwise
 
 
-def stored_cases():
-    for path in sorted(pathlib.Path("cases").glob("*.in")):
+def stored_cases(folder="cases"):
+    for path in sorted(pathlib.Path(folder).glob("*.in")):
         arguments = read(path.with_suffix(".args"), b"walk\n").decode().splitlines()
         status = int(read(path.with_suffix(".status"), b"0"))
         wanted = read(path.with_suffix(".out"), b""), read(path.with_suffix(".err"), b""), status
@@ -89,6 +90,11 @@ def difference(wanted, got):
     return None
 
 
+def lint_cases():
+    """The cases of `tilint`."""
+    return stored_cases("cases/lint")
+
+
 def passes(case, program):
     try:
         what = difference(case.wanted, case.run(program))
@@ -105,7 +111,12 @@ def run_all(program, only_examples=False):
         print(f"there is no {program}: `make run` builds it")
         return 0, 1
     program = os.path.abspath(program)
-    cases = list(examples()) if only_examples else [*stored_cases(), *examples(), *made(), *process_ends.ENDS]
+    if os.path.basename(program).startswith("tilint"):
+        cases = [*lint_cases(), *process_ends.LINT_ENDS]
+    elif only_examples:
+        cases = list(examples())
+    else:
+        cases = [*stored_cases(), *examples(), *made(), *process_ends.ENDS]
     passed = sum(passes(case, program) for case in cases)
     return passed, len(cases) - passed
 
@@ -113,9 +124,11 @@ def run_all(program, only_examples=False):
 def main():
     words = sys.argv[1:]
     if words == ["--covered"]:
-        passed, failed = coverage_of_cases.count([*stored_cases(), *examples(), *made(), *process_ends.ENDS])
+        passed, failed = coverage_of_cases.count([*stored_cases(), *examples(), *made(), *process_ends.ENDS], list(lint_cases()))
     else:
         programs = [word for word in words if word != "--examples"] or [PROGRAM]
+        if not words and os.path.isfile(LINT):
+            programs.append(LINT)
         counts = [run_all(program, "--examples" in words) for program in programs]
         passed, failed = map(sum, zip(*counts))
     print(f"{passed} passed, {failed} failed")

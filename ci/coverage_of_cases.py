@@ -23,7 +23,8 @@ SPECS = {
 
 # what no document leads to: no cell is in use where all its users are done, no live run gives an illegal history, a
 # capability cannot be had, no event names an environment that is not there, where a trace alone is refused for memory
-# depends on the machine, and no document gives a call a deadline or calls by a form that never waits
+# depends on the machine, no document gives a call a deadline or calls by a form that never waits, and none reaches a bound that
+# is no limit of documents
 NOT_REACHED = {
     ("faults", "cell"),
     ("live texts", " illegal "),
@@ -32,6 +33,7 @@ NOT_REACHED = {
     ("errors", "110"),
     ("errors", "214"),
     ("errors", "215"),
+    ("errors", "216"),
 }
 
 KINDS = ("monitor", "wait", "timed_wait", "sleep", "park", "timed_park")
@@ -71,7 +73,13 @@ def calls_made(document, out):
     yield from document
 
 
-def found_in(cases):
+def members_named(cases):
+    """The members at which `tilint` says that a fault is, as paths and by their last words."""
+    paths = {re.split(r"[\[ :]", case.wanted[0].decode())[0] for case in cases}
+    return {word for path in paths for word in (path, path.split(".")[-1])}
+
+
+def found_in(cases, lint_cases):
     """The words that the cases have, by their table."""
     found = {table: set() for table in SPECS}
     texts, faults = b"", b""
@@ -94,14 +102,14 @@ def found_in(cases):
     found["texts"] = {word for word in words_of("texts") if word.encode() in texts}
     found["faults"] = {word for word in words_of("faults") if word.encode() in faults}
     found["limits"] = set(re.findall(r"limit (\w+)\n", faults.decode()))
-    found["members"] = {word for path in re.findall(r", member ([\w.]+)\n", faults.decode()) for word in (path, path.split(".")[-1])}
+    found["members"] = members_named(lint_cases)
     found["errors"] = set(re.findall(r" error (\d+)\n", texts.decode()))
     return found
 
 
-def count(cases):
+def count(cases, lint_cases):
     """How many words have a case, and how many have none, each of which is named."""
-    found = found_in(cases)
+    found = found_in(cases, lint_cases)
     passed = failed = 0
     for table in SPECS:
         wanted = words_of(table) | (set(KINDS) if table == "entries" else set())

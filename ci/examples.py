@@ -1,6 +1,6 @@
 #!/usr/bin/env python3
-"""Looks whether each example of a walk or a history, with its text, is a test of crates/ti_tests. The last line is
-'N passed, M failed'.
+"""Looks whether each example of a walk or a history, with its text, is a test of tests/ti_driver_tests. The last
+line is 'N passed, M failed'.
 
     ci/examples.py --tested
 
@@ -11,7 +11,7 @@ import json
 import pathlib
 import sys
 
-TESTS = pathlib.Path("crates/ti_tests/src/walks.rt")
+TESTS = pathlib.Path("tests/ti_driver_tests/walks.rattle")
 
 
 def is_tested(literals, example):

@@ -1,5 +1,7 @@
 #!/usr/bin/env python3
-"""Runs `rt ci`, then each case (`ci/cases.py`) on the programs that it has built, and the C programs over the library.
+"""Runs the tests that need no proof (`ci/unproved_tests.py`) and `rt ci`. Then, on the programs that `rt ci` has built, each case
+(`ci/cases.py`) and runs with an allocation refused (`ci/refused_memory.py`). Then the C programs over the library, and what the
+pages show (`ci/snippets.py`).
 
 `rt ci` leaves `tiwalk` in `crates/tiwalk/out` as LLVM builds it, and, where Rattle's own compiler took it, as that builds
 it. It builds no static library, so `ci/lib.py` does that, over the libraries that were proved. The output of `rt ci` is passed
@@ -37,9 +39,21 @@ def counts_of(*command):
     return int(counts[1]), int(counts[2]), started.returncode
 
 
+def has_compiler():
+    return shutil.which(os.environ.get("CC", "cc"))
+
+
+def try_refusals(program):
+    """How many runs with an allocation refused passed and failed, on four documents. Without a C compiler none is tried."""
+    if not has_compiler():
+        print("there is no C compiler: no allocation is refused")
+        return 0, 0
+    return counts_of(sys.executable, "ci/refused_memory.py", "--gate", program)[:2]
+
+
 def try_library():
     """The same of the C programs, over a library that is built first. Without a C compiler none is tried."""
-    if not shutil.which(os.environ.get("CC", "cc")):
+    if not has_compiler():
         print("there is no C compiler: the C programs are not tried")
         return 0, 0, 0
     proved_libraries.note(lib.CRATE, lib.TOP)
@@ -50,15 +64,24 @@ def try_library():
 
 
 def main():
-    passed, failed, status = counts_of("rt", "ci")
+    passed, failed, _ = counts_of(sys.executable, "ci/unproved_tests.py")
+    print(f"tests without a proof: {passed} passed, {failed} failed", flush=True)
+    well, ill, status = counts_of("rt", "ci")
+    passed, failed = passed + well, failed + ill
     programs = [program for program in PROGRAMS if pathlib.Path(program).is_file()] or PROGRAMS[:1]
     for program in programs:
         well, ill = cases.run_all(program)
         print(f"cases on {program}: {well} passed, {ill} failed")
         passed, failed = passed + well, failed + ill
+    well, ill = try_refusals(programs[0])
+    print(f"refused allocations: {well} passed, {ill} failed")
+    passed, failed = passed + well, failed + ill
     if not status:
         well, ill, status = try_library()
         print(f"C programs: {well} passed, {ill} failed")
+        passed, failed = passed + well, failed + ill
+        well, ill, _ = counts_of(sys.executable, "ci/snippets.py")
+        print(f"snippets: {well} passed, {ill} failed")
         passed, failed = passed + well, failed + ill
     print(f"{passed} passed, {failed} failed")
     return 1 if failed or status else 0

@@ -90,6 +90,6 @@ CASES = (
         b"",
         0,
     ),
-    fault("one thread of a list more", ["live"], lambda: text_of(live([], [["suspend_list", [9] * (MOST_LISTED + 1)]])), "shape at item 1, element 1"),
+    fault("one thread of a list more", ["live"], lambda: text_of(live([], [["suspend_list", [9] * (MOST_LISTED + 1)]])), "shape at item 1"),
     fault("one entry more", ["check"], lambda: text_of(history([5] * (MOST_ENTRIES + 1), 1)), "limit entries"),
 )

@@ -10,7 +10,9 @@ import typing
 SECONDS = 60
 # a device that takes no byte
 FULL = "/dev/full"
-USAGE = b"tiwalk: usage: tiwalk [walk|live|check] < DOCUMENT\n"
+USAGE = b"tiwalk: usage: tiwalk [walk|live|check]\n"
+LINT_USAGE = b"tilint: usage: tilint [walk|live|check]\n"
+TOO_LONG = b"document: more than 8,388,608 bytes, the most that are read\ntiwalk: limit input\n"
 
 
 @dataclasses.dataclass
@@ -85,4 +87,15 @@ ENDS = (
     End("a reader that gives byte by byte", byte_by_byte, (b"0 ok\n1 count 0\n2 went\n", b"", 0)),
     End("an argument that is no text", argument_no_text, (b"", USAGE, 2)),
     End("little memory", little_memory, (b"", b"tiwalk: memory\n", 3)),
+)
+
+# those of `tilint`
+LINT_ENDS = (
+    End("lint: a reader that fails", reader_fails, (b"", b"tilint: read\n", 4)),
+    End("lint: a writer that fails", to_full("stdout", "walk", document=example("first.json")), (b"", b"tilint: write\n", 4)),
+    End("lint: standard error that takes nothing", to_full("stderr", "run", document=b""), (b"", b"", 2)),
+    End("lint: another word", lambda program: call([program, "run"], input=b""), (b"", LINT_USAGE, 2)),
+    End("lint: an argument that is no text", argument_no_text, (b"", LINT_USAGE, 2)),
+    End("lint: a document that is too long", lambda program: call([program], input=b" " * 8_388_609), (TOO_LONG, b"", 2)),
+    End("lint: little memory", little_memory, (b"", b"tilint: memory\n", 3)),
 )

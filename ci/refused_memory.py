@@ -8,6 +8,7 @@ instead. The last line is 'N passed, M failed'. (A trace that is refused does no
 waits too at the poll that would answer it: no other line depends on it. In live examples no line depends on another.)
 
     ci/refused_memory.py [PROGRAM [DOCUMENT..]]        crates/tiwalk/out/tiwalk by default: `make run` builds it
+    ci/refused_memory.py --gate PROGRAM                on a walk of traces, on histories and on a live script of lists
 
 Documents in place of the examples are files NAME with the text beside them, in NAME with the last suffix `.out`. One
 with a member `entries` is given to `tiwalk check`, one with `walks` to `tiwalk live`.
@@ -54,6 +55,8 @@ void _exit(int status) { tell(); ((void (*)(int))NEXT("_exit"))(status); __built
 
 
 SECONDS = 60
+# the documents that the gate runs
+GATED = ("cases/trace-starts.in", "examples/legal-history.json", "examples/illegal-history.json", "cases/live-lists-of-new-threads.in")
 # the calls whose answers take memory
 TAKING_MEMORY = ("trace", "read", "suspend_list", "resume_list", "all", "list")
 
@@ -132,6 +135,8 @@ def refuse_each(program, path, shim, folder):
 
 def given(words):
     """The program that the words name, and the documents, or the examples."""
+    if words[:1] == ["--gate"]:
+        words = [*words[1:], *GATED]
     program = os.path.abspath(words[0] if words else "crates/tiwalk/out/tiwalk")
     if not os.path.isfile(program):
         sys.exit(f"there is no {program}: `make run` builds it")

@@ -1,5 +1,5 @@
 #!/usr/bin/env python3
-"""Runs the tests of `ti_tests` and `ti_trace_tests` with the first allocation of each test refused, then with the second
+"""Runs the tests of `ti_core_tests` and `ti_trace_tests` with the first allocation of each test refused, then with the second
 alone, and so on.
 
 The tests of `memory` have to pass each time: the call that wants the memory says 110, and all is as it was. (The other
@@ -12,28 +12,20 @@ much memory. The last line is 'N passed, M failed'.
 Each number takes a build of the tests, some 20 seconds.
 """
 
-import pathlib
-import re
-import subprocess
 import sys
 
-CRATES = pathlib.Path(__file__).resolve().parent.parent / "crates"
-TURNS = (("ti_tests", "lists::"), ("ti_trace_tests", "traces::"))
+sys.dont_write_bytecode = True
+
+import unproved
+import unproved_tests
 
 
-def results(crate, refused):
-    """Each test's name, and whether it passed."""
-    done = subprocess.run(
-        ["rt", "try", "--test", "--fail-alloc", str(refused)], cwd=CRATES / crate, capture_output=True, text=True
-    )
-    return [(name, verdict == "ok") for name, verdict in re.findall(r"^test (\S+) \.\.\. (\S+)$", done.stdout, re.M)]
-
-
-def turn(crate, greater, numbers):
+def turn(folder, greater, numbers):
     """How many tests of `memory` passed and failed in a crate, until the tests of `greater` pass."""
+    crate = folder.name
     passed = failed = 0
     for refused in numbers:
-        told = results(crate, refused)
+        told = unproved.try_tests(folder, "--fail-alloc", str(refused))[1].items()
         memory = [(name, well) for name, well in told if name.startswith("memory::")]
         if not memory:
             print(f"{crate}: {refused}: the tests did not run")
@@ -50,7 +42,9 @@ def turn(crate, greater, numbers):
 
 def main():
     first, last = int(sys.argv[1]) if len(sys.argv) > 1 else 1, int(sys.argv[2]) if len(sys.argv) > 2 else 200
-    counts = [turn(crate, greater, range(first, last + 1)) for crate, greater in TURNS]
+    with unproved.copy_of_crates() as root:
+        turns = ((unproved_tests.add(root, "ti_core_tests"), "lists::"), (root / unproved.CRATES / "ti_trace_tests", "traces::"))
+        counts = [turn(folder, greater, range(first, last + 1)) for folder, greater in turns]
     passed, failed = map(sum, zip(*counts))
     print(f"{passed} passed, {failed} failed")
     return 1 if failed else 0

@@ -1,5 +1,5 @@
 #!/usr/bin/env python3
-"""Runs `tiwalk live` on documents that are made up by chance, and looks whether each run ends and tells what it may.
+"""Runs `tiwalk live` on random documents, and looks whether each run ends and tells what it may.
 
 Each document has 1 to 64 threads and 1 to 32 agents, who ask at few threads or at all: suspensions with their resumes,
 words, frames, pops, and traces of all threads and of listed ones. Each is run on two processors and on four (as many as

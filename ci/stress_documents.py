@@ -1,4 +1,4 @@
-"""Live documents that are made up by chance, each run of which ends.
+"""Random live documents, each run of which ends.
 
 A thread that is suspended and wants to return waits until it is resumed. So each agent that suspends a thread resumes it
 later in its own list: the last suspension that takes place at a thread is followed by the resumption of the agent that

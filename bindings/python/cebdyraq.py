@@ -54,6 +54,7 @@ class Code(enum.IntEnum):
     STILL_RUNNING = 213
     TIMED_OUT = 214
     BUSY = 215
+    FULL = 216
     HELD = 301
     WAITING = 302
     NONE = 303

@@ -156,7 +156,7 @@ class WithRuntime(unittest.TestCase):
     def test_two_environments(self):
         with self.attach() as other:
             self.assertTrue(self.env.has_news())
-            self.assert_code(Code.OUT_OF_MEMORY, self.attach)
+            self.assert_code(Code.FULL, self.attach)
             self.assert_code(Code.INVALID_THREAD, other.get_thread_state, self.thread)
             other.meet()
             self.assertTrue(self.env.has_news())

@@ -93,7 +93,7 @@ OF_NONE(set_thread_local_storage, cq_set_thread_local_storage(h, 1, 7, &out.answ
     { "cq_" #name, CQ_THREAD_NOT_ALIVE, FRESH, name }, { "cq_" #name, CQ_THREAD_NOT_ALIVE, ENDED, name }, \
     { "cq_" #name, CQ_THREAD_NOT_ALIVE, GIVEN_BACK, name }
 
-#define NO_ROOM(name) { "cq_" #name, CQ_OUT_OF_MEMORY, FULL_WINDOW, name }
+#define NO_ROOM(name) { "cq_" #name, CQ_FULL, FULL_WINDOW, name }
 
 const row ENV_ROWS[] = {
     MISUSES(meet), MISUSES(has_news), MISUSES(let_go), MISUSES(get_all_threads),

@@ -61,7 +61,7 @@ const row SERVICE_ROWS[] = {
     { "cq_attach_thread", CQ_ILLEGAL_ARGUMENT, RUNS, attach_bad_name },
     { "cq_attach_thread", CQ_ILLEGAL_ARGUMENT, RUNS, attach_surrogate },
     MISUSES(attach_environment), { "cq_attach_environment", CQ_MISUSED, RUNS, attach_over_env },
-    { "cq_attach_environment", CQ_OUT_OF_MEMORY, RUNS, attach_environment },
+    { "cq_attach_environment", CQ_FULL, RUNS, attach_environment },
 };
 const size_t SERVICE_ROW_COUNT = COUNT(SERVICE_ROWS);
 

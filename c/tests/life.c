@@ -306,7 +306,7 @@ static void end(void) {
 static void leave(void) {
     cq_env second = { 0, NULL }, third = { 0, NULL };
     OK(cq_attach_environment(&service, &second));
-    SAME(cq_attach_environment(&service, &third), CQ_OUT_OF_MEMORY);
+    SAME(cq_attach_environment(&service, &third), CQ_FULL);
     OK(cq_dispose_environment(&second));
     OK(cq_free(&service));
     OK(cq_meet(&env));

@@ -159,7 +159,7 @@ static uint32_t post(cq_env *env, uint32_t thread, posted wanted, cq_answer *ans
     if (code != CQ_OK) return code;
     m_thread *t = e->service->threads[thread];
     wanted.place = e->place;
-    if (may_wait(wanted.kind) && outs(t, e->place) >= e->service->window) return CQ_OUT_OF_MEMORY;
+    if (may_wait(wanted.kind) && outs(t, e->place) >= e->service->window) return CQ_FULL;
     if (!may_wait(wanted.kind) || t->mode != RUNNING) {
         wanted.code = perform(t, &wanted);
         write_answer(&wanted, answer, frames, room);

@@ -11,7 +11,7 @@ uint32_t model_attach_environment(cq_service *service, cq_env *env) {
     if (s == NULL || env->kind != EMPTY) return CQ_MISUSED;
     uint32_t place = 0;
     while (place < s->envs && s->taken[place]) place++;
-    if (place == s->envs) return CQ_OUT_OF_MEMORY;
+    if (place == s->envs) return CQ_FULL;
     s->taken[place] = true;
     s->handles++;
     s->happened++;

@@ -16,8 +16,8 @@ fn trace<R: AllocGlobal>(rt: &R) -> Option<TraceBuf> {
     let alloc = rt.alloc();
     let mut core = Core::new(alloc, Limits::new(1, 1, 16, 100, 10)?).ok()?;
     let _started = core.step(alloc, Event::Start(THREAD));
-    let _outer = core.step(alloc, Event::Stepped(THREAD, Step::Enter(MethodNo(3))));
-    let _inner = core.step(alloc, Event::Stepped(THREAD, Step::Enter(MethodNo(7))));
+    let _outer = core.step(alloc, Event::Own(THREAD, Step::Enter(MethodNo(3))));
+    let _inner = core.step(alloc, Event::Own(THREAD, Step::Enter(MethodNo(7))));
     let call = Call::Trace {
         start: 0,
         max_count: 4,

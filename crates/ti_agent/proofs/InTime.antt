@@ -10,7 +10,7 @@ use Rattle.ti_types.specs.declared.answer.Answer.TheVariants as answer
 use Rattle.ti_types.specs.declared.call.Call.{Call}
 use Rattle.ti_types.specs.declared.event.Ticket.{Ticket}
 use Rattle.ti_types.specs.declared.error.TiError.{TiError}
-use Rattle.ti_types.specs.declared.error.TiError.TheVariants.{OutOfMemory, TimedOut}
+use Rattle.ti_types.specs.declared.error.TiError.TheVariants.{Full, OutOfMemory, TimedOut}
 use Rattle.ti_types.specs.declared.numbers.ThreadNo.{ThreadNo}
 use Rattle.ti_env.specs.Env.{EnvValue, call_refusal, with_spent}
 use Rattle.ti_replay.specs.Settling.{waits}
@@ -19,7 +19,7 @@ use Rattle.ti_handshake.specs.Desk.{DeskState, Discards, DiscardsOf, IsInTime, i
 use Rattle.ti_agent.specs.Env.{Environment, IsWhole, place_in, place_of, thread_refusal, told, is_full}
 use Rattle.ti_agent.proofs.Places.{about_at, place_set}
 use Rattle.ti_agent.specs.Asks.{Asks, Went, IsKind, is_for_memory, is_timed_out}
-use Rattle.ti_agent.specs.Deadlines.{Cancels, DiscardsAt, GivesUpAt, ComesAs, ComesTo, IsCalledWithin, IsCalledWithinBy}
+use Rattle.ti_agent.specs.Deadlines.{Cancels, DiscardsAt, GivesUpAt, ComesAs, ComesTo, ComesWith, IsCalledWithin, IsCalledWithinBy}
 use Rattle.ti_agent.proofs.Replied.{answered_kind, answered_not, answered_in_time}
 use Rattle.ti_agent.proofs.Whole.{desk_at, found_at, after_is, may_stay, fewer_if, whole_after, after_call, went, whole_seen, seen_call}
 
@@ -143,7 +143,14 @@ short_comes s thread c e is =
     let none : ComesTo s s thread c (answer.Refused OutOfMemory) = refl in
     subst (λ (x : TiError). ComesTo s s thread c (answer.Refused x)) (sym is) none
 
-pub comes_within : (old mid new : Environment) (thread : ThreadNo) (c : Call) (a : Answer) (thrown : Bool) → thread_refusal old thread c ≡ None → DiscardsAt old mid thread thrown → ComesTo mid new thread c a
-    → ((waits c && is_full mid thread) ≡ true → a ≡ answer.Refused OutOfMemory) → IsCalledWithin old new thread c a
-comes_within old mid new thread c a thrown free discards comes full =
-    subst (λ (o : Option TiError). IsCalledWithinBy o old new thread c a) (sym free) (record { thrown = thrown; mid = mid; discards = discards; comes = comes; full = full })
+pub comes_within : (old mid new : Environment) (thread : ThreadNo) (c : Call) (a : Answer) (thrown : Bool) → thread_refusal old thread c ≡ None → DiscardsAt old mid thread thrown → ComesWith (waits c && is_full mid thread) mid new thread c a
+    → IsCalledWithin old new thread c a
+comes_within old mid new thread c a thrown free discards comes =
+    subst (λ (o : Option TiError). IsCalledWithinBy o old new thread c a) (sym free) (record { thrown = thrown; mid = mid; discards = discards; comes = comes })
+
+-- at a full window, and where there is room
+pub comes_full : (mid : Environment) (thread : ThreadNo) (c : Call) → (waits c && is_full mid thread) ≡ true → ComesWith (waits c && is_full mid thread) mid mid thread c (answer.Refused Full)
+comes_full mid thread c full = subst (λ (b : Bool). ComesWith b mid mid thread c (answer.Refused Full)) (sym full) (refl, refl)
+
+pub comes_with_room : (mid new : Environment) (thread : ThreadNo) (c : Call) (a : Answer) → (waits c && is_full mid thread) ≡ false → ComesTo mid new thread c a → ComesWith (waits c && is_full mid thread) mid new thread c a
+comes_with_room mid new thread c a room comes = subst (λ (b : Bool). ComesWith b mid new thread c a) (sym room) comes

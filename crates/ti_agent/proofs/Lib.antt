@@ -15,3 +15,4 @@ pub mod Emptying
 pub mod StepByStep
 pub mod AtWork
 pub mod Barred
+pub mod Counted

@@ -1,53 +1,48 @@
 -- How often each thread is in a list, one element after another.
-use Rattle.std.proofs.Common.{◌≡◌, ℕ, zero, suc, ◌+◌, ◌-◌, ◌<◌, ◌≤◌, Bool, true, inl, inr, List, [], ◌∷◌, ◌++◌, length, replicate, refl, ap, sym, ◌∙◌, arith, subst, length-set, Some, None, if◌then◌else◌}
-use Rattle.std.specs.Prelude.{slice_index, slice_index_or, slice_set}
+use Rattle.std.proofs.Common.{◌≡◌, ℕ, ◌+◌, ◌-◌, ◌<◌, ◌≤◌, ◌==◌, ◌≢◌, Bool, cond, true, inl, inr, List, [], ◌∷◌, ◌++◌, length, refl, ap, sym, ◌∙◌, arith, subst, eq-eqb, ne_eqb, Option, Some, None, if◌then◌else◌}
+use Rattle.std.specs.Prelude.{nat_eq, unwrap_or}
+use Rattle.std.specs.Map.{lookup}
 use Rattle.std.proofs.lemmas.Bool.{cases_eq}
 use Rattle.ti_types.specs.declared.error.TiError.TheVariants.{CallsSpent}
 use Rattle.ti_types.specs.declared.numbers.ThreadNo.{ThreadNo}
 use Rattle.ti_env.specs.Env.{EnvValue, left_at}
-use Rattle.ti_agent.specs.Traces.{times, AreCounts, IsNotCounted}
+use Rattle.ti_agent.specs.Traces.{times, counted, AreCounts, IsNotCounted}
 use Rattle.ti_agent.proofs.Listing.{times-append, times_here, times_apart, few_once}
-use Rattle.ti_agent.proofs.Whole.{set_other, set_same}
 
 -- Each thread so far has a call left for its stop and each of its reads
 abbrev pub AreEnough : EnvValue → List ThreadNo → Type 0
 AreEnough state threads = (i : ℕ) → times i threads ≤ left_at state (record { 0 = i }) - 1
 
--- a count that is there, whatever stands for those that are not
-pub count_at : (l : List ℕ) (i d : ℕ) → i < length l → slice_index l i ≡ slice_index_or l i d
-count_at [] i d h = absurd (omega (arith, h))
-count_at (x ∷ l) zero d h = refl
-count_at (x ∷ l) (suc i) d h = count_at l i d (omega (arith, h))
+pub none_counted : AreCounts [] []
+none_counted i = refl
 
-zeros_at : (n i : ℕ) → i < n → slice_index (replicate n 0) i ≡ 0
-zeros_at zero i h = absurd (omega (arith, h))
-zeros_at (suc n) zero h = refl
-zeros_at (suc n) (suc i) h = zeros_at n i (omega (arith, h))
+pub counted_none : (i : ℕ) (l : List ThreadNo) → times i l ≡ 0 → counted i l ≡ None
+counted_none i l none = ap (λ (b : Bool). if b then None else Some (times i l)) (eq-eqb (times i l) 0 none)
 
-zeros_count : (n : ℕ) → length {A = ℕ} (replicate n 0) ≡ n
-zeros_count zero = refl
-zeros_count (suc n) = ap suc (zeros_count n)
+pub counted_some : (i : ℕ) (l : List ThreadNo) → times i l ≢ 0 → counted i l ≡ Some (times i l)
+counted_some i l some = ap (λ (b : Bool). if b then None else Some (times i l)) (ne_eqb (times i l) 0 some)
 
-pub none_counted : (n : ℕ) → AreCounts n [] (replicate n 0)
-none_counted n = record { length_is = zeros_count n; each = zeros_at n }
+-- what a look-up finds is the count, or there is none
+pub count_found : (i : ℕ) (l : List ThreadNo) → unwrap_or (counted i l) 0 ≡ times i l
+count_found i l =
+    elim (cases_eq (times i l) 0) [
+      | inl none ↦ ap (λ (o : Option ℕ). unwrap_or o 0) (counted_none i l none) ∙ sym none
+      | inr some ↦ ap (λ (o : Option ℕ). unwrap_or o 0) (counted_some i l some)
+    ]
 
 -- one element more
-pub counts_more : (n : ℕ) (l : List ThreadNo) (x : ThreadNo) (counts : List ℕ) → AreCounts n l counts → x.0 < n → AreCounts n (l ++ x ∷ []) (slice_set counts x.0 (slice_index counts x.0 + 1))
-counts_more n l x counts done here = record {
-  length_is = length-set counts x.0 (slice_index counts x.0 + 1) ∙ done.length_is;
-  each = one;
-}
-  where
-    one : (i : ℕ) → i < n → slice_index (slice_set counts x.0 (slice_index counts x.0 + 1)) i ≡ times i (l ++ x ∷ [])
-    one i within =
-        let more = times-append i l (x ∷ []) in
-        elim (cases_eq x.0 i) [
-          | inl same ↦
-              let now : slice_index (slice_set counts x.0 (slice_index counts x.0 + 1)) i ≡ slice_index counts i + 1 =
-              subst (λ (j : ℕ). slice_index (slice_set counts x.0 (slice_index counts x.0 + 1)) j ≡ slice_index counts j + 1) same (set_same counts x.0 (slice_index counts x.0 + 1) (omega (arith, here, done.length_is))) in
-              now ∙ omega (arith, done.each i within, more, times_here i x [] same)
-          | inr other ↦ set_other counts x.0 i (slice_index counts x.0 + 1) other ∙ omega (arith, done.each i within, more, times_apart i x [] other)
-        ]
+pub counts_more : (l : List ThreadNo) (x : ThreadNo) (old new : List (ℕ × ℕ)) → AreCounts l old → ((i : ℕ) → lookup (nat_eq i) new ≡ cond (nat_eq x.0 i) (Some (times x.0 l + 1)) (lookup (nat_eq i) old)) → AreCounts (l ++ x ∷ []) new
+counts_more l x old new so_far set i =
+    let more = times-append i l (x ∷ []) in
+    elim (cases_eq x.0 i) [
+      | inl same ↦
+          let now : times i (l ++ x ∷ []) ≡ times i l + 1 = omega (arith, more, times_here i x [] same) in
+          let here : times x.0 l + 1 ≡ times i (l ++ x ∷ []) = ap (λ (j : ℕ). times j l + 1) same ∙ sym now in
+          set i ∙ (ap (λ (b : Bool). cond b (Some (times x.0 l + 1)) (lookup (nat_eq i) old)) (eq-eqb x.0 i same) ∙ (ap Some here ∙ sym (counted_some i (l ++ x ∷ []) (λ e. absurd (omega (arith, e, now))))))
+      | inr other ↦
+          let now : times i (l ++ x ∷ []) ≡ times i l = omega (arith, more, times_apart i x [] other) in
+          set i ∙ (ap (λ (b : Bool). cond b (Some (times x.0 l + 1)) (lookup (nat_eq i) old)) (ne_eqb x.0 i other) ∙ (so_far i ∙ ap (λ (n : ℕ). if n == 0 then None else Some n) (sym now)))
+    ]
 
 pub enough_more : (s : EnvValue) (l : List ThreadNo) (x : ThreadNo) → AreEnough s l → times x.0 l < left_at s x - 1 → AreEnough s (l ++ x ∷ [])
 enough_more s l x done less i =

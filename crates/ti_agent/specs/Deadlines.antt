@@ -4,7 +4,7 @@ use Rattle.ti_types.specs.declared.answer.Answer.{Answer}
 use Rattle.ti_types.specs.declared.answer.Answer.TheVariants as answer
 use Rattle.ti_types.specs.declared.call.Call.{Call}
 use Rattle.ti_types.specs.declared.error.TiError.{TiError}
-use Rattle.ti_types.specs.declared.error.TiError.TheVariants.{OutOfMemory}
+use Rattle.ti_types.specs.declared.error.TiError.TheVariants.{Full}
 use Rattle.ti_types.specs.declared.event.Ticket.{Ticket}
 use Rattle.ti_types.specs.declared.numbers.ThreadNo.{ThreadNo}
 use Rattle.ti_env.specs.Env.{with_spent}
@@ -47,8 +47,8 @@ pub record GivesUpAt (old new : Environment) (thread : ThreadNo) (c : Call) : Ty
   pub gives_up : GivesUp before after c
   pub new_is : new ≡ record { env = old.env; state = with_spent old.state (place_of old.desks thread); desks = slice_set old.desks (place_in old.desks thread) after }
 
--- the result of an admitted call with a deadline: 110 if there is no room for it, and then nothing is asked; 214 when the
--- time is over; otherwise what its desk answers. No thread answers 110 or 214
+-- the result of an admitted call with a deadline for which there is room: 110 if there is no memory for it, and then nothing is
+-- asked; 214 when the time is over; otherwise what its desk answers. No thread answers 110 or 214
 abbrev pub ComesAs : (for_memory timed_out : Bool) → Environment → Environment → ThreadNo → Call → Answer → Type 0
 ComesAs true timed_out old new thread c a = new ≡ old
 ComesAs false true old new thread c a = GivesUpAt old new thread c
@@ -57,13 +57,16 @@ ComesAs false false old new thread c a = Went old new thread c a
 abbrev pub ComesTo : Environment → Environment → ThreadNo → Call → Answer → Type 0
 ComesTo old new thread c a = ComesAs (is_for_memory a) (is_timed_out a) old new thread c a
 
--- first the answer to a call that was given up there is thrown away, if it is there
+abbrev pub ComesWith : (full : Bool) → Environment → Environment → ThreadNo → Call → Answer → Type 0
+ComesWith true old new thread c a = (new ≡ old) × (a ≡ answer.Refused Full)
+ComesWith false old new thread c a = ComesTo old new thread c a
+
+-- first the answer to a call that was given up there is thrown away, if it is there. At a full window the call is refused then
 pub record Comes (old new : Environment) (thread : ThreadNo) (c : Call) (a : Answer) : Type 0 where
   pub thrown : Bool
   pub mid : Environment
   pub discards : DiscardsAt old mid thread thrown
-  pub comes : ComesTo mid new thread c a
-  pub full : (waits c && is_full mid thread) ≡ true → a ≡ answer.Refused OutOfMemory
+  pub comes : ComesWith (waits c && is_full mid thread) mid new thread c a
 
 abbrev pub IsCalledWithinBy : Option TiError → Environment → Environment → ThreadNo → Call → Answer → Type 0
 IsCalledWithinBy (Some e) old new thread c a = (new ≡ old) × (a ≡ answer.Refused e)

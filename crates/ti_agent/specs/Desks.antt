@@ -6,7 +6,7 @@ use Rattle.ti_types.specs.declared.error.TiError.TheVariants.{InvalidEnvironment
 use Rattle.ti_types.specs.declared.limits.Limits.{Limits}
 use Rattle.ti_types.specs.declared.numbers.ThreadNo.{ThreadNo}
 use Rattle.ti_types.specs.Refusing.{or_else, unless}
-use Rattle.ti_env.specs.Env.{spent_at, with_place, without_place, with_known}
+use Rattle.ti_env.specs.Env.{spent_at, place_refusal, with_place, without_place, with_known}
 use Rattle.ti_agent.specs.Env.{Environment, place_in, place_of}
 use Rattle.ti_handshake.specs.Desk.{DeskState}
 use Rattle.ti_agent.specs.FreeDesk.{FreeState, IsClean, clearing}
@@ -21,12 +21,13 @@ are_same a b =
     (a.threads == b.threads) && (a.envs == b.envs) && (a.depth == b.depth) && (a.own == b.own) && (a.calls == b.calls) && (a.window == b.window)
     && (if a.kept then b.kept else not b.kept)
 
--- why a desk is not added, lack of memory aside: it is another environment's, or under other limits, or its thread's number is
--- not new
+-- why a desk is not added, lack of memory aside: it is another environment's, or under other limits, its thread's number is not
+-- new, or there is no place for it
 abbrev pub desk_refusal : Environment → FreeState → Option TiError
 desk_refusal s f =
     or_else (unless (f.desk.env.0 == s.env.0 && are_same f.desk.view.subject.limits s.state.limits) InvalidEnvironment)
-    (unless (is_new s f.desk.view.subject.thread) IllegalArgument)
+    (or_else (unless (is_new s f.desk.view.subject.thread) IllegalArgument)
+    (place_refusal s.state))
 
 -- one desk more, at a place of its own, with what is spent there
 abbrev pub with_desk : Environment → FreeState → Environment

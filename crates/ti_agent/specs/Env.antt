@@ -91,6 +91,11 @@ pub record IsWhole (s : Environment) : Type 0 where
   pub in_order : AreInOrder s.desks
   pub desks : (i : ℕ) (p : DeskState) → slice_get s.desks i ≡ Some p → IsDesk s i p
 
+-- the desks are the environment's, in the order of their threads' numbers, under its limits, and have made no call
+abbrev pub AreNewDesks : EnvNo → EnvValue → List DeskState → Type 0
+AreNewDesks env state desks =
+    AreInOrder desks × ((i : ℕ) (p : DeskState) → slice_get desks i ≡ Some p → (p.env ≡ env) × (p.view.subject.limits ≡ state.limits) × (p.view.mine ≡ []))
+
 -- the cells of the threads, in the order of their places
 abbrev pub cells_at : List DeskState → List TableId
 cells_at desks = map (λ p. p.cell) desks

@@ -6,7 +6,7 @@ use Rattle.ti_types.specs.declared.event.Ticket.{Ticket}
 use Rattle.ti_types.specs.declared.numbers.ThreadNo.{ThreadNo}
 use Rattle.ti_types.specs.Refusing.{or_else}
 use Rattle.ti_types.specs.declared.error.TiError.{TiError}
-use Rattle.ti_types.specs.declared.error.TiError.TheVariants.{OutOfMemory}
+use Rattle.ti_types.specs.declared.error.TiError.TheVariants.{Full}
 use Rattle.ti_env.specs.Env.{with_spent}
 use Rattle.ti_replay.specs.Settling.{waits}
 use Rattle.ti_replay.specs.Tickets.{reply_to}
@@ -19,7 +19,7 @@ use Rattle.ti_agent.specs.Env.{Environment, place_in, place_of, thread_refusal, 
 
 -- why a call is not posted at a thread: the environment refuses it, or it may wait and the window there is full
 abbrev pub posting_refusal : Environment → ThreadNo → Call → Option TiError
-posting_refusal s t c = or_else (thread_refusal s t c) (if waits c && is_full s t then Some OutOfMemory else None)
+posting_refusal s t c = or_else (thread_refusal s t c) (if waits c && is_full s t then Some Full else None)
 
 -- one call is spent at the thread, and its desk posted the call by one hold. Nothing else changed
 pub record Posts (old new : Environment) (thread : ThreadNo) (c : Call) (r : AskedOf) : Type 0 where

@@ -1,6 +1,7 @@
 -- Stack traces of several threads at once. A list of threads is one of their places, if nothing else is said.
-use Rattle.std.specs.Prelude.{ℕ, ℤ, zero, suc, ◌≡◌, ◌+◌, ◌-◌, ◌≤◌, ◌<◌, Bool, true, false, ◌==◌, bit_and, nat_lt, if◌then◌else◌, List, [], ◌∷◌, ◌++◌, length, map, Option, Some, None, slice_get, slice_index}
+use Rattle.std.specs.Prelude.{ℕ, ℤ, zero, suc, ◌≡◌, ◌+◌, ◌-◌, ◌≤◌, Bool, true, false, ◌==◌, bit_and, nat_lt, nat_eq, if◌then◌else◌, List, [], ◌∷◌, ◌++◌, length, map, Option, Some, None, slice_get}
 use Rattle.std.specs.List.{filter, list_all}
+use Rattle.std.specs.Map.{lookup}
 use Rattle.ti_types.specs.declared.answer.Answer.{Answer}
 use Rattle.ti_types.specs.declared.answer.Answer.TheVariants as answer
 use Rattle.ti_types.specs.declared.error.TiError.{TiError}
@@ -187,7 +188,14 @@ pub record IsNotCounted (state : EnvValue) (threads : List ThreadNo) (e : TiErro
   pub counted : Bool
   pub is : Some e ≡ (if counted then refusal_of_counted state threads else Some OutOfMemory)
 
--- how often each of this many threads is in a list, by their places
-pub record AreCounts (count : ℕ) (threads : List ThreadNo) (counts : List ℕ) : Type 0 where
-  pub length_is : length counts ≡ count
-  pub each : (i : ℕ) → i < count → slice_index counts i ≡ times i threads
+-- how often a thread is in a list, if it is there at all
+abbrev pub counted : ℕ → List ThreadNo → Option ℕ
+counted i threads = if times i threads == 0 then None else Some (times i threads)
+
+-- for each place, how often its thread is in a list
+abbrev pub AreCounts : List ThreadNo → List (ℕ × ℕ) → Type 0
+AreCounts threads counts = (i : ℕ) → lookup (nat_eq i) counts ≡ counted i threads
+
+-- counts, in their order, as threads with their reads to come
+abbrev pub listed_of : List (ℕ × ℕ) → Listed
+listed_of counts = map (λ e. (record { 0 = e.0 }, e.1)) counts

@@ -85,7 +85,8 @@ impl Env {
     /// - 116 INVALID_ENVIRONMENT: it is another environment's desk, or its thread is under other limits.
     /// - 103 ILLEGAL_ARGUMENT: its thread's number is not above those of all desks, or is of a thread that was there before
     ///   (`take_desk`, `know_threads`).
-    /// - 110 OUT_OF_MEMORY: there is no memory for it, or there are 65,536 desks.
+    /// - 216 (this profile: `Full`): there are 65,536 desks.
+    /// - 110 OUT_OF_MEMORY: there is no memory for it.
     ///
     /// Then nothing changes, and the desk comes back as it was.
     ///
@@ -120,6 +121,9 @@ impl Env {
         }
         if !self.is_new(free.thread()) {
             return Err((TiError::IllegalArgument, free));
+        }
+        if self.state.is_full() {
+            return Err((TiError::Full, free));
         }
         match self.desks.reserve(1) {
             Ok(()) => (),

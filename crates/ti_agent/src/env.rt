@@ -70,6 +70,21 @@ impl Model for Env {
 }
 
 impl Env {
+    /// Makes an environment of these desks, which are in the order of their threads' numbers. All desks are under the limits of
+    /// the state, and none has made a call. The state has as many places as there are desks.
+    ///
+    /// `with_no_desks` and `add_desk` test all of that, and have no condition.
+    pub fn new(env: EnvNo, state: EnvState, desks: Vec<Desk>) -> Env
+        requires count { length state.spent ≡ length desks.items }
+        requires desks { AreNewDesks env state desks.items }
+        ensures { result ≡ record { env = env; state = state; desks = desks.items } }
+    {
+        for desk in &desks {
+            desk.facts();
+        }
+        Env { env, state, desks }
+    }
+
     /// The desks of the environment, in the order of their places. Their seats may go back to the owners'
     /// (`ThreadCell::rejoin`). What the environment kept for itself is gone, as after DisposeEnvironment (JVM TI 11).
     pub fn into_desks(self) -> Vec<Desk>
@@ -388,6 +403,6 @@ ghost use Rattle.ti_env.specs.Env.{with_caps, with_word};
 ghost use Rattle.ti_replay.specs.Admission.{takes_buffer};
 ghost use Rattle.ti_replay.specs.Settling.{waits};
 ghost use Rattle.ti_agent.specs.Buffers.{IsJustBufferOf};
-ghost use Rattle.ti_agent.specs.Env.{Environment, place_in, place_of, potential_caps, thread_refusal, told_as, is_full};
+ghost use Rattle.ti_agent.specs.Env.{Environment, AreNewDesks, place_in, place_of, potential_caps, thread_refusal, told_as, is_full};
 ghost use Rattle.ti_agent.specs.Posts.{Posts};
 ghost use Rattle.ti_agent.specs.Asks.{Went, IsCalled, IsKind, is_for_memory, in_state, in_count, in_word, in_location, in_trace, in_done};

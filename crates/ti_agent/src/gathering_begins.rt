@@ -71,7 +71,7 @@ impl Env {
         self.admit_list(threads, max_count)?;
         let places = self.places(alloc, threads)?;
         let counts = count_each(alloc, &self.state, &places)?;
-        let stopping = counted_threads(alloc, self.state.threads(), &counts)?;
+        let stopping = counted_threads(alloc, counts)?;
         self.plan(alloc, stopping, places, max_count, false)
     }
 
@@ -141,7 +141,7 @@ impl Env {
     /// // The thread is stopped. It runs on until it polls.
     /// while trace.step().is_ok() {}
     /// assert!(rt; trace.step() == Err(TiError::StillRunning));
-    /// let Ok(Polled::Stays(_held)) = running.try_poll() else {
+    /// let Ok(Polled::Held(_held)) = running.try_poll() else {
     ///     return Err("the thread is held".into());
     /// };
     /// while trace.step() == Ok(false) {}

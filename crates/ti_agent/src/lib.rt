@@ -30,3 +30,4 @@ mod tries;
 pub use env::Env;
 pub use free_desk::FreeDesk;
 pub use gathering::{Gathering, Phase};
+pub use ti_types::StackInfo;

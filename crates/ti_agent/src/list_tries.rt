@@ -33,8 +33,8 @@ impl Env {
     ///
     /// - the thread's answer, which is 14 or 15 if it refuses;
     /// - a ticket, if the thread runs: `try_collect_once` has the answer later;
-    /// - an error, and then nothing changed at that thread: 10 INVALID_THREAD, 15 THREAD_NOT_ALIVE, 209 CALLS_SPENT, 110
-    ///   OUT_OF_MEMORY if `window` calls are out there, 215 BUSY if its cell is in use.
+    /// - an error, and then nothing changed at that thread: 10 INVALID_THREAD, 15 THREAD_NOT_ALIVE, 209 CALLS_SPENT, 216
+    ///   (this profile: `Full`) if `window` calls are out there, 215 BUSY if its cell is in use.
     ///
     /// The whole call is refused with 99 MUST_POSSESS_CAPABILITY, and then with 110 if there is no memory for the list. Then
     /// nothing was tried.
@@ -60,7 +60,7 @@ impl Env {
     ///     return Err("a running thread is suspended at its next poll".into());
     /// };
     /// assert!(rt; matches!(tried.pop(), Some(Err(TiError::InvalidThread))));
-    /// let Ok(Polled::Stays(_safe)) = running.try_poll() else {
+    /// let Ok(Polled::Held(_safe)) = running.try_poll() else {
     ///     return Err("the thread stays at its poll".into());
     /// };
     /// assert!(rt; matches!(env.try_collect_once(ticket)?, Some(Answer::Done)));

@@ -36,7 +36,7 @@ impl Env {
             Err(error) => return Posted::Code(error.number()),
         };
         if self.has_no_room(thread, place, call) {
-            return Posted::Code(TiError::OutOfMemory.number());
+            return Posted::Code(TiError::Full.number());
         }
         match self.post_one(rt, thread, place, call, TraceBuf::none()) {
             Asked::Answered(answer) => Posted::Code(code_in(&answer)),
@@ -113,8 +113,8 @@ impl Env {
     /// SuspendThreadList (JVM TI 11): one code for each element, 0 or the number of its error. All elements are posted, in
     /// the list's order, before it waits for the first. A refused element does not stop those after it.
     ///
-    /// It spends one call for each element that reaches its thread. An element's code is 110 OUT_OF_MEMORY if `window` calls
-    /// of this environment are out at its thread, those of the list included. Such an element does not reach its thread.
+    /// It spends one call for each element that reaches its thread. An element's code is 216 (this profile: `Full`) if `window`
+    /// calls of this environment are out at its thread, those of the list included. Such an element does not reach its thread.
     ///
     /// The whole call is refused with 99 MUST_POSSESS_CAPABILITY, and then with 110 if there is no memory for the codes.
     /// Then nothing was posted.

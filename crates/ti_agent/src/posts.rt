@@ -37,7 +37,8 @@ impl Env {
     ///   number once.
     /// - 103 ILLEGAL_ARGUMENT: its count or depth is negative.
     /// - 209 CALLS_SPENT (this profile): the environment has no call left at this thread.
-    /// - 110 OUT_OF_MEMORY: the call may wait and `window` calls are out there, or there is no memory for a trace's frames.
+    /// - 216 (this profile: `Full`): the call may wait, and `window` calls are out there.
+    /// - 110 OUT_OF_MEMORY: there is no memory for a trace's frames.
     ///
     /// Then nothing changes.
     pub fn post<R: Wait>(
@@ -58,7 +59,7 @@ impl Env {
             Err(error) => return Err(error),
         };
         if self.has_no_room(thread, place, call) {
-            return Err(TiError::OutOfMemory);
+            return Err(TiError::Full);
         }
         match buffer_for(alloc, self.state.limits(), call) {
             Ok(buf) => Ok(self.post_one(rt, thread, place, call, buf)),

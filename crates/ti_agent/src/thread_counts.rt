@@ -1,6 +1,7 @@
 //! Counts how often each thread is in a list. Under one stop, a thread is read that many times. Threads are named by their
-//! places here.
+//! places here. Counting costs the length of the list, however many threads the environment has met.
 
+use indexmap::IndexMap;
 use std::alloc::Global;
 use ti_env::EnvState;
 use ti_types::{ThreadNo, TiError};
@@ -41,53 +42,64 @@ pub(crate) fn are_all_paid(state: &EnvState, count: u32) -> bool
     true
 }
 
-/// How often each thread is in a list, by its place. 110 OUT_OF_MEMORY if there is no memory for the counts. 209
+/// How often each thread of a list is in it, by its place. 110 OUT_OF_MEMORY if there is no memory for the counts. 209
 /// CALLS_SPENT if a thread has too few calls left for its stop and all of its reads.
 pub(crate) fn count_each(
     alloc: Global,
     state: &EnvState,
     threads: &[ThreadNo],
-) -> Result<Vec<u64>, TiError>
+) -> Result<IndexMap<u32, u64>, TiError>
     requires there { are_there (length state.now.spent) threads.now ≡ true }
-    ensures counts { IfOk result (λ v. AreCounts (length state.now.spent) threads.now v.items) }
+    ensures counts { IfOk result (λ m. AreCounts threads.now m.entries) }
     ensures paid { MatchResult result (λ _. are_paid state.now (each_once (length state.now.spent) threads.now) ≡ true) (λ e. IsNotCounted state.now threads.now e) }
 {
-    let mut counts = vec![in alloc; 0u64; state.threads() as usize]?;
+    let mut counts = IndexMap::with_capacity(alloc, threads.len())?;
     for i in 0..threads.len() {
         let thread = threads[i];
         let reads = state.left(thread).saturating_sub(1);
-        let index = thread.0 as usize;
-        if counts[index] >= reads {
+        let count = counts.get(&thread.0).copied().unwrap_or(0);
+        if count >= reads {
             return Err(TiError::CallsSpent);
         }
-        counts[index] += 1;
+        match counts.insert(thread.0, count + 1) {
+            Ok(_before) => (),
+            Err(_refused) => return Err(TiError::OutOfMemory),
+        }
     }
     Ok(counts)
 }
 
-/// The threads that were counted at least once, each once, in the order of their places. Each has as many reads to come as
-/// were counted. 110 OUT_OF_MEMORY if there is no memory for the list.
-pub(crate) fn counted_threads(
-    alloc: Global,
-    count: u32,
-    counts: &[u64],
-) -> Result<Vec<(ThreadNo, u64)>, TiError>
-    requires counts { length counts.now ≡ count }
-    ensures listed { IfOk result (λ v. (threads : List Thread) → AreCounts count threads counts.now → v.items ≡ each_once count threads) }
+/// The threads that were counted, in the order of the counts. 110 OUT_OF_MEMORY if there is no memory for the list.
+fn listed(alloc: Global, counts: &IndexMap<u32, u64>) -> Result<Vec<(ThreadNo, u64)>, TiError>
+    ensures listed { IfOk result (λ v. v.items ≡ listed_of counts.now.entries) }
     ensures memory { IfErr result (λ e. e ≡ OutOfMemory) }
 {
-    let mut list = Vec::with_capacity(alloc, count as usize)?;
-    for i in 0..count {
-        let reads = counts[i as usize];
-        if reads > 0 {
-            list.push_reserved((ThreadNo(i), reads));
-        }
+    let mut list = Vec::with_capacity(alloc, counts.len())?;
+    for i in 0..counts.len() {
+        let Some((place, reads)) = counts.get_index(i) else {
+            unreachable!()
+        };
+        list.push_reserved((ThreadNo(*place), *reads));
     }
     Ok(list)
+}
+
+/// The threads that were counted, each once, in the order of their places. Each has as many reads to come as were counted.
+/// 110 OUT_OF_MEMORY if there is no memory for the list.
+pub(crate) fn counted_threads(
+    alloc: Global,
+    counts: IndexMap<u32, u64>,
+) -> Result<Vec<(ThreadNo, u64)>, TiError>
+    ensures listed { IfOk result (λ v. (n : ℕ) (threads : List Thread) → are_there n threads ≡ true → AreCounts threads counts.entries → v.items ≡ each_once n threads) }
+    ensures memory { IfErr result (λ e. e ≡ OutOfMemory) }
+{
+    let mut counts = counts;
+    counts.sort_keys()?;
+    listed(alloc, &counts)
 }
 
 ghost use Rattle.std.specs.Prelude.{ℕ, List, ◌≡◌, ◌<◌, true, length, IfOk, IfErr, OnOk, MatchResult};
 ghost use Rattle.ti_types.specs.declared.error.TiError.TheVariants.{CallsSpent, OutOfMemory};
 ghost use Rattle.ti_types.specs.declared.numbers.ThreadNo.{ThreadNo as Thread};
 ghost use Rattle.ti_vmop.specs.Turns.{are_paid};
-ghost use Rattle.ti_agent.specs.Traces.{all_once, each_once, each_thread, are_there, AreCounts, IsNotCounted};
+ghost use Rattle.ti_agent.specs.Traces.{all_once, each_once, each_thread, listed_of, are_there, AreCounts, IsNotCounted};

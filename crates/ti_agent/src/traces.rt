@@ -58,6 +58,7 @@ fn read_each<R: Wait>(
     bufs: Vec<TraceBuf>,
     infos: &mut Vec<StackInfo>,
 )
+    requires cells { cells_of standing.old.threads desks.old ≡ standing.old.cells }
     requires held { AreStopped (record { env = standing.old.env; state = state.old; desks = desks.old }) standing.old.threads }
     requires there { AreThere (length desks.old) standing.old.threads }
     requires listed { AreListed standing.old.threads places.now }
@@ -67,6 +68,7 @@ fn read_each<R: Wait>(
     requires bufs { (length bufs.items ≡ length places.now) × AreRoomy state.old.limits max_count bufs.items }
     requires empty { infos.old.items ≡ [] }
     requires room { length places.now ≤ vec_capacity infos.old }
+    ensures cells { cells_of standing.old.threads desks.new ≡ standing.old.cells }
     ensures held { AreStopped (record { env = standing.old.env; state = state.new; desks = desks.new }) standing.old.threads }
     ensures reads { HasRead (record { env = standing.old.env; state = state.old; desks = desks.old }) (record { env = standing.old.env; state = state.new; desks = desks.new }) max_count places.now (threads_at desks.old places.now) infos.new.items }
     ensures standing { standing.new ≡ with_reads standing.old (length places.now) }
@@ -292,7 +294,7 @@ impl Env {
         self.admit_list(threads, max_count)?;
         let places = self.places(alloc, threads)?;
         let counts = count_each(alloc, &self.state, &places)?;
-        let stopping = counted_threads(alloc, self.state.threads(), &counts)?;
+        let stopping = counted_threads(alloc, counts)?;
         self.trace(rt, alloc, turn, &stopping, &places, max_count)
     }
 }
@@ -303,7 +305,7 @@ ghost use Rattle.ti_types.specs.Numbers.{is_not_negative};
 ghost use Rattle.ti_types.specs.declared.error.TiError.TheVariants.{OutOfMemory};
 ghost use Rattle.ti_types.specs.Refusing.{or_else};
 ghost use Rattle.ti_types.specs.declared.limits.Limits.{Limits};
-ghost use Rattle.ti_vmop.specs.Turns.{AreThere, are_paid, with_reads};
+ghost use Rattle.ti_vmop.specs.Turns.{AreThere, are_paid, cells_of, with_reads};
 ghost use Rattle.ti_agent.specs.Buffers.{AreRoomy};
 ghost use Rattle.ti_agent.specs.Env.{IsWhole, places_of, threads_at};
 ghost use Rattle.ti_agent.specs.Traces.{are_there, each_once, is_stack, told_info, told_stack, refusal_of_all, refusal_of_list, refusal_of_counted, AreStopped, AreLeft, AreListed, HasRead, IsListRefused, IsTraced, TracesAlive};

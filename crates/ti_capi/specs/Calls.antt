@@ -16,7 +16,7 @@ use Rattle.ti_roster.specs.declared.info.ThreadInfo.{ThreadInfo}
 use Rattle.ti_roster.specs.declared.life_event.NextEvent.{NextEvent}
 use Rattle.ti_service.specs.Agent.{AddsWaiting, AgentState, IsRest, IsSameBut, Keeps, Meets}
 use Rattle.ti_service.specs.LettingGo.{LetsGo}
-use Rattle.ti_service.specs.Service.{Looks, RefusesEnd, TellsNews, roster_seen}
+use Rattle.ti_service.specs.Service.{Looks, RefusesInfo, TellsNews, roster_seen}
 use Rattle.ti_service.specs.Telling.{Enables, TellsNext, with_events}
 use Rattle.ti_capi.specs.declared.values.CqEvent.{CqEvent}
 use Rattle.ti_capi.specs.declared.values.CqThreadInfo.{CqThreadInfo}
@@ -102,7 +102,7 @@ pub data ListsBy (l0 l1 : List ℕ) (c0 c1 : ℕ) (s n : AgentState) (code : ℕ
 pub data TellsInfoBy (t : ThreadNo) (i0 i1 : CqThreadInfo) (l0 l1 : List ℕ) (s n : AgentState) (code : ℕ) : Type 0 where
   InfoTold : (told : ThreadInfo) → code ≡ 0 → IsSameBut s n → Looks s.service.view n.service.view → IsToldOf (roster_seen n.service.view) t told
       → i1 ≡ record { name_length = length (string_bytes told.name); priority = told.priority } → l1 ≡ over (string_bytes told.name) l0 → TellsInfoBy t i0 i1 l0 l1 s n code
-  InfoRefused : (e : TiError) → code ≡ number_of e → i1 ≡ i0 → l1 ≡ l0 → IsSameBut s n → RefusesEnd s.service.view n.service.view t e ⊎ ((e ≡ Busy) × (n ≡ s)) → TellsInfoBy t i0 i1 l0 l1 s n code
+  InfoRefused : (e : TiError) → code ≡ number_of e → i1 ≡ i0 → l1 ≡ l0 → IsSameBut s n → RefusesInfo s.service.view n.service.view t e ⊎ ((e ≡ Busy) × (n ≡ s)) → TellsInfoBy t i0 i1 l0 l1 s n code
 
 -- events are enabled or disabled (`ti_service`, `Agent::try_set_event_notification_mode`)
 pub data EnablesBy (enabled : Bool) (s n : AgentState) (code : ℕ) : Type 0 where

@@ -3,7 +3,7 @@ use Rattle.std.specs.Prelude.{ℕ, Result, Ok, Err}
 use Rattle.ti_types.specs.declared.error.TiError.{TiError}
 use Rattle.ti_types.specs.TiError.{number_of}
 use Rattle.ti_thread.specs.declared.any_thread.Told.{Told}
-use Rattle.ti_thread.specs.declared.any_thread.Told.TheVariants.{Done, Stays, Refused}
+use Rattle.ti_thread.specs.declared.any_thread.Told.TheVariants.{Done, Held, Refused}
 
 abbrev pub held : ℕ
 held = 301
@@ -19,7 +19,7 @@ misused = 304
 
 abbrev pub code_told : Told → ℕ
 code_told Done = 0
-code_told Stays = held
+code_told Held = held
 code_told (Refused e) = number_of e
 
 abbrev pub code_done : {X : Type 0} → Result X TiError → ℕ

@@ -1,8 +1,7 @@
 -- The end of an environment, as C makes it.
-use Rattle.std.specs.Prelude.{ℕ, ◌≡◌, ◌⊎◌, Option, Some, None}
+use Rattle.std.specs.Prelude.{ℕ, ◌≡◌, Option, Some, None}
 use Rattle.ti_types.specs.TiError.{number_of}
 use Rattle.ti_types.specs.declared.error.TiError.{TiError}
-use Rattle.ti_types.specs.declared.error.TiError.TheVariants.{Busy, OutOfMemory}
 use Rattle.ti_service.specs.Agent.{AgentState}
 use Rattle.ti_service.specs.Leaving.{Disposes, StaysOn}
 use Rattle.ti_service.specs.Service.{Member}
@@ -15,12 +14,12 @@ use Rattle.ti_capi.specs.Handles.{EnvHandle, env_held_with, with_held_env}
 pub data DisposesIn (old new : HeldEnv) (code : ℕ) : Type 0 where
   NoEnvironment : code ≡ misused → old.agent ≡ None → new ≡ old → DisposesIn old new code
   DisposedIn : (s : AgentState) → (m : Member) → code ≡ 0 → old.agent ≡ Some s → new ≡ env_held_with old None → Disposes s m → DisposesIn old new code
-  StaysIn : (s n : AgentState) → (e : TiError) → code ≡ number_of e → (e ≡ OutOfMemory) ⊎ (e ≡ Busy) → old.agent ≡ Some s → new ≡ env_held_with old (Some n) → StaysOn s n → n.events ≡ s.events → DisposesIn old new code
+  StaysIn : (s n : AgentState) → (e : TiError) → code ≡ number_of e → old.agent ≡ Some s → new ≡ env_held_with old (Some n) → StaysOn s n e → n.events ≡ s.events → DisposesIn old new code
 
 -- the same behind a handle
 pub data DisposesBehind (s : AgentState) (old new : EnvHandle) (code : ℕ) : Type 0 where
   Disposed : (m : Member) → code ≡ 0 → new.kind ≡ 0 → Disposes s m → DisposesBehind s old new code
-  StaysBehind : (h : HeldEnv) → (n : AgentState) → (e : TiError) → code ≡ number_of e → (e ≡ OutOfMemory) ⊎ (e ≡ Busy) → old.place.env ≡ Some h → new ≡ with_held_env old (env_held_with h (Some n)) → StaysOn s n → n.events ≡ s.events
+  StaysBehind : (h : HeldEnv) → (n : AgentState) → (e : TiError) → code ≡ number_of e → old.place.env ≡ Some h → new ≡ with_held_env old (env_held_with h (Some n)) → StaysOn s n e → n.events ≡ s.events
       → DisposesBehind s old new code
 
 abbrev pub DisposesBy : Option AgentState → EnvHandle → EnvHandle → ℕ → Type 0

@@ -4,13 +4,14 @@ use Rattle.std.specs.String.{string_bytes}
 use Rattle.ti_types.specs.Limits.{IsWithin, most_calls, most_depth, most_own, most_window}
 use Rattle.ti_types.specs.TiError.{number_of}
 use Rattle.ti_types.specs.declared.error.TiError.{TiError}
-use Rattle.ti_types.specs.declared.error.TiError.TheVariants.{Busy, IllegalArgument, OutOfMemory}
+use Rattle.ti_types.specs.declared.error.TiError.TheVariants.{Busy, Full, IllegalArgument, OutOfMemory}
 use Rattle.ti_types.specs.declared.limits.Limits.{Limits}
 use Rattle.ti_cell.specs.Seats.{Sitting}
 use Rattle.ti_roster.specs.declared.info.ThreadInfo.{ThreadInfo}
-use Rattle.ti_roster.specs.View.{first_view, split_off}
+use Rattle.ti_roster.specs.Roster.{coming_refusal}
+use Rattle.ti_roster.specs.View.{first_view, split_off, splitter}
 use Rattle.ti_service.specs.Agent.{AgentState, IsNewAgent}
-use Rattle.ti_service.specs.Service.{Attaches as AttachesTo, Looks, Member}
+use Rattle.ti_service.specs.Service.{Attaches as AttachesTo, Looks, Member, RefusesPlace, roster_seen, with_handle}
 use Rattle.ti_thread.specs.declared.any_thread.AnyThread.TheVariants.{Fresh}
 use Rattle.ti_capi.specs.declared.held.HeldEnv.{HeldEnv}
 use Rattle.ti_capi.specs.declared.held.HeldThread.{HeldThread}
@@ -47,18 +48,23 @@ pub data Makes (depth envs window : ℕ) (old new : ServiceHandle) (code : ℕ) 
 abbrev pub IsShareOf : Member → Member → Type 0
 IsShareOf m s = (s.cell ≡ m.cell) × (s.view ≡ split_off m.view)
 
-pub data SharesFor (m : Member) (old new : ServiceHandle) (code : ℕ) : Type 0 where
-  ShareFull : code ≡ misused → (old.kind == 0) ≡ false → new ≡ old → SharesFor m old new code
-  ShareNoMemory : code ≡ number_of OutOfMemory → (old.kind == 0) ≡ true → new ≡ old → SharesFor m old new code
-  Shared : (s : Member) → code ≡ 0 → (old.kind == 0) ≡ true → new.place.service ≡ Some s → IsShareOf m s → SharesFor m old new code
+-- why there is no further handle: there may be no more, or there was no memory for its box
+abbrev pub RefusesHandle : Member → Member → TiError → Type 0
+RefusesHandle m n e = ((e ≡ Full) × (n ≡ m)) ⊎ ((e ≡ OutOfMemory) × (n ≡ with_handle m))
 
--- the first handle knows what it knew
-abbrev pub SharesBehind : Option Member → ServiceHandle → ServiceHandle → ServiceHandle → ServiceHandle → ℕ → Type 0
-SharesBehind (Some m) old new other0 other1 code = (new.place.service ≡ Some m) × SharesFor m other0 other1 code
-SharesBehind None old new other0 other1 code = (new ≡ old) × (other1 ≡ other0) × (code ≡ misused)
+pub data SharesFor (m n : Member) (old new : ServiceHandle) (code : ℕ) : Type 0 where
+  ShareFull : code ≡ misused → (old.kind == 0) ≡ false → new ≡ old → n ≡ m → SharesFor m n old new code
+  ShareRefused : (e : TiError) → code ≡ number_of e → (old.kind == 0) ≡ true → new ≡ old → RefusesHandle m n e → SharesFor m n old new code
+  Shared : (s : Member) → code ≡ 0 → (old.kind == 0) ≡ true → new.place.service ≡ Some s → IsShareOf m s → n ≡ with_handle m → SharesFor m n old new code
+
+-- the first handle knows what it knew, and has made one more at most
+abbrev pub SharesBehind : Option Member → Option Member → ServiceHandle → ServiceHandle → ServiceHandle → ServiceHandle → ℕ → Type 0
+SharesBehind (Some m) (Some n) old new other0 other1 code = (new ≡ with_service old n) × SharesFor m n other0 other1 code
+SharesBehind (Some m) None old new other0 other1 code = ⊥
+SharesBehind None n old new other0 other1 code = (new ≡ old) × (other1 ≡ other0) × (code ≡ misused)
 
 abbrev pub Shares : ServiceHandle → ServiceHandle → ServiceHandle → ServiceHandle → ℕ → Type 0
-Shares old new other0 other1 code = SharesBehind old.place.service old new other0 other1 code
+Shares old new other0 other1 code = SharesBehind old.place.service new.place.service old new other0 other1 code
 
 -- a handle is freed: it is empty
 abbrev pub FreesBehind : Option Member → ServiceHandle → ServiceHandle → ℕ → Type 0
@@ -72,22 +78,27 @@ Frees old new code = FreesBehind old.place.service old new code
 abbrev pub NamesWrongly : List ℕ → TiError → Type 0
 NamesWrongly name e = ((e ≡ IllegalArgument) × (IsUtf8 name → ⊥)) ⊎ ((e ≡ OutOfMemory) × IsUtf8 name)
 
--- A thread with this name and priority came to the service, and has not started. Its box has a handle of the same service
+-- A thread with this name and priority came to the service, and has not started. Its box has a further handle of the same
+-- service
 pub record AttachesThread (name : List ℕ) (priority : ℤ) (m n : Member) (held : HeldThread) : Type 0 where
   pub info : ThreadInfo
   pub fresh : Sitting
   pub name_is : string_bytes info.name ≡ name
   pub priority_is : info.priority ≡ priority
   pub cell : n.cell ≡ m.cell
-  pub attaches : AttachesTo m.view n.view info fresh
+  pub attaches : AttachesTo (splitter m.view) n.view info fresh
   pub thread_is : held.thread ≡ Some (Fresh fresh)
   pub service_is : held.service.cell ≡ m.cell
+
+-- why the service took no thread, once there was a handle for it
+abbrev pub RefusesComing : Member → Member → TiError → Type 0
+RefusesComing m n e = ((e ≡ coming_refusal (roster_seen n.view)) × Looks m.view n.view) ⊎ ((e ≡ Busy) × (n ≡ m))
 
 -- why no thread came
 abbrev pub RefusesThread : List ℕ → Member → Member → TiError → Type 0
 RefusesThread name m n e =
     ((e ≡ IllegalArgument) × (IsUtf8 name → ⊥) × (n ≡ m))
-    ⊎ (((e ≡ OutOfMemory) × (n ≡ m)) ⊎ ((n.cell ≡ m.cell) × (((e ≡ OutOfMemory) × Looks m.view n.view) ⊎ ((e ≡ Busy) × (n ≡ m)))))
+    ⊎ (((e ≡ OutOfMemory) × (n ≡ m)) ⊎ (RefusesHandle m n e ⊎ ((n.cell ≡ m.cell) × RefusesComing (with_handle m) n e)))
 
 pub data AttachesFor (name : List ℕ) (priority : ℤ) (m n : Member) (old new : ThreadHandle) (code : ℕ) : Type 0 where
   AttachFull : code ≡ misused → (old.kind == 0) ≡ false → new ≡ old → n ≡ m → AttachesFor name priority m n old new code
@@ -106,14 +117,20 @@ Attaches name priority s0 s1 old new code = AttachesBehind s0.place.service s1.p
 abbrev pub HasNewAgent : Member → HeldEnv → Type 0
 HasNewAgent m held = (a : AgentState) × (held.agent ≡ Some a) × IsNewAgent m a × (held.trace ≡ None) × (held.stacks ≡ None)
 
-pub data AttachesEnvFor (m : Member) (old new : EnvHandle) (code : ℕ) : Type 0 where
-  EnvFull : code ≡ misused → (old.kind == 0) ≡ false → new ≡ old → AttachesEnvFor m old new code
-  EnvRefused : (e : TiError) → code ≡ number_of e → (old.kind == 0) ≡ true → new ≡ old → (e ≡ OutOfMemory) ⊎ (e ≡ Busy) → AttachesEnvFor m old new code
-  EnvAttached : (held : HeldEnv) → code ≡ 0 → (old.kind == 0) ≡ true → new.place.env ≡ Some held → HasNewAgent m held → AttachesEnvFor m old new code
+-- Why no environment came: there was no memory for its box, the service had no place for it, or the service was in use. No
+-- place is taken then
+abbrev pub RefusesEnv : Member → Member → TiError → Type 0
+RefusesEnv m n e = ((e ≡ OutOfMemory) × (n ≡ m)) ⊎ (RefusesPlace m n e ⊎ ((e ≡ Busy) × (n ≡ with_handle m)))
 
-abbrev pub AttachesEnvBehind : Option Member → ServiceHandle → ServiceHandle → EnvHandle → EnvHandle → ℕ → Type 0
-AttachesEnvBehind (Some m) s0 s1 old new code = (s1.place.service ≡ Some m) × AttachesEnvFor m old new code
-AttachesEnvBehind None s0 s1 old new code = (s1 ≡ s0) × (new ≡ old) × (code ≡ misused)
+pub data AttachesEnvFor (m n : Member) (old new : EnvHandle) (code : ℕ) : Type 0 where
+  EnvFull : code ≡ misused → (old.kind == 0) ≡ false → new ≡ old → n ≡ m → AttachesEnvFor m n old new code
+  EnvRefused : (e : TiError) → code ≡ number_of e → (old.kind == 0) ≡ true → new ≡ old → RefusesEnv m n e → AttachesEnvFor m n old new code
+  EnvAttached : (held : HeldEnv) → code ≡ 0 → (old.kind == 0) ≡ true → new.place.env ≡ Some held → HasNewAgent m held → n ≡ with_handle m → AttachesEnvFor m n old new code
+
+abbrev pub AttachesEnvBehind : Option Member → Option Member → ServiceHandle → ServiceHandle → EnvHandle → EnvHandle → ℕ → Type 0
+AttachesEnvBehind (Some m) (Some n) s0 s1 old new code = (s1 ≡ with_service s0 n) × AttachesEnvFor m n old new code
+AttachesEnvBehind (Some m) None s0 s1 old new code = ⊥
+AttachesEnvBehind None n s0 s1 old new code = (s1 ≡ s0) × (new ≡ old) × (code ≡ misused)
 
 abbrev pub AttachesEnv : ServiceHandle → ServiceHandle → EnvHandle → EnvHandle → ℕ → Type 0
-AttachesEnv s0 s1 old new code = AttachesEnvBehind s0.place.service s0 s1 old new code
+AttachesEnv s0 s1 old new code = AttachesEnvBehind s0.place.service s1.place.service s0 s1 old new code

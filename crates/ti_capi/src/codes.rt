@@ -20,7 +20,7 @@ pub fn told_code(told: Told) -> u32
 {
     match told {
         Told::Done => CQ_OK,
-        Told::Stays => CQ_HELD,
+        Told::Held => CQ_HELD,
         Told::Refused(error) => error.number(),
     }
 }

@@ -56,9 +56,9 @@ pub extern "C" fn cq_make(
 
 /// One more handle of the service, in a box.
 fn share(alloc: Global, service: &mut Service) -> Result<Box<Service>, TiError>
-    ensures same { service.new ≡ service.old }
+    ensures made { OnOk result (service.new ≡ with_handle service.old) }
     ensures other { IfOk result (λ b. IsShareOf service.old b.value) }
-    ensures memory { IfErr result (λ e. e ≡ OutOfMemory) }
+    ensures refused { IfErr result (λ e. RefusesHandle service.old service.new e) }
 {
     match Box::new(alloc, service.share()?) {
         Ok(other) => Ok(other),
@@ -160,9 +160,9 @@ pub extern "C" fn cq_attach_thread(
 
 /// Attaches an environment in a box.
 fn attach_environment(alloc: Global, service: &mut Service) -> Result<Box<HeldEnv>, TiError>
-    ensures same { service.new ≡ service.old }
+    ensures made { OnOk result (service.new ≡ with_handle service.old) }
     ensures attached { IfOk result (λ b. HasNewAgent service.old b.value) }
-    ensures refused { IfErr result (λ e. (e ≡ OutOfMemory) ⊎ (e ≡ Busy)) }
+    ensures refused { IfErr result (λ e. RefusesEnv service.old service.new e) }
 {
     let held = HeldEnv {
         agent: None,
@@ -200,8 +200,9 @@ pub extern "C" fn cq_attach_environment(
     }
 }
 
-ghost use Rattle.std.specs.Prelude.{◌≡◌, ◌⊎◌, IfOk, IfErr};
+ghost use Rattle.std.specs.Prelude.{◌≡◌, IfOk, IfErr, OnOk};
 ghost use Rattle.std.specs.String.{string_bytes};
-ghost use Rattle.ti_types.specs.declared.error.TiError.TheVariants.{Busy, OutOfMemory};
+ghost use Rattle.ti_types.specs.declared.error.TiError.TheVariants.{OutOfMemory};
 ghost use Rattle.ti_roster.specs.View.{first_view};
-ghost use Rattle.ti_capi.specs.Services.{Attaches, AttachesEnv, AttachesThread, Frees, HasNewAgent, IsShareOf, LimitsOf, Makes, NamesWrongly, RefusesThread, Shares};
+ghost use Rattle.ti_capi.specs.Services.{Attaches, AttachesEnv, AttachesThread, Frees, HasNewAgent, IsShareOf, LimitsOf, Makes, NamesWrongly, RefusesEnv, RefusesHandle, RefusesThread, Shares};
+ghost use Rattle.ti_service.specs.Service.{with_handle};

@@ -4,7 +4,7 @@ use Rattle.std.specs.List.{count_by}
 use Rattle.std.proofs.lemmas.Bool.{cases_eq}
 use Rattle.std.proofs.lemmas.List.Sums.{sum_by-cons, length-filter}
 use Rattle.ti_types.specs.declared.entry.Entry.{Entry}
-use Rattle.ti_types.specs.declared.entry.Entry.TheVariants.{Start, Stepped, Hand, Back, End, Asked, Stop, Read, Go}
+use Rattle.ti_types.specs.declared.entry.Entry.TheVariants.{Start, Own, Hand, Back, End, Asked, Stop, Read, Go}
 use Rattle.ti_types.specs.declared.event.Ticket.{Ticket}
 use Rattle.ti_types.specs.declared.numbers.EnvNo.{EnvNo}
 use Rattle.ti_replay.specs.Legal.{asked_by, ask_count}
@@ -39,7 +39,7 @@ none_of_owner (t ∷ tickets) =
 
 one_asked : (env : EnvNo) (x : Entry) → ask_count env x ≤ 1
 one_asked env Start = omega arith
-one_asked env (Stepped step) = omega arith
+one_asked env (Own step) = omega arith
 one_asked env (Hand safe) = omega arith
 one_asked env Back = omega arith
 one_asked env End = omega arith

@@ -2,13 +2,13 @@
 
 use crate::hold::Hold;
 use crate::look::Look;
+use crate::pace::Pace;
 use crate::parked::{Parked, unpark};
-use crate::seat::{CellSeat, EnvSeat, OwnerSeat, Pass};
+use crate::seat::{CellSeat, EnvSeat, OwnSeat, Pass};
 use crate::sleepers::{Sleepers, Wish};
 use crate::view::{CellRule, Frees, Glances, Locks, Returns, Seats, Subject, View};
 use crate::word::Word;
 use atomic_table::Table;
-use crossbeam_utils::Backoff;
 use std::alloc::{AllocError, Global};
 use std::marker::{Model, PhantomData};
 use std::sync::Wait;
@@ -68,7 +68,7 @@ impl ThreadCell {
         alloc: Global,
         limits: Limits,
         number: ThreadNo,
-    ) -> Result<(ThreadCell, OwnerSeat, Vec<EnvSeat>), TiError>
+    ) -> Result<(ThreadCell, OwnSeat, Vec<EnvSeat>), TiError>
         ensures own { IfOk result (λ m. (m.1.cell ≡ m.0) × (m.1.view ≡ newcomer (subject_of limits number) 0 (limits.envs + 1))) }
         ensures others { IfOk result (λ m. m.2.items ≡ env_seats m.0 (subject_of limits number) limits.envs) }
         ensures memory { IfErr result (λ e. e ≡ TiError.OutOfMemory) }
@@ -168,26 +168,28 @@ impl ThreadCell {
         }
     }
 
-    /// Takes the lock bit and the slot. While another user has them, `Backoff` paces the looks: first pauses, since a hold
-    /// is short, and then yields. When it has had enough, the holder does not run, and the one who looks goes to sleep.
+    /// Takes the lock bit and the slot, once nobody has them.
     fn take<R: Wait>(&self, rt: &R, seat: &mut Pass) -> Parked
         requires { (seat.old.table_id ≡ self.now) × (seat.old.me.1 ≡ []) × (seat.old.me.0.gone ≡ false) }
         ensures seat { (seat.new.table_id ≡ seat.old.table_id) × (seat.new.me ≡ (holding seat.old.me.0 result.history result.uncollected, (0, None) ∷ [])) }
         ensures taken { IsTaken seat.old.me.0 result }
     {
-        let backoff = Backoff::new();
+        let pace = Pace::new();
         for _ in rt.forever() {
             if let Some(slot) = self.try_take(seat) {
                 return slot;
             }
-            if backoff.is_completed() {
-                self.sleep(rt, Wish::Free, None);
-                backoff.reset();
-            } else {
-                backoff.snooze();
-            }
+            self.await_free(rt, &pace);
         }
         unreachable!()
+    }
+
+    /// Waits a little, after a try that found the cell in use, as the call's pace has it. It may sleep until the cell is free,
+    /// and may return while it is in use.
+    pub fn await_free<R: Wait>(&self, rt: &R, pace: &Pace) {
+        if pace.has_had_enough() {
+            self.sleep(rt, Wish::Free, None);
+        }
     }
 
     /// The same as `hold`, but it tries once and never waits. If another user holds the cell, or comes first, the seat comes
@@ -342,7 +344,7 @@ impl ThreadCell {
 
     /// Takes an environment's seat back to the owner's, by one load. The owner's seat keeps what its user knew, and `close`
     /// says that it is true of the slot. Both seats are this cell's.
-    pub fn rejoin(&self, own: &mut OwnerSeat, seat: EnvSeat)
+    pub fn rejoin(&self, own: &mut OwnSeat, seat: EnvSeat)
         requires cell { own.old.cell ≡ self.now }
         requires other { seat.cell ≡ self.now }
         requires owner { own.old.view.number ≡ 0 }
@@ -370,7 +372,7 @@ impl ThreadCell {
     ///
     /// Otherwise the result is `None` exactly if the word that the cell ends with has the lock bit (`Word::unlocked`). A
     /// hold has to be stored, and borrows the cell, so that does not happen. But of seats that are away no clause says so.
-    pub fn close(self, seat: OwnerSeat) -> Option<Slot>
+    pub fn close(self, seat: OwnSeat) -> Option<Slot>
         requires cell { seat.cell ≡ self }
         ensures ends { Ends seat.view result }
         ensures legal { IfSome result (λ s. is_legal s.limits s.history ≡ true) }

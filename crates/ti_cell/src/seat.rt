@@ -16,7 +16,7 @@ pub struct OwnerRole;
 pub struct EnvRole;
 
 /// The seat of the thread itself.
-pub type OwnerSeat = CellSeat<OwnerRole>;
+pub type OwnSeat = CellSeat<OwnerRole>;
 
 /// The seat of an environment.
 pub type EnvSeat = CellSeat<EnvRole>;

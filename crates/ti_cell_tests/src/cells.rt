@@ -4,7 +4,7 @@ use std::alloc::Global;
 use std::sync::Wait;
 use std::test::*;
 use std::thread::{Threads, join};
-use ti_cell::{EnvSeat, OwnerSeat, ThreadCell};
+use ti_cell::{EnvSeat, OwnSeat, ThreadCell};
 use ti_replay::replay;
 use ti_slot::Slot;
 use ti_types::{Call, EnvNo, Limits, ThreadNo, TraceBuf};
@@ -13,7 +13,7 @@ use ti_types::{Call, EnvNo, Limits, ThreadNo, TraceBuf};
 const HOLDS: u32 = 100;
 
 /// Starts the thread by one hold, and gives whether it started.
-fn start<R: Wait>(rt: &R, cell: &ThreadCell, seat: OwnerSeat) -> (bool, OwnerSeat)
+fn start<R: Wait>(rt: &R, cell: &ThreadCell, seat: OwnSeat) -> (bool, OwnSeat)
     requires owner { IsOwner cell.now 3 seat }
     ensures owner { IsOwner cell.now 3 result.1 }
     ensures mine { result.1.view.mine ≡ seat.view.mine ++ (if result.0 then Start ∷ [] else []) }
@@ -93,7 +93,7 @@ fn both(cell: &ThreadCell, limits: Limits, seats: Vec<EnvSeat>) -> Option<(EnvSe
 }
 
 /// The slot of a cell of two environments, after their seats have come back.
-fn finish(cell: ThreadCell, own: OwnerSeat, one: EnvSeat, two: EnvSeat) -> Slot
+fn finish(cell: ThreadCell, own: OwnSeat, one: EnvSeat, two: EnvSeat) -> Slot
     requires here { (one.cell ≡ cell) × (two.cell ≡ cell) }
     requires owner { IsOwner cell 3 own }
     requires others { (one.view.number ≡ 1) × (two.view.number ≡ 2) }

@@ -8,7 +8,7 @@ use Rattle.ti_types.specs.declared.numbers.EnvNo.{EnvNo}
 use Rattle.ti_types.specs.declared.numbers.ThreadNo.{ThreadNo}
 use Rattle.ti_types.specs.declared.caps.Caps.{Caps}
 use Rattle.ti_types.specs.declared.event.Event.{Event}
-use Rattle.ti_types.specs.declared.event.Event.TheVariants.{Start, Stepped, Poll, ToNative, ToBlocked, Back, End, Ask, Stop, Read, Go, AddCaps, Relinquish, GetCaps, SetEnvWord, GetEnvWord}
+use Rattle.ti_types.specs.declared.event.Event.TheVariants.{Start, Own, Poll, ToNative, ToBlocked, Back, End, Ask, Stop, Read, Go, AddCaps, Relinquish, GetCaps, SetEnvWord, GetEnvWord}
 use Rattle.ti_types.specs.declared.error.TiError.{TiError}
 use Rattle.ti_types.specs.declared.entry.Entry.{Entry}
 use Rattle.ti_types.specs.declared.entry.Entry.TheVariants as entry
@@ -178,7 +178,7 @@ changed limits e events h env new k ns nc c n s = record {
 pub env_goes : (events : List Happening) (s : CoreState) (w : Bool) (event : Event) (e : EnvNo) → Mirrors events s → e.0 < s.limits.envs
     → EnvMirrors s.limits e (events ++ happened event w ∷ []) (env_at (stepped_by s.limits s.envs s.threads w event).envs e)
 env_goes events s w (Start u) e k l = rw (own_envs s w (Start u) u entry.Start) (same_stands s.limits e events (happened (Start u) w) (env_at s.envs e) (k.envs e l) (λ c. refl) (λ t d. refl) (λ n. refl))
-env_goes events s w (Stepped u step) e k l = rw (own_envs s w (Stepped u step) u (entry.Stepped step)) (same_stands s.limits e events (happened (Stepped u step) w) (env_at s.envs e) (k.envs e l) (λ c. refl) (λ t d. refl) (λ n. refl))
+env_goes events s w (Own u step) e k l = rw (own_envs s w (Own u step) u (entry.Own step)) (same_stands s.limits e events (happened (Own u step) w) (env_at s.envs e) (k.envs e l) (λ c. refl) (λ t d. refl) (λ n. refl))
 env_goes events s w (ToNative u) e k l = rw (own_envs s w (ToNative u) u (entry.Hand Native)) (same_stands s.limits e events (happened (ToNative u) w) (env_at s.envs e) (k.envs e l) (λ c. refl) (λ t d. refl) (λ n. refl))
 env_goes events s w (ToBlocked u kind) e k l = rw (own_envs s w (ToBlocked u kind) u (entry.Hand (Blocked kind))) (same_stands s.limits e events (happened (ToBlocked u kind) w) (env_at s.envs e) (k.envs e l) (λ c. refl) (λ t d. refl) (λ n. refl))
 env_goes events s w (Back u) e k l = rw (own_envs s w (Back u) u entry.Back) (same_stands s.limits e events (happened (Back u) w) (env_at s.envs e) (k.envs e l) (λ c. refl) (λ t d. refl) (λ n. refl))

@@ -11,7 +11,7 @@ use Rattle.ti_types.specs.declared.call.Call.{Call}
 use Rattle.ti_types.specs.declared.entry.Entry.{Entry}
 use Rattle.ti_types.specs.declared.entry.Entry.TheVariants as entry
 use Rattle.ti_types.specs.declared.event.Event.{Event}
-use Rattle.ti_types.specs.declared.event.Event.TheVariants.{Start, Stepped, Poll, ToNative, ToBlocked, Back, End, Ask, Stop, Read, Go, AddCaps, Relinquish, GetCaps, SetEnvWord, GetEnvWord}
+use Rattle.ti_types.specs.declared.event.Event.TheVariants.{Start, Own, Poll, ToNative, ToBlocked, Back, End, Ask, Stop, Read, Go, AddCaps, Relinquish, GetCaps, SetEnvWord, GetEnvWord}
 use Rattle.ti_types.specs.declared.event.Ticket.{Ticket}
 use Rattle.ti_types.specs.declared.event.Outcome.{Outcome}
 use Rattle.ti_types.specs.declared.event.Outcome.TheVariants as outcome
@@ -119,7 +119,7 @@ alone_kept s w event k h = ap (λ ts. has k (thread_at s.limits ts k.thread).thr
 pub kept_goes : (events : List Happening) (s : CoreState) (w : Bool) (event : Event) (k : Ticket) → Mirrors events s
     → has k (thread_at s.limits (stepped_by s.limits s.envs s.threads w event).threads k.thread).thread.uncollected ≡ (has k (thread_at s.limits s.threads k.thread).thread.uncollected || posts s (happened event w) event k)
 kept_goes events s w (Start u) k st = own_kept s u entry.Start k
-kept_goes events s w (Stepped u step) k st = own_kept s u (entry.Stepped step) k
+kept_goes events s w (Own u step) k st = own_kept s u (entry.Own step) k
 kept_goes events s w (ToNative u) k st = own_kept s u (entry.Hand Native) k
 kept_goes events s w (ToBlocked u kind) k st = own_kept s u (entry.Hand (Blocked kind)) k
 kept_goes events s w (Back u) k st = own_kept s u entry.Back k
@@ -144,7 +144,7 @@ not_ticket : (o : Outcome) (k : Ticket) {P : Ticket → Type 0} → ((v : Ticket
 not_ticket outcome.Done k n p = refl
 not_ticket outcome.Clear k n p = refl
 not_ticket outcome.Went k n p = refl
-not_ticket outcome.Stays k n p = refl
+not_ticket outcome.Held k n p = refl
 not_ticket (outcome.Refused error) k n p = refl
 not_ticket (outcome.Gave a) k n p = refl
 not_ticket (outcome.Posted ticket) k n p = absurd (n ticket p)
@@ -153,7 +153,7 @@ ask_posted : (t : Ticket) (o : Outcome) (told : Option Outcome) (k : Ticket) →
 ask_posted t outcome.Done told k e A B p = rw (sym e) refl
 ask_posted t outcome.Clear told k e A B p = rw (sym e) refl
 ask_posted t outcome.Went told k e A B p = rw (sym e) refl
-ask_posted t outcome.Stays told k e A B p = rw (sym e) refl
+ask_posted t outcome.Held told k e A B p = rw (sym e) refl
 ask_posted t (outcome.Refused error) told k e A B p = rw (sym e) refl
 ask_posted t (outcome.Gave a) told k e A B p = rw (sym e) refl
 ask_posted t (outcome.Posted ticket) told k e A B p = rw (sym e) (ap (λ u. same u k) (sym p.1.1))
@@ -161,7 +161,7 @@ ask_posted t (outcome.Posted ticket) told k e A B p = rw (sym e) (ap (λ u. same
 -- what was posted is what the outcome says
 pub posted_is : (s : CoreState) (h : Happening) (event : Event) (o : Outcome) (k : Ticket) → told_now o ≡ core_told s h → IfPosted o (λ u. IsTicketOf s.limits s.envs s.threads event u) → posts s h event k ≡ is_ticket_of o k
 posted_is s h (Start u) o k e p = not_ticket o k (λ v q. q) p
-posted_is s h (Stepped u step) o k e p = not_ticket o k (λ v q. q) p
+posted_is s h (Own u step) o k e p = not_ticket o k (λ v q. q) p
 posted_is s h (ToNative u) o k e p = not_ticket o k (λ v q. q) p
 posted_is s h (ToBlocked u kind) o k e p = not_ticket o k (λ v q. q) p
 posted_is s h (Back u) o k e p = not_ticket o k (λ v q. q) p
@@ -234,7 +234,7 @@ fresh_posted events s (Ask e t call) k st p =
     let at : k.thread ≡ t = ap (λ (z : Ticket). z.thread) p.1.1 ∙ here.number_is in
     ap (λ (v : ThreadNo). has k (thread_at s.limits s.threads v).thread.uncollected) at ∙ ap (λ z. has z u.thread.uncollected) p.1.1 ∙ fresh_ticket u e here.known
 fresh_posted events s (Start u) k st p = absurd p
-fresh_posted events s (Stepped u step) k st p = absurd p
+fresh_posted events s (Own u step) k st p = absurd p
 fresh_posted events s (ToNative u) k st p = absurd p
 fresh_posted events s (ToBlocked u kind) k st p = absurd p
 fresh_posted events s (Back u) k st p = absurd p
@@ -253,7 +253,7 @@ pub ticket_fresh : (events : List Happening) (s : CoreState) (event : Event) (o 
 ticket_fresh events s event outcome.Done st p = tt
 ticket_fresh events s event outcome.Clear st p = tt
 ticket_fresh events s event outcome.Went st p = tt
-ticket_fresh events s event outcome.Stays st p = tt
+ticket_fresh events s event outcome.Held st p = tt
 ticket_fresh events s event (outcome.Refused error) st p = tt
 ticket_fresh events s event (outcome.Gave a) st p = tt
 ticket_fresh events s event (outcome.Posted k) st p = fresh_posted events s event k st p
@@ -268,7 +268,7 @@ ticket_by events s (Ask e t call) k st p =
     let n = asked_same s.limits t (history_of s.limits t events) u e here le in
     p.1.1 ∙ ap (λ (v : ThreadNo). record { env = e; thread = v; no = asked_by e u.thread.history }) here.number_is ∙ ap (λ (m : ℕ). record { env = e; thread = t; no = m }) n
 ticket_by events s (Start u) k st p = absurd p
-ticket_by events s (Stepped u step) k st p = absurd p
+ticket_by events s (Own u step) k st p = absurd p
 ticket_by events s (ToNative u) k st p = absurd p
 ticket_by events s (ToBlocked u kind) k st p = absurd p
 ticket_by events s (Back u) k st p = absurd p
@@ -287,7 +287,7 @@ pub ticket_as : (events : List Happening) (s : CoreState) (event : Event) (o : O
 ticket_as events s event outcome.Done st p = tt
 ticket_as events s event outcome.Clear st p = tt
 ticket_as events s event outcome.Went st p = tt
-ticket_as events s event outcome.Stays st p = tt
+ticket_as events s event outcome.Held st p = tt
 ticket_as events s event (outcome.Refused error) st p = tt
 ticket_as events s event (outcome.Gave a) st p = tt
 ticket_as events s event (outcome.Posted k) st p = ticket_by events s event k st p

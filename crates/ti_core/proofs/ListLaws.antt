@@ -54,7 +54,7 @@ fresh_before s mid os (outcome.Posted k) kept fresh = not_out (is_uncollected s 
 fresh_before s mid os outcome.Done kept fresh = tt
 fresh_before s mid os outcome.Clear kept fresh = tt
 fresh_before s mid os outcome.Went kept fresh = tt
-fresh_before s mid os outcome.Stays kept fresh = tt
+fresh_before s mid os outcome.Held kept fresh = tt
 fresh_before s mid os (outcome.Refused error) kept fresh = tt
 fresh_before s mid os (outcome.Gave a) kept fresh = tt
 

@@ -8,7 +8,7 @@ use Rattle.ti_types.specs.declared.place.Frame.{Frame}
 use Rattle.ti_types.specs.declared.call.Call.{Call}
 use Rattle.ti_types.specs.declared.call.Call.TheVariants.{State, FrameCount, Trace, Location, Suspend, Resume, GetWord, SetWord, Pop}
 use Rattle.ti_types.specs.declared.entry.Entry.{Entry}
-use Rattle.ti_types.specs.declared.entry.Entry.TheVariants.{Start, Stepped, Hand, Back, End, Asked, Stop, Read, Go}
+use Rattle.ti_types.specs.declared.entry.Entry.TheVariants.{Start, Own, Hand, Back, End, Asked, Stop, Read, Go}
 use Rattle.ti_types.specs.declared.event.Outcome.TheVariants.{Gave}
 use Rattle.ti_types.specs.declared.answer.Answer.{Answer}
 use Rattle.ti_types.specs.declared.view.ThreadView.{ThreadView}
@@ -50,7 +50,7 @@ answer_memory v env Pop = let t = pop_memory v.suspended (slice_get v.frames 0) 
 
 pub entry_memory : (v : ThreadView) (x : Entry) → was_for_memory (given (answer_to v x)) ≡ false
 entry_memory v Start = refl
-entry_memory v (Stepped step) = refl
+entry_memory v (Own step) = refl
 entry_memory v (Hand safe) = refl
 entry_memory v Back = refl
 entry_memory v End = refl

@@ -5,8 +5,8 @@ use Rattle.ti_types.specs.declared.state.Mode.TheVariants.{AtSafe}
 use Rattle.ti_types.specs.declared.state.Safe.{Safe}
 use Rattle.ti_types.specs.declared.state.Safe.TheVariants.{AtPoll}
 use Rattle.ti_types.specs.declared.entry.Entry.{Entry}
-use Rattle.ti_types.specs.declared.entry.Entry.TheVariants.{Start, Stepped, Hand, Back, End, Asked, Stop, Read, Go}
-use Rattle.ti_types.specs.declared.event.Outcome.TheVariants.{Clear, Went, Stays}
+use Rattle.ti_types.specs.declared.entry.Entry.TheVariants.{Start, Own, Hand, Back, End, Asked, Stop, Read, Go}
+use Rattle.ti_types.specs.declared.event.Outcome.TheVariants.{Clear, Went, Held}
 use Rattle.ti_types.specs.declared.error.TiError.{TiError}
 use Rattle.ti_types.specs.declared.error.TiError.TheVariants.{Barred}
 use Rattle.ti_types.specs.declared.view.ThreadView.{ThreadView}
@@ -24,7 +24,7 @@ use Rattle.ti_replay.proofs.LoggedLaws.{steps-snoc}
 
 -- an entry of the thread's own comes after what is there
 pub entries-snoc : (s : ThreadState) (x : Entry) → entries (entered s x) ≡ entries s ++ x ∷ []
-entries-snoc s (Stepped step) = steps-snoc s.thread.history s.steps step
+entries-snoc s (Own step) = steps-snoc s.thread.history s.steps step
 entries-snoc s Start = append-nil (s.thread.history ++ (steps_of s.steps ++ Start ∷ [])) ∙ sym (append_assoc s.thread.history (steps_of s.steps) (Start ∷ []))
 entries-snoc s (Hand safe) = append-nil (s.thread.history ++ (steps_of s.steps ++ Hand safe ∷ [])) ∙ sym (append_assoc s.thread.history (steps_of s.steps) (Hand safe ∷ []))
 entries-snoc s Back = append-nil (s.thread.history ++ (steps_of s.steps ++ Back ∷ [])) ∙ sym (append_assoc s.thread.history (steps_of s.steps) (Back ∷ []))
@@ -36,7 +36,7 @@ entries-snoc s (Go env) = append-nil (s.thread.history ++ (steps_of s.steps ++ G
 
 call_keeps_mode : (v : ThreadView) (x : Entry) → is_waiting_call x ≡ true → (after v x).mode ≡ v.mode
 call_keeps_mode v Start h = cc
-call_keeps_mode v (Stepped step) h = cc
+call_keeps_mode v (Own step) h = cc
 call_keeps_mode v (Hand safe) h = cc
 call_keeps_mode v Back h = cc
 call_keeps_mode v End h = cc
@@ -94,7 +94,7 @@ poll_went s one two r a e g free =
 
 -- or stays, where it is barred
 pub poll_stayed : (s one two : ThreadState) (error : TiError) → is_running (seen s.thread.limits s).mode ≡ true → is_armed s.thread.limits (entries s) ≡ true → one ≡ own_next s.thread.limits s (Hand AtPoll)
-    → two ≡ own_next one.thread.limits one Back → Err error ≡ own_said (refusal_at one.thread.limits one Back) → (two ≡ poll_next s.thread.limits s) × (Stays ≡ poll_said s.thread.limits s)
+    → two ≡ own_next one.thread.limits one Back → Err error ≡ own_said (refusal_at one.thread.limits one Back) → (two ≡ poll_next s.thread.limits s) × (Held ≡ poll_said s.thread.limits s)
 poll_stayed s one two error r a e g why =
     let limits = s.thread.limits in
     let o : one ≡ at_poll s = e ∙ hands limits s r in

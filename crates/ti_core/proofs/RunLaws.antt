@@ -10,7 +10,7 @@ use Rattle.ti_types.specs.declared.call.Call.{Call}
 use Rattle.ti_types.specs.declared.entry.Entry.{Entry}
 use Rattle.ti_types.specs.declared.entry.Entry.TheVariants as entry
 use Rattle.ti_types.specs.declared.event.Event.{Event}
-use Rattle.ti_types.specs.declared.event.Event.TheVariants.{Start, Stepped, Poll, ToNative, ToBlocked, Back, End, Ask, Stop, Read, Go, AddCaps, Relinquish, GetCaps, SetEnvWord, GetEnvWord}
+use Rattle.ti_types.specs.declared.event.Event.TheVariants.{Start, Own, Poll, ToNative, ToBlocked, Back, End, Ask, Stop, Read, Go, AddCaps, Relinquish, GetCaps, SetEnvWord, GetEnvWord}
 use Rattle.ti_types.specs.declared.event.Ticket.{Ticket}
 use Rattle.ti_types.specs.declared.event.Outcome.{Outcome}
 use Rattle.ti_types.specs.declared.event.Outcome.TheVariants as outcome
@@ -83,7 +83,7 @@ ask_out limits all front w e t c = rw (self t.0) refl
 -- what an event has come to stays as more happens
 pub out_stays : (limits : Limits) (all more front : List Happening) (w : Bool) (event : Event) (x : Outcome) → out_of limits all front (record { event = event; wanting = w }) ≡ Some x → out_of limits (all ++ more) front (record { event = event; wanting = w }) ≡ Some x
 out_stays limits all more front w (Start u) x e = e
-out_stays limits all more front w (Stepped u step) x e = e
+out_stays limits all more front w (Own u step) x e = e
 out_stays limits all more front w (Poll u) x e = e
 out_stays limits all more front w (ToNative u) x e = e
 out_stays limits all more front w (ToBlocked u kind) x e = e
@@ -129,7 +129,7 @@ ticket_due : (limits : Limits) (front more : List Happening) (w : Bool) (event :
     → out_of limits ((front ++ record { event = event; wanting = w } ∷ []) ++ more) front (record { event = event; wanting = w }) ≡ given (reply_to limits (history_of limits k.thread ((front ++ record { event = event; wanting = w } ∷ []) ++ more)) k)
 ticket_due limits front more w (Ask e t c) k n p = posted_due limits front more w e t c k n p
 ticket_due limits front more w (Start u) k n p = absurd p
-ticket_due limits front more w (Stepped u step) k n p = absurd p
+ticket_due limits front more w (Own u step) k n p = absurd p
 ticket_due limits front more w (Poll u) k n p = absurd p
 ticket_due limits front more w (ToNative u) k n p = absurd p
 ticket_due limits front more w (ToBlocked u kind) k n p = absurd p
@@ -151,7 +151,7 @@ one_due limits front more h (Some (outcome.Posted k)) s = ticket_due limits fron
 one_due limits front more h (Some outcome.Done) s = sym (out_stays limits (front ++ h ∷ []) more front h.wanting h.event outcome.Done (sym s.0))
 one_due limits front more h (Some outcome.Clear) s = sym (out_stays limits (front ++ h ∷ []) more front h.wanting h.event outcome.Clear (sym s.0))
 one_due limits front more h (Some outcome.Went) s = sym (out_stays limits (front ++ h ∷ []) more front h.wanting h.event outcome.Went (sym s.0))
-one_due limits front more h (Some outcome.Stays) s = sym (out_stays limits (front ++ h ∷ []) more front h.wanting h.event outcome.Stays (sym s.0))
+one_due limits front more h (Some outcome.Held) s = sym (out_stays limits (front ++ h ∷ []) more front h.wanting h.event outcome.Held (sym s.0))
 one_due limits front more h (Some (outcome.Refused error)) s = sym (out_stays limits (front ++ h ∷ []) more front h.wanting h.event (outcome.Refused error) (sym s.0))
 one_due limits front more h (Some (outcome.Gave a)) s = sym (out_stays limits (front ++ h ∷ []) more front h.wanting h.event _ (sym s.0))
 
@@ -174,7 +174,7 @@ pub told_memory : (o : Outcome) → was_for_memory (told_now o) ≡ is_for_memor
 told_memory outcome.Done = refl
 told_memory outcome.Clear = refl
 told_memory outcome.Went = refl
-told_memory outcome.Stays = refl
+told_memory outcome.Held = refl
 told_memory (outcome.Refused error) = refl
 told_memory (outcome.Posted k) = refl
 told_memory (outcome.Gave answer.Done) = refl
@@ -235,7 +235,7 @@ tickets-append (None ∷ os) ps = tickets-append os ps
 tickets-append (Some outcome.Done ∷ os) ps = tickets-append os ps
 tickets-append (Some outcome.Clear ∷ os) ps = tickets-append os ps
 tickets-append (Some outcome.Went ∷ os) ps = tickets-append os ps
-tickets-append (Some outcome.Stays ∷ os) ps = tickets-append os ps
+tickets-append (Some outcome.Held ∷ os) ps = tickets-append os ps
 tickets-append (Some (outcome.Refused error) ∷ os) ps = tickets-append os ps
 tickets-append (Some (outcome.Gave a) ∷ os) ps = tickets-append os ps
 tickets-append (Some (outcome.Posted k) ∷ os) ps = ap (λ ks. k ∷ ks) (tickets-append os ps)
@@ -263,7 +263,7 @@ tickets_on : (s s' : CoreState) (ks : List Ticket) (o : Outcome) → HasTickets 
 tickets_on s s' ks outcome.Done h f fresh = no_more s s' ks (λ u. false) h f
 tickets_on s s' ks outcome.Clear h f fresh = no_more s s' ks (λ u. false) h f
 tickets_on s s' ks outcome.Went h f fresh = no_more s s' ks (λ u. false) h f
-tickets_on s s' ks outcome.Stays h f fresh = no_more s s' ks (λ u. false) h f
+tickets_on s s' ks outcome.Held h f fresh = no_more s s' ks (λ u. false) h f
 tickets_on s s' ks (outcome.Refused error) h f fresh = no_more s s' ks (λ u. false) h f
 tickets_on s s' ks (outcome.Gave a) h f fresh = no_more s s' ks (λ u. false) h f
 tickets_on s s' ks (outcome.Posted k) h f fresh = one_more s s' ks k h f fresh

@@ -9,7 +9,7 @@ use Rattle.ti_types.specs.declared.call.Call.{Call}
 use Rattle.ti_types.specs.declared.entry.Entry.{Entry}
 use Rattle.ti_types.specs.declared.entry.Entry.TheVariants as entry
 use Rattle.ti_types.specs.declared.event.Event.{Event}
-use Rattle.ti_types.specs.declared.event.Event.TheVariants.{Start, Stepped, Poll, ToNative, ToBlocked, Back, End, Ask, Stop, Read, Go, AddCaps, Relinquish, GetCaps, SetEnvWord, GetEnvWord}
+use Rattle.ti_types.specs.declared.event.Event.TheVariants.{Start, Own, Poll, ToNative, ToBlocked, Back, End, Ask, Stop, Read, Go, AddCaps, Relinquish, GetCaps, SetEnvWord, GetEnvWord}
 use Rattle.ti_types.specs.declared.error.TiError.{TiError}
 use Rattle.ti_types.specs.declared.error.TiError.TheVariants.{MustPossessCapability}
 use Rattle.ti_types.specs.declared.caps.Caps.{Caps}
@@ -168,7 +168,7 @@ is_alone _ = false
 
 pub env_threads : (s : CoreState) (w : Bool) (event : Event) → is_alone event ≡ true → (stepped_by s.limits s.envs s.threads w event).threads ≡ s.threads
 env_threads s w (Start t) h = cc
-env_threads s w (Stepped t step) h = cc
+env_threads s w (Own t step) h = cc
 env_threads s w (Poll t) h = cc
 env_threads s w (ToNative t) h = cc
 env_threads s w (ToBlocked t kind) h = cc
@@ -187,7 +187,7 @@ env_threads s w (GetEnvWord e) h = refl
 pub thread_goes : (events : List Happening) (s : CoreState) (w : Bool) (event : Event) (t : ThreadNo) → Mirrors events s → t.0 < s.limits.threads
     → ThreadMirrors s.limits t (history_behind s.limits t events (history_of s.limits t events) (happened event w)) (thread_at s.limits (stepped_by s.limits s.envs s.threads w event).threads t)
 thread_goes events s w (Start u) t k l = own_goes events s u entry.Start t _ k l (own_history s.limits t u (length s.threads) (history_of s.limits t events) _ true k.thread_count)
-thread_goes events s w (Stepped u step) t k l = own_goes events s u (entry.Stepped step) t _ k l (own_history s.limits t u (length s.threads) (history_of s.limits t events) _ true k.thread_count)
+thread_goes events s w (Own u step) t k l = own_goes events s u (entry.Own step) t _ k l (own_history s.limits t u (length s.threads) (history_of s.limits t events) _ true k.thread_count)
 thread_goes events s w (ToNative u) t k l = own_goes events s u (entry.Hand Native) t _ k l (own_history s.limits t u (length s.threads) (history_of s.limits t events) _ true k.thread_count)
 thread_goes events s w (ToBlocked u kind) t k l = own_goes events s u (entry.Hand (Blocked kind)) t _ k l (own_history s.limits t u (length s.threads) (history_of s.limits t events) _ true k.thread_count)
 thread_goes events s w (Back u) t k l = own_goes events s u entry.Back t _ k l (own_history s.limits t u (length s.threads) (history_of s.limits t events) _ true k.thread_count)

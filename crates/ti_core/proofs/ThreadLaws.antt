@@ -7,7 +7,7 @@ use Rattle.ti_types.specs.declared.numbers.EnvNo.{EnvNo}
 use Rattle.ti_types.specs.declared.numbers.ThreadNo.{ThreadNo}
 use Rattle.ti_types.specs.declared.state.Safe.TheVariants.{AtPoll}
 use Rattle.ti_types.specs.declared.entry.Entry.{Entry}
-use Rattle.ti_types.specs.declared.entry.Entry.TheVariants.{Start, Stepped, Hand, Back, End, Asked, Stop, Read, Go}
+use Rattle.ti_types.specs.declared.entry.Entry.TheVariants.{Start, Own, Hand, Back, End, Asked, Stop, Read, Go}
 use Rattle.ti_replay.specs.Answers.{is_running}
 use Rattle.ti_replay.specs.Settling.{unanswered}
 use Rattle.ti_replay.specs.View.{view, is_barred}
@@ -25,7 +25,7 @@ use Rattle.ti_core.proofs.PollLaws.{entries-snoc, handed_at}
 
 entered_limits : (s : ThreadState) (x : Entry) → (entered s x).thread.limits ≡ s.thread.limits
 entered_limits s Start = refl
-entered_limits s (Stepped step) = refl
+entered_limits s (Own step) = refl
 entered_limits s (Hand safe) = refl
 entered_limits s Back = refl
 entered_limits s End = refl
@@ -36,7 +36,7 @@ entered_limits s (Go env) = refl
 
 entered_number : (s : ThreadState) (x : Entry) → (entered s x).thread.number ≡ s.thread.number
 entered_number s Start = refl
-entered_number s (Stepped step) = refl
+entered_number s (Own step) = refl
 entered_number s (Hand safe) = refl
 entered_number s Back = refl
 entered_number s End = refl
@@ -47,7 +47,7 @@ entered_number s (Go env) = refl
 
 pub entered_tickets : (s : ThreadState) (x : Entry) → (entered s x).thread.uncollected ≡ s.thread.uncollected
 entered_tickets s Start = refl
-entered_tickets s (Stepped step) = refl
+entered_tickets s (Own step) = refl
 entered_tickets s (Hand safe) = refl
 entered_tickets s Back = refl
 entered_tickets s End = refl
@@ -62,7 +62,7 @@ asked_more env h more = omega (arith, sum_by-append (ask_count env) h more)
 
 entered_asked : (env : EnvNo) (s : ThreadState) (x : Entry) → asked_by env s.thread.history ≤ asked_by env (entered s x).thread.history
 entered_asked env s Start = asked_more env s.thread.history (steps_of s.steps ++ Start ∷ [])
-entered_asked env s (Stepped step) = omega arith
+entered_asked env s (Own step) = omega arith
 entered_asked env s (Hand safe) = asked_more env s.thread.history (steps_of s.steps ++ Hand safe ∷ [])
 entered_asked env s Back = asked_more env s.thread.history (steps_of s.steps ++ Back ∷ [])
 entered_asked env s End = asked_more env s.thread.history (steps_of s.steps ++ End ∷ [])
@@ -73,9 +73,9 @@ entered_asked env s (Go e) = asked_more env s.thread.history (steps_of s.steps +
 
 -- a thread whose last entry is no step has logged nothing
 entered_rests : (limits : Limits) (L : List Entry) (s : ThreadState) (x : Entry) → own_refusal limits (view limits L) (own_spent L) x ≡ None → is_running (view limits (L ++ x ∷ [])).mode ≡ false → (entered s x).steps ≡ []
-entered_rests limits L s (Stepped step) r h =
+entered_rests limits L s (Own step) r h =
     let runs : is_running (view limits L).mode ≡ true = grind (arith, r) in
-    let o : true ≡ false = sym runs ∙ sym (runs-snoc limits L (Stepped step)) ∙ h in
+    let o : true ≡ false = sym runs ∙ sym (runs-snoc limits L (Own step)) ∙ h in
     cc
 entered_rests limits L s Start r h = refl
 entered_rests limits L s (Hand safe) r h = refl

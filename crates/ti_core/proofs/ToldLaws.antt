@@ -9,7 +9,7 @@ use Rattle.ti_types.specs.declared.numbers.ThreadNo.{ThreadNo}
 use Rattle.ti_types.specs.declared.entry.Entry.{Entry}
 use Rattle.ti_types.specs.declared.entry.Entry.TheVariants as entry
 use Rattle.ti_types.specs.declared.event.Event.{Event}
-use Rattle.ti_types.specs.declared.event.Event.TheVariants.{Start, Stepped, Poll, ToNative, ToBlocked, Back, End, Ask, Stop, Read, Go, AddCaps, Relinquish, GetCaps, SetEnvWord, GetEnvWord}
+use Rattle.ti_types.specs.declared.event.Event.TheVariants.{Start, Own, Poll, ToNative, ToBlocked, Back, End, Ask, Stop, Read, Go, AddCaps, Relinquish, GetCaps, SetEnvWord, GetEnvWord}
 use Rattle.ti_types.specs.declared.event.Ticket.{Ticket}
 use Rattle.ti_types.specs.declared.event.Outcome.{Outcome}
 use Rattle.ti_types.specs.declared.event.Outcome.TheVariants as outcome
@@ -63,7 +63,7 @@ agent_told envs threads why r other there e h =
 pub told_goes : (events : List Happening) (s : CoreState) (w : Bool) (event : Event) → Mirrors events s
     → (stepped_by s.limits s.envs s.threads w event).told ≡ out_of s.limits (events ++ happened event w ∷ []) events (happened event w)
 told_goes events s w (Start u) k = rw (self u.0) (own_told_goes events s u entry.Start k)
-told_goes events s w (Stepped u step) k = rw (self u.0) (own_told_goes events s u (entry.Stepped step) k)
+told_goes events s w (Own u step) k = rw (self u.0) (own_told_goes events s u (entry.Own step) k)
 told_goes events s w (ToNative u) k = rw (self u.0) (own_told_goes events s u (entry.Hand Native) k)
 told_goes events s w (ToBlocked u kind) k = rw (self u.0) (own_told_goes events s u (entry.Hand (Blocked kind)) k)
 told_goes events s w (Back u) k = rw (self u.0) (own_told_goes events s u entry.Back k)
@@ -153,7 +153,7 @@ with_length envs threads e env told = grind (arith, length-set envs e.0 env)
 
 thread_length : (s : CoreState) (w : Bool) (event : Event) → length (stepped_by s.limits s.envs s.threads w event).threads ≡ length s.threads
 thread_length s w (Start u) = own_length s u entry.Start
-thread_length s w (Stepped u step) = own_length s u (entry.Stepped step)
+thread_length s w (Own u step) = own_length s u (entry.Own step)
 thread_length s w (ToNative u) = own_length s u (entry.Hand Native)
 thread_length s w (ToBlocked u kind) = own_length s u (entry.Hand (Blocked kind))
 thread_length s w (Back u) = own_length s u entry.Back
@@ -171,7 +171,7 @@ thread_length s w (GetEnvWord e) = refl
 
 env_length : (s : CoreState) (w : Bool) (event : Event) → length (stepped_by s.limits s.envs s.threads w event).envs ≡ length s.envs
 env_length s w (Start u) = ap (λ (x : List EnvValue). length x) (own_envs s w (Start u) u entry.Start)
-env_length s w (Stepped u step) = ap (λ (x : List EnvValue). length x) (own_envs s w (Stepped u step) u (entry.Stepped step))
+env_length s w (Own u step) = ap (λ (x : List EnvValue). length x) (own_envs s w (Own u step) u (entry.Own step))
 env_length s w (ToNative u) = ap (λ (x : List EnvValue). length x) (own_envs s w (ToNative u) u (entry.Hand Native))
 env_length s w (ToBlocked u kind) = ap (λ (x : List EnvValue). length x) (own_envs s w (ToBlocked u kind) u (entry.Hand (Blocked kind)))
 env_length s w (Back u) = ap (λ (x : List EnvValue). length x) (own_envs s w (Back u) u entry.Back)

@@ -39,7 +39,7 @@ finished_told limits hs front h s None r l d f u = ap told_later f ∙ d
 finished_told limits hs front h s (Some outcome.Done) r l d f u = ap told_later f ∙ d
 finished_told limits hs front h s (Some outcome.Clear) r l d f u = ap told_later f ∙ d
 finished_told limits hs front h s (Some outcome.Went) r l d f u = ap told_later f ∙ d
-finished_told limits hs front h s (Some outcome.Stays) r l d f u = ap told_later f ∙ d
+finished_told limits hs front h s (Some outcome.Held) r l d f u = ap told_later f ∙ d
 finished_told limits hs front h s (Some (outcome.Refused error)) r l d f u = ap told_later f ∙ d
 finished_told limits hs front h s (Some (outcome.Gave a)) r l d f u = ap told_later f ∙ d
 finished_told limits hs front h s (Some (outcome.Posted k)) r l d f u =
@@ -51,7 +51,7 @@ finished_marks hs s None r f u = ap was_for_memory f
 finished_marks hs s (Some outcome.Done) r f u = ap was_for_memory f
 finished_marks hs s (Some outcome.Clear) r f u = ap was_for_memory f
 finished_marks hs s (Some outcome.Went) r f u = ap was_for_memory f
-finished_marks hs s (Some outcome.Stays) r f u = ap was_for_memory f
+finished_marks hs s (Some outcome.Held) r f u = ap was_for_memory f
 finished_marks hs s (Some (outcome.Refused error)) r f u = ap was_for_memory f
 finished_marks hs s (Some (outcome.Gave a)) r f u = ap was_for_memory f
 finished_marks hs s (Some (outcome.Posted k)) r f u =
@@ -64,7 +64,7 @@ head_kept s None os k h p = cc
 head_kept s (Some outcome.Done) os k h p = cc
 head_kept s (Some outcome.Clear) os k h p = cc
 head_kept s (Some outcome.Went) os k h p = cc
-head_kept s (Some outcome.Stays) os k h p = cc
+head_kept s (Some outcome.Held) os k h p = cc
 head_kept s (Some (outcome.Refused error)) os k h p = cc
 head_kept s (Some (outcome.Gave a)) os k h p = cc
 head_kept s (Some (outcome.Posted t)) os k h p =
@@ -82,7 +82,7 @@ tail_left s None os h a = record { kept = h; once = a; apart = λ k p. refl }
 tail_left s (Some outcome.Done) os h a = record { kept = h; once = a; apart = λ k p. refl }
 tail_left s (Some outcome.Clear) os h a = record { kept = h; once = a; apart = λ k p. refl }
 tail_left s (Some outcome.Went) os h a = record { kept = h; once = a; apart = λ k p. refl }
-tail_left s (Some outcome.Stays) os h a = record { kept = h; once = a; apart = λ k p. refl }
+tail_left s (Some outcome.Held) os h a = record { kept = h; once = a; apart = λ k p. refl }
 tail_left s (Some (outcome.Refused error)) os h a = record { kept = h; once = a; apart = λ k p. refl }
 tail_left s (Some (outcome.Gave x)) os h a = record { kept = h; once = a; apart = λ k p. refl }
 tail_left s (Some (outcome.Posted t)) os h a = record {

@@ -11,7 +11,7 @@ use Rattle.ti_types.specs.declared.state.Safe.{Safe}
 use Rattle.ti_types.specs.declared.answer.Answer.{Answer}
 use Rattle.ti_types.specs.declared.event.Outcome.TheVariants.{Gave}
 use Rattle.ti_types.specs.declared.entry.Entry.{Entry}
-use Rattle.ti_types.specs.declared.entry.Entry.TheVariants.{Start, Stepped, Hand, Back, End, Asked, Stop, Read, Go}
+use Rattle.ti_types.specs.declared.entry.Entry.TheVariants.{Start, Own, Hand, Back, End, Asked, Stop, Read, Go}
 use Rattle.ti_types.specs.declared.event.Event.TheVariants as event
 use Rattle.ti_types.specs.declared.error.TiError.{TiError}
 use Rattle.ti_types.specs.declared.error.TiError.TheVariants.{OwnSpent}
@@ -175,7 +175,7 @@ whole_home t u x steps l hand e none room wide legal =
   where
     hand_stops : (r : Bool) (x : Entry) → is_hand_over x ≡ true → runs_after r x ≡ false
     hand_stops r Start h = cc
-    hand_stops r (Stepped step) h = cc
+    hand_stops r (Own step) h = cc
     hand_stops r (Hand safe) h = refl
     hand_stops r Back h = cc
     hand_stops r End h = refl
@@ -194,11 +194,11 @@ fault_here t f l step k = rw (k.parts.depth, k.parts.newest) refl
 runs_here : (t : Thread) (f : Stack) (l : Steps) → IsWhole t (Some f) (Some l) → is_running (view t.limits (t.history ++ steps_of l.steps)).mode ≡ true
 runs_here t f l k = logged_runs t.limits t.history l.steps ∙ k.parts.runs
 
-pub step_refused : (t : Thread) (f : Stack) (l : Steps) (step : Step) (error : TiError) → IsWhole t (Some f) (Some l) → step_refusal f.depth f.frames step ≡ Some error → refusal_at t.limits (state_in t (Some l)) (Stepped step) ≡ Some error
+pub step_refused : (t : Thread) (f : Stack) (l : Steps) (step : Step) (error : TiError) → IsWhole t (Some f) (Some l) → step_refusal f.depth f.frames step ≡ Some error → refusal_at t.limits (state_in t (Some l)) (Own step) ≡ Some error
 step_refused t f l step error k e = let q = sym (fault_here t f l step k) ∙ e in grind (arith, runs_here t f l k, q)
 
 pub step_spent : (t : Thread) (f : Stack) (l : Steps) (step : Step) (left : ℕ) → IsWhole t (Some f) (Some l) → step_refusal f.depth f.frames step ≡ None → left + own_spent t.history ≡ t.limits.own → left ≤ length l.steps
-    → refusal_at t.limits (state_in t (Some l)) (Stepped step) ≡ Some OwnSpent
+    → refusal_at t.limits (state_in t (Some l)) (Own step) ≡ Some OwnSpent
 step_spent t f l step left k e is few =
     let q = sym (fault_here t f l step k) ∙ e in
     let o = logged_own t.history l.steps in
@@ -206,29 +206,29 @@ step_spent t f l step left k e is few =
     grind (arith, runs_here t f l k, q, n)
 
 pub step_free : (t : Thread) (f : Stack) (l : Steps) (step : Step) (left : ℕ) → IsWhole t (Some f) (Some l) → step_refusal f.depth f.frames step ≡ None → left + own_spent t.history ≡ t.limits.own → length l.steps < left
-    → refusal_at t.limits (state_in t (Some l)) (Stepped step) ≡ None
+    → refusal_at t.limits (state_in t (Some l)) (Own step) ≡ None
 step_free t f l step left k e is few =
     let q = sym (fault_here t f l step k) ∙ e in
     let o = logged_own t.history l.steps in
     let n : nat_lt (own_spent (t.history ++ steps_of l.steps)) t.limits.own ≡ true = grind (arith, nat_tests, o, is, few) in
     grind (arith, runs_here t f l k, q, n)
 
-step_may : (t : Thread) (steps : List Step) (step : Step) → own_refusal t.limits (view t.limits (t.history ++ steps_of steps)) (own_spent (t.history ++ steps_of steps)) (Stepped step) ≡ None
-    → may_follow t.limits (t.history ++ steps_of steps) (Stepped step) ≡ true
+step_may : (t : Thread) (steps : List Step) (step : Step) → own_refusal t.limits (view t.limits (t.history ++ steps_of steps)) (own_spent (t.history ++ steps_of steps)) (Own step) ≡ None
+    → may_follow t.limits (t.history ++ steps_of steps) (Own step) ≡ true
 step_may t steps step h =
     let frames = (view t.limits (t.history ++ steps_of steps)).frames in
     let free : step_refusal t.limits.depth frames step ≡ None = grind (arith, h) in
     grind (arith, h, fits_is t.limits frames step free)
 
-own_frames : (limits : Limits) (h : List Entry) (step : Step) → (view limits (h ++ Stepped step ∷ [])).frames ≡ frames_after (view limits h).frames step
-own_frames limits h step = ap (λ (z : HistoryState). z.view.frames) (history_state-snoc limits h (Stepped step)) ∙ grind arith
+own_frames : (limits : Limits) (h : List Entry) (step : Step) → (view limits (h ++ Own step ∷ [])).frames ≡ frames_after (view limits h).frames step
+own_frames limits h step = ap (λ (z : HistoryState). z.view.frames) (history_state-snoc limits h (Own step)) ∙ grind arith
 
 -- a step that is logged
-pub whole_stepped : (t : Thread) (f g : Stack) (l m : Steps) (step : Step) → IsWhole t (Some f) (Some l) → refusal_at t.limits (state_in t (Some l)) (Stepped step) ≡ None
+pub whole_stepped : (t : Thread) (f g : Stack) (l m : Steps) (step : Step) → IsWhole t (Some f) (Some l) → refusal_at t.limits (state_in t (Some l)) (Own step) ≡ None
     → g ≡ with_frames f (frames_after f.frames step) → m ≡ with_steps l (l.steps ++ step ∷ []) → IsWhole t (Some g) (Some m)
 whole_stepped t f g l m step k free eg em =
     let h = t.history ++ steps_of l.steps in
-    let one : t.history ++ steps_of m.steps ≡ h ++ Stepped step ∷ [] = ap (λ (z : Steps). t.history ++ steps_of z.steps) em ∙ steps-snoc t.history l.steps step in
+    let one : t.history ++ steps_of m.steps ≡ h ++ Own step ∷ [] = ap (λ (z : Steps). t.history ++ steps_of z.steps) em ∙ steps-snoc t.history l.steps step in
     record {
       legal = k.legal;
       parts = record {
@@ -240,7 +240,7 @@ whole_stepped t f g l m step k free eg em =
         goes =
             ap (λ (z : Steps). goes_on t.limits t.history (steps_of z.steps)) em
             ∙ ap (λ z. goes_on t.limits t.history z) (steps-snoc [] l.steps step)
-            ∙ goes_on-append t.limits t.history (steps_of l.steps) (Stepped step ∷ [])
+            ∙ goes_on-append t.limits t.history (steps_of l.steps) (Own step ∷ [])
             ∙ grind (arith, k.parts.goes, step_may t l.steps step free);
         room = ap (λ (z : Steps). z.room) em ∙ k.parts.room;
         kept = ap (λ (z : Steps). z.kept) em ∙ k.parts.kept;

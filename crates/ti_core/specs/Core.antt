@@ -7,7 +7,7 @@ use Rattle.ti_types.specs.declared.caps.Caps.{Caps}
 use Rattle.ti_types.specs.declared.call.Call.{Call}
 use Rattle.ti_types.specs.declared.entry.Entry.{Entry}
 use Rattle.ti_types.specs.declared.event.Event.{Event}
-use Rattle.ti_types.specs.declared.event.Event.TheVariants.{Start, Stepped, Poll, ToNative, ToBlocked, Back, End, Ask, Stop, Read, Go, AddCaps, Relinquish, GetCaps, SetEnvWord, GetEnvWord}
+use Rattle.ti_types.specs.declared.event.Event.TheVariants.{Start, Own, Poll, ToNative, ToBlocked, Back, End, Ask, Stop, Read, Go, AddCaps, Relinquish, GetCaps, SetEnvWord, GetEnvWord}
 use Rattle.ti_types.specs.declared.event.Ticket.{Ticket}
 use Rattle.ti_types.specs.declared.event.Outcome.{Outcome}
 use Rattle.ti_types.specs.declared.event.Outcome.TheVariants as outcome
@@ -151,7 +151,7 @@ stepped_by limits envs threads wanting (GetCaps e) = stepped_tell envs threads e
 stepped_by limits envs threads wanting (SetEnvWord e word) = with_env envs threads e (with_word (env_at envs e) word) (Some (outcome.Gave answer.Done))
 stepped_by limits envs threads wanting (GetEnvWord e) = stepped_tell envs threads e (answer.Word (env_at envs e).word)
 stepped_by limits envs threads wanting (Start t) = stepped_own_if limits envs threads t (own_entry (Start t))
-stepped_by limits envs threads wanting (Stepped t step) = stepped_own_if limits envs threads t (own_entry (Stepped t step))
+stepped_by limits envs threads wanting (Own t step) = stepped_own_if limits envs threads t (own_entry (Own t step))
 stepped_by limits envs threads wanting (ToNative t) = stepped_own_if limits envs threads t (own_entry (ToNative t))
 stepped_by limits envs threads wanting (ToBlocked t kind) = stepped_own_if limits envs threads t (own_entry (ToBlocked t kind))
 stepped_by limits envs threads wanting (Back t) = stepped_own_if limits envs threads t (own_entry (Back t))

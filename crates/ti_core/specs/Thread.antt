@@ -40,7 +40,7 @@ seen limits s = view limits (entries s)
 
 -- a step is logged. Every other entry of the thread's own goes into the slot, after the logged steps
 abbrev pub entered : ThreadState → Entry → ThreadState
-entered s (entry.Stepped step) = record { thread = s.thread; steps = s.steps ++ step ∷ [] }
+entered s (entry.Own step) = record { thread = s.thread; steps = s.steps ++ step ∷ [] }
 entered s x = record { thread = with_more s.thread (steps_of s.steps ++ x ∷ []); steps = [] }
 
 abbrev pub refusal_at : Limits → ThreadState → Entry → Option TiError
@@ -72,7 +72,7 @@ abbrev pub poll_said : Limits → ThreadState → Outcome
 poll_said limits s =
     if not (is_running (seen limits s).mode) then outcome.Refused NotRunning
     else if not (is_armed limits (entries s)) then outcome.Clear
-    else if is_barred (seen limits (at_poll s)) then outcome.Stays else outcome.Went
+    else if is_barred (seen limits (at_poll s)) then outcome.Held else outcome.Went
 
 -- the slot with more entries
 abbrev pub more : ThreadState → List Entry → ThreadState
@@ -128,7 +128,7 @@ new_state limits t = record { thread = new_slot limits t; steps = [] }
 -- an entry of a thread's own that no poll leaves
 abbrev pub is_made : Entry → Bool
 is_made entry.Start = true
-is_made (entry.Stepped step) = true
+is_made (entry.Own step) = true
 is_made (entry.Hand Native) = true
 is_made (entry.Hand (Blocked kind)) = true
 is_made entry.Back = true

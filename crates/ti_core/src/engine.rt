@@ -20,7 +20,7 @@ use ti_types::{Answer, EnvNo, Event, Limits, Outcome, ThreadNo, TiError, Ticket}
 /// let limits = Limits::new(1, 1, 16, 100, 10).ok_or("the limits are in range")?;
 /// let mut core = Core::new(alloc, limits)?;
 /// assert!(rt; matches!(core.step(alloc, Event::Start(thread)), Outcome::Done));
-/// let _entered = core.step(alloc, Event::Stepped(thread, Step::Enter(MethodNo(3))));
+/// let _entered = core.step(alloc, Event::Own(thread, Step::Enter(MethodNo(3))));
 /// // The thread runs, so the call waits for its next poll.
 /// let Outcome::Posted(ticket) = core.step(alloc, Event::Ask(env, thread, Call::FrameCount)) else {
 ///     return Err("a running thread answers later".into());

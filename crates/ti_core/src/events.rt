@@ -268,7 +268,7 @@ pub fn step(
 {
     match event {
         Event::Start(t) => make(limits, threads, t, Entry::Start),
-        Event::Stepped(t, step) => make(limits, threads, t, Entry::Stepped(step)),
+        Event::Own(t, step) => make(limits, threads, t, Entry::Own(step)),
         Event::Poll(t) => poll(limits, threads, t),
         Event::ToNative(t) => make(limits, threads, t, Entry::Hand(Safe::Native)),
         Event::ToBlocked(t, kind) => make(limits, threads, t, Entry::Hand(Safe::Blocked(kind))),

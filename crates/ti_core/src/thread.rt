@@ -78,8 +78,8 @@ impl OneThread {
 
     /// Makes a step, which the running thread logs: 204 if it does not run, then 201, 202 or 203 by its frames, then 208.
     pub fn own(&mut self, step: Step) -> Result<(), TiError>
-        ensures next { self.new ≡ own_next self.old.thread.limits self.old (entry.Stepped step) }
-        ensures said { result ≡ own_said (refusal_at self.old.thread.limits self.old (entry.Stepped step)) }
+        ensures next { self.new ≡ own_next self.old.thread.limits self.old (entry.Own step) }
+        ensures said { result ≡ own_said (refusal_at self.old.thread.limits self.old (entry.Own step)) }
     {
         let left = self.slot.own_left() as usize;
         let Some(frames) = &mut self.frames else {
@@ -148,7 +148,7 @@ impl OneThread {
     {
         match own {
             Entry::Start => self.start(),
-            Entry::Stepped(step) => self.own(step),
+            Entry::Own(step) => self.own(step),
             Entry::Hand(safe) => self.hand_over(safe),
             Entry::Back => self.back(),
             Entry::End => self.end(),
@@ -172,7 +172,7 @@ impl OneThread {
         let _handed = self.hand_over(Safe::AtPoll);
         match self.back() {
             Ok(()) => Outcome::Went,
-            Err(_) => Outcome::Stays,
+            Err(_) => Outcome::Held,
         }
     }
 

@@ -5,19 +5,19 @@ use Rattle.serde_json.specs.Data.{Data}
 use Rattle.ti_types.specs.declared.limits.Limits.{Limits}
 use Rattle.ti_types.specs.declared.entry.Entry.{Entry}
 use Rattle.ti_replay.specs.Legal.{first_illegal, goes_on, is_legal, may_follow}
-use Rattle.ti_script.specs.declared.fault.ScriptFault.{ScriptFault}
+use Rattle.ti_script.specs.declared.located.LocatedFault.{LocatedFault}
 use Rattle.ti_driver.specs.declared.fault.Fault.{Fault}
 use Rattle.ti_driver.specs.declared.fault.Fault.TheVariants.{Script, Memory, Read, Write, Usage, Cell}
 use Rattle.ti_driver.specs.Runs.{IsReadFault, IsEarlyFault}
 
 -- a fault of the reading is one of the run
-pub early_from_read : (fault_of : Data → Option ScriptFault) (known : Option (List ℕ)) (e : Fault) → IsReadFault known e → IsEarlyFault fault_of known e
-early_from_read fault_of known (Script f) h = inl h
-early_from_read fault_of known Memory h = tt
-early_from_read fault_of known Read h = tt
-early_from_read fault_of known Write h = h
-early_from_read fault_of known Cell h = h
-early_from_read fault_of known Usage h = h
+pub early_from_read : (first : Data → Option LocatedFault) (known : Option (List ℕ)) (e : Fault) → IsReadFault known e → IsEarlyFault first known e
+early_from_read first known (Script f) h = inl h
+early_from_read first known Memory h = tt
+early_from_read first known Read h = tt
+early_from_read first known Write h = h
+early_from_read first known Cell h = h
+early_from_read first known Usage h = h
 
 by_test : (b : Bool) (place : ℕ) (o : Option ℕ) (on : Bool) → is_none o ≡ on → is_none (cond b o (Some place)) ≡ (b && on)
 by_test true place o on h = h

@@ -1,24 +1,15 @@
 -- The text of a fault, and the status with which it ends.
-use Rattle.std.specs.Prelude.{ℕ, Bool, List, [], ◌++◌, codes, decimal, Result, Ok, Err, if◌then◌else◌}
+use Rattle.std.specs.Prelude.{ℕ, Bool, List, ◌++◌, codes, decimal, Result, Ok, Err, if◌then◌else◌}
 use Rattle.ti_script.specs.LimitNames.{limit_text}
-use Rattle.ti_script.specs.Members.{member_text}
-use Rattle.ti_script.specs.declared.fault.Part.{Part}
-use Rattle.ti_script.specs.declared.fault.Part.TheVariants as part
 use Rattle.ti_script.specs.declared.fault.ScriptFault.{ScriptFault}
 use Rattle.ti_script.specs.declared.fault.ScriptFault.TheVariants as script
 use Rattle.ti_driver.specs.declared.fault.Fault.{Fault}
 use Rattle.ti_driver.specs.declared.fault.Fault.TheVariants.{Script, Memory, Read, Write, Cell, Usage}
 
--- the part of an item that is at fault, if it is a single one
-abbrev pub part_text : Part → List ℕ
-part_text part.Whole = []
-part_text (part.Member which) = codes ", member " ++ member_text which
-part_text (part.Element place) = codes ", element " ++ decimal place
-
 abbrev pub script_text : ScriptFault → List ℕ
 script_text script.Json = codes "json"
-script_text (script.Shape item p) = codes "shape at item " ++ decimal item ++ part_text p
-script_text (script.Name item p) = codes "name at item " ++ decimal item ++ part_text p
+script_text (script.Shape item) = codes "shape at item " ++ decimal item
+script_text (script.Name item) = codes "name at item " ++ decimal item
 script_text (script.Limit which) = codes "limit " ++ limit_text which
 script_text script.Memory = codes "memory"
 
@@ -28,7 +19,7 @@ fault_text Memory = codes "memory"
 fault_text Read = codes "read"
 fault_text Write = codes "write"
 fault_text Cell = codes "cell"
-fault_text Usage = codes "usage: tiwalk [walk|live|check] < DOCUMENT"
+fault_text Usage = codes "usage: tiwalk [walk|live|check]"
 
 -- the fault line on standard error
 abbrev pub fault_line : Fault → List ℕ

@@ -5,6 +5,7 @@ use Rattle.ti_replay.specs.Admission.{Happening}
 use Rattle.ti_replay.specs.Outcomes.{outs, was_for_memory}
 use Rattle.ti_script.specs.declared.fault.ScriptFault.{ScriptFault}
 use Rattle.ti_script.specs.declared.fault.ScriptFault.TheVariants.{Limit}
+use Rattle.ti_script.specs.declared.located.LocatedFault.{LocatedFault}
 use Rattle.ti_script.specs.declared.fault.LimitName.TheVariants.{Input}
 use Rattle.ti_script.specs.declared.walk.Walk.{Walk}
 use Rattle.ti_script.specs.Walks.{IsDocument, IsWalk, IsRefusalBy, walk_fault}
@@ -61,14 +62,14 @@ IsReadFault known Cell = ⊥
 IsReadFault known Usage = ⊥
 
 -- the reader gave too much, or the document that it gave is refused with this fault
-abbrev pub IsInputRefusal : (Data → Option ScriptFault) → Option (List ℕ) → ScriptFault → Type 0
-IsInputRefusal fault_of known e = IsTooLong known e ⊎ ((input : List ℕ) × IsAllOf known input × IsRefusalBy fault_of e input)
+abbrev pub IsInputRefusal : (Data → Option LocatedFault) → Option (List ℕ) → ScriptFault → Type 0
+IsInputRefusal first known e = IsTooLong known e ⊎ ((input : List ℕ) × IsAllOf known input × IsRefusalBy first e input)
 
 -- why a run on a document, with these tests, ended before it wrote
-abbrev pub IsEarlyFault : (Data → Option ScriptFault) → Option (List ℕ) → Fault → Type 0
-IsEarlyFault fault_of known Memory = ⊤
-IsEarlyFault fault_of known Read = ⊤
-IsEarlyFault fault_of known (Script f) = IsInputRefusal fault_of known f
-IsEarlyFault fault_of known Write = ⊥
-IsEarlyFault fault_of known Cell = ⊥
-IsEarlyFault fault_of known Usage = ⊥
+abbrev pub IsEarlyFault : (Data → Option LocatedFault) → Option (List ℕ) → Fault → Type 0
+IsEarlyFault first known Memory = ⊤
+IsEarlyFault first known Read = ⊤
+IsEarlyFault first known (Script f) = IsInputRefusal first known f
+IsEarlyFault first known Write = ⊥
+IsEarlyFault first known Cell = ⊥
+IsEarlyFault first known Usage = ⊥

@@ -4,7 +4,7 @@ use crate::fault::Fault;
 use crate::output::write_whole;
 use itoa::Buffer;
 use std::io::Write;
-use ti_script::{Part, ScriptFault};
+use ti_script::ScriptFault;
 
 #[tactic(auto, using(crate::proofs::StreamLaws::fronts))]
 fn put_two<W: Write>(writer: &mut W, first: &[u8], second: &[u8]) -> Result<(), Fault>
@@ -26,30 +26,6 @@ pub(crate) fn put_numbered<W: Write>(writer: &mut W, words: &str, number: u64) -
     put_two(writer, words.as_bytes(), digits.format(number).as_bytes())
 }
 
-/// Writes the part of an item that is at fault, if it is a single one.
-fn put_part<W: Write>(writer: &mut W, part: &Part) -> Result<(), Fault>
-    ensures ok { OnOk result (Appends (W.contents writer.old) (W.contents writer.new) (part_text part.now)) }
-    ensures err { IfErr result (λ e. e ≡ NotWritten) }
-    ensures front { TakesFront (W.contents writer.old) (W.contents writer.new) (part_text part.now) }
-{
-    match part {
-        Part::Whole => write_whole(writer, b""),
-        Part::Member(which) => put_two(writer, b", member ", which.text().as_bytes()),
-        Part::Element(place) => put_numbered(writer, ", element ", u64::from(*place)),
-    }
-}
-
-/// Writes what is wrong with an item, its number, and the part at fault.
-#[tactic(auto, using(crate::proofs::StreamLaws::fronts))]
-fn put_place<W: Write>(writer: &mut W, words: &str, item: u32, part: &Part) -> Result<(), Fault>
-    ensures ok { OnOk result (Appends (W.contents writer.old) (W.contents writer.new) (words.now ++ decimal item ++ part_text part.now)) }
-    ensures err { IfErr result (λ e. e ≡ NotWritten) }
-    ensures front { TakesFront (W.contents writer.old) (W.contents writer.new) (words.now ++ decimal item ++ part_text part.now) }
-{
-    put_numbered(writer, words, u64::from(item))?;
-    put_part(writer, part)
-}
-
 fn put_script_text<W: Write>(writer: &mut W, fault: &ScriptFault) -> Result<(), Fault>
     ensures ok { OnOk result (Appends (W.contents writer.old) (W.contents writer.new) (script_text fault.now)) }
     ensures err { IfErr result (λ e. e ≡ NotWritten) }
@@ -57,8 +33,8 @@ fn put_script_text<W: Write>(writer: &mut W, fault: &ScriptFault) -> Result<(), 
 {
     match fault {
         ScriptFault::Json => write_whole(writer, b"json"),
-        ScriptFault::Shape { item, part } => put_place(writer, "shape at item ", *item, part),
-        ScriptFault::Name { item, part } => put_place(writer, "name at item ", *item, part),
+        ScriptFault::Shape { item } => put_numbered(writer, "shape at item ", u64::from(*item)),
+        ScriptFault::Name { item } => put_numbered(writer, "name at item ", u64::from(*item)),
         ScriptFault::Limit { which } => { put_two(writer, b"limit ", which.text().as_bytes()) }
         ScriptFault::Memory => write_whole(writer, b"memory"),
     }
@@ -75,7 +51,7 @@ fn put_fault_text<W: Write>(writer: &mut W, fault: &Fault) -> Result<(), Fault>
         Fault::Read => write_whole(writer, b"read"),
         Fault::Write => write_whole(writer, b"write"),
         Fault::Cell => write_whole(writer, b"cell"),
-        Fault::Usage => write_whole(writer, b"usage: tiwalk [walk|live|check] < DOCUMENT"),
+        Fault::Usage => write_whole(writer, b"usage: tiwalk [walk|live|check]"),
     }
 }
 
@@ -95,5 +71,5 @@ pub fn put_fault<W: Write>(writer: &mut W, fault: &Fault) -> Result<(), Fault>
 ghost use Rattle.std.specs.Prelude.{◌≡◌, ◌++◌, OnOk, IfErr, decimal};
 ghost use Rattle.std.specs.Io.KnownBytes.{Appends};
 ghost use Rattle.ti_driver.specs.declared.fault.Fault.TheVariants.{Write as NotWritten};
-ghost use Rattle.ti_driver.specs.Faults.{part_text, script_text, fault_text, fault_line};
+ghost use Rattle.ti_driver.specs.Faults.{script_text, fault_text, fault_line};
 ghost use Rattle.ti_driver.specs.Streams.{TakesFront};

@@ -1,11 +1,13 @@
 -- What an environment keeps, and which of its calls it lets through.
-use Rattle.std.specs.Prelude.{ℕ, ◌+◌, ◌-◌, max, Bool, if◌then◌else◌, nat_lt, List, [], ◌∷◌, ◌++◌, length, Option, slice_index, slice_set, remove, replicate, ℤ}
+use Rattle.std.specs.Prelude.{ℕ, ◌+◌, ◌-◌, max, Bool, not, if◌then◌else◌, nat_le, nat_lt, List, [], ◌∷◌, ◌++◌, length, Option, slice_index, slice_set, remove, replicate, ℤ}
 use Rattle.ti_types.specs.declared.caps.Caps.{Caps}
 use Rattle.ti_types.specs.declared.call.Call.{Call}
 use Rattle.ti_types.specs.declared.limits.Limits.{Limits}
 use Rattle.ti_types.specs.declared.numbers.ThreadNo.{ThreadNo}
 use Rattle.ti_types.specs.declared.error.TiError.{TiError}
+use Rattle.ti_types.specs.declared.error.TiError.TheVariants.{Full}
 use Rattle.ti_types.specs.Caps.{no_caps}
+use Rattle.ti_types.specs.Refusing.{unless}
 use Rattle.ti_types.specs.Admitting.{asking_refusal, stopping_refusal, reading_refusal}
 
 -- The capabilities, the calls spent at each thread, by its place, the limits that it was made under, and its own word. The
@@ -28,6 +30,10 @@ env_at_no_thread limits = record { caps = no_caps; spent = []; limits = limits; 
 -- one place more, at which this much is spent
 abbrev pub with_place : EnvValue → ℕ → EnvValue
 with_place s spent = record s { spent = s.spent ++ spent ∷ [] }
+
+-- why no place comes, lack of memory aside: there are 65,536
+abbrev pub place_refusal : EnvValue → Option TiError
+place_refusal s = unless (not (nat_le 65536 (length s.spent))) Full
 
 -- one place less: those behind it move up by one
 abbrev pub without_place : EnvValue → ThreadNo → EnvValue

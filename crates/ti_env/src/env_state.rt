@@ -83,17 +83,25 @@ impl EnvState {
         }
     }
 
+    /// Whether there are 65,536 places, so that no other can be added (this profile).
+    pub fn is_full(&self) -> bool
+        ensures { result ≡ nat_le 65536 (length self.now.spent) }
+    {
+        self.spent.len() >= MOST_PLACES
+    }
+
     /// Adds a place for a thread, behind the others. This many calls are spent there already (this profile).
     ///
-    /// The error is 110 OUT_OF_MEMORY, if there is no memory for it, or if there are 65,536 places. Then nothing changes.
+    /// The error is 216 (this profile: `Full`) if there are 65,536 places, and then 110 OUT_OF_MEMORY if there is no memory
+    /// for one more. Then nothing changes.
     pub fn add_place(&mut self, spent: u64) -> Result<(), TiError>
         ensures added { OnOk result (self.new ≡ with_place self.old spent) }
-        ensures room { OnOk result (length self.old.spent < 65536) }
-        ensures memory { IfErr result (λ e. e ≡ OutOfMemory) }
+        ensures admitted { OnOk result (place_refusal self.old ≡ None) }
+        ensures refused { IfErr result (λ e. Some e ≡ or_else (place_refusal self.old) (Some OutOfMemory)) }
         ensures unchanged { OnErr result (self.new ≡ self.old) }
     {
-        if self.spent.len() >= MOST_PLACES {
-            return Err(TiError::OutOfMemory);
+        if self.is_full() {
+            return Err(TiError::Full);
         }
         match self.spent.push(spent) {
             Ok(()) => Ok(()),
@@ -278,8 +286,9 @@ impl EnvState {
 /// How many places there may be at most.
 const MOST_PLACES: usize = 65536;
 
-ghost use Rattle.std.specs.Prelude.{◌≡◌, ◌<◌, ◌≤◌, ◌↔◌, true, None, Some, length, IfOk, IfErr, OnOk, OnErr, IsOk};
+ghost use Rattle.std.specs.Prelude.{◌≡◌, ◌<◌, ◌≤◌, ◌↔◌, true, nat_le, None, Some, length, IfOk, IfErr, OnOk, OnErr, IsOk};
 ghost use Rattle.ti_types.specs.Caps.{caps_with, caps_without, can_be_had};
 ghost use Rattle.ti_types.specs.declared.error.TiError.TheVariants.{NotAvailable, OutOfMemory};
 ghost use Rattle.ti_types.specs.Admitting.{reaching_refusal};
-ghost use Rattle.ti_env.specs.Env.{EnvValue, new_env, env_at_no_thread, with_place, without_place, with_known, with_caps, with_word, with_spent, is_there, spent_at, left_at, call_refusal, stop_refusal, read_refusal};
+ghost use Rattle.ti_types.specs.Refusing.{or_else};
+ghost use Rattle.ti_env.specs.Env.{EnvValue, new_env, env_at_no_thread, with_place, without_place, with_known, with_caps, with_word, with_spent, is_there, spent_at, left_at, place_refusal, call_refusal, stop_refusal, read_refusal};

@@ -37,6 +37,7 @@ impl Log {
         ensures steps { IfOk result (λ l. l.steps ≡ []) }
         ensures room { IfOk result (λ l. l.room ≡ own) }
         ensures kept { IfOk result (λ l. l.kept ≡ is_kept recording) }
+        ensures only_kept { OnErr result (is_kept recording ≡ true) }
         ensures memory { IfErr result (λ e. e ≡ TiError.OutOfMemory) }
     {
         let steps = Record::new(alloc, own, recording)?;
@@ -84,6 +85,6 @@ impl Log {
     }
 }
 
-ghost use Rattle.std.specs.Prelude.{◌≡◌, ◌<◌, ◌≤◌, ◌++◌, [], ◌∷◌, length, IfOk, IfErr, nat_le};
+ghost use Rattle.std.specs.Prelude.{◌≡◌, ◌<◌, ◌≤◌, ◌++◌, [], ◌∷◌, length, IfOk, IfErr, OnErr, true, nat_le};
 ghost use Rattle.ti_frames.specs.Log.{with_steps};
 ghost use Rattle.ti_trail.specs.Record.{is_kept};

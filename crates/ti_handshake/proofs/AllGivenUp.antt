@@ -4,7 +4,7 @@ use Rattle.std.proofs.lemmas.Bool.{cases_Bool, cases_lt}
 use Rattle.std.proofs.lemmas.Bool.Decides.{nat_tests}
 use Rattle.std.proofs.lemmas.List.Sums.{sum_by-cons}
 use Rattle.ti_types.specs.declared.entry.Entry.{Entry}
-use Rattle.ti_types.specs.declared.entry.Entry.TheVariants.{Start, Stepped, Hand, Back, End, Asked, Stop, Read, Go}
+use Rattle.ti_types.specs.declared.entry.Entry.TheVariants.{Start, Own, Hand, Back, End, Asked, Stop, Read, Go}
 use Rattle.ti_types.specs.declared.event.Ticket.{Ticket}
 use Rattle.ti_types.specs.declared.numbers.EnvNo.{EnvNo}
 use Rattle.ti_types.specs.declared.numbers.ThreadNo.{ThreadNo}
@@ -132,7 +132,7 @@ has_room env z old room from now t a next none fits =
 
 one_asked : (env : EnvNo) (x : Entry) → ask_count env x ≤ 1
 one_asked env Start = omega arith
-one_asked env (Stepped step) = omega arith
+one_asked env (Own step) = omega arith
 one_asked env (Hand safe) = omega arith
 one_asked env Back = omega arith
 one_asked env End = omega arith

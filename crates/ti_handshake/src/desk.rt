@@ -1,15 +1,16 @@
 //! A desk: an environment's calls at one thread.
 
 use crate::cancelled::Cancelled;
-use crate::shared_cell::SharedCell;
+use crate::shared_cell::{SharedCell, shared_limits};
 use crate::waits::{Deadline, await_news, await_news_until};
+use std::alloc::Global;
 use std::marker::Model;
 use std::rt::Clock;
 use std::sync::{Arc, Wait};
 use std::time::Duration;
-use ti_cell::EnvSeat;
+use ti_cell::{EnvSeat, Pace};
 use ti_slot::{Asked, Slot};
-use ti_types::{Answer, Call, EnvNo, Limits, ThreadNo, Ticket, TraceBuf};
+use ti_types::{Answer, Call, EnvNo, Limits, ThreadNo, TiError, Ticket, TraceBuf};
 
 /// One environment at one thread. Contracts see it as a `DeskState`: its cell, its environment, its seat's view, and its calls
 /// that were given up and are still out.
@@ -62,6 +63,31 @@ impl Model for Desk {
 impl Desk {
     /// The desk of the environment that has this seat. The seat is this cell's, and not the owner's. Its thread is under these
     /// limits.
+    ///
+    /// `SharedCell::make` gives a thread and its desks, and has no condition.
+    ///
+    /// The error is 110 OUT_OF_MEMORY if there is no memory for the limits (this profile).
+    pub fn new(
+        alloc: Global,
+        cell: SharedCell,
+        seat: EnvSeat,
+        limits: Limits,
+    ) -> Result<Desk, TiError>
+        requires cell { seat.cell ≡ cell }
+        requires number { 0 < seat.view.number }
+        requires there { seat.view.number ≤ seat.view.subject.limits.envs }
+        requires limits { limits ≡ seat.view.subject.limits }
+        ensures cell { IfOk result (λ d. d.cell ≡ cell) }
+        ensures env { IfOk result (λ d. d.env.0 + 1 ≡ seat.view.number) }
+        ensures view { IfOk result (λ d. d.view ≡ seat.view) }
+        ensures none { IfOk result (λ d. d.cancelled ≡ []) }
+        ensures memory { IfErr result (λ e. e ≡ OutOfMemory) }
+    {
+        let limits = shared_limits(alloc, limits)?;
+        Ok(Desk::at(cell, seat, limits))
+    }
+
+    /// The same, with limits that the desks at a thread share.
     pub(crate) fn at(cell: SharedCell, seat: EnvSeat, limits: Arc<Limits>) -> Desk
         requires cell { seat.cell ≡ cell }
         requires number { 0 < seat.view.number }
@@ -168,15 +194,19 @@ impl Desk {
         ensures late { IsLate call result }
         ensures out { IsTicketOut self.new result }
     {
-        let Some(seat) = self.seat.take() else {
-            unreachable!()
-        };
-        let mut hold = self.cell.hold(rt, seat);
-        let slot = hold.slot();
-        slot.tickets();
-        let asked = slot.ask(self.env, call, buf);
-        self.seat = Some(hold.store());
-        asked
+        let pace = Pace::new();
+        let mut buf = buf;
+        for _ in rt.forever() {
+            match self.try_post(call, buf) {
+                Ok(asked) => {
+                    self.wake_sleepers();
+                    return asked;
+                }
+                Err(again) => buf = again,
+            }
+            self.cell.await_free(rt, &pace);
+        }
+        unreachable!()
     }
 
     /// Waits for the answer to a call of this desk that waited: the reply of the history to the ticket. It looks for the
@@ -214,34 +244,17 @@ impl Desk {
         ensures answer { option_map said result ≡ (if is_out self.old ticket then reply_to self.old.view.subject.limits self.new.view.seen ticket else None) }
         ensures place { IfSome result (λ a. ReplyAtPlace self.old.view.subject.limits self.new.view.seen ticket (said a)) }
     {
-        if self.cancelled.has(ticket) {
-            let _out = self.has_out(rt, ticket);
-            return None;
+        let pace = Pace::new();
+        for _ in rt.forever() {
+            match self.try_collect_once(ticket) {
+                Ok(answer) => {
+                    self.wake_sleepers();
+                    return answer;
+                }
+                Err(_busy) => self.cell.await_free(rt, &pace),
+            }
         }
-        let Some(seat) = self.seat.take() else {
-            unreachable!()
-        };
-        let mut hold = self.cell.hold(rt, seat);
-        let slot = hold.slot();
-        slot.tickets();
-        let answer = collect_own(slot, self.env, ticket);
-        self.seat = Some(hold.store());
-        answer
-    }
-
-    /// Whether this is the ticket of a call of this desk that is out. It takes one hold, which adds nothing.
-    pub(crate) fn has_out<R: Wait>(&mut self, rt: &R, ticket: Ticket) -> bool
-        ensures same { IsSame self.old self.new }
-        ensures hold { Holds self.old.view self.new.view [] }
-        ensures out { result ≡ has ticket self.old.view.posted }
-    {
-        let Some(seat) = self.seat.take() else {
-            unreachable!()
-        };
-        let mut hold = self.cell.hold(rt, seat);
-        let out = is_own_out(hold.slot(), self.env, ticket);
-        self.seat = Some(hold.store());
-        out
+        unreachable!()
     }
 
     /// The same as `try_collect`, but it waits for the answer for at most this time. It looks for the answer by holds, and
@@ -358,7 +371,8 @@ pub(crate) fn collect_own(slot: &mut Slot, env: EnvNo, ticket: Ticket) -> Option
     slot.collect(ticket)
 }
 
-ghost use Rattle.std.specs.Prelude.{List, ◌≡◌, ◌==◌, ◌&&◌, ◌<◌, ◌≤◌, ◌+◌, ◌++◌, true, false, if◌then◌else◌, is_some, [], ◌∷◌, length, Some, None, IfSome};
+ghost use Rattle.std.specs.Prelude.{List, ◌≡◌, ◌==◌, ◌&&◌, ◌<◌, ◌≤◌, ◌+◌, ◌++◌, true, false, if◌then◌else◌, is_some, [], ◌∷◌, length, Some, None, IfSome, IfOk, IfErr};
+ghost use Rattle.ti_types.specs.declared.error.TiError.TheVariants.{OutOfMemory};
 ghost use Rattle.std.specs.Arc.{arc_value};
 ghost use Rattle.std.specs.Option.{option_map};
 ghost use Rattle.ti_types.specs.Answer.{said};

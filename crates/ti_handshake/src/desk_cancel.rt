@@ -7,6 +7,7 @@ use std::mem;
 use std::rt::Clock;
 use std::sync::Wait;
 use std::time::Duration;
+use ti_cell::Pace;
 use ti_slot::{Asked, Slot};
 use ti_types::{Answer, Call, EnvNo, TiError, Ticket, TraceBuf};
 
@@ -48,16 +49,18 @@ impl Desk {
         ensures memory { IfErr result (λ e. e ≡ OutOfMemory) }
         ensures unchanged { OnErr result (self.new ≡ self.old) }
     {
-        let mut cancelled = self.take_cancelled();
-        if let Err(error) = cancelled.reserve(alloc, 1) {
-            self.put_cancelled(cancelled);
-            return Err(error);
+        let pace = Pace::new();
+        for _ in rt.forever() {
+            match self.try_cancel(alloc, ticket) {
+                Ok(()) => {
+                    self.wake_sleepers();
+                    return Ok(());
+                }
+                Err(TiError::Busy) => self.cell.await_free(rt, &pace),
+                Err(error) => return Err(error),
+            }
         }
-        if self.has_out(rt, ticket) && !cancelled.has(ticket) {
-            cancelled.add(ticket);
-        }
-        self.put_cancelled(cancelled);
-        Ok(())
+        unreachable!()
     }
 
     /// Gives up all calls of the desk that are out, in one hold. Each of them still takes place when the thread reaches it.
@@ -70,31 +73,18 @@ impl Desk {
         ensures memory { IfErr result (λ e. e ≡ OutOfMemory) }
         ensures unchanged { OnErr result (self.new ≡ self.old) }
     {
-        let out = self.out();
-        let mut cancelled = self.take_cancelled();
-        if let Err(error) = cancelled.reserve(alloc, out as usize) {
-            self.put_cancelled(cancelled);
-            return Err(error);
+        let pace = Pace::new();
+        for _ in rt.forever() {
+            match self.try_cancel_all(alloc) {
+                Ok(()) => {
+                    self.wake_sleepers();
+                    return Ok(());
+                }
+                Err(TiError::Busy) => self.cell.await_free(rt, &pace),
+                Err(error) => return Err(error),
+            }
         }
-        self.add_out(rt, &mut cancelled);
-        self.put_cancelled(cancelled);
-        Ok(())
-    }
-
-    /// Adds the tickets of all calls that are out to a list of some of them, in one hold. There is room for all.
-    fn add_out<R: Wait>(&mut self, rt: &R, cancelled: &mut Cancelled)
-        requires given { AreGivenUp cancelled.old.tickets self.old.view.posted }
-        requires room { length self.old.view.posted ≤ cancelled.old.room }
-        ensures same { IsSame self.old self.new }
-        ensures hold { Holds self.old.view self.new.view [] }
-        ensures added { AddsAll self.old.view.posted cancelled.old.tickets cancelled.new.tickets }
-    {
-        let Some(seat) = self.seat.take() else {
-            unreachable!()
-        };
-        let mut hold = self.cell.hold(rt, seat);
-        add_own_out(hold.slot(), self.env, cancelled);
-        self.seat = Some(hold.store());
+        unreachable!()
     }
 
     /// Looks in one hold for the answer to the call that was given up first. If it is there, it is thrown away, and the call
@@ -103,16 +93,17 @@ impl Desk {
     pub fn discard<R: Wait>(&mut self, rt: &R) -> bool
         ensures { Discards self.old self.new result }
     {
-        let Some(first) = self.first_cancelled() else {
-            return false;
-        };
-        let mut cancelled = self.take_cancelled();
-        let thrown = self.try_collect(rt, first).is_some();
-        if thrown {
-            cancelled.remove_first();
+        let pace = Pace::new();
+        for _ in rt.forever() {
+            match self.try_discard() {
+                Ok(thrown) => {
+                    self.wake_sleepers();
+                    return thrown;
+                }
+                Err(_busy) => self.cell.await_free(rt, &pace),
+            }
         }
-        self.put_cancelled(cancelled);
-        thrown
+        unreachable!()
     }
 
     /// Makes a call at the thread, and waits for its answer for at most this time. If the answer does not come, the error is

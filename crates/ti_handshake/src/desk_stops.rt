@@ -1,9 +1,8 @@
 //! The stops of a desk: it stops a thread, reads it, and lets it go.
 
 use crate::desk::Desk;
-use crate::waits::Deadline;
-use std::rt::Clock;
 use std::sync::Wait;
+use ti_cell::Pace;
 use ti_types::{Answer, EnvNo, TraceBuf};
 
 impl Desk {
@@ -29,30 +28,6 @@ impl Desk {
         unreachable!()
     }
 
-    /// The same as `stop`, but it waits only until the deadline. `None` if the deadline is over while another environment's
-    /// stop is in force, or if the clock can't be read. Then nothing was added.
-    pub fn stop_until<R: Wait + Clock>(&mut self, rt: &R, deadline: &Deadline) -> Option<Answer>
-        requires calls { calls_spent self.old.env self.old.view.mine < self.old.view.subject.limits.calls }
-        ensures same { IsSame self.old self.new }
-        ensures hold { MatchOption result
-            (Waits self.old.view self.new.view [])
-            (λ _. Waits self.old.view self.new.view (if_none (stop_refusal self.old self.new) (entry.Stop self.old.env ∷ []))) }
-        ensures answer { IfSome result (λ a. said a ≡ done_or (stop_refusal self.old self.new)) }
-        ensures waited { IfSome result (λ _. is_anothers self.old.env (there_found self.old self.new).stopper ≡ false) }
-    {
-        self.facts();
-        for _ in rt.forever() {
-            let answer = self.stop_unless_others(rt);
-            if answer.is_some() {
-                return answer;
-            }
-            if !self.await_news_until(rt, deadline) {
-                return None;
-            }
-        }
-        unreachable!()
-    }
-
     /// Stops the thread in one hold. It costs one call if it is not refused.
     ///
     /// Refused with `AlreadyStopped` (211) if any stop is in force, this environment's own too (this profile). Then nothing
@@ -63,13 +38,17 @@ impl Desk {
         ensures hold { Holds self.old.view self.new.view (if_none (stop_refusal self.old self.new) (entry.Stop self.old.env ∷ [])) }
         ensures answer { said result ≡ done_or (stop_refusal self.old self.new) }
     {
-        let Some(seat) = self.seat.take() else {
-            unreachable!()
-        };
-        let mut hold = self.cell.hold(rt, seat);
-        let answer = hold.slot().stop(self.env);
-        self.seat = Some(hold.store());
-        answer
+        let pace = Pace::new();
+        for _ in rt.forever() {
+            match self.try_stop_once() {
+                Ok(answer) => {
+                    self.wake_sleepers();
+                    return answer;
+                }
+                Err(_busy) => self.cell.await_free(rt, &pace),
+            }
+        }
+        unreachable!()
     }
 
     /// Stops the thread in one hold, unless another environment's stop is in force. Then nothing changes, and there is no
@@ -111,13 +90,19 @@ impl Desk {
         ensures hold { Holds self.old.view self.new.view (if_none (read_refusal self.old self.new max_count) (entry.Read self.old.env max_count ∷ [])) }
         ensures answer { read_answer (read_refusal self.old self.new max_count) (reply self.old.view.subject.limits self.new.view.seen (length (found self.old.view self.new.view))) ≡ Some (said result) }
     {
-        let Some(seat) = self.seat.take() else {
-            unreachable!()
-        };
-        let mut hold = self.cell.hold(rt, seat);
-        let answer = hold.slot().read(self.env, max_count, buf);
-        self.seat = Some(hold.store());
-        answer
+        let pace = Pace::new();
+        let mut buf = buf;
+        for _ in rt.forever() {
+            match self.try_read(max_count, buf) {
+                Ok(answer) => {
+                    self.wake_sleepers();
+                    return answer;
+                }
+                Err(again) => buf = again,
+            }
+            self.cell.await_free(rt, &pace);
+        }
+        unreachable!()
     }
 
     /// Lets the thread go, in one hold: this environment's stop is over. It costs nothing.
@@ -128,13 +113,17 @@ impl Desk {
         ensures hold { Holds self.old.view self.new.view (if_none (go_refusal self.old self.new) (entry.Go self.old.env ∷ [])) }
         ensures answer { said result ≡ done_or (go_refusal self.old self.new) }
     {
-        let Some(seat) = self.seat.take() else {
-            unreachable!()
-        };
-        let mut hold = self.cell.hold(rt, seat);
-        let answer = hold.slot().go(self.env);
-        self.seat = Some(hold.store());
-        answer
+        let pace = Pace::new();
+        for _ in rt.forever() {
+            match self.try_go() {
+                Ok(answer) => {
+                    self.wake_sleepers();
+                    return answer;
+                }
+                Err(_busy) => self.cell.await_free(rt, &pace),
+            }
+        }
+        unreachable!()
     }
 
     /// Whether this environment's stop is in force and the thread does not run. It takes one hold, which adds nothing.
@@ -143,13 +132,17 @@ impl Desk {
         ensures hold { Holds self.old.view self.new.view [] }
         ensures standing { result ≡ is_standing self.old.view.subject.limits self.new.view.seen self.old.env }
     {
-        let Some(seat) = self.seat.take() else {
-            unreachable!()
-        };
-        let mut hold = self.cell.hold(rt, seat);
-        let standing = hold.slot().standing(self.env);
-        self.seat = Some(hold.store());
-        standing
+        let pace = Pace::new();
+        for _ in rt.forever() {
+            match self.try_standing() {
+                Ok(standing) => {
+                    self.wake_sleepers();
+                    return standing;
+                }
+                Err(_busy) => self.cell.await_free(rt, &pace),
+            }
+        }
+        unreachable!()
     }
 }
 

@@ -6,7 +6,7 @@ use crate::shared_cell::SharedCell;
 use crate::waits::await_unbarred;
 use std::marker::Model;
 use std::sync::Wait;
-use ti_cell::OwnerSeat;
+use ti_cell::{OwnSeat, Pace};
 use ti_types::{ThreadNo, TiError};
 
 /// A thread that has not started. Contracts see it as its seat.
@@ -31,7 +31,7 @@ use ti_types::{ThreadNo, TiError};
 #[derive(Drop)]
 pub struct Fresh {
     pub(crate) cell: SharedCell,
-    pub(crate) seat: OwnerSeat,
+    pub(crate) seat: OwnSeat,
 }
 
 impl Model for Fresh {
@@ -48,7 +48,9 @@ impl Model for Fresh {
 
 impl Fresh {
     /// The thread of this cell. The seat is the owner's at this cell, and has made no entry.
-    pub(crate) fn at(cell: SharedCell, seat: OwnerSeat) -> Fresh
+    ///
+    /// `SharedCell::make` gives a thread and its desks, and has no condition.
+    pub fn new(cell: SharedCell, seat: OwnSeat) -> Fresh
         requires cell { seat.cell ≡ cell }
         requires owner { seat.view.number ≡ 0 }
         requires none { seat.view.mine ≡ [] }
@@ -85,20 +87,23 @@ impl Fresh {
         ensures barred { IfErr result (λ e. (e.0 ≡ Barred) × (is_barred (view self.view.subject.limits e.1.view.seen) ≡ true)) }
         ensures steps { IfOk result (λ r. r.steps ≡ []) }
     {
-        let Fresh { cell, seat } = self;
-        let mut hold = cell.hold(rt, seat);
-        let slot = hold.slot();
-        match slot.start() {
-            Ok((frames, log)) => {
-                let left = slot.own_left();
-                let seat = hold.store();
-                Ok(Running::of(cell, seat, frames, log, left))
+        let pace = Pace::new();
+        let mut fresh = self;
+        for _ in rt.forever() {
+            match fresh.try_start_once() {
+                Ok(running) => {
+                    running.wake_sleepers();
+                    return Ok(running);
+                }
+                Err((TiError::Busy, again)) => fresh = again,
+                Err((error, barred)) => {
+                    barred.wake_sleepers();
+                    return Err((error, barred));
+                }
             }
-            Err(error) => {
-                let seat = hold.store();
-                Err((error, Fresh { cell, seat }))
-            }
+            fresh.cell.await_free(rt, &pace);
         }
+        unreachable!()
     }
 
     /// Starts the thread, and waits while a stop is in force. It looks until the thread may start, and then holds the cell
@@ -121,7 +126,7 @@ impl Fresh {
     }
 
     /// Takes the value apart and gives the thread's seat.
-    pub fn into_seat(self) -> OwnerSeat
+    pub fn into_seat(self) -> OwnSeat
         ensures seat { result ≡ self }
     {
         self.seat

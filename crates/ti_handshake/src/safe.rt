@@ -6,7 +6,7 @@ use crate::shared_cell::SharedCell;
 use crate::waits::await_unbarred;
 use std::marker::Model;
 use std::sync::Wait;
-use ti_cell::OwnerSeat;
+use ti_cell::{OwnSeat, Pace};
 use ti_frames::Log;
 use ti_types::{ThreadNo, TiError};
 
@@ -37,7 +37,7 @@ use ti_types::{ThreadNo, TiError};
 #[derive(Drop)]
 pub struct AtSafe {
     pub(crate) cell: SharedCell,
-    pub(crate) seat: OwnerSeat,
+    pub(crate) seat: OwnSeat,
     pub(crate) log: Log,
 }
 
@@ -54,7 +54,7 @@ impl Model for AtSafe {
 
 impl AtSafe {
     /// Makes a safe thread of its parts.
-    pub(crate) fn of(cell: SharedCell, seat: OwnerSeat, log: Log) -> AtSafe
+    pub(crate) fn of(cell: SharedCell, seat: OwnSeat, log: Log) -> AtSafe
         requires rests { RestsWith cell seat log }
         ensures of { result ≡ seat }
     {
@@ -90,20 +90,23 @@ impl AtSafe {
         ensures barred { IfErr result (λ e. (e.0 ≡ Barred) × (is_barred (view self.view.subject.limits e.1.view.seen) ≡ true)) }
         ensures steps { IfOk result (λ r. r.steps ≡ []) }
     {
-        let AtSafe { cell, seat, log } = self;
-        let mut hold = cell.hold(rt, seat);
-        let slot = hold.slot();
-        match slot.back() {
-            Ok(frames) => {
-                let left = slot.own_left();
-                let seat = hold.store();
-                Ok(Running::of(cell, seat, frames, log, left))
+        let pace = Pace::new();
+        let mut safe = self;
+        for _ in rt.forever() {
+            match safe.try_back_once() {
+                Ok(running) => {
+                    running.wake_sleepers();
+                    return Ok(running);
+                }
+                Err((TiError::Busy, again)) => safe = again,
+                Err((error, barred)) => {
+                    barred.wake_sleepers();
+                    return Err((error, barred));
+                }
             }
-            Err(error) => {
-                let seat = hold.store();
-                Err((error, AtSafe { cell, seat, log }))
-            }
+            safe.cell.await_free(rt, &pace);
         }
+        unreachable!()
     }
 
     /// Lets the thread return, and waits while it is barred (HotSpot Runtime Overview). It looks until the thread may
@@ -126,7 +129,7 @@ impl AtSafe {
     }
 
     /// Takes the value apart and gives the thread's seat.
-    pub fn into_seat(self) -> OwnerSeat
+    pub fn into_seat(self) -> OwnSeat
         ensures seat { result ≡ self }
     {
         self.seat
@@ -137,7 +140,7 @@ impl AtSafe {
 #[derive(Drop)]
 pub struct Ended {
     pub(crate) cell: SharedCell,
-    seat: OwnerSeat,
+    seat: OwnSeat,
 }
 
 impl Model for Ended {
@@ -153,7 +156,7 @@ impl Model for Ended {
 
 impl Ended {
     /// Makes an ended thread of its parts.
-    pub(crate) fn of(cell: SharedCell, seat: OwnerSeat) -> Ended
+    pub(crate) fn of(cell: SharedCell, seat: OwnSeat) -> Ended
         requires ended { HasEnded cell seat }
         ensures of { result ≡ seat }
     {
@@ -176,7 +179,7 @@ impl Ended {
     }
 
     /// Takes the value apart and gives the thread's seat.
-    pub fn into_seat(self) -> OwnerSeat
+    pub fn into_seat(self) -> OwnSeat
         ensures seat { result ≡ self }
     {
         self.seat

@@ -47,7 +47,8 @@ impl SharedCell {
     /// Makes a thread that has not started, and gives a reference to its cell. With it comes one unused desk for each
     /// environment, in the order of their numbers.
     ///
-    /// So a thread and a desk are always at the cell that their seat is of: nobody outside puts a seat and a cell together.
+    /// So the thread and the desks are at the cell that their seats are of. `Fresh::new` and `Desk::new` put a seat and a cell
+    /// together, and have conditions: use this call if you can.
     ///
     /// The error is 110 OUT_OF_MEMORY if there is no memory for all that, and no other (this profile).
     pub fn make(
@@ -63,12 +64,12 @@ impl SharedCell {
         let cell = SharedCell::new(alloc, cell)?;
         let shared = shared_limits(alloc, limits)?;
         let desks = desks_of(alloc, &cell, &shared, seats)?;
-        let fresh = Fresh::at(cell.share()?, own);
+        let fresh = Fresh::new(cell.share()?, own);
         Ok((cell, fresh, desks))
     }
 
     /// The first reference to this cell. The error is 110 OUT_OF_MEMORY if there is no memory for the cell (this profile).
-    fn new(alloc: Global, cell: ThreadCell) -> Result<SharedCell, TiError>
+    pub fn new(alloc: Global, cell: ThreadCell) -> Result<SharedCell, TiError>
         ensures cell { IfOk result (λ s. s ≡ cell) }
         ensures memory { IfErr result (λ e. e ≡ OutOfMemory) }
     {
@@ -99,7 +100,7 @@ impl SharedCell {
 }
 
 /// The limits, once for all desks at a thread. 110 OUT_OF_MEMORY if there is no memory for them.
-fn shared_limits(alloc: Global, limits: Limits) -> Result<Arc<Limits>, TiError>
+pub(crate) fn shared_limits(alloc: Global, limits: Limits) -> Result<Arc<Limits>, TiError>
     ensures limits { IfOk result (λ l. arc_value l ≡ limits) }
     ensures memory { IfErr result (λ e. e ≡ OutOfMemory) }
 {

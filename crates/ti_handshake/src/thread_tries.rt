@@ -84,7 +84,7 @@ impl Running {
                     }
                     Err(_) => {
                         let seat = hold.store_quietly();
-                        Ok(Polled::Stays(AtSafe::of(cell, seat, log)))
+                        Ok(Polled::Held(AtSafe::of(cell, seat, log)))
                     }
                 }
             }
@@ -128,7 +128,7 @@ impl Running {
     }
 
     /// Hands over to native code or to a block.
-    fn try_hand_over(self, safe: Safe) -> Result<AtSafe, (TiError, Running)>
+    pub(crate) fn try_hand_over(self, safe: Safe) -> Result<AtSafe, (TiError, Running)>
         requires no_poll { safe ≡ AtPoll → ⊥ }
         ensures cell { MatchResult result (λ a. a.cell ≡ self.cell) (λ e. e.1.cell ≡ self.cell) }
         ensures hold { IfOk result (λ a. Holds self.view a.view (steps_of self.steps ++ entry.Hand safe ∷ [])) }

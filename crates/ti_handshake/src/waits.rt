@@ -4,7 +4,7 @@ use crossbeam_utils::Backoff;
 use std::rt::Clock;
 use std::sync::Wait;
 use std::time::{Duration, Instant};
-use ti_cell::{CellSeat, OwnerSeat, ThreadCell};
+use ti_cell::{CellSeat, OwnSeat, ThreadCell};
 
 /// After this many looks a waiting call sleeps. Between them it makes 1, 2, 4 up to 64 pauses, and then 64 each time: 1,215
 /// in all. That takes some 6 microseconds if a pause takes 4.5 ns, and 70 if it takes 56 ns.
@@ -95,7 +95,7 @@ pub fn await_news_until<K, R: Wait + Clock>(
 
 /// The same for a thread that was refused because it is barred. It looks until the thread is not barred, which is news.
 /// Entries that leave the thread barred do not wake it.
-pub fn await_unbarred<R: Wait>(rt: &R, cell: &ThreadCell, seat: &mut OwnerSeat)
+pub fn await_unbarred<R: Wait>(rt: &R, cell: &ThreadCell, seat: &mut OwnSeat)
     requires cell { seat.old.cell ≡ cell.now }
     ensures cell { seat.new.cell ≡ seat.old.cell }
     ensures news { SawNews seat.old.view seat.new.view }

@@ -5,6 +5,7 @@
 
 use crate::desk::Desk;
 use crate::fresh::Fresh;
+use crate::polled::Polled;
 use crate::running::Running;
 use crate::safe::{AtSafe, Ended};
 
@@ -19,6 +20,16 @@ impl Running {
     /// Wakes whoever sleeps at this thread and may go on. It is one load if nobody sleeps.
     pub fn wake_sleepers(&self) {
         self.cell.wake_sleepers();
+    }
+}
+
+impl Polled {
+    /// Wakes whoever sleeps at this thread and may go on. It is one load if nobody sleeps.
+    pub(crate) fn wake_sleepers(&self) {
+        match self {
+            Polled::Go(running) => running.wake_sleepers(),
+            Polled::Held(safe) => safe.wake_sleepers(),
+        }
     }
 }
 

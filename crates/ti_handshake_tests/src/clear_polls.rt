@@ -3,13 +3,13 @@
 use std::alloc::Global;
 use std::sync::Wait;
 use std::test::*;
-use ti_cell::{OwnerSeat, ThreadCell};
+use ti_cell::{OwnSeat, ThreadCell};
 use ti_handshake::{Fresh, SharedCell};
 use ti_slot::Slot;
 use ti_types::{Limits, ThreadNo};
 
 /// Starts the thread, polls by one load, and ends the thread. It gives whether the poll was clear, and the thread's seat.
-fn poll_once<R: Wait>(rt: &R, fresh: Fresh) -> (bool, OwnerSeat)
+fn poll_once<R: Wait>(rt: &R, fresh: Fresh) -> (bool, OwnSeat)
     ensures cell { result.1.cell ≡ fresh.cell }
     ensures polled { HasPolled result.0 result.1.view }
 {
@@ -22,7 +22,7 @@ fn poll_once<R: Wait>(rt: &R, fresh: Fresh) -> (bool, OwnerSeat)
 
 /// The slot of a cell whose thread polled. If that poll was clear, the history has a prefix after which nobody waited for
 /// the thread, whoever else was at the cell.
-fn finish(cell: ThreadCell, own: OwnerSeat, clear: bool) -> Option<Slot>
+fn finish(cell: ThreadCell, own: OwnSeat, clear: bool) -> Option<Slot>
     requires cell { own.cell ≡ cell }
     requires polled { HasPolled clear own.view }
     ensures calm { clear ≡ true → IfSome result (λ s. WasCalm s.limits s.history) }

@@ -2,7 +2,7 @@
 
 use std::sync::Wait;
 use std::test::*;
-use ti_cell::{EnvSeat, OwnerSeat};
+use ti_cell::{EnvSeat, OwnSeat};
 use ti_handshake::{AtSafe, Desk, Fresh, Polled, Running, SharedCell};
 use ti_slot::{Asked, Slot};
 use ti_types::{Answer, Call, Limits, MethodNo, Step, ThreadNo, TiError, Ticket, TraceBuf};
@@ -80,7 +80,7 @@ fn enter_and_poll<R: Wait>(rt: &R, running: Running) -> Result<Running, Fail>
     )?;
     match running.poll(rt) {
         Polled::Go(running) => Ok(running),
-        Polled::Stays(_) => Err("nobody holds the thread".into()),
+        Polled::Held(_) => Err("nobody holds the thread".into()),
     }
 }
 
@@ -89,7 +89,7 @@ fn poll_and_rest<R: Wait>(rt: &R, running: Running) -> Result<AtSafe, Fail>
     ensures cell { IfOk result (λ s. s.cell ≡ running.cell) }
 {
     match running.poll(rt) {
-        Polled::Stays(held) => Ok(held),
+        Polled::Held(held) => Ok(held),
         Polled::Go(_) => Err("the thread is suspended".into()),
     }
 }
@@ -149,7 +149,7 @@ fn resume_and_end<R: Wait>(
     held: AtSafe,
     desk: &mut Desk,
     other: &mut Option<Desk>,
-) -> Result<OwnerSeat, Fail>
+) -> Result<OwnSeat, Fail>
     requires desk { MayCall desk.old.cell 1 desk.old }
     ensures desk { IfOk result (λ _. desk.new.cell ≡ desk.old.cell) }
     ensures cell { IfOk result (λ s. s.cell ≡ held.cell) }
@@ -177,7 +177,7 @@ fn in_turn<R: Wait>(
     fresh: Fresh,
     desk: Desk,
     other: Option<Desk>,
-) -> Result<(OwnerSeat, EnvSeat), Fail>
+) -> Result<(OwnSeat, EnvSeat), Fail>
     requires desk { MayCall desk.cell 3 desk }
     ensures own { IfOk result (λ s. (s.0.cell ≡ fresh.cell) × (s.0.view.number ≡ 0)) }
     ensures seat { IfOk result (λ s. s.1.cell ≡ desk.cell) }
@@ -195,7 +195,7 @@ fn in_turn<R: Wait>(
 }
 
 /// The slot of a cell, after its seats have come back.
-fn close(cell: SharedCell, own: OwnerSeat, seat: EnvSeat) -> Option<Slot>
+fn close(cell: SharedCell, own: OwnSeat, seat: EnvSeat) -> Option<Slot>
     requires own { (own.cell ≡ cell) × (own.view.number ≡ 0) }
     requires seat { seat.cell ≡ cell }
 {

@@ -8,7 +8,7 @@ use Rattle.ti_types.specs.declared.numbers.ThreadNo.{ThreadNo}
 use Rattle.ti_types.specs.declared.caps.Caps.{Caps}
 use Rattle.ti_types.specs.declared.entry.Entry.{Entry}
 use Rattle.ti_types.specs.declared.event.Event.{Event}
-use Rattle.ti_types.specs.declared.event.Event.TheVariants.{Start, Stepped, Poll, ToNative, ToBlocked, Back, End, Ask, Stop, Read, Go, AddCaps, Relinquish, GetCaps, SetEnvWord, GetEnvWord}
+use Rattle.ti_types.specs.declared.event.Event.TheVariants.{Start, Own, Poll, ToNative, ToBlocked, Back, End, Ask, Stop, Read, Go, AddCaps, Relinquish, GetCaps, SetEnvWord, GetEnvWord}
 use Rattle.ti_types.specs.declared.event.Outcome.{Outcome}
 use Rattle.ti_types.specs.declared.event.Outcome.TheVariants as outcome
 use Rattle.ti_types.specs.declared.error.TiError.TheVariants.{InvalidThread, InvalidEnvironment}
@@ -45,7 +45,7 @@ record IsOneSort (thread : ThreadNo) (event : Event) : Type 0 where
 
 one_sort : (thread : ThreadNo) (event : Event) → IsOneSort thread event
 one_sort thread (Start t) = record { own_aimed = λ h. refl; own_caps = λ h. refl; caps_aimed = λ h. refl; caps_own = λ h. cc }
-one_sort thread (Stepped t step) = record { own_aimed = λ h. refl; own_caps = λ h. refl; caps_aimed = λ h. refl; caps_own = λ h. cc }
+one_sort thread (Own t step) = record { own_aimed = λ h. refl; own_caps = λ h. refl; caps_aimed = λ h. refl; caps_own = λ h. cc }
 one_sort thread (Poll t) = record { own_aimed = λ h. refl; own_caps = λ h. refl; caps_aimed = λ h. refl; caps_own = λ h. cc }
 one_sort thread (ToNative t) = record { own_aimed = λ h. refl; own_caps = λ h. refl; caps_aimed = λ h. refl; caps_own = λ h. cc }
 one_sort thread (ToBlocked t kind) = record { own_aimed = λ h. refl; own_caps = λ h. refl; caps_aimed = λ h. refl; caps_own = λ h. cc }
@@ -64,7 +64,7 @@ one_sort thread (GetEnvWord e) = record { own_aimed = λ h. refl; own_caps = λ 
 -- only an environment's own calls change its capabilities
 caps_kept : (env : EnvNo) (held : Caps) (event : Event) → (is_by env event && is_about_caps event) ≡ false → caps_after env held event ≡ held
 caps_kept env held (Start t) h = refl
-caps_kept env held (Stepped t step) h = refl
+caps_kept env held (Own t step) h = refl
 caps_kept env held (Poll t) h = refl
 caps_kept env held (ToNative t) h = refl
 caps_kept env held (ToBlocked t kind) h = refl
@@ -100,7 +100,7 @@ behind limits env thread front history h =
 -- where memory is marked as wanting, the refusal is the same
 refused_marked : (limits : Limits) (d : Dealings) (wanting : Bool) (event : Event) → refusal_of limits d (wanting && is_for_want (refusal_of limits d wanting event)) event ≡ refusal_of limits d wanting event
 refused_marked limits d wanting (Start t) = refl
-refused_marked limits d wanting (Stepped t step) = refl
+refused_marked limits d wanting (Own t step) = refl
 refused_marked limits d wanting (Poll t) = refl
 refused_marked limits d wanting (ToNative t) = refl
 refused_marked limits d wanting (ToBlocked t kind) = refl
@@ -194,7 +194,7 @@ pub out_there : (limits : Limits) (thread : ThreadNo) (all front : List Happenin
     → (is_own_of thread event || (is_aimed_at thread event || is_about_caps event)) ≡ true
     → out_of limits all front (record { event = event; wanting = wanting }) ≡ outcome_of limits thread all front (record { event = event; wanting = wanting })
 out_there limits thread all front wanting (Start t) h = ap (λ z. outcome_of limits z all front (record { event = Start t; wanting = wanting })) (same_thread t thread (grind arith))
-out_there limits thread all front wanting (Stepped t step) h = ap (λ z. outcome_of limits z all front (record { event = Stepped t step; wanting = wanting })) (same_thread t thread (grind arith))
+out_there limits thread all front wanting (Own t step) h = ap (λ z. outcome_of limits z all front (record { event = Own t step; wanting = wanting })) (same_thread t thread (grind arith))
 out_there limits thread all front wanting (Poll t) h = ap (λ z. outcome_of limits z all front (record { event = Poll t; wanting = wanting })) (same_thread t thread (grind arith))
 out_there limits thread all front wanting (ToNative t) h = ap (λ z. outcome_of limits z all front (record { event = ToNative t; wanting = wanting })) (same_thread t thread (grind arith))
 out_there limits thread all front wanting (ToBlocked t kind) h = ap (λ z. outcome_of limits z all front (record { event = ToBlocked t kind; wanting = wanting })) (same_thread t thread (grind arith))

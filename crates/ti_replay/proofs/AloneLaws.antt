@@ -5,7 +5,7 @@ use Rattle.std.specs.List.{fold}
 use Rattle.ti_types.specs.declared.limits.Limits.{Limits}
 use Rattle.ti_types.specs.declared.step.Step.{Step}
 use Rattle.ti_types.specs.declared.entry.Entry.{Entry}
-use Rattle.ti_types.specs.declared.entry.Entry.TheVariants.{Start, Stepped, Hand, Back, End, Asked, Stop, Read, Go}
+use Rattle.ti_types.specs.declared.entry.Entry.TheVariants.{Start, Own, Hand, Back, End, Asked, Stop, Read, Go}
 use Rattle.ti_replay.specs.Answers.{is_running}
 use Rattle.ti_replay.specs.View.{frames_after}
 use Rattle.ti_replay.specs.HistoryState.{HistoryState, history_state}
@@ -26,7 +26,7 @@ same_trans a b c p q = record { mode = p.mode ∙ q.mode; frames = λ r. p.frame
 -- an entry of another
 other_same : (s : HistoryState) (x : Entry) → (maker x == 0) ≡ false → IsSameForSteps (next_state s x) s
 other_same s Start h = cc
-other_same s (Stepped step) h = cc
+other_same s (Own step) h = cc
 other_same s (Hand safe) h = cc
 other_same s Back h = cc
 other_same s End h = cc
@@ -47,7 +47,7 @@ others_same s (x ∷ more) none =
     let k = none_own x more none (maker x == 0) refl in
     same_trans (fold next_state (next_state s x) more) (next_state s x) s (others_same (next_state s x) more k.1) (other_same s x k.0)
 
-step_same : (s z : HistoryState) (step : Step) → IsSameForSteps s z → IsSameForSteps (next_state s (Stepped step)) (next_state z (Stepped step))
+step_same : (s z : HistoryState) (step : Step) → IsSameForSteps s z → IsSameForSteps (next_state s (Own step)) (next_state z (Own step))
 step_same s z step k =
     record { mode = grind (arith, k.mode); frames = λ r. ap (λ f. frames_after f step) (k.frames r); own = grind (arith, k.own) }
 
@@ -55,14 +55,14 @@ steps_same : (limits : Limits) (s z : HistoryState) (steps : List Step) → IsSa
     → (allows_all limits s (steps_of steps) ≡ allows_all limits z (steps_of steps)) × IsSameForSteps (fold next_state s (steps_of steps)) (fold next_state z (steps_of steps))
 steps_same limits s z [] k = (refl, k)
 steps_same limits s z (x ∷ steps) k =
-    let one : allows limits s (Stepped x) ≡ allows limits z (Stepped x) = grind (arith, k.mode, k.frames, k.own) in
-    let rest = steps_same limits (next_state s (Stepped x)) (next_state z (Stepped x)) steps (step_same s z x k) in
+    let one : allows limits s (Own x) ≡ allows limits z (Own x) = grind (arith, k.mode, k.frames, k.own) in
+    let rest = steps_same limits (next_state s (Own x)) (next_state z (Own x)) steps (step_same s z x k) in
     (grind (arith, one, rest.0), rest.1)
 
 -- logged steps leave the mode
 steps_mode : (s : HistoryState) (steps : List Step) → (fold next_state s (steps_of steps)).view.mode ≡ s.view.mode
 steps_mode s [] = refl
-steps_mode s (x ∷ steps) = steps_mode (next_state s (Stepped x)) steps
+steps_mode s (x ∷ steps) = steps_mode (next_state s (Own x)) steps
 
 -- after a history, entries of others
 pub others_leave : (limits : Limits) (old more : List Entry) (steps : List Step) → made_by 0 more ≡ [] → LeavesIt limits old (old ++ more) steps

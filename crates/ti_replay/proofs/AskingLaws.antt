@@ -12,7 +12,7 @@ use Rattle.ti_types.specs.declared.numbers.EnvNo.{EnvNo}
 use Rattle.ti_types.specs.declared.call.Call.{Call}
 use Rattle.ti_types.specs.declared.call.Call.TheVariants.{State, FrameCount, Trace, Location, Suspend, Resume, GetWord, SetWord, Pop}
 use Rattle.ti_types.specs.declared.entry.Entry.{Entry}
-use Rattle.ti_types.specs.declared.entry.Entry.TheVariants.{Start, Stepped, Hand, Back, End, Asked, Stop, Read, Go}
+use Rattle.ti_types.specs.declared.entry.Entry.TheVariants.{Start, Own, Hand, Back, End, Asked, Stop, Read, Go}
 use Rattle.ti_types.specs.declared.view.ThreadView.{ThreadView}
 use Rattle.ti_replay.specs.Settling.{Placed, is_hand_over, is_waiting_call, settled}
 use Rattle.ti_replay.specs.View.{view, after, after_all, called, frames_after, new_thread}
@@ -42,7 +42,7 @@ called_fewer v env Pop = grind (arith, leave_fewer v.frames)
 -- a hand-over leaves the frames
 pub hand_frames : (v : ThreadView) (x : Entry) → is_hand_over x ≡ true → length (after v x).frames ≤ length v.frames
 hand_frames v Start h = cc
-hand_frames v (Stepped step) h = cc
+hand_frames v (Own step) h = cc
 hand_frames v (Hand safe) h = omega arith
 hand_frames v Back h = cc
 hand_frames v End h = omega arith
@@ -54,7 +54,7 @@ hand_frames v (Go e) h = cc
 -- a waiting call leaves no more frames
 pub wait_frames : (v : ThreadView) (x : Entry) → is_waiting_call x ≡ true → length (after v x).frames ≤ length v.frames
 wait_frames v Start h = cc
-wait_frames v (Stepped step) h = cc
+wait_frames v (Own step) h = cc
 wait_frames v (Hand safe) h = cc
 wait_frames v Back h = cc
 wait_frames v End h = cc
@@ -87,7 +87,7 @@ step_depth limits (f ∷ frames) Leave h le = grind arith
 -- the frames stay within the depth
 pub depth_kept : (limits : Limits) (s : PlacedState) (x : Entry) → may_enter limits s x ≡ true → length s.view.frames ≤ limits.depth → all_calls s.waiting ≡ true → length (entered s x).view.frames ≤ limits.depth
 depth_kept limits s Start h le c = grind arith
-depth_kept limits s (Stepped step) h le c = grind (arith, step_depth limits s.view.frames step)
+depth_kept limits s (Own step) h le c = grind (arith, step_depth limits s.view.frames step)
 depth_kept limits s (Hand safe) h le c = grind (arith, all_frames (after s.view (Hand safe)) s.waiting)
 depth_kept limits s Back h le c = grind arith
 depth_kept limits s End h le c = grind (arith, all_frames (after s.view End) s.waiting)

@@ -20,7 +20,7 @@ use Rattle.ti_types.specs.declared.state.Mode.{Mode}
 use Rattle.ti_types.specs.declared.state.Mode.TheVariants as mode
 use Rattle.ti_types.specs.declared.state.Safe.TheVariants.{Native, Blocked, AtPoll}
 use Rattle.ti_types.specs.declared.entry.Entry.{Entry}
-use Rattle.ti_types.specs.declared.entry.Entry.TheVariants.{Start, Stepped, Hand, Back, End, Asked, Stop, Read, Go}
+use Rattle.ti_types.specs.declared.entry.Entry.TheVariants.{Start, Own, Hand, Back, End, Asked, Stop, Read, Go}
 use Rattle.ti_types.specs.declared.view.ThreadView.{ThreadView}
 use Rattle.ti_replay.specs.Answers.{is_running}
 use Rattle.ti_replay.specs.Settling.{is_waiting_call, waits}
@@ -49,7 +49,7 @@ quiet_call v env Pop h = record { mode = grind arith; stopper = grind arith; wor
 
 pub quiet : (v : ThreadView) (x : Entry) → is_waiting_call x ≡ true → IsQuiet v (after v x)
 quiet v Start h = cc
-quiet v (Stepped step) h = cc
+quiet v (Own step) h = cc
 quiet v (Hand safe) h = cc
 quiet v Back h = cc
 quiet v End h = cc
@@ -99,7 +99,7 @@ pub record WaitsWell (s : HistoryState) : Type 0 where
 
 credit_step : (limits : Limits) (s : HistoryState) (x : Entry) → WaitsWell s → allows limits s x ≡ true → 1 + credit (next_state s x) ≤ own_cost x + 4 * call_cost_of x + credit s
 credit_step limits s Start k h = grind (arith, nat_tests, k.runs)
-credit_step limits s (Stepped step) k h = grind (arith, nat_tests)
+credit_step limits s (Own step) k h = grind (arith, nat_tests)
 credit_step limits s (Hand Native) k h = let q = all_quiet (after s.view (Hand Native)) s.waiting k.calls in grind (arith, nat_tests, q)
 credit_step limits s (Hand (Blocked kind)) k h = let q = all_quiet (after s.view (Hand (Blocked kind))) s.waiting k.calls in grind (arith, nat_tests, q)
 credit_step limits s (Hand AtPoll) k h = let q = all_quiet (after s.view (Hand AtPoll)) s.waiting k.calls in grind (arith, nat_tests, q)
@@ -112,7 +112,7 @@ credit_step limits s (Go env) k h = grind (arith, nat_tests)
 
 runs_step : (limits : Limits) (s : HistoryState) (x : Entry) → WaitsWell s → allows limits s x ≡ true → 0 < length (next_state s x).waiting → is_running (next_state s x).view.mode ≡ true
 runs_step limits s Start k h w = grind arith
-runs_step limits s (Stepped step) k h w = grind (arith, k.runs)
+runs_step limits s (Own step) k h w = grind (arith, k.runs)
 runs_step limits s (Hand safe) k h w = absurd (omega arith)
 runs_step limits s Back k h w = grind arith
 runs_step limits s End k h w = absurd (omega arith)
@@ -137,7 +137,7 @@ length_paid limits s (x ∷ history) k h =
 
 own_step : (limits : Limits) (s : HistoryState) (x : Entry) → allows limits s x ≡ true → s.own ≤ limits.own → s.own + own_cost x ≤ limits.own
 own_step limits s Start h le = omega arith
-own_step limits s (Stepped step) h le = grind (arith, nat_tests)
+own_step limits s (Own step) h le = grind (arith, nat_tests)
 own_step limits s (Hand Native) h le = grind (arith, nat_tests)
 own_step limits s (Hand (Blocked kind)) h le = grind (arith, nat_tests)
 own_step limits s (Hand AtPoll) h le = omega arith
@@ -180,7 +180,7 @@ charged_one limits t x env l room k one =
 charge_step : (limits : Limits) (s : HistoryState) (x : Entry) → allows limits s x ≡ true → length s.costs ≡ limits.envs → IsWithin limits.calls s.costs
     → IsWithin limits.calls (charged s.costs x) × (table_sum (charged s.costs x) ≡ table_sum s.costs + call_cost_of x)
 charge_step limits s Start h n k = rw (charged_free s.costs Start refl) (k, sym (add-zero (table_sum s.costs)))
-charge_step limits s (Stepped step) h n k = rw (charged_free s.costs (Stepped step) refl) (k, sym (add-zero (table_sum s.costs)))
+charge_step limits s (Own step) h n k = rw (charged_free s.costs (Own step) refl) (k, sym (add-zero (table_sum s.costs)))
 charge_step limits s (Hand safe) h n k = rw (charged_free s.costs (Hand safe) refl) (k, sym (add-zero (table_sum s.costs)))
 charge_step limits s Back h n k = rw (charged_free s.costs Back refl) (k, sym (add-zero (table_sum s.costs)))
 charge_step limits s End h n k = rw (charged_free s.costs End refl) (k, sym (add-zero (table_sum s.costs)))

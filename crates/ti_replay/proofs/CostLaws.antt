@@ -9,7 +9,7 @@ use Rattle.ti_types.specs.declared.limits.Limits.{Limits}
 use Rattle.ti_types.specs.declared.numbers.EnvNo.{EnvNo}
 use Rattle.ti_types.specs.declared.state.Safe.TheVariants.{Native, Blocked, AtPoll}
 use Rattle.ti_types.specs.declared.entry.Entry.{Entry}
-use Rattle.ti_types.specs.declared.entry.Entry.TheVariants.{Start, Stepped, Hand, Back, End, Asked, Stop, Read, Go}
+use Rattle.ti_types.specs.declared.entry.Entry.TheVariants.{Start, Own, Hand, Back, End, Asked, Stop, Read, Go}
 use Rattle.ti_replay.specs.Legal.{situation, fits, may_follow, first_illegal, goes_on, is_legal, env_of, ask_count, call_cost, calls_spent, asked_by}
 use Rattle.ti_replay.specs.declared.costs.Costs.{Costs}
 use Rattle.ti_replay.specs.Costs.{no_costs, costs_at, charged, charged_to, ArePaid, IsDue}
@@ -33,7 +33,7 @@ charged_row t x other env h free =
 
 costs_at-charged : (t : List Costs) (x : Entry) (env : EnvNo) → env.0 < length t → costs_at (charged t x) env ≡ more (costs_at t env) (ask_count env x) (call_cost env x)
 costs_at-charged t Start env h = grind arith
-costs_at-charged t (Stepped step) env h = grind arith
+costs_at-charged t (Own step) env h = grind arith
 costs_at-charged t (Hand safe) env h = grind arith
 costs_at-charged t Back env h = grind arith
 costs_at-charged t End env h = grind arith
@@ -44,7 +44,7 @@ costs_at-charged t (Go other) env h = charged_row t (Go other) other env h (λ n
 
 pub length-charged : (t : List Costs) (x : Entry) → length (charged t x) ≡ length t
 length-charged t Start = refl
-length-charged t (Stepped step) = refl
+length-charged t (Own step) = refl
 length-charged t (Hand safe) = refl
 length-charged t Back = refl
 length-charged t End = refl
@@ -60,7 +60,7 @@ paid_at_first n env h =
 
 asked_paid : (env : EnvNo) (x : Entry) → ask_count env x ≤ call_cost env x
 asked_paid env Start = omega arith
-asked_paid env (Stepped step) = omega arith
+asked_paid env (Own step) = omega arith
 asked_paid env (Hand safe) = omega arith
 asked_paid env Back = omega arith
 asked_paid env End = omega arith
@@ -103,7 +103,7 @@ of_environment limits history x env is without =
 -- the test by the state is the test by the history
 pub may_follow_is : (limits : Limits) (history : List Entry) (x : Entry) → may_follow limits history x ≡ may_enter limits (placed_state limits history) x
 may_follow_is limits history Start = refl
-may_follow_is limits history (Stepped step) = refl
+may_follow_is limits history (Own step) = refl
 may_follow_is limits history (Hand Native) = refl
 may_follow_is limits history (Hand (Blocked kind)) = refl
 may_follow_is limits history (Hand AtPoll) = refl
@@ -134,7 +134,7 @@ is_legal-snoc limits history x = grind (arith, goes_on-append limits [] history 
 -- an entry that may come can be charged
 pub due : (limits : Limits) (s : PlacedState) (x : Entry) → may_enter limits s x ≡ true → IsDue s.costs x
 due limits s Start h = tt
-due limits s (Stepped step) h = tt
+due limits s (Own step) h = tt
 due limits s (Hand safe) h = tt
 due limits s Back h = tt
 due limits s End h = tt

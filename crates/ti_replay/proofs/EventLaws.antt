@@ -10,7 +10,7 @@ use Rattle.ti_types.specs.declared.state.Safe.TheVariants.{AtPoll}
 use Rattle.ti_types.specs.declared.entry.Entry.{Entry}
 use Rattle.ti_types.specs.declared.entry.Entry.TheVariants as entry
 use Rattle.ti_types.specs.declared.event.Event.{Event}
-use Rattle.ti_types.specs.declared.event.Event.TheVariants.{Start, Stepped, Poll, ToNative, ToBlocked, Back, End, Ask, Stop, Read, Go, AddCaps, Relinquish, GetCaps, SetEnvWord, GetEnvWord}
+use Rattle.ti_types.specs.declared.event.Event.TheVariants.{Start, Own, Poll, ToNative, ToBlocked, Back, End, Ask, Stop, Read, Go, AddCaps, Relinquish, GetCaps, SetEnvWord, GetEnvWord}
 use Rattle.ti_types.specs.declared.view.ThreadView.{ThreadView}
 use Rattle.ti_replay.specs.Settling.{Placed, placed, left_out, runs_after, is_waiting_call}
 use Rattle.ti_replay.specs.View.{view, after, after_all}
@@ -26,7 +26,7 @@ use Rattle.ti_replay.proofs.AgreementLaws.{dealings-snoc, by_is}
 -- an own event that is not refused leaves an entry that may follow
 own_allowed : (limits : Limits) (s : Situation) (event : Event) (x : Entry) → own_entry event ≡ Some x → is_none (own_refusal limits s.view s.own x) ≡ true → fits limits s x ≡ true
 own_allowed limits s (Start t) x e h = grind arith
-own_allowed limits s (Stepped t step) x e h = grind arith
+own_allowed limits s (Own t step) x e h = grind arith
 own_allowed limits s (Poll t) x e h = cc
 own_allowed limits s (ToNative t) x e h = grind arith
 own_allowed limits s (ToBlocked t kind) x e h = grind arith
@@ -45,7 +45,7 @@ own_allowed limits s (GetEnvWord e') x e h = cc
 -- the calls that take place after a hand-over leave the mode
 wait_mode : (v : ThreadView) (x : Entry) → is_waiting_call x ≡ true → (after v x).mode ≡ v.mode
 wait_mode v entry.Start h = cc
-wait_mode v (entry.Stepped step) h = cc
+wait_mode v (entry.Own step) h = cc
 wait_mode v (entry.Hand safe) h = cc
 wait_mode v entry.Back h = cc
 wait_mode v entry.End h = cc
@@ -74,7 +74,7 @@ callable limits history _ = true
 admitted_callable : (limits : Limits) (d : Dealings) (wanting : Bool) (history : List Entry) (event : Event)
     → is_none (refusal_of limits d wanting event) ≡ true → ((e : EnvNo) → agent_of event ≡ Some e → calls_spent e history ≤ d.spent) → callable limits history event ≡ true
 admitted_callable limits d wanting history (Start t) h le = refl
-admitted_callable limits d wanting history (Stepped t step) h le = refl
+admitted_callable limits d wanting history (Own t step) h le = refl
 admitted_callable limits d wanting history (Poll t) h le = refl
 admitted_callable limits d wanting history (ToNative t) h le = refl
 admitted_callable limits d wanting history (ToBlocked t kind) h le = refl
@@ -103,7 +103,7 @@ poll_legal limits history = grind (arith, safe_behind_hand limits history AtPoll
 -- what an event leaves may follow
 left_legal : (limits : Limits) (history : List Entry) (event : Event) → callable limits history event ≡ true → goes_on limits history (left_by limits history event) ≡ true
 left_legal limits history (Start t) h = left_own_legal limits history (Start t)
-left_legal limits history (Stepped t step) h = left_own_legal limits history (Stepped t step)
+left_legal limits history (Own t step) h = left_own_legal limits history (Own t step)
 left_legal limits history (Poll t) h = poll_legal limits history
 left_legal limits history (ToNative t) h = left_own_legal limits history (ToNative t)
 left_legal limits history (ToBlocked t kind) h = left_own_legal limits history (ToBlocked t kind)
@@ -122,7 +122,7 @@ left_legal limits history (GetEnvWord e) h = refl
 -- an event leaves entries that cost an environment at most 1, and nothing where it is no paid call of it
 left_cost : (limits : Limits) (history : List Entry) (event : Event) (env : EnvNo) → calls_spent env (left_by limits history event) ≤ cond (is_by env event && is_paid event) 1 0
 left_cost limits history (Start t) env = grind arith
-left_cost limits history (Stepped t step) env = grind arith
+left_cost limits history (Own t step) env = grind arith
 left_cost limits history (Poll t) env = grind arith
 left_cost limits history (ToNative t) env = grind arith
 left_cost limits history (ToBlocked t kind) env = grind arith
@@ -141,7 +141,7 @@ left_cost limits history (GetEnvWord e) env = omega arith
 -- a thread's own events are not paid for, and not aimed at it
 own_sort : (thread : ThreadNo) (event : Event) → is_own_of thread event ≡ true → (is_paid event ≡ false) × ((limits : Limits) → (history : List Entry) → callable limits history event ≡ true)
 own_sort thread (Start t) h = (refl, λ limits history. refl)
-own_sort thread (Stepped t step) h = (refl, λ limits history. refl)
+own_sort thread (Own t step) h = (refl, λ limits history. refl)
 own_sort thread (Poll t) h = (refl, λ limits history. refl)
 own_sort thread (ToNative t) h = (refl, λ limits history. refl)
 own_sort thread (ToBlocked t kind) h = (refl, λ limits history. refl)
@@ -200,7 +200,7 @@ history_is_paid limits thread events env = (history_from_paid limits thread [] [
 -- no environment spends more than there is
 dealt_within : (limits : Limits) (env : EnvNo) (thread : ThreadNo) (d : Dealings) (wanting : Bool) (event : Event) → d.spent ≤ limits.calls → (dealt limits env thread d (record { event = event; wanting = wanting })).spent ≤ limits.calls
 dealt_within limits env thread d wanting (Start t) h = h
-dealt_within limits env thread d wanting (Stepped t step) h = h
+dealt_within limits env thread d wanting (Own t step) h = h
 dealt_within limits env thread d wanting (Poll t) h = h
 dealt_within limits env thread d wanting (ToNative t) h = h
 dealt_within limits env thread d wanting (ToBlocked t kind) h = h
@@ -225,7 +225,7 @@ spent_within limits env thread events = fold_within limits env thread (record { 
 
 ask_call : (env : EnvNo) (x : Entry) → ask_count env x ≤ call_cost env x
 ask_call env entry.Start = omega arith
-ask_call env (entry.Stepped step) = omega arith
+ask_call env (entry.Own step) = omega arith
 ask_call env (entry.Hand safe) = omega arith
 ask_call env entry.Back = omega arith
 ask_call env entry.End = omega arith

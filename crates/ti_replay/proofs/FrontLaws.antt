@@ -11,7 +11,7 @@ use Rattle.std.proofs.lemmas.Bool.Decides.{nat_tests}
 use Rattle.ti_types.specs.declared.limits.Limits.{Limits}
 use Rattle.ti_types.specs.declared.numbers.EnvNo.{EnvNo}
 use Rattle.ti_types.specs.declared.entry.Entry.{Entry}
-use Rattle.ti_types.specs.declared.entry.Entry.TheVariants.{Start, Stepped, Hand, Back, End, Asked, Stop, Read, Go}
+use Rattle.ti_types.specs.declared.entry.Entry.TheVariants.{Start, Own, Hand, Back, End, Asked, Stop, Read, Go}
 use Rattle.ti_replay.specs.Settling.{is_waiting_call}
 use Rattle.ti_types.specs.declared.call.Call.TheVariants.{State, FrameCount, Trace, Location, Suspend, Resume, GetWord, SetWord, Pop}
 use Rattle.ti_replay.specs.Answers.{is_running, or_zero}
@@ -33,7 +33,7 @@ use Rattle.ti_replay.specs.Fronts.{stops_after, StopsAreOwn, lets_go, frames_pop
 stop_step : (limits : Limits) (s : HistoryState) (x : Entry) (env : EnvNo) → list_all is_waiting_call s.waiting ≡ true → allows limits s x ≡ true
     → is_stopper (next_state s x).view.stopper env ≡ stops_after env (is_stopper s.view.stopper env) x
 stop_step limits s Start env w a = refl
-stop_step limits s (Stepped step) env w a = refl
+stop_step limits s (Own step) env w a = refl
 stop_step limits s (Hand safe) env w a = ap (λ o. is_stopper o env) (all_quiet (after s.view (Hand safe)) s.waiting w).stopper
 stop_step limits s Back env w a = refl
 stop_step limits s End env w a = ap (λ o. is_stopper o env) (all_quiet (after s.view End) s.waiting w).stopper
@@ -53,7 +53,7 @@ stop_run limits s (x ∷ history) env w a =
 -- another's entry changes nothing
 other_stop : (env : EnvNo) (b : Bool) (x : Entry) → (maker x == env.0 + 1) ≡ false → stops_after env b x ≡ b
 other_stop env b Start h = refl
-other_stop env b (Stepped step) h = refl
+other_stop env b (Own step) h = refl
 other_stop env b (Hand safe) h = refl
 other_stop env b Back h = refl
 other_stop env b End h = refl
@@ -82,7 +82,7 @@ stops_are_own limits env history legal =
 
 own_is_made : (x : Entry) → is_own_entry x ≡ (maker x == 0)
 own_is_made Start = refl
-own_is_made (Stepped step) = refl
+own_is_made (Own step) = refl
 own_is_made (Hand safe) = refl
 own_is_made Back = refl
 own_is_made End = refl
@@ -110,7 +110,7 @@ stays_stopped env (x ∷ more) stays =
   where
     one : (x : Entry) → is_go_of env x ≡ false → stops_after env true x ≡ true
     one Start h = refl
-    one (Stepped step) h = refl
+    one (Own step) h = refl
     one (Hand safe) h = refl
     one Back h = refl
     one End h = refl
@@ -141,7 +141,7 @@ entry_frames limits front x other rests =
 
     one : (x : Entry) → (maker x == 0) ≡ false → (next_state s x).view.frames ≡ drop (frames_popped limits front x) s.view.frames
     one Start h = cc
-    one (Stepped step) h = cc
+    one (Own step) h = cc
     one (Hand safe) h = cc
     one Back h = cc
     one End h = cc
@@ -217,7 +217,7 @@ own_goes env (x ∷ more) = one (own_goes env more) (maker x == env.0 + 1) refl
   where
     other : (x : Entry) → (maker x == env.0 + 1) ≡ false → is_go_of env x ≡ false
     other Start h = refl
-    other (Stepped step) h = refl
+    other (Own step) h = refl
     other (Hand safe) h = refl
     other Back h = refl
     other End h = refl

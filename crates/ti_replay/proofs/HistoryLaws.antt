@@ -10,7 +10,7 @@ use Rattle.ti_types.specs.declared.numbers.EnvNo.{EnvNo}
 use Rattle.ti_types.specs.declared.call.Call.{Call}
 use Rattle.ti_types.specs.declared.call.Call.TheVariants.{State, FrameCount, Trace, Location, Suspend, Resume, GetWord, SetWord, Pop}
 use Rattle.ti_types.specs.declared.entry.Entry.{Entry}
-use Rattle.ti_types.specs.declared.entry.Entry.TheVariants.{Start, Stepped, Hand, Back, End, Asked, Stop, Read, Go}
+use Rattle.ti_types.specs.declared.entry.Entry.TheVariants.{Start, Own, Hand, Back, End, Asked, Stop, Read, Go}
 use Rattle.ti_types.specs.declared.view.ThreadView.{ThreadView}
 use Rattle.ti_replay.specs.Answers.{is_running, is_alive}
 use Rattle.ti_replay.specs.Settling.{Placed, placed, is_waiting_call, is_hand_over, runs_after, runs_behind, put_behind, settle, left_out, settled, unanswered}
@@ -41,7 +41,7 @@ called_mode v env Pop = grind arith
 -- the view runs as the entries say
 after_runs : (v : ThreadView) (x : Entry) → is_running (after v x).mode ≡ runs_after (is_running v.mode) x
 after_runs v Start = refl
-after_runs v (Stepped step) = refl
+after_runs v (Own step) = refl
 after_runs v (Hand safe) = refl
 after_runs v Back = refl
 after_runs v End = refl

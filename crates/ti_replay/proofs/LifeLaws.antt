@@ -6,7 +6,7 @@ use Rattle.ti_types.specs.declared.state.Mode.{Mode}
 use Rattle.ti_types.specs.declared.state.Mode.TheVariants as mode
 use Rattle.ti_types.specs.declared.state.Safe.TheVariants.{Native, Blocked, AtPoll}
 use Rattle.ti_types.specs.declared.entry.Entry.{Entry}
-use Rattle.ti_types.specs.declared.entry.Entry.TheVariants.{Start, Stepped, Hand, Back, End, Asked, Stop, Read, Go}
+use Rattle.ti_types.specs.declared.entry.Entry.TheVariants.{Start, Own, Hand, Back, End, Asked, Stop, Read, Go}
 use Rattle.ti_replay.specs.Answers.{is_alive, is_running}
 use Rattle.ti_replay.specs.View.{view, after}
 use Rattle.ti_replay.specs.Legal.{is_legal, is_new}
@@ -40,7 +40,7 @@ record IsLived (m n : Mode) (x : Entry) : Type 0 where
 
 life_step : (limits : Limits) (s : HistoryState) (x : Entry) → WaitsWell s → allows limits s x ≡ true → IsLived s.view.mode (next_state s x).view.mode x
 life_step limits s Start k h = record { new = grind arith; ended = grind arith }
-life_step limits s (Stepped step) k h = record { new = grind arith; ended = grind arith }
+life_step limits s (Own step) k h = record { new = grind arith; ended = grind arith }
 life_step limits s (Hand Native) k h =
     let runs = running_lives s.view.mode (grind arith) in
     let m = (all_quiet (after s.view (Hand Native)) s.waiting k.calls).mode in

@@ -10,7 +10,7 @@ use Rattle.ti_types.specs.declared.step.Step.{Step}
 use Rattle.ti_types.specs.declared.call.Call.{Call}
 use Rattle.ti_types.specs.declared.call.Call.TheVariants.{State, FrameCount, Trace, Location, Suspend, Resume, GetWord, SetWord, Pop}
 use Rattle.ti_types.specs.declared.entry.Entry.{Entry}
-use Rattle.ti_types.specs.declared.entry.Entry.TheVariants.{Stepped}
+use Rattle.ti_types.specs.declared.entry.Entry.TheVariants.{Own}
 use Rattle.ti_types.specs.declared.event.Ticket.{Ticket}
 use Rattle.ti_types.specs.declared.answer.Answer.{Answer}
 use Rattle.ti_types.specs.declared.view.ThreadView.{ThreadView}
@@ -35,20 +35,20 @@ pub record SameButFrames (s z : HistoryState) : Type 0 where
   pub waiting : s.waiting ≡ z.waiting
   pub costs : s.costs ≡ z.costs
 
-one_logged : (s : HistoryState) (step : Step) → SameButFrames (next_state s (Stepped step)) s
+one_logged : (s : HistoryState) (step : Step) → SameButFrames (next_state s (Own step)) s
 one_logged s step = record {
   mode = grind arith;
   suspended = grind arith;
   stopper = grind arith;
   words = grind arith;
   waiting = grind arith;
-  costs = charged_free s.costs (Stepped step) refl;
+  costs = charged_free s.costs (Own step) refl;
 }
 
 all_logged : (s : HistoryState) (steps : List Step) → SameButFrames (fold next_state s (steps_of steps)) s
 all_logged s [] = record { mode = refl; suspended = refl; stopper = refl; words = refl; waiting = refl; costs = refl }
 all_logged s (x ∷ steps) =
-    let k = all_logged (next_state s (Stepped x)) steps in
+    let k = all_logged (next_state s (Own x)) steps in
     let o = one_logged s x in
     record {
       mode = k.mode ∙ o.mode;
@@ -80,22 +80,22 @@ logged_armed limits h steps =
 pub logged_own : (h : List Entry) (steps : List Step) → own_spent (h ++ steps_of steps) ≡ own_spent h + length steps
 logged_own h [] = rw append-nil (sym (add-zero (own_spent h)))
 logged_own h (x ∷ steps) =
-    let e = sum_by-append own_cost h (Stepped x ∷ []) in
-    let o = sum_by-cons own_cost (Stepped x) [] in
-    let r = logged_own (h ++ Stepped x ∷ []) steps in
-    let a : own_spent ((h ++ Stepped x ∷ []) ++ steps_of steps) ≡ own_spent (h ++ steps_of (x ∷ steps)) = ap own_spent (append_assoc h (Stepped x ∷ []) (steps_of steps)) in
+    let e = sum_by-append own_cost h (Own x ∷ []) in
+    let o = sum_by-cons own_cost (Own x) [] in
+    let r = logged_own (h ++ Own x ∷ []) steps in
+    let a : own_spent ((h ++ Own x ∷ []) ++ steps_of steps) ≡ own_spent (h ++ steps_of (x ∷ steps)) = ap own_spent (append_assoc h (Own x ∷ []) (steps_of steps)) in
     sym a ∙ r ∙ omega (arith, e, o)
 
 no_asks : (env : EnvNo) (steps : List Step) → asked_by env (steps_of steps) ≡ 0
 no_asks env [] = refl
-no_asks env (x ∷ steps) = omega (arith, no_asks env steps, sum_by-cons (ask_count env) (Stepped x) (steps_of steps))
+no_asks env (x ∷ steps) = omega (arith, no_asks env steps, sum_by-cons (ask_count env) (Own x) (steps_of steps))
 
 pub logged_asked : (env : EnvNo) (h : List Entry) (steps : List Step) → asked_by env (h ++ steps_of steps) ≡ asked_by env h
 logged_asked env h steps = omega (arith, sum_by-append (ask_count env) h (steps_of steps), no_asks env steps)
 
 no_calls : (env : EnvNo) (steps : List Step) → calls_spent env (steps_of steps) ≡ 0
 no_calls env [] = refl
-no_calls env (x ∷ steps) = omega (arith, no_calls env steps, sum_by-cons (call_cost env) (Stepped x) (steps_of steps))
+no_calls env (x ∷ steps) = omega (arith, no_calls env steps, sum_by-cons (call_cost env) (Own x) (steps_of steps))
 
 pub logged_calls : (env : EnvNo) (h : List Entry) (steps : List Step) → calls_spent env (h ++ steps_of steps) ≡ calls_spent env h
 logged_calls env h steps = omega (arith, sum_by-append (call_cost env) h (steps_of steps), no_calls env steps)
@@ -104,14 +104,14 @@ or_none : (a : Option Answer) → option_or a None ≡ a
 or_none None = refl
 or_none (Some x) = refl
 
-step_tells : (v : ThreadView) (s : HistoryState) (step : Step) (t : Ticket) → reply_in v (settling s (Stepped step)) t ≡ None
+step_tells : (v : ThreadView) (s : HistoryState) (step : Step) (t : Ticket) → reply_in v (settling s (Own step)) t ≡ None
 step_tells v s step t = grind arith
 
 pub logged_reply : (limits : Limits) (h : List Entry) (steps : List Step) (t : Ticket) → reply_to limits (h ++ steps_of steps) t ≡ reply_to limits h t
 logged_reply limits h [] t = rw append-nil refl
 logged_reply limits h (x ∷ steps) t =
-    let a : reply_to limits ((h ++ Stepped x ∷ []) ++ steps_of steps) t ≡ reply_to limits (h ++ steps_of (x ∷ steps)) t = ap (λ l. reply_to limits l t) (append_assoc h (Stepped x ∷ []) (steps_of steps)) in
-    sym a ∙ logged_reply limits (h ++ Stepped x ∷ []) steps t ∙ reply_to-snoc limits h (Stepped x) t
+    let a : reply_to limits ((h ++ Own x ∷ []) ++ steps_of steps) t ≡ reply_to limits (h ++ steps_of (x ∷ steps)) t = ap (λ l. reply_to limits l t) (append_assoc h (Own x ∷ []) (steps_of steps)) in
+    sym a ∙ logged_reply limits (h ++ Own x ∷ []) steps t ∙ reply_to-snoc limits h (Own x) t
     ∙ ap (λ z. option_or (reply_to limits h t) z) (step_tells (view limits h) (history_state limits h) x t) ∙ or_none (reply_to limits h t)
 
 answered_by : (v w : ThreadView) (env : EnvNo) (call : Call) → waits call ≡ false → v.mode ≡ w.mode → v.suspended ≡ w.suspended → v.words ≡ w.words → answer_of v env call ≡ answer_of w env call
@@ -132,5 +132,5 @@ logged_answer limits h steps env call w =
     let k = logged limits h steps in
     answered_by (view limits (h ++ steps_of steps)) (view limits h) env call w k.mode k.suspended k.words
 
-pub steps-snoc : (h : List Entry) (steps : List Step) (x : Step) → h ++ steps_of (steps ++ x ∷ []) ≡ (h ++ steps_of steps) ++ Stepped x ∷ []
-steps-snoc h steps x = ap (λ l. h ++ l) (map-append Stepped steps (x ∷ [])) ∙ sym (append_assoc h (steps_of steps) (Stepped x ∷ []))
+pub steps-snoc : (h : List Entry) (steps : List Step) (x : Step) → h ++ steps_of (steps ++ x ∷ []) ≡ (h ++ steps_of steps) ++ Own x ∷ []
+steps-snoc h steps x = ap (λ l. h ++ l) (map-append Own steps (x ∷ [])) ∙ sym (append_assoc h (steps_of steps) (Own x ∷ []))

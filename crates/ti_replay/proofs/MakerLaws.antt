@@ -7,7 +7,7 @@ use Rattle.ti_types.specs.declared.limits.Limits.{Limits}
 use Rattle.ti_types.specs.declared.numbers.EnvNo.{EnvNo}
 use Rattle.ti_types.specs.declared.state.Mode.{Mode}
 use Rattle.ti_types.specs.declared.entry.Entry.{Entry}
-use Rattle.ti_types.specs.declared.entry.Entry.TheVariants.{Start, Stepped, Hand, Back, End, Asked, Stop, Read, Go}
+use Rattle.ti_types.specs.declared.entry.Entry.TheVariants.{Start, Own, Hand, Back, End, Asked, Stop, Read, Go}
 use Rattle.ti_replay.specs.Settling.{is_waiting_call}
 use Rattle.ti_replay.specs.View.{view, after}
 use Rattle.ti_replay.specs.Legal.{own_cost, call_cost, ask_count, own_spent, calls_spent, asked_by}
@@ -23,7 +23,7 @@ use Rattle.ti_replay.proofs.BoundLaws.{all_quiet}
 -- only calls wait
 pub calls_step : (s : HistoryState) (x : Entry) → list_all is_waiting_call s.waiting ≡ true → list_all is_waiting_call (next_state s x).waiting ≡ true
 calls_step s Start h = grind (arith, h)
-calls_step s (Stepped step) h = grind (arith, h)
+calls_step s (Own step) h = grind (arith, h)
 calls_step s (Hand safe) h = grind (arith, h)
 calls_step s Back h = grind (arith, h)
 calls_step s End h = grind (arith, h)
@@ -34,7 +34,7 @@ calls_step s (Go env) h = grind (arith, h)
 
 mode_step : (s : HistoryState) (x : Entry) → list_all is_waiting_call s.waiting ≡ true → (next_state s x).view.mode ≡ mode_after s.view.mode x
 mode_step s Start h = refl
-mode_step s (Stepped step) h = refl
+mode_step s (Own step) h = refl
 mode_step s (Hand safe) h = (all_quiet (after s.view (Hand safe)) s.waiting h).mode
 mode_step s Back h = refl
 mode_step s End h = (all_quiet (after s.view End) s.waiting h).mode
@@ -64,7 +64,7 @@ not_counted m x history other = ap (λ (b : Bool). fold mode_after m (cond b (x 
 mode_own : (m : Mode) (history : List Entry) → fold mode_after m history ≡ fold mode_after m (made_by 0 history)
 mode_own m [] = refl
 mode_own m (Start ∷ history) = mode_own (mode_after m Start) history
-mode_own m (Stepped step ∷ history) = mode_own m history
+mode_own m (Own step ∷ history) = mode_own m history
 mode_own m (Hand safe ∷ history) = mode_own (mode_after m (Hand safe)) history
 mode_own m (Back ∷ history) = mode_own (mode_after m Back) history
 mode_own m (End ∷ history) = mode_own (mode_after m End) history
@@ -93,7 +93,7 @@ sum_by-counting f p (x ∷ xs) none = counted f p x xs (none x) (sum_by-counting
 
 own_free : (x : Entry) → (maker x == 0) ≡ false → own_cost x ≡ 0
 own_free Start h = refl
-own_free (Stepped step) h = cc
+own_free (Own step) h = cc
 own_free (Hand safe) h = cc
 own_free Back h = refl
 own_free End h = refl
@@ -104,7 +104,7 @@ own_free (Go env) h = refl
 
 call_free : (env : EnvNo) (x : Entry) → (maker x == env.0 + 1) ≡ false → call_cost env x ≡ 0
 call_free env Start h = refl
-call_free env (Stepped step) h = refl
+call_free env (Own step) h = refl
 call_free env (Hand safe) h = refl
 call_free env Back h = refl
 call_free env End h = refl
@@ -115,7 +115,7 @@ call_free env (Go other) h = refl
 
 ask_free : (env : EnvNo) (x : Entry) → (maker x == env.0 + 1) ≡ false → ask_count env x ≡ 0
 ask_free env Start h = refl
-ask_free env (Stepped step) h = refl
+ask_free env (Own step) h = refl
 ask_free env (Hand safe) h = refl
 ask_free env Back h = refl
 ask_free env End h = refl

@@ -10,7 +10,7 @@ use Rattle.ti_types.specs.declared.numbers.EnvNo.{EnvNo}
 use Rattle.ti_types.specs.declared.event.Ticket.{Ticket}
 use Rattle.ti_types.specs.declared.call.Call.{Call}
 use Rattle.ti_types.specs.declared.entry.Entry.{Entry}
-use Rattle.ti_types.specs.declared.entry.Entry.TheVariants.{Start, Stepped, Hand, Back, End, Asked, Stop, Read, Go}
+use Rattle.ti_types.specs.declared.entry.Entry.TheVariants.{Start, Own, Hand, Back, End, Asked, Stop, Read, Go}
 use Rattle.ti_types.specs.declared.view.ThreadView.{ThreadView}
 use Rattle.ti_replay.specs.Settling.{Placed, placed, settle, settled, put_behind, runs_after}
 use Rattle.ti_replay.specs.View.{new_thread, after}
@@ -53,7 +53,7 @@ same_env a b h = ap (λ (n : ℕ). record { 0 = n }) h
 -- a call that may come has its environment's number
 is_next : (limits : Limits) (f : List Entry) (t : Ticket) (x : Entry) → may_follow limits f x ≡ true → is_call_of t x ≡ true → (t.no ≡ asked_by t.env f) × (ask_count t.env x ≡ 1)
 is_next limits f t Start m h = cc
-is_next limits f t (Stepped step) m h = cc
+is_next limits f t (Own step) m h = cc
 is_next limits f t (Hand safe) m h = cc
 is_next limits f t Back m h = cc
 is_next limits f t End m h = cc

@@ -13,7 +13,7 @@ use Rattle.ti_types.specs.declared.entry.Entry.{Entry}
 use Rattle.ti_types.specs.declared.entry.Entry.TheVariants as entry
 use Rattle.ti_types.specs.declared.error.TiError.{TiError}
 use Rattle.ti_types.specs.declared.event.Event.{Event}
-use Rattle.ti_types.specs.declared.event.Event.TheVariants.{Start, Stepped, Poll, ToNative, ToBlocked, Back, End, Ask, Stop, Read, Go, AddCaps, Relinquish, GetCaps, SetEnvWord, GetEnvWord}
+use Rattle.ti_types.specs.declared.event.Event.TheVariants.{Start, Own, Poll, ToNative, ToBlocked, Back, End, Ask, Stop, Read, Go, AddCaps, Relinquish, GetCaps, SetEnvWord, GetEnvWord}
 use Rattle.ti_types.specs.declared.answer.Answer.{Answer}
 use Rattle.ti_types.specs.declared.answer.Answer.TheVariants as answer
 use Rattle.ti_types.specs.declared.view.ThreadView.{ThreadView}
@@ -106,7 +106,7 @@ poll_leaves limits history t h = grind (arith, h)
 -- what a refused event leaves
 left_refused : (limits : Limits) (history : List Entry) (event : Event) → is_refusal (outcome_there limits (history ++ left_by limits history event) history event) ≡ true → LeavesAll limits history event
 left_refused limits history (Start t) h = nothing limits history (Start t) (own_leaves limits history entry.Start h) refl
-left_refused limits history (Stepped t step) h = nothing limits history (Stepped t step) (own_leaves limits history (entry.Stepped step) h) refl
+left_refused limits history (Own t step) h = nothing limits history (Own t step) (own_leaves limits history (entry.Own step) h) refl
 left_refused limits history (Poll t) h = nothing limits history (Poll t) (poll_leaves limits history t h) refl
 left_refused limits history (ToNative t) h = nothing limits history (ToNative t) (own_leaves limits history (entry.Hand Native) h) refl
 left_refused limits history (ToBlocked t kind) h = nothing limits history (ToBlocked t kind) (own_leaves limits history (entry.Hand (Blocked kind)) h) refl
@@ -164,7 +164,7 @@ caps_kept : (limits : Limits) (e : EnvNo) (all events : List Happening) (held : 
 caps_kept limits e all events held w (AddCaps f caps) there h = grind (arith, nat_tests, h, there)
 caps_kept limits e all events held w (Relinquish f caps) there h = grind (arith, nat_tests, h, there)
 caps_kept limits e all events held w (Start t) there h = refl
-caps_kept limits e all events held w (Stepped t step) there h = refl
+caps_kept limits e all events held w (Own t step) there h = refl
 caps_kept limits e all events held w (Poll t) there h = refl
 caps_kept limits e all events held w (ToNative t) there h = refl
 caps_kept limits e all events held w (ToBlocked t kind) there h = refl
@@ -184,7 +184,7 @@ word_kept limits e all events word w (SetEnvWord f v) there h = grind (arith, na
 word_kept limits e all events word w (AddCaps f caps) there h = refl
 word_kept limits e all events word w (Relinquish f caps) there h = refl
 word_kept limits e all events word w (Start t) there h = refl
-word_kept limits e all events word w (Stepped t step) there h = refl
+word_kept limits e all events word w (Own t step) there h = refl
 word_kept limits e all events word w (Poll t) there h = refl
 word_kept limits e all events word w (ToNative t) there h = refl
 word_kept limits e all events word w (ToBlocked t kind) there h = refl
@@ -200,7 +200,7 @@ word_kept limits e all events word w (GetEnvWord f) there h = refl
 -- a thread's own event is no call
 own_unpaid : (t : ThreadNo) (event : Event) → is_own_of t event ≡ true → is_paid event ≡ false
 own_unpaid t (Start u) h = refl
-own_unpaid t (Stepped u step) h = refl
+own_unpaid t (Own u step) h = refl
 own_unpaid t (Poll u) h = refl
 own_unpaid t (ToNative u) h = refl
 own_unpaid t (ToBlocked u kind) h = refl

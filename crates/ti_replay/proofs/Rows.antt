@@ -10,7 +10,7 @@ use Rattle.ti_types.specs.declared.state.Kind.TheVariants.{Sleep}
 use Rattle.ti_types.specs.declared.step.Step.TheVariants.{Enter}
 use Rattle.ti_types.specs.declared.call.Call.TheVariants.{FrameCount, Suspend}
 use Rattle.ti_types.specs.declared.entry.Entry.{Entry}
-use Rattle.ti_types.specs.declared.entry.Entry.TheVariants.{Start, Stepped, Hand, Back, Asked, Stop, Read, Go}
+use Rattle.ti_types.specs.declared.entry.Entry.TheVariants.{Start, Own, Hand, Back, Asked, Stop, Read, Go}
 use Rattle.ti_types.specs.declared.answer.Answer.TheVariants as answer
 use Rattle.ti_types.specs.declared.error.TiError.TheVariants.{ThreadSuspended}
 use Rattle.ti_types.specs.Frames.{bare_trace}
@@ -35,7 +35,7 @@ b = record { 0 = 1 }
 
 -- a count that waits, before and after a hand-over
 abbrev counted : List Entry
-counted = Start ∷ Stepped (Enter a) ∷ Asked e 0 FrameCount ∷ []
+counted = Start ∷ Own (Enter a) ∷ Asked e 0 FrameCount ∷ []
 
 waiting_count : reply small counted 2 ≡ None
 waiting_count = refl
@@ -48,7 +48,7 @@ blocked_mode = refl
 
 -- a count and two suspensions that wait while the thread enters frames
 abbrev suspended_twice : List Entry
-suspended_twice = Start ∷ Stepped (Enter a) ∷ Asked e 0 FrameCount ∷ Asked f 0 Suspend ∷ Stepped (Enter b) ∷ Asked e 1 Suspend ∷ Stepped (Enter a) ∷ Hand AtPoll ∷ []
+suspended_twice = Start ∷ Own (Enter a) ∷ Asked e 0 FrameCount ∷ Asked f 0 Suspend ∷ Own (Enter b) ∷ Asked e 1 Suspend ∷ Own (Enter a) ∷ Hand AtPoll ∷ []
 
 count_three : reply small suspended_twice 2 ≡ Some (answer.Count 3)
 count_three = refl
@@ -67,7 +67,7 @@ no_return = refl
 
 -- a stop before the start, and one at a running thread
 abbrev stopped : List Entry
-stopped = Stop e ∷ Read e (pos 4) ∷ Go e ∷ Start ∷ Stepped (Enter a) ∷ Stop e ∷ Stepped (Enter b) ∷ Hand AtPoll ∷ Read e (pos 1) ∷ Go e ∷ Back ∷ []
+stopped = Stop e ∷ Read e (pos 4) ∷ Go e ∷ Start ∷ Own (Enter a) ∷ Stop e ∷ Own (Enter b) ∷ Hand AtPoll ∷ Read e (pos 1) ∷ Go e ∷ Back ∷ []
 
 stopped_is_legal : is_legal small stopped ≡ true
 stopped_is_legal = refl

@@ -3,7 +3,7 @@ use Rattle.std.proofs.Common.{◌≡◌, Bool, true, false, cond, ◌&&◌, List
 use Rattle.std.specs.List.{list_any}
 use Rattle.std.proofs.lemmas.List.Folds.{list_any-append}
 use Rattle.ti_types.specs.declared.entry.Entry.{Entry}
-use Rattle.ti_types.specs.declared.entry.Entry.TheVariants.{Start, Stepped, Hand, Back, End, Asked, Stop, Read, Go}
+use Rattle.ti_types.specs.declared.entry.Entry.TheVariants.{Start, Own, Hand, Back, End, Asked, Stop, Read, Go}
 use Rattle.ti_replay.specs.Settling.{Placed, hands_over, is_waiting_call, is_hand_over, runs_after, runs_behind, put_behind, settle, left_out}
 
 -- a call goes after the first hand-over of two parts
@@ -24,7 +24,7 @@ hands-put_behind c (p ∷ s) = grind (arith, hands-put_behind c s)
 -- a waiting call is no hand-over
 pub waiting_hands : (x : Entry) → is_waiting_call x ≡ true → is_hand_over x ≡ false
 waiting_hands Start h = refl
-waiting_hands (Stepped step) h = refl
+waiting_hands (Own step) h = refl
 waiting_hands (Hand safe) h = cc
 waiting_hands Back h = refl
 waiting_hands End h = cc
@@ -36,7 +36,7 @@ waiting_hands (Go env) h = refl
 -- a waiting call changes nothing of whether the thread runs
 pub waiting_runs : (r : Bool) (x : Entry) → is_waiting_call x ≡ true → runs_after r x ≡ r
 waiting_runs r Start h = cc
-waiting_runs r (Stepped step) h = cc
+waiting_runs r (Own step) h = cc
 waiting_runs r (Hand safe) h = cc
 waiting_runs r Back h = cc
 waiting_runs r End h = cc

@@ -6,7 +6,7 @@ use Rattle.ti_types.specs.declared.limits.Limits.{Limits}
 use Rattle.ti_types.specs.declared.numbers.EnvNo.{EnvNo}
 use Rattle.ti_types.specs.declared.state.Safe.TheVariants.{Native, Blocked, AtPoll}
 use Rattle.ti_types.specs.declared.entry.Entry.{Entry}
-use Rattle.ti_types.specs.declared.entry.Entry.TheVariants.{Start, Stepped, Hand, Back, End, Asked, Stop, Read, Go}
+use Rattle.ti_types.specs.declared.entry.Entry.TheVariants.{Start, Own, Hand, Back, End, Asked, Stop, Read, Go}
 use Rattle.ti_replay.specs.HistoryState.{HistoryState, history_state}
 use Rattle.ti_replay.specs.Standing.{stands_for, is_own_entry, is_go_of, is_still, StandsStill}
 use Rattle.ti_replay.proofs.NextStates.{next_state, allows, allows_all}
@@ -18,7 +18,7 @@ use Rattle.ti_replay.proofs.HistoryStateLaws.{goes_on-allows}
 stand_step : (limits : Limits) (s : HistoryState) (x : Entry) (env : EnvNo) → allows limits s x ≡ true → stands_for env s.view ≡ true
     → (is_go_of env x ≡ true) ⊎ ((is_own_entry x ≡ false) × (stands_for env (next_state s x).view ≡ true))
 stand_step limits s Start env a k = absurd (grind (arith, nat_tests))
-stand_step limits s (Stepped step) env a k = absurd (grind (arith, nat_tests))
+stand_step limits s (Own step) env a k = absurd (grind (arith, nat_tests))
 stand_step limits s (Hand Native) env a k = absurd (grind (arith, nat_tests))
 stand_step limits s (Hand (Blocked kind)) env a k = absurd (grind (arith, nat_tests))
 stand_step limits s (Hand AtPoll) env a k = absurd (grind (arith, nat_tests))

@@ -3,7 +3,7 @@ use Rattle.std.proofs.Common.{◌≡◌, true, List, [], ◌∷◌, ◌++◌, re
 use Rattle.ti_types.specs.declared.limits.Limits.{Limits}
 use Rattle.ti_types.specs.declared.step.Step.{Step}
 use Rattle.ti_types.specs.declared.entry.Entry.{Entry}
-use Rattle.ti_types.specs.declared.entry.Entry.TheVariants.{Start, Stepped, Hand, Back, End, Asked, Stop, Read, Go}
+use Rattle.ti_types.specs.declared.entry.Entry.TheVariants.{Start, Own, Hand, Back, End, Asked, Stop, Read, Go}
 use Rattle.ti_replay.specs.Answers.{is_running}
 use Rattle.ti_replay.specs.View.{frames_after}
 use Rattle.ti_replay.specs.Legal.{goes_on}
@@ -20,20 +20,20 @@ pub record IsSameForSteps (s z : HistoryState) : Type 0 where
   pub frames : is_running z.view.mode ≡ true → s.view.frames ≡ z.view.frames
   pub own : s.own ≡ z.own
 
-step_same : (s z : HistoryState) (step : Step) → IsSameForSteps s z → IsSameForSteps (next_state s (Stepped step)) (next_state z (Stepped step))
+step_same : (s z : HistoryState) (step : Step) → IsSameForSteps s z → IsSameForSteps (next_state s (Own step)) (next_state z (Own step))
 step_same s z step k =
     record { mode = grind (arith, k.mode); frames = λ r. ap (λ f. frames_after f step) (k.frames r); own = grind (arith, k.own) }
 
 steps_same : (limits : Limits) (s z : HistoryState) (steps : List Step) → IsSameForSteps s z → allows_all limits s (steps_of steps) ≡ allows_all limits z (steps_of steps)
 steps_same limits s z [] k = refl
 steps_same limits s z (x ∷ steps) k =
-    let one : allows limits s (Stepped x) ≡ allows limits z (Stepped x) = grind (arith, k.mode, k.frames, k.own) in
-    let rest = steps_same limits (next_state s (Stepped x)) (next_state z (Stepped x)) steps (step_same s z x k) in
+    let one : allows limits s (Own x) ≡ allows limits z (Own x) = grind (arith, k.mode, k.frames, k.own) in
+    let rest = steps_same limits (next_state s (Own x)) (next_state z (Own x)) steps (step_same s z x k) in
     grind (arith, one, rest)
 
 pub passed_same : (s : HistoryState) (x : Entry) → is_passed x ≡ true → IsSameForSteps (next_state s x) s
 passed_same s Start h = cc
-passed_same s (Stepped step) h = cc
+passed_same s (Own step) h = cc
 passed_same s (Hand safe) h = cc
 passed_same s Back h = cc
 passed_same s End h = cc

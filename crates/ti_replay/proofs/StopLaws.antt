@@ -15,7 +15,7 @@ use Rattle.ti_types.specs.declared.entry.Entry.{Entry}
 use Rattle.ti_types.specs.declared.entry.Entry.TheVariants as entry
 use Rattle.ti_types.specs.declared.error.TiError.{TiError}
 use Rattle.ti_types.specs.declared.event.Event.{Event}
-use Rattle.ti_types.specs.declared.event.Event.TheVariants.{Start, Stepped, Poll, ToNative, ToBlocked, Back, End, Ask, Stop, Read, Go, AddCaps, Relinquish, GetCaps, SetEnvWord, GetEnvWord}
+use Rattle.ti_types.specs.declared.event.Event.TheVariants.{Start, Own, Poll, ToNative, ToBlocked, Back, End, Ask, Stop, Read, Go, AddCaps, Relinquish, GetCaps, SetEnvWord, GetEnvWord}
 use Rattle.ti_types.specs.declared.event.Outcome.{Outcome}
 use Rattle.ti_types.specs.declared.event.Outcome.TheVariants as outcome
 use Rattle.ti_types.specs.declared.answer.Answer.{Answer}
@@ -55,7 +55,7 @@ record IsKept (env : EnvNo) (n : ℕ) (v w : ThreadView) : Type 0 where
 -- an entry of the thread's own is refused
 own_refused : (limits : Limits) (v : ThreadView) (own : ℕ) (x : Entry) (env : EnvNo) → stands_for env v ≡ true → is_own_entry x ≡ true → is_none (own_refusal limits v own x) ≡ false
 own_refused limits v own entry.Start env k h = grind (arith, nat_tests)
-own_refused limits v own (entry.Stepped step) env k h = grind (arith, nat_tests)
+own_refused limits v own (entry.Own step) env k h = grind (arith, nat_tests)
 own_refused limits v own (entry.Hand Native) env k h = grind (arith, nat_tests)
 own_refused limits v own (entry.Hand (Blocked kind)) env k h = grind (arith, nat_tests)
 own_refused limits v own (entry.Hand AtPoll) env k h = grind (arith, nat_tests)
@@ -140,7 +140,7 @@ taken_by v event = 0
 left_kept : (limits : Limits) (history : List Entry) (env : EnvNo) (thread : ThreadNo) (event : Event) → stands_for env (view limits history) ≡ true
     → is_go_at env thread event ≡ false → (is_own_of thread event ≡ true) ⊎ (is_aimed_at thread event ≡ true) → IsKept env (taken_by (view limits history) event) (view limits history) (view limits (history ++ left_by limits history event))
 left_kept limits history env thread (Start t) k g at = kept_by_own limits history entry.Start env k refl
-left_kept limits history env thread (Stepped t step) k g at = kept_by_own limits history (entry.Stepped step) env k refl
+left_kept limits history env thread (Own t step) k g at = kept_by_own limits history (entry.Own step) env k refl
 left_kept limits history env thread (Poll t) k g at = kept_by_nothing limits history (left_by limits history (Poll t)) env k (grind (arith, nat_tests))
 left_kept limits history env thread (ToNative t) k g at = kept_by_own limits history (entry.Hand Native) env k refl
 left_kept limits history env thread (ToBlocked t kind) k g at = kept_by_own limits history (entry.Hand (Blocked kind)) env k refl
@@ -184,7 +184,7 @@ behind_kept limits env thread front h k g =
 own_told : (limits : Limits) (whole history : List Entry) (thread : ThreadNo) (event : Event) (env : EnvNo) → stands_for env (view limits history) ≡ true
     → is_own_of thread event ≡ true → was_refused (outcome_there limits whole history event) ≡ true
 own_told limits whole history thread (Start t) env k h = refused_done _ (own_refused limits (view limits history) (own_spent history) entry.Start env k refl)
-own_told limits whole history thread (Stepped t step) env k h = refused_done _ (own_refused limits (view limits history) (own_spent history) (entry.Stepped step) env k refl)
+own_told limits whole history thread (Own t step) env k h = refused_done _ (own_refused limits (view limits history) (own_spent history) (entry.Own step) env k refl)
 own_told limits whole history thread (Poll t) env k h = grind (arith, nat_tests)
 own_told limits whole history thread (ToNative t) env k h = refused_done _ (own_refused limits (view limits history) (own_spent history) (entry.Hand Native) env k refl)
 own_told limits whole history thread (ToBlocked t kind) env k h = refused_done _ (own_refused limits (view limits history) (own_spent history) (entry.Hand (Blocked kind)) env k refl)
@@ -211,7 +211,7 @@ own_out limits thread all front h env k own =
 own_left : (limits : Limits) (history : List Entry) (thread : ThreadNo) (event : Event) (env : EnvNo) → stands_for env (view limits history) ≡ true
     → is_own_of thread event ≡ true → left_by limits history event ≡ []
 own_left limits history thread (Start t) env k h = none_left _ _ (own_refused limits (view limits history) (own_spent history) entry.Start env k refl)
-own_left limits history thread (Stepped t step) env k h = none_left _ _ (own_refused limits (view limits history) (own_spent history) (entry.Stepped step) env k refl)
+own_left limits history thread (Own t step) env k h = none_left _ _ (own_refused limits (view limits history) (own_spent history) (entry.Own step) env k refl)
 own_left limits history thread (Poll t) env k h = grind (arith, nat_tests)
 own_left limits history thread (ToNative t) env k h = none_left _ _ (own_refused limits (view limits history) (own_spent history) (entry.Hand Native) env k refl)
 own_left limits history thread (ToBlocked t kind) env k h = none_left _ _ (own_refused limits (view limits history) (own_spent history) (entry.Hand (Blocked kind)) env k refl)
@@ -350,7 +350,7 @@ event_counted limits thread front rest wanting (Ask e t Pop) still =
       | inr other ↦ grind (arith, other)
     ]
 event_counted limits thread front rest wanting (Start t) still = nothing_gone _
-event_counted limits thread front rest wanting (Stepped t step) still = nothing_gone _
+event_counted limits thread front rest wanting (Own t step) still = nothing_gone _
 event_counted limits thread front rest wanting (Poll t) still = nothing_gone _
 event_counted limits thread front rest wanting (ToNative t) still = nothing_gone _
 event_counted limits thread front rest wanting (ToBlocked t kind) still = nothing_gone _

@@ -13,7 +13,7 @@ use Rattle.ti_types.specs.declared.call.Call.TheVariants.{State, FrameCount, Tra
 use Rattle.ti_types.specs.declared.state.Safe.{Safe}
 use Rattle.ti_types.specs.declared.state.Safe.TheVariants.{Native, Blocked, AtPoll}
 use Rattle.ti_types.specs.declared.entry.Entry.{Entry}
-use Rattle.ti_types.specs.declared.entry.Entry.TheVariants.{Start, Stepped, Hand, Back, End, Asked, Stop, Read, Go}
+use Rattle.ti_types.specs.declared.entry.Entry.TheVariants.{Start, Own, Hand, Back, End, Asked, Stop, Read, Go}
 use Rattle.ti_types.specs.declared.view.ThreadView.{ThreadView}
 use Rattle.ti_replay.specs.Answers.{is_alive}
 use Rattle.ti_replay.specs.View.{after, called}
@@ -42,7 +42,7 @@ hand_alive limits s AtPoll h = grind arith
 pub step_word : (limits : Limits) (s : HistoryState) (x : Entry) (env : EnvNo) → WaitsWell s → allows limits s x ≡ true → env.0 < length s.view.words
     → (word_in (next_state s x) env ≡ word_after (is_alive s.view.mode) (word_in s env) env x) × (is_alive (next_state s x).view.mode ≡ lives_after (is_alive s.view.mode) x)
 step_word limits s Start env k h l = (grind arith, grind arith)
-step_word limits s (Stepped step) env k h l = (grind arith, grind arith)
+step_word limits s (Own step) env k h l = (grind arith, grind arith)
 step_word limits s (Hand safe) env k h l = let q = all_quiet (after s.view (Hand safe)) s.waiting k.calls in (grind (arith, q.words), (ap is_alive q.mode ∙ hand_alive limits s safe h))
 step_word limits s Back env k h l = (grind arith, grind arith)
 step_word limits s End env k h l = let q = all_quiet (after s.view End) s.waiting k.calls in (grind (arith, q.words), ap is_alive q.mode)
@@ -72,7 +72,7 @@ called_length v env Pop = grind arith
 
 pub length_step : (s : HistoryState) (x : Entry) → WaitsWell s → length (next_state s x).view.words ≡ length s.view.words
 length_step s Start k = grind arith
-length_step s (Stepped step) k = grind arith
+length_step s (Own step) k = grind arith
 length_step s (Hand safe) k = ap length (all_quiet (after s.view (Hand safe)) s.waiting k.calls).words
 length_step s Back k = grind arith
 length_step s End k = ap length (all_quiet (after s.view End) s.waiting k.calls).words

@@ -7,7 +7,7 @@ use Rattle.ti_types.specs.declared.limits.Limits.{Limits}
 use Rattle.ti_types.specs.declared.numbers.EnvNo.{EnvNo}
 use Rattle.ti_types.specs.declared.call.Call.TheVariants.{State, FrameCount, Trace, Location, Suspend, Resume, GetWord, SetWord, Pop}
 use Rattle.ti_types.specs.declared.entry.Entry.{Entry}
-use Rattle.ti_types.specs.declared.entry.Entry.TheVariants.{Start, Stepped, Hand, Back, End, Asked, Stop, Read, Go}
+use Rattle.ti_types.specs.declared.entry.Entry.TheVariants.{Start, Own, Hand, Back, End, Asked, Stop, Read, Go}
 use Rattle.ti_types.specs.declared.answer.Answer.{Answer}
 use Rattle.ti_types.specs.declared.answer.Answer.TheVariants as answer
 use Rattle.ti_types.specs.declared.error.TiError.TheVariants.{ThreadNotAlive}
@@ -44,7 +44,7 @@ told_at alive word x = Some (alive_or alive answer.Done)
 told_one : (alive : Bool) (word : ℕ) (env : EnvNo) (x : Entry) (es : List WordEvent)
     → word_told alive word (with_event (word_event env x) es) ≡ with_reply (is_word_call env x) (told_at alive word x) (word_told (lives_after alive x) (word_after alive word env x) es)
 told_one alive word env Start es = refl
-told_one alive word env (Stepped step) es = refl
+told_one alive word env (Own step) es = refl
 told_one alive word env (Hand safe) es = refl
 told_one alive word env Back es = refl
 told_one alive word env End es = refl
@@ -65,7 +65,7 @@ told_one alive word env (Go other) es = refl
 word_reply : (limits : Limits) (front rest : List Entry) (x : Entry) (env : EnvNo) → is_word_call env x ≡ true
     → reply limits (front ++ x ∷ rest) (length front) ≡ told_at (is_alive (view limits front).mode) (slice_index (view limits front).words env.0) x
 word_reply limits front rest Start env h = cc
-word_reply limits front rest (Stepped step) env h = cc
+word_reply limits front rest (Own step) env h = cc
 word_reply limits front rest (Hand safe) env h = cc
 word_reply limits front rest Back env h = cc
 word_reply limits front rest End env h = cc
@@ -120,7 +120,7 @@ replies_run limits env front (x ∷ rest) k a l =
 -- an environment that is not there has no call in a legal history
 call_allowed : (limits : Limits) (s : HistoryState) (x : Entry) (env : EnvNo) → is_word_call env x ≡ true → allows limits s x ≡ true → nat_lt env.0 limits.envs ≡ true
 call_allowed limits s Start env h a = cc
-call_allowed limits s (Stepped step) env h a = cc
+call_allowed limits s (Own step) env h a = cc
 call_allowed limits s (Hand safe) env h a = cc
 call_allowed limits s Back env h a = cc
 call_allowed limits s End env h a = cc

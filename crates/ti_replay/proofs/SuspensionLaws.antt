@@ -13,7 +13,7 @@ use Rattle.ti_types.specs.declared.state.Mode.{Mode}
 use Rattle.ti_types.specs.declared.state.Mode.TheVariants.{New, Running, AtSafe, Ended}
 use Rattle.ti_types.specs.declared.state.Safe.TheVariants.{Native, Blocked, AtPoll}
 use Rattle.ti_types.specs.declared.entry.Entry.{Entry}
-use Rattle.ti_types.specs.declared.entry.Entry.TheVariants.{Start, Stepped, Hand, Back, End, Asked, Stop, Read, Go}
+use Rattle.ti_types.specs.declared.entry.Entry.TheVariants.{Start, Own, Hand, Back, End, Asked, Stop, Read, Go}
 use Rattle.ti_types.specs.declared.call.Call.TheVariants.{State, FrameCount, Trace, Location, Suspend, Resume, GetWord, SetWord, Pop}
 use Rattle.ti_replay.specs.Answers.{is_running, is_safe, answer_of}
 use Rattle.ti_replay.specs.View.{view}
@@ -34,7 +34,7 @@ use Rattle.ti_replay.specs.Suspensions.{is_resumption, rests, SuspensionsStay, T
 rest_step : (limits : Limits) (s : HistoryState) (x : Entry) → allows limits s x ≡ true → rests s.view ≡ true → is_resumption x ≡ false
     → (is_own_entry x ≡ false) × (rests (next_state s x).view ≡ true)
 rest_step limits s Start a k r = absurd (grind (arith, nat_tests))
-rest_step limits s (Stepped step) a k r = absurd (grind (arith, nat_tests))
+rest_step limits s (Own step) a k r = absurd (grind (arith, nat_tests))
 rest_step limits s (Hand Native) a k r = absurd (grind (arith, nat_tests))
 rest_step limits s (Hand (Blocked kind)) a k r = absurd (grind (arith, nat_tests))
 rest_step limits s (Hand AtPoll) a k r = absurd (grind (arith, nat_tests))
@@ -55,7 +55,7 @@ rest_step limits s (Go env) a k r = (refl, grind arith)
 
 own_is_made : (x : Entry) → is_own_entry x ≡ (maker x == 0)
 own_is_made Start = refl
-own_is_made (Stepped step) = refl
+own_is_made (Own step) = refl
 own_is_made (Hand safe) = refl
 own_is_made Back = refl
 own_is_made End = refl
@@ -88,7 +88,7 @@ entry_frames limits before x other rests =
 
     one : (x : Entry) → (maker x == 0) ≡ false → (next_state s x).view.frames ≡ drop (frames_popped limits before x) s.view.frames
     one Start h = cc
-    one (Stepped step) h = cc
+    one (Own step) h = cc
     one (Hand safe) h = cc
     one Back h = cc
     one End h = cc

@@ -12,7 +12,7 @@ use Rattle.ti_types.specs.declared.answer.Answer.{Answer}
 use Rattle.ti_types.specs.declared.answer.Answer.TheVariants as answer
 use Rattle.ti_types.specs.declared.view.ThreadView.{ThreadView}
 use Rattle.ti_types.specs.declared.entry.Entry.{Entry}
-use Rattle.ti_types.specs.declared.entry.Entry.TheVariants.{Start, Stepped, Hand, Back, End, Asked, Stop, Read, Go}
+use Rattle.ti_types.specs.declared.entry.Entry.TheVariants.{Start, Own, Hand, Back, End, Asked, Stop, Read, Go}
 use Rattle.ti_types.specs.declared.call.Call.TheVariants.{State, FrameCount, Trace, Location, Suspend, Resume, GetWord, SetWord, Pop}
 use Rattle.ti_replay.specs.Answers.{is_running, answer_of}
 use Rattle.ti_replay.specs.Settling.{Placed, is_hand_over, is_waiting_call}
@@ -45,7 +45,7 @@ suspends v env still is = grind (arith, still, is)
 -- the calls that wait suspend a thread, and none resumes it
 rests_on : (v : ThreadView) (x : Entry) → is_waiting_call x ≡ true → rests v ≡ true → rests (after v x) ≡ true
 rests_on v Start w k = cc
-rests_on v (Stepped step) w k = cc
+rests_on v (Own step) w k = cc
 rests_on v (Hand safe) w k = cc
 rests_on v Back w k = cc
 rests_on v End w k = cc
@@ -68,7 +68,7 @@ rests_all v (p ∷ s) w k = let parts = and_parts _ _ w in rests_all (after v p.
 
 still_on : (v : ThreadView) (x : Entry) → is_waiting_call x ≡ true → is_running v.mode ≡ false → is_running (after v x).mode ≡ false
 still_on v Start w k = cc
-still_on v (Stepped step) w k = cc
+still_on v (Own step) w k = cc
 still_on v (Hand safe) w k = cc
 still_on v Back w k = cc
 still_on v End w k = cc
@@ -80,7 +80,7 @@ still_on v (Go env) w k = cc
 -- a suspension that is answered
 answered_rests : (v : ThreadView) (x : Entry) → is_suspension x ≡ true → is_running v.mode ≡ false → answer_to v x ≡ Some answer.Done → rests (after v x) ≡ true
 answered_rests v Start w k is = cc
-answered_rests v (Stepped step) w k is = cc
+answered_rests v (Own step) w k is = cc
 answered_rests v (Hand safe) w k is = cc
 answered_rests v Back w k is = cc
 answered_rests v End w k is = cc
@@ -99,7 +99,7 @@ answered_rests v (Go env) w k is = cc
 
 suspension_answers : (v : ThreadView) (x : Entry) (o : Option Answer) → is_suspension x ≡ true → option_or (answer_to v x) o ≡ Some answer.Done → answer_to v x ≡ Some answer.Done
 suspension_answers v Start o w is = cc
-suspension_answers v (Stepped step) o w is = cc
+suspension_answers v (Own step) o w is = cc
 suspension_answers v (Hand safe) o w is = cc
 suspension_answers v Back o w is = cc
 suspension_answers v End o w is = cc
@@ -130,7 +130,7 @@ served_rests v (p ∷ s) place w a k is = one (served_rests (after v p.1) s plac
 
 hand_still : (v : ThreadView) (x : Entry) → is_hand_over x ≡ true → (is_running (after v x).mode ≡ false) × (answer_to v x ≡ None)
 hand_still v Start h = cc
-hand_still v (Stepped step) h = cc
+hand_still v (Own step) h = cc
 hand_still v (Hand safe) h = (refl, refl)
 hand_still v Back h = cc
 hand_still v End h = (refl, refl)
@@ -141,7 +141,7 @@ hand_still v (Go env) h = cc
 
 suspension_waits : (x : Entry) → is_suspension x ≡ true → (is_waiting_call x ≡ true) × (is_hand_over x ≡ false)
 suspension_waits Start h = cc
-suspension_waits (Stepped step) h = cc
+suspension_waits (Own step) h = cc
 suspension_waits (Hand safe) h = cc
 suspension_waits Back h = cc
 suspension_waits End h = cc

@@ -10,7 +10,7 @@ use Rattle.ti_types.specs.declared.call.Call.TheVariants.{GetWord}
 use Rattle.ti_types.specs.declared.entry.Entry.{Entry}
 use Rattle.ti_types.specs.declared.entry.Entry.TheVariants.{Asked}
 use Rattle.ti_types.specs.declared.event.Event.{Event}
-use Rattle.ti_types.specs.declared.event.Event.TheVariants.{Start, Stepped, Poll, ToNative, ToBlocked, Back, End, Ask, Stop, Read, Go, AddCaps, Relinquish, GetCaps, SetEnvWord, GetEnvWord}
+use Rattle.ti_types.specs.declared.event.Event.TheVariants.{Start, Own, Poll, ToNative, ToBlocked, Back, End, Ask, Stop, Read, Go, AddCaps, Relinquish, GetCaps, SetEnvWord, GetEnvWord}
 use Rattle.ti_types.specs.declared.event.Outcome.{Outcome}
 use Rattle.ti_types.specs.declared.answer.Answer.TheVariants as answer
 use Rattle.ti_replay.specs.Answers.{answer_of}
@@ -84,7 +84,7 @@ told_event : (limits : Limits) (env : EnvNo) (all front : List Happening) (wanti
     → cond (is_env_word_call env event) (out_of limits all front (record { event = event; wanting = wanting }) ∷ rest) rest
     ≡ calls_told limits (env_word env front) (cond (is_env_word_call env event) (event ∷ es) es)
 told_event limits env all front wanting (Start t) es rest h = h
-told_event limits env all front wanting (Stepped t step) es rest h = h
+told_event limits env all front wanting (Own t step) es rest h = h
 told_event limits env all front wanting (Poll t) es rest h = h
 told_event limits env all front wanting (ToNative t) es rest h = h
 told_event limits env all front wanting (ToBlocked t kind) es rest h = h

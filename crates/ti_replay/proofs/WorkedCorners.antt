@@ -5,7 +5,7 @@ use Rattle.ti_types.specs.declared.step.Step.TheVariants.{Enter}
 use Rattle.ti_types.specs.declared.state.Kind.TheVariants.{Sleep}
 use Rattle.ti_types.specs.declared.call.Call.TheVariants as call
 use Rattle.ti_types.specs.declared.event.Event.{Event}
-use Rattle.ti_types.specs.declared.event.Event.TheVariants.{Start, Stepped, Poll, ToNative, ToBlocked, Back, End, Ask, Stop, Read, Go, AddCaps, Relinquish, GetCaps, SetEnvWord, GetEnvWord}
+use Rattle.ti_types.specs.declared.event.Event.TheVariants.{Start, Own, Poll, ToNative, ToBlocked, Back, End, Ask, Stop, Read, Go, AddCaps, Relinquish, GetCaps, SetEnvWord, GetEnvWord}
 use Rattle.ti_types.specs.declared.answer.Answer.TheVariants as answer
 use Rattle.ti_types.specs.declared.error.TiError.TheVariants.{InvalidThread, ThreadNotAlive, NoMoreFrames, NotAvailable, MustPossessCapability, IllegalArgument, OutOfMemory, InvalidEnvironment, NotRunning, NotSafe, CallsSpent, NotNew, AlreadyStopped, NotStopped}
 use Rattle.ti_types.specs.declared.entry.Entry.TheVariants as entry
@@ -33,14 +33,14 @@ numbers_out_of_range = refl
 
 -- a thread that has ended is stopped and read, and has no frames
 ended_threads :
-    run small (Start t ∷ Stepped t (Enter a) ∷ Ask e t call.FrameCount ∷ Ask f t (call.Trace (pos 0) (pos 3)) ∷ End t ∷ Stop e t ∷ Read e t (pos 5)
+    run small (Start t ∷ Own t (Enter a) ∷ Ask e t call.FrameCount ∷ Ask f t (call.Trace (pos 0) (pos 3)) ∷ End t ∷ Stop e t ∷ Read e t (pos 5)
     ∷ Start t ∷ Back t ∷ Ask e t call.State ∷ Ask f t (call.Trace (pos 7) (pos 1)) ∷ Go e t ∷ [])
     ≡ ok ∷ ok ∷ error ThreadNotAlive ∷ error ThreadNotAlive ∷ ok ∷ done ∷ stack 0x2 [] ∷ refused NotNew ∷ refused NotSafe ∷ gave (answer.State 0x2) ∷ error ThreadNotAlive ∷ done ∷ []
 ended_threads = refl
 
 -- the ends of the numbers' range
 extremes :
-    run small (Start t ∷ Stepped t (Enter a) ∷ ToBlocked t Sleep ∷ Ask e t (call.Trace (negsuc 2147483647) (pos 2147483647)) ∷ Ask e t (call.Trace (pos 2147483647) (pos 1)) ∷ Ask e t (call.Trace (negsuc 0) (pos 2147483647))
+    run small (Start t ∷ Own t (Enter a) ∷ ToBlocked t Sleep ∷ Ask e t (call.Trace (negsuc 2147483647) (pos 2147483647)) ∷ Ask e t (call.Trace (pos 2147483647) (pos 1)) ∷ Ask e t (call.Trace (negsuc 0) (pos 2147483647))
     ∷ Ask e t (call.Location (pos 2147483647)) ∷ Ask e t (call.Trace (pos 0) (negsuc 2147483647)) ∷ Ask e t (call.Location (negsuc 2147483647)) ∷ [])
     ≡ ok ∷ ok ∷ ok ∷ error IllegalArgument ∷ error IllegalArgument ∷ trace ((java a 0) ∷ []) ∷ error NoMoreFrames ∷ error IllegalArgument ∷ error IllegalArgument ∷ []
 extremes = refl
@@ -67,9 +67,9 @@ stops_cost = refl
 
 -- events elsewhere, calls of others that are not admitted, and marks that mean nothing are not kept
 the_same_is_kept :
-    kept small e t ((plain (Start t)) ∷ (plain (Stepped t (Enter a))) ∷ (plain (Ask e t call.FrameCount)) ∷ (plain (Poll t)) ∷ [])
-    ≡ kept small e t ((plain (Start u)) ∷ (plain (Start t)) ∷ (plain (AddCaps f (set_of 1))) ∷ (plain (Ask f u call.Suspend)) ∷ (plain (Stepped t (Enter a)))
-    ∷ (plain (Stepped u (Enter b))) ∷ (wanting (Ask e t call.FrameCount)) ∷ (plain (Ask f u call.FrameCount)) ∷ (plain (Ask g t call.FrameCount)) ∷ (plain (Poll t)) ∷ (plain (Poll u)) ∷ [])
+    kept small e t ((plain (Start t)) ∷ (plain (Own t (Enter a))) ∷ (plain (Ask e t call.FrameCount)) ∷ (plain (Poll t)) ∷ [])
+    ≡ kept small e t ((plain (Start u)) ∷ (plain (Start t)) ∷ (plain (AddCaps f (set_of 1))) ∷ (plain (Ask f u call.Suspend)) ∷ (plain (Own t (Enter a)))
+    ∷ (plain (Own u (Enter b))) ∷ (wanting (Ask e t call.FrameCount)) ∷ (plain (Ask f u call.FrameCount)) ∷ (plain (Ask g t call.FrameCount)) ∷ (plain (Poll t)) ∷ (plain (Poll u)) ∷ [])
 the_same_is_kept = refl
 
 -- lives are read off the entries alone, also where no thread makes such entries

@@ -10,7 +10,7 @@ use Rattle.ti_types.specs.declared.place.Frame.{Frame}
 use Rattle.ti_types.specs.declared.place.Place.TheVariants as place
 use Rattle.ti_types.specs.declared.event.Event.{Event}
 use Rattle.ti_types.specs.declared.event.Outcome.{Outcome}
-use Rattle.ti_types.specs.declared.event.Outcome.TheVariants.{Done, Clear, Went, Stays, Refused, Gave}
+use Rattle.ti_types.specs.declared.event.Outcome.TheVariants.{Done, Clear, Went, Held, Refused, Gave}
 use Rattle.ti_types.specs.declared.answer.Answer.{Answer}
 use Rattle.ti_types.specs.declared.answer.Answer.TheVariants as answer
 use Rattle.ti_types.specs.declared.error.TiError.{TiError}
@@ -83,7 +83,7 @@ abbrev pub went : Option Outcome
 went = Some Went
 
 abbrev pub held : Option Outcome
-held = Some Stays
+held = Some Held
 
 -- an agent's call is answered
 abbrev pub gave : Answer → Option Outcome

@@ -3,7 +3,7 @@ use Rattle.std.proofs.Common.{◌≡◌, [], ◌∷◌, refl}
 use Rattle.ti_types.specs.declared.state.Kind.TheVariants.{MonitorEnter, ObjectWait, TimedWait, Sleep, Park, TimedPark}
 use Rattle.ti_types.specs.declared.step.Step.TheVariants.{Enter}
 use Rattle.ti_types.specs.declared.call.Call.TheVariants as call
-use Rattle.ti_types.specs.declared.event.Event.TheVariants.{Start, Stepped, ToBlocked, Back, End, Ask}
+use Rattle.ti_types.specs.declared.event.Event.TheVariants.{Start, Own, ToBlocked, Back, End, Ask}
 use Rattle.ti_types.specs.declared.answer.Answer.TheVariants as answer
 use Rattle.ti_types.specs.declared.error.TiError.TheVariants.{ThreadNotAlive, NotRunning, NotSafe, NotNew}
 use Rattle.ti_replay.proofs.WorkedEvents.{t, e, f, a, small, run, ok, refused, gave, done, error}
@@ -21,7 +21,7 @@ bits_of_each_mode = refl
 
 -- a thread that has ended is not alive and does not start again
 nothing_after_the_end :
-    run small (Start t ∷ Stepped t (Enter a) ∷ Ask e t (call.SetWord 7) ∷ Ask e t call.FrameCount ∷ End t ∷ Ask e t call.GetWord ∷ End t
+    run small (Start t ∷ Own t (Enter a) ∷ Ask e t (call.SetWord 7) ∷ Ask e t call.FrameCount ∷ End t ∷ Ask e t call.GetWord ∷ End t
     ∷ Start t ∷ Back t ∷ [])
     ≡ ok ∷ ok ∷ done ∷ error ThreadNotAlive ∷ ok ∷ error ThreadNotAlive ∷ refused NotRunning ∷ refused NotNew ∷ refused NotSafe
     ∷ []

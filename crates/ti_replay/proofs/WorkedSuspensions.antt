@@ -2,7 +2,7 @@
 use Rattle.std.proofs.Common.{◌≡◌, [], ◌∷◌, refl}
 use Rattle.ti_types.specs.declared.step.Step.TheVariants.{EnterNative, Leave}
 use Rattle.ti_types.specs.declared.call.Call.TheVariants as call
-use Rattle.ti_types.specs.declared.event.Event.TheVariants.{Start, Stepped, Poll, ToNative, Back, Ask, AddCaps, Relinquish, GetCaps}
+use Rattle.ti_types.specs.declared.event.Event.TheVariants.{Start, Own, Poll, ToNative, Back, Ask, AddCaps, Relinquish, GetCaps}
 use Rattle.ti_types.specs.declared.answer.Answer.TheVariants as answer
 use Rattle.ti_types.specs.declared.error.TiError.TheVariants.{InvalidThread, ThreadNotSuspended, ThreadNotAlive, NotAvailable, MustPossessCapability, Barred, NoNativeFrame}
 use Rattle.ti_replay.proofs.WorkedEvents.{t, ninth, e, f, n, small, set_of, run, ok, refused, held, gave, done, error}
@@ -23,8 +23,8 @@ resumption_does_not_wait = refl
 
 -- a thread that is suspended in native code does not return
 suspended_in_native :
-    run small (AddCaps e (set_of 1) ∷ Start t ∷ ToNative t ∷ Stepped t (EnterNative n) ∷ ToNative t ∷ Ask e t call.Suspend
-    ∷ Ask e t call.State ∷ Back t ∷ Ask e t call.Resume ∷ Back t ∷ Stepped t Leave ∷ [])
+    run small (AddCaps e (set_of 1) ∷ Start t ∷ ToNative t ∷ Own t (EnterNative n) ∷ ToNative t ∷ Ask e t call.Suspend
+    ∷ Ask e t call.State ∷ Back t ∷ Ask e t call.Resume ∷ Back t ∷ Own t Leave ∷ [])
     ≡ done ∷ ok ∷ refused NoNativeFrame ∷ ok ∷ ok ∷ done ∷ gave (answer.State 0x500005) ∷ refused Barred ∷ done ∷ ok ∷ ok ∷ []
 suspended_in_native = refl
 

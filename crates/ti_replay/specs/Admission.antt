@@ -9,7 +9,7 @@ use Rattle.ti_types.specs.declared.call.Call.{Call}
 use Rattle.ti_types.specs.declared.call.Call.TheVariants as call
 use Rattle.ti_types.specs.declared.error.TiError.{TiError}
 use Rattle.ti_types.specs.declared.event.Event.{Event}
-use Rattle.ti_types.specs.declared.event.Event.TheVariants.{Start, Stepped, Poll, ToNative, ToBlocked, Back, End, Ask, Stop, Read, Go, AddCaps, Relinquish, GetCaps, SetEnvWord, GetEnvWord}
+use Rattle.ti_types.specs.declared.event.Event.TheVariants.{Start, Own, Poll, ToNative, ToBlocked, Back, End, Ask, Stop, Read, Go, AddCaps, Relinquish, GetCaps, SetEnvWord, GetEnvWord}
 use Rattle.ti_types.specs.Admitting.{admitting_refusal, asking_refusal, stopping_refusal, reading_refusal, going_refusal}
 use Rattle.ti_types.specs.Caps.{no_caps, caps_with, caps_without}
 pub use Rattle.ti_types.specs.Caps.{has_all, can_be_had}
@@ -48,7 +48,7 @@ is_aimed_at thread _ = false
 -- whether the event is the thread's own
 abbrev pub is_own_of : ThreadNo → Event → Bool
 is_own_of thread (Start t) = t.0 == thread.0
-is_own_of thread (Stepped t step) = t.0 == thread.0
+is_own_of thread (Own t step) = t.0 == thread.0
 is_own_of thread (Poll t) = t.0 == thread.0
 is_own_of thread (ToNative t) = t.0 == thread.0
 is_own_of thread (ToBlocked t kind) = t.0 == thread.0

@@ -11,7 +11,7 @@ use Rattle.ti_types.specs.declared.error.TiError.TheVariants.{InvalidThread, Inv
 use Rattle.ti_types.specs.declared.answer.Answer.{Answer}
 use Rattle.ti_types.specs.declared.answer.Answer.TheVariants as answer
 use Rattle.ti_types.specs.declared.event.Event.{Event}
-use Rattle.ti_types.specs.declared.event.Event.TheVariants.{Start, Stepped, Poll, ToNative, ToBlocked, Back, End, Ask, Stop, Read, Go, AddCaps, Relinquish, GetCaps}
+use Rattle.ti_types.specs.declared.event.Event.TheVariants.{Start, Own, Poll, ToNative, ToBlocked, Back, End, Ask, Stop, Read, Go, AddCaps, Relinquish, GetCaps}
 use Rattle.ti_types.specs.declared.event.Outcome.{Outcome}
 use Rattle.ti_types.specs.declared.event.Outcome.TheVariants as outcome
 use Rattle.ti_types.specs.declared.view.ThreadView.{ThreadView}
@@ -25,7 +25,7 @@ use Rattle.ti_replay.specs.Admission.{Happening, dealings_by, refusal, can_be_ha
 -- the one entry that an event of a thread's own leaves, if it is no poll
 abbrev pub own_entry : Event → Option Entry
 own_entry (Start t) = Some entry.Start
-own_entry (Stepped t step) = Some (entry.Stepped step)
+own_entry (Own t step) = Some (entry.Own step)
 own_entry (ToNative t) = Some (entry.Hand Native)
 own_entry (ToBlocked t kind) = Some (entry.Hand (Blocked kind))
 own_entry (Back t) = Some entry.Back
@@ -92,7 +92,7 @@ abbrev pub poll_outcome : Limits → List Entry → Outcome
 poll_outcome limits history =
     if not (is_running (view limits history).mode) then outcome.Refused NotRunning
     else if not (is_armed limits history) then outcome.Clear
-    else if is_barred (view limits (history ++ entry.Hand AtPoll ∷ [])) then outcome.Stays else outcome.Went
+    else if is_barred (view limits (history ++ entry.Hand AtPoll ∷ [])) then outcome.Held else outcome.Went
 
 abbrev pub given : Option Answer → Option Outcome
 given (Some a) = Some (outcome.Gave a)

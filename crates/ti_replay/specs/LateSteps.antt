@@ -3,7 +3,7 @@ use Rattle.std.specs.Prelude.{ℕ, ◌+◌, ◌≡◌, Bool, true, false, if◌t
 use Rattle.ti_types.specs.declared.limits.Limits.{Limits}
 use Rattle.ti_types.specs.declared.step.Step.{Step}
 use Rattle.ti_types.specs.declared.entry.Entry.{Entry}
-use Rattle.ti_types.specs.declared.entry.Entry.TheVariants.{Stepped, Asked, Stop, Go}
+use Rattle.ti_types.specs.declared.entry.Entry.TheVariants.{Own, Asked, Stop, Go}
 use Rattle.ti_replay.specs.View.{view}
 use Rattle.ti_replay.specs.Legal.{is_legal}
 use Rattle.ti_replay.specs.Replies.{reply}
@@ -28,5 +28,5 @@ pub record IsLateStep (limits : Limits) (early late : List Entry) (n : ℕ) : Ty
 abbrev pub StepsMayBeLate : Type 0
 StepsMayBeLate =
     (limits : Limits) (front rest : List Entry) (step : Step) (x : Entry) →
-    is_passed x ≡ true → is_legal limits (front ++ Stepped step ∷ x ∷ rest) ≡ true →
-    IsLateStep limits (front ++ Stepped step ∷ x ∷ rest) (front ++ x ∷ Stepped step ∷ rest) (length front)
+    is_passed x ≡ true → is_legal limits (front ++ Own step ∷ x ∷ rest) ≡ true →
+    IsLateStep limits (front ++ Own step ∷ x ∷ rest) (front ++ x ∷ Own step ∷ rest) (length front)

@@ -5,7 +5,7 @@ use Rattle.ti_types.specs.declared.event.Ticket.{Ticket}
 use Rattle.ti_types.specs.declared.call.Call.{Call}
 use Rattle.ti_types.specs.declared.step.Step.{Step}
 use Rattle.ti_types.specs.declared.entry.Entry.{Entry}
-use Rattle.ti_types.specs.declared.entry.Entry.TheVariants.{Asked, Stepped}
+use Rattle.ti_types.specs.declared.entry.Entry.TheVariants.{Asked, Own}
 use Rattle.ti_replay.specs.Answers.{is_running}
 use Rattle.ti_replay.specs.View.{view}
 use Rattle.ti_replay.specs.Legal.{is_legal, goes_on}
@@ -16,7 +16,7 @@ use Rattle.ti_replay.specs.Tickets.{reply_to}
 
 -- the entries of a thread's own steps
 abbrev pub steps_of : List Step → List Entry
-steps_of steps = map Stepped steps
+steps_of steps = map Own steps
 
 -- two histories that leave the same state, and reply the same to each ticket
 pub record AreAlike (limits : Limits) (early late : List Entry) : Type 0 where

@@ -7,7 +7,7 @@ use Rattle.ti_types.specs.declared.place.Frame.{Frame}
 use Rattle.ti_types.specs.declared.state.Safe.TheVariants.{Native, Blocked, AtPoll}
 use Rattle.ti_types.specs.declared.step.Step.{Step}
 use Rattle.ti_types.specs.declared.entry.Entry.{Entry}
-use Rattle.ti_types.specs.declared.entry.Entry.TheVariants.{Stepped, Hand, Asked, Stop, Read, Go}
+use Rattle.ti_types.specs.declared.entry.Entry.TheVariants.{Own, Hand, Asked, Stop, Read, Go}
 use Rattle.ti_types.specs.declared.view.ThreadView.{ThreadView}
 pub use Rattle.ti_types.specs.Numbers.{is_not_negative}
 pub use Rattle.ti_types.specs.Call.{is_well_formed}
@@ -22,7 +22,7 @@ use Rattle.ti_replay.specs.View.{view}
 
 -- what an entry costs its thread
 abbrev pub own_cost : Entry → ℕ
-own_cost (Stepped step) = 1
+own_cost (Own step) = 1
 own_cost (Hand Native) = 2
 own_cost (Hand (Blocked kind)) = 2
 own_cost _ = 0

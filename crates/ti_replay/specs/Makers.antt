@@ -6,14 +6,14 @@ use Rattle.ti_types.specs.declared.numbers.EnvNo.{EnvNo}
 use Rattle.ti_types.specs.declared.state.Mode.{Mode}
 use Rattle.ti_types.specs.declared.state.Mode.TheVariants as mode
 use Rattle.ti_types.specs.declared.entry.Entry.{Entry}
-use Rattle.ti_types.specs.declared.entry.Entry.TheVariants.{Start, Stepped, Hand, Back, End, Asked, Stop, Read, Go}
+use Rattle.ti_types.specs.declared.entry.Entry.TheVariants.{Start, Own, Hand, Back, End, Asked, Stop, Read, Go}
 use Rattle.ti_replay.specs.View.{view}
 use Rattle.ti_replay.specs.Legal.{own_spent, calls_spent, asked_by}
 
 -- the number of the seat that makes an entry: 0 for the thread's own, e + 1 for environment e's
 abbrev pub maker : Entry → ℕ
 maker Start = 0
-maker (Stepped step) = 0
+maker (Own step) = 0
 maker (Hand safe) = 0
 maker Back = 0
 maker End = 0

@@ -4,7 +4,7 @@ use Rattle.std.specs.List.{fold}
 use Rattle.ti_types.specs.declared.limits.Limits.{Limits}
 use Rattle.ti_types.specs.declared.numbers.EnvNo.{EnvNo}
 use Rattle.ti_types.specs.declared.event.Event.{Event}
-use Rattle.ti_types.specs.declared.event.Event.TheVariants.{Start, Stepped, Poll, ToNative, ToBlocked, Back, End, Ask, Stop, Read, Go, AddCaps, Relinquish, GetCaps, SetEnvWord, GetEnvWord}
+use Rattle.ti_types.specs.declared.event.Event.TheVariants.{Start, Own, Poll, ToNative, ToBlocked, Back, End, Ask, Stop, Read, Go, AddCaps, Relinquish, GetCaps, SetEnvWord, GetEnvWord}
 use Rattle.ti_types.specs.declared.event.Outcome.{Outcome}
 use Rattle.ti_types.specs.declared.event.Outcome.TheVariants as outcome
 use Rattle.ti_types.specs.declared.answer.Answer.{Answer}
@@ -33,7 +33,7 @@ word_outcome limits e a = Some (outcome.Gave (if nat_lt e.0 limits.envs then a e
 -- own events
 abbrev pub out_by : Limits → List Happening → List Happening → Happening → Event → Option Outcome
 out_by limits all front h (Start t) = outcome_of limits t all front h
-out_by limits all front h (Stepped t step) = outcome_of limits t all front h
+out_by limits all front h (Own t step) = outcome_of limits t all front h
 out_by limits all front h (Poll t) = outcome_of limits t all front h
 out_by limits all front h (ToNative t) = outcome_of limits t all front h
 out_by limits all front h (ToBlocked t kind) = outcome_of limits t all front h
@@ -88,7 +88,7 @@ told_now (outcome.Gave a) = Some (outcome.Gave (said a))
 told_now outcome.Done = Some outcome.Done
 told_now outcome.Clear = Some outcome.Clear
 told_now outcome.Went = Some outcome.Went
-told_now outcome.Stays = Some outcome.Stays
+told_now outcome.Held = Some outcome.Held
 told_now (outcome.Refused error) = Some (outcome.Refused error)
 
 -- an outcome without the rooms of buffers. None if there is none

@@ -4,7 +4,7 @@ use Rattle.ti_types.specs.declared.limits.Limits.{Limits}
 use Rattle.ti_types.specs.declared.numbers.EnvNo.{EnvNo}
 use Rattle.ti_types.specs.declared.state.Safe.TheVariants.{Native, Blocked, AtPoll}
 use Rattle.ti_types.specs.declared.entry.Entry.{Entry}
-use Rattle.ti_types.specs.declared.entry.Entry.TheVariants.{Start, Stepped, Hand, Back, End, Stop, Read, Go}
+use Rattle.ti_types.specs.declared.entry.Entry.TheVariants.{Start, Own, Hand, Back, End, Stop, Read, Go}
 use Rattle.ti_types.specs.declared.error.TiError.{TiError}
 use Rattle.ti_types.specs.declared.error.TiError.TheVariants.{NotNew, Barred, NotRunning, NoNativeFrame, OwnSpent, NotSafe, AlreadyStopped, NotStopped, StillRunning}
 use Rattle.ti_types.specs.declared.view.ThreadView.{ThreadView}
@@ -20,7 +20,7 @@ is_stopper None env = false
 -- why an entry of the thread's own is refused at a view, with these costs so far
 abbrev pub own_refusal : Limits → ThreadView → ℕ → Entry → Option TiError
 own_refusal limits v own Start = or_else (unless (is_new v.mode) NotNew) (unless (not (is_some v.stopper)) Barred)
-own_refusal limits v own (Stepped step) =
+own_refusal limits v own (Own step) =
     or_else (unless (is_running v.mode) NotRunning) (or_else (step_refusal limits.depth v.frames step) (unless (nat_lt own limits.own) OwnSpent))
 own_refusal limits v own (Hand Native) =
     or_else (unless (is_running v.mode) NotRunning) (or_else (unless (newest_is_native v.frames) NoNativeFrame) (unless (nat_le (own + 2) limits.own) OwnSpent))

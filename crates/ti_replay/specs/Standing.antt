@@ -5,7 +5,7 @@ use Rattle.ti_types.specs.declared.limits.Limits.{Limits}
 use Rattle.ti_types.specs.declared.numbers.EnvNo.{EnvNo}
 use Rattle.ti_types.specs.declared.call.Call.TheVariants.{Pop}
 use Rattle.ti_types.specs.declared.entry.Entry.{Entry}
-use Rattle.ti_types.specs.declared.entry.Entry.TheVariants.{Start, Stepped, Hand, Back, End, Go}
+use Rattle.ti_types.specs.declared.entry.Entry.TheVariants.{Start, Own, Hand, Back, End, Go}
 use Rattle.ti_types.specs.declared.view.ThreadView.{ThreadView}
 use Rattle.ti_types.specs.declared.numbers.ThreadNo.{ThreadNo}
 use Rattle.ti_types.specs.declared.event.Event.{Event}
@@ -31,7 +31,7 @@ is_standing limits history env = stands_for env (view limits history)
 
 abbrev pub is_own_entry : Entry → Bool
 is_own_entry Start = true
-is_own_entry (Stepped step) = true
+is_own_entry (Own step) = true
 is_own_entry (Hand safe) = true
 is_own_entry Back = true
 is_own_entry End = true

@@ -32,7 +32,7 @@ called v env _ = v
 abbrev pub after : ThreadView → Entry → ThreadView
 after v entry.Start = record v { mode = mode.Running }
 after v entry.Back = record v { mode = mode.Running }
-after v (entry.Stepped step) = record v { frames = frames_after v.frames step }
+after v (entry.Own step) = record v { frames = frames_after v.frames step }
 after v (entry.Hand safe) = record v { mode = mode.AtSafe safe }
 after v entry.End = record v { mode = mode.Ended; frames = [] }
 after v (entry.Asked env number call) = called v env call

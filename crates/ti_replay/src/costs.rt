@@ -30,7 +30,7 @@ pub fn own_cost(entry: Entry) -> u64
     ensures small { result < 3 }
 {
     match entry {
-        Entry::Stepped(_) => 1,
+        Entry::Own(_) => 1,
         Entry::Hand(Safe::Native) | Entry::Hand(Safe::Blocked(_)) => 2,
         _ => 0,
     }
@@ -64,12 +64,8 @@ pub fn charge(costs: &mut [Costs], entry: Entry)
                 };
             }
         }
-        Entry::Start
-        | Entry::Stepped(_)
-        | Entry::Hand(_)
-        | Entry::Back
-        | Entry::End
-        | Entry::Go(_) => (),
+        Entry::Start | Entry::Own(_) | Entry::Hand(_) | Entry::Back | Entry::End | Entry::Go(_) =>
+            (),
     }
 }
 

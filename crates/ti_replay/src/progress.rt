@@ -91,8 +91,8 @@ impl Progress {
     #[tactic(auto, using(crate::proofs::Charging::charged_free))]
     fn advance_by_step(&mut self, limits: &Limits, step: Step) -> Result<bool, AllocError>
         requires room { self.old.next + 1 < 2 ^ 64 }
-        ensures may { IfOk result (λ may. may ≡ may_enter limits.now self.old (entry.Stepped step)) }
-        ensures state { IfOk result (λ may. may ≡ true → self.new ≡ entered self.old (entry.Stepped step)) }
+        ensures may { IfOk result (λ may. may ≡ may_enter limits.now self.old (entry.Own step)) }
+        ensures state { IfOk result (λ may. may ≡ true → self.new ≡ entered self.old (entry.Own step)) }
     {
         let fits = is_running(self.view.mode)
             && step_fits(limits, &self.view.frames, step)
@@ -173,7 +173,7 @@ impl Progress {
         ensures state { IfOk result (λ may. may ≡ true → self.new ≡ entered self.old entry) }
     {
         // Most entries are steps, and most others are these.
-        if let Entry::Stepped(step) = entry {
+        if let Entry::Own(step) = entry {
             return self.advance_by_step(limits, step);
         }
         match entry {

@@ -127,7 +127,7 @@ pub fn fits(
     let runs = is_running(view.mode);
     match entry {
         Entry::Start => matches!(view.mode, Mode::New) && view.stopper.is_none(),
-        Entry::Stepped(step) => runs && step_fits(limits, &view.frames, step) && own < limits.own,
+        Entry::Own(step) => runs && step_fits(limits, &view.frames, step) && own < limits.own,
         Entry::Hand(Safe::Native) => {
             runs && newest_is_native(&view.frames) && limits.own.saturating_sub(own) >= 2
         }

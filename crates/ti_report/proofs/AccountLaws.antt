@@ -10,7 +10,7 @@ use Rattle.ti_types.specs.declared.caps.Caps.{Caps}
 use Rattle.ti_types.specs.declared.entry.Entry.{Entry}
 use Rattle.ti_types.specs.declared.event.Event.{Event}
 use Rattle.ti_types.specs.declared.answer.Answer.{Answer}
-use Rattle.ti_types.specs.declared.event.Event.TheVariants.{Start, Stepped, Poll, ToNative, ToBlocked, Back, End, Ask, Stop, Read, Go, AddCaps, Relinquish, GetCaps, SetEnvWord, GetEnvWord}
+use Rattle.ti_types.specs.declared.event.Event.TheVariants.{Start, Own, Poll, ToNative, ToBlocked, Back, End, Ask, Stop, Read, Go, AddCaps, Relinquish, GetCaps, SetEnvWord, GetEnvWord}
 use Rattle.ti_types.specs.Limits.{most_calls}
 use Rattle.ti_replay.specs.Admission.{Happening, Dealings, caps_after, dealings, refusal_of, is_paid, is_aimed_at, is_by, agent_of}
 use Rattle.ti_replay.specs.Legal.{calls_spent}
@@ -56,7 +56,7 @@ why_there limits e done a w x k there =
 why_gone : (limits : Limits) (c : Caps) (s r : ℕ) (w : Bool) (x : Event) → nat_lt (thread_of x).0 limits.threads ≡ false
     → refusal_of limits (record { caps = c; spent = s }) w x ≡ refusal_of limits (record { caps = c; spent = r }) w x
 why_gone limits c s r w (Start t) h = refl
-why_gone limits c s r w (Stepped t step) h = refl
+why_gone limits c s r w (Own t step) h = refl
 why_gone limits c s r w (Poll t) h = refl
 why_gone limits c s r w (ToNative t) h = refl
 why_gone limits c s r w (ToBlocked t kind) h = refl
@@ -176,7 +176,7 @@ goes limits e done a w x k paid asks =
 pub accounts_go : (limits : Limits) (e : EnvNo) (done : List Happening) (a : AccountValue) (w : Bool) (x : Event) → IsBy e x → Accounts limits e done a
     → Accounts limits e (done ++ record { event = x; wanting = w } ∷ []) (accounted limits a w x)
 accounts_go limits e done a w (Start t) by k = goes limits e done a w (Start t) k (λ u. refl) (λ u. refl)
-accounts_go limits e done a w (Stepped t step) by k = goes limits e done a w (Stepped t step) k (λ u. refl) (λ u. refl)
+accounts_go limits e done a w (Own t step) by k = goes limits e done a w (Own t step) k (λ u. refl) (λ u. refl)
 accounts_go limits e done a w (Poll t) by k = goes limits e done a w (Poll t) k (λ u. refl) (λ u. refl)
 accounts_go limits e done a w (ToNative t) by k = goes limits e done a w (ToNative t) k (λ u. refl) (λ u. refl)
 accounts_go limits e done a w (ToBlocked t kind) by k = goes limits e done a w (ToBlocked t kind) k (λ u. refl) (λ u. refl)
@@ -199,7 +199,7 @@ refused_gone : (limits : Limits) (d : Dealings) (w : Bool) (x : Event) (m n : �
 refused_gone limits d w (Ask e t call) m n p q h gone = grind (arith, gone)
 refused_gone limits d w (Read e t r) m n p q h gone = grind (arith, gone)
 refused_gone limits d w (Start t) m n p q h gone = cc
-refused_gone limits d w (Stepped t step) m n p q h gone = cc
+refused_gone limits d w (Own t step) m n p q h gone = cc
 refused_gone limits d w (Poll t) m n p q h gone = cc
 refused_gone limits d w (ToNative t) m n p q h gone = cc
 refused_gone limits d w (ToBlocked t kind) m n p q h gone = cc
@@ -242,7 +242,7 @@ pub told_is : (limits : Limits) (histories : List (List Entry)) (e : EnvNo) (pag
 told_is limits histories e pages done a w (Ask f t call) there by are k = asked_told limits histories e pages done a w (Ask f t call) refl are k
 told_is limits histories e pages done a w (Read f t n) there by are k = asked_told limits histories e pages done a w (Read f t n) refl are k
 told_is limits histories e pages done a w (Start t) there by are k = refl
-told_is limits histories e pages done a w (Stepped t step) there by are k = refl
+told_is limits histories e pages done a w (Own t step) there by are k = refl
 told_is limits histories e pages done a w (Poll t) there by are k = refl
 told_is limits histories e pages done a w (ToNative t) there by are k = refl
 told_is limits histories e pages done a w (ToBlocked t kind) there by are k = refl

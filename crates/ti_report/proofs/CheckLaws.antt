@@ -6,7 +6,7 @@ use Rattle.ti_types.specs.declared.numbers.EnvNo.{EnvNo}
 use Rattle.ti_types.specs.declared.numbers.ThreadNo.{ThreadNo}
 use Rattle.ti_types.specs.declared.entry.Entry.{Entry}
 use Rattle.ti_types.specs.declared.event.Event.{Event}
-use Rattle.ti_types.specs.declared.event.Event.TheVariants.{Start, Stepped, Poll, ToNative, ToBlocked, Back, End, Ask, Stop, Read, Go, AddCaps, Relinquish, GetCaps, SetEnvWord, GetEnvWord}
+use Rattle.ti_types.specs.declared.event.Event.TheVariants.{Start, Own, Poll, ToNative, ToBlocked, Back, End, Ask, Stop, Read, Go, AddCaps, Relinquish, GetCaps, SetEnvWord, GetEnvWord}
 use Rattle.ti_types.specs.declared.call.Call.TheVariants.{Suspend, Resume}
 use Rattle.ti_types.specs.declared.answer.Answer.{Answer}
 use Rattle.ti_types.specs.declared.answer.Answer.TheVariants.{Done, State, Count, Trace, Location, Word, Caps, Stack, Refused}
@@ -152,7 +152,7 @@ no_done (Some (Refused e)) h = refl
 pub undone_stack : (x : Event) (told : Option Answer) → NoRead x → (told ≡ Some Done → ⊥) → stack_told x told ≡ None ∷ []
 undone_stack (Read e t n) told h k = absurd (h e t n refl)
 undone_stack (Start t) told h k = no_done told k
-undone_stack (Stepped t step) told h k = no_done told k
+undone_stack (Own t step) told h k = no_done told k
 undone_stack (Poll t) told h k = no_done told k
 undone_stack (ToNative t) told h k = no_done told k
 undone_stack (ToBlocked t kind) told h k = no_done told k

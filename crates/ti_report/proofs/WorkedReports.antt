@@ -81,7 +81,7 @@ abbrev not_alive : List Reply
 not_alive = Plain (answer.Refused ThreadNotAlive) ∷ []
 
 abbrev enters : Entry
-enters = entry.Stepped (Enter a)
+enters = entry.Own (Enter a)
 
 abbrev call_first : List (List Entry)
 call_first = (entry.Start ∷ entry.Asked e 0 FrameCount ∷ enters ∷ entry.End ∷ []) ∷ [] ∷ []
@@ -95,7 +95,7 @@ fit_call_first = (refl, tt)
 fit_end_first : CallsFit small end_first e [] one_call not_alive
 fit_end_first = (refl, tt)
 
-walk_of_end : WalkFits small false (event.Start t ∷ event.Stepped t (Enter a) ∷ event.End t ∷ []) [] (history_at call_first t)
+walk_of_end : WalkFits small false (event.Start t ∷ event.Own t (Enter a) ∷ event.End t ∷ []) [] (history_at call_first t)
 walk_of_end = record { made = 3; within = lit≤ tt; whole = λ _. refl; refusals = refl; left = refl }
 
 -- an invented reply does not fit
@@ -122,11 +122,11 @@ too_early h = cc h.0
 made_up : WalkFits small false (event.Start t ∷ event.End t ∷ []) [] (history_at call_first t) → ⊥
 made_up h = cc (subst (λ n. walked_in (history_at call_first t) ≡ entries_from mode.New 0 (take n (event.Start t ∷ event.End t ∷ [])) []) (h.whole refl) h.left)
 
-left_out : WalkFits small false (event.Start t ∷ event.Stepped t (Enter a) ∷ event.End t ∷ []) [] (entry.Start ∷ entry.End ∷ []) → ⊥
-left_out h = cc (subst (λ n. (entry.Start ∷ entry.End ∷ []) ≡ entries_from mode.New 0 (take n (event.Start t ∷ event.Stepped t (Enter a) ∷ event.End t ∷ [])) []) (h.whole refl) h.left)
+left_out : WalkFits small false (event.Start t ∷ event.Own t (Enter a) ∷ event.End t ∷ []) [] (entry.Start ∷ entry.End ∷ []) → ⊥
+left_out h = cc (subst (λ n. (entry.Start ∷ entry.End ∷ []) ≡ entries_from mode.New 0 (take n (event.Start t ∷ event.Own t (Enter a) ∷ event.End t ∷ [])) []) (h.whole refl) h.left)
 
 -- a thread that runs behind its walk is ended
-ends_behind : WalkFits small false (event.Start t ∷ event.Stepped t (Enter a) ∷ []) [] (history_at call_first t)
+ends_behind : WalkFits small false (event.Start t ∷ event.Own t (Enter a) ∷ []) [] (history_at call_first t)
 ends_behind = record { made = 2; within = lit≤ tt; whole = λ _. refl; refusals = refl; left = refl }
 
 -- a history without the end, or with one that is not the walk's, does not fit
@@ -137,16 +137,16 @@ another_end : WalkFits small false [] [] (entry.Start ∷ entry.End ∷ []) → 
 another_end h = cc (subst (λ n. (entry.Start ∷ entry.End ∷ []) ≡ entries_from mode.New 0 (take n []) []) (h.whole refl) h.left)
 
 -- if a list ended early, the first operations are enough, with what was refused of them
-ended_early : WalkFits small true (event.Start t ∷ event.Stepped t (Enter a) ∷ event.End t ∷ []) [] (entry.Start ∷ entry.End ∷ [])
+ended_early : WalkFits small true (event.Start t ∷ event.Own t (Enter a) ∷ event.End t ∷ []) [] (entry.Start ∷ entry.End ∷ [])
 ended_early = record { made = 1; within = lit≤ tt; whole = λ w. cc w; refusals = refl; left = refl }
 
-refused_early : WalkFits small true (event.Poll t ∷ event.Start t ∷ event.Stepped t (Enter a) ∷ []) (record { operation = 0; error = 204 } ∷ []) (entry.Start ∷ entry.End ∷ [])
+refused_early : WalkFits small true (event.Poll t ∷ event.Start t ∷ event.Own t (Enter a) ∷ []) (record { operation = 0; error = 204 } ∷ []) (entry.Start ∷ entry.End ∷ [])
 refused_early = record { made = 2; within = lit≤ tt; whole = λ w. cc w; refusals = refl; left = refl }
 
 -- but no other refusal
-unpaid_early : WalkFits small true (event.Start t ∷ event.Stepped t (Enter a) ∷ event.End t ∷ []) (record { operation = 1; error = 208 } ∷ []) (entry.Start ∷ entry.End ∷ []) → ⊥
+unpaid_early : WalkFits small true (event.Start t ∷ event.Own t (Enter a) ∷ event.End t ∷ []) (record { operation = 1; error = 208 } ∷ []) (entry.Start ∷ entry.End ∷ []) → ⊥
 unpaid_early h = by_count h.made h.refusals where
-  by_count : (n : ℕ) → refusals_from small mode.New 0 0 (take n (event.Start t ∷ event.Stepped t (Enter a) ∷ event.End t ∷ [])) (record { operation = 1; error = 208 } ∷ []) ≡ true → ⊥
+  by_count : (n : ℕ) → refusals_from small mode.New 0 0 (take n (event.Start t ∷ event.Own t (Enter a) ∷ event.End t ∷ [])) (record { operation = 1; error = 208 } ∷ []) ≡ true → ⊥
   by_count zero r = cc r
   by_count (suc zero) r = cc r
   by_count (suc (suc n)) r = cc r
@@ -393,7 +393,7 @@ no_reply h = cc ((h.calls e (lit≤ tt)).all_made refl)
 -- ---- refused operations
 
 -- a step and a return before the start, a second start, a leave without a frame, a step after the end
-walk_refused : refusals_from small mode.New 0 0 (event.Stepped t (Enter a) ∷ event.Back t ∷ event.Start t ∷ event.Start t ∷ event.Stepped t Leave ∷ event.Poll t ∷ event.End t ∷ event.Poll t ∷ [])
+walk_refused : refusals_from small mode.New 0 0 (event.Own t (Enter a) ∷ event.Back t ∷ event.Start t ∷ event.Start t ∷ event.Own t Leave ∷ event.Poll t ∷ event.End t ∷ event.Poll t ∷ [])
     (record { operation = 0; error = 204 } ∷ record { operation = 1; error = 205 } ∷ record { operation = 3; error = 210 } ∷ record { operation = 4; error = 202 } ∷ record { operation = 7; error = 204 } ∷ [])
     ≡ true
 walk_refused = refl
@@ -408,5 +408,5 @@ poll_refused = refl
 refused_twice : refusals_from small mode.New 0 0 (event.Poll t ∷ []) (record { operation = 0; error = 204 } ∷ record { operation = 0; error = 204 } ∷ []) ≡ false
 refused_twice = refl
 
-step_after_the_end : refusals_from small mode.New 0 0 (event.Start t ∷ event.End t ∷ event.Stepped t (Enter a) ∷ []) [] ≡ false
+step_after_the_end : refusals_from small mode.New 0 0 (event.Start t ∷ event.End t ∷ event.Own t (Enter a) ∷ []) [] ≡ false
 step_after_the_end = refl

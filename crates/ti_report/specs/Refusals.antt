@@ -8,7 +8,7 @@ use Rattle.ti_types.specs.declared.state.Safe.TheVariants.{Native, Blocked}
 use Rattle.ti_types.specs.declared.step.Step.{Step}
 use Rattle.ti_types.specs.declared.step.Step.TheVariants.{Enter, EnterNative, At, Leave}
 use Rattle.ti_types.specs.declared.event.Event.{Event}
-use Rattle.ti_types.specs.declared.event.Event.TheVariants.{Start, Stepped, ToNative, ToBlocked, Back, End}
+use Rattle.ti_types.specs.declared.event.Event.TheVariants.{Start, Own, ToNative, ToBlocked, Back, End}
 use Rattle.ti_types.specs.declared.error.TiError.{TiError}
 use Rattle.ti_types.specs.declared.error.TiError.TheVariants.{NotNew, NotSafe, NotRunning}
 use Rattle.ti_types.specs.Refusing.{unless}
@@ -24,7 +24,7 @@ mode_refusal m _ = unless (is_running m) NotRunning
 
 -- what an operation costs if it is made
 abbrev pub cost_of : Event → ℕ
-cost_of (Stepped t step) = 1
+cost_of (Own t step) = 1
 cost_of (ToNative t) = 2
 cost_of (ToBlocked t kind) = 2
 cost_of _ = 0
@@ -37,7 +37,7 @@ is_step_error (At position) n = n == 202 || n == 203
 is_step_error Leave n = n == 202
 
 abbrev pub is_frame_error : Event → ℕ → Bool
-is_frame_error (Stepped t step) n = is_step_error step n
+is_frame_error (Own t step) n = is_step_error step n
 is_frame_error (ToNative t) n = n == 207
 is_frame_error _ n = false
 

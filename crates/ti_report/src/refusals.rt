@@ -21,7 +21,7 @@ fn cost_of(event: Event) -> u64
     ensures few { result ≤ 2 }
 {
     match event {
-        Event::Stepped(_, _) => 1,
+        Event::Own(_, _) => 1,
         Event::ToNative(_) | Event::ToBlocked(_, _) => 2,
         _ => 0,
     }
@@ -43,7 +43,7 @@ fn is_frame_error(event: Event, number: u32) -> bool
     ensures { result ≡ is_frame_error event number }
 {
     match event {
-        Event::Stepped(_, step) => is_step_error(step, number),
+        Event::Own(_, step) => is_step_error(step, number),
         Event::ToNative(_) => number == 207,
         _ => false,
     }

@@ -13,7 +13,7 @@ fn is_walked(entry: Entry) -> bool
     matches!(
         entry,
         Entry::Start
-            | Entry::Stepped(_)
+            | Entry::Own(_)
             | Entry::Hand(Safe::Native)
             | Entry::Hand(Safe::Blocked(_))
             | Entry::End
@@ -26,7 +26,7 @@ fn own_entry(event: Event) -> Option<Entry>
 {
     match event {
         Event::Start(_) => Some(Entry::Start),
-        Event::Stepped(_, step) => Some(Entry::Stepped(step)),
+        Event::Own(_, step) => Some(Entry::Own(step)),
         Event::ToNative(_) => Some(Entry::Hand(Safe::Native)),
         Event::ToBlocked(_, kind) => Some(Entry::Hand(Safe::Blocked(kind))),
         Event::Back(_) => Some(Entry::Back),

@@ -13,7 +13,7 @@ use Rattle.ti_types.specs.declared.numbers.EnvNo.{EnvNo}
 use Rattle.ti_roster.specs.declared.coming.Coming.{Coming}
 use Rattle.ti_roster.specs.declared.view.RosterView.{RosterView}
 use Rattle.ti_roster.specs.Log.{Log, mark_of, noted}
-use Rattle.ti_roster.specs.View.{AreWithin, first_view, glanced, holding, stored, split_off}
+use Rattle.ti_roster.specs.View.{AreWithin, first_view, glanced, holding, split_off, splitter, stored}
 use Rattle.ti_roster.specs.Word.{word_of}
 use Rattle.ti_roster.specs.Rule.{Begins, Holds, Claims, Placed, Kept, Moves, IsFound, MayStore, locks, frees, glances}
 use Rattle.ti_roster.proofs.Views.{at_end, one_set, one_each_set, one_each_same, one_each_end}
@@ -195,7 +195,7 @@ frees_keep limits slots id me new t holds out may now s r _ at _ = (
     rest_is = ap (λ (cs : List (ℕ × Spot)). rest cs) out
 
 -- a new seat
-pub splits_keep : (limits : Limits) (id : ℕ) (v : RosterView) → v.holds ≡ false → Splits (Kept limits) id v v (split_off v)
+pub splits_keep : (limits : Limits) (id : ℕ) (v : RosterView) → v.holds ≡ false → Splits (Kept limits) id v (splitter v) (split_off v)
 splits_keep limits id v free s r at = record {
   log = r.log;
   locked = r.locked;
@@ -203,26 +203,26 @@ splits_keep limits id v free s r at = record {
   word = r.word;
   placed = r.placed;
   begins = λ j u e. ⊎_elim
-      (λ (g : get_elem? (set s.views id v) j ≡ some u). one_set (λ i x. Begins r.log x.seen) s.views id v (r.begins id v at) (λ i x _ h. r.begins i x h) j u g)
+      (λ (g : get_elem? (set s.views id (splitter v)) j ≡ some u). one_set (λ i x. Begins r.log x.seen) s.views id (splitter v) (r.begins id v at) (λ i x _ h. r.begins i x h) j u g)
       (λ (g : split_off v ≡ u). subst (λ (x : RosterView). Begins r.log x.seen) g (r.begins id v at))
-      (at_end (set s.views id v) (split_off v) u j e);
+      (at_end (set s.views id (splitter v)) (split_off v) u j e);
   holds = λ j u e. ⊎_elim
-      (λ (g : get_elem? (set s.views id v) j ≡ some u). one_set (Holds r.log r.locked r.holder) s.views id v (r.holds id v at) (λ i x _ h. r.holds i x h) j u g)
+      (λ (g : get_elem? (set s.views id (splitter v)) j ≡ some u). one_set (Holds r.log r.locked r.holder) s.views id (splitter v) (r.holds id v at) (λ i x _ h. r.holds i x h) j u g)
       (λ (g : split_off v ≡ u). λ h. absurd (true≢false (sym h ∙ ap (λ (x : RosterView). x.holds) (sym g))))
-      (at_end (set s.views id v) (split_off v) u j e);
+      (at_end (set s.views id (splitter v)) (split_off v) u j e);
   looked = λ j u e. ⊎_elim
-      (λ (g : get_elem? (set s.views id v) j ≡ some u). one_set (λ i x. AreWithin (length r.log) x.looked) s.views id v (r.looked id v at) (λ i x _ h. r.looked i x h) j u g)
+      (λ (g : get_elem? (set s.views id (splitter v)) j ≡ some u). one_set (λ i x. AreWithin (length r.log) x.looked) s.views id (splitter v) (r.looked id v at) (λ i x _ h. r.looked i x h) j u g)
       (λ (g : split_off v ≡ u). subst (λ (x : RosterView). AreWithin (length r.log) x.looked) g (All-nil (λ k. k ≤ length r.log)))
-      (at_end (set s.views id v) (split_off v) u j e);
+      (at_end (set s.views id (splitter v)) (split_off v) u j e);
   about = λ j u e. ⊎_elim
-      (λ (g : get_elem? (set s.views id v) j ≡ some u). one_set (λ i x. x.limits ≡ limits) s.views id v (r.about id v at) (λ i x _ h. r.about i x h) j u g)
+      (λ (g : get_elem? (set s.views id (splitter v)) j ≡ some u). one_set (λ i x. x.limits ≡ limits) s.views id (splitter v) (r.about id v at) (λ i x _ h. r.about i x h) j u g)
       (λ (g : split_off v ≡ u). subst (λ (x : RosterView). x.limits ≡ limits) g (r.about id v at))
-      (at_end (set s.views id v) (split_off v) u j e);
+      (at_end (set s.views id (splitter v)) (split_off v) u j e);
   claims = λ j u e. ⊎_elim
-      (λ (g : get_elem? (set s.views id v) j ≡ some u). one_set (λ i x. Claims r.log x.place x.seen) s.views id v (r.claims id v at) (λ i x _ h. r.claims i x h) j u g)
+      (λ (g : get_elem? (set s.views id (splitter v)) j ≡ some u). one_set (λ i x. Claims r.log x.place x.seen) s.views id (splitter v) (r.claims id v at) (λ i x _ h. r.claims i x h) j u g)
       (λ (g : split_off v ≡ u). subst (λ (x : RosterView). Claims r.log x.place x.seen) g tt)
-      (at_end (set s.views id v) (split_off v) u j e);
-  one_each = one_each_end (set s.views id v) (split_off v) (one_each_same s.views id v v r.one_each at refl) refl;
+      (at_end (set s.views id (splitter v)) (split_off v) u j e);
+  one_each = one_each_end (set s.views id (splitter v)) (split_off v) (one_each_same s.views id v (splitter v) r.one_each at refl) refl;
 }
 
 -- a new cell

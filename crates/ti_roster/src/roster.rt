@@ -89,19 +89,21 @@ impl Roster {
 
     /// A thread comes, has the next number, and has not started. Each environment has a desk there.
     ///
-    /// 110 OUT_OF_MEMORY if there is no memory for the thread, or if there were 2^32 - 1 threads, or 2^62 - 1 comings and
-    /// goings in all (this profile). Then nothing changes.
+    /// The error is the first of these that fits, and then nothing changes:
+    ///
+    /// - 216 `Full` (this profile): there were 2^32 - 1 threads, or 2^62 - 1 comings and goings in all.
+    /// - 110 OUT_OF_MEMORY: there is no memory for the thread.
     pub fn come(&mut self, alloc: Global, info: ThreadInfo) -> Result<Fresh, TiError>
         ensures came { IfOk result (λ f. self.new ≡ with_item self.old (Came (record { thread = record { 0 = threads_in self.old.items }; info = info; cell = f.cell }))) }
         ensures fresh { IfOk result (λ f. f.view ≡ newcomer (subject_of self.old.limits (record { 0 = threads_in self.old.items })) 0 (self.old.limits.envs + 1)) }
-        ensures memory { IfErr result (λ e. e ≡ OutOfMemory) }
+        ensures refused { IfErr result (λ e. e ≡ coming_refusal self.old) }
         ensures unchanged { OnErr result (self.new ≡ self.old) }
     {
         let Some(next) = self.next.checked_add(1) else {
-            return Err(TiError::OutOfMemory);
+            return Err(TiError::Full);
         };
         if self.len >= LAST {
-            return Err(TiError::OutOfMemory);
+            return Err(TiError::Full);
         }
         let (fresh, row) = new_row(alloc, self.limits, ThreadNo(self.next), info)?;
         self.rows.reserve(1)?;
@@ -183,7 +185,7 @@ impl Roster {
     /// - 110 OUT_OF_MEMORY: there is no memory for the name.
     pub fn info(&self, alloc: Global, thread: ThreadNo) -> Result<ThreadInfo, TiError>
         ensures told { IfOk result (λ i. IsToldOf self.now thread i) }
-        ensures refused { IfErr result (λ e. e ≡ end_refusal self.now thread) }
+        ensures refused { IfErr result (λ e. e ≡ info_refusal self.now thread) }
     {
         match self.index_of(thread) {
             Some(i) => self.rows[i].newcomer.info.copy(alloc),
@@ -221,18 +223,20 @@ impl Roster {
     ///
     /// - 10 INVALID_THREAD: there was no thread of this number.
     /// - 15 THREAD_NOT_ALIVE: it was given back before.
-    /// - 110 OUT_OF_MEMORY: there were 2^62 - 1 comings and goings in all (this profile).
+    /// - 216 `Full` (this profile): there were 2^62 - 1 comings and goings in all.
     pub fn end(&mut self, thread: ThreadNo) -> Result<(), TiError>
         ensures there { OnOk result (is_live thread self.old.items ≡ true) }
+        ensures who { OnOk result (IsListed self.old thread) }
         ensures ended { OnOk result (self.new ≡ with_item self.old (Ended thread)) }
         ensures refused { IfErr result (λ e. e ≡ end_refusal self.old thread) }
+        ensures limit { IfErr result (λ e. e ≡ Full → most_items ≤ length self.old.items) }
         ensures unchanged { OnErr result (self.new ≡ self.old) }
     {
         let Some(i) = self.index_of(thread) else {
             return Err(self.missing(thread));
         };
         if self.len >= LAST {
-            return Err(TiError::OutOfMemory);
+            return Err(TiError::Full);
         }
         let _row = self.rows.remove(i);
         self.life.push(LifeEvent {
@@ -260,19 +264,19 @@ impl Roster {
     /// An environment comes, and has a place that no environment has. It has taken no desk. From now on the roster is in
     /// its service.
     ///
-    /// 110 OUT_OF_MEMORY if every place is taken, or if there were 2^62 - 1 comings and goings in all (this profile). Then
-    /// nothing changes.
+    /// 216 `Full` (this profile) if every place is taken, or if there were 2^62 - 1 comings and goings in all. Then nothing
+    /// changes. It takes no memory.
     pub fn attach(&mut self) -> Result<EnvNo, TiError>
         ensures free { IfOk result (λ e. (e.0 < self.old.limits.envs) × (mark_of e self.old.items ≡ None)) }
         ensures attached { IfOk result (λ e. self.new ≡ with_user (with_item self.old (Attached e)) e) }
-        ensures refused { IfErr result (λ e. (e ≡ OutOfMemory) × (length self.old.items < most_items → AreTaken self.old)) }
+        ensures refused { IfErr result (λ e. (e ≡ Full) × IsPlaceless self.old) }
         ensures unchanged { OnErr result (self.new ≡ self.old) }
     {
         if self.len >= LAST {
-            return Err(TiError::OutOfMemory);
+            return Err(TiError::Full);
         }
         let Some(place) = self.free_place() else {
-            return Err(TiError::OutOfMemory);
+            return Err(TiError::Full);
         };
         let env = EnvNo(place);
         self.marks[place as usize] = Some(0);
@@ -310,11 +314,11 @@ impl Roster {
     /// The error is the first of these that fits, and then nothing changes:
     ///
     /// - 116 INVALID_ENVIRONMENT: the roster serves no environment, or none of this service.
-    /// - 110 OUT_OF_MEMORY: there is no memory for the desks' list, or there were 2^62 - 1 comings and goings in all (this
-    ///   profile).
+    /// - 216 `Full` (this profile): there were 2^62 - 1 comings and goings in all.
+    /// - 110 OUT_OF_MEMORY: there is no memory for the desks' list.
     pub fn meet(&mut self, alloc: Global) -> Result<Vec<FreeDesk>, TiError>
         ensures met { IfOk result (λ d. HasMet self.old self.new d.items) }
-        ensures refused { IfErr result (λ e. e ≡ (if serves self.old then OutOfMemory else InvalidEnvironment)) }
+        ensures refused { IfErr result (λ e. e ≡ meeting_refusal self.old) }
         ensures unchanged { OnErr result (self.new ≡ self.old) }
     {
         let env = match self.user {
@@ -325,7 +329,7 @@ impl Roster {
             return Ok(Vec::new(alloc));
         }
         if self.len >= LAST {
-            return Err(TiError::OutOfMemory);
+            return Err(TiError::Full);
         }
         let first = self.count_below(self.first_left(env));
         let mut desks = Vec::with_capacity(alloc, self.rows.len() - first)?;
@@ -364,11 +368,12 @@ impl Roster {
     /// The error is the first of these that fits, and then nothing changes, and the desks come back:
     ///
     /// - 116 INVALID_ENVIRONMENT: the roster serves no environment, or none of this service.
-    /// - 110 OUT_OF_MEMORY: there were 2^62 - 1 comings and goings in all (this profile).
+    /// - 216 `Full` (this profile): there were 2^62 - 1 comings and goings in all, or there would be with the desks.
     pub fn dispose(&mut self, desks: Vec<FreeDesk>) -> Result<(), (TiError, Vec<FreeDesk>)>
         requires { All (λ f. MayGoBack self.old f) desks.items }
         ensures disposed { OnOk result (HasDisposed self.old self.new desks.items) }
-        ensures refused { IfErr result (λ r. r.0 ≡ (if serves self.old then OutOfMemory else InvalidEnvironment)) }
+        ensures refused { IfErr result (λ r. r.0 ≡ (if serves self.old then Full else InvalidEnvironment)) }
+        ensures limit { IfErr result (λ r. r.0 ≡ Full → most_items ≤ length self.old.items + length desks.items) }
         ensures back { IfErr result (λ r. r.1 ≡ desks) }
         ensures unchanged { OnErr result (self.new ≡ self.old) }
     {
@@ -377,7 +382,7 @@ impl Roster {
             _ => return Err((TiError::InvalidEnvironment, desks)),
         };
         if self.len + desks.len() as u64 >= LAST {
-            return Err((TiError::OutOfMemory, desks));
+            return Err((TiError::Full, desks));
         }
         for desk in desks {
             self.take_back(desk);
@@ -410,12 +415,12 @@ fn take_desks(rows: &mut Vec<Row>, start: usize, env: EnvNo, desks: &mut Vec<Fre
 const LAST: u64 = (1 << 62) - 1;
 
 ghost use Rattle.std.specs.Prelude.{◌≡◌, ◌<◌, ◌≤◌, ◌^◌, ◌+◌, ◌++◌, ◌∷◌, [], ℕ, All, true, false, drop, length, map, nat_lt, slice_get, vec_capacity, None, Some, IfOk, IfErr, IfSome, IfNone, OnOk, OnErr, if◌then◌else◌};
-ghost use Rattle.ti_types.specs.declared.error.TiError.TheVariants.{InvalidEnvironment, InvalidThread, OutOfMemory, ThreadNotAlive};
+ghost use Rattle.ti_types.specs.declared.error.TiError.TheVariants.{Full, InvalidEnvironment, InvalidThread, OutOfMemory, ThreadNotAlive};
 ghost use Rattle.ti_cell.specs.View.{newcomer, subject_of};
 ghost use Rattle.ti_roster.specs.declared.coming.Coming.TheVariants.{Came, Ended, Attached};
 ghost use Rattle.ti_roster.specs.Log.{Out, lies, threads_in, mark_of, live, is_live, with_item, with_user};
 ghost use Rattle.ti_types.specs.declared.numbers.ThreadNo.{ThreadNo};
 ghost use Rattle.ti_roster.specs.declared.newcomer.Newcomer.{Newcomer};
 ghost use Rattle.ti_roster.specs.declared.row.Row.{Row};
-ghost use Rattle.ti_roster.specs.Roster.{AreTaken, HasDisposed, HasMet, IsToldOf, MayGoBack, and_back, end_refusal, has_met_all, most_items, serves};
+ghost use Rattle.ti_roster.specs.Roster.{AreTaken, HasDisposed, HasMet, IsListed, IsPlaceless, IsToldOf, MayGoBack, and_back, coming_refusal, end_refusal, has_met_all, info_refusal, meeting_refusal, most_items, serves};
 ghost use Rattle.ti_roster.specs.Rows.{IsIndex, IsTaken, desks_in};

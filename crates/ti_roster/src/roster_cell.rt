@@ -6,12 +6,12 @@ use crate::seat::{Pass, RosterSeat};
 use crate::view::{Frees, Glances, Locks, RosterRule, RosterView, Splits};
 use crate::word::Word;
 use atomic_table::Table;
-use crossbeam_utils::Backoff;
 use std::alloc::{AllocError, Global};
 use std::marker::Model;
 use std::sync::Wait;
 use std::sync::atomic::{AtomicU64, Ordering};
 use std::time::Duration;
+use ti_cell::Pace;
 use ti_types::{Limits, TiError};
 
 /// A roster behind one word.
@@ -67,10 +67,10 @@ impl RosterCell {
         }
     }
 
-    /// One more seat, which knows what this one knows. The seat is this cell's.
+    /// One more seat, which knows what this one knows. The seat is this cell's, and counts the seats that are made from it.
     pub fn split(&self, seat: &mut RosterSeat) -> RosterSeat
         requires cell { seat.old.cell ≡ self.now }
-        ensures old { seat.new ≡ seat.old }
+        ensures old { (seat.new.cell ≡ seat.old.cell) × (seat.new.view ≡ splitter seat.old.view) }
         ensures new { (result.cell ≡ self.now) × (result.view ≡ split_off seat.old.view) }
     {
         let (count, limits) = (seat.count, seat.limits);
@@ -147,25 +147,28 @@ impl RosterCell {
         }
     }
 
-    /// Takes the lock bit and the roster. While another has them it pauses, yields, and then sleeps.
+    /// Takes the lock bit and the roster, once nobody has them.
     fn take<R: Wait>(&self, rt: &R, seat: &mut Pass) -> Roster
         requires { (seat.old.table_id ≡ self.now) × (seat.old.me.1 ≡ []) }
         ensures seat { (seat.new.table_id ≡ seat.old.table_id) × (seat.new.me ≡ (holding seat.old.me.0 result.items, (0, None) ∷ [])) }
         ensures found { IsFound result seat.old.me.0 }
     {
-        let backoff = Backoff::new();
+        let pace = Pace::new();
         for _ in rt.forever() {
             if let Some(roster) = self.try_take(seat) {
                 return roster;
             }
-            if backoff.is_completed() {
-                self.sleep(rt);
-                backoff.reset();
-            } else {
-                backoff.snooze();
-            }
+            self.await_free(rt, &pace);
         }
         unreachable!()
+    }
+
+    /// Waits a little, after a try that found the roster in use, as the call's pace has it. It may sleep until somebody stores,
+    /// and may return while the roster is in use.
+    pub fn await_free<R: Wait>(&self, rt: &R, pace: &Pace) {
+        if pace.has_had_enough() {
+            self.sleep(rt);
+        }
     }
 
     /// Takes the lock bit and the roster by one load and one exchange of the word, unless another has them.
@@ -259,5 +262,5 @@ impl RosterCell {
 
 ghost use Rattle.std.specs.Prelude.{◌≡◌, ◌≤◌, true, [], ◌∷◌, length, None, IfOk, IfErr, IfSome, IfNone};
 ghost use Rattle.ti_types.specs.declared.error.TiError.TheVariants.{OutOfMemory};
-ghost use Rattle.ti_roster.specs.View.{AreWithin, first_view, glanced, holding, stored, split_off};
+ghost use Rattle.ti_roster.specs.View.{AreWithin, first_view, glanced, holding, split_off, splitter, stored};
 ghost use Rattle.ti_roster.specs.Rule.{Begins, Claims, IsFound, MayStore};

@@ -40,15 +40,15 @@ impl SharedRoster {
         }
     }
 
-    /// One more reference to the same cell. It takes no memory. The error is 110 OUT_OF_MEMORY if there are 2^63 references
-    /// already (this profile).
+    /// One more reference to the same cell. It takes no memory. The error is 216 `Full` if there are 2^63 references already
+    /// (this profile).
     pub fn share(&self) -> Result<SharedRoster, TiError>
         ensures cell { IfOk result (λ s. s ≡ self.now) }
-        ensures memory { IfErr result (λ e. e ≡ OutOfMemory) }
+        ensures full { IfErr result (λ e. e ≡ Full) }
     {
         match Arc::try_clone(&self.cell) {
             Ok(cell) => Ok(SharedRoster { cell }),
-            Err(_) => Err(TiError::OutOfMemory),
+            Err(_) => Err(TiError::Full),
         }
     }
 }
@@ -66,5 +66,5 @@ impl Deref for SharedRoster {
 }
 
 ghost use Rattle.std.specs.Prelude.{◌≡◌, IfOk, IfErr};
-ghost use Rattle.ti_types.specs.declared.error.TiError.TheVariants.{OutOfMemory};
+ghost use Rattle.ti_types.specs.declared.error.TiError.TheVariants.{Full, OutOfMemory};
 ghost use Rattle.ti_roster.specs.View.{first_view};

@@ -17,6 +17,8 @@ pub struct RosterView {
     pub looked: LinkedList<u64>,
     /// How often the seat took the cell.
     pub taken: u64,
+    /// How many seats were made from it.
+    pub made: u64,
     /// Whether the seat holds the cell.
     pub holds: bool,
     /// The environment whose seat it is.
@@ -66,9 +68,9 @@ impl Play<Option<Roster>, RosterView> for Glances {
 pub struct Splits;
 
 impl Split<RosterView> for Splits {
-    ghost use Rattle.ti_roster.specs.View.{split_off};
+    ghost use Rattle.ti_roster.specs.View.{split_off, splitter};
 
-    ghost left = { λ v. v };
+    ghost left = { splitter };
 
     ghost right = { split_off };
 }

@@ -19,8 +19,6 @@ mod closed_cells;
 mod fault;
 mod gate;
 mod live_run;
-#[cfg(test)]
-mod tests;
 mod thread_walk;
 
 pub use fault::RunFault;

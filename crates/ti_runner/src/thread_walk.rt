@@ -2,7 +2,7 @@
 
 use crate::gate::Gate;
 use std::sync::Wait;
-use ti_cell::OwnerSeat;
+use ti_cell::OwnSeat;
 use ti_handshake::{AtSafe, Ended, Fresh, Polled, Running};
 use ti_live::Refusal;
 use ti_types::{Event, Kind, Step, ThreadNo, TiError};
@@ -23,7 +23,7 @@ type Took = (Phase, Option<TiError>);
 #[derive(Drop)]
 pub struct Walked {
     /// The owner's seat of the thread's cell.
-    pub seat: OwnerSeat,
+    pub seat: OwnSeat,
     /// The refused operations, in their order.
     pub refused: Vec<Refusal>,
     /// Whether the gate ended the walk.
@@ -76,7 +76,7 @@ fn poll<R: Wait>(rt: &R, phase: Phase) -> Took
             }
             match running.poll(rt) {
                 Polled::Go(again) => (Phase::Runs(again), None),
-                Polled::Stays(safe) => (Phase::Runs(safe.back(rt)), None),
+                Polled::Held(safe) => (Phase::Runs(safe.back(rt)), None),
             }
         }
         other => (other, Some(TiError::NotRunning)),
@@ -131,7 +131,7 @@ fn take<R: Wait>(rt: &R, phase: Phase, operation: Event) -> Took
 {
     match operation {
         Event::Start(_) => start(rt, phase),
-        Event::Stepped(_, made) => step(phase, made),
+        Event::Own(_, made) => step(phase, made),
         Event::Poll(_) => poll(rt, phase),
         Event::ToNative(_) => native(rt, phase),
         Event::ToBlocked(_, kind) => block(rt, phase, kind),
@@ -142,7 +142,7 @@ fn take<R: Wait>(rt: &R, phase: Phase, operation: Event) -> Took
 }
 
 /// The seat of a thread whose walk is done. A thread that runs is ended first.
-fn leave<R: Wait>(rt: &R, phase: Phase) -> OwnerSeat
+fn leave<R: Wait>(rt: &R, phase: Phase) -> OwnSeat
     ensures cell { result.cell ≡ cell_of phase }
     ensures owner { result.view.number ≡ 0 }
 {

@@ -81,7 +81,7 @@ outcome_within methods longest None names = omega arith
 outcome_within methods longest (Some outcome.Done) names = omega arith
 outcome_within methods longest (Some outcome.Clear) names = omega arith
 outcome_within methods longest (Some outcome.Went) names = omega arith
-outcome_within methods longest (Some outcome.Stays) names = omega arith
+outcome_within methods longest (Some outcome.Held) names = omega arith
 outcome_within methods longest (Some (outcome.Refused e)) names = let text = error_within e in omega (arith, text)
 outcome_within methods longest (Some (outcome.Gave a)) names = answer_within methods longest a names
 outcome_within methods longest (Some (outcome.Posted ticket)) names = omega arith

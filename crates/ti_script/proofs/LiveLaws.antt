@@ -5,7 +5,7 @@ use Rattle.std.specs.Option.{ok_or, option_map}
 use Rattle.std.specs.Result.{IfErr, IsErrAnd}
 use Rattle.serde_json.specs.Data.{Data}
 use Rattle.ti_types.specs.declared.numbers.ThreadNo.{ThreadNo}
-use Rattle.ti_script.specs.declared.fault.ScriptFault.{ScriptFault}
+use Rattle.ti_script.specs.declared.located.LocatedFault.{LocatedFault}
 use Rattle.ti_script.specs.declared.item.Spot.{Spot}
 use Rattle.ti_script.specs.Spots.{shape_at, name_at}
 use Rattle.ti_script.specs.declared.names.Cast.{Cast}
@@ -16,17 +16,17 @@ use Rattle.ti_script.specs.Walks.{cast_of}
 use Rattle.ti_script.specs.Events.{◌>>=◌, thread, thread_named, named, given, u32_in}
 use Rattle.ti_script.specs.Lives.{live_members, body_fault, live_fault, is_thread_element, threads_given}
 
-last_fails : (e : ScriptFault) (x : Option ScriptFault) → Faults e x → Faults e (first_of (x ∷ []))
+last_fails : (e : LocatedFault) (x : Option LocatedFault) → Faults e x → Faults e (first_of (x ∷ []))
 last_fails e x (inl memory) = inl memory
 last_fails e (Some f) (inr is) = inr is
 last_fails e None (inr is) = cc is
 
 -- the fault of a last test, after three that hold
-fourth_fails : (e : ScriptFault) (a b c x : Option ScriptFault) → a ≡ None → b ≡ None → c ≡ None → Faults e x → Faults e (first_of (a ∷ b ∷ c ∷ x ∷ []))
+fourth_fails : (e : LocatedFault) (a b c x : Option LocatedFault) → a ≡ None → b ≡ None → c ≡ None → Faults e x → Faults e (first_of (a ∷ b ∷ c ∷ x ∷ []))
 fourth_fails e a b c x p q s f = rw (p, q, s) (last_fails e x f)
 
 -- a document whose head has no fault has that of its body
-pub body_fails : (d : Data) (cast : Cast) (e : ScriptFault) → members_fault live_members d ≡ None → limits_fault (at (codes "limits") d) ≡ None → cast_fault d ≡ None → cast ≡ cast_of d
+pub body_fails : (d : Data) (cast : Cast) (e : LocatedFault) → members_fault live_members d ≡ None → limits_fault (at (codes "limits") d) ≡ None → cast_fault d ≡ None → cast ≡ cast_of d
     → Faults e (body_fault cast d) → Faults e (live_fault d)
 body_fails d cast e members limits names same f =
     fourth_fails e (members_fault live_members d) (limits_fault (at (codes "limits") d)) (cast_fault d) (body_fault (cast_of d) d)
@@ -39,16 +39,16 @@ err_is (Err e) P h k = k e h
 
 -- what stands for a thread may stand for one
 
-element_is : (b : Bool) (o : Option ℕ) (r : Result ThreadNo ScriptFault) (f : ScriptFault) (t : ThreadNo) → (if b then r else ok_or (option_map (λ n. record { 0 = n }) o) f) ≡ Ok t → (b || is_some o) ≡ true
+element_is : (b : Bool) (o : Option ℕ) (r : Result ThreadNo LocatedFault) (f : LocatedFault) (t : ThreadNo) → (if b then r else ok_or (option_map (λ n. record { 0 = n }) o) f) ≡ Ok t → (b || is_some o) ≡ true
 element_is true o r f t e = refl
 element_is false (Some n) r f t e = refl
 element_is false None r f t e = cc e
 
-first_given : (r : Result ThreadNo ScriptFault) (more : Result (List ThreadNo) ScriptFault) (ts : List ThreadNo) → (r >>= λ t. more >>= λ us. Ok (t ∷ us)) ≡ Ok ts → (t : ThreadNo) × (r ≡ Ok t)
+first_given : (r : Result ThreadNo LocatedFault) (more : Result (List ThreadNo) LocatedFault) (ts : List ThreadNo) → (r >>= λ t. more >>= λ us. Ok (t ∷ us)) ≡ Ok ts → (t : ThreadNo) × (r ≡ Ok t)
 first_given (Ok t) more ts e = (t, refl)
 first_given (Err f) more ts e = cc e
 
-rest_given : (r : Result ThreadNo ScriptFault) (more : Result (List ThreadNo) ScriptFault) (ts : List ThreadNo) → (r >>= λ t. more >>= λ us. Ok (t ∷ us)) ≡ Ok ts → (us : List ThreadNo) × (more ≡ Ok us)
+rest_given : (r : Result ThreadNo LocatedFault) (more : Result (List ThreadNo) LocatedFault) (ts : List ThreadNo) → (r >>= λ t. more >>= λ us. Ok (t ∷ us)) ≡ Ok ts → (us : List ThreadNo) × (more ≡ Ok us)
 rest_given (Ok t) (Ok us) ts e = (us, refl)
 rest_given (Ok t) (Err f) ts e = cc e
 rest_given (Err f) more ts e = cc e

@@ -6,7 +6,7 @@ use Rattle.serde_json.specs.Data.{Data}
 use Rattle.serde_json.specs.Find.{as_object, as_array}
 use Rattle.serde_json.specs.View.{view, items_of, items_view, members_of, members_view}
 use Rattle.serde_json.specs.declared.value.Value.{Value}
-use Rattle.ti_script.specs.declared.fault.MemberName.{MemberName}
+use Rattle.ti_script.specs.declared.located.MemberName.{MemberName}
 use Rattle.ti_script.specs.Tree.{listed, array_in, member_count, has_member, has_exactly}
 
 pub listed_of : (ds : List Data) → listed (items_of ds) ≡ ds

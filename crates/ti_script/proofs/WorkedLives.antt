@@ -9,9 +9,9 @@ use Rattle.ti_types.specs.declared.state.Kind.TheVariants.{Park}
 use Rattle.ti_types.specs.declared.numbers.ThreadNo.{ThreadNo}
 use Rattle.ti_live.specs.declared.call.AgentCall.TheVariants as call
 use Rattle.ti_script.specs.declared.fault.LimitName.TheVariants.{Depth}
-use Rattle.ti_script.specs.declared.fault.MemberName.TheVariants.{Limits, Stepped, Threads, Walks, Calls}
-use Rattle.ti_script.specs.declared.fault.Part.TheVariants.{Whole, Member, Element}
-use Rattle.ti_script.specs.declared.fault.ScriptFault.TheVariants.{Shape, Name, Limit}
+use Rattle.ti_script.specs.declared.located.MemberName.TheVariants.{Limits, Own, Threads, Walks, Calls}
+use Rattle.ti_script.specs.declared.located.Part.TheVariants.{Whole, Member, Element}
+use Rattle.ti_script.specs.declared.located.LocatedFault.TheVariants.{Shape, Name, Limit}
 use Rattle.ti_script.specs.Head.{limits_fault}
 use Rattle.ti_script.specs.Walks.{cast_of}
 use Rattle.ti_script.specs.Lives.{items_of, live_fault}
@@ -100,7 +100,7 @@ walking_is_read : live_fault walking ≡ None
 walking_is_read = refl
 
 what_is_walked : items_of (cast_of walking) walking ≡ Ok
-    (((event.Start t ∷ event.Stepped t (Enter (record { 0 = 0 })) ∷ []) ∷ (event.Start u ∷ event.ToBlocked u Park ∷ []) ∷ []), ((call.Ask u FrameCount ∷ []) ∷ []))
+    (((event.Start t ∷ event.Own t (Enter (record { 0 = 0 })) ∷ []) ∷ (event.Start u ∷ event.ToBlocked u Park ∷ []) ∷ []), ((call.Ask u FrameCount ∷ []) ∷ []))
 what_is_walked = refl
 
 -- ---- the head, and then the two lists
@@ -115,13 +115,13 @@ no_object = refl
 limits_are_no_object : limits_fault null ≡ Some (Shape 0 (Member Limits))
 limits_are_no_object = refl
 
-no_own : limits_fault (object (member (codes "calls") (whole 8) (member (codes "depth") (whole 4) no_members))) ≡ Some (Shape 0 (Member Stepped))
+no_own : limits_fault (object (member (codes "calls") (whole 8) (member (codes "depth") (whole 4) no_members))) ≡ Some (Shape 0 (Member Own))
 no_own = refl
 
 one_limit_more : limits_fault (object (member (codes "calls") (whole 8) (member (codes "depth") (whole 4) (member (codes "own") (whole 32) (member (codes "threads") (whole 2) no_members))))) ≡ Some (Shape 0 (Member Limits))
 one_limit_more = refl
 
-own_is_a_text : limits_fault (object (member (codes "calls") (text []) (member (codes "depth") (whole 4) (member (codes "own") (text []) no_members)))) ≡ Some (Shape 0 (Member Stepped))
+own_is_a_text : limits_fault (object (member (codes "calls") (text []) (member (codes "depth") (whole 4) (member (codes "own") (text []) no_members)))) ≡ Some (Shape 0 (Member Own))
 own_is_a_text = refl
 
 depth_comes_first : live_fault (document 0 null null null) ≡ Some (Limit Depth)

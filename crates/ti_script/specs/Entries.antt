@@ -13,8 +13,8 @@ use Rattle.ti_types.specs.declared.step.Step.TheVariants.{Enter, EnterNative, At
 use Rattle.ti_types.specs.declared.call.Call.{Call}
 use Rattle.ti_types.specs.declared.call.Call.TheVariants.{State, FrameCount, Trace, Location, Suspend, Resume, GetWord, SetWord, Pop}
 use Rattle.ti_types.specs.declared.entry.Entry.{Entry}
-use Rattle.ti_types.specs.declared.entry.Entry.TheVariants.{Start, Stepped, Hand, Back, End, Asked, Stop, Read, Go}
-use Rattle.ti_script.specs.declared.fault.ScriptFault.{ScriptFault}
+use Rattle.ti_types.specs.declared.entry.Entry.TheVariants.{Start, Own, Hand, Back, End, Asked, Stop, Read, Go}
+use Rattle.ti_script.specs.declared.located.LocatedFault.{LocatedFault}
 use Rattle.ti_script.specs.declared.item.Item.{Item}
 use Rattle.ti_script.specs.Spots.{listed_item, behind_word, shape_of, shape_at}
 use Rattle.ti_script.specs.Tree.{array_in, whole_in}
@@ -22,10 +22,10 @@ use Rattle.ti_script.specs.Events.{◌>>=◌, u32_in, i32_in, kind_named}
 
 -- what is made of the elements after a word
 abbrev pub Behind : Type 0 → Type 0
-Behind A = List Data → Result A ScriptFault
+Behind A = List Data → Result A LocatedFault
 
 -- what a table makes of a word and the elements after it
-abbrev pub by_table : {A : Type 0} → List (List ℕ × Behind A) → List ℕ → List Data → Option (Result A ScriptFault)
+abbrev pub by_table : {A : Type 0} → List (List ℕ × Behind A) → List ℕ → List Data → Option (Result A LocatedFault)
 by_table table text ds = option_map (λ behind. behind ds) (lookup (bytes_eq text) table)
 
 abbrev pub env_in : Data → Option EnvNo
@@ -46,7 +46,7 @@ safe_in d = option_and_then safe_named (as_str d)
 
 module _ (item : Item) where
   -- what the element this many places after the word gives
-  abbrev pub element : {X : Type 0} → (places : ℕ) → (Data → Option X) → Data → Result X ScriptFault
+  abbrev pub element : {X : Type 0} → (places : ℕ) → (Data → Option X) → Data → Result X LocatedFault
   element places meaning d = ok_or (meaning d) (shape_at (behind_word item places))
 
   -- no element, one or two, from this place after the word on, read from left to right
@@ -71,10 +71,10 @@ module _ (item : Item) where
       (codes "start", none Start)
       ∷ (codes "back", none Back)
       ∷ (codes "end", none End)
-      ∷ (codes "enter", one 1 number_of_method (λ m. Stepped (Enter m)))
-      ∷ (codes "enter_native", one 1 number_of_method (λ m. Stepped (EnterNative m)))
-      ∷ (codes "at", one 1 u32_in (λ p. Stepped (At p)))
-      ∷ (codes "leave", none (Stepped Leave))
+      ∷ (codes "enter", one 1 number_of_method (λ m. Own (Enter m)))
+      ∷ (codes "enter_native", one 1 number_of_method (λ m. Own (EnterNative m)))
+      ∷ (codes "at", one 1 u32_in (λ p. Own (At p)))
+      ∷ (codes "leave", none (Own Leave))
       ∷ (codes "hand", one 1 safe_in Hand)
       ∷ []
 
@@ -115,16 +115,16 @@ module _ (item : Item) where
       ∷ []
 
   -- an entry: a word and what comes after it
-  abbrev pub listed_entry : (format : ℕ) → List Data → Result Entry ScriptFault
+  abbrev pub listed_entry : (format : ℕ) → List Data → Result Entry LocatedFault
   listed_entry format [] = Err (shape_of item)
   listed_entry format (d ∷ ds) =
       element 0 as_str d >>= λ text. unwrap_or (option_or (by_table own_table text ds) (by_table (environment_table format) text ds)) (Err (shape_at (behind_word item 0)))
 
 -- the entry in the item of this number
-abbrev pub entry_in : (format n : ℕ) → Data → Result Entry ScriptFault
+abbrev pub entry_in : (format n : ℕ) → Data → Result Entry LocatedFault
 entry_in format n d = ok_or (array_in d) (shape_of (listed_item n)) >>= listed_entry (listed_item n) format
 
 -- the entries of items that are numbered from this one on, or the first fault
-abbrev pub entries_in : (format n : ℕ) → List Data → Result (List Entry) ScriptFault
+abbrev pub entries_in : (format n : ℕ) → List Data → Result (List Entry) LocatedFault
 entries_in format n [] = Ok []
 entries_in format n (d ∷ ds) = entry_in format n d >>= λ x. entries_in format (n + 1) ds >>= λ xs. Ok (x ∷ xs)

@@ -7,7 +7,7 @@ use Rattle.std.specs.Map.{lookup}
 use Rattle.serde_json.specs.Data.{Data}
 use Rattle.serde_json.specs.Find.{as_str, as_number, as_i64}
 use Rattle.ti_types.specs.declared.event.Event.{Event}
-use Rattle.ti_types.specs.declared.event.Event.TheVariants.{Start, Stepped, Poll, ToNative, ToBlocked, Back, End, Ask, Stop, Read, Go, AddCaps, Relinquish, GetCaps, SetEnvWord, GetEnvWord}
+use Rattle.ti_types.specs.declared.event.Event.TheVariants.{Start, Own, Poll, ToNative, ToBlocked, Back, End, Ask, Stop, Read, Go, AddCaps, Relinquish, GetCaps, SetEnvWord, GetEnvWord}
 use Rattle.ti_types.specs.declared.step.Step.TheVariants.{Enter, EnterNative, At, Leave}
 use Rattle.ti_types.specs.declared.call.Call.TheVariants.{State, FrameCount, Trace, Location, Suspend, Resume, GetWord, SetWord, Pop}
 use Rattle.ti_types.specs.declared.state.Kind.{Kind}
@@ -17,7 +17,7 @@ use Rattle.ti_types.specs.Caps.{no_caps, caps_with}
 use Rattle.ti_types.specs.declared.numbers.ThreadNo.{ThreadNo}
 use Rattle.ti_types.specs.declared.numbers.EnvNo.{EnvNo}
 use Rattle.ti_types.specs.declared.numbers.MethodNo.{MethodNo}
-use Rattle.ti_script.specs.declared.fault.ScriptFault.{ScriptFault}
+use Rattle.ti_script.specs.declared.located.LocatedFault.{LocatedFault}
 use Rattle.ti_script.specs.declared.item.Item.{Item}
 use Rattle.ti_script.specs.declared.item.Spot.{Spot}
 use Rattle.ti_script.specs.declared.names.Cast.{Cast}
@@ -28,7 +28,7 @@ use Rattle.ti_script.specs.Spots.{walk_item, subject_of, behind_word, shape_of, 
 
 -- the first fault ends the reading
 infixl 10 ◌>>=◌
-abbrev pub ◌>>=◌ : {A B : Type 0} → Result A ScriptFault → (A → Result B ScriptFault) → Result B ScriptFault
+abbrev pub ◌>>=◌ : {A B : Type 0} → Result A LocatedFault → (A → Result B LocatedFault) → Result B LocatedFault
 (Ok x) >>= f = f x
 (Err e) >>= f = Err e
 
@@ -68,10 +68,10 @@ row elements event = record { elements = elements; event = event }
 abbrev pub thread_table : ThreadNo → List (List ℕ × Row)
 thread_table t =
     (codes "start", row [] (Start t))
-    ∷ (codes "enter", row (method ∷ []) (λ m. Stepped t (Enter m)))
-    ∷ (codes "enter_native", row (method ∷ []) (λ m. Stepped t (EnterNative m)))
-    ∷ (codes "at", row (number ∷ []) (λ p. Stepped t (At p)))
-    ∷ (codes "leave", row [] (Stepped t Leave))
+    ∷ (codes "enter", row (method ∷ []) (λ m. Own t (Enter m)))
+    ∷ (codes "enter_native", row (method ∷ []) (λ m. Own t (EnterNative m)))
+    ∷ (codes "at", row (number ∷ []) (λ p. Own t (At p)))
+    ∷ (codes "leave", row [] (Own t Leave))
     ∷ (codes "poll", row [] (Poll t))
     ∷ (codes "native", row [] (ToNative t))
     ∷ (codes "block", row (kind ∷ []) (λ k. ToBlocked t k))
@@ -152,7 +152,7 @@ caps_named held (text ∷ more) = option_and_then (λ cap. caps_named (caps_with
 
 module _ (cast : Cast) (spot : Spot) where
   -- a text that names something, or the fault if it does not
-  abbrev pub named : {A : Type 0} → (List ℕ → Option A) → ScriptFault → Data → Result A ScriptFault
+  abbrev pub named : {A : Type 0} → (List ℕ → Option A) → LocatedFault → Data → Result A LocatedFault
   named meaning fault d = ok_or (as_str d) (shape_at spot) >>= λ text. ok_or (meaning text) fault
 
   abbrev pub thread_named : List ℕ → Option ThreadNo
@@ -161,11 +161,11 @@ module _ (cast : Cast) (spot : Spot) where
   abbrev pub method_named : List ℕ → Option MethodNo
   method_named text = option_map (λ n. record { 0 = n }) (number_in cast.methods text)
 
-  abbrev pub caps_in : List Data → Result Caps ScriptFault
+  abbrev pub caps_in : List Data → Result Caps LocatedFault
   caps_in ds = if list_all is_text ds then ok_or (caps_named no_caps (map text_in ds)) (name_at spot) else Err (shape_at spot)
 
   -- what an element gives
-  abbrev pub given : (element : Element) → Data → Result (Given element) ScriptFault
+  abbrev pub given : (element : Element) → Data → Result (Given element) LocatedFault
   given thread d = if is_text d then named thread_named (name_at spot) d else ok_or (option_map (λ n. record { 0 = n }) (u32_in d)) (shape_at spot)
   given method d = named method_named (name_at spot) d
   given kind d = named kind_named (shape_at spot) d
@@ -176,26 +176,26 @@ module _ (cast : Cast) (spot : Spot) where
 
 module _ (cast : Cast) (item : Item) where
   -- the event, once each element has given its value, from left to right; the first is this many places after the word
-  abbrev pub filled : (places : ℕ) → (elements : List Element) → Maker elements → List Data → Result Event ScriptFault
+  abbrev pub filled : (places : ℕ) → (elements : List Element) → Maker elements → List Data → Result Event LocatedFault
   filled places [] event ds = Ok event
   filled places (e ∷ es) event [] = Err (shape_of item)
   filled places (e ∷ es) event (d ∷ ds) = given cast (behind_word item places) e d >>= λ x. filled (places + 1) es (event x) ds
 
-  abbrev pub row_event : List Data → Row → Result Event ScriptFault
+  abbrev pub row_event : List Data → Row → Result Event LocatedFault
   row_event ds r = if length ds == length r.elements then filled 1 r.elements r.event ds else Err (shape_of item)
 
-  abbrev pub word_event : List (List ℕ × Row) → List ℕ → List Data → Result Event ScriptFault
+  abbrev pub word_event : List (List ℕ × Row) → List ℕ → List Data → Result Event LocatedFault
   word_event table text ds = ok_or (lookup (bytes_eq text) table) (shape_at (behind_word item 0)) >>= row_event ds
 
-  abbrev pub subject_event : List ℕ → List ℕ → List Data → Result Event ScriptFault
+  abbrev pub subject_event : List ℕ → List ℕ → List Data → Result Event LocatedFault
   subject_event subject text ds =
       ok_or (subject_table cast subject) (name_at (subject_of item)) >>= λ table. word_event table text ds
 
   -- an event: a subject, a word, and the elements of the word's row
-  abbrev pub list_event : List Data → Result Event ScriptFault
+  abbrev pub list_event : List Data → Result Event LocatedFault
   list_event (a ∷ b ∷ ds) = ok_or (as_str a) (shape_at (subject_of item)) >>= λ subject. ok_or (as_str b) (shape_at (behind_word item 0)) >>= λ text. subject_event subject text ds
   list_event ds = Err (shape_of item)
 
 -- the event in the item of this number
-abbrev pub event_in : Cast → ℕ → Data → Result Event ScriptFault
+abbrev pub event_in : Cast → ℕ → Data → Result Event LocatedFault
 event_in cast n d = ok_or (array_in d) (shape_of (walk_item n)) >>= list_event cast (walk_item n)

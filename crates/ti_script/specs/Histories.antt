@@ -6,10 +6,10 @@ use Rattle.serde_json.specs.Data.{Data}
 use Rattle.serde_json.specs.Find.{as_number, as_i64}
 use Rattle.ti_types.specs.declared.entry.Entry.{Entry}
 use Rattle.ti_script.specs.declared.fault.LimitName.TheVariants.{Agents, Entries, Format}
-use Rattle.ti_script.specs.declared.fault.MemberName.{MemberName}
-use Rattle.ti_script.specs.declared.fault.MemberName.TheVariants as member
-use Rattle.ti_script.specs.declared.fault.ScriptFault.{ScriptFault}
-use Rattle.ti_script.specs.declared.fault.ScriptFault.TheVariants.{Limit}
+use Rattle.ti_script.specs.declared.located.MemberName.{MemberName}
+use Rattle.ti_script.specs.declared.located.MemberName.TheVariants as member
+use Rattle.ti_script.specs.declared.located.LocatedFault.{LocatedFault}
+use Rattle.ti_script.specs.declared.located.LocatedFault.TheVariants.{Limit}
 use Rattle.ti_script.specs.declared.history.History.{History}
 use Rattle.ti_script.specs.Tree.{at, elements, whole_in}
 use Rattle.ti_script.specs.Faults.{unless, first_of, member_shape}
@@ -27,7 +27,7 @@ is_whole d = is_some (whole_in d) || is_some (option_and_then as_i64 (as_number 
 abbrev pub format_of : Data → ℕ
 format_of d = unwrap_or (whole_in d) 0
 
-abbrev pub format_fault : Data → Option ScriptFault
+abbrev pub format_fault : Data → Option LocatedFault
 format_fault d = first_of
     (unless (is_whole d) (member_shape member.Format)
     ∷ unless (option_map_or (λ n. n == 1 || n == 2) (whole_in d) false) (Limit Format)
@@ -37,13 +37,13 @@ format_fault d = first_of
 abbrev pub most_agents : (format : ℕ) → ℕ
 most_agents format = if format == 2 then 32 else 8
 
-abbrev pub agents_fault : (format : ℕ) → Data → Option ScriptFault
+abbrev pub agents_fault : (format : ℕ) → Data → Option LocatedFault
 agents_fault format d = first_of
     (unless (is_some (whole_in d)) (member_shape member.Agents)
     ∷ unless (is_within 1 (most_agents format) (unwrap_or (whole_in d) 0)) (Limit Agents)
     ∷ [])
 
-abbrev pub history_head_fault : Data → Option ScriptFault
+abbrev pub history_head_fault : Data → Option LocatedFault
 history_head_fault d = first_of
     (members_fault history_members d
     ∷ format_fault (at (codes "format") d)
@@ -52,11 +52,11 @@ history_head_fault d = first_of
     ∷ items_fault member.Entries Entries 262144 (at (codes "entries") d)
     ∷ [])
 
-abbrev pub entries_of : Data → Result (List Entry) ScriptFault
+abbrev pub entries_of : Data → Result (List Entry) LocatedFault
 entries_of d = entries_in (format_of (at (codes "format") d)) 1 (elements (at (codes "entries") d))
 
 -- the first fault, in the order of the tests
-abbrev pub history_fault : Data → Option ScriptFault
+abbrev pub history_fault : Data → Option LocatedFault
 history_fault d = first_of (history_head_fault d ∷ result_err (entries_of d) ∷ [])
 
 -- the history is what the document says

@@ -6,7 +6,7 @@ use Rattle.ti_script.specs.declared.fault.LimitName.TheVariants as limit
 abbrev pub limit_text : LimitName → List ℕ
 limit_text limit.Input = codes "input"
 limit_text limit.Depth = codes "depth"
-limit_text limit.Stepped = codes "own"
+limit_text limit.Own = codes "own"
 limit_text limit.Calls = codes "calls"
 limit_text limit.Threads = codes "threads"
 limit_text limit.Agents = codes "agents"

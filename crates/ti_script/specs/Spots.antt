@@ -1,8 +1,8 @@
 -- Items and their elements, by their numbers: items are counted from 1, elements from 0.
 use Rattle.std.specs.Prelude.{ℕ, ◌+◌}
-use Rattle.ti_script.specs.declared.fault.Part.TheVariants.{Whole, Element}
-use Rattle.ti_script.specs.declared.fault.ScriptFault.{ScriptFault}
-use Rattle.ti_script.specs.declared.fault.ScriptFault.TheVariants.{Shape, Name}
+use Rattle.ti_script.specs.declared.located.Part.TheVariants.{Whole, Element}
+use Rattle.ti_script.specs.declared.located.LocatedFault.{LocatedFault}
+use Rattle.ti_script.specs.declared.located.LocatedFault.TheVariants.{Shape, Name}
 use Rattle.ti_script.specs.declared.item.Lead.{Lead}
 use Rattle.ti_script.specs.declared.item.Lead.TheVariants.{Subject, Word}
 use Rattle.ti_script.specs.declared.item.Item.{Item}
@@ -28,12 +28,12 @@ abbrev pub behind_word : Item → ℕ → Spot
 behind_word item places = record { item = item.number; element = word_place item.lead + places }
 
 -- the item as a whole is at fault
-abbrev pub shape_of : Item → ScriptFault
+abbrev pub shape_of : Item → LocatedFault
 shape_of item = Shape item.number Whole
 
 -- this element is at fault
-abbrev pub shape_at : Spot → ScriptFault
+abbrev pub shape_at : Spot → LocatedFault
 shape_at spot = Shape spot.item (Element spot.element)
 
-abbrev pub name_at : Spot → ScriptFault
+abbrev pub name_at : Spot → LocatedFault
 name_at spot = Name spot.item (Element spot.element)

@@ -4,9 +4,9 @@ use Rattle.std.specs.Option.{option_map, option_map_or}
 use Rattle.std.specs.List.{list_all}
 use Rattle.serde_json.specs.Data.{Data, null, Items, no_items, item, Members, no_members, member}
 use Rattle.serde_json.specs.Find.{get, as_number, as_u64, as_array, as_object}
-use Rattle.ti_script.specs.declared.fault.MemberName.{MemberName}
-use Rattle.ti_script.specs.declared.fault.Part.{Part}
-use Rattle.ti_script.specs.declared.fault.Part.TheVariants.{Member}
+use Rattle.ti_script.specs.declared.located.MemberName.{MemberName}
+use Rattle.ti_script.specs.declared.located.Part.{Part}
+use Rattle.ti_script.specs.declared.located.Part.TheVariants.{Member}
 use Rattle.ti_script.specs.Members.{key_of}
 
 abbrev pub listed : Items → List Data

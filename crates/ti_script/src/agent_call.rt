@@ -2,8 +2,8 @@
 
 use crate::element::{signed_in, thread_in, u32_in};
 use crate::event::ask_event;
-use crate::fault::ScriptFault;
 use crate::item::{Item, Spot};
+use crate::located::LocatedFault;
 use crate::names::Cast;
 use crate::service_event::env_event;
 use crate::tree::array_in;
@@ -33,7 +33,7 @@ fn one_event(
     agent: EnvNo,
     text: &str,
     rest: &[Value],
-) -> Result<Event, ScriptFault>
+) -> Result<Event, LocatedFault>
     ensures { result ≡ word_event cast.now item (one_table agent) text.now (map view rest.now) }
 {
     match ask_event(cast, item, agent, text, rest) {
@@ -61,7 +61,7 @@ fn threads_given(
     cast: &Cast,
     spot: Spot,
     values: &[Value],
-) -> Result<Listed<ThreadNo>, ScriptFault>
+) -> Result<Listed<ThreadNo>, LocatedFault>
     ensures { Gives (λ threads. threads) result (threads_given cast.now spot (map view values.now)) }
 {
     let mut threads = Listed::with_room(alloc, values.len())?;
@@ -81,7 +81,7 @@ fn threads_in(
     cast: &Cast,
     spot: Spot,
     value: &Value,
-) -> Result<Listed<ThreadNo>, ScriptFault>
+) -> Result<Listed<ThreadNo>, LocatedFault>
     ensures { Gives (λ threads. threads) result (threads_in cast.now spot (view value.now)) }
 {
     let Some(values) = array_in(value) else {
@@ -106,7 +106,7 @@ fn suspend_list(
     cast: &Cast,
     item: Item,
     rest: &[Value],
-) -> Result<AgentCall, ScriptFault>
+) -> Result<AgentCall, LocatedFault>
     ensures { Gives (λ call. call) result (of_threads cast.now item SuspendList (map view rest.now)) }
 {
     match rest {
@@ -126,7 +126,7 @@ fn resume_list(
     cast: &Cast,
     item: Item,
     rest: &[Value],
-) -> Result<AgentCall, ScriptFault>
+) -> Result<AgentCall, LocatedFault>
     ensures { Gives (λ call. call) result (of_threads cast.now item ResumeList (map view rest.now)) }
 {
     match rest {
@@ -141,7 +141,7 @@ fn resume_list(
 }
 
 /// GetAllStackTraces with a greatest count of frames.
-fn all_stacks(cast: &Cast, item: Item, rest: &[Value]) -> Result<AgentCall, ScriptFault>
+fn all_stacks(cast: &Cast, item: Item, rest: &[Value]) -> Result<AgentCall, LocatedFault>
     ensures { Gives (λ call. call) result (of_count cast.now item (map view rest.now)) }
 {
     match rest {
@@ -156,7 +156,7 @@ fn list_stacks(
     cast: &Cast,
     item: Item,
     rest: &[Value],
-) -> Result<AgentCall, ScriptFault>
+) -> Result<AgentCall, LocatedFault>
     ensures { Gives (λ call. call) result (of_both cast.now item (map view rest.now)) }
 {
     match rest {
@@ -177,7 +177,7 @@ fn word_call(
     agent: EnvNo,
     text: &str,
     rest: &[Value],
-) -> Result<AgentCall, ScriptFault>
+) -> Result<AgentCall, LocatedFault>
     ensures { Gives (λ call. call) result (word_call cast.now item agent text.now (map view rest.now)) }
 {
     match text {
@@ -199,7 +199,7 @@ pub(crate) fn call_in(
     number: u32,
     agent: EnvNo,
     value: &Value,
-) -> Result<AgentCall, ScriptFault>
+) -> Result<AgentCall, LocatedFault>
     ensures { Gives (λ call. call) result (call_in cast.now number agent (view value.now)) }
 {
     let item = Item::of_list(number);

@@ -1,8 +1,8 @@
 //! Reads single elements of a document: numbers, names and words.
 
-use crate::fault::ScriptFault;
 use crate::head::are_texts;
 use crate::item::Spot;
+use crate::located::LocatedFault;
 use crate::names::Cast;
 use crate::tree::array_in;
 use serde_json::Value;
@@ -60,7 +60,7 @@ fn cap_named(text: &str) -> Option<Caps>
 }
 
 /// A thread, by its name or as a number of 32 bits. `Name` for a text that names no thread, and `Shape` for other values.
-pub(crate) fn thread_in(cast: &Cast, spot: Spot, value: &Value) -> Result<ThreadNo, ScriptFault>
+pub(crate) fn thread_in(cast: &Cast, spot: Spot, value: &Value) -> Result<ThreadNo, LocatedFault>
     ensures { result ≡ given cast.now spot thread (view value.now) }
 {
     if let Some(text) = value.as_str() {
@@ -76,7 +76,7 @@ pub(crate) fn thread_in(cast: &Cast, spot: Spot, value: &Value) -> Result<Thread
 }
 
 /// A method, by its name. `Shape` if it is no text, and `Name` if no method has this name.
-pub(crate) fn method_in(cast: &Cast, spot: Spot, value: &Value) -> Result<MethodNo, ScriptFault>
+pub(crate) fn method_in(cast: &Cast, spot: Spot, value: &Value) -> Result<MethodNo, LocatedFault>
     ensures { result ≡ given cast.now spot method (view value.now) }
 {
     let Some(text) = value.as_str() else {
@@ -89,7 +89,7 @@ pub(crate) fn method_in(cast: &Cast, spot: Spot, value: &Value) -> Result<Method
 }
 
 /// A kind of block. `Shape` if it is no text, or if there is no such kind.
-pub(crate) fn kind_in(cast: &Cast, spot: Spot, value: &Value) -> Result<Kind, ScriptFault>
+pub(crate) fn kind_in(cast: &Cast, spot: Spot, value: &Value) -> Result<Kind, LocatedFault>
     ensures { result ≡ given cast.now spot kind (view value.now) }
 {
     let _ = cast;
@@ -100,21 +100,21 @@ pub(crate) fn kind_in(cast: &Cast, spot: Spot, value: &Value) -> Result<Kind, Sc
 }
 
 /// A whole number from 0 to 2^32 - 1. `Shape` for other values.
-pub(crate) fn number_in(spot: Spot, value: &Value) -> Result<u32, ScriptFault>
+pub(crate) fn number_in(spot: Spot, value: &Value) -> Result<u32, LocatedFault>
     ensures { result ≡ ok_or (u32_in (view value.now)) (shape_at spot) }
 {
     u32_in(value).ok_or(spot.shape())
 }
 
 /// A whole number from -2^31 to 2^31 - 1. `Shape` for other values.
-pub(crate) fn signed_in(spot: Spot, value: &Value) -> Result<i32, ScriptFault>
+pub(crate) fn signed_in(spot: Spot, value: &Value) -> Result<i32, LocatedFault>
     ensures { result ≡ ok_or (i32_in (view value.now)) (shape_at spot) }
 {
     i32_in(value).ok_or(spot.shape())
 }
 
 /// A whole number from 0 to 2^64 - 1. `Shape` for other values.
-pub(crate) fn word_in(cast: &Cast, spot: Spot, value: &Value) -> Result<u64, ScriptFault>
+pub(crate) fn word_in(cast: &Cast, spot: Spot, value: &Value) -> Result<u64, LocatedFault>
     ensures { result ≡ given cast.now spot word (view value.now) }
 {
     let _ = cast;
@@ -123,7 +123,7 @@ pub(crate) fn word_in(cast: &Cast, spot: Spot, value: &Value) -> Result<u64, Scr
 
 /// The capabilities of these names. `Shape` if one is no text, and then `Name` if one is no capability.
 #[tactic(auto, using(crate::proofs::TreeLaws::list_all_views))]
-fn caps_in(cast: &Cast, spot: Spot, values: &[Value]) -> Result<Caps, ScriptFault>
+fn caps_in(cast: &Cast, spot: Spot, values: &[Value]) -> Result<Caps, LocatedFault>
     ensures { result ≡ caps_in cast.now spot (map view values.now) }
 {
     let _ = cast;
@@ -146,7 +146,7 @@ fn caps_named(values: &[Value]) -> Option<Caps>
 }
 
 /// An array of capabilities. `Shape` if it is no array of texts, and then `Name` if one of them is no capability.
-pub(crate) fn caps_of(cast: &Cast, spot: Spot, value: &Value) -> Result<Caps, ScriptFault>
+pub(crate) fn caps_of(cast: &Cast, spot: Spot, value: &Value) -> Result<Caps, LocatedFault>
     ensures { result ≡ given cast.now spot caps (view value.now) }
 {
     let Some(values) = array_in(value) else {

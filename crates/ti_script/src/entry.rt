@@ -1,8 +1,8 @@
 //! Reads an entry of a history.
 
 use crate::element::{kind_named, number_in, signed_in, u32_in};
-use crate::fault::ScriptFault;
 use crate::item::{Item, Spot};
+use crate::located::LocatedFault;
 use crate::tree::array_in;
 use serde_json::Value;
 use ti_types::{Call, Entry, EnvNo, MethodNo, Safe, Step};
@@ -36,21 +36,21 @@ fn safe_in(value: &Value) -> Option<Safe>
 }
 
 /// The environment that an element means. `Shape` if it is no whole number of 32 bits.
-fn env_at(spot: Spot, value: &Value) -> Result<EnvNo, ScriptFault>
+fn env_at(spot: Spot, value: &Value) -> Result<EnvNo, LocatedFault>
     ensures { result ≡ ok_or (env_in (view value.now)) (shape_at spot) }
 {
     env_in(value).ok_or(spot.shape())
 }
 
 /// The method that an element means. `Shape` if it is no whole number of 32 bits.
-fn method_at(spot: Spot, value: &Value) -> Result<MethodNo, ScriptFault>
+fn method_at(spot: Spot, value: &Value) -> Result<MethodNo, LocatedFault>
     ensures { result ≡ ok_or (number_of_method (view value.now)) (shape_at spot) }
 {
     number_of_method(value).ok_or(spot.shape())
 }
 
 /// An entry with nothing after its word.
-fn plain_entry(item: Item, entry: Entry, rest: &[Value]) -> Result<Entry, ScriptFault>
+fn plain_entry(item: Item, entry: Entry, rest: &[Value]) -> Result<Entry, LocatedFault>
     ensures { result ≡ none item entry (map view rest.now) }
 {
     match rest {
@@ -59,43 +59,43 @@ fn plain_entry(item: Item, entry: Entry, rest: &[Value]) -> Result<Entry, Script
     }
 }
 
-fn enter_entry(item: Item, rest: &[Value]) -> Result<Entry, ScriptFault>
-    ensures { result ≡ one item 1 number_of_method (λ m. Stepped (Enter m)) (map view rest.now) }
+fn enter_entry(item: Item, rest: &[Value]) -> Result<Entry, LocatedFault>
+    ensures { result ≡ one item 1 number_of_method (λ m. Own (Enter m)) (map view rest.now) }
 {
     match rest {
         [method] => {
             let method = method_at(item.behind_word(1), method)?;
-            Ok(Entry::Stepped(Step::Enter(method)))
+            Ok(Entry::Own(Step::Enter(method)))
         }
         _ => Err(item.shape()),
     }
 }
 
-fn enter_native_entry(item: Item, rest: &[Value]) -> Result<Entry, ScriptFault>
-    ensures { result ≡ one item 1 number_of_method (λ m. Stepped (EnterNative m)) (map view rest.now) }
+fn enter_native_entry(item: Item, rest: &[Value]) -> Result<Entry, LocatedFault>
+    ensures { result ≡ one item 1 number_of_method (λ m. Own (EnterNative m)) (map view rest.now) }
 {
     match rest {
         [method] => {
             let method = method_at(item.behind_word(1), method)?;
-            Ok(Entry::Stepped(Step::EnterNative(method)))
+            Ok(Entry::Own(Step::EnterNative(method)))
         }
         _ => Err(item.shape()),
     }
 }
 
-fn at_entry(item: Item, rest: &[Value]) -> Result<Entry, ScriptFault>
-    ensures { result ≡ one item 1 u32_in (λ p. Stepped (At p)) (map view rest.now) }
+fn at_entry(item: Item, rest: &[Value]) -> Result<Entry, LocatedFault>
+    ensures { result ≡ one item 1 u32_in (λ p. Own (At p)) (map view rest.now) }
 {
     match rest {
         [place] => {
             let place = number_in(item.behind_word(1), place)?;
-            Ok(Entry::Stepped(Step::At(place)))
+            Ok(Entry::Own(Step::At(place)))
         }
         _ => Err(item.shape()),
     }
 }
 
-fn hand_entry(item: Item, rest: &[Value]) -> Result<Entry, ScriptFault>
+fn hand_entry(item: Item, rest: &[Value]) -> Result<Entry, LocatedFault>
     ensures { result ≡ one item 1 safe_in Hand (map view rest.now) }
 {
     match rest {
@@ -108,7 +108,7 @@ fn hand_entry(item: Item, rest: &[Value]) -> Result<Entry, ScriptFault>
 }
 
 /// An entry of the thread itself. `None` if the word is none of these.
-fn own_entry(item: Item, text: &str, rest: &[Value]) -> Option<Result<Entry, ScriptFault>>
+fn own_entry(item: Item, text: &str, rest: &[Value]) -> Option<Result<Entry, LocatedFault>>
     ensures { result ≡ by_table (own_table item) text.now (map view rest.now) }
 {
     match text {
@@ -118,14 +118,14 @@ fn own_entry(item: Item, text: &str, rest: &[Value]) -> Option<Result<Entry, Scr
         "enter" => Some(enter_entry(item, rest)),
         "enter_native" => Some(enter_native_entry(item, rest)),
         "at" => Some(at_entry(item, rest)),
-        "leave" => Some(plain_entry(item, Entry::Stepped(Step::Leave), rest)),
+        "leave" => Some(plain_entry(item, Entry::Own(Step::Leave), rest)),
         "hand" => Some(hand_entry(item, rest)),
         _ => None,
     }
 }
 
 /// A call with nothing after its word.
-fn plain_call(item: Item, call: Call, rest: &[Value]) -> Result<Call, ScriptFault>
+fn plain_call(item: Item, call: Call, rest: &[Value]) -> Result<Call, LocatedFault>
     ensures { result ≡ none item call (map view rest.now) }
 {
     match rest {
@@ -134,7 +134,7 @@ fn plain_call(item: Item, call: Call, rest: &[Value]) -> Result<Call, ScriptFaul
     }
 }
 
-fn trace_call(item: Item, rest: &[Value]) -> Result<Call, ScriptFault>
+fn trace_call(item: Item, rest: &[Value]) -> Result<Call, LocatedFault>
     ensures { result ≡ two item 4 i32_in i32_in Trace (map view rest.now) }
 {
     match rest {
@@ -147,7 +147,7 @@ fn trace_call(item: Item, rest: &[Value]) -> Result<Call, ScriptFault>
     }
 }
 
-fn location_call(item: Item, rest: &[Value]) -> Result<Call, ScriptFault>
+fn location_call(item: Item, rest: &[Value]) -> Result<Call, LocatedFault>
     ensures { result ≡ one item 4 i32_in Location (map view rest.now) }
 {
     match rest {
@@ -159,7 +159,7 @@ fn location_call(item: Item, rest: &[Value]) -> Result<Call, ScriptFault>
     }
 }
 
-fn set_call(item: Item, rest: &[Value]) -> Result<Call, ScriptFault>
+fn set_call(item: Item, rest: &[Value]) -> Result<Call, LocatedFault>
     ensures { result ≡ one item 4 whole_in SetWord (map view rest.now) }
 {
     match rest {
@@ -172,7 +172,7 @@ fn set_call(item: Item, rest: &[Value]) -> Result<Call, ScriptFault>
 }
 
 /// A call of both formats. `None` if the word is none of these.
-fn call_of(item: Item, text: &str, rest: &[Value]) -> Option<Result<Call, ScriptFault>>
+fn call_of(item: Item, text: &str, rest: &[Value]) -> Option<Result<Call, LocatedFault>>
     ensures { result ≡ by_table (call_table item) text.now (map view rest.now) }
 {
     match text {
@@ -189,7 +189,7 @@ fn call_of(item: Item, text: &str, rest: &[Value]) -> Option<Result<Call, Script
 }
 
 /// A call of format 2 alone. `None` if the word is none of these.
-fn later_call_of(item: Item, text: &str, rest: &[Value]) -> Option<Result<Call, ScriptFault>>
+fn later_call_of(item: Item, text: &str, rest: &[Value]) -> Option<Result<Call, LocatedFault>>
     ensures { result ≡ by_table (later_call_table item) text.now (map view rest.now) }
 {
     match text {
@@ -204,7 +204,7 @@ fn call_of_format(
     item: Item,
     text: &str,
     rest: &[Value],
-) -> Option<Result<Call, ScriptFault>>
+) -> Option<Result<Call, LocatedFault>>
     ensures { result ≡ option_or (by_table (call_table item) text.now (map view rest.now)) (if format == 2 then by_table (later_call_table item) text.now (map view rest.now) else None) }
 {
     match call_of(item, text, rest) {
@@ -218,7 +218,7 @@ fn call_of_format(
 }
 
 /// A call in a document of this format. `Shape` if the format has no such word.
-fn call_in(format: u64, item: Item, text: &str, rest: &[Value]) -> Result<Call, ScriptFault>
+fn call_in(format: u64, item: Item, text: &str, rest: &[Value]) -> Result<Call, LocatedFault>
     ensures { result ≡ call_in item format text.now (map view rest.now) }
 {
     match call_of_format(format, item, text, rest) {
@@ -228,7 +228,7 @@ fn call_in(format: u64, item: Item, text: &str, rest: &[Value]) -> Result<Call, 
 }
 
 /// What comes after `asked`: an environment, the number of its call, and the call.
-fn asked(format: u64, item: Item, rest: &[Value]) -> Result<Entry, ScriptFault>
+fn asked(format: u64, item: Item, rest: &[Value]) -> Result<Entry, LocatedFault>
     ensures { result ≡ asked item format (map view rest.now) }
 {
     let [env, number, text, rest @ ..] = rest else {
@@ -243,7 +243,7 @@ fn asked(format: u64, item: Item, rest: &[Value]) -> Result<Entry, ScriptFault>
     Ok(Entry::Asked(env, u64::from(number), call))
 }
 
-fn stop_entry(item: Item, rest: &[Value]) -> Result<Entry, ScriptFault>
+fn stop_entry(item: Item, rest: &[Value]) -> Result<Entry, LocatedFault>
     ensures { result ≡ one item 1 env_in Stop (map view rest.now) }
 {
     match rest {
@@ -252,7 +252,7 @@ fn stop_entry(item: Item, rest: &[Value]) -> Result<Entry, ScriptFault>
     }
 }
 
-fn read_entry(item: Item, rest: &[Value]) -> Result<Entry, ScriptFault>
+fn read_entry(item: Item, rest: &[Value]) -> Result<Entry, LocatedFault>
     ensures { result ≡ two item 1 env_in i32_in Read (map view rest.now) }
 {
     match rest {
@@ -265,7 +265,7 @@ fn read_entry(item: Item, rest: &[Value]) -> Result<Entry, ScriptFault>
     }
 }
 
-fn go_entry(item: Item, rest: &[Value]) -> Result<Entry, ScriptFault>
+fn go_entry(item: Item, rest: &[Value]) -> Result<Entry, LocatedFault>
     ensures { result ≡ one item 1 env_in Go (map view rest.now) }
 {
     match rest {
@@ -280,7 +280,7 @@ fn environment_entry(
     item: Item,
     text: &str,
     rest: &[Value],
-) -> Option<Result<Entry, ScriptFault>>
+) -> Option<Result<Entry, LocatedFault>>
     ensures { result ≡ by_table (environment_table item format) text.now (map view rest.now) }
 {
     match text {
@@ -298,7 +298,7 @@ fn word_entry(
     item: Item,
     text: &str,
     rest: &[Value],
-) -> Option<Result<Entry, ScriptFault>>
+) -> Option<Result<Entry, LocatedFault>>
     ensures { result ≡ option_or (by_table (own_table item) text.now (map view rest.now)) (by_table (environment_table item format) text.now (map view rest.now)) }
 {
     match own_entry(item, text, rest) {
@@ -308,7 +308,7 @@ fn word_entry(
 }
 
 /// The entry in the item of this number, in a document of this format.
-pub(crate) fn entry_in(format: u64, number: u32, value: &Value) -> Result<Entry, ScriptFault>
+pub(crate) fn entry_in(format: u64, number: u32, value: &Value) -> Result<Entry, LocatedFault>
     ensures { result ≡ entry_in format number (view value.now) }
 {
     let item = Item::of_list(number);
@@ -329,7 +329,7 @@ ghost use Rattle.std.specs.Option.{ok_or, option_or};
 ghost use Rattle.serde_json.specs.View.{view};
 ghost use Rattle.ti_types.specs.declared.step.Step.TheVariants.{Enter, EnterNative, At};
 ghost use Rattle.ti_types.specs.declared.call.Call.TheVariants.{Trace, Location, SetWord};
-ghost use Rattle.ti_types.specs.declared.entry.Entry.TheVariants.{Stepped, Hand, Stop, Read, Go};
+ghost use Rattle.ti_types.specs.declared.entry.Entry.TheVariants.{Own, Hand, Stop, Read, Go};
 ghost use Rattle.ti_script.specs.Spots.{shape_at};
 ghost use Rattle.ti_script.specs.Tree.{whole_in};
 ghost use Rattle.ti_script.specs.Events.{u32_in, i32_in};

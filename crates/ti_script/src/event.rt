@@ -1,8 +1,8 @@
 //! Reads an event of a walk.
 
 use crate::element::{signed_in, thread_in, word_in};
-use crate::fault::ScriptFault;
 use crate::item::Item;
+use crate::located::LocatedFault;
 use crate::names::Cast;
 use crate::service_event::service_event;
 use crate::thread_event::thread_event;
@@ -17,7 +17,7 @@ fn plain_ask(
     agent: EnvNo,
     call: Call,
     rest: &[Value],
-) -> Result<Event, ScriptFault>
+) -> Result<Event, LocatedFault>
     ensures { result ≡ row_event cast.now item (map view rest.now) (row (thread ∷ []) (λ t. Ask agent t call)) }
 {
     match rest {
@@ -26,7 +26,7 @@ fn plain_ask(
     }
 }
 
-fn trace_ask(cast: &Cast, item: Item, agent: EnvNo, rest: &[Value]) -> Result<Event, ScriptFault>
+fn trace_ask(cast: &Cast, item: Item, agent: EnvNo, rest: &[Value]) -> Result<Event, LocatedFault>
     ensures { result ≡ row_event cast.now item (map view rest.now) (row (thread ∷ signed ∷ signed ∷ []) (λ t s n. Ask agent t (Trace s n))) }
 {
     match rest {
@@ -40,7 +40,12 @@ fn trace_ask(cast: &Cast, item: Item, agent: EnvNo, rest: &[Value]) -> Result<Ev
     }
 }
 
-fn location_ask(cast: &Cast, item: Item, agent: EnvNo, rest: &[Value]) -> Result<Event, ScriptFault>
+fn location_ask(
+    cast: &Cast,
+    item: Item,
+    agent: EnvNo,
+    rest: &[Value],
+) -> Result<Event, LocatedFault>
     ensures { result ≡ row_event cast.now item (map view rest.now) (row (thread ∷ signed ∷ []) (λ t d. Ask agent t (Location d))) }
 {
     match rest {
@@ -53,7 +58,7 @@ fn location_ask(cast: &Cast, item: Item, agent: EnvNo, rest: &[Value]) -> Result
     }
 }
 
-fn set_ask(cast: &Cast, item: Item, agent: EnvNo, rest: &[Value]) -> Result<Event, ScriptFault>
+fn set_ask(cast: &Cast, item: Item, agent: EnvNo, rest: &[Value]) -> Result<Event, LocatedFault>
     ensures { result ≡ row_event cast.now item (map view rest.now) (row (thread ∷ word ∷ []) (λ t w. Ask agent t (SetWord w))) }
 {
     match rest {
@@ -73,7 +78,7 @@ pub(crate) fn ask_event(
     agent: EnvNo,
     text: &str,
     rest: &[Value],
-) -> Option<Result<Event, ScriptFault>>
+) -> Option<Result<Event, LocatedFault>>
     ensures { result ≡ option_map (row_event cast.now item (map view rest.now)) (lookup (bytes_eq text.now) (ask_table agent)) }
 {
     match text {
@@ -96,7 +101,7 @@ fn agent_event(
     agent: EnvNo,
     text: &str,
     rest: &[Value],
-) -> Result<Event, ScriptFault>
+) -> Result<Event, LocatedFault>
     ensures { result ≡ word_event cast.now item (agent_table agent) text.now (map view rest.now) }
 {
     match ask_event(cast, item, agent, text, rest) {
@@ -106,7 +111,7 @@ fn agent_event(
 }
 
 /// The event in the item of this number: a subject, a word, and what comes after the word.
-pub(crate) fn event_in(cast: &Cast, number: u32, value: &Value) -> Result<Event, ScriptFault>
+pub(crate) fn event_in(cast: &Cast, number: u32, value: &Value) -> Result<Event, LocatedFault>
     ensures { result ≡ event_in cast.now number (view value.now) }
 {
     let item = Item::of_walk(number);

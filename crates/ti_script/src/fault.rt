@@ -1,6 +1,5 @@
 //! What is wrong with a document.
 
-use std::alloc::{AllocError, AllocFailed};
 use std::fmt;
 use thiserror::Error;
 
@@ -10,7 +9,7 @@ use thiserror::Error;
 pub enum LimitName {
     Input,
     Depth,
-    Stepped,
+    Own,
     Calls,
     Threads,
     Agents,
@@ -30,7 +29,7 @@ impl LimitName {
         match self {
             LimitName::Input => "input",
             LimitName::Depth => "depth",
-            LimitName::Stepped => "own",
+            LimitName::Own => "own",
             LimitName::Calls => "calls",
             LimitName::Threads => "threads",
             LimitName::Agents => "agents",
@@ -55,88 +54,8 @@ impl fmt::Display for LimitName {
     }
 }
 
-/// A member of a document's head. `CallLimit` is the member `calls` of `limits`, and `Calls` is that of a live script.
-#[derive(Clone, Copy, Debug, PartialEq, Eq)]
-pub enum MemberName {
-    Format,
-    Limits,
-    Depth,
-    Stepped,
-    CallLimit,
-    Threads,
-    Agents,
-    Methods,
-    Events,
-    Walks,
-    Calls,
-    Entries,
-}
-
-impl MemberName {
-    /// The member's name in the object that has it.
-    pub fn key(self) -> &'static str
-        ensures { result.now ≡ key_of self }
-    {
-        match self {
-            MemberName::Format => "format",
-            MemberName::Limits => "limits",
-            MemberName::Depth => "depth",
-            MemberName::Stepped => "own",
-            MemberName::CallLimit | MemberName::Calls => "calls",
-            MemberName::Threads => "threads",
-            MemberName::Agents => "agents",
-            MemberName::Methods => "methods",
-            MemberName::Events => "events",
-            MemberName::Walks => "walks",
-            MemberName::Entries => "entries",
-        }
-    }
-
-    /// The path to the member from the document: its name, with `limits.` before it if it is a member of `limits`.
-    pub fn text(self) -> &'static str
-        ensures { result.now ≡ member_text self }
-    {
-        match self {
-            MemberName::Format => "format",
-            MemberName::Limits => "limits",
-            MemberName::Depth => "limits.depth",
-            MemberName::Stepped => "limits.own",
-            MemberName::CallLimit => "limits.calls",
-            MemberName::Threads => "threads",
-            MemberName::Agents => "agents",
-            MemberName::Methods => "methods",
-            MemberName::Events => "events",
-            MemberName::Walks => "walks",
-            MemberName::Calls => "calls",
-            MemberName::Entries => "entries",
-        }
-    }
-}
-
-impl fmt::Display for MemberName {
-    ghost use Rattle.std.specs.Prelude.{Some};
-    ghost use Rattle.ti_script.specs.Members.{member_text};
-
-    ghost output = { λ which. Some (member_text which) };
-
-    fn fmt<W: fmt::Write>(&self, f: &mut fmt::Formatter<W>) -> fmt::Result {
-        f.write_str(self.text())
-    }
-}
-
-/// The part of an item that is at fault.
-#[derive(Clone, Copy, Debug, PartialEq, Eq)]
-pub enum Part {
-    /// No single part. The item is no array or no object, or has too many parts or too few.
-    Whole,
-    /// A member of the head: it is missing, or has a wrong shape or a wrong name in it.
-    Member(MemberName),
-    /// An element of the item, counted from 0.
-    Element(u32),
-}
-
 /// Why a document is no script: its first fault, in the order in which documents are examined. Items are numbered from 1,
-/// and item 0 is the head. `part` is the member or the element that is at fault. Source: this profile.
+/// and item 0 is the head. `LocatedFault` also has the part of the item that is at fault. Source: this profile.
 #[derive(Clone, Copy, Debug, PartialEq, Eq, Error)]
 pub enum ScriptFault {
     /// The bytes are not UTF-8, or no JSON text.
@@ -144,10 +63,10 @@ pub enum ScriptFault {
     Json,
     /// A wrong kind of value, a wrong number of elements, an unknown word, or a number out of its range.
     #[error("item {item} has the wrong shape")]
-    Shape { item: u32, part: Part },
+    Shape { item: u32 },
     /// A name that is malformed, given twice, or not declared where it is looked up.
     #[error("item {item} has a wrong name")]
-    Name { item: u32, part: Part },
+    Name { item: u32 },
     /// A number or a count that is out of its limit.
     #[error("the limit {which} is passed")]
     Limit { which: LimitName },
@@ -156,51 +75,5 @@ pub enum ScriptFault {
     Memory,
 }
 
-impl ScriptFault {
-    /// The fault that a member of the head has the wrong shape, or is missing.
-    pub(crate) fn in_shape_of(member: MemberName) -> Self
-        ensures { result ≡ member_shape member }
-    {
-        ScriptFault::Shape {
-            item: 0,
-            part: Part::Member(member),
-        }
-    }
-
-    /// The fault that a member of the head has a wrong name in it.
-    pub(crate) fn in_names_of(member: MemberName) -> Self
-        ensures { result ≡ member_name member }
-    {
-        ScriptFault::Name {
-            item: 0,
-            part: Part::Member(member),
-        }
-    }
-}
-
-impl From<AllocError> for ScriptFault {
-    ghost use Rattle.std.specs.Prelude.{◌≡◌};
-    ghost use Rattle.ti_script.specs.declared.fault.ScriptFault.TheVariants.{Memory};
-
-    ghost from_gives = { λ _ e. e ≡ Memory };
-
-    fn from(_refused: AllocError) -> ScriptFault {
-        ScriptFault::Memory
-    }
-}
-
-impl<T: Drop> From<AllocFailed<T>> for ScriptFault {
-    ghost use Rattle.std.specs.Prelude.{◌≡◌};
-    ghost use Rattle.ti_script.specs.declared.fault.ScriptFault.TheVariants.{Memory};
-
-    ghost from_gives = { λ _ e. e ≡ Memory };
-
-    fn from(_refused: AllocFailed<T>) -> ScriptFault {
-        ScriptFault::Memory
-    }
-}
-
 ghost use Rattle.std.specs.Prelude.{◌≡◌};
 ghost use Rattle.ti_script.specs.LimitNames.{limit_text};
-ghost use Rattle.ti_script.specs.Members.{key_of, member_text};
-ghost use Rattle.ti_script.specs.Faults.{member_shape, member_name};

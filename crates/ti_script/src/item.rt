@@ -1,6 +1,6 @@
 //! Items and their elements, by their numbers.
 
-use crate::fault::{Part, ScriptFault};
+use crate::located::{LocatedFault, Part};
 
 /// What an item begins with. An event of a walk begins with its subject, and any other item with its word.
 #[derive(Clone, Copy)]
@@ -45,10 +45,10 @@ impl Item {
     }
 
     /// The fault that the item as a whole has the wrong shape.
-    pub(crate) fn shape(self) -> ScriptFault
+    pub(crate) fn shape(self) -> LocatedFault
         ensures { result ≡ shape_of self }
     {
-        ScriptFault::Shape {
+        LocatedFault::Shape {
             item: self.number,
             part: Part::Whole,
         }
@@ -95,20 +95,20 @@ impl Item {
 
 impl Spot {
     /// The fault that the element has the wrong shape.
-    pub(crate) fn shape(self) -> ScriptFault
+    pub(crate) fn shape(self) -> LocatedFault
         ensures { result ≡ shape_at self }
     {
-        ScriptFault::Shape {
+        LocatedFault::Shape {
             item: self.item,
             part: Part::Element(self.element),
         }
     }
 
     /// The fault that the element has a wrong name.
-    pub(crate) fn name(self) -> ScriptFault
+    pub(crate) fn name(self) -> LocatedFault
         ensures { result ≡ name_at self }
     {
-        ScriptFault::Name {
+        LocatedFault::Name {
             item: self.item,
             part: Part::Element(self.element),
         }

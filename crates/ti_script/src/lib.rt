@@ -6,6 +6,7 @@
 //! - `read_walk` gives what `specs/Walks.antt` says of the tree. Otherwise it gives the first fault, in the order of
 //!   `specs/Head.antt` and then `specs/Events.antt`.
 //! - `read_live` does the same by `specs/Lives.antt`, and `read_history` by `specs/Histories.antt`.
+//! - `locate_walk`, `locate_live` and `locate_history` give the same, and the fault with the part at fault.
 //! - The text functions give the texts of `specs/Texts.antt` and `specs/LiveTexts.antt`, byte for byte.
 #![tactic(auto)]
 
@@ -24,6 +25,7 @@ mod live;
 mod live_bound;
 mod live_document;
 mod live_text;
+mod located;
 mod names;
 mod operation;
 mod service_event;
@@ -34,17 +36,18 @@ mod walk;
 mod walk_document;
 
 pub use bound::line_bound;
-pub use fault::{LimitName, MemberName, Part, ScriptFault};
+pub use fault::{LimitName, ScriptFault};
 pub use history::{EntryList, History};
-pub use history_document::read_history;
+pub use history_document::{locate_history, read_history};
 pub use live::Live;
 pub use live_bound::{reply_bound, thread_line_bound};
-pub use live_document::read_live;
+pub use live_document::{locate_live, read_live};
 pub use live_text::{
     agents_text, refusal_line, replies_text, reply_line, reply_text, thread_text, verdict_line,
 };
+pub use located::{LocatedFault, MemberName, Part};
 pub use names::{Cast, Names};
 pub use text::{line_text, outcome_text};
 pub use ti_live::Reply;
 pub use walk::{EventList, Walk};
-pub use walk_document::read_walk;
+pub use walk_document::{locate_walk, read_walk};

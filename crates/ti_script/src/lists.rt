@@ -1,7 +1,7 @@
 //! Reads the operations of one thread, and the calls of one agent.
 
 use crate::agent_call::call_in;
-use crate::fault::ScriptFault;
+use crate::located::LocatedFault;
 use crate::names::Cast;
 use crate::operation::operation_in;
 use serde_json::Value;
@@ -16,7 +16,7 @@ pub(crate) fn operations_in(
     thread: ThreadNo,
     first: u32,
     values: &[Value],
-) -> Result<Listed<Event>, ScriptFault>
+) -> Result<Listed<Event>, LocatedFault>
     requires { first + length values.now < 2 ^ 32 }
     ensures { Gives (λ events. events) result (operations_in cast.now thread first (map view values.now)) }
 {
@@ -37,7 +37,7 @@ pub(crate) fn calls_of_one(
     agent: EnvNo,
     first: u32,
     values: &[Value],
-) -> Result<Listed<AgentCall>, ScriptFault>
+) -> Result<Listed<AgentCall>, LocatedFault>
     requires { first + length values.now < 2 ^ 32 }
     ensures { Gives (λ calls. calls) result (calls_of_one cast.now agent first (map view values.now)) }
 {

@@ -1,8 +1,9 @@
 //! Reads a live script from its bytes.
 
-use crate::fault::{LimitName, MemberName, ScriptFault};
+use crate::fault::{LimitName, ScriptFault};
 use crate::lists::{calls_of_one, operations_in};
 use crate::live::Live;
+use crate::located::{LocatedFault, MemberName};
 use crate::names::Cast;
 use crate::tree::{array_in, drop_live, tree_of};
 use crate::walk_document::{bounds_at, cast_in, check_members, member};
@@ -22,7 +23,7 @@ fn elements(value: &Value) -> &[Value]
 }
 
 /// How many elements these arrays have in all. `Limit` if there are more than 65,536.
-fn items_in_all(values: &[Value], which: LimitName) -> Result<u32, ScriptFault>
+fn items_in_all(values: &[Value], which: LimitName) -> Result<u32, LocatedFault>
     ensures read { Reads (λ n. n) result (unless (is_within 0 65536 (count_in_all (map view values.now))) (Limit which)) (count_in_all (map view values.now)) }
     ensures few { IfOk result (λ n. n ≤ 65536) }
 {
@@ -30,7 +31,7 @@ fn items_in_all(values: &[Value], which: LimitName) -> Result<u32, ScriptFault>
     for value in values {
         let here = elements(value).len();
         if here > 65536 - count as usize {
-            return Err(ScriptFault::Limit { which });
+            return Err(LocatedFault::Limit { which });
         }
         count += here as u32;
     }
@@ -42,7 +43,7 @@ fn walks_in(
     alloc: Global,
     cast: &Cast,
     values: &[Value],
-) -> Result<Listed<Listed<Event>>, ScriptFault>
+) -> Result<Listed<Listed<Event>>, LocatedFault>
     requires few { count_in_all (map view values.now) ≤ 65536 }
     requires threads { length values.now ≤ 64 }
     ensures { Gives (λ walks. walks) result (walks_in cast.now 0 1 (map view values.now)) }
@@ -66,7 +67,7 @@ fn calls_in(
     cast: &Cast,
     first: u32,
     values: &[Value],
-) -> Result<Listed<Listed<AgentCall>>, ScriptFault>
+) -> Result<Listed<Listed<AgentCall>>, LocatedFault>
     requires few { count_in_all (map view values.now) ≤ 65536 }
     requires first { first ≤ 65537 }
     requires agents { length values.now ≤ 64 }
@@ -109,13 +110,13 @@ fn lists_at<'a>(
     value: &'a Value,
     which: MemberName,
     count: usize,
-) -> Result<&'a [Value], ScriptFault>
+) -> Result<&'a [Value], LocatedFault>
     ensures read { Reads (λ lists. map view lists.now) result (unless (are_lists count (at (key_of which) (view value.now))) (member_shape which)) (elements (at (key_of which) (view value.now))) }
     ensures count { IfOk result (λ lists. length lists.now ≡ count) }
 {
     let lists = member(value, which)?;
     if !are_lists(lists, count) {
-        return Err(ScriptFault::in_shape_of(which));
+        return Err(LocatedFault::in_shape_of(which));
     }
     Ok(elements(lists))
 }
@@ -130,7 +131,7 @@ struct Lists<'a> {
 
 /// The lists of operations and of calls. `Shape` if there is not one for each thread and each agent. Then `Limit` if there
 /// are more than 65,536 operations or calls in all.
-fn lists_in<'a>(cast: &Cast, value: &'a Value) -> Result<Lists<'a>, ScriptFault>
+fn lists_in<'a>(cast: &Cast, value: &'a Value) -> Result<Lists<'a>, LocatedFault>
     ensures read { Reads {Y = List Data × List Data} (λ l. (map view l.walks.now, map view l.calls.now)) result (lists_fault cast.now (view value.now)) (elements (at (codes "walks") (view value.now)), elements (at (codes "calls") (view value.now))) }
     ensures counts { IfOk result (λ l. (length l.walks.now ≡ length cast.now.threads) × (length l.calls.now ≡ length cast.now.agents)) }
     ensures few { IfOk result (λ l. (count_in_all (map view l.walks.now) ≤ 65536) × (count_in_all (map view l.calls.now) ≤ 65536)) }
@@ -154,7 +155,7 @@ fn items_in(
     walks: &[Value],
     first: u32,
     calls: &[Value],
-) -> Result<(Listed<Listed<Event>>, Listed<Listed<AgentCall>>), ScriptFault>
+) -> Result<(Listed<Listed<Event>>, Listed<Listed<AgentCall>>), LocatedFault>
     requires counts { (length walks.now ≤ 64) × (length calls.now ≤ 64) }
     requires few { (count_in_all (map view walks.now) ≤ 65536) × (count_in_all (map view calls.now) ≤ 65536) }
     requires first { first ≡ 1 + count_in_all (map view walks.now) }
@@ -170,7 +171,7 @@ fn body_in(
     alloc: Global,
     cast: &Cast,
     value: &Value,
-) -> Result<(Listed<Listed<Event>>, Listed<Listed<AgentCall>>), ScriptFault>
+) -> Result<(Listed<Listed<Event>>, Listed<Listed<AgentCall>>), LocatedFault>
     requires threads { length cast.now.threads ≤ 64 }
     requires agents { length cast.now.agents ≤ 32 }
     ensures ok { IfOk result (λ items. (body_fault cast.now (view value.now) ≡ None) × (items_of cast.now (view value.now) ≡ Ok (items.0, items.1))) }
@@ -181,7 +182,7 @@ fn body_in(
 }
 
 /// The live script that a document's tree says, or its first fault.
-fn live_in(alloc: Global, value: &Value) -> Result<Live, ScriptFault>
+fn live_in(alloc: Global, value: &Value) -> Result<Live, LocatedFault>
     ensures ok { IfOk result (λ l. (live_fault (view value.now) ≡ None) × IsLive (view value.now) l) }
     ensures err { IfErr result (λ e. Faults e (live_fault (view value.now))) }
 {
@@ -223,6 +224,20 @@ fn live_in(alloc: Global, value: &Value) -> Result<Live, ScriptFault>
     })
 }
 
+/// The live script that the bytes of a document say, or the document's first fault, with the part at fault. `read_live` gives
+/// the same, without the part. Source: this profile.
+pub fn locate_live(alloc: Global, bytes: &[u8]) -> Result<Live, LocatedFault>
+    ensures ok { IfOk result (λ l. (d : Data) × IsDocument bytes.now d × (live_fault d ≡ None) × IsLive d l) }
+    ensures err { IfErr result (λ f. IsLocatedBy live_fault f bytes.now) }
+    // It is the fault of `read_live`, at the same item.
+    ensures agrees { IfErr result (λ f. IsRefusalBy live_fault (fault_of f) bytes.now) }
+{
+    let document = tree_of(alloc, bytes)?;
+    let live = live_in(alloc, &document);
+    drop_live(document);
+    live
+}
+
 /// The live script that the bytes of a document say, or the document's first fault.
 ///
 /// The bytes are read as one JSON tree, which is dropped before the script is returned. `Json` if they are no JSON text, and
@@ -238,20 +253,20 @@ pub fn read_live(alloc: Global, bytes: &[u8]) -> Result<Live, ScriptFault>
     ensures ok { IfOk result (λ l. (d : Data) × IsDocument bytes.now d × (live_fault d ≡ None) × IsLive d l) }
     ensures err { IfErr result (λ e. IsRefusalBy live_fault e bytes.now) }
 {
-    let document = tree_of(alloc, bytes)?;
-    let live = live_in(alloc, &document);
-    drop_live(document);
-    live
+    match locate_live(alloc, bytes) {
+        Ok(live) => Ok(live),
+        Err(fault) => Err(fault.without_part()),
+    }
 }
 
 ghost use Rattle.std.specs.Prelude.{◌≡◌, ◌≤◌, ◌+◌, List, length, map, codes, None, Ok, is_some, IfOk, IfErr};
 ghost use Rattle.std.specs.List.{list_all};
 ghost use Rattle.serde_json.specs.View.{view};
 ghost use Rattle.serde_json.specs.Data.{Data};
-ghost use Rattle.ti_script.specs.Faults.{Reads, Gives, Faults, unless, member_shape};
-ghost use Rattle.ti_script.specs.declared.fault.ScriptFault.TheVariants.{Limit};
+ghost use Rattle.ti_script.specs.Faults.{Reads, Gives, Faults, unless, member_shape, fault_of};
+ghost use Rattle.ti_script.specs.declared.located.LocatedFault.TheVariants.{Limit};
 ghost use Rattle.ti_script.specs.Tree.{at, elements, array_in};
 ghost use Rattle.ti_script.specs.Members.{key_of};
 ghost use Rattle.ti_script.specs.Head.{is_within};
-ghost use Rattle.ti_script.specs.Walks.{IsDocument, IsRefusalBy};
+ghost use Rattle.ti_script.specs.Walks.{IsDocument, IsLocatedBy, IsRefusalBy};
 ghost use Rattle.ti_script.specs.Lives.{are_lists, count_in_all, lists_fault, walks_in, calls_in, items_in, items_of, body_fault, live_fault, IsLive};

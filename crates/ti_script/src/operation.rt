@@ -1,7 +1,7 @@
 //! Reads an operation of a thread in a live script: a thread's event of a walk, without the thread.
 
-use crate::fault::ScriptFault;
 use crate::item::Item;
+use crate::located::LocatedFault;
 use crate::names::Cast;
 use crate::thread_event::thread_event;
 use crate::tree::array_in;
@@ -14,7 +14,7 @@ pub(crate) fn operation_in(
     number: u32,
     thread: ThreadNo,
     value: &Value,
-) -> Result<Event, ScriptFault>
+) -> Result<Event, LocatedFault>
     ensures { result ≡ operation_in cast.now number thread (view value.now) }
 {
     let item = Item::of_list(number);

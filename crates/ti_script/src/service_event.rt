@@ -1,14 +1,14 @@
 //! Reads the events of an agent about stops, capabilities and its environment's own word.
 
 use crate::element::{caps_of, signed_in, thread_in, word_in};
-use crate::fault::ScriptFault;
 use crate::item::Item;
+use crate::located::LocatedFault;
 use crate::names::Cast;
 use crate::thread_event::plain_event;
 use serde_json::Value;
 use ti_types::{EnvNo, Event};
 
-fn stop_event(cast: &Cast, item: Item, agent: EnvNo, rest: &[Value]) -> Result<Event, ScriptFault>
+fn stop_event(cast: &Cast, item: Item, agent: EnvNo, rest: &[Value]) -> Result<Event, LocatedFault>
     ensures { result ≡ row_event cast.now item (map view rest.now) (row (thread ∷ []) (λ t. Stop agent t)) }
 {
     match rest {
@@ -17,7 +17,7 @@ fn stop_event(cast: &Cast, item: Item, agent: EnvNo, rest: &[Value]) -> Result<E
     }
 }
 
-fn read_event(cast: &Cast, item: Item, agent: EnvNo, rest: &[Value]) -> Result<Event, ScriptFault>
+fn read_event(cast: &Cast, item: Item, agent: EnvNo, rest: &[Value]) -> Result<Event, LocatedFault>
     ensures { result ≡ row_event cast.now item (map view rest.now) (row (thread ∷ signed ∷ []) (λ t n. Read agent t n)) }
 {
     match rest {
@@ -30,7 +30,7 @@ fn read_event(cast: &Cast, item: Item, agent: EnvNo, rest: &[Value]) -> Result<E
     }
 }
 
-fn go_event(cast: &Cast, item: Item, agent: EnvNo, rest: &[Value]) -> Result<Event, ScriptFault>
+fn go_event(cast: &Cast, item: Item, agent: EnvNo, rest: &[Value]) -> Result<Event, LocatedFault>
     ensures { result ≡ row_event cast.now item (map view rest.now) (row (thread ∷ []) (λ t. Go agent t)) }
 {
     match rest {
@@ -39,7 +39,7 @@ fn go_event(cast: &Cast, item: Item, agent: EnvNo, rest: &[Value]) -> Result<Eve
     }
 }
 
-fn add_event(cast: &Cast, item: Item, agent: EnvNo, rest: &[Value]) -> Result<Event, ScriptFault>
+fn add_event(cast: &Cast, item: Item, agent: EnvNo, rest: &[Value]) -> Result<Event, LocatedFault>
     ensures { result ≡ row_event cast.now item (map view rest.now) (row (caps ∷ []) (λ c. AddCaps agent c)) }
 {
     match rest {
@@ -53,7 +53,7 @@ fn relinquish_event(
     item: Item,
     agent: EnvNo,
     rest: &[Value],
-) -> Result<Event, ScriptFault>
+) -> Result<Event, LocatedFault>
     ensures { result ≡ row_event cast.now item (map view rest.now) (row (caps ∷ []) (λ c. Relinquish agent c)) }
 {
     match rest {
@@ -62,7 +62,7 @@ fn relinquish_event(
     }
 }
 
-fn set_event(cast: &Cast, item: Item, agent: EnvNo, rest: &[Value]) -> Result<Event, ScriptFault>
+fn set_event(cast: &Cast, item: Item, agent: EnvNo, rest: &[Value]) -> Result<Event, LocatedFault>
     ensures { result ≡ row_event cast.now item (map view rest.now) (row (word ∷ []) (λ w. SetEnvWord agent w)) }
 {
     match rest {
@@ -78,7 +78,7 @@ pub(crate) fn env_event(
     agent: EnvNo,
     text: &str,
     rest: &[Value],
-) -> Result<Event, ScriptFault>
+) -> Result<Event, LocatedFault>
     ensures { result ≡ word_event cast.now item (env_table agent) text.now (map view rest.now) }
 {
     match text {
@@ -98,7 +98,7 @@ pub(crate) fn service_event(
     agent: EnvNo,
     text: &str,
     rest: &[Value],
-) -> Result<Event, ScriptFault>
+) -> Result<Event, LocatedFault>
     ensures { result ≡ word_event cast.now item (service_table agent) text.now (map view rest.now) }
 {
     match text {

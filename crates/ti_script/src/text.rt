@@ -278,7 +278,7 @@ pub fn outcome_text(
         Some(Outcome::Done) => out.push_str("ok"),
         Some(Outcome::Clear) => out.push_str("clear"),
         Some(Outcome::Went) => out.push_str("went"),
-        Some(Outcome::Stays) => out.push_str("held"),
+        Some(Outcome::Held) => out.push_str("held"),
         Some(Outcome::Refused(error)) => put_error(out, *error),
         Some(Outcome::Gave(answer)) => put_answer(out, methods, answer),
         Some(Outcome::Posted(_)) => out.push_str("unanswered"),

@@ -1,8 +1,8 @@
 //! Reads a thread's own events.
 
 use crate::element::{kind_in, method_in, number_in};
-use crate::fault::ScriptFault;
 use crate::item::Item;
+use crate::located::LocatedFault;
 use crate::names::Cast;
 use serde_json::Value;
 use ti_types::{Event, Step, ThreadNo};
@@ -13,7 +13,7 @@ pub(crate) fn plain_event(
     item: Item,
     event: Event,
     rest: &[Value],
-) -> Result<Event, ScriptFault>
+) -> Result<Event, LocatedFault>
     ensures { result ≡ row_event cast.now item (map view rest.now) (row [] event) }
 {
     let _ = cast;
@@ -28,11 +28,11 @@ fn enter_event(
     item: Item,
     thread: ThreadNo,
     rest: &[Value],
-) -> Result<Event, ScriptFault>
-    ensures { result ≡ row_event cast.now item (map view rest.now) (row (method ∷ []) (λ m. Stepped thread (Enter m))) }
+) -> Result<Event, LocatedFault>
+    ensures { result ≡ row_event cast.now item (map view rest.now) (row (method ∷ []) (λ m. Own thread (Enter m))) }
 {
     match rest {
-        [method] => Ok(Event::Stepped(
+        [method] => Ok(Event::Own(
             thread,
             Step::Enter(method_in(cast, item.behind_word(1), method)?),
         )),
@@ -45,12 +45,12 @@ fn enter_native_event(
     item: Item,
     thread: ThreadNo,
     rest: &[Value],
-) -> Result<Event, ScriptFault>
-    ensures { result ≡ row_event cast.now item (map view rest.now) (row (method ∷ []) (λ m. Stepped thread (EnterNative m))) }
+) -> Result<Event, LocatedFault>
+    ensures { result ≡ row_event cast.now item (map view rest.now) (row (method ∷ []) (λ m. Own thread (EnterNative m))) }
 {
     match rest {
         [method] => {
-            Ok(Event::Stepped(
+            Ok(Event::Own(
                 thread,
                 Step::EnterNative(method_in(cast, item.behind_word(1), method)?),
             ))
@@ -59,11 +59,16 @@ fn enter_native_event(
     }
 }
 
-fn at_event(cast: &Cast, item: Item, thread: ThreadNo, rest: &[Value]) -> Result<Event, ScriptFault>
-    ensures { result ≡ row_event cast.now item (map view rest.now) (row (number ∷ []) (λ p. Stepped thread (At p))) }
+fn at_event(
+    cast: &Cast,
+    item: Item,
+    thread: ThreadNo,
+    rest: &[Value],
+) -> Result<Event, LocatedFault>
+    ensures { result ≡ row_event cast.now item (map view rest.now) (row (number ∷ []) (λ p. Own thread (At p))) }
 {
     match rest {
-        [place] => Ok(Event::Stepped(thread, Step::At(number_in(item.behind_word(1), place)?))),
+        [place] => Ok(Event::Own(thread, Step::At(number_in(item.behind_word(1), place)?))),
         _ => Err(item.shape()),
     }
 }
@@ -73,7 +78,7 @@ fn block_event(
     item: Item,
     thread: ThreadNo,
     rest: &[Value],
-) -> Result<Event, ScriptFault>
+) -> Result<Event, LocatedFault>
     ensures { result ≡ row_event cast.now item (map view rest.now) (row (kind ∷ []) (λ k. ToBlocked thread k)) }
 {
     match rest {
@@ -89,7 +94,7 @@ pub(crate) fn thread_event(
     thread: ThreadNo,
     text: &str,
     rest: &[Value],
-) -> Result<Event, ScriptFault>
+) -> Result<Event, LocatedFault>
     ensures { result ≡ word_event cast.now item (thread_table thread) text.now (map view rest.now) }
 {
     match text {
@@ -97,7 +102,7 @@ pub(crate) fn thread_event(
         "enter" => enter_event(cast, item, thread, rest),
         "enter_native" => enter_native_event(cast, item, thread, rest),
         "at" => at_event(cast, item, thread, rest),
-        "leave" => plain_event(cast, item, Event::Stepped(thread, Step::Leave), rest),
+        "leave" => plain_event(cast, item, Event::Own(thread, Step::Leave), rest),
         "poll" => plain_event(cast, item, Event::Poll(thread), rest),
         "native" => plain_event(cast, item, Event::ToNative(thread), rest),
         "block" => block_event(cast, item, thread, rest),
@@ -109,6 +114,6 @@ pub(crate) fn thread_event(
 
 ghost use Rattle.std.specs.Prelude.{◌≡◌, [], ◌∷◌, map};
 ghost use Rattle.serde_json.specs.View.{view};
-ghost use Rattle.ti_types.specs.declared.event.Event.TheVariants.{Stepped, ToBlocked};
+ghost use Rattle.ti_types.specs.declared.event.Event.TheVariants.{Own, ToBlocked};
 ghost use Rattle.ti_types.specs.declared.step.Step.TheVariants.{Enter, EnterNative, At};
 ghost use Rattle.ti_script.specs.Events.{method, number, kind, row, thread_table, row_event, word_event};

@@ -1,8 +1,9 @@
 //! Reads a document as a walk.
 
 use crate::event::event_in;
-use crate::fault::{LimitName, MemberName, Part, ScriptFault};
+use crate::fault::{LimitName, ScriptFault};
 use crate::head::{Bounds, bounds_in, names_in};
+use crate::located::{LocatedFault, MemberName, Part};
 use crate::names::{Cast, Names};
 use crate::tree::{array_in, drop_tree, has_exactly, tree_of, wrong_member};
 use crate::walk::{EventList, Walk};
@@ -11,13 +12,13 @@ use std::alloc::Global;
 use ti_types::Limits;
 
 /// Tests that the document is an object with exactly these members. `Shape` of item 0 if it is not.
-pub(crate) fn check_members(value: &Value, members: &[MemberName]) -> Result<(), ScriptFault>
+pub(crate) fn check_members(value: &Value, members: &[MemberName]) -> Result<(), LocatedFault>
     ensures { result_err result ≡ members_fault members.now (view value.now) }
 {
     if has_exactly(value, members) {
         Ok(())
     } else {
-        Err(ScriptFault::Shape {
+        Err(LocatedFault::Shape {
             item: 0,
             part: wrong_member(value, Part::Whole, members),
         })
@@ -25,17 +26,17 @@ pub(crate) fn check_members(value: &Value, members: &[MemberName]) -> Result<(),
 }
 
 /// A member of the document. `Shape` if it is missing.
-pub(crate) fn member<'a>(value: &'a Value, which: MemberName) -> Result<&'a Value, ScriptFault>
+pub(crate) fn member<'a>(value: &'a Value, which: MemberName) -> Result<&'a Value, LocatedFault>
     ensures { MatchResult result (λ found. view found.now ≡ at (key_of which) (view value.now)) (λ e. (e ≡ member_shape which) × (at (key_of which) (view value.now) ≡ null)) }
 {
     match value.get(which.key()) {
         Some(found) => Ok(found),
-        None => Err(ScriptFault::in_shape_of(which)),
+        None => Err(LocatedFault::in_shape_of(which)),
     }
 }
 
 /// The limits of a document, each in its range.
-pub(crate) fn bounds_at(value: &Value) -> Result<Bounds, ScriptFault>
+pub(crate) fn bounds_at(value: &Value) -> Result<Bounds, LocatedFault>
     ensures read { Reads (λ b. (b.depth, b.own, b.calls)) result (limits_fault (at (codes "limits") (view value.now))) (bounds_of (at (codes "limits") (view value.now))) }
     ensures range { IfOk result (λ b. InRange 1 1 b.depth b.own b.calls) }
 {
@@ -52,7 +53,7 @@ fn names_at(
     low: usize,
     high: usize,
     earlier: &Names,
-) -> Result<Names, ScriptFault>
+) -> Result<Names, LocatedFault>
     requires { high ≤ 65536 }
     ensures read { Reads (λ names. names) result (names_fault which limit low high earlier.now (at (key_of which) (view value.now))) (texts (at (key_of which) (view value.now))) }
     ensures count { IfOk result (λ names. (low ≤ length names) × (length names ≤ high)) }
@@ -62,7 +63,7 @@ fn names_at(
 }
 
 /// The names of a document's threads, agents and methods.
-pub(crate) fn cast_in(alloc: Global, value: &Value) -> Result<Cast, ScriptFault>
+pub(crate) fn cast_in(alloc: Global, value: &Value) -> Result<Cast, LocatedFault>
     ensures read { Reads (λ cast. cast) result (cast_fault (view value.now)) (cast_of (view value.now)) }
     ensures threads { IfOk result (λ cast. (1 ≤ length cast.threads) × (length cast.threads ≤ 64)) }
     ensures agents { IfOk result (λ cast. (1 ≤ length cast.agents) × (length cast.agents ≤ 32)) }
@@ -108,21 +109,21 @@ pub(crate) fn items_at<'a>(
     which: MemberName,
     limit: LimitName,
     high: usize,
-) -> Result<&'a [Value], ScriptFault>
+) -> Result<&'a [Value], LocatedFault>
     ensures read { Reads (λ items. map view items.now) result (items_fault which limit high (at (key_of which) (view value.now))) (elements (at (key_of which) (view value.now))) }
     ensures count { IfOk result (λ items. length items.now ≤ high) }
 {
     let items = member(value, which)?;
     let Some(items) = array_in(items) else {
-        return Err(ScriptFault::in_shape_of(which));
+        return Err(LocatedFault::in_shape_of(which));
     };
     if high < items.len() {
-        return Err(ScriptFault::Limit { which: limit });
+        return Err(LocatedFault::Limit { which: limit });
     }
     Ok(items)
 }
 
-fn events_in(alloc: Global, cast: &Cast, items: &[Value]) -> Result<EventList, ScriptFault>
+fn events_in(alloc: Global, cast: &Cast, items: &[Value]) -> Result<EventList, LocatedFault>
     requires { length items.now ≤ 65536 }
     ensures { Gives (λ events. events) result (events_in cast.now 1 (map view items.now)) }
 {
@@ -137,7 +138,7 @@ fn events_in(alloc: Global, cast: &Cast, items: &[Value]) -> Result<EventList, S
 }
 
 /// The walk that a document's tree says, or its first fault.
-fn walk_in(alloc: Global, value: &Value) -> Result<Walk, ScriptFault>
+fn walk_in(alloc: Global, value: &Value) -> Result<Walk, LocatedFault>
     ensures ok { IfOk result (λ w. (walk_fault (view value.now) ≡ None) × IsWalk (view value.now) w) }
     ensures err { IfErr result (λ e. Faults e (walk_fault (view value.now))) }
 {
@@ -177,6 +178,20 @@ fn walk_in(alloc: Global, value: &Value) -> Result<Walk, ScriptFault>
     })
 }
 
+/// The walk that the bytes of a document say, or the document's first fault, with the part at fault. `read_walk` gives the
+/// same, without the part. Source: this profile.
+pub fn locate_walk(alloc: Global, bytes: &[u8]) -> Result<Walk, LocatedFault>
+    ensures ok { IfOk result (λ w. (d : Data) × IsDocument bytes.now d × (walk_fault d ≡ None) × IsWalk d w) }
+    ensures err { IfErr result (λ f. IsLocatedBy walk_fault f bytes.now) }
+    // It is the fault of `read_walk`, at the same item.
+    ensures agrees { IfErr result (λ f. IsRefusal (fault_of f) bytes.now) }
+{
+    let document = tree_of(alloc, bytes)?;
+    let walk = walk_in(alloc, &document);
+    drop_tree(document);
+    walk
+}
+
 /// The walk that the bytes of a document say, or the document's first fault.
 ///
 /// The bytes are read as one JSON tree, which is dropped before the walk is returned. `Json` if they are no JSON text, and
@@ -186,19 +201,19 @@ pub fn read_walk(alloc: Global, bytes: &[u8]) -> Result<Walk, ScriptFault>
     ensures ok { IfOk result (λ w. (d : Data) × IsDocument bytes.now d × (walk_fault d ≡ None) × IsWalk d w) }
     ensures err { IfErr result (λ e. IsRefusal e bytes.now) }
 {
-    let document = tree_of(alloc, bytes)?;
-    let walk = walk_in(alloc, &document);
-    drop_tree(document);
-    walk
+    match locate_walk(alloc, bytes) {
+        Ok(walk) => Ok(walk),
+        Err(fault) => Err(fault.without_part()),
+    }
 }
 
 ghost use Rattle.std.specs.Prelude.{◌≡◌, ◌≤◌, ◌++◌, ◌∷◌, [], length, map, codes, None, IfOk, IfErr, MatchResult};
 ghost use Rattle.std.specs.Result.{result_err};
 ghost use Rattle.serde_json.specs.View.{view};
 ghost use Rattle.serde_json.specs.Data.{Data, null};
-ghost use Rattle.ti_script.specs.Faults.{Reads, Gives, Faults, member_shape};
+ghost use Rattle.ti_script.specs.Faults.{Reads, Gives, Faults, member_shape, fault_of};
 ghost use Rattle.ti_types.specs.Limits.{InRange};
 ghost use Rattle.ti_script.specs.Tree.{at, elements};
 ghost use Rattle.ti_script.specs.Members.{key_of};
 ghost use Rattle.ti_script.specs.Head.{members_fault, limits_fault, bounds_of, names_fault, texts, cast_fault, items_fault};
-ghost use Rattle.ti_script.specs.Walks.{cast_of, events_in, walk_fault, IsWalk, IsDocument, IsRefusal};
+ghost use Rattle.ti_script.specs.Walks.{cast_of, events_in, walk_fault, IsWalk, IsDocument, IsLocatedBy, IsRefusal};

@@ -12,7 +12,7 @@ use Rattle.ti_types.specs.declared.numbers.EnvNo.{EnvNo}
 use Rattle.ti_types.specs.declared.error.TiError.{TiError}
 use Rattle.ti_types.specs.declared.error.TiError.TheVariants.{IllegalArgument, InvalidEnvironment, OutOfMemory}
 use Rattle.ti_types.specs.Refusing.{or_else, unless}
-use Rattle.ti_env.specs.Env.{EnvValue}
+use Rattle.ti_env.specs.Env.{EnvValue, place_refusal}
 use Rattle.ti_handshake.specs.Desk.{DeskState}
 use Rattle.ti_agent.specs.Desks.{are_same, desk_refusal, is_new, with_desk}
 use Rattle.ti_agent.proofs.SameLimits.{limits_same}
@@ -154,15 +154,15 @@ last_ours service env all rest f is o = All-pop (IsOwn service.view.seen service
 last_limits : (service : Member) (env : Environment) (all rest : List FreeState) (f : FreeState) → all ≡ rest ++ f ∷ [] → AreOurs (agent_of service env all) → f.desk.view.subject.limits ≡ env.state.limits
 last_limits service env all rest f is o = (last_ours service env all rest f is o).1.limits_are ∙ sym o.limits
 
--- if it is not, its number is not new, or there is no memory
+-- if it is not, its number is not new, the environment has no place for it, or there is no memory
 pub why_not : (service : Member) (env : Environment) (all rest : List FreeState) (f : FreeState) (e : TiError) → all ≡ rest ++ f ∷ [] → AreOurs (agent_of service env all)
-    → Some e ≡ or_else (desk_refusal env f) (Some OutOfMemory) → Some e ≡ or_else (unless (is_new env f.desk.view.subject.thread) IllegalArgument) (Some OutOfMemory)
+    → Some e ≡ or_else (desk_refusal env f) (Some OutOfMemory) → Some e ≡ or_else (or_else (unless (is_new env f.desk.view.subject.thread) IllegalArgument) (place_refusal env.state)) (Some OutOfMemory)
 why_not service env all rest f e is o told =
     let number : f.desk.env.0 ≡ env.env.0 = ap (λ (x : EnvNo). x.0) (last_ours service env all rest f is o).1.env in
     let its_own : (f.desk.env.0 == env.env.0) ≡ true = eq-eqb f.desk.env.0 env.env.0 number in
     let alike : are_same f.desk.view.subject.limits env.state.limits ≡ true = limits_same f.desk.view.subject.limits env.state.limits (last_limits service env all rest f is o) in
     let fits : (f.desk.env.0 == env.env.0 && are_same f.desk.view.subject.limits env.state.limits) ≡ true = (λ i. its_own i && alike i) in
-    told ∙ ap (λ (b : Bool). or_else (or_else (unless b InvalidEnvironment) (unless (is_new env f.desk.view.subject.thread) IllegalArgument)) (Some OutOfMemory)) fits
+    told ∙ ap (λ (b : Bool). or_else (or_else (unless b InvalidEnvironment) (or_else (unless (is_new env f.desk.view.subject.thread) IllegalArgument) (place_refusal env.state))) (Some OutOfMemory)) fits
 
 -- it was added
 pub ours_added : (service : Member) (env new : Environment) (all rest : List FreeState) (f : FreeState) → all ≡ rest ++ f ∷ [] → new ≡ with_desk env f → AreOurs (agent_of service env all) → AreOurs (agent_of service new rest)

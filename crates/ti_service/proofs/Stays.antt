@@ -1,6 +1,6 @@
 -- What each call of an environment leaves: its desks are where they were.
 use Rattle.std.proofs.Common.{◌≡◌, ℤ, Bool, true, false, inl, inr, List, [], ◌∷◌, length, refl, ap, sym, subst, ◌∙◌, Option, Some, None, Result, Ok, Err}
-use Rattle.std.specs.Prelude.{◌<◌, ◌≤◌, IfOk, IfErr, IfSome, IfNone, OnOk, OnErr, take}
+use Rattle.std.specs.Prelude.{◌<◌, ◌≤◌, ◌&&◌, IfOk, IfErr, IfSome, IfNone, OnOk, OnErr, take}
 use Rattle.std.proofs.lemmas.Bool.{cases_lt}
 use Rattle.ti_types.specs.declared.answer.Answer.{Answer}
 use Rattle.ti_types.specs.declared.call.Call.{Call}
@@ -18,8 +18,9 @@ use Rattle.ti_vmop.specs.Tries.{AtDeskOf}
 use Rattle.ti_vmop.specs.Turns.{AtDesk, AtEach, Listed, is_listed, spend_all}
 use Rattle.ti_vmop.specs.declared.global_stops.Round.{Round}
 use Rattle.ti_agent.specs.Asks.{IsCalled, IsCalledBy, Went, is_for_memory, is_timed_out, refusal_of}
-use Rattle.ti_agent.specs.Deadlines.{Cancels, ComesAs, DiscardsAt, GivesUpAt, IsCalledWithin, IsCalledWithinBy}
-use Rattle.ti_agent.specs.Env.{Environment, place_in, place_of, thread_refusal}
+use Rattle.ti_agent.specs.Deadlines.{Cancels, ComesAs, ComesWith, DiscardsAt, GivesUpAt, IsCalledWithin, IsCalledWithinBy}
+use Rattle.ti_replay.specs.Settling.{waits}
+use Rattle.ti_agent.specs.Env.{Environment, is_full, place_in, place_of, thread_refusal}
 use Rattle.ti_agent.specs.Posts.{Collects, LooksFor, Posts, WaitsFor}
 use Rattle.ti_agent.specs.Gathering.{Gathered, Gathers, GivesUp, IsGathered, IsLetGo}
 use Rattle.ti_agent.specs.Traces.{HasRead, IsTraced, LetsGo, ReadsEach, Stops, Telling, TracesAlive}
@@ -118,12 +119,16 @@ comes_stays true timed_out old new t c a h = stays_same old new h
 comes_stays false true old new t c a h = gives_up_stays old new t c h
 comes_stays false false old new t c a h = went_stays old new t c a h
 
+with_stays : (full : Bool) (old new : Environment) (t : ThreadNo) (c : Call) (a : Answer) → ComesWith full old new t c a → StaysHome old new
+with_stays true old new t c a h = stays_same old new h.0
+with_stays false old new t c a h = comes_stays (is_for_memory a) (is_timed_out a) old new t c a h
+
 pub within_stays : (old new : Environment) (t : ThreadNo) (c : Call) (a : Answer) → IsCalledWithin old new t c a → StaysHome old new
 within_stays old new t c a h = by_refusal (thread_refusal old t c) h
   where
     by_refusal : (r : Option TiError) → IsCalledWithinBy r old new t c a → StaysHome old new
     by_refusal (Some e) k = stays_same old new k.0
-    by_refusal None k = stays_then old k.mid new (discards_stays old k.mid t k.thrown k.discards) (comes_stays (is_for_memory a) (is_timed_out a) k.mid new t c a k.comes)
+    by_refusal None k = stays_then old k.mid new (discards_stays old k.mid t k.thrown k.discards) (with_stays (waits c && is_full k.mid t) k.mid new t c a k.comes)
 
 -- Traces
 

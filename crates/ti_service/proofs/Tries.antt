@@ -7,7 +7,7 @@ use Rattle.ti_types.specs.declared.numbers.ThreadNo.{ThreadNo}
 use Rattle.ti_agent.specs.Env.{Environment}
 use Rattle.ti_agent.specs.FreeDesk.{FreeState}
 use Rattle.ti_service.specs.Homes.{AreOurs}
-use Rattle.ti_service.specs.Service.{Looks, Member, RefusesEnd}
+use Rattle.ti_service.specs.Service.{Looks, Member, RefusesInfo}
 use Rattle.ti_service.proofs.Homes.{agent_of, holds_ours}
 
 -- an agent keeps its desks if its handle held the roster and added nothing, and if the handle is as it was
@@ -25,7 +25,7 @@ held_or_refused s s' (Ok v) looks refused = inl looks
 held_or_refused s s' (Err e) looks (inl it) = inl it.1
 held_or_refused s s' (Err e) looks (inr busy) = inr busy.1
 
-pub held_or_not_told : {V : Type 0} (s s' : Member) (t : ThreadNo) (r : Result V TiError) → OnOk r (Looks s.view s'.view) → IfErr r (λ e. RefusesEnd s.view s'.view t e ⊎ ((e ≡ Busy) × (s' ≡ s))) → Looks s.view s'.view ⊎ (s' ≡ s)
+pub held_or_not_told : {V : Type 0} (s s' : Member) (t : ThreadNo) (r : Result V TiError) → OnOk r (Looks s.view s'.view) → IfErr r (λ e. RefusesInfo s.view s'.view t e ⊎ ((e ≡ Busy) × (s' ≡ s))) → Looks s.view s'.view ⊎ (s' ≡ s)
 held_or_not_told s s' t (Ok v) looks refused = inl looks
 held_or_not_told s s' t (Err e) looks (inl it) = inl it.looks
 held_or_not_told s s' t (Err e) looks (inr busy) = inr busy.1

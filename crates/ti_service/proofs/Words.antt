@@ -5,7 +5,7 @@ use Rattle.std.proofs.lemmas.Bool.{cases_eq}
 use Rattle.std.proofs.lemmas.Bool.Decides.{nat_tests}
 use Rattle.ti_types.specs.declared.call.Call.TheVariants as call
 use Rattle.ti_types.specs.declared.entry.Entry.{Entry}
-use Rattle.ti_types.specs.declared.entry.Entry.TheVariants.{Start, Stepped, Hand, Back, End, Asked, Stop, Read, Go}
+use Rattle.ti_types.specs.declared.entry.Entry.TheVariants.{Start, Own, Hand, Back, End, Asked, Stop, Read, Go}
 use Rattle.ti_types.specs.declared.numbers.EnvNo.{EnvNo}
 use Rattle.ti_replay.specs.Makers.{made_by, maker}
 use Rattle.ti_replay.specs.Word.{lives_after, word_after as set_after, word_from}
@@ -16,7 +16,7 @@ use Rattle.ti_service.specs.Leaving.{ClearedReadsZero, has_ended, is_end}
 -- an entry of another seat asks for no word of the environment
 skips : (env : EnvNo) (z : ℕ) (x : Entry) → (maker x == env.0 + 1) ≡ false → word_after env z x ≡ z
 skips env z Start off = refl
-skips env z (Stepped step) off = refl
+skips env z (Own step) off = refl
 skips env z (Hand safe) off = refl
 skips env z Back off = refl
 skips env z End off = refl
@@ -58,7 +58,7 @@ one alive word asked env Start no_end a = record { before = λ h. absurd (never 
   where
     never : true ≡ false → ⊥
     never h = cc
-one alive word asked env (Stepped step) no_end a = a
+one alive word asked env (Own step) no_end a = a
 one alive word asked env (Hand safe) no_end a = a
 one alive word asked env Back no_end a = a
 one alive word asked env End no_end a = cc

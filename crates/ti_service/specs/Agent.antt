@@ -5,17 +5,17 @@ use Rattle.ti_types.specs.declared.error.TiError.{TiError}
 use Rattle.ti_types.specs.declared.error.TiError.TheVariants.{IllegalArgument, OutOfMemory}
 use Rattle.ti_types.specs.declared.numbers.EnvNo.{EnvNo}
 use Rattle.ti_types.specs.Refusing.{or_else, unless}
-use Rattle.ti_env.specs.Env.{env_at_no_thread, with_known}
+use Rattle.ti_env.specs.Env.{env_at_no_thread, place_refusal, with_known}
 use Rattle.ti_agent.specs.Desks.{is_new, with_desk}
 use Rattle.ti_agent.specs.Env.{Environment}
 use Rattle.ti_agent.specs.FreeDesk.{FreeState}
 use Rattle.ti_roster.specs.declared.coming.Coming.{Coming}
 use Rattle.ti_roster.specs.declared.coming.Coming.TheVariants.{Attached}
 use Rattle.ti_roster.specs.Log.{live, mark_of, threads_in}
-use Rattle.ti_roster.specs.Roster.{meeting}
+use Rattle.ti_roster.specs.Roster.{meeting, room_refusal}
 use Rattle.ti_roster.specs.Rows.{AreLeft}
 use Rattle.ti_roster.specs.Rule.{Begins}
-use Rattle.ti_service.specs.Service.{Holds, Looks, Member}
+use Rattle.ti_service.specs.Service.{Holds, Looks, Member, roster_seen}
 
 -- Its handle, its environment, and the desks that it has taken and not added, the last to be added first. Then the index of the
 -- next event that it is to be told, or nothing while its events are disabled
@@ -40,7 +40,7 @@ pub record IsNewAgent (s : Member) (a : AgentState) : Type 0 where
   pub begins : Begins found s.view.seen
   pub free : mark_of a.env.env found ≡ None
   pub cell : a.service.cell ≡ s.cell
-  pub view : a.service.view ≡ record { limits = s.view.limits; seen = found ++ Attached a.env.env ∷ []; found = found; looked = []; taken = 1; holds = false; place = Some a.env.env }
+  pub view : a.service.view ≡ record { limits = s.view.limits; seen = found ++ Attached a.env.env ∷ []; found = found; looked = []; taken = 1; made = 0; holds = false; place = Some a.env.env }
   pub state : a.env.state ≡ env_at_no_thread s.view.limits
   pub desks : a.env.desks ≡ []
   pub waiting : a.waiting ≡ []
@@ -52,10 +52,11 @@ pub record Moved (old new : AgentState) (more : List FreeState) : Type 0 where
   pub all : reverse old.waiting ++ more ≡ added ++ reverse new.waiting
   pub env : new.env ≡ fold with_desk old.env added
 
--- Why the next desk that waits was not added: its number is not above those that the environment knows, or there is no memory
+-- Why the next desk that waits was not added: its number is not above those that the environment knows, the environment has a
+-- desk at 65,536 threads, or there is no memory
 abbrev pub IsWhyNotOf : Environment → List FreeState → TiError → Type 0
 IsWhyNotOf s [] e = ⊥
-IsWhyNotOf s (f ∷ rest) e = Some e ≡ or_else (unless (is_new s f.desk.view.subject.thread) IllegalArgument) (Some OutOfMemory)
+IsWhyNotOf s (f ∷ rest) e = Some e ≡ or_else (or_else (unless (is_new s f.desk.view.subject.thread) IllegalArgument) (place_refusal s.state)) (Some OutOfMemory)
 
 abbrev pub IsWhyNot : AgentState → TiError → Type 0
 IsWhyNot a e = IsWhyNotOf a.env (reverse a.waiting) e
@@ -92,7 +93,7 @@ pub record MeetsSome (old new : AgentState) : Type 0 where
 -- was taken was not added
 pub data Keeps (old new : AgentState) (e : TiError) : Type 0 where
   NotAdded : new.service ≡ old.service → Moved old new [] → IsWhyNot new e → Keeps old new e
-  TookNone : new.service.cell ≡ old.service.cell → Looks old.service.view new.service.view → Moved old new [] → e ≡ OutOfMemory → Keeps old new e
+  TookNone : new.service.cell ≡ old.service.cell → Looks old.service.view new.service.view → Moved old new [] → e ≡ room_refusal (roster_seen new.service.view) → Keeps old new e
   TookSome : MeetsSome old new → IsWhyNot new e → Keeps old new e
 
 -- the desks that waited are the environment's now, and nothing else has changed

@@ -1,8 +1,10 @@
 -- An agent that leaves the service.
-use Rattle.std.specs.Prelude.{◌≡◌, ◌+◌, ◌<◌, ◌++◌, Bool, true, false, List, [], ◌∷◌, slice_index}
+use Rattle.std.specs.Prelude.{◌≡◌, ◌⊎◌, ◌+◌, ◌<◌, ◌≤◌, ◌++◌, Bool, true, false, length, List, [], ◌∷◌, slice_index}
 use Rattle.std.specs.List.{list_any}
 use Rattle.ti_types.specs.declared.entry.Entry.{Entry}
 use Rattle.ti_types.specs.declared.entry.Entry.TheVariants.{End}
+use Rattle.ti_types.specs.declared.error.TiError.{TiError}
+use Rattle.ti_types.specs.declared.error.TiError.TheVariants.{Busy, Full, OutOfMemory}
 use Rattle.ti_types.specs.declared.limits.Limits.{Limits}
 use Rattle.ti_types.specs.declared.numbers.EnvNo.{EnvNo}
 use Rattle.ti_replay.specs.Legal.{is_legal}
@@ -13,6 +15,7 @@ use Rattle.ti_types.specs.declared.numbers.ThreadNo.{ThreadNo}
 use Rattle.ti_agent.specs.Desks.{IsCleared}
 use Rattle.ti_agent.specs.Env.{Environment}
 use Rattle.ti_agent.specs.FreeDesk.{FreeState}
+use Rattle.ti_roster.specs.Roster.{most_items}
 use Rattle.ti_service.specs.Agent.{AgentState}
 use Rattle.ti_service.specs.Service.{Leaves, Looks, Member}
 
@@ -36,10 +39,11 @@ pub record Disposes (a : AgentState) (s : Member) : Type 0 where
   pub cell : s.cell ≡ a.service.cell
   pub leaves : Leaves a.service.view s.view last.waiting
 
--- it was not disposed of: not all desks could be cleared, or nothing more could happen to the roster
-pub data StaysOn (old new : AgentState) : Type 0 where
-  NotCleared : new.service ≡ old.service → Clears old new → StaysOn old new
-  NotLeft : new.service.cell ≡ old.service.cell → Looks old.service.view new.service.view → Clears old new → StaysOn old new
+-- It was not disposed of: there was no memory to clear all desks, or what it needed was in use; or nothing more could happen to
+-- the roster
+pub data StaysOn (old new : AgentState) (e : TiError) : Type 0 where
+  NotCleared : (e ≡ OutOfMemory) ⊎ (e ≡ Busy) → new.service ≡ old.service → Clears old new → StaysOn old new e
+  NotLeft : e ≡ Full → most_items ≤ length new.service.view.seen + length new.waiting → new.service.cell ≡ old.service.cell → Looks old.service.view new.service.view → Clears old new → StaysOn old new e
 
 abbrev pub is_end : Entry → Bool
 is_end End = true

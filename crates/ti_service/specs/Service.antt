@@ -1,10 +1,10 @@
 -- A handle of the service, and what its calls say.
-use Rattle.std.specs.Prelude.{All, ℕ, ◌≡◌, ◌+◌, ◌<◌, ◌≤◌, ◌++◌, nat_lt, Bool, true, false, if◌then◌else◌, length, List, [], ◌∷◌, Option, Some, None}
+use Rattle.std.specs.Prelude.{All, ℕ, ◌≡◌, ◌+◌, ◌<◌, ◌≤◌, ◌++◌, nat_lt, Bool, true, false, length, List, [], ◌∷◌, Option, Some, None}
 use Rattle.std.specs.List.{fold}
 use Rattle.atomic_table.specs.Seated.{TableId}
 use Rattle.ti_types.specs.Least.{least}
 use Rattle.ti_types.specs.declared.error.TiError.{TiError}
-use Rattle.ti_types.specs.declared.error.TiError.TheVariants.{InvalidEnvironment, OutOfMemory}
+use Rattle.ti_types.specs.declared.error.TiError.TheVariants.{Full}
 use Rattle.ti_types.specs.declared.numbers.EnvNo.{EnvNo}
 use Rattle.ti_types.specs.declared.numbers.ThreadNo.{ThreadNo}
 use Rattle.ti_agent.specs.FreeDesk.{FreeState}
@@ -15,11 +15,11 @@ use Rattle.ti_roster.specs.declared.coming.Coming.TheVariants.{Came, Ended, Atta
 use Rattle.ti_roster.specs.declared.info.ThreadInfo.{ThreadInfo}
 use Rattle.ti_roster.specs.declared.view.RosterView.{RosterView}
 use Rattle.ti_roster.specs.Log.{Log, is_live, live, mark_of, threads_in}
-use Rattle.ti_roster.specs.Roster.{IsOwn, and_back, end_refusal, meeting, serves}
+use Rattle.ti_roster.specs.Roster.{IsListed, IsOwn, IsPlaceless, and_back, end_refusal, info_refusal, meeting, most_items}
 use Rattle.ti_roster.specs.Rows.{AreLeft}
 use Rattle.ti_roster.specs.Rule.{Begins, Claims}
 use Rattle.ti_roster.specs.Seats.{Sitting}
-use Rattle.ti_roster.specs.View.{AreWithin, first_view, glanced}
+use Rattle.ti_roster.specs.View.{AreWithin, first_view, glanced, splitter}
 
 -- a handle: the roster's cell, and what it knows
 pub record Member : Type 0 where
@@ -46,6 +46,10 @@ roster_seen v = roster_of v v.seen
 abbrev pub with_look : Member → ℕ → Member
 with_look m count = record { cell = m.cell; view = glanced m.view count }
 
+-- the handle after one more was made from it
+abbrev pub with_handle : Member → Member
+with_handle m = record { cell = m.cell; view = splitter m.view }
+
 -- One look. It showed how much had happened: no less than was seen, or than any earlier look showed. There is news exactly if
 -- it was more than was seen
 pub record TellsNews (old new : Member) (news : Bool) : Type 0 where
@@ -61,7 +65,7 @@ pub record Holds (old new : RosterView) (found more : List Coming) : Type 0 wher
   pub begins : Begins found old.seen
   pub claims : Claims found old.place old.seen
   pub looked : AreWithin (length found) old.looked
-  pub new_is : new ≡ record { limits = old.limits; seen = found ++ more; found = found; looked = old.looked; taken = old.taken + 1; holds = false; place = old.place }
+  pub new_is : new ≡ record { limits = old.limits; seen = found ++ more; found = found; looked = old.looked; taken = old.taken + 1; made = old.made; holds = false; place = old.place }
 
 -- a hold that added nothing
 abbrev pub Looks : RosterView → RosterView → Type 0
@@ -73,20 +77,29 @@ pub record Attaches (old new : RosterView) (info : ThreadInfo) (fresh : ThreadSi
   pub hold : Holds old new found (Came (record { thread = record { 0 = threads_in found }; info = info; cell = fresh.cell }) ∷ [])
   pub fresh_is : fresh.view ≡ newcomer (subject_of old.limits (record { 0 = threads_in found })) 0 (old.limits.envs + 1)
 
--- a thread that was there was given back
+-- A thread that was there was given back: the one that came to this service under the number
 pub record Ends (old new : RosterView) (t : ThreadNo) : Type 0 where
   pub found : List Coming
   pub hold : Holds old new found (Ended t ∷ [])
   pub there : is_live t found ≡ true
+  pub listed : IsListed (roster_of old found) t
 
 -- it was not given back, for this reason
 pub record RefusesEnd (old new : RosterView) (t : ThreadNo) (e : TiError) : Type 0 where
   pub looks : Looks old new
   pub why : e ≡ end_refusal (roster_seen new) t
+  pub limit : e ≡ Full → most_items ≤ length new.seen
 
--- why an environment takes no desks
-abbrev pub meeting_refusal : RosterView → TiError
-meeting_refusal v = if serves (roster_seen v) then OutOfMemory else InvalidEnvironment
+-- nothing was told of it, for this reason
+pub record RefusesInfo (old new : RosterView) (t : ThreadNo) (e : TiError) : Type 0 where
+  pub looks : Looks old new
+  pub why : e ≡ info_refusal (roster_seen new) t
+
+-- Why no environment came, and what it left. No handle could be made for it; or one was made and let go of, since the roster
+-- had no place for an environment
+pub data RefusesPlace (old new : Member) (e : TiError) : Type 0 where
+  NoHandle : e ≡ Full → new ≡ old → RefusesPlace old new e
+  NoPlace : e ≡ Full → new ≡ with_handle old → (found : List Coming) → Begins found old.view.seen → IsPlaceless (roster_of old.view found) → RefusesPlace old new e
 
 -- an environment came, at one of the places of the limits, which was nobody's
 pub record Claimed (old new : RosterView) (e : EnvNo) : Type 0 where
@@ -95,7 +108,7 @@ pub record Claimed (old new : RosterView) (e : EnvNo) : Type 0 where
   pub looked : AreWithin (length found) old.looked
   pub there : e.0 < old.limits.envs
   pub free : mark_of e found ≡ None
-  pub new_is : new ≡ record { limits = old.limits; seen = found ++ Attached e ∷ []; found = found; looked = old.looked; taken = old.taken + 1; holds = false; place = Some e }
+  pub new_is : new ≡ record { limits = old.limits; seen = found ++ Attached e ∷ []; found = found; looked = old.looked; taken = old.taken + 1; made = old.made; holds = false; place = Some e }
 
 -- an environment took its desks at the threads that came since it last did, and are there
 pub record TakesDesks (old new : RosterView) (desks : List FreeState) (next : ℕ) : Type 0 where
@@ -127,4 +140,4 @@ pub record Leaves (old new : RosterView) (desks : List FreeState) : Type 0 where
   pub begins : Begins found old.seen
   pub claims : Claims found old.place old.seen
   pub looked : AreWithin (length found) old.looked
-  pub new_is : new ≡ record { limits = old.limits; seen = left_log (roster_of old found) env desks; found = found; looked = old.looked; taken = old.taken + 1; holds = false; place = None }
+  pub new_is : new ≡ record { limits = old.limits; seen = left_log (roster_of old found) env desks; found = found; looked = old.looked; taken = old.taken + 1; made = old.made; holds = false; place = None }

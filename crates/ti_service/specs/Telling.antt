@@ -49,6 +49,7 @@ pub record HasLooked (old new : RosterView) : Type 0 where
   pub limits : new.limits ≡ old.limits
   pub place : new.place ≡ old.place
   pub looked : new.looked ≡ old.looked
+  pub made : new.made ≡ old.made
 
 -- some holds that told of no event, and then one that did or that was the last
 pub record TellsInTime (old new : AgentState) (told : Option NextEvent) : Type 0 where

@@ -120,7 +120,9 @@ impl Agent {
     ///
     /// - 103 ILLEGAL_ARGUMENT: a desk's number is not above those before it. The service gives no such desk. But its list
     ///   does not say so yet, so the contract allows it.
-    /// - 110 OUT_OF_MEMORY: there is no memory for the desks, or the environment has a desk at 65,536 threads.
+    /// - 216 `Full` (this profile): the environment has a desk at 65,536 threads, or there were 2^62 - 1 comings and goings in
+    ///   all.
+    /// - 110 OUT_OF_MEMORY: there is no memory for the desks.
     ///
     /// Then no desk is lost: those that could not be added are added by the next meeting.
     pub fn meet<R: Wait>(&mut self, rt: &R, alloc: Global) -> Result<(), TiError>
@@ -161,7 +163,7 @@ impl Agent {
         ensures rest { IsSameBut self.old self.new }
         ensures hold { Looks self.old.service.view self.new.service.view }
         ensures told { IfOk result (λ i. IsToldOf (roster_seen self.new.service.view) thread i) }
-        ensures refused { IfErr result (λ e. e ≡ end_refusal (roster_seen self.new.service.view) thread) }
+        ensures refused { IfErr result (λ e. e ≡ info_refusal (roster_seen self.new.service.view) thread) }
     {
         self.service.get_thread_info(rt, alloc, thread)
     }
@@ -170,7 +172,7 @@ impl Agent {
 ghost use Rattle.std.specs.Prelude.{◌≡◌, [], map, IfOk, IfErr, OnOk};
 ghost use Rattle.ti_types.specs.declared.error.TiError.TheVariants.{OutOfMemory};
 ghost use Rattle.ti_roster.specs.Log.{live};
-ghost use Rattle.ti_roster.specs.Roster.{IsToldOf, end_refusal};
+ghost use Rattle.ti_roster.specs.Roster.{IsToldOf, info_refusal};
 ghost use Rattle.ti_service.specs.Service.{Looks, TellsNews, roster_seen};
 ghost use Rattle.ti_service.specs.Homes.{AreOurs};
 ghost use Rattle.ti_service.specs.Agent.{IsSameBut, IsWhyNot, Keeps, Meets, Moved};

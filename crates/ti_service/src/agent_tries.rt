@@ -14,7 +14,7 @@ impl Agent {
     ///
     /// The error is the first of these that fits:
     ///
-    /// - 103 ILLEGAL_ARGUMENT, 110 OUT_OF_MEMORY: as for `meet`. No desk is lost.
+    /// - 103 ILLEGAL_ARGUMENT, 110 OUT_OF_MEMORY, 216 `Full` (this profile): as for `meet`. No desk is lost.
     /// - 215 `Busy` (this profile): the roster is in use. Desks that waited are the environment's now. Nothing else has
     ///   changed.
     pub fn try_meet(&mut self, alloc: Global) -> Result<(), TiError>
@@ -50,7 +50,7 @@ impl Agent {
         ensures rest { IsSameBut self.old self.new }
         ensures hold { OnOk result (Looks self.old.service.view self.new.service.view) }
         ensures told { IfOk result (λ i. IsToldOf (roster_seen self.new.service.view) thread i) }
-        ensures refused { IfErr result (λ e. RefusesEnd self.old.service.view self.new.service.view thread e ⊎ ((e ≡ Busy) × (self.new ≡ self.old))) }
+        ensures refused { IfErr result (λ e. RefusesInfo self.old.service.view self.new.service.view thread e ⊎ ((e ≡ Busy) × (self.new ≡ self.old))) }
     {
         self.service.try_get_thread_info(alloc, thread)
     }
@@ -128,13 +128,12 @@ impl Agent {
 
     /// DisposeEnvironment (JVM TI 11), as `dispose` does it.
     ///
-    /// The error is 110 OUT_OF_MEMORY as for `dispose`, or 215 `Busy` (this profile) if the cell of a thread or the roster is
-    /// in use. Then the agent comes back. It may have left some of its threads already, and can only be disposed of: by a
+    /// The error is 110 OUT_OF_MEMORY or 216 `Full` as for `dispose`, or 215 `Busy` (this profile) if the cell of a thread or
+    /// the roster is in use. Then the agent comes back. It may have left some of its threads already, and can only be disposed of: by a
     /// further try, or by `dispose`.
     pub fn try_dispose(mut self, alloc: Global) -> Result<Service, (TiError, Agent)>
         ensures disposed { IfOk result (λ s. Disposes self s) }
-        ensures refused { IfErr result (λ r. (r.0 ≡ OutOfMemory) ⊎ (r.0 ≡ Busy)) }
-        ensures kept { IfErr result (λ r. StaysOn self r.1) }
+        ensures kept { IfErr result (λ r. StaysOn self r.1 r.0) }
         ensures events { IfErr result (λ r. r.1.events ≡ self.events) }
     {
         match self.try_clear(alloc) {
@@ -166,7 +165,7 @@ ghost use Rattle.std.specs.Prelude.{◌≡◌, ◌⊎◌, true, false, [], is_so
 ghost use Rattle.ti_types.specs.declared.error.TiError.TheVariants.{Busy, OutOfMemory};
 ghost use Rattle.ti_roster.specs.Log.{live};
 ghost use Rattle.ti_roster.specs.Roster.{IsToldOf};
-ghost use Rattle.ti_service.specs.Service.{Looks, RefusesEnd, roster_seen};
+ghost use Rattle.ti_service.specs.Service.{Looks, RefusesInfo, roster_seen};
 ghost use Rattle.ti_service.specs.Agent.{AddsWaiting, IsSameBut, Keeps, Meets};
 ghost use Rattle.ti_service.specs.Leaving.{Clears, Disposes, StaysOn};
 ghost use Rattle.ti_service.specs.LettingGo.{LetsGo};

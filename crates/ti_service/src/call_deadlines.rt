@@ -11,8 +11,8 @@ impl Agent {
     /// GetFrameCount (JVM TI 11), which waits for at most this time. 214 (this profile) when the time is over, or if the
     /// clock can't be read. Then the call has spent its one call, and is given up as by `cancel`.
     ///
-    /// 110 OUT_OF_MEMORY if `window` calls are out at the thread, or if there is no memory to note that the call is given
-    /// up. Then nothing was asked. Before it asks, it discards one answer at the thread, as `discard` does. All of this is
+    /// 216 (this profile: `Full`) if `window` calls are out at the thread, and 110 OUT_OF_MEMORY if there is no memory to note
+    /// that the call is given up. Then nothing was asked. Before it asks, it discards one answer at the thread, as `discard` does. All of this is
     /// so for each call with a deadline.
     pub fn get_frame_count_within<R: Wait + Clock>(
         &mut self,

@@ -11,7 +11,7 @@ impl Agent {
     /// SuspendThreadList (JVM TI 11): one code for each element, 0 or the number of its error. All elements are posted, in
     /// the list's order, before it waits for the first. A refused element does not stop those after it.
     ///
-    /// It spends one call for each element that reaches its thread. An element's code is 110 OUT_OF_MEMORY if `window` calls
+    /// It spends one call for each element that reaches its thread. An element's code is 216 (this profile: `Full`) if `window` calls
     /// of this agent are out at its thread, those of the list included. Such an element does not reach its thread.
     ///
     /// The whole call is refused with 99 MUST_POSSESS_CAPABILITY, and then with 110 if there is no memory for the codes.
@@ -50,8 +50,8 @@ impl Agent {
     ///
     /// - the thread's answer, which is 14 or 15 if it refuses;
     /// - a ticket, if the thread runs: `try_collect_once` has the answer later;
-    /// - an error, and then nothing changed at that thread: 10 INVALID_THREAD, 15 THREAD_NOT_ALIVE, 209 CALLS_SPENT, 110
-    ///   OUT_OF_MEMORY if `window` calls are out there, 215 BUSY if its cell is in use.
+    /// - an error, and then nothing changed at that thread: 10 INVALID_THREAD, 15 THREAD_NOT_ALIVE, 209 CALLS_SPENT, 216
+    ///   (this profile: `Full`) if `window` calls are out there, 215 BUSY if its cell is in use.
     ///
     /// The whole call is refused with 99 MUST_POSSESS_CAPABILITY, and then with 110 if there is no memory for the list. Then
     /// nothing was tried.

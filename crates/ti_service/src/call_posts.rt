@@ -22,7 +22,8 @@ impl Agent {
     ///   come by its last meeting, and it has no desk there.
     /// - 103 ILLEGAL_ARGUMENT: its count or depth is negative.
     /// - 209 CALLS_SPENT (this profile): the agent has no call left at this thread.
-    /// - 110 OUT_OF_MEMORY: the call may wait and `window` calls are out there, or there is no memory for a trace's frames.
+    /// - 216 (this profile: `Full`): the call may wait, and `window` calls are out there.
+    /// - 110 OUT_OF_MEMORY: there is no memory for a trace's frames.
     ///
     /// Then nothing changes.
     pub fn post<R: Wait>(

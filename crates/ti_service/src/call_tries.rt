@@ -24,8 +24,8 @@ impl Agent {
     ///
     /// The error is the first of these that fits. Then nothing changes:
     ///
-    /// - 99 MUST_POSSESS_CAPABILITY, 10 INVALID_THREAD or 15 THREAD_NOT_ALIVE, 103 ILLEGAL_ARGUMENT, 209 CALLS_SPENT, 110
-    ///   OUT_OF_MEMORY: as for `post`.
+    /// - 99 MUST_POSSESS_CAPABILITY, 10 INVALID_THREAD or 15 THREAD_NOT_ALIVE, 103 ILLEGAL_ARGUMENT, 209 CALLS_SPENT, 216
+    ///   `Full` (this profile), 110 OUT_OF_MEMORY: as for `post`.
     /// - 215 `Busy` (this profile): the thread's cell is in use.
     pub fn try_post(
         &mut self,

@@ -47,12 +47,12 @@ impl Agent {
     /// What is left is a handle, which is no environment's. The next environment at this place is at each thread that is
     /// there, and finds nothing of what this one did but at the threads themselves: what it suspended and popped.
     ///
-    /// The error is 110 OUT_OF_MEMORY if there is no memory to give calls up, or there were 2^62 - 1 comings and goings in all
-    /// (this profile). Then the agent comes back. It may have left some of its threads already, and can only be disposed of.
+    /// The error is 110 OUT_OF_MEMORY if there is no memory to give calls up, or 216 `Full` if there were 2^62 - 1 comings and
+    /// goings in all, or there would be with the desks (this profile). Then the agent comes back. It may have left some of its threads already, and can only be disposed of.
     pub fn dispose<R: Wait>(mut self, rt: &R, alloc: Global) -> Result<Service, (TiError, Agent)>
         ensures disposed { IfOk result (λ s. Disposes self s) }
-        ensures memory { IfErr result (λ r. r.0 ≡ OutOfMemory) }
-        ensures kept { IfErr result (λ r. StaysOn self r.1) }
+        ensures refused { IfErr result (λ r. (r.0 ≡ OutOfMemory) ⊎ (r.0 ≡ Full)) }
+        ensures kept { IfErr result (λ r. StaysOn self r.1 r.0) }
         ensures events { IfErr result (λ r. r.1.events ≡ self.events) }
     {
         match self.clear(rt, alloc) {
@@ -80,7 +80,7 @@ impl Agent {
     }
 }
 
-ghost use Rattle.std.specs.Prelude.{◌≡◌, ◌<◌, [], length, IfOk, IfErr, IfSome, IfNone, OnOk};
-ghost use Rattle.ti_types.specs.declared.error.TiError.TheVariants.{OutOfMemory};
+ghost use Rattle.std.specs.Prelude.{◌≡◌, ◌⊎◌, ◌<◌, [], length, IfOk, IfErr, IfSome, IfNone, OnOk};
+ghost use Rattle.ti_types.specs.declared.error.TiError.TheVariants.{Full, OutOfMemory};
 ghost use Rattle.ti_agent.specs.Env.{place_in};
 ghost use Rattle.ti_service.specs.Leaving.{Clears, Disposes, StaysOn};

@@ -6,7 +6,7 @@ use std::marker::Model;
 use std::sync::Wait;
 use std::time::Duration;
 use ti_agent::{Env, FreeDesk};
-use ti_cell::OwnerSeat;
+use ti_cell::{OwnSeat, Pace};
 use ti_handshake::{Ended, Fresh};
 use ti_roster::{NextEvent, RosterSeat, SharedRoster, ThreadInfo};
 use ti_types::{EnvNo, Limits, ThreadNo, TiError};
@@ -83,12 +83,14 @@ impl Service {
         })
     }
 
-    /// One more handle. It knows what this one knows, and is no environment's. It takes no memory. The error is 110
-    /// OUT_OF_MEMORY if there are 2^63 handles already (this profile). Then nothing changes.
+    /// One more handle. It knows what this one knows, and is no environment's. It takes no memory. Nothing changes but that
+    /// this handle has made one more. The error is 216 `Full` if there are 2^63 handles already (this profile). Then nothing
+    /// changes.
     pub fn share(&mut self) -> Result<Service, TiError>
-        ensures same { self.new ≡ self.old }
+        ensures made { OnOk result (self.new ≡ with_handle self.old) }
         ensures other { IfOk result (λ s. (s.cell ≡ self.old.cell) × (s.view ≡ split_off self.old.view)) }
-        ensures memory { IfErr result (λ e. e ≡ OutOfMemory) }
+        ensures full { IfErr result (λ e. e ≡ Full) }
+        ensures unchanged { OnErr result (self.new ≡ self.old) }
     {
         let roster = self.roster.share()?;
         let Some(seat) = &mut self.seat else {
@@ -128,27 +130,33 @@ impl Service {
         requires { self.old.view.place ≡ None }
         ensures cell { self.new.cell ≡ self.old.cell }
         ensures claimed { IfOk result (λ e. Claimed self.old.view self.new.view e) }
-        ensures memory { IfErr result (λ e. e ≡ OutOfMemory) }
+        ensures full { IfErr result (λ e. (e ≡ Full) × IsPlaceless (roster_seen self.new.view)) }
         ensures unchanged { OnErr result (Looks self.old.view self.new.view) }
     {
-        let Some(seat) = self.seat.take() else {
-            unreachable!()
-        };
-        let mut hold = self.roster.hold(rt, seat);
-        let env = hold.roster().attach();
-        self.seat = Some(hold.store());
-        env
+        let pace = Pace::new();
+        for _ in rt.forever() {
+            match self.try_claim() {
+                Err(TiError::Busy) => self.roster.await_free(rt, &pace),
+                result => {
+                    self.wake_sleepers();
+                    return result;
+                }
+            }
+        }
+        unreachable!()
     }
 
     /// Attaches an environment. Its number was nobody's, and is never free again. It has no capability, the word 0, and no desk
     /// yet: it meets the threads by `Agent::meet`.
     ///
-    /// 110 OUT_OF_MEMORY if there are as many environments as the limits allow, or 2^62 - 1 comings and goings in all, or
-    /// 2^63 handles (this profile). Then nothing changes.
+    /// It takes no memory. Nothing changes of this handle but that it has made one more, which is the agent's.
+    ///
+    /// 216 `Full` (this profile) if there are as many environments as the limits allow, or 2^62 - 1 comings and goings in
+    /// all, or 2^63 handles. Then no environment came, and no place is taken. The handle that was made is let go of.
     pub fn attach_environment<R: Wait>(&mut self, rt: &R, alloc: Global) -> Result<Agent, TiError>
-        ensures same { self.new ≡ self.old }
+        ensures made { OnOk result (self.new ≡ with_handle self.old) }
         ensures attached { IfOk result (λ a. IsNewAgent self.old a) }
-        ensures memory { IfErr result (λ e. e ≡ OutOfMemory) }
+        ensures refused { IfErr result (λ e. RefusesPlace self.old self.new e) }
     {
         let mut service = self.share()?;
         let env = service.claim(rt)?;
@@ -171,27 +179,26 @@ impl Service {
     ) -> Result<(Vec<FreeDesk>, u32), TiError>
         ensures cell { self.new.cell ≡ self.old.cell }
         ensures taken { IfOk result (λ d. TakesDesks self.old.view self.new.view d.0.items d.1) }
-        ensures refused { IfErr result (λ e. e ≡ meeting_refusal self.new.view) }
+        ensures refused { IfErr result (λ e. e ≡ meeting_refusal (roster_seen self.new.view)) }
         ensures unchanged { OnErr result (Looks self.old.view self.new.view) }
     {
-        let Some(seat) = self.seat.take() else {
-            unreachable!()
-        };
-        let mut hold = self.roster.hold(rt, seat);
-        let roster = hold.roster();
-        let next = roster.next();
-        let desks = roster.meet(alloc);
-        self.seat = Some(hold.store());
-        match desks {
-            Ok(desks) => Ok((desks, next)),
-            Err(error) => Err(error),
+        let pace = Pace::new();
+        for _ in rt.forever() {
+            match self.try_meet(alloc) {
+                Err(TiError::Busy) => self.roster.await_free(rt, &pace),
+                result => {
+                    self.wake_sleepers();
+                    return result;
+                }
+            }
         }
+        unreachable!()
     }
 
     /// This handle's environment is disposed of, and gives these desks back. The handle is no environment's any more.
     ///
-    /// 110 OUT_OF_MEMORY if there were 2^62 - 1 comings and goings in all (this profile). Then the desks come back, and
-    /// nothing changes but what the handle has seen.
+    /// 216 `Full` (this profile) if there were 2^62 - 1 comings and goings in all, or there would be with the desks. Then the
+    /// desks come back, and nothing changes but what the handle has seen.
     pub(crate) fn leave<R: Wait>(
         &mut self,
         rt: &R,
@@ -200,23 +207,31 @@ impl Service {
         requires { MayLeave self.old.view desks.items }
         ensures cell { self.new.cell ≡ self.old.cell }
         ensures left { OnOk result (Leaves self.old.view self.new.view desks.items) }
-        ensures memory { IfErr result (λ r. r.0 ≡ OutOfMemory) }
+        ensures full { IfErr result (λ r. (r.0 ≡ Full) × (most_items ≤ length self.new.view.seen + length desks.items)) }
         ensures back { IfErr result (λ r. r.1 ≡ desks) }
         ensures unchanged { OnErr result (Looks self.old.view self.new.view) }
     {
-        let Some(seat) = self.seat.take() else {
-            unreachable!()
-        };
-        let mut hold = self.roster.hold(rt, seat);
-        let left = hold.roster().dispose(desks);
-        self.seat = Some(hold.store());
-        left
+        let pace = Pace::new();
+        let mut desks = desks;
+        for _ in rt.forever() {
+            match self.try_leave(desks) {
+                Err((TiError::Busy, again)) => desks = again,
+                result => {
+                    self.wake_sleepers();
+                    return result;
+                }
+            }
+            self.roster.await_free(rt, &pace);
+        }
+        unreachable!()
     }
 
     /// Attaches a thread. It has the next number, and has not started. Environments have a desk there once they meet it.
     ///
-    /// 110 OUT_OF_MEMORY if there is no memory for the thread, or if there were 2^32 - 1 threads, or 2^62 - 1 comings and
-    /// goings in all (this profile). Then nothing changes but what the handle has seen.
+    /// The error is the first of these that fits. Then nothing changes but what the handle has seen:
+    ///
+    /// - 216 `Full` (this profile): there were 2^32 - 1 threads, or 2^62 - 1 comings and goings in all.
+    /// - 110 OUT_OF_MEMORY: there is no memory for the thread.
     pub fn attach_thread<R: Wait>(
         &mut self,
         rt: &R,
@@ -225,7 +240,7 @@ impl Service {
     ) -> Result<Fresh, TiError>
         ensures cell { self.new.cell ≡ self.old.cell }
         ensures attached { IfOk result (λ f. Attaches self.old.view self.new.view info f) }
-        ensures memory { IfErr result (λ e. e ≡ OutOfMemory) }
+        ensures refused { IfErr result (λ e. e ≡ coming_refusal (roster_seen self.new.view)) }
         ensures unchanged { OnErr result (Looks self.old.view self.new.view) }
     {
         let Some(seat) = self.seat.take() else {
@@ -243,13 +258,17 @@ impl Service {
         ensures gone { OnOk result (Ends self.old.view self.new.view thread) }
         ensures refused { IfErr result (λ e. RefusesEnd self.old.view self.new.view thread e) }
     {
-        let Some(seat) = self.seat.take() else {
-            unreachable!()
-        };
-        let mut hold = self.roster.hold(rt, seat);
-        let ended = hold.roster().end(thread);
-        self.seat = Some(hold.store());
-        ended
+        let pace = Pace::new();
+        for _ in rt.forever() {
+            match self.try_end(thread) {
+                Err(TiError::Busy) => self.roster.await_free(rt, &pace),
+                result => {
+                    self.wake_sleepers();
+                    return result;
+                }
+            }
+        }
+        unreachable!()
     }
 
     /// Gives a thread back that has ended. It is there no more, and its number is never used again. Its memory is freed
@@ -260,8 +279,8 @@ impl Service {
     ///
     /// - 10 INVALID_THREAD: the service has had no thread of this number.
     /// - 15 THREAD_NOT_ALIVE: it was given back before.
-    /// - 110 OUT_OF_MEMORY: there were 2^62 - 1 comings and goings in all (this profile).
-    pub fn end_thread<R: Wait>(&mut self, rt: &R, ended: Ended) -> Result<(), (TiError, OwnerSeat)>
+    /// - 216 `Full` (this profile): there were 2^62 - 1 comings and goings in all.
+    pub fn end_thread<R: Wait>(&mut self, rt: &R, ended: Ended) -> Result<(), (TiError, OwnSeat)>
         ensures cell { self.new.cell ≡ self.old.cell }
         ensures gone { OnOk result (Ends self.old.view self.new.view ended.view.subject.thread) }
         ensures refused { IfErr result (λ r. RefusesEnd self.old.view self.new.view ended.view.subject.thread r.0) }
@@ -279,7 +298,7 @@ impl Service {
         &mut self,
         rt: &R,
         fresh: Fresh,
-    ) -> Result<(), (TiError, OwnerSeat)>
+    ) -> Result<(), (TiError, OwnSeat)>
         ensures cell { self.new.cell ≡ self.old.cell }
         ensures gone { OnOk result (Ends self.old.view self.new.view fresh.view.subject.thread) }
         ensures refused { IfErr result (λ r. RefusesEnd self.old.view self.new.view fresh.view.subject.thread r.0) }
@@ -306,13 +325,17 @@ impl Service {
         ensures threads { IfOk result (λ t. t.items ≡ map (λ n. n.thread) (live self.new.view.seen)) }
         ensures memory { IfErr result (λ e. e ≡ OutOfMemory) }
     {
-        let Some(seat) = self.seat.take() else {
-            unreachable!()
-        };
-        let mut hold = self.roster.hold(rt, seat);
-        let threads = hold.roster().threads(alloc);
-        self.seat = Some(hold.store());
-        threads
+        let pace = Pace::new();
+        for _ in rt.forever() {
+            match self.try_get_all_threads(alloc) {
+                Err(TiError::Busy) => self.roster.await_free(rt, &pace),
+                result => {
+                    self.wake_sleepers();
+                    return result;
+                }
+            }
+        }
+        unreachable!()
     }
 
     /// GetThreadInfo (JVM TI 11): the name and the priority of a thread that is there, as they were when it was attached.
@@ -328,15 +351,19 @@ impl Service {
         ensures cell { self.new.cell ≡ self.old.cell }
         ensures hold { Looks self.old.view self.new.view }
         ensures told { IfOk result (λ i. IsToldOf (roster_seen self.new.view) thread i) }
-        ensures refused { IfErr result (λ e. e ≡ end_refusal (roster_seen self.new.view) thread) }
+        ensures refused { IfErr result (λ e. e ≡ info_refusal (roster_seen self.new.view) thread) }
     {
-        let Some(seat) = self.seat.take() else {
-            unreachable!()
-        };
-        let mut hold = self.roster.hold(rt, seat);
-        let info = hold.roster().info(alloc, thread);
-        self.seat = Some(hold.store());
-        info
+        let pace = Pace::new();
+        for _ in rt.forever() {
+            match self.try_get_thread_info(alloc, thread) {
+                Err(TiError::Busy) => self.roster.await_free(rt, &pace),
+                result => {
+                    self.wake_sleepers();
+                    return result;
+                }
+            }
+        }
+        unreachable!()
     }
 
     /// How many starts and ends of threads have happened.
@@ -345,13 +372,17 @@ impl Service {
         ensures hold { Looks self.old.view self.new.view }
         ensures count { result ≡ length (life_of self.new.view.seen) }
     {
-        let Some(seat) = self.seat.take() else {
-            unreachable!()
-        };
-        let mut hold = self.roster.hold(rt, seat);
-        let count = hold.roster().events();
-        self.seat = Some(hold.store());
-        count
+        let pace = Pace::new();
+        for _ in rt.forever() {
+            match self.try_event_count() {
+                Ok(count) => {
+                    self.wake_sleepers();
+                    return count;
+                }
+                Err(_busy) => self.roster.await_free(rt, &pace),
+            }
+        }
+        unreachable!()
     }
 
     /// The first start or end of a thread from this index on that is kept, and how many were lost before it.
@@ -362,15 +393,17 @@ impl Service {
         ensures fits { IfSome result (λ n. from + n.lost < 2 ^ 62) }
         ensures order { AreInOrder (life_of self.new.view.seen) }
     {
-        let Some(seat) = self.seat.take() else {
-            unreachable!()
-        };
-        let mut hold = self.roster.hold(rt, seat);
-        let roster = hold.roster();
-        roster.facts();
-        let next = roster.next_event(from);
-        self.seat = Some(hold.store());
-        next
+        let pace = Pace::new();
+        for _ in rt.forever() {
+            match self.try_next_event(from) {
+                Ok(next) => {
+                    self.wake_sleepers();
+                    return next;
+                }
+                Err(_busy) => self.roster.await_free(rt, &pace),
+            }
+        }
+        unreachable!()
     }
 
     /// Sleeps until somebody else has held the roster, if no more has happened than the handle has seen. It sleeps for at most
@@ -388,21 +421,25 @@ impl Service {
         ensures hold { Looks self.old.view self.new.view }
         ensures live { result ≡ is_live thread self.new.view.seen }
     {
-        let Some(seat) = self.seat.take() else {
-            unreachable!()
-        };
-        let mut hold = self.roster.hold(rt, seat);
-        let there = hold.roster().is_live(thread);
-        self.seat = Some(hold.store());
-        there
+        let pace = Pace::new();
+        for _ in rt.forever() {
+            match self.try_is_live(thread) {
+                Ok(there) => {
+                    self.wake_sleepers();
+                    return there;
+                }
+                Err(_busy) => self.roster.await_free(rt, &pace),
+            }
+        }
+        unreachable!()
     }
 }
 
-ghost use Rattle.std.specs.Prelude.{◌≡◌, ◌<◌, ◌+◌, ◌^◌, None, length, map, IfOk, IfErr, IfSome, OnOk, OnErr};
+ghost use Rattle.std.specs.Prelude.{◌≡◌, ◌<◌, ◌≤◌, ◌+◌, ◌^◌, None, length, map, IfOk, IfErr, IfSome, OnOk, OnErr};
 ghost use Rattle.ti_roster.specs.Events.{AreInOrder, life_of, next_event};
-ghost use Rattle.ti_types.specs.declared.error.TiError.TheVariants.{OutOfMemory};
+ghost use Rattle.ti_types.specs.declared.error.TiError.TheVariants.{Full, OutOfMemory};
 ghost use Rattle.ti_roster.specs.View.{first_view, split_off};
 ghost use Rattle.ti_roster.specs.Log.{is_live, live};
-ghost use Rattle.ti_roster.specs.Roster.{IsToldOf, end_refusal};
+ghost use Rattle.ti_roster.specs.Roster.{IsPlaceless, IsToldOf, coming_refusal, info_refusal, meeting_refusal, most_items};
 ghost use Rattle.ti_service.specs.Agent.{IsNewAgent};
-ghost use Rattle.ti_service.specs.Service.{Attaches, Claimed, Ends, Leaves, Looks, MayLeave, RefusesEnd, TakesDesks, TellsNews, meeting_refusal, roster_seen};
+ghost use Rattle.ti_service.specs.Service.{Attaches, Claimed, Ends, Leaves, Looks, MayLeave, RefusesEnd, RefusesPlace, TakesDesks, TellsNews, roster_seen, with_handle};

@@ -20,11 +20,11 @@ impl Service {
     }
 
     /// A place for an environment, which is this handle's from now on.
-    fn try_claim(&mut self) -> Result<EnvNo, TiError>
+    pub(crate) fn try_claim(&mut self) -> Result<EnvNo, TiError>
         requires { self.old.view.place ≡ None }
         ensures cell { self.new.cell ≡ self.old.cell }
         ensures claimed { IfOk result (λ e. Claimed self.old.view self.new.view e) }
-        ensures refused { IfErr result (λ e. ((e ≡ OutOfMemory) × Looks self.old.view self.new.view) ⊎ ((e ≡ Busy) × (self.new ≡ self.old))) }
+        ensures refused { IfErr result (λ e. (((e ≡ Full) × IsPlaceless (roster_seen self.new.view)) × Looks self.old.view self.new.view) ⊎ ((e ≡ Busy) × (self.new ≡ self.old))) }
     {
         let Some(seat) = self.seat.take() else {
             unreachable!()
@@ -44,14 +44,14 @@ impl Service {
 
     /// Attaches an environment, as `attach_environment` does.
     ///
-    /// The error is one of these. Then nothing changes.
+    /// The error is one of these. Then no environment came, and no place is taken.
     ///
-    /// - 110 OUT_OF_MEMORY: as for `attach_environment`.
-    /// - 215 `Busy` (this profile): the roster is in use.
+    /// - 216 `Full` (this profile): as for `attach_environment`.
+    /// - 215 `Busy` (this profile): the roster is in use. The handle that was made is let go of.
     pub fn try_attach_environment(&mut self, alloc: Global) -> Result<Agent, TiError>
-        ensures same { self.new ≡ self.old }
+        ensures made { OnOk result (self.new ≡ with_handle self.old) }
         ensures attached { IfOk result (λ a. IsNewAgent self.old a) }
-        ensures refused { IfErr result (λ e. (e ≡ OutOfMemory) ⊎ (e ≡ Busy)) }
+        ensures refused { IfErr result (λ e. RefusesPlace self.old self.new e ⊎ ((e ≡ Busy) × (self.new ≡ with_handle self.old))) }
     {
         let mut service = self.share()?;
         let env = service.try_claim()?;
@@ -69,7 +69,7 @@ impl Service {
     pub(crate) fn try_meet(&mut self, alloc: Global) -> Result<(Vec<FreeDesk>, u32), TiError>
         ensures cell { self.new.cell ≡ self.old.cell }
         ensures taken { IfOk result (λ d. TakesDesks self.old.view self.new.view d.0.items d.1) }
-        ensures refused { IfErr result (λ e. ((e ≡ meeting_refusal self.new.view) × Looks self.old.view self.new.view) ⊎ ((e ≡ Busy) × (self.new ≡ self.old))) }
+        ensures refused { IfErr result (λ e. ((e ≡ meeting_refusal (roster_seen self.new.view)) × Looks self.old.view self.new.view) ⊎ ((e ≡ Busy) × (self.new ≡ self.old))) }
     {
         let Some(seat) = self.seat.take() else {
             unreachable!()
@@ -97,7 +97,7 @@ impl Service {
         requires { MayLeave self.old.view desks.items }
         ensures cell { self.new.cell ≡ self.old.cell }
         ensures left { OnOk result (Leaves self.old.view self.new.view desks.items) }
-        ensures refused { IfErr result (λ r. ((r.0 ≡ OutOfMemory) × Looks self.old.view self.new.view) ⊎ ((r.0 ≡ Busy) × (self.new ≡ self.old))) }
+        ensures refused { IfErr result (λ r. (((r.0 ≡ Full) × (most_items ≤ length self.new.view.seen + length desks.items)) × Looks self.old.view self.new.view) ⊎ ((r.0 ≡ Busy) × (self.new ≡ self.old))) }
         ensures back { IfErr result (λ r. r.1 ≡ desks) }
     {
         let Some(seat) = self.seat.take() else {
@@ -120,12 +120,12 @@ impl Service {
     ///
     /// The error is one of these. Then no thread came, and the name is freed.
     ///
-    /// - 110 OUT_OF_MEMORY: as for `attach_thread`. Nothing changes but what the handle has seen.
+    /// - 216 `Full` (this profile), 110 OUT_OF_MEMORY: as for `attach_thread`. Nothing changes but what the handle has seen.
     /// - 215 `Busy` (this profile): the roster is in use. Nothing changes.
     pub fn try_attach_thread(&mut self, alloc: Global, info: ThreadInfo) -> Result<Fresh, TiError>
         ensures cell { self.new.cell ≡ self.old.cell }
         ensures attached { IfOk result (λ f. Attaches self.old.view self.new.view info f) }
-        ensures refused { IfErr result (λ e. ((e ≡ OutOfMemory) × Looks self.old.view self.new.view) ⊎ ((e ≡ Busy) × (self.new ≡ self.old))) }
+        ensures refused { IfErr result (λ e. ((e ≡ coming_refusal (roster_seen self.new.view)) × Looks self.old.view self.new.view) ⊎ ((e ≡ Busy) × (self.new ≡ self.old))) }
     {
         let Some(seat) = self.seat.take() else {
             unreachable!()
@@ -144,7 +144,7 @@ impl Service {
     }
 
     /// A thread of this number is there no more.
-    fn try_end(&mut self, thread: ThreadNo) -> Result<(), TiError>
+    pub(crate) fn try_end(&mut self, thread: ThreadNo) -> Result<(), TiError>
         ensures cell { self.new.cell ≡ self.old.cell }
         ensures gone { OnOk result (Ends self.old.view self.new.view thread) }
         ensures refused { IfErr result (λ e. RefusesEnd self.old.view self.new.view thread e ⊎ ((e ≡ Busy) × (self.new ≡ self.old))) }
@@ -170,8 +170,8 @@ impl Service {
     /// The error is the first of these that fits. Then the thread comes back as it was:
     ///
     /// - 215 `Busy` (this profile): the roster is in use. Nothing changes.
-    /// - 10 INVALID_THREAD, 15 THREAD_NOT_ALIVE, 110 OUT_OF_MEMORY: as for `end_thread`. Nothing changes but what the handle
-    ///   has seen.
+    /// - 10 INVALID_THREAD, 15 THREAD_NOT_ALIVE, 216 `Full` (this profile): as for `end_thread`. Nothing changes but what the
+    ///   handle has seen.
     pub fn try_end_thread(&mut self, ended: Ended) -> Result<(), (TiError, Ended)>
         ensures cell { self.new.cell ≡ self.old.cell }
         ensures gone { OnOk result (Ends self.old.view self.new.view ended.view.subject.thread) }
@@ -235,7 +235,7 @@ impl Service {
         ensures cell { self.new.cell ≡ self.old.cell }
         ensures hold { OnOk result (Looks self.old.view self.new.view) }
         ensures told { IfOk result (λ i. IsToldOf (roster_seen self.new.view) thread i) }
-        ensures refused { IfErr result (λ e. RefusesEnd self.old.view self.new.view thread e ⊎ ((e ≡ Busy) × (self.new ≡ self.old))) }
+        ensures refused { IfErr result (λ e. RefusesInfo self.old.view self.new.view thread e ⊎ ((e ≡ Busy) × (self.new ≡ self.old))) }
     {
         let Some(seat) = self.seat.take() else {
             unreachable!()
@@ -328,10 +328,10 @@ impl Service {
     }
 }
 
-ghost use Rattle.std.specs.Prelude.{◌≡◌, ◌<◌, ◌+◌, ◌^◌, ◌⊎◌, None, length, map, IfOk, IfErr, IfSome, OnOk};
+ghost use Rattle.std.specs.Prelude.{◌≡◌, ◌<◌, ◌≤◌, ◌+◌, ◌^◌, ◌⊎◌, None, length, map, IfOk, IfErr, IfSome, OnOk};
 ghost use Rattle.ti_roster.specs.Events.{AreInOrder, life_of, next_event};
-ghost use Rattle.ti_types.specs.declared.error.TiError.TheVariants.{Busy, OutOfMemory};
+ghost use Rattle.ti_types.specs.declared.error.TiError.TheVariants.{Busy, Full, OutOfMemory};
 ghost use Rattle.ti_roster.specs.Log.{is_live, live};
-ghost use Rattle.ti_roster.specs.Roster.{IsToldOf};
+ghost use Rattle.ti_roster.specs.Roster.{IsPlaceless, IsToldOf, coming_refusal, meeting_refusal, most_items};
 ghost use Rattle.ti_service.specs.Agent.{IsNewAgent};
-ghost use Rattle.ti_service.specs.Service.{Attaches, Claimed, Ends, Leaves, Looks, MayLeave, RefusesEnd, TakesDesks, meeting_refusal, roster_seen};
+ghost use Rattle.ti_service.specs.Service.{Attaches, Claimed, Ends, Leaves, Looks, MayLeave, RefusesEnd, RefusesInfo, RefusesPlace, TakesDesks, roster_seen, with_handle};

@@ -14,7 +14,7 @@ use Rattle.ti_types.specs.declared.state.Mode.{Mode}
 use Rattle.ti_types.specs.declared.call.Call.{Call}
 use Rattle.ti_types.specs.declared.answer.Answer.{Answer}
 use Rattle.ti_types.specs.declared.entry.Entry.{Entry}
-use Rattle.ti_types.specs.declared.entry.Entry.TheVariants.{Start, Stepped, Hand, Back, End, Asked, Stop, Read, Go}
+use Rattle.ti_types.specs.declared.entry.Entry.TheVariants.{Start, Own, Hand, Back, End, Asked, Stop, Read, Go}
 use Rattle.ti_types.specs.declared.view.ThreadView.{ThreadView}
 use Rattle.ti_types.specs.Frames as buffer
 use Rattle.ti_types.specs.Answer.{said}
@@ -49,7 +49,7 @@ use Rattle.ti_slot.proofs.CallLaws.{May, Comes, comes, may_call, view_is}
 
 asked_one : (env : EnvNo) (x : Entry) → ask_count env x ≤ call_cost env x
 asked_one env Start = omega arith
-asked_one env (Stepped step) = omega arith
+asked_one env (Own step) = omega arith
 asked_one env (Hand safe) = omega arith
 asked_one env Back = omega arith
 asked_one env End = omega arith

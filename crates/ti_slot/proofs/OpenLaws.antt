@@ -11,7 +11,7 @@ use Rattle.ti_types.specs.declared.event.Ticket.{Ticket}
 use Rattle.ti_types.specs.declared.call.Call.{Call}
 use Rattle.ti_types.specs.declared.answer.Answer.{Answer}
 use Rattle.ti_types.specs.declared.entry.Entry.{Entry}
-use Rattle.ti_types.specs.declared.entry.Entry.TheVariants.{Start, Stepped, Hand, Back, End, Asked, Stop, Read, Go}
+use Rattle.ti_types.specs.declared.entry.Entry.TheVariants.{Start, Own, Hand, Back, End, Asked, Stop, Read, Go}
 use Rattle.ti_types.specs.declared.view.ThreadView.{ThreadView}
 use Rattle.ti_ops.specs.declared.fate.Fate.{Fate}
 use Rattle.ti_ops.specs.declared.fate.Fate.TheVariants.{Waiting, Answered, Gone}
@@ -32,7 +32,7 @@ use Rattle.ti_slot.proofs.TellLaws.{held-cons, asked-snoc, still, hand_free, no_
 
 hand_no_call : (t : Ticket) (x : Entry) → is_hand_over x ≡ true → is_call_of t x ≡ false
 hand_no_call t Start h = cc
-hand_no_call t (Stepped step) h = cc
+hand_no_call t (Own step) h = cc
 hand_no_call t (Hand safe) h = refl
 hand_no_call t Back h = cc
 hand_no_call t End h = refl

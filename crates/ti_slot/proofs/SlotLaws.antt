@@ -7,7 +7,7 @@ use Rattle.ti_types.specs.declared.step.Step.{Step}
 use Rattle.ti_types.specs.declared.state.Mode.{Mode}
 use Rattle.ti_types.specs.declared.state.Mode.TheVariants as mode
 use Rattle.ti_types.specs.declared.entry.Entry.{Entry}
-use Rattle.ti_types.specs.declared.entry.Entry.TheVariants.{Stepped}
+use Rattle.ti_types.specs.declared.entry.Entry.TheVariants.{Own}
 use Rattle.ti_types.specs.declared.view.ThreadView.{ThreadView}
 use Rattle.ti_frames.specs.Frames.{Stack}
 use Rattle.ti_frames.specs.Log.{Steps}
@@ -107,13 +107,13 @@ pub steps_stand : (limits : Limits) (h : List Entry) (cap : Shelf) (c : Conditio
     → Mirrors limits h cap c None l own costs ops → goes_on limits h (steps_of steps) ≡ true → Mirrors limits (h ++ steps_of steps) cap c None l (own + length steps) costs ops
 steps_stand limits h cap c l own costs ops [] s g = rw (append-nil, add-zero) s
 steps_stand limits h cap c l own costs ops (x ∷ steps) s g =
-    let here : may_follow limits h (Stepped x) ≡ true = grind arith in
-    let there : goes_on limits (h ++ Stepped x ∷ []) (steps_of steps) ≡ true = grind arith in
-    let one : Mirrors limits (h ++ Stepped x ∷ []) cap c None l (own + 1) costs ops =
-    goes limits h cap c None l own costs ops (Stepped x) (h ++ Stepped x ∷ []) cap c None l (own + 1) costs ops (frames_after (view limits h).frames x) s here refl refl
-    (grind (arith, charged_free costs (Stepped x))) refl s.frames_home s.log_home refl s.ready s.calls in
-    let rest = steps_stand limits (h ++ Stepped x ∷ []) cap c l (own + 1) costs ops steps one there in
-    let e1 : (h ++ Stepped x ∷ []) ++ steps_of steps ≡ h ++ steps_of (x ∷ steps) = append_assoc h (Stepped x ∷ []) (steps_of steps) in
+    let here : may_follow limits h (Own x) ≡ true = grind arith in
+    let there : goes_on limits (h ++ Own x ∷ []) (steps_of steps) ≡ true = grind arith in
+    let one : Mirrors limits (h ++ Own x ∷ []) cap c None l (own + 1) costs ops =
+    goes limits h cap c None l own costs ops (Own x) (h ++ Own x ∷ []) cap c None l (own + 1) costs ops (frames_after (view limits h).frames x) s here refl refl
+    (grind (arith, charged_free costs (Own x))) refl s.frames_home s.log_home refl s.ready s.calls in
+    let rest = steps_stand limits (h ++ Own x ∷ []) cap c l (own + 1) costs ops steps one there in
+    let e1 : (h ++ Own x ∷ []) ++ steps_of steps ≡ h ++ steps_of (x ∷ steps) = append_assoc h (Own x ∷ []) (steps_of steps) in
     let e2 : own + 1 + length steps ≡ own + length (x ∷ steps) = omega arith in
     subst (λ n. Mirrors limits (h ++ steps_of (x ∷ steps)) cap c None l n costs ops) e2 (subst (λ t. Mirrors limits t cap c None l (own + 1 + length steps) costs ops) e1 rest)
 

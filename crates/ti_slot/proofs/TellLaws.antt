@@ -12,7 +12,7 @@ use Rattle.ti_types.specs.declared.event.Ticket.{Ticket}
 use Rattle.ti_types.specs.declared.call.Call.{Call}
 use Rattle.ti_types.specs.declared.answer.Answer.{Answer}
 use Rattle.ti_types.specs.declared.entry.Entry.{Entry}
-use Rattle.ti_types.specs.declared.entry.Entry.TheVariants.{Start, Stepped, Hand, Back, End, Asked, Stop, Read, Go}
+use Rattle.ti_types.specs.declared.entry.Entry.TheVariants.{Start, Own, Hand, Back, End, Asked, Stop, Read, Go}
 use Rattle.ti_types.specs.declared.view.ThreadView.{ThreadView}
 use Rattle.ti_ops.specs.declared.fate.Fate.{Fate}
 use Rattle.ti_ops.specs.declared.fate.Fate.TheVariants.{Waiting, Gone}
@@ -44,7 +44,7 @@ is_call x = false
 
 pub no_asking : (env : EnvNo) (x : Entry) → is_call x ≡ false → ask_count env x ≡ 0
 no_asking env Start h = refl
-no_asking env (Stepped step) h = refl
+no_asking env (Own step) h = refl
 no_asking env (Hand safe) h = refl
 no_asking env Back h = refl
 no_asking env End h = refl
@@ -55,7 +55,7 @@ no_asking env (Go other) h = refl
 
 pub no_ticket : (number : ThreadNo) (x : Entry) → is_call x ≡ false → ticket_in number x ≡ []
 no_ticket number Start h = refl
-no_ticket number (Stepped step) h = refl
+no_ticket number (Own step) h = refl
 no_ticket number (Hand safe) h = refl
 no_ticket number Back h = refl
 no_ticket number End h = refl
@@ -66,7 +66,7 @@ no_ticket number (Go other) h = refl
 
 plain_free : (x : Entry) → is_plain x ≡ true → is_call x ≡ false
 plain_free Start h = refl
-plain_free (Stepped step) h = refl
+plain_free (Own step) h = refl
 plain_free (Hand safe) h = refl
 plain_free Back h = refl
 plain_free End h = refl
@@ -77,7 +77,7 @@ plain_free (Go other) h = refl
 
 pub hand_free : (x : Entry) → is_hand_over x ≡ true → is_call x ≡ false
 hand_free Start h = refl
-hand_free (Stepped step) h = refl
+hand_free (Own step) h = refl
 hand_free (Hand safe) h = refl
 hand_free Back h = refl
 hand_free End h = refl
@@ -88,7 +88,7 @@ hand_free (Go other) h = refl
 
 plain_tells : (v : ThreadView) (s : HistoryState) (x : Entry) (k : Ticket) → is_plain x ≡ true → reply_in v (settling s x) k ≡ None
 plain_tells v s Start k h = grind arith
-plain_tells v s (Stepped step) k h = grind arith
+plain_tells v s (Own step) k h = grind arith
 plain_tells v s (Hand safe) k h = cc
 plain_tells v s Back k h = grind arith
 plain_tells v s End k h = cc

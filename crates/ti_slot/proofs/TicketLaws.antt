@@ -9,7 +9,7 @@ use Rattle.ti_types.specs.declared.numbers.ThreadNo.{ThreadNo}
 use Rattle.ti_types.specs.declared.event.Ticket.{Ticket}
 use Rattle.ti_types.specs.declared.step.Step.{Step}
 use Rattle.ti_types.specs.declared.entry.Entry.{Entry}
-use Rattle.ti_types.specs.declared.entry.Entry.TheVariants.{Stepped}
+use Rattle.ti_types.specs.declared.entry.Entry.TheVariants.{Own}
 use Rattle.ti_ops.specs.declared.fate.Fate.{Fate}
 use Rattle.ti_ops.specs.declared.fate.Fate.TheVariants.{Gone}
 use Rattle.ti_ops.specs.Fates.{fate_of, with_fate, is_open}
@@ -26,7 +26,7 @@ asked_stay number history x e = asked_in-snoc number history x ∙ ap (λ ts. as
 pub asked-steps : (number : ThreadNo) (history : List Entry) (steps : List Step) → asked_in number (history ++ steps_of steps) ≡ asked_in number history
 asked-steps number history [] = ap (asked_in number) (append-nil history)
 asked-steps number history (x ∷ steps) =
-    ap (asked_in number) (sym (append_assoc history (Stepped x ∷ []) (steps_of steps))) ∙ asked-steps number (history ++ Stepped x ∷ []) steps ∙ asked_stay number history (Stepped x) refl
+    ap (asked_in number) (sym (append_assoc history (Own x ∷ []) (steps_of steps))) ∙ asked-steps number (history ++ Own x ∷ []) steps ∙ asked_stay number history (Own x) refl
 
 same_self : (t : Ticket) → same t t ≡ true
 same_self t = grind (arith, nat_tests)

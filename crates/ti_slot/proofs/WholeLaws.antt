@@ -20,7 +20,7 @@ use Rattle.ti_trail.specs.Record.{Recorded}
 use Rattle.ti_replay.specs.Events.{stopping_refusal, if_none}
 use Rattle.ti_slot.specs.declared.asked.Asked.TheVariants as asked
 use Rattle.ti_slot.specs.declared.condition.Condition.{Condition}
-use Rattle.ti_types.specs.declared.entry.Entry.TheVariants.{Stepped, Hand, End, Asked}
+use Rattle.ti_types.specs.declared.entry.Entry.TheVariants.{Own, Hand, End, Asked}
 use Rattle.ti_types.specs.declared.view.ThreadView.{ThreadView}
 use Rattle.ti_types.specs.Frames as buffer
 use Rattle.ti_types.specs.Answer.{said}
@@ -197,7 +197,7 @@ later_told a t env n call buf h ops s et k off e eo =
 tells_steps : (limits : Limits) (number : ThreadNo) (h : List Entry) (waiting : List Pending) (fates : List (List Fate)) (steps : List Step) → Tells limits number h waiting fates → Tells limits number (h ++ steps_of steps) waiting fates
 tells_steps limits number h waiting fates [] s = rw append-nil s
 tells_steps limits number h waiting fates (x ∷ steps) s =
-    subst (λ z. Tells limits number z waiting fates) (append_assoc h (Stepped x ∷ []) (steps_of steps)) (tells_steps limits number (h ++ Stepped x ∷ []) waiting fates steps (tells_plain limits number h waiting fates (Stepped x) refl s))
+    subst (λ z. Tells limits number z waiting fates) (append_assoc h (Own x ∷ []) (steps_of steps)) (tells_steps limits number (h ++ Own x ∷ []) waiting fates steps (tells_plain limits number h waiting fates (Own x) refl s))
 
 pub served_after : (a : Inside) (steps : List Step) (x : Entry) (v : ThreadView) (h : List Entry) (ops : Ops) → IsWhole a → Ran a steps → is_hand_over x ≡ true → after (view a.limits (a.history.items ++ steps_of steps)) x ≡ v
     → h ≡ (a.history.items ++ steps_of steps) ++ x ∷ [] → ops.waiting ≡ [] → said_in ops.fates ≡ delivered (answers_of v a.ops.waiting) (said_in a.ops.fates)

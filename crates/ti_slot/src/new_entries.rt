@@ -7,10 +7,10 @@ use ti_types::{Entry, Step};
 pub struct AsOwn;
 
 impl Reads<Step, Entry> for AsOwn {
-    ghost read = { Stepped };
+    ghost read = { Own };
 
     fn read(step: &Step) -> Entry {
-        Entry::Stepped(*step)
+        Entry::Own(*step)
     }
 }
 
@@ -34,6 +34,6 @@ pub fn push_steps(history: &mut Record<Entry>, steps: &Record<Step>)
 }
 
 ghost use Rattle.std.specs.Prelude.{◌≡◌, ◌≤◌, ◌<◌, ◌+◌, ◌++◌, ◌∷◌, [], length};
-ghost use Rattle.ti_types.specs.declared.entry.Entry.TheVariants.{Stepped};
+ghost use Rattle.ti_types.specs.declared.entry.Entry.TheVariants.{Own};
 ghost use Rattle.ti_replay.specs.LateTickets.{steps_of};
 ghost use Rattle.ti_slot.specs.Slot.{shelf};

@@ -1,6 +1,6 @@
 -- Calls that leave a running thread running.
 use Rattle.std.specs.Prelude.{◌≡◌, ◌≤◌, Bool, true, not, List, length, None, Some}
-use Rattle.ti_types.specs.declared.entry.Entry.TheVariants.{Stepped}
+use Rattle.ti_types.specs.declared.entry.Entry.TheVariants.{Own}
 use Rattle.ti_types.specs.declared.error.TiError.TheVariants.{NotRunning}
 use Rattle.ti_types.specs.declared.place.Frame.{Frame}
 use Rattle.ti_types.specs.declared.step.Step.{Step}
@@ -11,14 +11,14 @@ use Rattle.ti_handshake.specs.Thread.{Runner, frames_refusal, logged, refused_at
 use Rattle.ti_thread.specs.declared.any_thread.AnyThread.{AnyThread}
 use Rattle.ti_thread.specs.declared.any_thread.AnyThread.TheVariants.{Fresh, Running, Safe, Ended}
 use Rattle.ti_thread.specs.declared.any_thread.Told.{Told}
-use Rattle.ti_thread.specs.declared.any_thread.Told.TheVariants.{Done, Stays, Refused}
+use Rattle.ti_thread.specs.declared.any_thread.Told.TheVariants.{Done, Held, Refused}
 use Rattle.ti_thread.specs.Turns.{IsUnfit}
 
 -- a running thread makes a step, or is refused and is as it was
 abbrev pub StepsFrom : Step → Runner → AnyThread → Told → Type 0
-StepsFrom step r new Done = (new ≡ Running (with_step r step)) × (refused_at r.view.subject.limits (logged r.view.seen r.steps) (Stepped step) ≡ None)
-StepsFrom step r new (Refused e) = (new ≡ Running r) × (refused_at r.view.subject.limits (logged r.view.seen r.steps) (Stepped step) ≡ Some e)
-StepsFrom step r new Stays = ⊥
+StepsFrom step r new Done = (new ≡ Running (with_step r step)) × (refused_at r.view.subject.limits (logged r.view.seen r.steps) (Own step) ≡ None)
+StepsFrom step r new (Refused e) = (new ≡ Running r) × (refused_at r.view.subject.limits (logged r.view.seen r.steps) (Own step) ≡ Some e)
+StepsFrom step r new Held = ⊥
 
 abbrev pub Steps : Step → AnyThread → AnyThread → Told → Type 0
 Steps step (Running r) new told = StepsFrom step r new told
@@ -30,7 +30,7 @@ Steps step (Ended s) new told = IsUnfit NotRunning (Ended s) new told
 abbrev pub SetsFramesFrom : List Frame → Runner → AnyThread → Told → Type 0
 SetsFramesFrom frames r new Done = (new ≡ Running (with_all r frames)) × (frames_refusal r.view.subject.limits (logged r.view.seen r.steps) (length frames) (steps_between r.frames frames) ≡ None)
 SetsFramesFrom frames r new (Refused e) = (new ≡ Running r) × (frames_refusal r.view.subject.limits (logged r.view.seen r.steps) (length frames) (steps_between r.frames frames) ≡ Some e)
-SetsFramesFrom frames r new Stays = ⊥
+SetsFramesFrom frames r new Held = ⊥
 
 abbrev pub SetsFrames : List Frame → AnyThread → AnyThread → Told → Type 0
 SetsFrames frames (Running r) new told = SetsFramesFrom frames r new told

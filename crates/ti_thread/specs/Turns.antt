@@ -13,7 +13,7 @@ use Rattle.ti_handshake.specs.Tries.{StaysBarred, RunsOn}
 use Rattle.ti_thread.specs.declared.any_thread.AnyThread.{AnyThread}
 use Rattle.ti_thread.specs.declared.any_thread.AnyThread.TheVariants.{Fresh, Running, Safe, Ended}
 use Rattle.ti_thread.specs.declared.any_thread.Told.{Told}
-use Rattle.ti_thread.specs.declared.any_thread.Told.TheVariants.{Done, Stays, Refused}
+use Rattle.ti_thread.specs.declared.any_thread.Told.TheVariants.{Done, Held, Refused}
 
 -- the thread is in no state for the call, and is as it was
 abbrev pub IsUnfit : TiError → AnyThread → AnyThread → Told → Type 0
@@ -34,7 +34,7 @@ Starts (Ended s) new told = IsUnfit NotNew (Ended s) new told
 -- A running thread goes on from its poll, stays there, or has not polled
 abbrev pub PollsFrom : Runner → AnyThread → Told → Type 0
 PollsFrom r (Running n) Done = IsClear r n ⊎ HasGone r n
-PollsFrom r (Safe s) Stays = HasStayed r s
+PollsFrom r (Safe s) Held = HasStayed r s
 PollsFrom r (Running n) (Refused e) = (n ≡ r) × (e ≡ Busy)
 PollsFrom r _ _ = ⊥
 

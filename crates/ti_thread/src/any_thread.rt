@@ -9,7 +9,7 @@ pub enum Told {
     /// It has happened, and the thread is in the state that the call leads to.
     Done,
     /// The thread handed over at its poll, and is barred: it stays there until it returns by `back`.
-    Stays,
+    Held,
     /// It is refused.
     Refused(TiError),
 }

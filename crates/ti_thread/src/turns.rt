@@ -27,7 +27,7 @@ impl AnyThread {
     }
 
     /// Polls (JEP 312). If nobody calls for the thread, nothing happens. Otherwise it hands over, and the waiting calls take
-    /// place. `Told::Stays` if it is barred after that.
+    /// place. `Told::Held` if it is barred after that.
     ///
     /// Refused with the first of these that fits (this profile). Then nothing changes.
     ///
@@ -39,7 +39,7 @@ impl AnyThread {
         match self {
             AnyThread::Running(running) => match running.try_poll() {
                 Ok(Polled::Go(running)) => (AnyThread::Running(running), Told::Done),
-                Ok(Polled::Stays(safe)) => (AnyThread::Safe(safe), Told::Stays),
+                Ok(Polled::Held(safe)) => (AnyThread::Safe(safe), Told::Held),
                 Err(running) => (AnyThread::Running(running), Told::Refused(TiError::Busy)),
             },
             AnyThread::Fresh(fresh) => not_running(AnyThread::Fresh(fresh)),

@@ -9,6 +9,8 @@ mod made;
 #[cfg(test)]
 mod memory;
 #[cfg(test)]
+mod posted;
+#[cfg(test)]
 mod rounds;
 #[cfg(test)]
 mod traces;

@@ -4,7 +4,7 @@ use std::alloc::Global;
 use std::sync::Wait;
 use std::test::*;
 use ti_agent::{Env, FreeDesk};
-use ti_cell::{EnvSeat, OwnerSeat};
+use ti_cell::{EnvSeat, OwnSeat};
 use ti_handshake::{AtSafe, Desk, Fresh, SharedCell};
 use ti_slot::Slot;
 use ti_types::{Kind, Limits, MethodNo, Step};
@@ -68,7 +68,7 @@ pub(crate) fn run_out<R: Wait>(rt: &R, fresh: Fresh) -> Result<(), Fail> {
 }
 
 /// The slot of a cell, after its seats have come back.
-pub(crate) fn close(cell: SharedCell, own: OwnerSeat, seat: EnvSeat) -> Option<Slot>
+pub(crate) fn close(cell: SharedCell, own: OwnSeat, seat: EnvSeat) -> Option<Slot>
     requires own { (own.cell ≡ cell) × (own.view.number ≡ 0) }
     requires seat { seat.cell ≡ cell }
 {

@@ -50,11 +50,12 @@ impl<T> Model for Record<T> {
 impl<T> Record<T> {
     /// An empty record with room for `room` items.
     ///
-    /// Fails only if the items are to be kept and there is no memory for the room.
+    /// Fails only if the items are to be kept and there is no memory for the room. A record that only counts takes none.
     pub fn new(alloc: Global, room: u64, recording: Recording) -> Result<Self, AllocError>
         ensures items { IfOk result (λ r. r.items ≡ []) }
         ensures room { IfOk result (λ r. r.room ≡ room) }
         ensures kept { IfOk result (λ r. r.kept ≡ is_kept recording) }
+        ensures only_kept { OnErr result (is_kept recording ≡ true) }
     {
         let kept = match recording {
             Recording::Kept => Some(Vec::with_capacity(alloc, room as usize)?),
@@ -171,5 +172,5 @@ fn extend<S, T: Drop, M: Reads<S, T>>(items: &mut Vec<T>, more: &[S])
     }
 }
 
-ghost use Rattle.std.specs.Prelude.{◌≡◌, ◌<◌, ◌≤◌, ◌+◌, ◌++◌, [], ◌∷◌, true, length, map, IfOk, IfSome, is_some, vec_capacity, nat_le};
+ghost use Rattle.std.specs.Prelude.{◌≡◌, ◌<◌, ◌≤◌, ◌+◌, ◌++◌, [], ◌∷◌, true, length, map, IfOk, IfSome, OnErr, is_some, vec_capacity, nat_le};
 ghost use Rattle.ti_trail.specs.Record.{with_items, forgotten, joined, is_kept};

@@ -11,7 +11,7 @@ pub enum Entry {
     /// The thread starts, and runs (HotSpot Runtime Overview: from new to in Java).
     Start,
     /// The running thread makes a step on its frames.
-    Stepped(Step),
+    Own(Step),
     /// The running thread hands over: it goes into native code, blocks, or stops at a poll. The calls that wait take place
     /// just after that (JEP 312: an operation runs while its thread is safe).
     Hand(Safe),

@@ -1,6 +1,8 @@
 //! The errors, by their numbers.
 
 use std::alloc::AllocError;
+use std::error::Error;
+use std::fmt;
 
 /// Why a call or an event is refused. A refusal changes nothing at the thread. The first eleven are JVM TI 11's, with its
 /// numbers. Those from 201 on are this profile's.
@@ -24,7 +26,7 @@ pub enum TiError {
     MustPossessCapability,
     /// 103 ILLEGAL_ARGUMENT: a negative `max_count` or `depth`, or there is no frame at `start`.
     IllegalArgument,
-    /// 110 OUT_OF_MEMORY: there is no memory for what is to be made.
+    /// 110 OUT_OF_MEMORY: there is no memory for what is to be made, and nothing else.
     OutOfMemory,
     /// 116 INVALID_ENVIRONMENT: there is no environment of this number.
     InvalidEnvironment,
@@ -58,6 +60,9 @@ pub enum TiError {
     TimedOut,
     /// 215: a form that never waits found the cell in use. Nothing has changed: try again.
     Busy,
+    /// 216: a bound other than memory leaves no place: the window of calls that are out, the environments or the thread
+    /// numbers of a service, or the threads that an environment has met. It never comes under the limits of documents.
+    Full,
 }
 
 impl TiError {
@@ -92,9 +97,58 @@ impl TiError {
             TiError::StillRunning => 213,
             TiError::TimedOut => 214,
             TiError::Busy => 215,
+            TiError::Full => 216,
+        }
+    }
+
+    /// The error's name in JVM TI's spelling, as in `THREAD_NOT_SUSPENDED`.
+    pub fn name(self) -> &'static str
+        ensures { result.now ≡ name_of self }
+    {
+        match self {
+            TiError::InvalidThread => "INVALID_THREAD",
+            TiError::ThreadNotSuspended => "THREAD_NOT_SUSPENDED",
+            TiError::ThreadSuspended => "THREAD_SUSPENDED",
+            TiError::ThreadNotAlive => "THREAD_NOT_ALIVE",
+            TiError::NoMoreFrames => "NO_MORE_FRAMES",
+            TiError::OpaqueFrame => "OPAQUE_FRAME",
+            TiError::NotAvailable => "NOT_AVAILABLE",
+            TiError::MustPossessCapability => "MUST_POSSESS_CAPABILITY",
+            TiError::IllegalArgument => "ILLEGAL_ARGUMENT",
+            TiError::OutOfMemory => "OUT_OF_MEMORY",
+            TiError::InvalidEnvironment => "INVALID_ENVIRONMENT",
+            TiError::Overflow => "OVERFLOW",
+            TiError::NoFrame => "NO_FRAME",
+            TiError::NotJavaFrame => "NOT_JAVA_FRAME",
+            TiError::NotRunning => "NOT_RUNNING",
+            TiError::NotSafe => "NOT_SAFE",
+            TiError::Barred => "BARRED",
+            TiError::NoNativeFrame => "NO_NATIVE_FRAME",
+            TiError::OwnSpent => "OWN_SPENT",
+            TiError::CallsSpent => "CALLS_SPENT",
+            TiError::NotNew => "NOT_NEW",
+            TiError::AlreadyStopped => "ALREADY_STOPPED",
+            TiError::NotStopped => "NOT_STOPPED",
+            TiError::StillRunning => "STILL_RUNNING",
+            TiError::TimedOut => "TIMED_OUT",
+            TiError::Busy => "BUSY",
+            TiError::Full => "FULL",
         }
     }
 }
+
+impl fmt::Display for TiError {
+    ghost use Rattle.std.specs.Prelude.{Some};
+    ghost use Rattle.ti_types.specs.TiError.{name_of};
+
+    ghost output = { λ error. Some (name_of error) };
+
+    fn fmt<W: fmt::Write>(&self, f: &mut fmt::Formatter<W>) -> fmt::Result {
+        f.write_str(self.name())
+    }
+}
+
+impl Error for TiError {}
 
 impl From<AllocError> for TiError {
     ghost use Rattle.std.specs.Prelude.{◌≡◌};
@@ -109,4 +163,4 @@ impl From<AllocError> for TiError {
 }
 
 ghost use Rattle.std.specs.Prelude.{◌≡◌};
-ghost use Rattle.ti_types.specs.TiError.{number_of};
+ghost use Rattle.ti_types.specs.TiError.{name_of, number_of};

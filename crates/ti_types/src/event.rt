@@ -17,7 +17,7 @@ pub enum Event {
     /// The thread starts: 210 if it was started before, 206 if a stop is in force.
     Start(ThreadNo),
     /// The thread makes a step: 204, then 201, 202 or 203 by its frames, then 208.
-    Stepped(ThreadNo, Step),
+    Own(ThreadNo, Step),
     /// The thread looks whether somebody calls for it, and hands over at that place if so: 204 (JEP 312).
     Poll(ThreadNo),
     /// The thread goes into native code: 204, 207, 208.
@@ -67,7 +67,7 @@ pub enum Outcome {
     /// A poll when somebody calls for the thread: the waiting calls took place, and the thread returned.
     Went,
     /// A poll when somebody calls for the thread: the waiting calls took place, and the thread stays, since it is barred.
-    Stays,
+    Held,
     /// The thread's own event is refused, and nothing has changed.
     Refused(TiError),
     /// The call is answered.

@@ -1,6 +1,6 @@
 -- A global operation at one thread.
 use Rattle.std.proofs.Common.{◌≡◌, ℕ, ◌+◌, Bool, true, false, cond, ℤ, List, [], ◌∷◌, ◌++◌, length, refl, ap, sym, ◌∙◌, arith, subst, eq-eqb, Option, Some, None}
-use Rattle.std.specs.Prelude.{take, drop, is_none, is_some, if◌then◌else◌, IfSome, MatchOption, Result, Ok, Err, IfOk, OnOk}
+use Rattle.std.specs.Prelude.{take, drop, is_none, Result, Ok, Err, IfOk, OnOk}
 use Rattle.std.proofs.lemmas.Bool.{and_parts}
 use Rattle.std.proofs.lemmas.Bool.Decides.{nat_tests}
 use Rattle.std.proofs.lemmas.List.{append_cancel_right}
@@ -88,13 +88,6 @@ let_go_again p w r number stands is k =
     let own : is_stopper now.stopper p.env ≡ true = stops_are_own limits p.env (found p.view w) (found_legal p.view w (if_none r (Go p.env ∷ [])) k) ∙ (ap (stops_by p.env) mine ∙ stands) in
     let free : stopping_refusal now (event.Go p.env p.view.subject.thread) ≡ None = grind (arith, own) in
     subst (λ (o : Option TiError). Waits p.view w (if_none o (Go p.env ∷ []))) (is ∙ free) k
-
--- a stop with a deadline was made, or not
-pub stopped_if : {A : Type 0} → (p : DeskState) (w : View) (a : Option A) (b : Bool) → b ≡ is_some a → p.view.number ≡ p.env.0 + 1
-    → MatchOption a (Waits p.view w []) (λ _. Waits p.view w (if_none (stopping_refusal (view p.view.subject.limits (found p.view w)) (event.Stop p.env p.view.subject.thread)) (Stop p.env ∷ [])))
-    → IfSome a (λ _. is_anothers p.env (view p.view.subject.limits (found p.view w)).stopper ≡ false) → stops_by p.env p.view.mine ≡ false → Waits p.view w (if b then Stop p.env ∷ [] else [])
-stopped_if p w None b is number k others free = subst (λ (x : Bool). Waits p.view w (if x then Stop p.env ∷ [] else [])) (sym is) k
-stopped_if p w (Some a) b is number k others free = subst (λ (x : Bool). Waits p.view w (if x then Stop p.env ∷ [] else [])) (sym is) (stopped p w number k others free)
 
 -- the thread that stood when it was last seen stands where a call finds it, in the same mode, with the same frames
 pub found_still : (p : DeskState) (w : View) (more : List Entry) → p.view.number ≡ p.env.0 + 1 → p.view.mine ≡ made_by p.view.number p.view.seen

@@ -1,6 +1,7 @@
 -- One thread of a list after another.
 use Rattle.std.proofs.Common.{◌≡◌, ◌≢◌, ℕ, zero, suc, ◌+◌, ◌<◌, ◌≤◌, ◌==◌, ◌||◌, Bool, true, false, inl, inr, List, [], ◌∷◌, ◌++◌, length, take, refl, ap, sym, ◌∙◌, arith, subst, eq-eqb, ne_eqb, Some, length-set, append-nil}
-use Rattle.std.specs.Prelude.{slice_get, slice_index_or, slice_set, slice_index}
+use Rattle.std.specs.Prelude.{map, option_map, slice_get, slice_index_or, slice_set, slice_index}
+use Rattle.std.proofs.lemmas.List.{map-append}
 use Rattle.std.proofs.lemmas.Bool.{cases_eq, cases_Bool, ltb-true, and_parts}
 use Rattle.ti_types.specs.declared.entry.Entry.{Entry}
 use Rattle.ti_types.specs.declared.numbers.EnvNo.{EnvNo}
@@ -22,7 +23,26 @@ use Rattle.ti_slot.specs.Waiting.{HasRoomFor}
 use Rattle.ti_types.specs.Frames as buffer
 use Rattle.ti_replay.specs.Fronts.{TellsOf}
 use Rattle.ti_handshake.specs.Desk.{DeskState, IsSame}
-use Rattle.ti_vmop.specs.Turns.{Listed, is_listed, AreDistinct, AreThere, are_paid, spend_all, HasAdded, AtDesk, AtEach, AllStand, IsRead}
+use Rattle.ti_vmop.specs.Turns.{Listed, is_listed, AreDistinct, AreThere, are_paid, spend_all, HasAdded, AtDesk, AtEach, AllStand, IsRead, cell_at, cells_of}
+
+cell_same : (old new : List DeskState) (i : ℕ) → length new ≡ length old → ((p q : DeskState) → slice_get old i ≡ Some p → slice_get new i ≡ Some q → q.cell ≡ p.cell) → cell_at new i ≡ cell_at old i
+cell_same [] [] i h f = refl
+cell_same [] (y ∷ ys) i h f = absurd (omega (arith, h))
+cell_same (x ∷ xs) [] i h f = absurd (omega (arith, h))
+cell_same (x ∷ xs) (y ∷ ys) zero h f = ap Some (f x y refl refl)
+cell_same (x ∷ xs) (y ∷ ys) (suc i) h f = cell_same xs ys i (omega (arith, h)) f
+
+cell_stays : (b : Bool) (p q : DeskState) (more : List Entry) → AtDesk b p q more → q.cell ≡ p.cell
+cell_stays true p q more h = h.same.cell
+cell_stays false p q more h = ap (λ (x : DeskState). x.cell) h
+
+-- what adds entries at desks leaves them at their cells
+pub cells_stay : (threads done : Listed) (old new : List DeskState) (more : EnvNo → List Entry) → AtEach done old new more → cells_of threads new ≡ cells_of threads old
+cells_stay [] done old new more each = refl
+cells_stay (x ∷ threads) done old new more each =
+    let here : cell_at new x.0.0 ≡ cell_at old x.0.0 =
+    cell_same old new x.0.0 each.0 (λ p q at then. cell_stays (is_listed x.0.0 done) p q (more p.env) (each.1 x.0.0 p q at then)) in
+    λ i. here i ∷ cells_stay threads done old new more each i
 
 pub at_index : {A : Type 0} (l : List A) (k : ℕ) (d : A) → k < length l → slice_get l k ≡ Some (slice_index_or l k d)
 at_index [] k d h = absurd (omega arith)
@@ -267,3 +287,20 @@ read_adds a b m n e same k = subst (λ (z : ℤ). HasAdded a b (Read a.env z ∷
 
 pub read_room : (a : DeskState) (m n : ℤ) (b : buffer.Trace) → m ≡ n → HasRoomFor a.view.subject.limits (or_zero m) b → HasRoomFor a.view.subject.limits (or_zero n) b
 read_room a m n b e h = subst (λ (z : ℤ). HasRoomFor a.view.subject.limits (or_zero z) b) e h
+
+-- the cells of one listed desk more, and of all
+
+pub cells_more : (threads : Listed) (k n : ℕ) (desks items : List DeskState) (c : ThreadNo × ℕ) (d : DeskState) → AreThere (length desks) threads → k < length threads → n ≡ suc k
+    → map (λ (p : DeskState). Some p.cell) items ≡ cells_of (take k threads) desks
+    → map (λ (p : DeskState). Some p.cell) (items ++ slice_index_or desks (slice_index_or threads k c).0.0 d ∷ []) ≡ cells_of (take n threads) desks
+cells_more threads k n desks items c d there within e so_far =
+    let x = slice_index_or threads k c in
+    let at : slice_get desks x.0.0 ≡ Some (slice_index_or desks x.0.0 d) = at_index desks x.0.0 d (there_at (length desks) threads k c there within) in
+    let one : Some (slice_index_or desks x.0.0 d).cell ≡ cell_at desks x.0.0 = ap (option_map (λ (p : DeskState). p.cell)) (sym at) in
+    map-append (λ (p : DeskState). Some p.cell) items (slice_index_or desks x.0.0 d ∷ [])
+    ∙ ((λ i. so_far i ++ one i ∷ [])
+    ∙ (sym (map-append (λ (y : ThreadNo × ℕ). cell_at desks y.0.0) (take k threads) (x ∷ [])) ∙ ap (λ (l : Listed). cells_of l desks) (sym (take_more threads k n c e within))))
+
+pub cells_all : (threads : Listed) (k : ℕ) (desks items : List DeskState) → length threads ≤ k → map (λ (p : DeskState). Some p.cell) items ≡ cells_of (take k threads) desks
+    → map (λ (p : DeskState). Some p.cell) items ≡ cells_of threads desks
+cells_all threads k desks items h so_far = so_far ∙ ap (λ (l : Listed). cells_of l desks) (take_all threads k h)

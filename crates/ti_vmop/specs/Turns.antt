@@ -1,10 +1,9 @@
 -- A global operation at the threads of a list.
-use Rattle.std.specs.Prelude.{ℕ, ℤ, ◌≡◌, ◌+◌, ◌-◌, ◌^◌, ◌≤◌, Bool, true, false, if◌then◌else◌, ◌==◌, nat_lt, List, [], ◌∷◌, ◌++◌, length, take, drop, Some, slice_get}
+use Rattle.std.specs.Prelude.{ℕ, ℤ, ◌≡◌, ◌+◌, ◌-◌, ◌^◌, ◌≤◌, Bool, true, false, if◌then◌else◌, ◌==◌, nat_lt, List, [], ◌∷◌, ◌++◌, length, map, Option, Some, option_map, slice_get}
+use Rattle.atomic_table.specs.Seated.{TableId}
 use Rattle.std.specs.List.{fold, list_any, list_all}
 use Rattle.ti_types.specs.declared.entry.Entry.{Entry}
-use Rattle.ti_types.specs.declared.entry.Entry.TheVariants.{Stop, Read, Go}
-use Rattle.ti_types.specs.declared.error.TiError.{TiError}
-use Rattle.ti_types.specs.declared.error.TiError.TheVariants.{CallsSpent, TimedOut}
+use Rattle.ti_types.specs.declared.entry.Entry.TheVariants.{Read}
 use Rattle.ti_types.specs.declared.limits.Limits.{Limits}
 use Rattle.ti_types.specs.declared.numbers.EnvNo.{EnvNo}
 use Rattle.ti_types.specs.declared.numbers.ThreadNo.{ThreadNo}
@@ -66,44 +65,24 @@ AtEach threads old new more =
     (length new ≡ length old)
     × ((i : ℕ) (p q : DeskState) → slice_get old i ≡ Some p → slice_get new i ≡ Some q → AtDesk (is_listed i threads) p q (more p.env))
 
--- the first n of a list were stopped, one after another. The next one, if there is one, was no more than waited for
-pub record StopsUpTo (n : ℕ) (threads : Listed) (old new : List DeskState) : Type 0 where
-  pub stopped : List DeskState
-  pub stops : AtEach (take n threads) old stopped (λ e. Stop e ∷ [])
-  pub waits : AtEach (take 1 (drop n threads)) stopped new (λ e. [])
-
--- some of a list were waited for, in its order
-pub record WaitsForSome (threads : Listed) (old new : List DeskState) : Type 0 where
-  pub count : ℕ
-  pub waits : AtEach (take count threads) old new (λ e. [])
-
--- The time was over. The first of a list were stopped, some of the list were waited for, and those that were stopped were
--- let go. Each of these spent one call
-pub record LetsGo (threads : Listed) (old new : List DeskState) (s z : EnvValue) : Type 0 where
-  pub count : ℕ
-  pub few : count ≤ length threads
-  pub stopped : List DeskState
-  pub waited : List DeskState
-  pub stops : StopsUpTo count threads old stopped
-  pub waits : WaitsForSome threads stopped waited
-  pub goes : AtEach (take count threads) waited new (λ e. Go e ∷ [])
-  pub spent : z ≡ spend_all s (take count threads)
-
--- why no threads are standing: a budget does not suffice, and then nothing has changed; or the time is over
-abbrev pub IsNotStopped : Listed → List DeskState → List DeskState → EnvValue → EnvValue → TiError → Type 0
-IsNotStopped threads old new s z CallsSpent = (are_paid s threads ≡ false) × (new ≡ old) × (z ≡ s)
-IsNotStopped threads old new s z TimedOut = (are_paid s threads ≡ true) × LetsGo threads old new s z
-IsNotStopped threads old new s z _ = ⊥
-
 -- each listed desk has seen its thread standing for its environment
 abbrev pub AllStand : Listed → List DeskState → Type 0
 AllStand threads desks =
     (i : ℕ) (p : DeskState) → slice_get desks i ≡ Some p → is_listed i threads ≡ true → is_standing p.view.subject.limits p.view.seen p.env ≡ true
 
--- threads that are standing for an environment, and how many reads were made of them
+-- the cell of the desk at a place, if there is one
+abbrev pub cell_at : List DeskState → ℕ → Option TableId
+cell_at desks i = option_map (λ p. p.cell) (slice_get desks i)
+
+-- the cells of the listed desks, in the order of the list
+abbrev pub cells_of : Listed → List DeskState → List (Option TableId)
+cells_of threads desks = map (λ x. cell_at desks x.0.0) threads
+
+-- threads that are standing for an environment, the cells at which they were stopped, and how many reads were made of them
 pub record Stood : Type 0 where
   pub env : EnvNo
   pub threads : Listed
+  pub cells : List (Option TableId)
   pub reads : ℕ
 
 -- one read more, as far as 64 bits count
@@ -111,7 +90,7 @@ abbrev pub one_read_more : ℕ → ℕ
 one_read_more reads = if nat_lt reads (2 ^ 64 - 1) then reads + 1 else reads
 
 abbrev pub with_reads : Stood → ℕ → Stood
-with_reads s reads = record { env = s.env; threads = s.threads; reads = reads }
+with_reads s reads = record { env = s.env; threads = s.threads; cells = s.cells; reads = reads }
 
 -- the desks are this environment's
 abbrev pub AreOneEnvironments : EnvNo → List DeskState → Type 0

@@ -5,6 +5,7 @@ use std::marker::Model;
 use std::sync::Wait;
 use ti_env::EnvState;
 use ti_handshake::Desk;
+use ti_trail::Trail;
 use ti_types::{Answer, EnvNo, ThreadNo, TiError, TraceBuf};
 
 /// The turn to make a global operation, kept in a `Mutex`. Whoever has it makes one, and has it until the threads are let
@@ -25,15 +26,18 @@ pub struct Standing<'t, 'l> {
     pub(crate) turn: &'t mut VmTurn,
     pub(crate) env: EnvNo,
     pub(crate) threads: &'l [(ThreadNo, u64)],
+    /// The desks at which they were stopped, for contracts alone.
+    pub(crate) desks: Trail<Desk>,
     pub(crate) reads: u64,
 }
 
 impl<'t, 'l> Model for Standing<'t, 'l> {
+    ghost use Rattle.std.specs.Prelude.{Some, map};
     ghost use Rattle.ti_vmop.specs.Turns.{Stood, AreDistinct};
 
     ghost Value = { Stood };
 
-    ghost view = { λ s. record { env = s.env; threads = s.threads.now; reads = s.reads } };
+    ghost view = { λ s. record { env = s.env; threads = s.threads.now; cells = map (λ p. Some p.cell) s.desks.items; reads = s.reads } };
 
     ghost invariant = { λ s. AreDistinct s.threads.now };
 }
@@ -112,6 +116,19 @@ fn await_each<R: Wait>(rt: &R, desks: &mut [Desk], threads: &[(ThreadNo, u64)])
     }
 }
 
+/// The listed desks, in the order of the list. Only contracts read them.
+fn listed_desks(desks: &[Desk], threads: &[(ThreadNo, u64)]) -> Trail<Desk>
+    requires there { AreThere (length desks.now) threads.now }
+    ensures cells { map (λ p. Some p.cell) result.items ≡ cells_of threads.now desks.now }
+{
+    let mut listed = Trail::new();
+    for i in 0..threads.len() {
+        let (thread, _reads) = threads[i];
+        listed = listed.and(&desks[thread.0 as usize]);
+    }
+    listed
+}
+
 /// Stops each listed thread, in the order of the list, and answers when each has been seen standing (this profile). While
 /// another environment's stop is in force at a thread, it waits. Each stop costs one call at its thread.
 ///
@@ -139,6 +156,7 @@ pub fn stop_all<'t, 'l, R: Wait>(
     ensures stand { IfOk result (λ _. AllStand threads.now desks.new) }
     ensures state { IfOk result (λ _. state.new ≡ spend_all state.old threads.now) }
     ensures env { IfOk result (λ s. s.env ≡ env) }
+    ensures cells { IfOk result (λ s. s.cells ≡ cells_of threads.now desks.new) }
     ensures standing { IfOk result (λ s. (s.threads ≡ threads.now) × (s.reads ≡ 0)) }
 {
     if !are_paid_for(state, threads) {
@@ -146,10 +164,12 @@ pub fn stop_all<'t, 'l, R: Wait>(
     }
     stop_each(rt, desks, state, threads);
     await_each(rt, desks, threads);
+    let listed = listed_desks(desks, threads);
     Ok(Standing {
         turn,
         env,
         threads,
+        desks: listed,
         reads: 0,
     })
 }
@@ -161,7 +181,7 @@ impl<'t, 'l> Standing<'t, 'l> {
     /// The answer shows the mode and the frames that the desk had seen, after the pops that others made since (JVM TI 11,
     /// PopFrame). A thread that is not alive has no frames.
     ///
-    /// The desks are those of `stop_all`. The thread has a call left, and `max_count` is not negative. The buffer is empty
+    /// The desks are the very ones of `stop_all`. The thread has a call left, and `max_count` is not negative. The buffer is empty
     /// and has room for the frames. The reads are counted up to 2^64 - 1, which no budget reaches.
     pub fn read<R: Wait>(
         &mut self,
@@ -172,6 +192,7 @@ impl<'t, 'l> Standing<'t, 'l> {
         max_count: i32,
         buf: TraceBuf,
     ) -> Answer
+        requires cells { cells_of self.old.threads desks.old ≡ self.old.cells }
         requires listed { is_listed thread.0 self.old.threads ≡ true }
         requires there { (thread.0 < length desks.old) × (length state.old.spent ≡ length desks.old) }
         requires left { spent_at state.old thread < state.old.limits.calls }
@@ -189,9 +210,10 @@ impl<'t, 'l> Standing<'t, 'l> {
         read_one(rt, &mut desks[thread.0 as usize], max_count, buf)
     }
 
-    /// Lets each listed thread go, in the order of the list, and gives the round. It costs nothing. The desks are those of
-    /// `stop_all`.
+    /// Lets each listed thread go, in the order of the list, and gives the round. It costs nothing. The desks are the very
+    /// ones of `stop_all`.
     pub fn go<R: Wait>(self, rt: &R, desks: &mut [Desk]) -> Round
+        requires cells { cells_of self.threads desks.old ≡ self.cells }
         requires there { AreThere (length desks.old) self.threads }
         requires stand { AllStand self.threads desks.old }
         requires env { (i : ℕ) (p : DeskState) → slice_get desks.old i ≡ Some p → is_listed i self.threads ≡ true → p.env ≡ self.env }
@@ -204,6 +226,7 @@ impl<'t, 'l> Standing<'t, 'l> {
             turn: _turn,
             env,
             threads,
+            desks: _stopped,
             reads,
         } = self;
         go_each(rt, desks, threads);
@@ -228,11 +251,11 @@ fn go_each<R: Wait>(rt: &R, desks: &mut [Desk], threads: &[(ThreadNo, u64)])
     }
 }
 
-ghost use Rattle.std.specs.Prelude.{◌≡◌, ◌<◌, ℕ, true, false, [], ◌∷◌, length, Some, slice_get, IfOk, IfErr, MatchResult};
+ghost use Rattle.std.specs.Prelude.{◌≡◌, ◌<◌, ℕ, true, false, [], ◌∷◌, length, map, Some, slice_get, IfOk, IfErr, MatchResult};
 ghost use Rattle.ti_types.specs.Answer.{said};
 ghost use Rattle.ti_types.specs.declared.entry.Entry.TheVariants as entry;
 ghost use Rattle.ti_types.specs.declared.error.TiError.TheVariants.{CallsSpent as Spent};
 ghost use Rattle.ti_env.specs.Env.{with_spent, spent_at};
 ghost use Rattle.ti_handshake.specs.Desk.{DeskState};
-ghost use Rattle.ti_vmop.specs.Turns.{is_listed, AreDistinct, AreThere, MayStop, are_paid, spend_all, AtEach, AllStand, AreOneEnvironments, MayRead, IsRead, with_reads, one_read_more};
+ghost use Rattle.ti_vmop.specs.Turns.{is_listed, AreDistinct, AreThere, MayStop, are_paid, spend_all, AtEach, AllStand, cells_of, AreOneEnvironments, MayRead, IsRead, with_reads, one_read_more};
 ghost use Rattle.ti_replay.specs.Legal.{is_not_negative};

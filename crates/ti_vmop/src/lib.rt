@@ -9,7 +9,7 @@
 //! - A desk sees its thread standing after some prefix of the history. Until the environment lets the thread go, all that
 //!   the desk sees begins with that prefix. After it there is no entry of the thread's own (`desks_stay`).
 //! - A read shows the mode of that prefix, and its frames after the pops since (`fronts_tell` of `ti_replay`).
-//! - Only `Standing::go` makes a `Round`, and a `Standing` has to be spent by it.
+//! - Only `Standing::go` makes a `Round`, and a `Standing` has to be spent by it, at the cells where it was made.
 //! - `try_stop_one` and its like do one thing at one thread, and never wait. If the thread's cell is in use, nothing changes.
 //! - No call takes memory.
 //!
@@ -20,9 +20,7 @@ mod global_stops;
 mod laws;
 mod one_thread;
 mod one_thread_tries;
-mod stop_deadline;
 
 pub use global_stops::{Round, Standing, VmTurn, stop_all};
 pub use laws::desks_stay;
 pub use one_thread_tries::{try_go_again, try_go_one, try_read_one, try_see_one, try_stop_one};
-pub use stop_deadline::stop_all_within;

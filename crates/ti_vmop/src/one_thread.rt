@@ -1,8 +1,7 @@
 //! What a global operation does at one thread.
 
-use std::rt::Clock;
 use std::sync::Wait;
-use ti_handshake::{Deadline, Desk};
+use ti_handshake::Desk;
 use ti_types::{Answer, TraceBuf};
 
 /// Stops a thread at which this environment has no stop.
@@ -17,20 +16,6 @@ pub fn stop_one<R: Wait>(rt: &R, desk: &mut Desk)
     desk.facts();
 }
 
-/// The same as `stop_one`, but only until the deadline. Returns whether the thread was stopped. If it was not, nothing was
-/// added.
-pub fn stop_one_until<R: Wait + Clock>(rt: &R, desk: &mut Desk, deadline: &Deadline) -> bool
-    requires calls { calls_spent desk.old.env desk.old.view.mine < desk.old.view.subject.limits.calls }
-    requires free { stops_by desk.old.env desk.old.view.mine ≡ false }
-    ensures same { IsSame desk.old desk.new }
-    ensures hold { Waits desk.old.view desk.new.view (if result then entry.Stop desk.old.env ∷ [] else []) }
-{
-    desk.facts();
-    let answer = desk.stop_until(rt, deadline);
-    desk.facts();
-    answer.is_some()
-}
-
 /// Waits until the thread is standing for the desk's environment. It looks between its holds until the history has grown.
 pub fn await_one<R: Wait>(rt: &R, desk: &mut Desk)
     ensures same { IsSame desk.old desk.new }
@@ -43,24 +28,6 @@ pub fn await_one<R: Wait>(rt: &R, desk: &mut Desk)
             return;
         }
         desk.await_news(rt);
-    }
-    unreachable!()
-}
-
-/// The same as `await_one`, but only until the deadline. Returns whether the thread is standing. Nothing was added.
-pub fn await_one_until<R: Wait + Clock>(rt: &R, desk: &mut Desk, deadline: &Deadline) -> bool
-    ensures same { IsSame desk.old desk.new }
-    ensures hold { Waits desk.old.view desk.new.view [] }
-    ensures stands { result ≡ true → is_standing desk.old.view.subject.limits desk.new.view.seen desk.old.env ≡ true }
-{
-    desk.facts();
-    for _ in rt.forever() {
-        if desk.standing(rt) {
-            return true;
-        }
-        if !desk.await_news_until(rt, deadline) {
-            return false;
-        }
     }
     unreachable!()
 }
@@ -89,17 +56,6 @@ pub fn go_one<R: Wait>(rt: &R, desk: &mut Desk)
 {
     desk.facts();
     let _answer = desk.go(rt);
-}
-
-/// Lets a thread go at which this environment's stop is in force, whether it was seen standing or not.
-pub fn go_again<R: Wait>(rt: &R, desk: &mut Desk)
-    requires stopped { stops_by desk.old.env desk.old.view.mine ≡ true }
-    ensures same { IsSame desk.old desk.new }
-    ensures hold { Holds desk.old.view desk.new.view (entry.Go desk.old.env ∷ []) }
-{
-    desk.facts();
-    let _answer = desk.go(rt);
-    desk.facts();
 }
 
 ghost use Rattle.std.specs.Prelude.{◌≡◌, ◌<◌, true, false, [], ◌∷◌, if◌then◌else◌, length, Some};

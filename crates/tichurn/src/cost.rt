@@ -25,6 +25,9 @@ const FEW: u32 = 4;
 /// How often a thread is asked.
 const CALLS: u32 = 1_000_000;
 
+/// How often a list of two threads is traced.
+const LISTS: u32 = 100_000;
+
 /// How many calls of an environment may be out at a thread.
 const WINDOW: u32 = 2;
 
@@ -43,6 +46,10 @@ pub struct Cost {
     pub many: u64,
     /// The nanoseconds of a call at each of many threads in turn.
     pub turns: u64,
+    /// The nanoseconds of the stacks of a list of two, among few threads.
+    pub listed_few: u64,
+    /// The same among many.
+    pub listed_many: u64,
     /// The nanoseconds of all stacks of the threads, for each of them.
     pub all: u64,
     /// The nanoseconds of a single trace of each of them in turn.
@@ -146,16 +153,43 @@ fn ask<R: Wait + Clock>(
     since(rt, began, CALLS)
 }
 
-/// The nanoseconds of a call at the last of so many threads.
-fn ask_last<R: Wait + Clock + AllocGlobal>(rt: &R, threads: u32) -> Result<(u64, u64), Fault> {
+/// The nanoseconds of the stacks of the first of so many threads and of one in their middle.
+fn list_two<R: Wait + Clock + AllocGlobal>(
+    rt: &R,
+    agent: &mut Agent,
+    threads: u32,
+) -> Result<u64, Fault> {
+    let turn = Mutex::new(VmTurn::new());
+    let list = [ThreadNo(0), ThreadNo(threads / 2)];
+    let began = now(rt)?;
+    for _ in 0..LISTS {
+        let _stacks = agent.get_thread_list_stack_traces(rt, rt.alloc(), &turn, &list, MOST)?;
+    }
+    since(rt, began, LISTS)
+}
+
+/// What a call costs among so many threads.
+#[derive(Clone, Copy)]
+struct Among {
+    /// The nanoseconds of a call at one of them.
+    one: u64,
+    /// The nanoseconds of a call at each of them in turn.
+    turns: u64,
+    /// The nanoseconds of the stacks of a list of two.
+    listed: u64,
+}
+
+/// Measures what a call costs among so many threads.
+fn ask_among<R: Wait + Clock + AllocGlobal>(rt: &R, threads: u32) -> Result<Among, Fault> {
     let mut service = service(rt)?;
     let parked = park_all(rt, &mut service, threads)?;
     let mut agent = service.attach_environment(rt, rt.alloc())?;
     agent.meet(rt, rt.alloc())?;
     let one = ask(rt, &mut agent, ThreadNo(threads / 2), 1)?;
     let turns = ask(rt, &mut agent, ThreadNo(0), threads)?;
+    let listed = list_two(rt, &mut agent, threads)?;
     end_all(rt, &mut service, parked)?;
-    Ok((one, turns))
+    Ok(Among { one, turns, listed })
 }
 
 /// The nanoseconds for each thread of all stacks at one moment, and of a trace at each of them.
@@ -198,16 +232,18 @@ pub fn measure<R: Wait + Files + Clock + AllocGlobal>(rt: &R) -> Result<Cost, Fa
     }
     let now = resident(rt)?;
     end_all(rt, &mut service, parked)?;
-    let (few, _) = ask_last(rt, FEW)?;
-    let (many, turns) = ask_last(rt, MANY)?;
+    let few = ask_among(rt, FEW)?;
+    let many = ask_among(rt, MANY)?;
     let (all, single) = read(rt)?;
     Ok(Cost {
         attach,
         parked: bytes(then.saturating_sub(before)),
         met: bytes(now.saturating_sub(then)),
-        few,
-        many,
-        turns,
+        few: few.one,
+        many: many.one,
+        turns: many.turns,
+        listed_few: few.listed,
+        listed_many: many.listed,
         all,
         single,
     })

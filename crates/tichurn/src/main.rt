@@ -140,6 +140,8 @@ fn write_cost<R: Eprint>(rt: &R, cost: Cost) -> io::Result<()> {
     eprintln!(rt; "{} ns: state of one of 4 parked threads", cost.few)?;
     eprintln!(rt; "{} ns: state of one of 10,000", cost.many)?;
     eprintln!(rt; "{} ns: state of each of 10,000 in turn", cost.turns)?;
+    eprintln!(rt; "{} ns: stacks of a list of 2 of 4", cost.listed_few)?;
+    eprintln!(rt; "{} ns: stacks of a list of 2 of 10,000", cost.listed_many)?;
     eprintln!(rt;
         "{} ns: all stacks of 1,000 parked threads, each of them",
         cost.all

@@ -56,7 +56,7 @@ fn poll<R: Wait>(rt: &R, running: Running) -> Running {
     }
     match running.poll(rt) {
         Polled::Go(again) => again,
-        Polled::Stays(held) => held.back(rt),
+        Polled::Held(held) => held.back(rt),
     }
 }
 

@@ -1,15 +1,17 @@
 -- One more stack is folded, and how often each was seen.
-use Rattle.std.proofs.Common.{ℕ, ◌≡◌, ◌≢◌, ◌<◌, ◌+◌, Bool, true, false, cond, List, [], ◌∷◌, ◌++◌, length, map, take, refl, ap, sym, ◌∙◌, arith, get_or, set, not, ◌≤◌}
-use Rattle.std.specs.Prelude.{◌==◌}
+use Rattle.std.proofs.Common.{ℕ, zero, suc, ◌≡◌, ◌≢◌, ◌⊎◌, inl, inr, Some, ⊎_elim, ◌<◌, ◌+◌, Bool, true, false, true≢false, subst, cond, List, [], ◌∷◌, ◌++◌, length, map, take, refl, ap, sym, ◌∙◌, arith, get_or, set, not, ◌≤◌}
+use Rattle.std.specs.Prelude.{◌==◌, slice_get, slice_index_or, slice_set}
 use Rattle.std.specs.Bool.{Decides}
 use Rattle.std.proofs.lemmas.Bool.Decides.{Decides-eqb, Decides-like}
-use Rattle.std.proofs.lemmas.List.{take_all, get_or-map, get_or_default}
+use Rattle.std.proofs.lemmas.Bool.{cases_eq}
+use Rattle.std.proofs.lemmas.List.{map-append, take_all, get_or-map, get_or_default}
 use Rattle.std.proofs.lemmas.List.Sums.{sum_by-append, sum_by-set}
 use Rattle.std.proofs.lemmas.Slice.Eq.{slice_eq-Decides}
 use Rattle.ti_types.specs.declared.numbers.MethodNo.{MethodNo}
 use Rattle.ti_types.specs.declared.place.Frame.{Frame}
 use Rattle.tiprof.specs.declared.fold.Folded.{Folded}
-use Rattle.tiprof.specs.Folds.{counts_of, same_methods, seen}
+use Rattle.tiprof.specs.Folds.{AreDistinct, counts_of, same_methods, seen, stacks_of}
+use Rattle.tiprof.proofs.RootsLaws.{kept_at}
 
 -- one that was not seen before
 pub one_more : (stacks : List Folded) (f : Folded) → counts_of (stacks ++ f ∷ []) ≡ counts_of stacks + f.count
@@ -80,3 +82,85 @@ given_first stacks f ms new once = sum_by-append (λ (x : Folded). part ms x) st
 
 pub others_first : (stacks : List Folded) (f : Folded) (ms ns : List MethodNo) → f.methods.items ≡ ms → ns ≢ ms → seen ns (stacks ++ f ∷ []) ≡ seen ns stacks
 others_first stacks f ms ns new n = sum_by-append (λ (x : Folded). part ns x) stacks (f ∷ []) ∙ omega (arith, is_other ns f (λ e. n (sym e ∙ new)))
+
+-- No stack is there twice
+
+pub distinct_none : AreDistinct []
+distinct_none i j m a b = absurd (nothing i m a)
+  where
+    nothing : (i : ℕ) (m : List MethodNo) → slice_get [] i ≡ Some m → ⊥
+    nothing i m e = cc
+
+-- what is at a place of a list with one more
+at_end : (l : List (List MethodNo)) (x y : List MethodNo) (i : ℕ) → slice_get (l ++ x ∷ []) i ≡ Some y → (slice_get l i ≡ Some y) ⊎ ((i ≡ length l) × (x ≡ y))
+at_end [] x y zero e = inr (refl, same x y e)
+  where
+    same : (x y : List MethodNo) → Some x ≡ Some y → x ≡ y
+    same x y e = cc
+at_end [] x y (suc i) e = absurd (nothing i y e)
+  where
+    nothing : (i : ℕ) (m : List MethodNo) → slice_get [] i ≡ Some m → ⊥
+    nothing i m e = cc
+at_end (z ∷ l) x y zero e = inl e
+at_end (z ∷ l) x y (suc i) e = ⊎_elim (λ (h : slice_get l i ≡ Some y). inl h) (λ (h : (i ≡ length l) × (x ≡ y)). inr (ap suc h.0, h.1)) (at_end l x y i e)
+
+-- one more that is none of them
+pub distinct_more : (l : List (List MethodNo)) (x : List MethodNo) → AreDistinct l → ((j : ℕ) (m : List MethodNo) → slice_get l j ≡ Some m → m ≢ x) → AreDistinct (l ++ x ∷ [])
+distinct_more l x d new i j m a b =
+    ⊎_elim
+    (λ (p : slice_get l i ≡ Some m). ⊎_elim
+    (λ (q : slice_get l j ≡ Some m). d i j m p q)
+    (λ (q : (j ≡ length l) × (x ≡ m)). absurd (new i m p (sym q.1)))
+    (at_end l x m j b))
+    (λ (p : (i ≡ length l) × (x ≡ m)). ⊎_elim
+    (λ (q : slice_get l j ≡ Some m). absurd (new j m q (sym p.1)))
+    (λ (q : (j ≡ length l) × (x ≡ m)). p.0 ∙ sym q.0)
+    (at_end l x m j b))
+    (at_end l x m i a)
+
+-- one that was seen again has the methods that it had
+pub stacks_again : (stacks : List Folded) (i : ℕ) (f d : Folded) → i < length stacks → d ≡ slice_index_or stacks i d → f.methods.items ≡ d.methods.items → stacks_of (slice_set stacks i f) ≡ stacks_of stacks
+stacks_again stacks i f d h at same = kept_at (λ (x : Folded). x.methods.items) stacks i f d h at same
+
+-- The stacks so far are others
+
+within : (l : List (List MethodNo)) (j : ℕ) (m : List MethodNo) → slice_get l j ≡ Some m → j < length l
+within [] j m e = absurd (nothing j m e)
+  where
+    nothing : (j : ℕ) (m : List MethodNo) → slice_get [] j ≡ Some m → ⊥
+    nothing j m e = cc
+within (x ∷ l) zero m e = omega arith
+within (x ∷ l) (suc j) m e = let h = within l j m e in omega (arith, h)
+
+as_many : (stacks : List Folded) → length (stacks_of stacks) ≡ length stacks
+as_many [] = refl
+as_many (f ∷ stacks) = ap suc (as_many stacks)
+
+-- the methods of the stack at a place
+methods_at : (stacks : List Folded) (i : ℕ) (d : Folded) (m : List MethodNo) → i < length stacks → d ≡ slice_index_or stacks i d → slice_get (stacks_of stacks) i ≡ Some m → d.methods.items ≡ m
+methods_at [] i d m h at e = absurd (omega (arith, h))
+methods_at (f ∷ stacks) zero d m h at e = ap (λ (x : Folded). x.methods.items) at ∙ same f.methods.items m e
+  where
+    same : (x y : List MethodNo) → Some x ≡ Some y → x ≡ y
+    same x y e = cc
+methods_at (f ∷ stacks) (suc i) d m h at e = methods_at stacks i d m (omega (arith, h)) at e
+
+true_is_false : (b : Bool) → b ≡ false → true ≡ b → ⊥
+true_is_false b off is = true≢false (is ∙ off)
+
+pub others_so_far : (stacks : List Folded) (i : ℕ) (d : Folded) (ms : List MethodNo) (b : Bool) → i < length stacks → d ≡ slice_index_or stacks i d → b ≡ same_methods d.methods.items ms → b ≡ false
+    → ((j : ℕ) (m : List MethodNo) → j < i → slice_get (stacks_of stacks) j ≡ Some m → m ≢ ms) → (j : ℕ) (m : List MethodNo) → j < i + 1 → slice_get (stacks_of stacks) j ≡ Some m → m ≢ ms
+others_so_far stacks i d ms b h at is off before j m less here same =
+    elim (cases_eq j i) [
+      | inl now ↦
+          let mine : d.methods.items ≡ m = methods_at stacks i d m h at (ap (λ (k : ℕ). slice_get (stacks_of stacks) k) (sym now) ∙ here) in
+          true_is_false b off (methods_same d.methods.items ms (mine ∙ same) ∙ sym is)
+      | inr earlier ↦ before j m (omega (arith, less, earlier)) here same
+    ]
+
+-- all of them are, so one more is new
+pub distinct_first : (stacks now : List Folded) (f : Folded) (ms : List MethodNo) (i : ℕ) → AreDistinct (stacks_of stacks) → now ≡ stacks ++ f ∷ [] → f.methods.items ≡ ms → length stacks ≤ i
+    → ((j : ℕ) (m : List MethodNo) → j < i → slice_get (stacks_of stacks) j ≡ Some m → m ≢ ms) → AreDistinct (stacks_of now)
+distinct_first stacks now f ms i d is new all before =
+    subst (λ (l : List (List MethodNo)). AreDistinct l) (sym (ap stacks_of is ∙ map-append (λ (x : Folded). x.methods.items) stacks (f ∷ [])))
+    (distinct_more (stacks_of stacks) f.methods.items d (λ j m at same. before j m (let h = within (stacks_of stacks) j m at in omega (arith, h, as_many stacks, all)) at (same ∙ new)))

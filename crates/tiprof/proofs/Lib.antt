@@ -1,3 +1,4 @@
 pub mod FoldLaws
 pub mod RootsLaws
 pub mod AskedLaws
+pub mod LineLaws

@@ -1,5 +1,5 @@
 -- How many stacks were folded, and how often each was seen.
-use Rattle.std.specs.Prelude.{ℕ, Bool, List, ◌==◌, if◌then◌else◌}
+use Rattle.std.specs.Prelude.{ℕ, ◌≡◌, Bool, List, map, Some, slice_get, ◌==◌, if◌then◌else◌}
 use Rattle.std.specs.Cmp.Lexicographic.{pointwise}
 use Rattle.std.specs.List.{sum_by}
 use Rattle.ti_types.specs.declared.numbers.MethodNo.{MethodNo}
@@ -8,6 +8,14 @@ use Rattle.tiprof.specs.declared.fold.Folded.{Folded}
 -- the sum of the counts
 abbrev pub counts_of : List Folded → ℕ
 counts_of stacks = sum_by (λ (f : Folded). f.count) stacks
+
+-- the methods of each stack
+abbrev pub stacks_of : List Folded → List (List MethodNo)
+stacks_of stacks = map (λ (f : Folded). f.methods.items) stacks
+
+-- no stack is there twice
+abbrev pub AreDistinct : List (List MethodNo) → Type 0
+AreDistinct l = (i j : ℕ) (m : List MethodNo) → slice_get l i ≡ Some m → slice_get l j ≡ Some m → i ≡ j
 
 -- whether two stacks have the same methods in the same order
 abbrev pub same_methods : List MethodNo → List MethodNo → Bool

@@ -3,3 +3,4 @@ pub mod Folds
 pub mod Roots
 pub mod Asked
 pub mod Flames
+pub mod Lines

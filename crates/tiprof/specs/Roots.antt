@@ -1,6 +1,9 @@
 -- Stacks, kept apart by what their threads did and by owner.
-use Rattle.std.specs.Prelude.{ℕ, ◌≡◌, ◌≢◌, ◌+◌, ◌==◌, Bool, bit_and, if◌then◌else◌, nat_lt, codes, List, [], Some, slice_get, slice_set}
+use Rattle.std.specs.Prelude.{ℕ, zero, suc, ◌≡◌, ◌≢◌, ◌+◌, ◌==◌, Bool, bit_and, if◌then◌else◌, nat_lt, codes, List, [], Some, map, slice_get, slice_set}
+use Rattle.ti_types.specs.declared.answer.Answer.{Answer}
+use Rattle.ti_types.specs.declared.answer.Answer.TheVariants.{Trace}
 use Rattle.ti_types.specs.declared.numbers.MethodNo.{MethodNo}
+use Rattle.ti_types.specs.declared.place.Frame.{Frame}
 use Rattle.tiprof.specs.declared.fold.Fold.{Fold}
 use Rattle.tiprof.specs.declared.fold.Folded.{Folded}
 use Rattle.tiprof.specs.declared.roots.Doing.{Doing}
@@ -66,3 +69,13 @@ pub record IsAddedAt (old new : List Part) (place : ℕ) (doing : Doing) (method
   pub there : slice_get old place ≡ Some before
   pub parts : new ≡ slice_set old place after
   pub added : IsAddedTo before after doing methods
+
+-- the same stack was added so many times
+abbrev pub AreAddedAt : ℕ → List Part → List Part → ℕ → Doing → List MethodNo → Type 0
+AreAddedAt zero old new place doing methods = new ≡ old
+AreAddedAt (suc n) old new place doing methods = (mid : List Part) × AreAddedAt n old mid place doing methods × IsAddedAt mid new place doing methods
+
+-- the frames of an answer to a stack trace were added so many times; any other answer adds nothing
+abbrev pub AddsAnswer : Answer → ℕ → List Part → List Part → ℕ → Doing → Type 0
+AddsAnswer (Trace buf) n old new place doing = AreAddedAt n old new place doing (map (λ (f : Frame). f.method) buf.frames)
+AddsAnswer _ n old new place doing = new ≡ old

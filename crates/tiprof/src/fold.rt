@@ -61,6 +61,7 @@ pub struct Fold {
     /// How many stacks were folded.
     total: u64,
     ghost sums: { counts_of stacks.items ≡ total },
+    ghost distinct: { AreDistinct (stacks_of stacks.items) },
 }
 
 impl Fold {
@@ -100,10 +101,11 @@ impl Fold {
         Ok(())
     }
 
-    /// The different stacks, in the order in which they were first seen.
+    /// The different stacks, in the order in which they were first seen. None is there twice.
     pub fn stacks(&self) -> &[Folded]
         ensures all { result.now ≡ self.now.stacks.items }
         ensures sum { counts_of result.now ≡ self.now.total }
+        ensures distinct { AreDistinct (stacks_of result.now) }
     {
         &self.stacks
     }
@@ -117,4 +119,4 @@ impl Fold {
 }
 
 ghost use Rattle.std.specs.Prelude.{◌≡◌, ◌≢◌, ◌+◌, List, [], map, OnOk, OnErr, IfOk};
-ghost use Rattle.tiprof.specs.Folds.{counts_of, same_methods, seen};
+ghost use Rattle.tiprof.specs.Folds.{AreDistinct, counts_of, same_methods, seen, stacks_of};

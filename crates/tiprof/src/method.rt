@@ -41,7 +41,9 @@ impl Method {
 }
 
 /// The name of the method of a frame.
-pub fn name_of(method: MethodNo) -> &'static str {
+pub fn name_of(method: MethodNo) -> &'static str
+    ensures { result.now ≡ name_of method.0 }
+{
     match method.0 {
         0 => "worker",
         1 => "parse",
@@ -59,3 +61,6 @@ pub fn name_of(method: MethodNo) -> &'static str {
         _ => "unknown",
     }
 }
+
+ghost use Rattle.std.specs.Prelude.{◌≡◌};
+ghost use Rattle.tiprof.specs.Lines.{name_of};

@@ -49,7 +49,9 @@ pub enum Owner {
 
 impl Owner {
     /// The name at the root of its stacks. `None` if they have none. The error is lack of memory.
-    pub fn name(self, alloc: Global) -> Result<Option<String>, AllocError> {
+    pub fn name(self, alloc: Global) -> Result<Option<String>, AllocError>
+        ensures name { IfOk result (λ n. option_map string_bytes n ≡ owner_name self) }
+    {
         match self {
             Owner::Workers => Ok(None),
             Owner::Worker(number) => Ok(Some(format!(in alloc; "worker {number}")?)),
@@ -206,4 +208,7 @@ impl Roots {
 
 ghost use Rattle.std.specs.Prelude.{◌≡◌, ◌+◌, map, length, OnOk, OnErr, IfOk};
 ghost use Rattle.std.specs.List.{All, sum_by};
+ghost use Rattle.std.specs.Option.{option_map};
+ghost use Rattle.std.specs.String.{string_bytes};
+ghost use Rattle.tiprof.specs.Lines.{owner_name};
 ghost use Rattle.tiprof.specs.Roots.{doing_of, fold_in, folded_in, IsAddedTo, IsAddedAt, IsEmpty, owner_at, parts_of_workers, place_of, stacks_in, word_of};

@@ -96,7 +96,7 @@ impl Worker {
         };
         self.running = match running.poll(rt) {
             Polled::Go(running) => Some(running),
-            Polled::Stays(held) => Some(held.back(rt)),
+            Polled::Held(held) => Some(held.back(rt)),
         };
     }
 

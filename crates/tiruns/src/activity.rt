@@ -99,7 +99,7 @@ pub fn work_beside<R: Clock + CpuClock>(rt: &R, running: Running) -> Option<Spen
 fn go_on<R: Wait>(rt: &R, running: Running) -> Option<Running> {
     match running.poll(rt) {
         Polled::Go(again) => Some(again),
-        Polled::Stays(_) => None,
+        Polled::Held(_) => None,
     }
 }
 
@@ -155,7 +155,7 @@ pub fn poll_until_held<R: Wait>(rt: &R, running: Running) -> Option<AtSafe> {
         if !running.poll_clear() {
             match running.poll(rt) {
                 Polled::Go(again) => running = again,
-                Polled::Stays(held) => return Some(held),
+                Polled::Held(held) => return Some(held),
             }
         }
     }

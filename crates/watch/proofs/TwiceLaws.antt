@@ -11,7 +11,7 @@ use Rattle.ti_types.specs.declared.answer.Answer.TheVariants as answer
 use Rattle.ti_types.specs.declared.error.TiError.{TiError}
 use Rattle.ti_types.specs.declared.place.Frame.{Frame}
 use Rattle.ti_types.specs.declared.entry.Entry.{Entry}
-use Rattle.ti_types.specs.declared.entry.Entry.TheVariants.{Start, Stepped, Hand, Back, End, Asked, Stop, Read, Go}
+use Rattle.ti_types.specs.declared.entry.Entry.TheVariants.{Start, Own, Hand, Back, End, Asked, Stop, Read, Go}
 use Rattle.ti_types.specs.declared.call.Call.{Call}
 use Rattle.ti_types.specs.declared.call.Call.TheVariants.{State, FrameCount, Trace, Location, Suspend, Resume, GetWord, SetWord, Pop}
 use Rattle.ti_types.specs.Frames.{bare_trace}
@@ -39,7 +39,7 @@ was_traced (Some e) old new thread c frames k = let bad : answer.Trace (bare_tra
 
 resumes_undo : (x : Entry) → is_undoing x ≡ false → is_resumption x ≡ false
 resumes_undo Start k = refl
-resumes_undo (Stepped step) k = refl
+resumes_undo (Own step) k = refl
 resumes_undo (Hand safe) k = refl
 resumes_undo Back k = refl
 resumes_undo End k = refl
@@ -68,7 +68,7 @@ none_resumes (x ∷ xs) k =
 -- no frame is popped if nobody asks for that
 pops_undo : (limits : Limits) (before : List Entry) (x : Entry) → is_undoing x ≡ false → frames_popped limits before x ≡ 0
 pops_undo limits before Start k = refl
-pops_undo limits before (Stepped step) k = refl
+pops_undo limits before (Own step) k = refl
 pops_undo limits before (Hand safe) k = refl
 pops_undo limits before Back k = refl
 pops_undo limits before End k = refl

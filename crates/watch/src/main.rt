@@ -39,7 +39,7 @@ fn compute<R: Wait>(rt: &R, over: &AtomicBool, running: Running) -> (u64, Ended)
 fn hand_over<R: Wait>(rt: &R, running: Running) -> Running {
     match running.poll(rt) {
         Polled::Go(running) => running,
-        Polled::Stays(held) => held.back(rt),
+        Polled::Held(held) => held.back(rt),
     }
 }
 

@@ -118,6 +118,7 @@ codes! {
     CQ_STILL_RUNNING = 213
     CQ_TIMED_OUT = 214
     CQ_BUSY = 215
+    CQ_FULL = 216
     CQ_HELD = 301
     CQ_WAITING = 302
     CQ_NONE = 303

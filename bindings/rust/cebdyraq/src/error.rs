@@ -41,7 +41,7 @@ errors! {
     MustPossessCapability = CQ_MUST_POSSESS_CAPABILITY
     /// An argument is out of its range.
     IllegalArgument = CQ_ILLEGAL_ARGUMENT
-    /// There is no memory, no place for an environment, or no room in the window of calls.
+    /// There is no memory for it.
     OutOfMemory = CQ_OUT_OF_MEMORY
     /// The stack has as many frames as the service's depth.
     Overflow = CQ_OVERFLOW
@@ -57,6 +57,8 @@ errors! {
     CallsSpent = CQ_CALLS_SPENT
     /// The time is over.
     TimedOut = CQ_TIMED_OUT
+    /// A bound other than memory leaves no place: for an environment, or in the window of calls.
+    Full = CQ_FULL
 }
 
 impl fmt::Display for Error {

@@ -75,7 +75,7 @@ impl Service {
 
     /// Attaches an environment. It has no capability, and has met no thread yet.
     ///
-    /// [`Error::OutOfMemory`] also if there are as many as the service allows.
+    /// [`Error::Full`] if there are as many as the service allows.
     pub fn attach_environment(&mut self) -> Result<Environment, Error> {
         let mut handle = Box::new(sys::cq_env::empty());
         let signal = self.signal.clone();

@@ -187,7 +187,7 @@ fn words_are_the_environments() {
     assert_eq!(other.get_thread_local_storage(0), Ok(0));
     env.set_environment_local_storage(3);
     assert_eq!((env.get_environment_local_storage(), other.get_environment_local_storage()), (3, 0));
-    assert!(matches!(service.attach_environment(), Err(Error::OutOfMemory)));
+    assert!(matches!(service.attach_environment(), Err(Error::Full)));
     assert!(other.dispose().is_ok());
     assert!(service.attach_environment().is_ok());
     assert_eq!(env.get_potential_capabilities(), 3);

@@ -8,7 +8,8 @@ use Rattle.ti_types.specs.Answer.{said}
 use Rattle.ti_types.specs.Numbers.{or_zero}
 use Rattle.ti_slot.specs.Waiting.{HasRoomFor}
 use Rattle.ti_handshake.specs.Desk.{DeskState}
-use Rattle.ti_vmop.specs.Turns.{Listed, MayRead}
+use Rattle.ti_vmop.specs.Turns.{Listed, MayRead, Stood, cells_of}
+use Rattle.ti_vmop.proofs.Each.{cells_stay}
 use Rattle.ti_agent.specs.Env.{Environment, thread_at, threads_at}
 use Rattle.ti_agent.proofs.Places.{names_each, name_of}
 use Rattle.ti_types.specs.declared.entry.Entry.TheVariants.{Read}
@@ -27,6 +28,10 @@ read-answer-requires-clause-there g c =
     let listed = listed_in stopping c.args.places.now c.loop-i.i none c.requires.listed c.loop-i-test.true in
     let there = there_listed (length c.args.desks.now) (slice_index_or c.args.places.now c.loop-i.i none).0 stopping c.requires.there listed in
     (omega (arith, there, c.loop-i.auto.desks), c.loop-i.invariant.held.count)
+
+pub read-answer-requires-clause-cells : goal.read-answer-requires-clause-cells
+read-answer-requires-clause-cells g c =
+    subst (λ (z : Stood). cells_of z.threads c.loop-i.desks ≡ z.cells) (sym c.loop-i.invariant.standing) c.loop-i.invariant.cells
 
 pub told_of-requires : goal.told_of-requires
 told_of-requires g c =
@@ -101,4 +106,5 @@ loop-i-preserved g c =
       roomy = (roomy_last c.args.state.now.limits m _ _ _ before.roomy items).1;
       few = omega (arith, longer, before.few);
       room = search rules;
+      cells = cells_stay stopping ((t, 0) ∷ []) c.loop-i.desks c.read-answer.new.desks (λ e. Read e m ∷ []) r.desks ∙ before.cells;
     }

@@ -1,5 +1,5 @@
 use Rattle.std.proofs.Common.{ℕ, ◌≡◌, ◌≤◌, ◌+◌, length, take, drop, vec_capacity}
-use Rattle.ti_vmop.specs.Turns.{with_reads}
+use Rattle.ti_vmop.specs.Turns.{cells_of, with_reads}
 use Rattle.ti_agent.specs.Env.{thread_at, threads_at}
 use Rattle.ti_agent.specs.Buffers.{AreRoomy}
 use Rattle.ti_agent.specs.Traces.{AreStopped, AreLeft, HasRead}
@@ -18,4 +18,5 @@ invariant-loop-i g l = record {
   roomy : AreRoomy l.fn.state.limits l.fn.max_count l.bufs.items;
   few : length l.infos.items ≡ l.i;
   room : length l.places ≤ vec_capacity l.infos;
+  cells : cells_of l.fn.standing.threads l.desks ≡ l.fn.standing.cells;
 }

@@ -5,7 +5,7 @@ use Rattle.ti_types.specs.declared.limits.Limits.{Limits}
 use Rattle.ti_types.specs.declared.entry.Entry.TheVariants.{Stop, Go}
 use Rattle.ti_types.specs.declared.numbers.ThreadNo.{ThreadNo}
 use Rattle.std.proofs.Common.{[], ◌∷◌, List}
-use Rattle.ti_vmop.specs.Turns.{Listed, AtEach, AreThere}
+use Rattle.ti_vmop.specs.Turns.{Listed, AtEach, AreThere, Stood, cells_of}
 use Rattle.ti_agent.specs.Env.{Environment, thread_at, threads_at}
 use Rattle.ti_agent.proofs.Places.{names_each, names_same, count_names}
 use Rattle.ti_agent.specs.Buffers.{AreRoomy}
@@ -35,6 +35,9 @@ read_each-requires-clause-held g c =
     let held = held_after_stops s l c.stop_all.new.state c.stop_all.new.desks c.requires.whole distinct there c.requires.paid r.state r.desks r.stand in
     subst (λ (z : EnvNo × Listed). AreStopped (record { env = z.0; state = c.stop_all.new.state; desks = c.stop_all.new.desks }) z.1) (λ j. (sym r.env j, sym r.standing.0 j)) held
 
+pub read_each-requires-clause-cells : goal.read_each-requires-clause-cells
+read_each-requires-clause-cells g c = ap (λ (l : Listed). cells_of l c.stop_all.new.desks) c.in-Ok.ensures.standing.0 ∙ sym c.in-Ok.ensures.cells
+
 pub read_each-requires-clause-there : goal.read_each-requires-clause-there
 read_each-requires-clause-there g c =
     subst (AreThere (length c.stop_all.new.desks)) (sym c.in-Ok.ensures.standing.0)
@@ -53,6 +56,9 @@ read_each-requires-clause-bufs g c =
     let m : to_z w32 (of_z w32 c.args.max_count) ≡ c.args.max_count = to_z-of_z w32 c.args.max_count c.ranges.max_count in
     let limits : c.stop_all.new.state.limits ≡ c.args.state.now.limits = ap (λ v. v.limits) c.in-Ok.ensures.state ∙ limits_all c.args.state.now c.args.stopping.now in
     (c.requires.bufs.0, subst (λ (z : Limits × ℤ). AreRoomy z.0 z.1 c.args.bufs.items) (λ j. (sym limits j, sym m j)) c.requires.bufs.1)
+
+pub go-requires-clause-cells : goal.go-requires-clause-cells
+go-requires-clause-cells g c = subst (λ (z : Stood). cells_of z.threads c.read_each.new.desks ≡ z.cells) (sym c.read_each.ensures.standing) c.read_each.ensures.cells
 
 pub go-requires-clause-there : goal.go-requires-clause-there
 go-requires-clause-there g c =

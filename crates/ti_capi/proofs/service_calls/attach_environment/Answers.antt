@@ -1,5 +1,8 @@
-use Rattle.std.proofs.Common.{refl, ap, ◌∙◌}
+use Rattle.std.proofs.Common.{rules, inr, refl, ap, ◌∙◌}
+use Rattle.ti_types.specs.declared.error.TiError.{TiError}
+use Rattle.ti_service.proofs.Moves.{if_err}
 use Rattle.ti_capi.specs.declared.held.HeldEnv.{HeldEnv}
+use Rattle.ti_capi.specs.Services.{RefusesEnv}
 use Rattle.ti_capi.proofs.service_calls.attach_environment.Goals as goal
 
 pub returns-clause-attached : goal.returns-clause-attached
@@ -11,3 +14,8 @@ returns-clause-attached c =
       ap (λ (h : HeldEnv). h.trace) is,
       ap (λ (h : HeldEnv). h.stacks) is,
     )
+
+pub returns-in_err-try_attach_environment-clause-refused : goal.returns-in_err-try_attach_environment-clause-refused
+returns-in_err-try_attach_environment-clause-refused c =
+    if_err (λ (e : TiError). RefusesEnv c.args.service.now c.try_attach_environment.new.self e) c.from_residual.result c.in_err-try_attach_environment.field-0.0 (search rules)
+    (inr c.in_err-try_attach_environment.ensures.refused)

@@ -1,7 +1,6 @@
-use Rattle.std.proofs.Common.{◌≡◌, ap, refl, sym, ◌∙◌, true, false}
-use Rattle.ti_types.specs.declared.answer.Answer.TheVariants as answer
+use Rattle.std.proofs.Common.{sym, ◌∙◌}
 use Rattle.ti_agent.specs.Deadlines.{DiscardsAt}
-use Rattle.ti_agent.proofs.InTime.{comes_within, short_comes, discards_place, discards_there, discards_free}
+use Rattle.ti_agent.proofs.InTime.{comes_within, comes_full, comes_with_room, short_comes, discards_place, discards_there, discards_free}
 use Rattle.ti_agent.proofs.env.Env.ask_within.Given.{Over}
 use Rattle.ti_agent.proofs.env.Env.ask_within.Goals.{After-discard-thrown}
 use Rattle.ti_agent.proofs.env.Env.ask_within.Goals as goal
@@ -23,7 +22,8 @@ has_no_room-requires-clause-there g c =
 pub returns-then-has_no_room-clause-called : goal.returns-then-has_no_room-clause-called
 returns-then-has_no_room-clause-called g c =
     let d = thrown g (goal.at.returns-then-has_no_room-clause-called g c).After-discard-thrown in
-    comes_within c.args.self.now c.discard-thrown.new.self c.discard-thrown.new.self c.args.thread c.args.call _ c.discard-thrown.result c.in-Ok.ensures.admitted d refl (λ _. refl)
+    comes_within c.args.self.now c.discard-thrown.new.self c.discard-thrown.new.self c.args.thread c.args.call _ c.discard-thrown.result c.in-Ok.ensures.admitted d
+    (comes_full c.discard-thrown.new.self c.args.thread c.args.call (sym c.has_no_room.ensures ∙ c.if-has_no_room.true))
 
 pub ask_one_within-requires-clause-place : goal.ask_one_within-requires-clause-place
 ask_one_within-requires-clause-place g c =
@@ -38,12 +38,12 @@ ask_one_within-requires-clause-admitted g c =
 pub returns-in-Ok-buffer_for-clause-called : goal.returns-in-Ok-buffer_for-clause-called
 returns-in-Ok-buffer_for-clause-called g c =
     let d = thrown g (goal.at.returns-in-Ok-buffer_for-clause-called g c).After-discard-thrown in
-    comes_within c.args.self.now c.discard-thrown.new.self c.ask_one_within.new.self c.args.thread c.args.call _ c.discard-thrown.result c.in-Ok.ensures.admitted d c.ask_one_within.ensures.comes
-    (λ full. (let never : true ≡ false = sym full ∙ (sym c.has_no_room.ensures ∙ c.if-has_no_room.false) in cc))
+    comes_within c.args.self.now c.discard-thrown.new.self c.ask_one_within.new.self c.args.thread c.args.call _ c.discard-thrown.result c.in-Ok.ensures.admitted d
+    (comes_with_room c.discard-thrown.new.self c.ask_one_within.new.self c.args.thread c.args.call _ (sym c.has_no_room.ensures ∙ c.if-has_no_room.false) c.ask_one_within.ensures.comes)
 
 pub returns-in-Err-buffer_for-clause-called : goal.returns-in-Err-buffer_for-clause-called
 returns-in-Err-buffer_for-clause-called g c =
     let d = thrown g (goal.at.returns-in-Err-buffer_for-clause-called g c).After-discard-thrown in
-    let is = c.in-Err-buffer_for.ensures.memory.0 in
     comes_within c.args.self.now c.discard-thrown.new.self c.discard-thrown.new.self c.args.thread c.args.call _ c.discard-thrown.result c.in-Ok.ensures.admitted d
-    (short_comes c.discard-thrown.new.self c.args.thread c.args.call c.in-Err-buffer_for.error is) (λ _. ap answer.Refused is)
+    (comes_with_room c.discard-thrown.new.self c.discard-thrown.new.self c.args.thread c.args.call _ (sym c.has_no_room.ensures ∙ c.if-has_no_room.false)
+    (short_comes c.discard-thrown.new.self c.args.thread c.args.call c.in-Err-buffer_for.error c.in-Err-buffer_for.ensures.memory.0))

@@ -1,10 +1,11 @@
-use Rattle.std.proofs.Common.{◌≡◌, ◌+◌, ◌<◌, List, [], ◌∷◌, ◌++◌, length, length-append, Bool, true, if◌then◌else◌, nat_lt, ap, sym, ◌∙◌, subst, arith}
+use Rattle.std.proofs.Common.{◌≡◌, ◌+◌, ◌<◌, ℕ, List, [], ◌∷◌, ◌++◌, length, length-append, Bool, true, if◌then◌else◌, nat_lt, ap, sym, ◌∙◌, subst, arith}
 use Rattle.std.specs.List.{remove}
-use Rattle.ti_types.specs.declared.error.TiError.TheVariants.{InvalidThread, OutOfMemory, ThreadNotAlive}
+use Rattle.std.specs.Prelude.{slice_get}
+use Rattle.ti_types.specs.declared.error.TiError.TheVariants.{Full, InvalidThread, ThreadNotAlive}
 use Rattle.ti_roster.specs.declared.coming.Coming.{Coming}
 use Rattle.ti_roster.specs.declared.coming.Coming.TheVariants.{Ended}
 use Rattle.ti_roster.specs.declared.row.Row.{Row}
-use Rattle.ti_roster.specs.Log.{Log, is_live, live, threads_in}
+use Rattle.ti_roster.specs.Log.{Log, came, is_live, live, threads_in}
 use Rattle.ti_roster.specs.Rows.{AreRows, IsIndex}
 use Rattle.ti_roster.proofs.Places.{get_within}
 use Rattle.ti_roster.proofs.Logs.{threads_ended}
@@ -18,7 +19,7 @@ pub returns-then-self-ge-LAST-clause-refused : goal.returns-then-self-ge-LAST-cl
 returns-then-self-ge-LAST-clause-refused c =
     let at : IsIndex (live c.args.self.now.items) c.args.thread c.in-Some.i = c.in-Some.ensures.there in
     let there : is_live c.args.thread c.args.self.now.items ≡ true = there_live (live c.args.self.now.items) c.args.thread c.in-Some.i at.one at.at at.is in
-    sym (ap (λ (b : Bool). if b then OutOfMemory else if nat_lt c.args.thread.0 (threads_in c.args.self.now.items) then ThreadNotAlive else InvalidThread) there)
+    sym (ap (λ (b : Bool). if b then Full else if nat_lt c.args.thread.0 (threads_in c.args.self.now.items) then ThreadNotAlive else InvalidThread) there)
 
 pub remove-row-requires : goal.remove-row-requires
 remove-row-requires c =
@@ -55,3 +56,16 @@ pub returns-clause-there : goal.returns-clause-there
 returns-clause-there c =
     let at : IsIndex (live c.args.self.now.items) c.args.thread c.in-Some.i = c.in-Some.ensures.there in
     there_live (live c.args.self.now.items) c.args.thread c.in-Some.i at.one at.at at.is
+
+pub returns-clause-who : goal.returns-clause-who
+returns-clause-who c =
+    let r : Log = c.args.self.now in
+    let rows = c.self.inside.rows.items in
+    let marks = c.self.inside.marks.items in
+    let at : IsIndex (live r.items) c.args.thread c.in-Some.i = c.in-Some.ensures.there in
+    let k : AreRows r.items r.limits rows marks = subst (λ (x : Log). AreRows x.items x.limits rows marks) c.self.view_is c.self.invariant.3 in record {
+      who = at.one;
+      index = c.in-Some.i;
+      at = at.at;
+      came_as = ap (λ (n : ℕ). slice_get (came r.items) n) (sym at.is) ∙ k.listed c.in-Some.i at.one at.at;
+    }

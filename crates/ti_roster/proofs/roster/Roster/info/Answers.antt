@@ -8,7 +8,7 @@ use Rattle.ti_roster.specs.declared.newcomer.Newcomer.{Newcomer}
 use Rattle.ti_roster.specs.declared.row.Row.{Row}
 use Rattle.ti_roster.specs.Info.{IsSameInfo}
 use Rattle.ti_roster.specs.Log.{Log, is_live, live, threads_in}
-use Rattle.ti_roster.specs.Roster.{IsToldOf, end_refusal}
+use Rattle.ti_roster.specs.Roster.{IsToldOf, info_refusal}
 use Rattle.ti_roster.specs.Rows.{IsIndex}
 use Rattle.ti_roster.proofs.Places.{get_map, get_within, is_same, read_at}
 use Rattle.ti_roster.proofs.Rows.{rows_count, there_live}
@@ -18,7 +18,7 @@ told : (r : Log) (t : ThreadNo) (i : ℕ) (n : Newcomer) (at : slice_get (live r
 told r t i n at is (Ok a) same = record { index = i; one = n; at = at; is = is; same = same }
 told r t i n at is (Err e) same = same
 
-refused : (r : Log) (t : ThreadNo) (x : Result ThreadInfo TiError) → is_live t r.items ≡ true → IfErr x (λ e. e ≡ OutOfMemory) → IfErr x (λ e. e ≡ end_refusal r t)
+refused : (r : Log) (t : ThreadNo) (x : Result ThreadInfo TiError) → is_live t r.items ≡ true → IfErr x (λ e. e ≡ OutOfMemory) → IfErr x (λ e. e ≡ info_refusal r t)
 refused r t (Ok a) there e = e
 refused r t (Err x) there e = e ∙ sym (ap (λ (b : Bool). if b then OutOfMemory else if nat_lt t.0 (threads_in r.items) then ThreadNotAlive else InvalidThread) there)
 

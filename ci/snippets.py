@@ -1,0 +1,111 @@
+#!/usr/bin/env python3
+"""Runs what README.md, CONTRIBUTING.md and examples/README.md show, as it is printed.
+
+    ci/snippets.py [KIND..]        of these kinds, or of all: rattle, json, sh, c
+
+A snippet is a fenced block of one of these kinds:
+
+- rattle: a whole program. `rt try` compiles and runs it, with nothing proved (`ci/unproved.py`).
+- json: a document. The program that `make run` has built reads it.
+- sh: commands. `sh -e` runs them at the top of the repository.
+- c: a whole program. It is compiled and linked as `c/cebdyraq.h` says, with all warnings, over the library that `make lib`
+  has built. Without a C compiler it is skipped.
+
+Each has to end with status 0. If the block after it has no kind, that is what it has to write to standard output. A block
+without a kind that follows no snippet is not read. The last line is 'N passed, M failed'.
+"""
+
+import json
+import os
+import pathlib
+import re
+import shutil
+import subprocess
+import sys
+import tempfile
+from collections import namedtuple
+
+sys.dont_write_bytecode = True
+
+import refused_memory
+import unproved
+
+PAGES = ("README.md", "CONTRIBUTING.md", "examples/README.md")
+PROGRAM = "crates/tiwalk/out/tiwalk"
+FENCED = re.compile(r"^```(\w*)\n(.*?)^```$", re.M | re.S)
+WARNINGS = ("-std=c11", "-O2", "-Wall", "-Wextra", "-Werror")
+SECONDS = 300
+
+# `wanted` is what it has to write, or None.
+Snippet = namedtuple("Snippet", "place kind text wanted")
+
+
+def snippets_of(page):
+    """The snippets of a page, in their order."""
+    text = pathlib.Path(page).read_text()
+    blocks = [(text.count("\n", 0, found.start()) + 1, found[1], found[2]) for found in FENCED.finditer(text)]
+    after = [body if not kind else None for _, kind, body in blocks[1:]] + [None]
+    return [Snippet(f"{page}:{line}", kind, body, wanted) for (line, kind, body), wanted in zip(blocks, after) if kind]
+
+
+def run(command, **more):
+    return subprocess.run(command, stdout=subprocess.PIPE, stderr=subprocess.PIPE, text=True, errors="replace", timeout=SECONDS, **more)
+
+
+def run_rattle(text, _folder):
+    with unproved.copy_of_crates() as root:
+        return run(["rt", "try"], cwd=unproved.add_program(root, "snippet", text))
+
+
+def run_json(text, _folder):
+    return run([PROGRAM, refused_memory.argument(json.loads(text))], input=text)
+
+
+def run_sh(text, _folder):
+    return run(["sh", "-e", "-c", text])
+
+
+def run_c(text, folder):
+    source, made = pathlib.Path(folder, "snippet.c"), pathlib.Path(folder, "snippet")
+    source.write_text(text)
+    flags = ("-Idist/include", str(source), "-Ldist/lib", "-lcebdyraq", "-lpthread", "-o", str(made))
+    done = run([os.environ.get("CC", "cc"), *WARNINGS, *flags])
+    return done if done.returncode else run([str(made)])
+
+
+RUNS = {"rattle": run_rattle, "json": run_json, "sh": run_sh, "c": run_c}
+
+
+def fault_of(snippet):
+    """What is wrong with a snippet, or None."""
+    with tempfile.TemporaryDirectory(prefix="snippet-") as folder:
+        try:
+            done = RUNS[snippet.kind](snippet.text, folder)
+        except (OSError, ValueError, subprocess.TimeoutExpired) as error:
+            return str(error)
+    if done.returncode:
+        return f"status {done.returncode}\n{done.stdout}{done.stderr}"
+    if snippet.wanted is not None and done.stdout != snippet.wanted:
+        return f"it writes\n{done.stdout}"
+    return None
+
+
+def main():
+    kinds = sys.argv[1:] or list(RUNS)
+    if not set(kinds) <= set(RUNS):
+        sys.exit(__doc__.strip())
+    snippets = [snippet for page in PAGES for snippet in snippets_of(page) if snippet.kind in kinds]
+    passed = failed = 0
+    for snippet in snippets:
+        if snippet.kind == "c" and not shutil.which(os.environ.get("CC", "cc")):
+            print(f"{snippet.place}: skipped, there is no C compiler")
+            continue
+        fault = fault_of(snippet)
+        print(f"{snippet.place}: {snippet.kind}: {fault or 'passed'}", flush=True)
+        passed, failed = passed + (not fault), failed + bool(fault)
+    print(f"{passed} passed, {failed} failed")
+    return 1 if failed else 0
+
+
+if __name__ == "__main__":
+    sys.exit(main())

@@ -1,0 +1,285 @@
+//! Words about a fault of an item: an event, an operation, a call or an entry.
+
+use crate::kind::Kind;
+use crate::place::Place;
+use crate::texts::{listed, meant, quoted, shown};
+use crate::tree::{elements, has_text, texts_in, value_at};
+use crate::values::wrong_value;
+use crate::vocabulary::{Speaker, Takes, meant_by};
+use serde_json::Value;
+use std::alloc::{AllocError, Global};
+use ti_script::MemberName;
+
+/// An item that is at fault, with what is known about it.
+#[derive(Clone, Copy)]
+struct Item<'a> {
+    kind: Kind,
+    tree: &'a Value,
+    /// Its elements.
+    parts: &'a [Value],
+    /// How many elements come before its word.
+    lead: usize,
+    speaker: Speaker,
+}
+
+/// The text at this place of an item, or an empty one.
+fn text_at(parts: &[Value], place: usize) -> &str {
+    match parts.get(place) {
+        Some(value) => value.as_str().unwrap_or(""),
+        None => "",
+    }
+}
+
+/// Whose words an item has.
+fn speaker_of(kind: Kind, tree: &Value, member: Option<MemberName>, subject: &str) -> Speaker {
+    match kind {
+        Kind::History => Speaker::History,
+        Kind::Live => if member == Some(MemberName::Walks) {
+            Speaker::Thread
+        } else {
+            Speaker::Caller
+        },
+        Kind::Walk => if has_text(tree, "threads", subject) {
+            Speaker::Thread
+        } else {
+            Speaker::Agent
+        },
+    }
+}
+
+/// What these elements are, with commas and an `and`.
+fn all_of(alloc: Global, takes: &[Takes]) -> Result<String, AllocError> {
+    let mut text = String::new(alloc);
+    for (place, one) in takes.iter().enumerate() {
+        if place > 0 {
+            text.push_str(if place < takes.len() - 1 {
+                ", "
+            } else {
+                " and "
+            })?;
+        }
+        text.push_str(one.text())?;
+    }
+    Ok(text)
+}
+
+/// Of a word that has this many elements after it, and takes others.
+fn wrong_count(
+    alloc: Global,
+    word: &str,
+    takes: &[Takes],
+    given: usize,
+) -> Result<String, AllocError> {
+    if takes.is_empty() {
+        return format!(in alloc; "'{word}' takes nothing; {given} given");
+    }
+    let all = all_of(alloc, takes)?;
+    if given < takes.len() {
+        return format!(in alloc; "'{word}' takes {all}; {given} of {} given", takes.len());
+    }
+    format!(in alloc; "'{word}' takes {all}; {given} given")
+}
+
+/// Of an item that as a whole has the wrong shape.
+fn wrong_item(alloc: Global, item: &Item<'_>) -> Result<String, AllocError> {
+    if item.parts.len() <= item.lead {
+        return String::from_str(
+            alloc,
+            match item.kind {
+                Kind::Walk => "an event is an array with a subject and a word: [\"t0\",\"start\"]",
+                Kind::Live => "an operation or a call is an array with a word: [\"start\"]",
+                Kind::History => "an entry is an array with a word: [\"start\"]",
+            },
+        );
+    }
+    let given = item.parts.len() - item.lead - 1;
+    let word = text_at(item.parts, item.lead);
+    if word == "asked" && given > 2 {
+        let call = text_at(item.parts, 3);
+        if let Some(takes) = Speaker::Asked.takes(call) {
+            return wrong_count(alloc, call, takes, given - 3);
+        }
+    }
+    match item.speaker.takes(word) {
+        Some(takes) => wrong_count(alloc, word, takes, given),
+        None => no_word(alloc, item, word),
+    }
+}
+
+/// Of the subject of an event.
+fn wrong_subject(alloc: Global, item: &Item<'_>, value: &Value) -> Result<String, AllocError> {
+    let Some(text) = value.as_str() else {
+        let here = shown(alloc, value)?;
+        return format!(in alloc;
+            "{here} stands there; an event begins with the name of a thread or an agent"
+        );
+    };
+    let second = text_at(item.parts, 1);
+    let is_subject = has_text(item.tree, "threads", second)
+        || has_text(item.tree, "agents", second);
+    let is_word = Speaker::Thread.takes(text).is_some() || Speaker::Agent.takes(text).is_some();
+    if is_subject && is_word {
+        return format!(in alloc; "the subject comes first: [\"{second}\",\"{text}\"]");
+    }
+    let mut names = texts_in(alloc, item.tree, "threads")?;
+    for agent in texts_in(alloc, item.tree, "agents")? {
+        names.push(agent)?;
+    }
+    let name = quoted(alloc, text)?;
+    let near = meant(alloc, None, text, names.as_slice())?;
+    let all = listed(alloc, names.as_slice())?;
+    format!(in alloc; "{name} is no thread and no agent{near}; there are {all}")
+}
+
+/// Where a word belongs that is another speaker's.
+fn belongs(item: &Item<'_>, word: &str) -> Option<&'static str> {
+    let is_operation = Speaker::Thread.takes(word).is_some();
+    let is_call = Speaker::Agent.takes(word).is_some() || Speaker::Caller.takes(word).is_some();
+    match item.speaker {
+        Speaker::Thread => if !is_call {
+            None
+        } else if item.kind == Kind::Live {
+            Some("is a call: it goes into 'calls'")
+        } else {
+            Some("is a word of agents, and the subject is a thread")
+        },
+        Speaker::Agent => if is_operation {
+            Some("is a word of threads, and the subject is an agent")
+        } else if is_call {
+            Some("is a word of live scripts alone")
+        } else {
+            None
+        },
+        Speaker::Caller => if is_operation {
+            Some("is an operation: it goes into 'walks'")
+        } else if is_call {
+            Some("is a word of walks alone")
+        } else {
+            None
+        },
+        Speaker::History => if word == "poll" || word == "native" || word == "block" {
+            Some("is a hand-over: 'hand', and then 'native', 'poll' or a kind of block")
+        } else if Speaker::Asked.takes(word).is_some() {
+            Some(
+                "is a call: 'asked', the agent's number, the number of its call, and then the call",
+            )
+        } else {
+            None
+        },
+        Speaker::Asked => if word == "pop" {
+            Some("is there from format 2 on")
+        } else {
+            None
+        },
+    }
+}
+
+/// Of a text that is no word of its speaker.
+fn no_word(alloc: Global, item: &Item<'_>, word: &str) -> Result<String, AllocError> {
+    let name = quoted(alloc, word)?;
+    let is_subject = has_text(item.tree, "threads", word) || has_text(item.tree, "agents", word);
+    if item.kind == Kind::Live && is_subject {
+        return format!(in alloc; "drop {name}: the list says whose it is");
+    }
+    if let Some(words) = belongs(item, word) {
+        return format!(in alloc; "{name} {words}");
+    }
+    let words = item.speaker.words();
+    let near = meant(alloc, meant_by(word), word, words)?;
+    let mut all = String::new(alloc);
+    for (place, word) in words.iter().enumerate() {
+        if place > 0 {
+            all.push_str(", ")?;
+        }
+        all.push_str(word)?;
+    }
+    format!(in alloc;
+        "{name} is no word of {}{near}; there are {all}",
+        item.speaker.text()
+    )
+}
+
+/// Of the value at the place of a word.
+fn wrong_word(alloc: Global, item: &Item<'_>, value: &Value) -> Result<String, AllocError> {
+    match value.as_str() {
+        Some(text) => no_word(alloc, item, text),
+        None => {
+            let here = shown(alloc, value)?;
+            format!(in alloc; "{here} stands there; a word is wanted")
+        }
+    }
+}
+
+/// What the element at this place is to be.
+fn wanted_at(item: &Item<'_>, place: usize) -> Option<Takes> {
+    let word = text_at(item.parts, item.lead);
+    if word == "asked" && place > 3 {
+        let takes = Speaker::Asked.takes(text_at(item.parts, 3))?;
+        return takes.get(place - 4).copied();
+    }
+    let takes = item.speaker.takes(word)?;
+    takes
+        .get(place.checked_sub(item.lead)?.checked_sub(1)?)
+        .copied()
+}
+
+/// Of the element at this place, where `Asked` has words of its own.
+fn wrong_element(
+    alloc: Global,
+    item: &Item<'_>,
+    place: usize,
+    value: &Value,
+) -> Result<String, AllocError> {
+    match wanted_at(item, place) {
+        Some(Takes::Asked) => {
+            let asked = Item {
+                speaker: Speaker::Asked,
+                ..*item
+            };
+            wrong_word(alloc, &asked, value)
+        }
+        Some(takes) => wrong_value(alloc, item.tree, takes, value),
+        None => {
+            let here = shown(alloc, value)?;
+            format!(in alloc; "{here} stands there, which is not wanted")
+        }
+    }
+}
+
+/// What is wrong with an item at a place, or with this element of it.
+pub(crate) fn item_words(
+    alloc: Global,
+    kind: Kind,
+    tree: &Value,
+    whole: &Place,
+    element: Option<usize>,
+) -> Result<String, AllocError> {
+    let Some(value) = value_at(tree, whole) else {
+        return String::from_str(alloc, "there is nothing");
+    };
+    if !value.is_array() {
+        let here = shown(alloc, value)?;
+        return format!(in alloc; "{here} stands there; an array is wanted");
+    }
+    let parts = elements(value);
+    let item = Item {
+        kind,
+        tree,
+        parts,
+        lead: if kind == Kind::Walk { 1 } else { 0 },
+        speaker: speaker_of(kind, tree, whole.member, text_at(parts, 0)),
+    };
+    let Some(place) = element else {
+        return wrong_item(alloc, &item);
+    };
+    let Some(part) = parts.get(place) else {
+        return wrong_item(alloc, &item);
+    };
+    if place < item.lead {
+        wrong_subject(alloc, &item, part)
+    } else if place == item.lead {
+        wrong_word(alloc, &item, part)
+    } else {
+        wrong_element(alloc, &item, place, part)
+    }
+}
