@@ -3,8 +3,8 @@
 (`ci/cases.py`) and runs with an allocation refused (`ci/refused_memory.py`). Then the C programs over the library, and what the
 pages show (`ci/snippets.py`).
 
-`rt ci` leaves `tiwalk` in `crates/tiwalk/out` as LLVM builds it, and, where Rattle's own compiler took it, as that builds
-it. It builds no static library, so `ci/lib.py` does that, over the libraries that were proved. The output of `rt ci` is passed
+`rt ci` leaves `tiwalk` and `tilint` in their crates' `out/` as LLVM builds them, and, where Rattle's own compiler took them, as
+that builds them. It builds no static library, so `ci/lib.py` does that, over the libraries that were proved. The output of `rt ci` is passed
 on, but for its last line 'N passed, M failed': what is tried besides is added to those counts, and the sums are the last line
 here.
 """
@@ -22,7 +22,8 @@ import cases
 import lib
 import proved_libraries
 
-PROGRAMS = ("crates/tiwalk/out/tiwalk", "crates/tiwalk/out/tiwalk.by-rattle")
+WALK = "crates/tiwalk/out/tiwalk"
+LINT = "crates/tilint/out/tilint"
 
 
 def counts_of(*command):
@@ -68,12 +69,12 @@ def main():
     print(f"tests without a proof: {passed} passed, {failed} failed", flush=True)
     well, ill, status = counts_of("rt", "ci")
     passed, failed = passed + well, failed + ill
-    programs = [program for program in PROGRAMS if pathlib.Path(program).is_file()] or PROGRAMS[:1]
-    for program in programs:
+    others = [program + ".by-rattle" for program in (WALK, LINT) if pathlib.Path(program + ".by-rattle").is_file()]
+    for program in (WALK, LINT, *others):
         well, ill = cases.run_all(program)
         print(f"cases on {program}: {well} passed, {ill} failed")
         passed, failed = passed + well, failed + ill
-    well, ill = try_refusals(programs[0])
+    well, ill = try_refusals(WALK)
     print(f"refused allocations: {well} passed, {ill} failed")
     passed, failed = passed + well, failed + ill
     if not status:

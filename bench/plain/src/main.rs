@@ -43,7 +43,7 @@ fn main() -> ExitCode {
         Err(Fault::Shape(n)) => (format!("shape at item {}", n), 2),
         Err(Fault::Name(n)) => (format!("name at item {}", n), 2),
         Err(Fault::Limit(name)) => (format!("limit {}", name), 2),
-        Err(Fault::Usage) => ("usage: tiwalk [walk|live|check] < DOCUMENT".to_owned(), 2),
+        Err(Fault::Usage) => ("usage: tiwalk [walk|live|check]".to_owned(), 2),
         Err(Fault::Read) => ("read".to_owned(), 4),
         Err(Fault::Write) => ("write".to_owned(), 4),
     };
