@@ -24,7 +24,8 @@ use Rattle.ti_cell.specs.declared.view.View.{View}
 use Rattle.ti_handshake.specs.Call.{Holds}
 use Rattle.ti_handshake.specs.Desk.{DeskState, IsSame}
 use Rattle.ti_replay.specs.Fronts.{stops_by}
-use Rattle.ti_vmop.specs.Turns.{Listed, is_listed, are_paid, spend_all, AtEach, AllStand, MayRead}
+use Rattle.ti_vmop.specs.Turns.{Listed, is_listed, are_paid, spend_all, AtEach, AllStand, MayRead, Stood, cells_of, with_reads}
+use Rattle.ti_vmop.proofs.Each.{cells_stay}
 use Rattle.ti_agent.specs.Env.{Environment, AreInOrder, IsDesk, IsWhole, thread_at}
 use Rattle.ti_agent.specs.Traces.{AreStopped, AreLeft, ReadsOne, each_once, are_there}
 use Rattle.ti_agent.proofs.Tracing.{limits_all, left_in, left_one, left_then, distinct_in, there_in, held_after_stops, held_after_read, may_read}
@@ -153,3 +154,11 @@ stand_may old now stopped t rest m b env k listed same room p at =
 -- and what letting them go does
 pub stand_go : (old now : Environment) (stopped threads : Listed) (rest : List ThreadNo) → Stand old now stopped rest → threads ≡ stopped → AllStand threads now.desks
 stand_go old now stopped threads rest k same i p at listed = (k.held.desks i p at).stands (ap (λ (l : Listed). is_listed i l) (sym same) ∙ listed)
+
+-- the desks are at the cells where they were stopped, and stay there
+pub cells_first : (standing : Stood) (threads : Listed) (desks : List DeskState) → standing.threads ≡ threads → standing.cells ≡ cells_of threads desks → cells_of standing.threads desks ≡ standing.cells
+cells_first standing threads desks same here = ap (λ (l : Listed). cells_of l desks) same ∙ sym here
+
+pub cells_then : (old new : Stood) (reads : ℕ) (read : Listed) (before after : List DeskState) (more : EnvNo → List Entry) → new ≡ with_reads old reads → AtEach read before after more → cells_of old.threads before ≡ old.cells
+    → cells_of new.threads after ≡ new.cells
+cells_then old new reads read before after more is each here = subst (λ (z : Stood). cells_of z.threads after ≡ z.cells) (sym is) (cells_stay old.threads read before after more each ∙ here)

@@ -1,11 +1,12 @@
 use Rattle.std.proofs.Common.{ℕ, pos, [], ◌∷◌, refl, sym, ap, ◌∙◌, arith, List}
 use Rattle.ti_types.specs.Answer.{said}
+use Rattle.ti_types.specs.declared.entry.Entry.TheVariants.{Read}
 use Rattle.ti_types.specs.declared.numbers.ThreadNo.{ThreadNo}
 use Rattle.ti_vmop.specs.Turns.{Listed}
 use Rattle.ti_agent.specs.Env.{Environment}
 use Rattle.ti_agent.specs.Traces.{are_there, each_once}
 use Rattle.ti_agent.proofs.Tracing.{may_stop, one_environment}
-use Rattle.ti_trace_tests.proofs.Stops.{Stand, stops_stand, reads_stand, stand_may, stand_go}
+use Rattle.ti_trace_tests.proofs.Stops.{Stand, stops_stand, reads_stand, stand_may, stand_go, cells_first, cells_then}
 use Rattle.ti_trace_tests.proofs.rounds.stop_and_read.Goals as goal
 
 abbrev first : ThreadNo
@@ -84,3 +85,20 @@ go-round-requires-clause-env g c i p at is =
     reads_stand s seen later listed second [] (pos 4) (said c.read-second.result) one refl (omega (arith, c.requires.two)) (record { env_is = refl; about = refl; state_is = again.state; desks = again.desks; answer_is = again.answer }) in
     let env = ap (λ v. v.env) again.standing ∙ (ap (λ v. v.env) told.standing ∙ r.env) in
     (two.held.desks i p at).env_is ∙ sym env
+
+pub read-first-requires-clause-cells : goal.read-first-requires-clause-cells
+read-first-requires-clause-cells g c = cells_first c.in-Ok.standing listed c.stop_all.new.desks c.in-Ok.ensures.standing.0 c.in-Ok.ensures.cells
+
+pub read-second-requires-clause-cells : goal.read-second-requires-clause-cells
+read-second-requires-clause-cells g c =
+    let here = cells_first c.in-Ok.standing listed c.stop_all.new.desks c.in-Ok.ensures.standing.0 c.in-Ok.ensures.cells in
+    let told = c.read-first.ensures in
+    cells_then c.in-Ok.standing c.read-first.new.self _ ((first, 0) ∷ []) c.stop_all.new.desks c.read-first.new.desks (λ e. Read e (pos 4) ∷ []) told.standing told.desks here
+
+pub go-round-requires-clause-cells : goal.go-round-requires-clause-cells
+go-round-requires-clause-cells g c =
+    let here = cells_first c.in-Ok.standing listed c.stop_all.new.desks c.in-Ok.ensures.standing.0 c.in-Ok.ensures.cells in
+    let told = c.read-first.ensures in
+    let again = c.read-second.ensures in
+    cells_then c.read-first.new.self c.read-second.new.self _ ((second, 0) ∷ []) c.read-first.new.desks c.read-second.new.desks (λ e. Read e (pos 4) ∷ []) again.standing again.desks
+    (cells_then c.in-Ok.standing c.read-first.new.self _ ((first, 0) ∷ []) c.stop_all.new.desks c.read-first.new.desks (λ e. Read e (pos 4) ∷ []) told.standing told.desks here)

@@ -1,11 +1,12 @@
 use Rattle.std.proofs.Common.{ℕ, pos, [], ◌∷◌, refl, sym, ap, ◌∙◌, arith, List}
 use Rattle.ti_types.specs.Answer.{said}
+use Rattle.ti_types.specs.declared.entry.Entry.TheVariants.{Read}
 use Rattle.ti_types.specs.declared.numbers.ThreadNo.{ThreadNo}
 use Rattle.ti_vmop.specs.Turns.{Listed}
 use Rattle.ti_agent.specs.Env.{Environment}
 use Rattle.ti_agent.specs.Traces.{are_there, each_once}
 use Rattle.ti_agent.proofs.Tracing.{may_stop, one_environment}
-use Rattle.ti_trace_tests.proofs.Stops.{Stand, stops_stand, reads_stand, stand_may, stand_go}
+use Rattle.ti_trace_tests.proofs.Stops.{Stand, stops_stand, reads_stand, stand_may, stand_go, cells_first, cells_then}
 use Rattle.ti_trace_tests.proofs.rounds.stop_before_start.Goals as goal
 
 abbrev first : ThreadNo
@@ -62,3 +63,12 @@ go-round-requires-clause-env g c i p at is =
 
 pub returns : goal.returns
 returns g c = record { other = c.try_stop-another.ensures.desk c.args.other.now.cell 1 c.requires.other }
+
+pub read-told-requires-clause-cells : goal.read-told-requires-clause-cells
+read-told-requires-clause-cells g c = cells_first c.in-Ok.standing listed c.stop_all.new.desks c.in-Ok.ensures.standing.0 c.in-Ok.ensures.cells
+
+pub go-round-requires-clause-cells : goal.go-round-requires-clause-cells
+go-round-requires-clause-cells g c =
+    let here = cells_first c.in-Ok.standing listed c.stop_all.new.desks c.in-Ok.ensures.standing.0 c.in-Ok.ensures.cells in
+    let told = c.read-told.ensures in
+    cells_then c.in-Ok.standing c.read-told.new.self _ ((first, 0) ∷ []) c.stop_all.new.desks c.read-told.new.desks (λ e. Read e (pos 4) ∷ []) told.standing told.desks here
