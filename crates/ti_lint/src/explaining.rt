@@ -139,7 +139,7 @@ fn explain_name(
 }
 
 /// Explains the first fault of a document that is JSON, by its tree: where it is, what stands there, and what may stand
-/// there. The place is in the item of the fault. Of the words no clause says anything.
+/// there. The place is in the item of the fault. No clause speaks of the words.
 pub fn explain(
     alloc: Global,
     kind: Kind,

@@ -58,7 +58,7 @@ fn misspelt<'a>(
     Ok(None)
 }
 
-/// Of a document that is of another kind than was asked for.
+/// Explains a document that is of another kind than was asked for.
 pub(crate) fn of_other_kind(
     alloc: Global,
     kind: Kind,
@@ -82,7 +82,7 @@ pub(crate) fn of_other_kind(
     }
 }
 
-/// Of a member that is missing.
+/// Explains a member that is missing.
 fn missing(
     alloc: Global,
     kind: Kind,
@@ -105,7 +105,7 @@ fn missing(
     format!(in alloc; "member '{wanted}' is missing")
 }
 
-/// Of an object that has a member too many, or of a value that is no object.
+/// Explains an object that has a member too many, or a value that is no object.
 fn no_such_object(alloc: Global, value: &Value, members: &[&str]) -> Result<String, AllocError> {
     let all = listed(alloc, members)?;
     if !value.is_object() {
@@ -117,7 +117,7 @@ fn no_such_object(alloc: Global, value: &Value, members: &[&str]) -> Result<Stri
     format!(in alloc; "member {key} is not allowed; allowed are {all}")
 }
 
-/// Of a whole document that is no object, or has a member too many.
+/// Explains a whole document that is no object, or has a member too many.
 pub(crate) fn wrong_document(
     alloc: Global,
     kind: Kind,
@@ -129,7 +129,7 @@ pub(crate) fn wrong_document(
     Ok(Explanation::at(Place::document(), words))
 }
 
-/// Of an array of texts that has another value in it, or is no array.
+/// Explains an array of texts that has another value in it, or is no array.
 fn wrong_texts(alloc: Global, member: MemberName, value: &Value) -> Result<Explanation, AllocError>
     ensures { IfOk result (λ x. IsInHead x.place) }
 {
@@ -152,7 +152,7 @@ fn wrong_texts(alloc: Global, member: MemberName, value: &Value) -> Result<Expla
     )
 }
 
-/// Of `walks` and `calls` of a live script.
+/// Explains `walks` and `calls` of a live script.
 fn wrong_lists(
     alloc: Global,
     tree: &Value,
@@ -183,7 +183,7 @@ fn wrong_lists(
     Ok(Explanation::at(Place::of_member(member), words))
 }
 
-/// Of a member whose value has a wrong shape.
+/// Explains a member whose value has a wrong shape.
 fn wrong_shape(
     alloc: Global,
     kind: Kind,
@@ -222,7 +222,7 @@ fn wrong_shape(
     }
 }
 
-/// Of a member that is missing, or has a wrong shape.
+/// Explains a member that is missing, or has a wrong shape.
 pub(crate) fn wrong_member(
     alloc: Global,
     kind: Kind,
@@ -295,7 +295,7 @@ fn wrong_at(
     Ok(None)
 }
 
-/// Of a member with a name that is malformed, or given twice.
+/// Explains a member with a name that is malformed, or given twice.
 pub(crate) fn wrong_names(
     alloc: Global,
     tree: &Value,
@@ -366,7 +366,7 @@ fn count_of(which: LimitName, values: &[Value]) -> usize {
     }
 }
 
-/// Of a number or a count that is out of its range.
+/// Explains a number or a count that is out of its range.
 pub(crate) fn out_of_range(
     alloc: Global,
     kind: Kind,

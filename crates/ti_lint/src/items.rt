@@ -63,7 +63,7 @@ fn all_of(alloc: Global, takes: &[Takes]) -> Result<String, AllocError> {
     Ok(text)
 }
 
-/// Of a word that has this many elements after it, and takes others.
+/// Explains a word that has this many elements after it, and takes others.
 fn wrong_count(
     alloc: Global,
     word: &str,
@@ -80,7 +80,7 @@ fn wrong_count(
     format!(in alloc; "'{word}' takes {all}; {given} given")
 }
 
-/// Of an item that as a whole has the wrong shape.
+/// Explains an item that as a whole has the wrong shape.
 fn wrong_item(alloc: Global, item: &Item<'_>) -> Result<String, AllocError> {
     if item.parts.len() <= item.lead {
         return String::from_str(
@@ -106,7 +106,7 @@ fn wrong_item(alloc: Global, item: &Item<'_>) -> Result<String, AllocError> {
     }
 }
 
-/// Of the subject of an event.
+/// Explains the subject of an event.
 fn wrong_subject(alloc: Global, item: &Item<'_>, value: &Value) -> Result<String, AllocError> {
     let Some(text) = value.as_str() else {
         let here = shown(alloc, value)?;
@@ -174,7 +174,7 @@ fn belongs(item: &Item<'_>, word: &str) -> Option<&'static str> {
     }
 }
 
-/// Of a text that is no word of its speaker.
+/// Explains a text that is no word of its speaker.
 fn no_word(alloc: Global, item: &Item<'_>, word: &str) -> Result<String, AllocError> {
     let name = quoted(alloc, word)?;
     let is_subject = has_text(item.tree, "threads", word) || has_text(item.tree, "agents", word);
@@ -199,7 +199,7 @@ fn no_word(alloc: Global, item: &Item<'_>, word: &str) -> Result<String, AllocEr
     )
 }
 
-/// Of the value at the place of a word.
+/// Explains the value at the place of a word.
 fn wrong_word(alloc: Global, item: &Item<'_>, value: &Value) -> Result<String, AllocError> {
     match value.as_str() {
         Some(text) => no_word(alloc, item, text),
@@ -223,7 +223,7 @@ fn wanted_at(item: &Item<'_>, place: usize) -> Option<Takes> {
         .copied()
 }
 
-/// Of the element at this place, where `Asked` has words of its own.
+/// Explains the element at this place, where `Asked` has words of its own.
 fn wrong_element(
     alloc: Global,
     item: &Item<'_>,

@@ -85,7 +85,7 @@ fn has_key(text: &[u8], from: usize, key: &str) -> bool {
         && text.get(last) == Some(&b'"')
 }
 
-/// The value of this member, of the object that begins here. Of a member that is given twice the last one counts.
+/// The value of this member, of the object that begins here. If a member is given twice, the last one counts.
 fn member_at(text: &[u8], from: usize, key: &str) -> Option<usize> {
     if text.get(from) != Some(&b'{') {
         return None;
@@ -140,7 +140,7 @@ fn found(text: &[u8], place: &Place) -> Option<usize> {
 }
 
 /// The line and the column at which the value at a place begins. `None` if the text has no such value, and for the whole
-/// document. The text is that of a document that is JSON. Of any other text nothing is said.
+/// document. The text is that of a document that is JSON. No clause speaks of any other text.
 pub fn line_and_column(text: &[u8], place: &Place) -> Option<Position> {
     let at = found(text, place)?;
     Some(position_of(text, at))

@@ -41,7 +41,7 @@ pub(crate) fn is_one_of(text: &str, texts: &[&str]) -> bool {
     texts.iter().any(|one| *one == text)
 }
 
-/// The names between single quotes, with commas between them. Of many, the first ones and how many there are.
+/// The names between single quotes, with commas between them. If there are many: the first ones, and how many there are.
 pub(crate) fn listed(alloc: Global, names: &[&str]) -> Result<String, AllocError> {
     let mut text = String::new(alloc);
     for (place, name) in names.iter().enumerate() {

@@ -35,7 +35,7 @@ fn whole_meant(alloc: Global, value: &Value) -> Result<Option<String>, AllocErro
     }
 }
 
-/// Of a value that is no whole number in this range.
+/// Explains a value that is no whole number in this range.
 pub(crate) fn no_number(
     alloc: Global,
     value: &Value,
@@ -56,7 +56,7 @@ pub(crate) fn no_number(
     }
 }
 
-/// Of a value that is no name of these, but a text.
+/// Explains a text that is none of these names.
 pub(crate) fn no_name(
     alloc: Global,
     text: &str,
@@ -69,7 +69,7 @@ pub(crate) fn no_name(
     format!(in alloc; "{name} is no {what}{near}; there are {all}")
 }
 
-/// Of a text that names no thread.
+/// Explains a text that names no thread.
 fn no_thread(alloc: Global, tree: &Value, text: &str) -> Result<String, AllocError> {
     let names = texts_in(alloc, tree, "threads")?;
     if has_text(tree, "agents", text) {
@@ -154,7 +154,7 @@ fn of_caps(alloc: Global, value: &Value) -> Result<String, AllocError> {
     String::from_str(alloc, "an array of capabilities is wanted")
 }
 
-/// Of a kind of block, or of what may come after `hand`.
+/// Explains a kind of block, or what may come after `hand`.
 fn of_kind(alloc: Global, value: &Value, words: &[&str]) -> Result<String, AllocError> {
     match value.as_str() {
         Some(text) => no_name(alloc, text, "kind of block", words),

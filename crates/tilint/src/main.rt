@@ -1,7 +1,7 @@
 //! `tilint`: explains one document from standard input to people. The words are made by `ti_lint`.
 //!
 //! It takes the arguments of `tiwalk`. On standard output it writes the first fault in words, and then the line by which
-//! `tiwalk` refuses the document. The status is then 2. Of a document without a fault it writes warnings, or `fine`, with the
+//! `tiwalk` refuses the document. The status is then 2. For a document without a fault it writes warnings, or `fine`, with the
 //! status 0.
 #![tactic(auto)]
 
