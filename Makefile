@@ -1,11 +1,11 @@
 # `make run` builds the program and runs it on a first example. `make test` is the whole gate: with `rt ci` it runs the tests of
-# `tests/`, all cases, the C programs of `c/tests` and the snippets of the pages (`ci/gate.py`).
+# `tests/crates`, all cases, the C programs of `tests/c` and the snippets of the pages (`ci/gate.py`).
 # `make examples`, `make cases`, `make bench` and `make refused` run the program that `make run` has built: on the examples,
 # on all cases, on large documents (and programs that hold cells and run threads), and with each allocation, each start of a
 # thread, each read and each write refused in turn (and the tests of a core so). `make stress` runs it on random live documents,
 # and lets 10,000 threads come to a service and go. `make edits` tries the edits that the gate leaves out.
 # `make lib` builds the library for C into `dist/`. `make capi` tests it: by C programs, under sanitizers and valgrind, and by the
-# bindings for Rust and Python. `make lua` builds the Lua host of `examples/lua` over it, and tests that.
+# bindings for Rust and Python. `make lua` builds the Lua host of `hosts/lua` over it, and tests that.
 # `make jvm` carries walks out on a Java VM and compares its answers with the program's lines. `make try` runs the program on all
 # examples without proving anything.
 .PHONY: run try test examples cases bench refused stress edits lib capi lua jvm
@@ -42,7 +42,7 @@ bench: lib
 	cd crates/tiprof && rt run -- --samples 0
 	python3 bench/profiling.py
 	cd crates/tichurn && rt run -- cost
-	mkdir -p dist && $(CC) -O2 -std=c11 c/tests/bench.c c/cebdyraq_heap.c c/cebdyraq_wait.c $(CAPI) -lpthread -o dist/bench && dist/bench
+	mkdir -p dist && $(CC) -O2 -std=c11 tests/c/bench.c c/cebdyraq_heap.c c/cebdyraq_wait.c $(CAPI) -lpthread -o dist/bench && dist/bench
 
 refused:
 	python3 ci/refused_memory.py
@@ -50,7 +50,7 @@ refused:
 	python3 ci/refused_tests.py
 
 stress:
-	python3 ci/stress.py
+	python3 tests/stress/stress.py
 	cd crates/tichurn && rt run -- 10000 200 64
 
 edits:
@@ -60,13 +60,13 @@ lib:
 	python3 ci/lib.py
 
 capi: lib
-	python3 c/tests/run.py $(CAPI)
+	python3 tests/c/run.py $(CAPI)
 	python3 bindings/python/test.py $(CAPI)
 	cd bindings/rust && CEBDYRAQ_LIB_DIR=$(CURDIR)/dist/lib cargo test --offline
 
 lua: lib
-	$(MAKE) -C examples/lua CEBDYRAQ_LIB=$(CURDIR)/$(CAPI)
-	cd examples/lua && python3 test.py
+	$(MAKE) -C hosts/lua CEBDYRAQ_LIB=$(CURDIR)/$(CAPI)
+	cd hosts/lua && python3 test.py
 
 jvm:
-	python3 jvm/compare.py
+	python3 tests/jvm/compare.py

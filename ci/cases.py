@@ -1,7 +1,7 @@
 #!/usr/bin/env python3
 """Runs `tiwalk` and `tilint` on each case, and compares standard output, standard error and status with what it wants.
 
-The cases are the documents of `cases/` and `examples/`, those that are made (`ci/made_cases.py`), and the ends of a
+The cases are the documents of `tests/cases` and `examples/`, those that are made (`ci/made_cases.py`), and the ends of a
 process that no document shows (`ci/process_ends.py`). What they want was worked out from the rules. The last line is
 'N passed, M failed'.
 
@@ -9,10 +9,11 @@ process that no document shows (`ci/process_ends.py`). What they want was worked
     ci/cases.py --examples      the documents of `examples/` alone
     ci/cases.py --covered       runs nothing, and wants a case for each word of the documents, each text and each fault
 
-Of a case NAME of `cases/`, NAME.in is the document and NAME.out what standard output gets, NAME.err what standard error
-gets, NAME.status the status, and NAME.args has the arguments, one a line. A file that is not there says: nothing,
-nothing, 0, `walk`. The cases of `cases/lint` are those of `tilint`. Of an example NAME.json is the document and NAME.out the text, with status 1 where it begins with
-`illegal`; one whose name has `history` in it is given to `check`, one whose name begins with `live` to `live`.
+In `tests/cases`, NAME.in is the document and NAME.out what standard output gets, NAME.err what standard error gets,
+NAME.status the status, and NAME.args has the arguments, one a line. A file that is not there says: nothing, nothing, 0,
+and the name of the folder. `lint` has the cases of `tilint`, which are walks where no NAME.args says otherwise. Of an
+example NAME.json is the document and NAME.out the text, with status 1 where it begins with `illegal`; one whose name has
+`history` in it is given to `check`, one whose name begins with `live` to `live`.
 """
 
 import dataclasses
@@ -29,6 +30,7 @@ import process_ends
 
 PROGRAM = "crates/tiwalk/out/tiwalk"
 LINT = "crates/tilint/out/tilint"
+FOLDER = pathlib.Path("tests/cases")
 SECONDS = 60
 
 
@@ -51,9 +53,10 @@ def read(path, otherwise):
     return path.read_bytes() if path.exists() else otherwise
 
 
-def stored_cases(folder="cases"):
-    for path in sorted(pathlib.Path(folder).glob("*.in")):
-        arguments = read(path.with_suffix(".args"), b"walk\n").decode().splitlines()
+def stored_cases(folder, command):
+    """The cases of a folder. The command is what they are given to where they do not say it."""
+    for path in sorted((FOLDER / folder).glob("*.in")):
+        arguments = read(path.with_suffix(".args"), command.encode()).decode().splitlines()
         status = int(read(path.with_suffix(".status"), b"0"))
         wanted = read(path.with_suffix(".out"), b""), read(path.with_suffix(".err"), b""), status
         yield Case(path.stem, arguments, path.read_bytes(), wanted)
@@ -90,9 +93,15 @@ def difference(wanted, got):
     return None
 
 
+def walk_cases():
+    """The stored cases of `tiwalk`."""
+    for folder in ("walk", "live", "check", "usage"):
+        yield from stored_cases(folder, folder)
+
+
 def lint_cases():
     """The cases of `tilint`."""
-    return stored_cases("cases/lint")
+    return stored_cases("lint", "walk")
 
 
 def passes(case, program):
@@ -116,7 +125,7 @@ def run_all(program, only_examples=False):
     elif only_examples:
         cases = list(examples())
     else:
-        cases = [*stored_cases(), *examples(), *made(), *process_ends.ENDS]
+        cases = [*walk_cases(), *examples(), *made(), *process_ends.ENDS]
     passed = sum(passes(case, program) for case in cases)
     return passed, len(cases) - passed
 
@@ -124,7 +133,7 @@ def run_all(program, only_examples=False):
 def main():
     words = sys.argv[1:]
     if words == ["--covered"]:
-        passed, failed = coverage_of_cases.count([*stored_cases(), *examples(), *made(), *process_ends.ENDS], list(lint_cases()))
+        passed, failed = coverage_of_cases.count([*walk_cases(), *examples(), *made(), *process_ends.ENDS], list(lint_cases()))
     else:
         programs = [word for word in words if word != "--examples"] or [PROGRAM]
         if not words and os.path.isfile(LINT):

@@ -1,5 +1,5 @@
 #!/usr/bin/env python3
-"""Looks whether each example of a walk or a history, with its text, is a test of tests/ti_driver_tests. The last
+"""Looks whether each example of a walk or a history, with its text, is a test of tests/crates/ti_driver_tests. The last
 line is 'N passed, M failed'.
 
     ci/examples.py --tested
@@ -11,7 +11,7 @@ import json
 import pathlib
 import sys
 
-TESTS = pathlib.Path("tests/ti_driver_tests/walks.rattle")
+TESTS = pathlib.Path("tests/crates/ti_driver_tests/walks.rattle")
 
 
 def is_tested(literals, example):

@@ -61,7 +61,7 @@ def try_library():
     if subprocess.run([sys.executable, "ci/lib.py"]).returncode:
         print("the library for C was not built")
         return 0, 1, 1
-    return counts_of(sys.executable, "c/tests/run.py", lib.ARCHIVE)
+    return counts_of(sys.executable, "tests/c/run.py", lib.ARCHIVE)
 
 
 def main():

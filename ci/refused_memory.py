@@ -56,7 +56,7 @@ void _exit(int status) { tell(); ((void (*)(int))NEXT("_exit"))(status); __built
 
 SECONDS = 60
 # the documents that the gate runs
-GATED = ("cases/trace-starts.in", "examples/legal-history.json", "examples/illegal-history.json", "cases/live-lists-of-new-threads.in")
+GATED = ("tests/cases/walk/trace-starts.in", "examples/legal-history.json", "examples/illegal-history.json", "tests/cases/live/live-lists-of-new-threads.in")
 # the calls whose answers take memory
 TAKING_MEMORY = ("trace", "read", "suspend_list", "resume_list", "all", "list")
 

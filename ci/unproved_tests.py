@@ -1,10 +1,10 @@
 #!/usr/bin/env python3
-"""Compiles and runs the tests below tests/, with nothing proved.
+"""Compiles and runs the tests below tests/crates, with nothing proved.
 
     ci/unproved_tests.py [NAME..]        of these folders, or of all
     ci/unproved_tests.py --fmt           lays their files out, and runs none
 
-Each folder tests/NAME is the source of a crate of tests, with a module for each file NAME/*.rattle. They call nothing with a
+Each folder tests/crates/NAME is the source of a crate of tests, with a module for each file NAME/*.rattle. They call nothing with a
 condition (`requires`), so there is nothing to prove of them (`ci/unproved.py`). A test that calls something with one stands
 in a crate below crates/, and `rt ci` proves it. The files have an ending of their own because `rt ci` refuses a .rt file
 that it does not read.
@@ -22,7 +22,7 @@ sys.dont_write_bytecode = True
 
 import unproved
 
-TESTS = pathlib.Path("tests")
+TESTS = pathlib.Path("tests/crates")
 ENDING = ".rattle"
 
 

@@ -6,7 +6,7 @@
 //! - The fault of a report is that of the readers of `ti_script`. A report without a fault is of a document that has none.
 //! - The place that an explanation names is in the item of the fault.
 //!
-//! No clause speaks of the words: `cases/lint` has them.
+//! No clause speaks of the words: `tests/cases/lint` has them.
 #![tactic(auto)]
 
 mod explaining;

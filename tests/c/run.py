@@ -1,0 +1,196 @@
+#!/usr/bin/env python3
+"""Compiles and runs the C programs over libcebdyraq.a.
+
+    run.py ARCHIVE [PROGRAM ...]
+
+Each program is run plain, with the address and undefined-behaviour sanitizers, with the thread sanitizer, and under
+valgrind. The archive itself is not instrumented. CC and CXX name the compilers, otherwise cc and c++. There is a line
+for each program and mode, and a last line with the sums. The exit status is 1 if something failed.
+"""
+
+import os
+import pathlib
+import shutil
+import subprocess
+import sys
+import tempfile
+import time
+
+HERE = pathlib.Path(__file__).resolve().parent
+C = HERE.parent.parent / "c"
+WAIT = [C / "cebdyraq_wait.c"]
+HEAP = [C / "cebdyraq_heap.c"]
+COUNTED_HEAP = [HERE / "counted_heap.c"]
+MODEL = [HERE / name for name in ("model.c", "model_calls.c", "model_envs.c", "model_traces.c")]
+
+PLAIN, ADDRESS, THREAD, VALGRIND = "plain", "address,undefined", "thread", "valgrind"
+MODES = [PLAIN, ADDRESS, THREAD, VALGRIND]
+LONGEST = 900
+COPIES = ["memcpy", "memmove", "memset"]
+
+
+class Program:
+    def __init__(self, name, sources, others, arguments=None, wait=WAIT):
+        self.name = name
+        self.sources = [HERE / source for source in sources] + others + wait
+        self.arguments = arguments or {}
+
+    def is_cxx(self):
+        return any(source.suffix == ".cpp" for source in self.sources)
+
+
+CODES = ["codes.c", "codes_threads.c", "codes_envs.c", "codes_memory.c", "codes_gather.c"]
+PROGRAMS = [
+    Program("two_threads", ["two_threads.c"], HEAP),
+    Program("life", ["life.c"], COUNTED_HEAP),
+    Program("codes", CODES, COUNTED_HEAP),
+    Program("gather", ["gather.c"], COUNTED_HEAP),
+    Program("wait", ["wait.c"], HEAP),
+    Program("gather_waits", ["gather_waits.c"], HEAP, {VALGRIND: ["100"]}),
+    Program("gather_busy", ["gather_busy.c"], HEAP, wait=[]),
+    Program("turns", ["turns.c"], HEAP, {VALGRIND: ["100"]}, wait=[HERE / "slow_wait.c"]),
+    Program("cxx", ["cxx.cpp"], HEAP),
+    Program("fuzz", ["fuzz.c", "fuzz_calls.c"], MODEL + COUNTED_HEAP,
+            {ADDRESS: ["1", "20000"], THREAD: ["1", "10000"], VALGRIND: ["1", "500"]}),
+    Program("stress", ["stress.c", "stress_agents.c"], COUNTED_HEAP,
+            {ADDRESS: ["200000"], THREAD: ["50000"], VALGRIND: ["3000"]}),
+]
+
+
+def run(command, **more):
+    pipes = {"stdout": subprocess.PIPE, "stderr": subprocess.STDOUT}
+    return subprocess.run(command, text=True, errors="replace", **pipes, **more)
+
+
+def compiler(is_cxx):
+    return os.environ.get("CXX", "c++") if is_cxx else os.environ.get("CC", "cc")
+
+
+def flags(mode):
+    base = ["-O2", "-gdwarf-4", "-Wall", "-Wextra", "-Werror"]
+    return base + ["-fsanitize=" + mode, "-fno-sanitize-recover=all"] if mode in (ADDRESS, THREAD) else base
+
+
+def with_plain_memory(archive, folder):
+    """The archive with other names for what it needs of the C library, and an object that has these (plain_memory.c)."""
+    copy, made = folder / "plain.a", folder / "plain_memory.o"
+    renamed = [word for name in COPIES for word in ("--redefine-sym", "%s=plain_%s" % (name, name))]
+    run(["objcopy", *renamed, str(archive), str(copy)], check=True)
+    source = str(HERE / "plain_memory.c")
+    run([compiler(False), "-std=c11", "-O2", "-Wall", "-Wextra", "-Werror", "-c", source, "-o", str(made)], check=True)
+    return [str(copy), str(made)]
+
+
+def compile_program(program, mode, archive, folder):
+    """Compiles a program, and gives what the compiler said when it failed."""
+    objects = []
+    for source in program.sources:
+        is_cxx = source.suffix == ".cpp"
+        made = folder / (source.stem + ".o")
+        standard = "-std=c++17" if is_cxx else "-std=c11"
+        done = run([compiler(is_cxx), *flags(mode), standard, "-c", str(source), "-o", str(made)])
+        if done.returncode != 0:
+            return done.stdout
+        objects.append(str(made))
+    made = folder / program.name
+    linked = with_plain_memory(archive, folder) if mode == THREAD else [str(archive)]
+    done = run([compiler(program.is_cxx()), *flags(mode), *objects, *linked, "-lpthread", "-o", str(made)])
+    return done.stdout if done.returncode != 0 else None
+
+
+def command_of(program, mode, folder):
+    command = [str(folder / program.name), *program.arguments.get(mode, [])]
+    if mode == VALGRIND:
+        leaks = ["--leak-check=full", "--errors-for-leak-kinds=all"]
+        return ["valgrind", "--quiet", "--error-exitcode=9", "--fair-sched=yes", *leaks, *command]
+    return command
+
+
+def tried(program, mode, archive):
+    """Whether a program passes in a mode, and what was said when it does not."""
+    with tempfile.TemporaryDirectory() as name:
+        folder = pathlib.Path(name)
+        said = compile_program(program, mode, archive, folder)
+        if said is not None:
+            return False, said
+        try:
+            done = run(command_of(program, mode, folder), timeout=LONGEST)
+        except subprocess.TimeoutExpired:
+            return False, "it did not end in %d seconds\n" % LONGEST
+        return done.returncode == 0, "exit status %d\n%s" % (done.returncode, done.stdout)
+
+
+def is_missing(mode):
+    """Why a mode can't be had here, or None."""
+    if mode == VALGRIND:
+        return None if shutil.which("valgrind") else "there is no valgrind"
+    if mode == PLAIN:
+        return None
+    with tempfile.TemporaryDirectory() as name:
+        source, made = pathlib.Path(name) / "probe.c", pathlib.Path(name) / "probe"
+        source.write_text("int main(void) { return 0; }\n")
+        if run([compiler(False), *flags(mode), str(source), "-o", str(made)]).returncode != 0:
+            return "the compiler has no -fsanitize=" + mode
+        if run([str(made)]).returncode != 0:
+            return "no program with -fsanitize=%s runs here" % mode
+        return None
+
+
+def needed(archive):
+    """The functions that the library needs, but for those of cebdyraq_heap.c and of cebdyraq_wait.c."""
+    defined, wanted = set(), set()
+    for line in run(["nm", "-A", str(archive)]).stdout.splitlines():
+        where, kind, name = (line.rsplit(None, 2) + ["", ""])[:3]
+        if kind in ("T", "W", "D", "B", "R", "V"):
+            defined.add(name)
+        elif kind == "U" and "cebdyraq_heap.o" not in where and "cebdyraq_wait.o" not in where:
+            wanted.add(name)
+    return wanted - defined - {"rattle_alloc", "rattle_realloc", "rattle_dealloc"} - set(COPIES)
+
+
+def report_needed(archive):
+    names = sorted(needed(archive))
+    print("the library needs memory alone: " + ("passed" if not names else "FAILED, it needs " + ", ".join(names)))
+    return not names
+
+
+def report(program, mode, archive):
+    began = time.monotonic()
+    passed, said = tried(program, mode, archive)
+    word = "passed" if passed else "FAILED"
+    print("%s, %s: %s (%.1f s)" % (program.name, mode, word, time.monotonic() - began), flush=True)
+    if not passed:
+        print(said, flush=True)
+    return passed
+
+
+def main(words):
+    if len(words) < 2:
+        print(__doc__)
+        return 2
+    archive = pathlib.Path(words[1]).resolve()
+    if not archive.is_file():
+        print("there is no archive %s" % archive)
+        return 1
+    chosen = [program for program in PROGRAMS if not words[2:] or program.name in words[2:]]
+    passed = failed = skipped = 0
+    if not words[2:] and shutil.which("nm"):
+        passed, failed = (1, 0) if report_needed(archive) else (0, 1)
+    for mode in MODES:
+        missing = is_missing(mode)
+        for program in chosen:
+            if missing is not None:
+                print("%s, %s: skipped, %s" % (program.name, mode, missing))
+                skipped += 1
+            elif report(program, mode, archive):
+                passed += 1
+            else:
+                failed += 1
+    if skipped > 0:
+        print("%d skipped" % skipped)
+    print("%d passed, %d failed" % (passed, failed))
+    return 1 if failed > 0 else 0
+
+
+if __name__ == "__main__":
+    sys.exit(main(sys.argv))
