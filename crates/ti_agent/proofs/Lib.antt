@@ -16,3 +16,5 @@ pub mod StepByStep
 pub mod AtWork
 pub mod Barred
 pub mod Counted
+pub mod AtHome
+pub mod Stays

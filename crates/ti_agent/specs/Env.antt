@@ -72,14 +72,14 @@ abbrev pub is_full : Environment → ThreadNo → Bool
 is_full s t = nat_le s.state.limits.window (outstanding s t)
 
 -- what is told of a number without a desk: if it was a thread's once, the thread is not alive
-abbrev pub told_as : Bool → TiError → TiError
-told_as true InvalidThread = ThreadNotAlive
-told_as _ e = e
+abbrev pub map_error : Bool → TiError → TiError
+map_error true InvalidThread = ThreadNotAlive
+map_error _ e = e
 
 -- the same of a refusal, at a thread of this number. The numbers below `known` were threads once
 abbrev pub told : ℕ → ThreadNo → Option TiError → Option TiError
 told known t None = None
-told known t (Some e) = Some (told_as (nat_lt t.0 known) e)
+told known t (Some e) = Some (map_error (nat_lt t.0 known) e)
 
 -- why a call does not reach its thread: the environment refuses it by itself
 abbrev pub thread_refusal : Environment → ThreadNo → Call → Option TiError

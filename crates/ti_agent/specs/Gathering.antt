@@ -163,6 +163,10 @@ phase_given_up count (phase.Stopping n) = phase.GivingUp n 0
 phase_given_up count (phase.Seeing n) = phase.GivingUp count 0
 phase_given_up count p = p
 
+-- the same trace, given up if it can be
+abbrev pub given_up : Gathered → Gathered
+given_up g = record { began = g.began; now = g.now; stopping = g.stopping; places = g.places; max_count = g.max_count; is_alive_only = g.is_alive_only; bufs = g.bufs; infos = g.infos; phase = phase_given_up (length g.stopping) g.phase }
+
 -- a trace that has just begun: nothing is stopped yet
 pub record Begins (s : Environment) (g : Gathered) (stopping : Listed) (places : List ThreadNo) (max_count : ℤ) (is_alive_only : Bool) : Type 0 where
   pub began_is : g.began ≡ s ∷ []

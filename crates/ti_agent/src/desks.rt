@@ -2,49 +2,49 @@
 
 use crate::env::Env;
 use crate::free_desk::FreeDesk;
+use crate::home::{Alone, Home};
 use std::alloc::Global;
 use std::sync::Wait;
-use ti_env::EnvState;
+use ti_cell::Pace;
 use ti_types::{EnvNo, Limits, ThreadNo, TiError};
 
 impl Env {
-    /// Makes an environment that has done nothing, and is at no thread yet (this profile). It takes no memory.
+    /// Makes an environment that belongs to nothing, has done nothing, and is at no thread yet (this profile). It takes no
+    /// memory.
     pub fn with_no_desks(alloc: Global, env: EnvNo, limits: Limits) -> Env
-        ensures { result ≡ record { env = env; state = env_at_no_thread limits; desks = [] } }
+        ensures { result.env ≡ record { env = env; state = env_at_no_thread limits; desks = [] } }
     {
-        Env {
-            env,
-            state: EnvState::at_no_thread(alloc, limits),
-            desks: Vec::new(alloc),
-        }
+        Env::at_home(alloc, Alone, env, limits)
     }
+}
 
+impl<H: Home> Env<H> {
     /// The number of the environment (this profile).
     pub fn number(&self) -> EnvNo
-        ensures { result ≡ self.now.env }
+        ensures { result ≡ self.now.env.env }
     {
         self.env
     }
 
     /// The limits of the environment and its desks (this profile).
     pub fn limits(&self) -> Limits
-        ensures { result ≡ self.now.state.limits }
+        ensures { result ≡ self.now.env.state.limits }
     {
         self.state.limits()
     }
 
     /// At how many threads the environment has a desk (this profile).
     pub fn desk_count(&self) -> u32
-        ensures { result ≡ length self.now.desks }
+        ensures { result ≡ length self.now.env.desks }
     {
         self.state.threads()
     }
 
     /// The number of the thread of a desk, by its index among the desks (this profile). `None` if there is no such desk.
     pub fn thread_at(&self, index: u32) -> Option<ThreadNo>
-        ensures thread { IfSome result (λ t. t ≡ thread_at self.now.desks index) }
-        ensures there { IfSome result (λ t. index < length self.now.desks) }
-        ensures none { IfNone result (length self.now.desks ≤ index) }
+        ensures thread { IfSome result (λ t. t ≡ thread_at self.now.env.desks index) }
+        ensures there { IfSome result (λ t. index < length self.now.env.desks) }
+        ensures none { IfNone result (length self.now.env.desks ≤ index) }
     {
         if index < self.state.threads() {
             Some(self.desks[index as usize].thread())
@@ -56,7 +56,7 @@ impl Env {
     /// How many of the environment's calls are out at a thread: they wait, or have an answer that is not collected (this
     /// profile). 0 if there is no desk at a thread of this number.
     pub fn out_at(&self, thread: ThreadNo) -> u32
-        ensures { result ≡ outstanding self.now thread }
+        ensures { result ≡ outstanding self.now.env thread }
     {
         let place = self.place_of(thread);
         if place.0 < self.state.threads() {
@@ -68,7 +68,7 @@ impl Env {
 
     /// Whether a thread of this number may come: the number is not below `known`, and above those of all desks.
     fn is_new(&self, thread: ThreadNo) -> bool
-        ensures { result ≡ is_new self.now thread }
+        ensures { result ≡ is_new self.now.env thread }
     {
         if u64::from(thread.0) < self.state.known() {
             return false;
@@ -78,7 +78,7 @@ impl Env {
     }
 
     /// Adds a desk, behind the others (this profile). The environment's calls reach its thread from then on, and have what is
-    /// left there.
+    /// left there. The desk may be in the environment's home, which is always so if the environment belongs to nothing.
     ///
     /// The error is the first of these that fits:
     ///
@@ -110,11 +110,13 @@ impl Env {
     /// assert!(rt; env.add_desk(free).is_ok());
     /// ```
     pub fn add_desk(&mut self, free: FreeDesk) -> Result<(), (TiError, FreeDesk)>
-        ensures admitted { OnOk result (desk_refusal self.old free ≡ None) }
-        ensures added { OnOk result (self.new ≡ with_desk self.old free) }
-        ensures refused { IfErr result (λ r. Some r.0 ≡ or_else (desk_refusal self.old free) (Some OutOfMemory)) }
+        requires home { H.holds self.old.home (spot_of free.desk) }
+        ensures admitted { OnOk result (desk_refusal self.old.env free ≡ None) }
+        ensures added { OnOk result (self.new.env ≡ with_desk self.old.env free) }
+        ensures refused { IfErr result (λ r. Some r.0 ≡ or_else (desk_refusal self.old.env free) (Some OutOfMemory)) }
         ensures back { IfErr result (λ r. r.1 ≡ free) }
         ensures unchanged { OnErr result (self.new ≡ self.old) }
+        ensures home { self.new.home ≡ self.old.home }
     {
         if free.env().0 != self.env.0 || !are_same(free.limits(), self.limits()) {
             return Err((TiError::InvalidEnvironment, free));
@@ -146,9 +148,10 @@ impl Env {
     ///
     /// `None` if there is no desk at a thread of this number. Then nothing changes.
     pub fn take_desk(&mut self, thread: ThreadNo) -> Option<FreeDesk>
-        ensures taken { IfSome result (λ f. IsTaken self.old self.new thread f) }
-        ensures nobody { IfNone result (length self.old.desks ≤ place_in self.old.desks thread) }
+        ensures taken { IfSome result (λ f. IsTaken self.old.env self.new.env thread f) }
+        ensures nobody { IfNone result (length self.old.env.desks ≤ place_in self.old.env.desks thread) }
         ensures unchanged { IfNone result (self.new ≡ self.old) }
+        ensures home { self.new.home ≡ self.old.home }
     {
         let place = self.place_of(thread);
         if place.0 >= self.state.threads() {
@@ -172,28 +175,32 @@ impl Env {
         alloc: Global,
         thread: ThreadNo,
     ) -> Result<Option<FreeDesk>, TiError>
-        ensures cleared { IfOk result (λ r. IfSome r (λ f. IsCleared self.old self.new thread f)) }
-        ensures nobody { IfOk result (λ r. IfNone r (length self.old.desks ≤ place_in self.old.desks thread)) }
+        ensures cleared { IfOk result (λ r. IfSome r (λ f. IsCleared self.old.env self.new.env thread f)) }
+        ensures nobody { IfOk result (λ r. IfNone r (length self.old.env.desks ≤ place_in self.old.env.desks thread)) }
         ensures same { IfOk result (λ r. IfNone r (self.new ≡ self.old)) }
         ensures memory { IfErr result (λ e. e ≡ OutOfMemory) }
         ensures unchanged { OnErr result (self.new ≡ self.old) }
+        ensures home { self.new.home ≡ self.old.home }
     {
-        let at = self.place_of(thread).0 as usize;
-        if at >= self.desks.len() {
-            return Ok(None);
+        let pace = Pace::new();
+        for _ in rt.forever() {
+            match self.clear_desk_now(alloc, thread) {
+                Ok(Some(free)) => {
+                    free.wake_sleepers();
+                    return Ok(Some(free));
+                }
+                Err(TiError::Busy) => self.await_free_at(rt, thread, &pace),
+                result => return result,
+            }
         }
-        self.desks[at].cancel_all(rt, alloc)?;
-        let Some(mut free) = self.take_desk(thread) else {
-            unreachable!()
-        };
-        free.clear_word(rt);
-        Ok(Some(free))
+        unreachable!()
     }
 
     /// Notes that the numbers below this one were threads once (this profile). So a call at one of them that has no desk is
     /// answered 15 THREAD_NOT_ALIVE, and not 10 INVALID_THREAD. What is known already stays known.
     pub fn know_threads(&mut self, below: u64)
-        ensures { self.new ≡ record { env = self.old.env; state = with_known self.old.state below; desks = self.old.desks } }
+        ensures called { self.new.env ≡ record { env = self.old.env.env; state = with_known self.old.env.state below; desks = self.old.env.desks } }
+        ensures home { self.new.home ≡ self.old.home }
     {
         self.state.know(below);
     }
@@ -217,4 +224,5 @@ ghost use Rattle.ti_types.specs.Refusing.{or_else};
 ghost use Rattle.ti_types.specs.declared.error.TiError.TheVariants.{OutOfMemory};
 ghost use Rattle.ti_env.specs.Env.{env_at_no_thread, with_known};
 ghost use Rattle.ti_agent.specs.Env.{outstanding, place_in, thread_at};
+ghost use Rattle.ti_agent.specs.Spots.{spot_of};
 ghost use Rattle.ti_agent.specs.Desks.{are_same, desk_refusal, is_new, with_desk, IsCleared, IsTaken};

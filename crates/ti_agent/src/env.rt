@@ -1,13 +1,15 @@
 //! An environment, its desks, and its calls at one thread under their JVM TI names.
 
 use crate::answers::{count_in, done_in, location_in, state_in, trace_in, word_in};
+use crate::home::{Alone, Home};
+use crate::manner::Manner;
+use crate::posts::buffer_for;
 use std::alloc::Global;
 use std::marker::Model;
 use std::sync::Wait;
 use ti_env::EnvState;
 use ti_handshake::Desk;
 use ti_replay::rules::waits as may_wait;
-use ti_slot::Asked;
 use ti_types::{Answer, Call, Caps, EnvNo, Frame, ThreadNo, TiError, TraceBuf};
 
 /// An agent's environment, with a desk at each of its threads. A thread is found by its number. The desks are in the order
@@ -22,6 +24,11 @@ use ti_types::{Answer, Call, Caps, EnvNo, Frame, ThreadNo, TiError, TraceBuf};
 /// - 209 CALLS_SPENT (this profile): the environment has no call left at this thread.
 ///
 /// Then nothing changes. Otherwise the call spends one call at the thread, and gives the thread's answer, an error included.
+///
+/// A call that waits while the thread runs takes a `Manner`: `&rt` to wait as long as it takes, or `Within` a time.
+///
+/// It has its home in it: what it belongs to (`Home`). `Env` alone belongs to nothing. Contracts see the home (`home`), and the
+/// environment without it (`env`). No call changes the home.
 ///
 /// # Examples
 ///
@@ -52,45 +59,56 @@ use ti_types::{Answer, Call, Caps, EnvNo, Frame, ThreadNo, TiError, TraceBuf};
 /// env.suspend_thread(&rt, thread)?;
 /// ```
 #[derive(Drop)]
-pub struct Env {
+pub struct Env<H: Home = Alone> {
+    /// What the environment belongs to. Only its own crate can change what is in it.
+    pub home: H,
     pub(crate) env: EnvNo,
     pub(crate) state: EnvState,
     /// The place of a thread is that of its desk here.
     pub(crate) desks: Vec<Desk>,
 }
 
-impl Model for Env {
-    ghost use Rattle.ti_agent.specs.Env.{Environment, IsWhole};
+impl<H: Home> Model for Env<H> {
+    ghost use Rattle.ti_agent.specs.Env.{IsWhole};
+    ghost use Rattle.ti_agent.specs.Home.{Housed, IsAtHome};
 
-    ghost Value = { Environment };
+    ghost Value = { Housed H };
 
-    ghost view = { λ a. record { env = a.env; state = a.state; desks = a.desks.items } };
+    ghost view = { λ a. record { home = a.home; env = record { env = a.env; state = a.state; desks = a.desks.items } } };
 
-    ghost invariant = { λ a. IsWhole (record { env = a.env; state = a.state; desks = a.desks.items }) };
+    ghost invariant = { λ a. IsWhole (record { env = a.env; state = a.state; desks = a.desks.items }) × IsAtHome H.about H.holds a.home (record { env = a.env; state = a.state; desks = a.desks.items }) };
 }
 
 impl Env {
-    /// Makes an environment of these desks, which are in the order of their threads' numbers. All desks are under the limits of
-    /// the state, and none has made a call. The state has as many places as there are desks.
+    /// Makes an environment that belongs to nothing, of these desks, which are in the order of their threads' numbers. All
+    /// desks are under the limits of the state, and none has made a call. The state has as many places as there are desks.
     ///
     /// `with_no_desks` and `add_desk` test all of that, and have no condition.
     pub fn new(env: EnvNo, state: EnvState, desks: Vec<Desk>) -> Env
         requires count { length state.spent ≡ length desks.items }
         requires desks { AreNewDesks env state desks.items }
-        ensures { result ≡ record { env = env; state = state; desks = desks.items } }
+        ensures { result.env ≡ record { env = env; state = state; desks = desks.items } }
     {
         for desk in &desks {
             desk.facts();
         }
-        Env { env, state, desks }
+        Env {
+            home: Alone,
+            env,
+            state,
+            desks,
+        }
     }
+}
 
+impl<H: Home> Env<H> {
     /// The desks of the environment, in the order of their places. Their seats may go back to the owners'
     /// (`ThreadCell::rejoin`). What the environment kept for itself is gone, as after DisposeEnvironment (JVM TI 11).
     pub fn into_desks(self) -> Vec<Desk>
-        ensures { result.items ≡ self.desks }
+        ensures { result.items ≡ self.env.desks }
     {
         let Env {
+            home: _,
             env: _,
             state: _,
             desks,
@@ -101,9 +119,9 @@ impl Env {
     /// The place of a thread, as the environment's state and the operations on its desks name it. If there is no desk at a
     /// thread of this number, it is the number of desks.
     ///
-    /// It looks first where the desk is if a thread of each number is there, and then by halves.
+    /// It looks first where the desk is if a thread of each number is there, and then by binary search.
     pub(crate) fn place_of(&self, thread: ThreadNo) -> ThreadNo
-        ensures { result ≡ place_of self.now.desks thread }
+        ensures { result ≡ place_of self.now.env.desks thread }
     {
         let count = self.state.threads();
         if thread.0 < count && self.desks[thread.0 as usize].thread().0 == thread.0 {
@@ -128,8 +146,8 @@ impl Env {
 
     /// What is told of a number that has no desk: 15 in place of 10, if there was a thread of this number once. Any other
     /// error stays.
-    fn told_as(&self, thread: ThreadNo, error: TiError) -> TiError
-        ensures { result ≡ told_as (nat_lt thread.0 self.now.state.known) error }
+    fn map_error(&self, thread: ThreadNo, error: TiError) -> TiError
+        ensures { result ≡ map_error (nat_lt thread.0 self.now.env.state.known) error }
     {
         match error {
             TiError::InvalidThread if u64::from(thread.0) < self.state.known() => {
@@ -149,12 +167,13 @@ impl Env {
         call: Call,
         buf: TraceBuf,
     ) -> Answer
-        requires place { place ≡ place_of self.old.desks thread }
-        requires admitted { thread_refusal self.old thread call ≡ None }
-        requires buf { IsJustBufferOf self.old.state.limits call buf }
-        ensures went { Went self.old self.new thread call (said result) }
+        requires place { place ≡ place_of self.old.env.desks thread }
+        requires admitted { thread_refusal self.old.env thread call ≡ None }
+        requires buf { IsJustBufferOf self.old.env.state.limits call buf }
+        ensures went { Went self.old.env self.new.env thread call (said result) }
         ensures kind { IsKind call (said result) }
         ensures room { is_for_memory (said result) ≡ false }
+        ensures home { self.new.home ≡ self.old.home }
     {
         let _thread = thread;
         self.state.spend(place);
@@ -164,23 +183,23 @@ impl Env {
     /// The place of a thread, if a call reaches it, as `EnvState::admit` says. But 15 in place of 10, if there was a thread of
     /// this number once.
     pub(crate) fn admit(&self, thread: ThreadNo, call: Call) -> Result<ThreadNo, TiError>
-        ensures admitted { OnOk result (thread_refusal self.now thread call ≡ None) }
-        ensures place { IfOk result (λ place. place ≡ place_of self.now.desks thread) }
-        ensures there { OnOk result (place_in self.now.desks thread < length self.now.desks) }
-        ensures refused { IfErr result (λ e. thread_refusal self.now thread call ≡ Some e) }
+        ensures admitted { OnOk result (thread_refusal self.now.env thread call ≡ None) }
+        ensures place { IfOk result (λ place. place ≡ place_of self.now.env.desks thread) }
+        ensures there { OnOk result (place_in self.now.env.desks thread < length self.now.env.desks) }
+        ensures refused { IfErr result (λ e. thread_refusal self.now.env thread call ≡ Some e) }
     {
         let place = self.place_of(thread);
         match self.state.admit(place, call) {
             Ok(()) => Ok(place),
-            Err(error) => Err(self.told_as(thread, error)),
+            Err(error) => Err(self.map_error(thread, error)),
         }
     }
 
     /// Whether a call may wait while the environment's window at the thread at this place is full.
     pub(crate) fn has_no_room(&self, thread: ThreadNo, place: ThreadNo, call: Call) -> bool
-        requires place { place ≡ place_of self.now.desks thread }
-        requires there { place_in self.now.desks thread < length self.now.desks }
-        ensures { result ≡ (waits call && is_full self.now thread) }
+        requires place { place ≡ place_of self.now.env.desks thread }
+        requires there { place_in self.now.env.desks thread < length self.now.env.desks }
+        ensures { result ≡ (waits call && is_full self.now.env thread) }
     {
         let _thread = thread;
         may_wait(call) && self.desks[place.0 as usize].out() >= self.state.limits().window
@@ -188,37 +207,17 @@ impl Env {
 
     /// Whether the environment has all of these capabilities.
     pub(crate) fn holds(&self, caps: Caps) -> bool
-        ensures { result ≡ has_all self.now.state.caps caps }
+        ensures { result ≡ has_all self.now.env.state.caps caps }
     {
         self.state.caps().has(caps)
     }
 
-    /// Posts an admitted call for which there is room, at the thread at this place. The buffer has just the room that the
-    /// call takes.
-    pub(crate) fn post_one<R: Wait>(
-        &mut self,
-        rt: &R,
-        thread: ThreadNo,
-        place: ThreadNo,
-        call: Call,
-        buf: TraceBuf,
-    ) -> Asked
-        requires place { place ≡ place_of self.old.desks thread }
-        requires admitted { thread_refusal self.old thread call ≡ None }
-        requires room { (waits call && is_full self.old thread) ≡ false }
-        requires buf { IsJustBufferOf self.old.state.limits call buf }
-        ensures posts { Posts self.old self.new thread call result }
-    {
-        let _thread = thread;
-        self.state.spend(place);
-        self.desks[place.0 as usize].post(rt, call, buf)
-    }
-
     /// Asks the thread a call that takes no buffer.
-    fn ask<R: Wait>(&mut self, rt: &R, thread: ThreadNo, call: Call) -> Answer
+    pub(crate) fn ask<R: Wait>(&mut self, rt: &R, thread: ThreadNo, call: Call) -> Answer
         requires bare { takes_buffer call ≡ false }
-        ensures called { IsCalled self.old self.new thread call (said result) }
+        ensures called { IsCalled self.old.env self.new.env thread call (said result) }
         ensures kind { IsKind call (said result) }
+        ensures home { self.new.home ≡ self.old.home }
     {
         match self.admit(thread, call) {
             Ok(place) => self.ask_one(rt, thread, place, call, TraceBuf::none()),
@@ -226,11 +225,53 @@ impl Env {
         }
     }
 
+    /// Asks the thread any call, with the buffer that the call takes.
+    pub(crate) fn ask_any<R: Wait>(
+        &mut self,
+        rt: &R,
+        alloc: Global,
+        thread: ThreadNo,
+        call: Call,
+    ) -> Answer
+        ensures called { IsCalled self.old.env self.new.env thread call (said result) }
+        ensures kind { IsKind call (said result) }
+        ensures home { self.new.home ≡ self.old.home }
+    {
+        let place = match self.admit(thread, call) {
+            Ok(place) => place,
+            Err(error) => return Answer::Refused(error),
+        };
+        match buffer_for(alloc, self.state.limits(), call) {
+            Ok(buf) => self.ask_one(rt, thread, place, call, buf),
+            Err(error) => Answer::Refused(error),
+        }
+    }
+
+    /// Asks the thread any call, and gives its answer. It waits if the call under its JVM TI name does. `manner` says how: `&rt`
+    /// as long as it takes, or `Within` a time.
+    ///
+    /// The answer may be an error: one that refused the call before it reached the thread, 110 OUT_OF_MEMORY if there is no
+    /// memory for a trace's frames, or the thread's own.
+    pub fn call<M: Manner>(
+        &mut self,
+        manner: M,
+        alloc: Global,
+        thread: ThreadNo,
+        call: Call,
+    ) -> Answer
+        ensures called { M.called self.old.env self.new.env thread call (said result) }
+        ensures kind { IsKind call (said result) }
+        ensures home { self.new.home ≡ self.old.home }
+    {
+        manner.call(self, alloc, thread, call)
+    }
+
     /// GetThreadState (JVM TI 11): the thread's state bits, in any mode. It never waits.
     ///
     /// Errors: 10, 209, and 15 THREAD_NOT_ALIVE if its desk is gone.
     pub fn get_thread_state<R: Wait>(&mut self, rt: &R, thread: ThreadNo) -> Result<u32, TiError>
-        ensures { IsCalled self.old self.new thread call.State (in_state result) }
+        ensures called { IsCalled self.old.env self.new.env thread call.State (in_state result) }
+        ensures home { self.new.home ≡ self.old.home }
     {
         state_in(self.ask(rt, thread, Call::State))
     }
@@ -238,25 +279,31 @@ impl Env {
     /// GetFrameCount (JVM TI 11): the number of the thread's frames. It waits if the thread runs.
     ///
     /// Errors: 10, 209, 15 THREAD_NOT_ALIVE.
-    pub fn get_frame_count<R: Wait>(&mut self, rt: &R, thread: ThreadNo) -> Result<u32, TiError>
-        ensures { IsCalled self.old self.new thread call.FrameCount (in_count result) }
+    pub fn get_frame_count<M: Manner>(
+        &mut self,
+        manner: M,
+        thread: ThreadNo,
+    ) -> Result<u32, TiError>
+        ensures called { M.called self.old.env self.new.env thread call.FrameCount (in_count result) }
+        ensures home { self.new.home ≡ self.old.home }
     {
-        count_in(self.ask(rt, thread, Call::FrameCount))
+        count_in(manner.ask(self, thread, Call::FrameCount))
     }
 
     /// GetFrameLocation (JVM TI 11): the frame at a depth, 0 for the newest. It waits if the thread runs.
     ///
     /// Errors: 10, 103 if `depth` is negative, 209, 15 THREAD_NOT_ALIVE, and 31 NO_MORE_FRAMES if there is no frame at this
     /// depth.
-    pub fn get_frame_location<R: Wait>(
+    pub fn get_frame_location<M: Manner>(
         &mut self,
-        rt: &R,
+        manner: M,
         thread: ThreadNo,
         depth: i32,
     ) -> Result<Frame, TiError>
-        ensures { IsCalled self.old self.new thread (call.Location depth) (in_location result) }
+        ensures called { M.called self.old.env self.new.env thread (call.Location depth) (in_location result) }
+        ensures home { self.new.home ≡ self.old.home }
     {
-        location_in(self.ask(rt, thread, Call::Location { depth }), depth)
+        location_in(manner.ask(self, thread, Call::Location { depth }), depth)
     }
 
     /// GetStackTrace (JVM TI 11): at most `max_count` frames from `start` on, the newest first. A negative `start` counts
@@ -265,41 +312,37 @@ impl Env {
     /// Errors: 10, 103 if `max_count` is negative, 209, and 110 OUT_OF_MEMORY if there is no memory for the frames. Then
     /// nothing was posted. From the thread: 15 THREAD_NOT_ALIVE, and 103 if there is no frame at `start`. But 0 fits an
     /// empty stack.
-    pub fn get_stack_trace<R: Wait>(
+    pub fn get_stack_trace<M: Manner>(
         &mut self,
-        rt: &R,
+        manner: M,
         alloc: Global,
         thread: ThreadNo,
         start: i32,
         max_count: i32,
     ) -> Result<TraceBuf, TiError>
-        ensures { IsCalled self.old self.new thread (call.Trace start max_count) (in_trace result) }
+        ensures called { M.called self.old.env self.new.env thread (call.Trace start max_count) (in_trace result) }
+        ensures home { self.new.home ≡ self.old.home }
     {
         let call = Call::Trace { start, max_count };
-        let place = match self.admit(thread, call) {
-            Ok(place) => place,
-            Err(error) => return Err(error),
-        };
-        match TraceBuf::make(alloc, max_count, self.state.limits().depth) {
-            Ok(buf) => trace_in(self.ask_one(rt, thread, place, call, buf), start, max_count),
-            Err(error) => Err(error),
-        }
+        trace_in(manner.call(self, alloc, thread, call), start, max_count)
     }
 
     /// SuspendThread (JVM TI 11): suspends the thread. It waits if the thread runs, and needs `can_suspend`.
     ///
     /// Errors: 99, 10, 209, 15 THREAD_NOT_ALIVE, and 14 THREAD_SUSPENDED if the thread is suspended already.
-    pub fn suspend_thread<R: Wait>(&mut self, rt: &R, thread: ThreadNo) -> Result<(), TiError>
-        ensures { IsCalled self.old self.new thread call.Suspend (in_done result) }
+    pub fn suspend_thread<M: Manner>(&mut self, manner: M, thread: ThreadNo) -> Result<(), TiError>
+        ensures called { M.called self.old.env self.new.env thread call.Suspend (in_done result) }
+        ensures home { self.new.home ≡ self.old.home }
     {
-        done_in(self.ask(rt, thread, Call::Suspend))
+        done_in(manner.ask(self, thread, Call::Suspend))
     }
 
     /// ResumeThread (JVM TI 11): the thread is no longer suspended. It never waits, and needs `can_suspend`.
     ///
     /// Errors: 99, 10, 209, 15 THREAD_NOT_ALIVE, and 13 THREAD_NOT_SUSPENDED.
     pub fn resume_thread<R: Wait>(&mut self, rt: &R, thread: ThreadNo) -> Result<(), TiError>
-        ensures { IsCalled self.old self.new thread call.Resume (in_done result) }
+        ensures called { IsCalled self.old.env self.new.env thread call.Resume (in_done result) }
+        ensures home { self.new.home ≡ self.old.home }
     {
         done_in(self.ask(rt, thread, Call::Resume))
     }
@@ -308,10 +351,11 @@ impl Env {
     ///
     /// Errors: 99, 10, 209, 15 THREAD_NOT_ALIVE, 13 THREAD_NOT_SUSPENDED, and 31 NO_MORE_FRAMES if there are fewer than two
     /// frames. 32 OPAQUE_FRAME if one of the two newest is native.
-    pub fn pop_frame<R: Wait>(&mut self, rt: &R, thread: ThreadNo) -> Result<(), TiError>
-        ensures { IsCalled self.old self.new thread call.Pop (in_done result) }
+    pub fn pop_frame<M: Manner>(&mut self, manner: M, thread: ThreadNo) -> Result<(), TiError>
+        ensures called { M.called self.old.env self.new.env thread call.Pop (in_done result) }
+        ensures home { self.new.home ≡ self.old.home }
     {
-        done_in(self.ask(rt, thread, Call::Pop))
+        done_in(manner.ask(self, thread, Call::Pop))
     }
 
     /// GetThreadLocalStorage (JVM TI 11): the environment's word at the thread, 0 until it is set. It never waits.
@@ -322,7 +366,8 @@ impl Env {
         rt: &R,
         thread: ThreadNo,
     ) -> Result<u64, TiError>
-        ensures { IsCalled self.old self.new thread call.GetWord (in_word result) }
+        ensures called { IsCalled self.old.env self.new.env thread call.GetWord (in_word result) }
+        ensures home { self.new.home ≡ self.old.home }
     {
         word_in(self.ask(rt, thread, Call::GetWord))
     }
@@ -336,14 +381,15 @@ impl Env {
         thread: ThreadNo,
         word: u64,
     ) -> Result<(), TiError>
-        ensures { IsCalled self.old self.new thread (call.SetWord word) (in_done result) }
+        ensures called { IsCalled self.old.env self.new.env thread (call.SetWord word) (in_done result) }
+        ensures home { self.new.home ≡ self.old.home }
     {
         done_in(self.ask(rt, thread, Call::SetWord(word)))
     }
 
     /// GetEnvironmentLocalStorage (JVM TI 11): the environment's own word, 0 until it is set. It has no error.
     pub fn get_environment_local_storage(&self) -> Result<u64, TiError>
-        ensures { result ≡ Ok self.now.state.word }
+        ensures { result ≡ Ok self.now.env.state.word }
     {
         Ok(self.state.word())
     }
@@ -351,7 +397,8 @@ impl Env {
     /// SetEnvironmentLocalStorage (JVM TI 11): sets the environment's own word. It has no error.
     pub fn set_environment_local_storage(&mut self, word: u64) -> Result<(), TiError>
         ensures ok { IsOk result }
-        ensures set { self.new ≡ record { env = self.old.env; state = with_word self.old.state word; desks = self.old.desks } }
+        ensures set { self.new.env ≡ record { env = self.old.env.env; state = with_word self.old.env.state word; desks = self.old.env.desks } }
+        ensures home { self.new.home ≡ self.old.home }
     {
         self.state.set_word(word);
         Ok(())
@@ -361,9 +408,10 @@ impl Env {
     /// nothing changes.
     pub fn add_capabilities(&mut self, caps: Caps) -> Result<(), TiError>
         ensures available { IsOk result ↔ (can_be_had caps ≡ true) }
-        ensures added { OnOk result (self.new ≡ record { env = self.old.env; state = with_caps self.old.state (caps_with self.old.state.caps caps); desks = self.old.desks }) }
+        ensures added { OnOk result (self.new.env ≡ record { env = self.old.env.env; state = with_caps self.old.env.state (caps_with self.old.env.state.caps caps); desks = self.old.env.desks }) }
         ensures refused { IfErr result (λ e. e ≡ NotAvailable) }
         ensures unchanged { OnErr result (self.new ≡ self.old) }
+        ensures home { self.new.home ≡ self.old.home }
     {
         self.state.add(caps)
     }
@@ -372,7 +420,8 @@ impl Env {
     /// error.
     pub fn relinquish_capabilities(&mut self, caps: Caps) -> Result<(), TiError>
         ensures ok { IsOk result }
-        ensures gone { self.new ≡ record { env = self.old.env; state = with_caps self.old.state (caps_without self.old.state.caps caps); desks = self.old.desks } }
+        ensures gone { self.new.env ≡ record { env = self.old.env.env; state = with_caps self.old.env.state (caps_without self.old.env.state.caps caps); desks = self.old.env.desks } }
+        ensures home { self.new.home ≡ self.old.home }
     {
         self.state.relinquish(caps);
         Ok(())
@@ -388,7 +437,7 @@ impl Env {
 
     /// GetCapabilities (JVM TI 11): the capabilities that the environment has. It has no error.
     pub fn get_capabilities(&self) -> Result<Caps, TiError>
-        ensures { result ≡ Ok self.now.state.caps }
+        ensures { result ≡ Ok self.now.env.state.caps }
     {
         Ok(self.state.caps())
     }
@@ -403,6 +452,5 @@ ghost use Rattle.ti_env.specs.Env.{with_caps, with_word};
 ghost use Rattle.ti_replay.specs.Admission.{takes_buffer};
 ghost use Rattle.ti_replay.specs.Settling.{waits};
 ghost use Rattle.ti_agent.specs.Buffers.{IsJustBufferOf};
-ghost use Rattle.ti_agent.specs.Env.{Environment, AreNewDesks, place_in, place_of, potential_caps, thread_refusal, told_as, is_full};
-ghost use Rattle.ti_agent.specs.Posts.{Posts};
+ghost use Rattle.ti_agent.specs.Env.{Environment, AreNewDesks, place_in, place_of, potential_caps, thread_refusal, map_error, is_full};
 ghost use Rattle.ti_agent.specs.Asks.{Went, IsCalled, IsKind, is_for_memory, in_state, in_count, in_word, in_location, in_trace, in_done};

@@ -1,9 +1,8 @@
 //! A desk that no environment has.
 
 use std::marker::Model;
-use std::sync::Wait;
 use ti_handshake::Desk;
-use ti_types::{Call, EnvNo, Limits, ThreadNo, TiError, TraceBuf};
+use ti_types::{EnvNo, Limits, ThreadNo, TiError};
 
 /// A desk that no environment has, with how many calls are spent there (this profile). It goes to an environment of its
 /// number by `Env::add_desk`, and comes back by `Env::take_desk`. So the next environment of this number has what is left.
@@ -60,15 +59,9 @@ impl FreeDesk {
         self.desk.facts();
     }
 
-    /// Sets the environment's word at the thread to 0 by one call there, if a call is left.
-    pub(crate) fn clear_word<R: Wait>(&mut self, rt: &R)
-        ensures { ClearsWord self.old self.new }
-    {
-        if self.spent >= self.limits().calls {
-            return;
-        }
-        let _done = self.desk.call(rt, Call::SetWord(0), TraceBuf::none());
-        self.spent += 1;
+    /// Wakes whoever sleeps at its thread and may go on. It is one load if nobody sleeps.
+    pub(crate) fn wake_sleepers(&self) {
+        self.desk.wake_sleepers();
     }
 
     /// The limits of the thread that it is at.
@@ -105,4 +98,4 @@ ghost use Rattle.ti_types.specs.declared.error.TiError.TheVariants.{IllegalArgum
 ghost use Rattle.ti_replay.specs.Legal.{is_legal};
 ghost use Rattle.ti_replay.specs.Makers.{made_by};
 ghost use Rattle.ti_handshake.specs.Cancelled.{AreGivenUp};
-ghost use Rattle.ti_agent.specs.FreeDesk.{ClearsWord, IsFree};
+ghost use Rattle.ti_agent.specs.FreeDesk.{IsFree};

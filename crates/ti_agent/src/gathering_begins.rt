@@ -2,10 +2,11 @@
 
 use crate::env::Env;
 use crate::gathering::{Gathering, Phase};
+use crate::home::Home;
 use crate::thread_counts::{all_threads, all_with_one_read, count_each, counted_threads};
 use crate::traces::buffers;
 use std::alloc::Global;
-use ti_trail::Trail;
+use ti_trail::GhostList;
 use ti_types::{StackInfo, ThreadNo, TiError, TraceBuf};
 
 /// What a trace is made of: the threads to stop and to read, and the memory for the result.
@@ -18,7 +19,7 @@ pub(crate) struct Plan {
     infos: Vec<StackInfo>,
 }
 
-impl Env {
+impl<H: Home> Env<H> {
     /// Takes the memory for a trace. 110 OUT_OF_MEMORY if there is none.
     fn plan(
         &self,
@@ -28,8 +29,8 @@ impl Env {
         max_count: i32,
         is_alive_only: bool,
     ) -> Result<Plan, TiError>
-        requires asked { IsAsked self.now stopping.items places.items max_count }
-        ensures planned { IfOk result (λ p. IsPlan self.now stopping.items places.items max_count is_alive_only p) }
+        requires asked { IsAsked self.now.env stopping.items places.items max_count }
+        ensures planned { IfOk result (λ p. IsPlan self.now.env stopping.items places.items max_count is_alive_only p) }
         ensures memory { IfErr result (λ e. e ≡ OutOfMemory) }
     {
         let bufs = buffers(alloc, places.len(), max_count, self.state.limits().depth)?;
@@ -46,9 +47,9 @@ impl Env {
 
     /// The plan of a trace of all threads.
     fn plan_all(&self, alloc: Global, max_count: i32) -> Result<Plan, TiError>
-        ensures admitted { OnOk result (refusal_of_all self.now.state max_count ≡ None) }
-        ensures planned { IfOk result (λ p. IsPlan self.now (all_once (length self.now.desks)) (each_thread (length self.now.desks)) max_count true p) }
-        ensures refused { IfErr result (λ e. Some e ≡ or_else (refusal_of_all self.now.state max_count) (Some OutOfMemory)) }
+        ensures admitted { OnOk result (refusal_of_all self.now.env.state max_count ≡ None) }
+        ensures planned { IfOk result (λ p. IsPlan self.now.env (all_once (length self.now.env.desks)) (each_thread (length self.now.env.desks)) max_count true p) }
+        ensures refused { IfErr result (λ e. Some e ≡ or_else (refusal_of_all self.now.env.state max_count) (Some OutOfMemory)) }
     {
         let count = self.admit_all(max_count)?;
         let places = all_threads(alloc, count)?;
@@ -63,10 +64,10 @@ impl Env {
         threads: &[ThreadNo],
         max_count: i32,
     ) -> Result<Plan, TiError>
-        ensures admitted { OnOk result (refusal_of_list self.now.state (places_of self.now.desks threads.now) max_count ≡ None) }
-        ensures paid { OnOk result (refusal_of_counted self.now.state (places_of self.now.desks threads.now) ≡ None) }
-        ensures planned { IfOk result (λ p. IsPlan self.now (each_once (length self.now.desks) (places_of self.now.desks threads.now)) (places_of self.now.desks threads.now) max_count false p) }
-        ensures refused { IfErr result (λ e. IsListRefused self.now.state (places_of self.now.desks threads.now) max_count e) }
+        ensures admitted { OnOk result (refusal_of_list self.now.env.state (places_of self.now.env.desks threads.now) max_count ≡ None) }
+        ensures paid { OnOk result (refusal_of_counted self.now.env.state (places_of self.now.env.desks threads.now) ≡ None) }
+        ensures planned { IfOk result (λ p. IsPlan self.now.env (each_once (length self.now.env.desks) (places_of self.now.env.desks threads.now)) (places_of self.now.env.desks threads.now) max_count false p) }
+        ensures refused { IfErr result (λ e. IsListRefused self.now.env.state (places_of self.now.env.desks threads.now) max_count e) }
     {
         self.admit_list(threads, max_count)?;
         let places = self.places(alloc, threads)?;
@@ -76,12 +77,18 @@ impl Env {
     }
 
     /// A trace by this plan. Nothing is stopped yet.
-    fn begin(self, plan: Plan) -> Gathering
-        requires { IsPlan self plan.stopping.items plan.places.items plan.max_count plan.is_alive_only plan }
-        ensures { Begins self result plan.stopping.items plan.places.items plan.max_count plan.is_alive_only }
+    fn begin(self, plan: Plan) -> Gathering<H>
+        requires { IsPlan self.env plan.stopping.items plan.places.items plan.max_count plan.is_alive_only plan }
+        ensures home { result.home ≡ self.home }
+        ensures begins { Begins self.env result.trace plan.stopping.items plan.places.items plan.max_count plan.is_alive_only }
     {
-        let began = Trail::new().and(&self);
-        let Env { env, state, desks } = self;
+        let began = GhostList::new().and(&self);
+        let Env {
+            home,
+            env,
+            state,
+            desks,
+        } = self;
         let Plan {
             stopping,
             places,
@@ -91,6 +98,7 @@ impl Env {
             infos,
         } = plan;
         Gathering {
+            home,
             env,
             state,
             desks,
@@ -141,13 +149,15 @@ impl Env {
     /// // The thread is stopped. It runs on until it polls.
     /// while trace.step().is_ok() {}
     /// assert!(rt; trace.step() == Err(TiError::StillRunning));
-    /// let Ok(Polled::Held(_held)) = running.try_poll() else {
-    ///     return Err("the thread is held".into());
+    /// assert!(rt; matches!(running.poll_now(), Ok(Polled::Held(_))));
+    /// let (_env, told) = loop {
+    ///     let _ = trace.step();
+    ///     match trace.finish() {
+    ///         Ok(ended) => break ended,
+    ///         Err(rest) => trace = rest,
+    ///     }
     /// };
-    /// while trace.step() == Ok(false) {}
-    /// let Ok((_env, Some(told))) = trace.finish() else {
-    ///     return Err("it has come to its end".into());
-    /// };
+    /// let told = told.ok_or("it was not given up")?;
     /// assert!(rt; told.len() == 1 && told[0].thread == thread);
     /// assert!(rt; told[0].frames.frames()[0].method == MethodNo(3));
     /// ```
@@ -155,10 +165,11 @@ impl Env {
         self,
         alloc: Global,
         max_count: i32,
-    ) -> Result<Gathering, (TiError, Env)>
-        ensures admitted { OnOk result (refusal_of_all self.state max_count ≡ None) }
-        ensures begins { IfOk result (λ g. Begins self g (all_once (length self.desks)) (each_thread (length self.desks)) max_count true) }
-        ensures refused { IfErr result (λ r. Some r.0 ≡ or_else (refusal_of_all self.state max_count) (Some OutOfMemory)) }
+    ) -> Result<Gathering<H>, (TiError, Env<H>)>
+        ensures admitted { OnOk result (refusal_of_all self.env.state max_count ≡ None) }
+        ensures begins { IfOk result (λ g. Begins self.env g.trace (all_once (length self.env.desks)) (each_thread (length self.env.desks)) max_count true) }
+        ensures home { IfOk result (λ g. g.home ≡ self.home) }
+        ensures refused { IfErr result (λ r. Some r.0 ≡ or_else (refusal_of_all self.env.state max_count) (Some OutOfMemory)) }
         ensures back { IfErr result (λ r. r.1 ≡ self) }
     {
         match self.plan_all(alloc, max_count) {
@@ -188,11 +199,12 @@ impl Env {
         alloc: Global,
         threads: &[ThreadNo],
         max_count: i32,
-    ) -> Result<Gathering, (TiError, Env)>
-        ensures admitted { OnOk result (refusal_of_list self.state (places_of self.desks threads.now) max_count ≡ None) }
-        ensures paid { OnOk result (refusal_of_counted self.state (places_of self.desks threads.now) ≡ None) }
-        ensures begins { IfOk result (λ g. Begins self g (each_once (length self.desks) (places_of self.desks threads.now)) (places_of self.desks threads.now) max_count false) }
-        ensures refused { IfErr result (λ r. IsListRefused self.state (places_of self.desks threads.now) max_count r.0) }
+    ) -> Result<Gathering<H>, (TiError, Env<H>)>
+        ensures admitted { OnOk result (refusal_of_list self.env.state (places_of self.env.desks threads.now) max_count ≡ None) }
+        ensures paid { OnOk result (refusal_of_counted self.env.state (places_of self.env.desks threads.now) ≡ None) }
+        ensures begins { IfOk result (λ g. Begins self.env g.trace (each_once (length self.env.desks) (places_of self.env.desks threads.now)) (places_of self.env.desks threads.now) max_count false) }
+        ensures home { IfOk result (λ g. g.home ≡ self.home) }
+        ensures refused { IfErr result (λ r. IsListRefused self.env.state (places_of self.env.desks threads.now) max_count r.0) }
         ensures back { IfErr result (λ r. r.1 ≡ self) }
     {
         match self.plan_list(alloc, threads, max_count) {

@@ -1,22 +1,24 @@
 //! The steps of a trace of several threads. None of them waits.
 
 use crate::gathering::{Gathering, Phase};
+use crate::home::Home;
 use crate::traces::told_of;
 use ti_types::TiError;
-use ti_vmop::{try_go_again, try_go_one, try_read_one, try_see_one, try_stop_one};
+use ti_vmop::{go_again_now, go_one_now, read_one_now, see_one_now, stop_one_now};
 
-impl Gathering {
+impl<H: Home> Gathering<H> {
     /// Stops the next thread. 211 if a stop is in force there, and 215 if its cell is in use.
     fn stop_next(&mut self, stopped: usize) -> Result<(), TiError>
-        requires at { self.old.phase ≡ phase.Stopping stopped }
-        requires next { stopped < length self.old.stopping }
-        ensures same { IsSameWork self.old self.new }
-        ensures on { OnOk result (self.new.phase ≡ phase.Stopping (stopped + 1)) }
-        ensures stays { OnErr result (self.new.phase ≡ self.old.phase) }
-        ensures why { IfErr result (λ e. IsBarred self.old self.new e) }
+        requires at { self.old.trace.phase ≡ phase.Stopping stopped }
+        requires next { stopped < length self.old.trace.stopping }
+        ensures same { IsSameWork self.old.trace self.new.trace }
+        ensures on { OnOk result (self.new.trace.phase ≡ phase.Stopping (stopped + 1)) }
+        ensures stays { OnErr result (self.new.trace.phase ≡ self.old.trace.phase) }
+        ensures why { IfErr result (λ e. IsBarred self.old.trace self.new.trace e) }
+        ensures home { self.new.home ≡ self.old.home }
     {
         let (place, _reads) = self.stopping[stopped];
-        try_stop_one(&mut self.desks[place.0 as usize])?;
+        stop_one_now(&mut self.desks[place.0 as usize])?;
         self.state.spend(place);
         self.phase = Phase::Stopping(stopped + 1);
         Ok(())
@@ -24,27 +26,29 @@ impl Gathering {
 
     /// Sees that the next thread is standing. 213 if it is not, and 215 if its cell is in use.
     fn see_next(&mut self, seen: usize) -> Result<(), TiError>
-        requires at { self.old.phase ≡ phase.Seeing seen }
-        requires next { seen < length self.old.stopping }
-        ensures same { IsSameWork self.old self.new }
-        ensures on { OnOk result (self.new.phase ≡ phase.Seeing (seen + 1)) }
-        ensures stays { OnErr result (self.new.phase ≡ self.old.phase) }
-        ensures why { IfErr result (λ e. IsBarred self.old self.new e) }
+        requires at { self.old.trace.phase ≡ phase.Seeing seen }
+        requires next { seen < length self.old.trace.stopping }
+        ensures same { IsSameWork self.old.trace self.new.trace }
+        ensures on { OnOk result (self.new.trace.phase ≡ phase.Seeing (seen + 1)) }
+        ensures stays { OnErr result (self.new.trace.phase ≡ self.old.trace.phase) }
+        ensures why { IfErr result (λ e. IsBarred self.old.trace self.new.trace e) }
+        ensures home { self.new.home ≡ self.old.home }
     {
         let (place, _reads) = self.stopping[seen];
-        try_see_one(&mut self.desks[place.0 as usize])?;
+        see_one_now(&mut self.desks[place.0 as usize])?;
         self.phase = Phase::Seeing(seen + 1);
         Ok(())
     }
 
     /// Reads the next thread. 215 if its cell is in use.
     fn read_next(&mut self) -> Result<(), TiError>
-        requires at { self.old.phase ≡ phase.Reading }
-        requires next { length self.old.infos < length self.old.places }
-        ensures same { IsSameWork self.old self.new }
-        ensures on { OnOk result (length self.new.infos ≡ length self.old.infos + 1) }
-        ensures stays { self.new.phase ≡ self.old.phase }
-        ensures why { IfErr result (λ e. IsBarred self.old self.new e) }
+        requires at { self.old.trace.phase ≡ phase.Reading }
+        requires next { length self.old.trace.infos < length self.old.trace.places }
+        ensures same { IsSameWork self.old.trace self.new.trace }
+        ensures on { OnOk result (length self.new.trace.infos ≡ length self.old.trace.infos + 1) }
+        ensures stays { self.new.trace.phase ≡ self.old.trace.phase }
+        ensures why { IfErr result (λ e. IsBarred self.old.trace self.new.trace e) }
+        ensures home { self.new.home ≡ self.old.home }
     {
         let place = self.places[self.infos.len()];
         let Some(buf) = self.bufs.pop() else {
@@ -52,7 +56,7 @@ impl Gathering {
         };
         let desk = &mut self.desks[place.0 as usize];
         let thread = desk.thread();
-        match try_read_one(desk, self.max_count, buf) {
+        match read_one_now(desk, self.max_count, buf) {
             Ok(answer) => {
                 self.state.spend(place);
                 self.infos.push_reserved(told_of(thread, answer));
@@ -67,30 +71,32 @@ impl Gathering {
 
     /// Lets the next thread go. 215 if its cell is in use.
     fn go_next(&mut self, gone: usize) -> Result<(), TiError>
-        requires at { self.old.phase ≡ phase.LettingGo gone }
-        requires next { gone < length self.old.stopping }
-        ensures same { IsSameWork self.old self.new }
-        ensures on { OnOk result (self.new.phase ≡ phase.LettingGo (gone + 1)) }
-        ensures stays { OnErr result (self.new.phase ≡ self.old.phase) }
-        ensures why { IfErr result (λ e. IsBarred self.old self.new e) }
+        requires at { self.old.trace.phase ≡ phase.LettingGo gone }
+        requires next { gone < length self.old.trace.stopping }
+        ensures same { IsSameWork self.old.trace self.new.trace }
+        ensures on { OnOk result (self.new.trace.phase ≡ phase.LettingGo (gone + 1)) }
+        ensures stays { OnErr result (self.new.trace.phase ≡ self.old.trace.phase) }
+        ensures why { IfErr result (λ e. IsBarred self.old.trace self.new.trace e) }
+        ensures home { self.new.home ≡ self.old.home }
     {
         let (place, _reads) = self.stopping[gone];
-        try_go_one(&mut self.desks[place.0 as usize])?;
+        go_one_now(&mut self.desks[place.0 as usize])?;
         self.phase = Phase::LettingGo(gone + 1);
         Ok(())
     }
 
     /// The same, after it was given up.
     fn go_again_next(&mut self, stopped: usize, gone: usize) -> Result<(), TiError>
-        requires at { self.old.phase ≡ phase.GivingUp stopped gone }
+        requires at { self.old.trace.phase ≡ phase.GivingUp stopped gone }
         requires next { gone < stopped }
-        ensures same { IsSameWork self.old self.new }
-        ensures on { OnOk result (self.new.phase ≡ phase.GivingUp stopped (gone + 1)) }
-        ensures stays { OnErr result (self.new.phase ≡ self.old.phase) }
-        ensures why { IfErr result (λ e. IsBarred self.old self.new e) }
+        ensures same { IsSameWork self.old.trace self.new.trace }
+        ensures on { OnOk result (self.new.trace.phase ≡ phase.GivingUp stopped (gone + 1)) }
+        ensures stays { OnErr result (self.new.trace.phase ≡ self.old.trace.phase) }
+        ensures why { IfErr result (λ e. IsBarred self.old.trace self.new.trace e) }
+        ensures home { self.new.home ≡ self.old.home }
     {
         let (place, _reads) = self.stopping[gone];
-        try_go_again(&mut self.desks[place.0 as usize])?;
+        go_again_now(&mut self.desks[place.0 as usize])?;
         self.phase = Phase::GivingUp(stopped, gone + 1);
         Ok(())
     }
@@ -106,12 +112,13 @@ impl Gathering {
     /// - 213 STILL_RUNNING (this profile): the next thread to read runs. It has not come to its next poll.
     /// - 215 (this profile: `Busy`): the next thread's cell is in use. Nothing has changed.
     pub fn step(&mut self) -> Result<bool, TiError>
-        ensures same { IsSameWork self.old self.new }
-        ensures given_up { is_given_up self.new.phase ≡ is_given_up self.old.phase }
-        ensures on { OnOk result (GoesOn self.old self.new) }
-        ensures ended { IfOk result (λ over. over ≡ has_ended self.new) }
-        ensures why { IfErr result (λ e. IsBarred self.old self.new e) }
-        ensures stays { OnErr result (self.new.phase ≡ self.old.phase) }
+        ensures same { IsSameWork self.old.trace self.new.trace }
+        ensures given_up { is_given_up self.new.trace.phase ≡ is_given_up self.old.trace.phase }
+        ensures on { OnOk result (GoesOn self.old.trace self.new.trace) }
+        ensures ended { IfOk result (λ over. over ≡ has_ended self.new.trace) }
+        ensures why { IfErr result (λ e. IsBarred self.old.trace self.new.trace e) }
+        ensures stays { OnErr result (self.new.trace.phase ≡ self.old.trace.phase) }
+        ensures home { self.new.home ≡ self.old.home }
     {
         let count = self.stopping.len();
         match self.phase {

@@ -10,6 +10,7 @@
 //! - The same trace can be made step by step, without a wait. What comes of it is the same (`Gathering`).
 //! - A call that takes no runtime never waits. If it finds its thread's cell in use, nothing changes.
 //! - Desks come and go with their threads. What was spent at a desk goes with it.
+//! - What an environment belongs to goes where the environment goes (`Home`). Its desks stay where they may be there.
 #![tactic(auto)]
 
 mod answers;
@@ -20,8 +21,10 @@ mod free_desk;
 mod gathering;
 mod gathering_begins;
 mod gathering_steps;
+mod home;
 mod list_tries;
 mod lists;
+mod manner;
 mod posts;
 mod thread_counts;
 mod traces;
@@ -30,4 +33,6 @@ mod tries;
 pub use env::Env;
 pub use free_desk::FreeDesk;
 pub use gathering::{Gathering, Phase};
+pub use home::{Alone, Home};
+pub use manner::{Manner, Within};
 pub use ti_types::StackInfo;

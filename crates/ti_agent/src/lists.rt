@@ -1,10 +1,11 @@
 //! Calls for a list of threads: all are posted, and only then the first is collected.
 
 use crate::env::Env;
+use crate::home::Home;
 use std::alloc::Global;
 use std::sync::Wait;
 use ti_slot::Asked;
-use ti_types::{Answer, Call, ThreadNo, TiError, Ticket, TraceBuf, needs};
+use ti_types::{Answer, Call, ThreadNo, TiError, Ticket, needs};
 
 /// The result of posting a call at one thread.
 #[derive(Clone, Copy)]
@@ -25,22 +26,17 @@ fn code_in(answer: &Answer) -> u32
     }
 }
 
-impl Env {
+impl<H: Home> Env<H> {
     /// Posts a call at a thread, or gives the number of the error that refused it.
-    fn post_at<R: Wait>(&mut self, rt: &R, thread: ThreadNo, call: Call) -> Posted
+    fn post_at<R: Wait>(&mut self, rt: &R, alloc: Global, thread: ThreadNo, call: Call) -> Posted
         requires bare { takes_buffer call ≡ false }
-        ensures posted { IsPosted self.old self.new call thread result }
+        ensures posted { IsPosted self.old.env self.new.env call thread result }
+        ensures home { self.new.home ≡ self.old.home }
     {
-        let place = match self.admit(thread, call) {
-            Ok(place) => place,
-            Err(error) => return Posted::Code(error.number()),
-        };
-        if self.has_no_room(thread, place, call) {
-            return Posted::Code(TiError::Full.number());
-        }
-        match self.post_one(rt, thread, place, call, TraceBuf::none()) {
-            Asked::Answered(answer) => Posted::Code(code_in(&answer)),
-            Asked::Waiting(ticket) => Posted::Waits(ticket),
+        match self.post(rt, alloc, thread, call) {
+            Ok(Asked::Answered(answer)) => Posted::Code(code_in(&answer)),
+            Ok(Asked::Waiting(ticket)) => Posted::Waits(ticket),
+            Err(error) => Posted::Code(error.number()),
         }
     }
 
@@ -48,6 +44,7 @@ impl Env {
     fn post_each<R: Wait>(
         &mut self,
         rt: &R,
+        alloc: Global,
         call: Call,
         threads: &[ThreadNo],
         posted: &mut Vec<Posted>,
@@ -55,19 +52,21 @@ impl Env {
         requires bare { takes_buffer call ≡ false }
         requires empty { posted.old.items ≡ [] }
         requires room { length threads.now ≤ vec_capacity posted.old }
-        ensures posts { PostsEach self.old self.new call threads.now posted.new.items }
-        ensures out { AreOpen self.new posted.new.items }
+        ensures posts { PostsEach self.old.env self.new.env call threads.now posted.new.items }
+        ensures out { AreOpen self.new.env posted.new.items }
         ensures count { length posted.new.items ≡ length threads.now }
+        ensures home { self.new.home ≡ self.old.home }
     {
         for thread in threads {
-            posted.push_reserved(self.post_at(rt, *thread, call));
+            posted.push_reserved(self.post_at(rt, alloc, *thread, call));
         }
     }
 
     /// The code of a posted call. It waits for the answer if there is none yet.
     fn collect_at<R: Wait>(&mut self, rt: &R, posted: Posted) -> u32
-        requires out { IsOpen self.old posted }
-        ensures collected { IsCollected self.old self.new posted result }
+        requires out { IsOpen self.old.env posted }
+        ensures collected { IsCollected self.old.env self.new.env posted result }
+        ensures home { self.new.home ≡ self.old.home }
     {
         match posted {
             Posted::Code(code) => code,
@@ -77,10 +76,11 @@ impl Env {
 
     /// The code of each posted call, in the list's order.
     fn collect_each<R: Wait>(&mut self, rt: &R, posted: &[Posted], codes: &mut Vec<u32>)
-        requires out { AreOpen self.old posted.now }
+        requires out { AreOpen self.old.env posted.now }
         requires empty { codes.old.items ≡ [] }
         requires room { length posted.now ≤ vec_capacity codes.old }
-        ensures collects { CollectsEach self.old self.new posted.now codes.new.items }
+        ensures collects { CollectsEach self.old.env self.new.env posted.now codes.new.items }
+        ensures home { self.new.home ≡ self.old.home }
     {
         for one in posted {
             codes.push_reserved(self.collect_at(rt, *one));
@@ -96,16 +96,17 @@ impl Env {
         threads: &[ThreadNo],
     ) -> Result<Vec<u32>, TiError>
         requires bare { takes_buffer call ≡ false }
-        ensures each { IfOk result (λ codes. WentEach self.old self.new call threads.now codes.items) }
-        ensures capable { OnOk result (has_all self.old.state.caps (needed_by call) ≡ true) }
-        ensures refused { IfErr result (λ e. (e ≡ (if has_all self.old.state.caps (needed_by call) then OutOfMemory else MustPossessCapability)) × (self.new ≡ self.old)) }
+        ensures each { IfOk result (λ codes. WentEach self.old.env self.new.env call threads.now codes.items) }
+        ensures capable { OnOk result (has_all self.old.env.state.caps (needed_by call) ≡ true) }
+        ensures refused { IfErr result (λ e. (e ≡ (if has_all self.old.env.state.caps (needed_by call) then OutOfMemory else MustPossessCapability)) × (self.new ≡ self.old)) }
+        ensures home { self.new.home ≡ self.old.home }
     {
         if !self.holds(needs(call)) {
             return Err(TiError::MustPossessCapability);
         }
         let mut posted = Vec::with_capacity(alloc, threads.len())?;
         let mut codes = Vec::with_capacity(alloc, threads.len())?;
-        self.post_each(rt, call, threads, &mut posted);
+        self.post_each(rt, alloc, call, threads, &mut posted);
         self.collect_each(rt, &posted, &mut codes);
         Ok(codes)
     }
@@ -124,9 +125,10 @@ impl Env {
         alloc: Global,
         threads: &[ThreadNo],
     ) -> Result<Vec<u32>, TiError>
-        ensures each { IfOk result (λ codes. WentEach self.old self.new call.Suspend threads.now codes.items) }
-        ensures capable { OnOk result (has_all self.old.state.caps (needed_by call.Suspend) ≡ true) }
-        ensures refused { IfErr result (λ e. (e ≡ (if has_all self.old.state.caps (needed_by call.Suspend) then OutOfMemory else MustPossessCapability)) × (self.new ≡ self.old)) }
+        ensures each { IfOk result (λ codes. WentEach self.old.env self.new.env call.Suspend threads.now codes.items) }
+        ensures capable { OnOk result (has_all self.old.env.state.caps (needed_by call.Suspend) ≡ true) }
+        ensures refused { IfErr result (λ e. (e ≡ (if has_all self.old.env.state.caps (needed_by call.Suspend) then OutOfMemory else MustPossessCapability)) × (self.new ≡ self.old)) }
+        ensures home { self.new.home ≡ self.old.home }
     {
         self.call_each(rt, alloc, Call::Suspend, threads)
     }
@@ -138,9 +140,10 @@ impl Env {
         alloc: Global,
         threads: &[ThreadNo],
     ) -> Result<Vec<u32>, TiError>
-        ensures each { IfOk result (λ codes. WentEach self.old self.new call.Resume threads.now codes.items) }
-        ensures capable { OnOk result (has_all self.old.state.caps (needed_by call.Resume) ≡ true) }
-        ensures refused { IfErr result (λ e. (e ≡ (if has_all self.old.state.caps (needed_by call.Resume) then OutOfMemory else MustPossessCapability)) × (self.new ≡ self.old)) }
+        ensures each { IfOk result (λ codes. WentEach self.old.env self.new.env call.Resume threads.now codes.items) }
+        ensures capable { OnOk result (has_all self.old.env.state.caps (needed_by call.Resume) ≡ true) }
+        ensures refused { IfErr result (λ e. (e ≡ (if has_all self.old.env.state.caps (needed_by call.Resume) then OutOfMemory else MustPossessCapability)) × (self.new ≡ self.old)) }
+        ensures home { self.new.home ≡ self.old.home }
     {
         self.call_each(rt, alloc, Call::Resume, threads)
     }

@@ -1,10 +1,12 @@
 //! Calls that are posted and collected later, so that an agent can ask many threads before it waits.
 
 use crate::env::Env;
+use crate::home::Home;
 use std::alloc::Global;
 use std::rt::Clock;
 use std::sync::Wait;
 use std::time::Duration;
+use ti_cell::Pace;
 use ti_slot::Asked;
 use ti_types::{Answer, Call, Limits, ThreadNo, TiError, Ticket, TraceBuf};
 
@@ -23,7 +25,7 @@ pub(crate) fn buffer_for(alloc: Global, limits: Limits, call: Call) -> Result<Tr
     }
 }
 
-impl Env {
+impl<H: Home> Env<H> {
     /// Posts a call at a thread, by one hold. It gives the answer, or a ticket if the call waits for the running thread (JEP
     /// 312). The calls that read frames wait, and so do SuspendThread and PopFrame. It spends one call, also if the answer
     /// is never collected. The environment may make other calls meanwhile.
@@ -48,23 +50,24 @@ impl Env {
         thread: ThreadNo,
         call: Call,
     ) -> Result<Asked, TiError>
-        ensures admitted { IfOk result (λ a. posting_refusal self.old thread call ≡ None) }
-        ensures posts { IfOk result (λ a. Posts self.old self.new thread call a) }
-        ensures out { IfOk result (λ a. IsOutIfWaiting self.new a) }
-        ensures refused { IfErr result (λ e. Some e ≡ or_else (posting_refusal self.old thread call) (if takes_buffer call then Some OutOfMemory else None)) }
+        ensures admitted { IfOk result (λ a. posting_refusal self.old.env thread call ≡ None) }
+        ensures posts { IfOk result (λ a. Posts self.old.env self.new.env thread call a) }
+        ensures out { IfOk result (λ a. IsOutIfWaiting self.new.env a) }
+        ensures refused { IfErr result (λ e. Some e ≡ or_else (posting_refusal self.old.env thread call) (if takes_buffer call then Some OutOfMemory else None)) }
         ensures unchanged { IfErr result (λ e. self.new ≡ self.old) }
+        ensures home { self.new.home ≡ self.old.home }
     {
-        let place = match self.admit(thread, call) {
-            Ok(place) => place,
-            Err(error) => return Err(error),
-        };
-        if self.has_no_room(thread, place, call) {
-            return Err(TiError::Full);
+        let pace = Pace::new();
+        for _ in rt.forever() {
+            match self.post_now(alloc, thread, call) {
+                Err(TiError::Busy) => self.await_free_at(rt, thread, &pace),
+                result => {
+                    self.wake_sleepers_at(thread);
+                    return result;
+                }
+            }
         }
-        match buffer_for(alloc, self.state.limits(), call) {
-            Ok(buf) => Ok(self.post_one(rt, thread, place, call, buf)),
-            Err(error) => Err(error),
-        }
+        unreachable!()
     }
 
     /// The answer to a posted call, by one hold, if it is there. It is the reply of the thread's history to the ticket. The
@@ -73,14 +76,21 @@ impl Env {
     /// `None` while the answer is not there, and for a ticket that is not out at this environment. Then nothing is
     /// collected.
     pub fn try_collect<R: Wait>(&mut self, rt: &R, ticket: Ticket) -> Option<Answer>
-        ensures looks { place_in self.old.desks ticket.thread < length self.old.desks → LooksFor self.old self.new ticket (option_map said result) }
-        ensures nobody { length self.old.desks ≤ place_in self.old.desks ticket.thread → (self.new ≡ self.old) × (result ≡ None) }
+        ensures looks { place_in self.old.env.desks ticket.thread < length self.old.env.desks → LooksFor self.old.env self.new.env ticket (option_map said result) }
+        ensures nobody { length self.old.env.desks ≤ place_in self.old.env.desks ticket.thread → (self.new ≡ self.old) × (result ≡ None) }
+        ensures home { self.new.home ≡ self.old.home }
     {
-        let at = self.place_of(ticket.thread).0 as usize;
-        if at >= self.desks.len() {
-            return None;
+        let pace = Pace::new();
+        for _ in rt.forever() {
+            match self.collect_now(ticket) {
+                Ok(answer) => {
+                    self.wake_sleepers_at(ticket.thread);
+                    return answer;
+                }
+                Err(_) => self.await_free_at(rt, ticket.thread, &pace),
+            }
         }
-        self.desks[at].try_collect(rt, ticket)
+        unreachable!()
     }
 
     /// The answer to a posted call, as `try_collect` gives it. It waits for at most this time, and sleeps between its holds.
@@ -93,8 +103,9 @@ impl Env {
         ticket: Ticket,
         time: Duration,
     ) -> Option<Answer>
-        ensures waits { place_in self.old.desks ticket.thread < length self.old.desks → WaitsFor self.old self.new ticket (option_map said result) }
-        ensures nobody { length self.old.desks ≤ place_in self.old.desks ticket.thread → (self.new ≡ self.old) × (result ≡ None) }
+        ensures waits { place_in self.old.env.desks ticket.thread < length self.old.env.desks → WaitsFor self.old.env self.new.env ticket (option_map said result) }
+        ensures nobody { length self.old.env.desks ≤ place_in self.old.env.desks ticket.thread → (self.new ≡ self.old) × (result ≡ None) }
+        ensures home { self.new.home ≡ self.old.home }
     {
         let at = self.place_of(ticket.thread).0 as usize;
         if at >= self.desks.len() {
@@ -106,8 +117,9 @@ impl Env {
     /// The answer to a posted call that was not collected. It waits until the answer is there. The ticket is then no longer
     /// out.
     pub fn collect<R: Wait>(&mut self, rt: &R, ticket: Ticket) -> Answer
-        requires out { IsOut self.old ticket }
-        ensures collects { Collects self.old self.new ticket (said result) }
+        requires out { IsOut self.old.env ticket }
+        ensures collects { Collects self.old.env self.new.env ticket (said result) }
+        ensures home { self.new.home ≡ self.old.home }
     {
         let at = self.place_of(ticket.thread).0 as usize;
         self.desks[at].collect(rt, ticket)

@@ -1,6 +1,7 @@
 //! Stack traces of several threads at once, under one turn.
 
 use crate::env::Env;
+use crate::home::Home;
 use crate::thread_counts::{
     all_threads, all_with_one_read, are_all_paid, count_each, counted_threads,
 };
@@ -126,14 +127,14 @@ fn trace_each<R: Wait>(
     standing.go(rt, desks)
 }
 
-impl Env {
+impl<H: Home> Env<H> {
     /// How many threads there are, if all may be traced. It does not try the memory. 103 ILLEGAL_ARGUMENT if `max_count` is
     /// negative, and 209 CALLS_SPENT if a thread has fewer than two calls left.
     pub(crate) fn admit_all(&self, max_count: i32) -> Result<u32, TiError>
-        ensures count { IfOk result (λ n. n ≡ length self.now.state.spent) }
-        ensures desks { IfOk result (λ n. n ≡ length self.now.desks) }
-        ensures admitted { OnOk result (refusal_of_all self.now.state max_count ≡ None) }
-        ensures refused { IfErr result (λ e. refusal_of_all self.now.state max_count ≡ Some e) }
+        ensures count { IfOk result (λ n. n ≡ length self.now.env.state.spent) }
+        ensures desks { IfOk result (λ n. n ≡ length self.now.env.desks) }
+        ensures admitted { OnOk result (refusal_of_all self.now.env.state max_count ≡ None) }
+        ensures refused { IfErr result (λ e. refusal_of_all self.now.env.state max_count ≡ Some e) }
     {
         if max_count < 0 {
             return Err(TiError::IllegalArgument);
@@ -147,7 +148,7 @@ impl Env {
 
     /// Whether there is a desk at each thread of a list.
     fn are_all_there(&self, threads: &[ThreadNo]) -> bool
-        ensures { result ≡ are_there (length self.now.state.spent) (places_of self.now.desks threads.now) }
+        ensures { result ≡ are_there (length self.now.env.state.spent) (places_of self.now.env.desks threads.now) }
     {
         let count = self.state.threads();
         for i in 0..threads.len() {
@@ -164,7 +165,7 @@ impl Env {
         alloc: Global,
         threads: &[ThreadNo],
     ) -> Result<Vec<ThreadNo>, TiError>
-        ensures all { IfOk result (λ v. v.items ≡ places_of self.now.desks threads.now) }
+        ensures all { IfOk result (λ v. v.items ≡ places_of self.now.env.desks threads.now) }
         ensures memory { IfErr result (λ e. e ≡ OutOfMemory) }
     {
         let mut places = Vec::with_capacity(alloc, threads.len())?;
@@ -177,8 +178,8 @@ impl Env {
     /// Whether the threads of a list may be traced. It tries neither their calls nor the memory. 10 INVALID_THREAD if there
     /// is no desk at one of them, and 103 ILLEGAL_ARGUMENT if `max_count` is negative.
     pub(crate) fn admit_list(&self, threads: &[ThreadNo], max_count: i32) -> Result<(), TiError>
-        ensures admitted { OnOk result (refusal_of_list self.now.state (places_of self.now.desks threads.now) max_count ≡ None) }
-        ensures refused { IfErr result (λ e. refusal_of_list self.now.state (places_of self.now.desks threads.now) max_count ≡ Some e) }
+        ensures admitted { OnOk result (refusal_of_list self.now.env.state (places_of self.now.env.desks threads.now) max_count ≡ None) }
+        ensures refused { IfErr result (λ e. refusal_of_list self.now.env.state (places_of self.now.env.desks threads.now) max_count ≡ Some e) }
     {
         if !self.are_all_there(threads) {
             return Err(TiError::InvalidThread);
@@ -200,13 +201,14 @@ impl Env {
         places: &[ThreadNo],
         max_count: i32,
     ) -> Result<(Vec<StackInfo>, Round), TiError>
-        requires stopping { stopping.now ≡ each_once (length self.old.state.spent) places.now }
-        requires there { are_there (length self.old.state.spent) places.now ≡ true }
-        requires paid { are_paid self.old.state stopping.now ≡ true }
+        requires stopping { stopping.now ≡ each_once (length self.old.env.state.spent) places.now }
+        requires there { are_there (length self.old.env.state.spent) places.now ≡ true }
+        requires paid { are_paid self.old.env.state stopping.now ≡ true }
         requires count { is_not_negative max_count ≡ true }
-        ensures traced { IfOk result (λ r. IsTraced self.old self.new max_count stopping.now places.now (threads_at self.old.desks places.now) r.0.items r.1) }
+        ensures traced { IfOk result (λ r. IsTraced self.old.env self.new.env max_count stopping.now places.now (threads_at self.old.env.desks places.now) r.0.items r.1) }
         ensures memory { IfErr result (λ e. e ≡ OutOfMemory) }
         ensures unchanged { OnErr result (self.new ≡ self.old) }
+        ensures home { self.new.home ≡ self.old.home }
     {
         let bufs = buffers(alloc, places.len(), max_count, self.state.limits().depth)?;
         let mut infos = Vec::with_capacity(alloc, places.len())?;
@@ -247,10 +249,11 @@ impl Env {
         turn: &Mutex<VmTurn>,
         max_count: i32,
     ) -> Result<(Vec<StackInfo>, Round), TiError>
-        ensures admitted { OnOk result (refusal_of_all self.old.state max_count ≡ None) }
-        ensures traced { IfOk result (λ r. TracesAlive self.old self.new max_count r.0.items r.1) }
-        ensures refused { IfErr result (λ e. Some e ≡ or_else (refusal_of_all self.old.state max_count) (Some OutOfMemory)) }
+        ensures admitted { OnOk result (refusal_of_all self.old.env.state max_count ≡ None) }
+        ensures traced { IfOk result (λ r. TracesAlive self.old.env self.new.env max_count r.0.items r.1) }
+        ensures refused { IfErr result (λ e. Some e ≡ or_else (refusal_of_all self.old.env.state max_count) (Some OutOfMemory)) }
         ensures unchanged { OnErr result (self.new ≡ self.old) }
+        ensures home { self.new.home ≡ self.old.home }
     {
         let count = self.admit_all(max_count)?;
         let places = all_threads(alloc, count)?;
@@ -285,11 +288,12 @@ impl Env {
         threads: &[ThreadNo],
         max_count: i32,
     ) -> Result<(Vec<StackInfo>, Round), TiError>
-        ensures admitted { OnOk result (refusal_of_list self.old.state (places_of self.old.desks threads.now) max_count ≡ None) }
-        ensures paid { OnOk result (refusal_of_counted self.old.state (places_of self.old.desks threads.now) ≡ None) }
-        ensures traced { IfOk result (λ r. IsTraced self.old self.new max_count (each_once (length self.old.desks) (places_of self.old.desks threads.now)) (places_of self.old.desks threads.now) threads.now r.0.items r.1) }
-        ensures refused { IfErr result (λ e. IsListRefused self.old.state (places_of self.old.desks threads.now) max_count e) }
+        ensures admitted { OnOk result (refusal_of_list self.old.env.state (places_of self.old.env.desks threads.now) max_count ≡ None) }
+        ensures paid { OnOk result (refusal_of_counted self.old.env.state (places_of self.old.env.desks threads.now) ≡ None) }
+        ensures traced { IfOk result (λ r. IsTraced self.old.env self.new.env max_count (each_once (length self.old.env.desks) (places_of self.old.env.desks threads.now)) (places_of self.old.env.desks threads.now) threads.now r.0.items r.1) }
+        ensures refused { IfErr result (λ e. IsListRefused self.old.env.state (places_of self.old.env.desks threads.now) max_count e) }
         ensures unchanged { OnErr result (self.new ≡ self.old) }
+        ensures home { self.new.home ≡ self.old.home }
     {
         self.admit_list(threads, max_count)?;
         let places = self.places(alloc, threads)?;

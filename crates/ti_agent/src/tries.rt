@@ -6,12 +6,15 @@
 
 use crate::env::Env;
 use crate::free_desk::FreeDesk;
+use crate::home::Home;
 use crate::posts::buffer_for;
 use std::alloc::Global;
+use std::sync::Wait;
+use ti_cell::Pace;
 use ti_slot::Asked;
 use ti_types::{Answer, Call, ThreadNo, TiError, Ticket, TraceBuf};
 
-impl Env {
+impl<H: Home> Env<H> {
     /// Wakes whoever sleeps at a thread and may go on: the thread itself, or another environment. A program in which others sleep
     /// calls it after calls that never wait. It is one load if nobody sleeps. Nothing happens if there is no desk there.
     pub fn wake_sleepers_at(&self, thread: ThreadNo) {
@@ -21,26 +24,36 @@ impl Env {
         }
     }
 
+    /// Waits a little, after a try that found a thread's cell in use, as the call's pace has it. It may sleep until the cell is
+    /// free, and may return while it is in use. Nothing happens if there is no desk there.
+    pub(crate) fn await_free_at<R: Wait>(&self, rt: &R, thread: ThreadNo, pace: &Pace) {
+        let place = self.place_of(thread);
+        if place.0 < self.state.threads() {
+            self.desks[place.0 as usize].await_free(rt, pace);
+        }
+    }
+
     /// Posts an admitted call for which there is room, at the thread at this place, and tries to hold its cell just once.
     /// The buffer has just the room that the call takes.
     ///
     /// The error is `Busy` (215) if the cell is in use. Then nothing changes.
-    fn try_post_one(
+    fn post_one_now(
         &mut self,
         thread: ThreadNo,
         place: ThreadNo,
         call: Call,
         buf: TraceBuf,
     ) -> Result<Asked, TiError>
-        requires place { place ≡ place_of self.old.desks thread }
-        requires admitted { thread_refusal self.old thread call ≡ None }
-        requires room { (waits call && is_full self.old thread) ≡ false }
-        requires buf { IsJustBufferOf self.old.state.limits call buf }
-        ensures posts { IfOk result (λ a. Posts self.old self.new thread call a) }
+        requires place { place ≡ place_of self.old.env.desks thread }
+        requires admitted { thread_refusal self.old.env thread call ≡ None }
+        requires room { (waits call && is_full self.old.env thread) ≡ false }
+        requires buf { IsJustBufferOf self.old.env.state.limits call buf }
+        ensures posts { IfOk result (λ a. Posts self.old.env self.new.env thread call a) }
         ensures busy { IfErr result (λ e. (e ≡ Busy) × (self.new ≡ self.old)) }
+        ensures home { self.new.home ≡ self.old.home }
     {
         let _thread = thread;
-        match self.desks[place.0 as usize].try_post(call, buf) {
+        match self.desks[place.0 as usize].post_now(call, buf) {
             Ok(asked) => {
                 self.state.spend(place);
                 Ok(asked)
@@ -86,29 +99,30 @@ impl Env {
     /// # assert!(rt; env.add_desk(free).is_ok());
     /// // While another user holds the thread's cell, nothing is posted.
     /// let hold = cell.hold(&rt, other);
-    /// let posted = env.try_post(alloc, thread, Call::FrameCount);
+    /// let posted = env.post_now(alloc, thread, Call::FrameCount);
     /// let _other = hold.store();
     /// assert!(rt; matches!(posted, Err(TiError::Busy)));
-    /// let Asked::Waiting(ticket) = env.try_post(alloc, thread, Call::FrameCount)? else {
+    /// let Asked::Waiting(ticket) = env.post_now(alloc, thread, Call::FrameCount)? else {
     ///     return Err("a running thread answers later".into());
     /// };
-    /// assert!(rt; env.try_collect_once(ticket)?.is_none());
-    /// let Ok(Polled::Go(_running)) = running.try_poll() else {
+    /// assert!(rt; env.collect_now(ticket)?.is_none());
+    /// let Ok(Polled::Go(_running)) = running.poll_now() else {
     ///     return Err("nothing bars the thread".into());
     /// };
-    /// assert!(rt; matches!(env.try_collect_once(ticket)?, Some(Answer::Count(0))));
+    /// assert!(rt; matches!(env.collect_now(ticket)?, Some(Answer::Count(0))));
     /// ```
-    pub fn try_post(
+    pub fn post_now(
         &mut self,
         alloc: Global,
         thread: ThreadNo,
         call: Call,
     ) -> Result<Asked, TiError>
-        ensures admitted { IfOk result (λ a. posting_refusal self.old thread call ≡ None) }
-        ensures posts { IfOk result (λ a. Posts self.old self.new thread call a) }
-        ensures out { IfOk result (λ a. IsOutIfWaiting self.new a) }
-        ensures refused { IfErr result (λ e. (Some e ≡ or_else (posting_refusal self.old thread call) (if takes_buffer call then Some OutOfMemory else None)) ⊎ ((e ≡ Busy) × (posting_refusal self.old thread call ≡ None))) }
+        ensures admitted { IfOk result (λ a. posting_refusal self.old.env thread call ≡ None) }
+        ensures posts { IfOk result (λ a. Posts self.old.env self.new.env thread call a) }
+        ensures out { IfOk result (λ a. IsOutIfWaiting self.new.env a) }
+        ensures refused { IfErr result (λ e. (Some e ≡ or_else (posting_refusal self.old.env thread call) (if takes_buffer call then Some OutOfMemory else None)) ⊎ ((e ≡ Busy) × (posting_refusal self.old.env thread call ≡ None))) }
         ensures unchanged { IfErr result (λ e. self.new ≡ self.old) }
+        ensures home { self.new.home ≡ self.old.home }
     {
         let place = match self.admit(thread, call) {
             Ok(place) => place,
@@ -118,7 +132,7 @@ impl Env {
             return Err(TiError::Full);
         }
         match buffer_for(alloc, self.state.limits(), call) {
-            Ok(buf) => self.try_post_one(thread, place, call, buf),
+            Ok(buf) => self.post_one_now(thread, place, call, buf),
             Err(error) => Err(error),
         }
     }
@@ -130,21 +144,22 @@ impl Env {
     /// collected.
     ///
     /// The error is 215 (this profile: `Busy`) if the thread's cell is in use. Then nothing changes.
-    pub fn try_collect_once(&mut self, ticket: Ticket) -> Result<Option<Answer>, TiError>
-        ensures looks { IfOk result (λ r. place_in self.old.desks ticket.thread < length self.old.desks → LooksFor self.old self.new ticket (option_map said r)) }
-        ensures nobody { length self.old.desks ≤ place_in self.old.desks ticket.thread → (self.new ≡ self.old) × (result ≡ Ok None) }
+    pub fn collect_now(&mut self, ticket: Ticket) -> Result<Option<Answer>, TiError>
+        ensures looks { IfOk result (λ r. place_in self.old.env.desks ticket.thread < length self.old.env.desks → LooksFor self.old.env self.new.env ticket (option_map said r)) }
+        ensures nobody { length self.old.env.desks ≤ place_in self.old.env.desks ticket.thread → (self.new ≡ self.old) × (result ≡ Ok None) }
         ensures busy { IfErr result (λ e. e ≡ Busy) }
         ensures unchanged { OnErr result (self.new ≡ self.old) }
+        ensures home { self.new.home ≡ self.old.home }
     {
         let at = self.place_of(ticket.thread).0 as usize;
         if at >= self.desks.len() {
             return Ok(None);
         }
-        self.desks[at].try_collect_once(ticket)
+        self.desks[at].collect_now(ticket)
     }
 
     /// Gives up a call that was posted and not collected (this profile). It is the same as `cancel`, but tries to hold the
-    /// thread's cell just once. The call still takes place when the thread reaches it. It is out until `try_discard` or
+    /// thread's cell just once. The call still takes place when the thread reaches it. It is out until `discard_now` or
     /// `discard` throws its answer away.
     ///
     /// A ticket that is not out at this environment, or was given up before, is left as it is.
@@ -153,17 +168,18 @@ impl Env {
     ///
     /// - 110 OUT_OF_MEMORY: there is no memory to note that the call was given up.
     /// - 215 (this profile: `Busy`): the thread's cell is in use.
-    pub fn try_cancel(&mut self, alloc: Global, ticket: Ticket) -> Result<(), TiError>
-        ensures cancels { OnOk result (place_in self.old.desks ticket.thread < length self.old.desks → Cancels self.old self.new ticket) }
-        ensures nobody { length self.old.desks ≤ place_in self.old.desks ticket.thread → (self.new ≡ self.old) × IsOk result }
+    pub fn cancel_now(&mut self, alloc: Global, ticket: Ticket) -> Result<(), TiError>
+        ensures cancels { OnOk result (place_in self.old.env.desks ticket.thread < length self.old.env.desks → Cancels self.old.env self.new.env ticket) }
+        ensures nobody { length self.old.env.desks ≤ place_in self.old.env.desks ticket.thread → (self.new ≡ self.old) × IsOk result }
         ensures refused { IfErr result (λ e. (e ≡ OutOfMemory) ⊎ (e ≡ Busy)) }
         ensures unchanged { OnErr result (self.new ≡ self.old) }
+        ensures home { self.new.home ≡ self.old.home }
     {
         let at = self.place_of(ticket.thread).0 as usize;
         if at >= self.desks.len() {
             return Ok(());
         }
-        self.desks[at].try_cancel(alloc, ticket)
+        self.desks[at].cancel_now(alloc, ticket)
     }
 
     /// Looks for the answer to the call that was given up first at a thread (this profile). It is the same as `discard`, but
@@ -173,35 +189,37 @@ impl Env {
     /// such thread.
     ///
     /// The error is 215 (this profile: `Busy`) if the thread's cell is in use. Then nothing changes.
-    pub fn try_discard(&mut self, thread: ThreadNo) -> Result<bool, TiError>
-        ensures discards { IfOk result (λ thrown. place_in self.old.desks thread < length self.old.desks → DiscardsAt self.old self.new thread thrown) }
-        ensures nobody { length self.old.desks ≤ place_in self.old.desks thread → (self.new ≡ self.old) × (result ≡ Ok false) }
+    pub fn discard_now(&mut self, thread: ThreadNo) -> Result<bool, TiError>
+        ensures discards { IfOk result (λ thrown. place_in self.old.env.desks thread < length self.old.env.desks → DiscardsAt self.old.env self.new.env thread thrown) }
+        ensures nobody { length self.old.env.desks ≤ place_in self.old.env.desks thread → (self.new ≡ self.old) × (result ≡ Ok false) }
         ensures busy { IfErr result (λ e. e ≡ Busy) }
         ensures unchanged { OnErr result (self.new ≡ self.old) }
+        ensures home { self.new.home ≡ self.old.home }
     {
         let at = self.place_of(thread).0 as usize;
         if at >= self.desks.len() {
             return Ok(false);
         }
-        self.desks[at].try_discard()
+        self.desks[at].discard_now()
     }
 
     /// Gives up all calls that are out at a thread, and sets the environment's word there to 0, if a call is left. It tries to
     /// hold the thread's cell just once, for both. The place is the thread's, and there is a desk.
     ///
     /// The error is 110 OUT_OF_MEMORY, or `Busy` (215) if the cell is in use. Then nothing changes.
-    fn try_empty(&mut self, alloc: Global, thread: ThreadNo, place: ThreadNo) -> Result<(), TiError>
-        requires place { place ≡ place_of self.old.desks thread }
-        requires there { place_in self.old.desks thread < length self.old.desks }
-        ensures emptied { OnOk result (IsEmptied self.old self.new thread) }
+    fn empty_now(&mut self, alloc: Global, thread: ThreadNo, place: ThreadNo) -> Result<(), TiError>
+        requires place { place ≡ place_of self.old.env.desks thread }
+        requires there { place_in self.old.env.desks thread < length self.old.env.desks }
+        ensures emptied { OnOk result (IsEmptied self.old.env self.new.env thread) }
         ensures refused { IfErr result (λ e. (e ≡ OutOfMemory) ⊎ (e ≡ Busy)) }
         ensures unchanged { OnErr result (self.new ≡ self.old) }
+        ensures home { self.new.home ≡ self.old.home }
     {
         let _thread = thread;
         if self.state.left(place) == 0 {
-            return self.desks[place.0 as usize].try_cancel_all(alloc);
+            return self.desks[place.0 as usize].cancel_all_now(alloc);
         }
-        match self.desks[place.0 as usize].try_clear(alloc) {
+        match self.desks[place.0 as usize].clear_now(alloc) {
             Ok(()) => {
                 self.state.spend(place);
                 Ok(())
@@ -222,23 +240,24 @@ impl Env {
     ///
     /// - 110 OUT_OF_MEMORY: there is no memory to note the calls that are given up.
     /// - 215 (this profile: `Busy`): the thread's cell is in use.
-    pub fn try_clear_desk(
+    pub fn clear_desk_now(
         &mut self,
         alloc: Global,
         thread: ThreadNo,
     ) -> Result<Option<FreeDesk>, TiError>
-        ensures cleared { IfOk result (λ r. IfSome r (λ f. IsCleared self.old self.new thread f)) }
-        ensures nobody { IfOk result (λ r. IfNone r (length self.old.desks ≤ place_in self.old.desks thread)) }
+        ensures cleared { IfOk result (λ r. IfSome r (λ f. IsCleared self.old.env self.new.env thread f)) }
+        ensures nobody { IfOk result (λ r. IfNone r (length self.old.env.desks ≤ place_in self.old.env.desks thread)) }
         ensures same { IfOk result (λ r. IfNone r (self.new ≡ self.old)) }
         ensures refused { IfErr result (λ e. (e ≡ OutOfMemory) ⊎ (e ≡ Busy)) }
-        ensures there { OnErr result (place_in self.old.desks thread < length self.old.desks) }
+        ensures there { OnErr result (place_in self.old.env.desks thread < length self.old.env.desks) }
         ensures unchanged { OnErr result (self.new ≡ self.old) }
+        ensures home { self.new.home ≡ self.old.home }
     {
         let place = self.place_of(thread);
         if place.0 >= self.desk_count() {
             return Ok(None);
         }
-        match self.try_empty(alloc, thread, place) {
+        match self.empty_now(alloc, thread, place) {
             Ok(()) => (),
             Err(error) => return Err(error),
         }

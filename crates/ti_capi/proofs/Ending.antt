@@ -1,10 +1,9 @@
 -- The end of what lies behind a handle.
-use Rattle.std.proofs.Common.{◌≡◌, ℕ, ◌⊎◌, inl, inr, Option, Some, refl, sym, ap, subst, ◌∙◌, arith}
+use Rattle.std.proofs.Common.{◌≡◌, ℕ, inl, inr, Option, Some, refl, sym, ap, subst, ◌∙◌, arith}
 use Rattle.ti_types.specs.TiError.{number_of}
 use Rattle.ti_types.specs.declared.error.TiError.{TiError}
-use Rattle.ti_types.specs.declared.error.TiError.TheVariants.{Busy, Full, OutOfMemory}
-use Rattle.ti_service.specs.Agent.{AgentState}
 use Rattle.ti_service.specs.Leaving.{StaysOn, NotCleared, NotLeft}
+use Rattle.ti_service.specs.Memberships.{AgentValue, state_of}
 use Rattle.ti_capi.specs.declared.held.HeldEnv.{HeldEnv}
 use Rattle.ti_capi.specs.declared.held.HeldThread.{HeldThread}
 use Rattle.ti_capi.specs.Disposing.{DisposesBy, DisposesIn, NoEnvironment, DisposedIn, StaysIn, Disposed, StaysBehind}
@@ -13,7 +12,7 @@ use Rattle.ti_capi.specs.Handles.{EnvHandle, ThreadHandle, agent_behind, agent_i
 use Rattle.ti_capi.proofs.Behind.{same_env}
 
 -- a refusal has no code 0
-refused_not_0 : (s n : AgentState) (e : TiError) → StaysOn s n e → (code : ℕ) → code ≡ number_of e → code ≡ 0 → ⊥
+refused_not_0 : (s n : AgentValue) (e : TiError) → StaysOn (state_of s) (state_of n) e → (code : ℕ) → code ≡ number_of e → code ≡ 0 → ⊥
 refused_not_0 s n e (NotCleared (inl is) same all) code c z = let f = c ∙ ap number_of is in omega (arith, f, z)
 refused_not_0 s n e (NotCleared (inr is) same all) code c z = let f = c ∙ ap number_of is in omega (arith, f, z)
 refused_not_0 s n e (NotLeft is over cell looks all) code c z = let f = c ∙ ap number_of is in omega (arith, f, z)
@@ -22,16 +21,16 @@ refused_not_0 s n e (NotLeft is over cell looks all) code c z = let f = c ∙ ap
 pub disposed : (old new : EnvHandle) (h n : HeldEnv) (code : ℕ) → old.place.env ≡ Some h → DisposesIn h n code → code ≡ 0 → new.kind ≡ 0 → DisposesBy (agent_in old) old new code
 disposed old new h n code is (NoEnvironment c on nn) z k = absurd (omega (arith, c, z))
 disposed old new h n code is (DisposedIn s m c there gone d) z k =
-    subst (λ (o : Option AgentState). DisposesBy o old new code) (sym (ap agent_behind is ∙ there)) (Disposed m c k d)
+    subst (λ (o : Option AgentValue). DisposesBy o old new code) (sym (ap agent_behind is ∙ there)) (Disposed m c k d)
 disposed old new h n code is (StaysIn s a e c there stays st ev) z k = absurd (refused_not_0 s a e st code c z)
 
 -- it was not
 pub remains : (old : EnvHandle) (h n : HeldEnv) (code : ℕ) → old.place.env ≡ Some h → DisposesIn h n code → (code ≡ 0 → ⊥) → DisposesBy (agent_in old) old (with_held_env old n) code
 remains old h n code is (NoEnvironment c on nn) nz =
-    subst (λ (o : Option AgentState). DisposesBy o old (with_held_env old n) code) (sym (ap agent_behind is ∙ on)) (same_env old n (is ∙ ap (λ (x : HeldEnv). Some x) (sym nn)), c)
+    subst (λ (o : Option AgentValue). DisposesBy o old (with_held_env old n) code) (sym (ap agent_behind is ∙ on)) (same_env old n (is ∙ ap (λ (x : HeldEnv). Some x) (sym nn)), c)
 remains old h n code is (DisposedIn s m c there gone d) nz = absurd (nz c)
 remains old h n code is (StaysIn s a e c there stays st ev) nz =
-    subst (λ (o : Option AgentState). DisposesBy o old (with_held_env old n) code) (sym (ap agent_behind is ∙ there)) (StaysBehind h a e c is (ap (with_held_env old) stays) st ev)
+    subst (λ (o : Option AgentValue). DisposesBy o old (with_held_env old n) code) (sym (ap agent_behind is ∙ there)) (StaysBehind h a e c is (ap (with_held_env old) stays) st ev)
 
 -- the thread was given back, and the handle is empty
 pub detached : (old new : ThreadHandle) (h n : HeldThread) (code : ℕ) → old.place.thread ≡ Some h → GivesBack h n code → code ≡ 0 → new.kind ≡ 0 → Detaches old.place.thread old new code

@@ -15,7 +15,7 @@ use Rattle.ti_slot.specs.declared.asked.Asked.{Asked as AskedOf}
 use Rattle.ti_slot.specs.declared.asked.Asked.TheVariants.{Answered, Waiting}
 use Rattle.ti_agent.specs.Env.{place_in}
 use Rattle.ti_agent.specs.Posts.{posting_refusal, Posts, LooksFor, IsOutIfWaiting}
-use Rattle.ti_service.specs.Agent.{AgentState, IsRest}
+use Rattle.ti_service.specs.Memberships.{AgentValue}
 use Rattle.ti_capi.specs.declared.values.CqAnswer.{CqAnswer}
 use Rattle.ti_capi.specs.declared.values.CqFrame.{CqFrame}
 use Rattle.ti_capi.specs.Answers.{IsWritten, with_ticket}
@@ -27,12 +27,12 @@ use Rattle.ti_capi.specs.Values.{ticket_written}
 abbrev pub thread_no : ℕ → ThreadNo
 thread_no n = record { 0 = n }
 
--- what the environment says of a post (`ti_service`, `Agent::try_post`)
-abbrev pub IsPosted : ThreadNo → Call → AgentState → AgentState → Result AskedOf TiError → Type 0
-IsPosted t c old new (Ok a) = (posting_refusal old.env t c ≡ None) × Posts old.env new.env t c a × IsOutIfWaiting new.env a × IsRest old new
+-- what the environment says of a post (`ti_service`, `Agent::post_now`)
+abbrev pub IsPosted : ThreadNo → Call → AgentValue → AgentValue → Result AskedOf TiError → Type 0
+IsPosted t c old new (Ok a) = (posting_refusal old.env t c ≡ None) × Posts old.env new.env t c a × IsOutIfWaiting new.env a × (new.home ≡ old.home)
 IsPosted t c old new (Err e) =
     ((Some e ≡ or_else (posting_refusal old.env t c) (if takes_buffer c then Some OutOfMemory else None)) ⊎ ((e ≡ Busy) × (posting_refusal old.env t c ≡ None)))
-    × (new.env ≡ old.env) × IsRest old new
+    × (new ≡ old)
 
 -- what is written of it
 abbrev pub IsPostWritten : Result AskedOf TiError → ℕ → CqAnswer → CqAnswer → List CqFrame → List CqFrame → Type 0
@@ -41,7 +41,7 @@ IsPostWritten (Ok (Waiting k)) code a b f g = (code ≡ waiting) × (b ≡ with_
 IsPostWritten (Err e) code a b f g = (code ≡ number_of e) × (b ≡ a) × (g ≡ f)
 
 -- What is said and written of a call that the environment makes
-pub record Asked (t : ThreadNo) (c : Call) (s n : AgentState) (code : ℕ) (a b : CqAnswer) (f g : List CqFrame) : Type 0 where
+pub record Asked (t : ThreadNo) (c : Call) (s n : AgentValue) (code : ℕ) (a b : CqAnswer) (f g : List CqFrame) : Type 0 where
   pub told : Result AskedOf TiError
   pub is_posted : IsPosted t c s n told
   pub is_written : IsPostWritten told code a b f g
@@ -54,12 +54,12 @@ Asks t c old new code a b f g = Calls (λ s n k. Asked t c s n k a b f g) ((b �
 abbrev pub AsksPlain : ThreadNo → Call → EnvHandle → EnvHandle → ℕ → CqAnswer → CqAnswer → Type 0
 AsksPlain t c old new code a b = (g : List CqFrame) × Asks t c old new code a b [] g
 
--- what the environment says of a collection (`ti_service`, `Agent::try_collect_once`)
-abbrev pub IsCollected : Ticket → AgentState → AgentState → Result (Option Answer) TiError → Type 0
+-- what the environment says of a collection (`ti_service`, `Agent::collect_now`)
+abbrev pub IsCollected : Ticket → AgentValue → AgentValue → Result (Option Answer) TiError → Type 0
 IsCollected k old new (Ok r) =
     (place_in old.env.desks k.thread < length old.env.desks → LooksFor old.env new.env k (option_map said r))
-    × (length old.env.desks ≤ place_in old.env.desks k.thread → (new.env ≡ old.env) × (r ≡ None)) × IsRest old new
-IsCollected k old new (Err e) = (e ≡ Busy) × (new.env ≡ old.env) × IsRest old new
+    × (length old.env.desks ≤ place_in old.env.desks k.thread → (new ≡ old) × (r ≡ None)) × (new.home ≡ old.home)
+IsCollected k old new (Err e) = (e ≡ Busy) × (new ≡ old)
 
 -- what is written of it
 abbrev pub IsCollectionWritten : Result (Option Answer) TiError → ℕ → CqAnswer → CqAnswer → List CqFrame → List CqFrame → Type 0
@@ -67,7 +67,7 @@ IsCollectionWritten (Ok (Some x)) code a b f g = IsWritten x code a b f g
 IsCollectionWritten (Ok None) code a b f g = (code ≡ waiting) × (b ≡ a) × (g ≡ f)
 IsCollectionWritten (Err e) code a b f g = (code ≡ number_of e) × (b ≡ a) × (g ≡ f)
 
-pub record Collected (k : Ticket) (s n : AgentState) (code : ℕ) (a b : CqAnswer) (f g : List CqFrame) : Type 0 where
+pub record Collected (k : Ticket) (s n : AgentValue) (code : ℕ) (a b : CqAnswer) (f g : List CqFrame) : Type 0 where
   pub told : Result (Option Answer) TiError
   pub is_collected : IsCollected k s n told
   pub is_written : IsCollectionWritten told code a b f g

@@ -2,8 +2,8 @@
 use Rattle.std.specs.Prelude.{ℕ, Result, Ok, Err}
 use Rattle.ti_types.specs.declared.error.TiError.{TiError}
 use Rattle.ti_types.specs.TiError.{number_of}
-use Rattle.ti_thread.specs.declared.any_thread.Told.{Told}
-use Rattle.ti_thread.specs.declared.any_thread.Told.TheVariants.{Done, Held, Refused}
+use Rattle.ti_thread.specs.declared.any_thread.TurnOutcome.{TurnOutcome}
+use Rattle.ti_thread.specs.declared.any_thread.TurnOutcome.TheVariants.{Done, Held, Refused}
 
 abbrev pub held : ℕ
 held = 301
@@ -17,7 +17,7 @@ none_told = 303
 abbrev pub misused : ℕ
 misused = 304
 
-abbrev pub code_told : Told → ℕ
+abbrev pub code_told : TurnOutcome → ℕ
 code_told Done = 0
 code_told Held = held
 code_told (Refused e) = number_of e

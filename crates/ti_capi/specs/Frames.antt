@@ -7,7 +7,7 @@ use Rattle.ti_service.specs.Service.{Ends, RefusesEnd}
 use Rattle.ti_thread.specs.AnyThread.{is_running, number_in, may_leave}
 use Rattle.ti_thread.specs.Changes.{SetsFrames}
 use Rattle.ti_thread.specs.declared.any_thread.AnyThread.{AnyThread}
-use Rattle.ti_thread.specs.declared.any_thread.Told.{Told}
+use Rattle.ti_thread.specs.declared.any_thread.TurnOutcome.{TurnOutcome}
 use Rattle.ti_capi.specs.declared.held.HeldThread.{HeldThread}
 use Rattle.ti_capi.specs.declared.values.CqFrame.{CqFrame}
 use Rattle.ti_capi.specs.Codes.{code_told, misused}
@@ -19,7 +19,7 @@ pub data SetsFor (frames : List CqFrame) (t n : AnyThread) (code : ℕ) : Type 0
   NotRuns : code ≡ number_of NotRunning → is_running t ≡ false → n ≡ t → SetsFor frames t n code
   NoFrames : code ≡ number_of IllegalArgument → is_running t ≡ true → are_frames frames ≡ false → n ≡ t → SetsFor frames t n code
   NoRoom : code ≡ number_of OutOfMemory → is_running t ≡ true → n ≡ t → SetsFor frames t n code
-  FramesSet : (told : Told) → are_frames frames ≡ true → SetsFrames (map frame_of frames) t n told → code ≡ code_told told → SetsFor frames t n code
+  FramesSet : (told : TurnOutcome) → are_frames frames ≡ true → SetsFrames (map frame_of frames) t n told → code ≡ code_told told → SetsFor frames t n code
 
 abbrev pub SetsTo : Option AnyThread → Option AnyThread → List CqFrame → HeldThread → HeldThread → ℕ → Type 0
 SetsTo (Some t) (Some n) frames old new code = (new.service ≡ old.service) × SetsFor frames t n code
@@ -38,7 +38,7 @@ SetsBehind None n frames old new code = (new ≡ old) × (code ≡ misused)
 abbrev pub Sets : List CqFrame → ThreadHandle → ThreadHandle → ℕ → Type 0
 Sets frames old new code = SetsBehind old.place.thread new.place.thread frames old new code
 
--- A thread is given back, if it has ended or never started (`ti_service`, `Service::try_end_thread`, `try_withdraw_thread`)
+-- A thread is given back, if it has ended or never started (`ti_service`, `Service::end_thread_now`, `withdraw_thread_now`)
 pub data GivesBackFor (t : AnyThread) (old new : HeldThread) (code : ℕ) : Type 0 where
   Gone : code ≡ 0 → may_leave t ≡ true → new.thread ≡ None → new.service.cell ≡ old.service.cell → Ends old.service.view new.service.view (number_in t) → GivesBackFor t old new code
   NotGone : (e : TiError) → code ≡ number_of e → may_leave t ≡ true → new.thread ≡ Some t → new.service.cell ≡ old.service.cell

@@ -1,7 +1,6 @@
 -- Handles, and what lies behind them.
 use Rattle.std.specs.Prelude.{ℕ, Option, Some, None}
-use Rattle.ti_service.specs.Agent.{AgentState}
-use Rattle.ti_service.specs.Gathering.{TraceState}
+use Rattle.ti_service.specs.Memberships.{AgentValue, TraceValue}
 use Rattle.ti_service.specs.Service.{Member}
 use Rattle.ti_thread.specs.declared.any_thread.AnyThread.{AnyThread}
 use Rattle.ti_capi.specs.declared.held.HeldThread.{HeldThread}
@@ -35,19 +34,19 @@ abbrev pub with_held_env : EnvHandle → HeldEnv → EnvHandle
 with_held_env h x = record { kind = h.kind; place = at_with_env h.place x }
 
 -- the environment behind a handle
-abbrev pub agent_behind : Option HeldEnv → Option AgentState
+abbrev pub agent_behind : Option HeldEnv → Option AgentValue
 agent_behind (Some h) = h.agent
 agent_behind None = None
 
-abbrev pub agent_in : EnvHandle → Option AgentState
+abbrev pub agent_in : EnvHandle → Option AgentValue
 agent_in h = agent_behind h.place.env
 
 -- the same thing behind a handle, with this environment, or with none
-abbrev pub env_held_with : HeldEnv → Option AgentState → HeldEnv
+abbrev pub env_held_with : HeldEnv → Option AgentValue → HeldEnv
 env_held_with h a = record { agent = a; trace = h.trace; stacks = h.stacks }
 
 -- the same with this trace
-abbrev pub env_held_tracing : HeldEnv → TraceState → HeldEnv
+abbrev pub env_held_tracing : HeldEnv → TraceValue → HeldEnv
 env_held_tracing h t = record { agent = h.agent; trace = Some t; stacks = h.stacks }
 
 -- the same thing behind a handle, with another thread

@@ -10,7 +10,8 @@ use Rattle.ti_cell.specs.Seats.{Sitting}
 use Rattle.ti_roster.specs.declared.info.ThreadInfo.{ThreadInfo}
 use Rattle.ti_roster.specs.Roster.{coming_refusal}
 use Rattle.ti_roster.specs.View.{first_view, split_off, splitter}
-use Rattle.ti_service.specs.Agent.{AgentState, IsNewAgent}
+use Rattle.ti_service.specs.Agent.{IsNewAgent}
+use Rattle.ti_service.specs.Memberships.{AgentValue, state_of}
 use Rattle.ti_service.specs.Service.{Attaches as AttachesTo, Looks, Member, RefusesPlace, roster_seen, with_handle}
 use Rattle.ti_thread.specs.declared.any_thread.AnyThread.TheVariants.{Fresh}
 use Rattle.ti_capi.specs.declared.held.HeldEnv.{HeldEnv}
@@ -115,7 +116,7 @@ Attaches name priority s0 s1 old new code = AttachesBehind s0.place.service s1.p
 
 -- the box of an environment that was just attached
 abbrev pub HasNewAgent : Member → HeldEnv → Type 0
-HasNewAgent m held = (a : AgentState) × (held.agent ≡ Some a) × IsNewAgent m a × (held.trace ≡ None) × (held.stacks ≡ None)
+HasNewAgent m held = (a : AgentValue) × (held.agent ≡ Some a) × IsNewAgent m (state_of a) × (held.trace ≡ None) × (held.stacks ≡ None)
 
 -- Why no environment came: there was no memory for its box, the service had no place for it, or the service was in use. No
 -- place is taken then

@@ -4,7 +4,7 @@ use Rattle.ti_types.specs.declared.numbers.MethodNo.{MethodNo}
 use Rattle.ti_thread.specs.AnyThread.{number_in}
 use Rattle.ti_thread.specs.Changes.{LooksFor}
 use Rattle.ti_thread.specs.declared.any_thread.AnyThread.{AnyThread}
-use Rattle.ti_thread.specs.declared.any_thread.Told.{Told}
+use Rattle.ti_thread.specs.declared.any_thread.TurnOutcome.{TurnOutcome}
 use Rattle.ti_capi.specs.declared.held.HeldThread.{HeldThread}
 use Rattle.ti_capi.specs.Codes.{code_told, misused}
 use Rattle.ti_capi.specs.Handles.{ThreadHandle, held_with, with_held}
@@ -13,27 +13,27 @@ abbrev pub method_no : ℕ → MethodNo
 method_no n = record { 0 = n }
 
 -- A call of the thread of a box comes to what this relation says, and to its code. Nothing else of the box changes
-pub record ChangesFor (t n : AnyThread) (R : AnyThread → AnyThread → Told → Type 0) (old new : HeldThread) (code : ℕ) : Type 0 where
-  pub told : Told
+pub record ChangesFor (t n : AnyThread) (R : AnyThread → AnyThread → TurnOutcome → Type 0) (old new : HeldThread) (code : ℕ) : Type 0 where
+  pub told : TurnOutcome
   pub says : R t n told
   pub code_is : code ≡ code_told told
   pub box : new ≡ held_with old n
 
-abbrev pub ChangesTo : Option AnyThread → Option AnyThread → (AnyThread → AnyThread → Told → Type 0) → HeldThread → HeldThread → ℕ → Type 0
+abbrev pub ChangesTo : Option AnyThread → Option AnyThread → (AnyThread → AnyThread → TurnOutcome → Type 0) → HeldThread → HeldThread → ℕ → Type 0
 ChangesTo (Some t) (Some n) R old new code = ChangesFor t n R old new code
 ChangesTo (Some t) None R old new code = ⊥
 ChangesTo None n R old new code = (new ≡ old) × (code ≡ misused)
 
-abbrev pub ChangesIn : (AnyThread → AnyThread → Told → Type 0) → HeldThread → HeldThread → ℕ → Type 0
+abbrev pub ChangesIn : (AnyThread → AnyThread → TurnOutcome → Type 0) → HeldThread → HeldThread → ℕ → Type 0
 ChangesIn R old new code = ChangesTo old.thread new.thread R old new code
 
 -- the same behind a handle: if it is empty or of another kind, nothing changes
-abbrev pub ChangesBehind : Option HeldThread → Option HeldThread → (AnyThread → AnyThread → Told → Type 0) → ThreadHandle → ThreadHandle → ℕ → Type 0
+abbrev pub ChangesBehind : Option HeldThread → Option HeldThread → (AnyThread → AnyThread → TurnOutcome → Type 0) → ThreadHandle → ThreadHandle → ℕ → Type 0
 ChangesBehind (Some h) (Some n) R old new code = (new ≡ with_held old n) × ChangesIn R h n code
 ChangesBehind (Some h) None R old new code = ⊥
 ChangesBehind None n R old new code = (new ≡ old) × (code ≡ misused)
 
-abbrev pub Changes : (AnyThread → AnyThread → Told → Type 0) → ThreadHandle → ThreadHandle → ℕ → Type 0
+abbrev pub Changes : (AnyThread → AnyThread → TurnOutcome → Type 0) → ThreadHandle → ThreadHandle → ℕ → Type 0
 Changes R old new code = ChangesBehind old.place.thread new.place.thread R old new code
 
 -- one look at the word of the thread of a box

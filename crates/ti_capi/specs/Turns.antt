@@ -4,7 +4,7 @@ use Rattle.ti_types.specs.declared.state.Kind.{Kind}
 use Rattle.ti_types.specs.declared.state.Safe.TheVariants.{Native as IntoNative, Blocked as IntoBlocked}
 use Rattle.ti_thread.specs.Turns.{Starts, Polls, HandsOver, Returns, Ends}
 use Rattle.ti_thread.specs.declared.any_thread.AnyThread.{AnyThread}
-use Rattle.ti_thread.specs.declared.any_thread.Told.{Told}
+use Rattle.ti_thread.specs.declared.any_thread.TurnOutcome.{TurnOutcome}
 use Rattle.ti_capi.specs.Codes.{misused}
 use Rattle.ti_capi.specs.Handles.{ThreadHandle}
 use Rattle.ti_capi.specs.Threads.{Changes}
@@ -12,7 +12,7 @@ use Rattle.ti_capi.specs.declared.held.HeldThread.{HeldThread}
 use Rattle.ti_capi.specs.declared.thread_turns.Turn.{Turn}
 use Rattle.ti_capi.specs.declared.thread_turns.Turn.TheVariants as turn
 
-abbrev pub TakesTurn : Turn → AnyThread → AnyThread → Told → Type 0
+abbrev pub TakesTurn : Turn → AnyThread → AnyThread → TurnOutcome → Type 0
 TakesTurn turn.Start = Starts
 TakesTurn turn.Poll = Polls
 TakesTurn turn.Native = HandsOver IntoNative

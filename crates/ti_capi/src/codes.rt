@@ -1,6 +1,6 @@
 //! The codes that are no error of a thread's or of an environment's.
 
-use ti_thread::Told;
+use ti_thread::TurnOutcome;
 use ti_types::TiError;
 
 /// All is done, or the answer is there.
@@ -15,13 +15,13 @@ pub const CQ_NONE: u32 = 303;
 pub const CQ_MISUSED: u32 = 304;
 
 /// The code of what a thread's own call comes to.
-pub fn told_code(told: Told) -> u32
+pub fn told_code(told: TurnOutcome) -> u32
     ensures { result ≡ code_told told }
 {
     match told {
-        Told::Done => CQ_OK,
-        Told::Held => CQ_HELD,
-        Told::Refused(error) => error.number(),
+        TurnOutcome::Done => CQ_OK,
+        TurnOutcome::Held => CQ_HELD,
+        TurnOutcome::Refused(error) => error.number(),
     }
 }
 

@@ -23,7 +23,7 @@ pub extern "C" fn cq_collect(
     let Some(agent) = &mut held.agent else {
         return CQ_MISUSED;
     };
-    match agent.try_collect_once(ticket_in(*ticket)) {
+    match agent.collect_now(ticket_in(*ticket)) {
         Ok(Some(told)) => write_answer(told, answer, frames),
         Ok(None) => CQ_WAITING,
         Err(error) => error.number(),
@@ -41,7 +41,7 @@ pub extern "C" fn cq_cancel(alloc: Global, env: &mut CqEnv, ticket: &CqTicket) -
     let Some(agent) = &mut held.agent else {
         return CQ_MISUSED;
     };
-    match agent.try_cancel(alloc, ticket_in(*ticket)) {
+    match agent.cancel_now(alloc, ticket_in(*ticket)) {
         Ok(()) => CQ_OK,
         Err(error) => error.number(),
     }
@@ -58,7 +58,7 @@ pub extern "C" fn cq_discard(env: &mut CqEnv, thread: u32, thrown: &mut bool) ->
     let Some(agent) = &mut held.agent else {
         return CQ_MISUSED;
     };
-    match agent.try_discard(ThreadNo(thread)) {
+    match agent.discard_now(ThreadNo(thread)) {
         Ok(is_thrown) => {
             *thrown = is_thrown;
             CQ_OK

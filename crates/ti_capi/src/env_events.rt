@@ -5,6 +5,7 @@ use crate::env_handle::CqEnv;
 use crate::held::HeldEnv;
 use crate::values::{CqEvent, event_out};
 use std::alloc::Global;
+use ti_service::ServiceTries;
 
 /// SetEventNotificationMode (JVM TI 11), of ThreadStart and ThreadEnd.
 #[unsafe(no_mangle)]
@@ -17,7 +18,7 @@ pub extern "C" fn cq_set_event_notification_mode(env: &mut CqEnv, enabled: bool)
     let Some(agent) = &mut held.agent else {
         return CQ_MISUSED;
     };
-    done_code(agent.try_set_event_notification_mode(enabled))
+    done_code(agent.set_event_notification_mode_now(enabled))
 }
 
 /// The next event.
@@ -31,7 +32,7 @@ pub extern "C" fn cq_next_event(env: &mut CqEnv, event: &mut CqEvent) -> u32
     let Some(agent) = &mut held.agent else {
         return CQ_MISUSED;
     };
-    match agent.try_next_event() {
+    match agent.next_event_now() {
         Ok(Some(next)) => {
             *event = event_out(next);
             CQ_OK
@@ -63,7 +64,7 @@ fn dispose(alloc: Global, held: &mut HeldEnv) -> u32
     let Some(agent) = held.agent.take() else {
         return CQ_MISUSED;
     };
-    match agent.try_dispose(alloc) {
+    match agent.dispose_now(alloc) {
         Ok(_service) => CQ_OK,
         Err((error, agent)) => {
             held.agent = Some(agent);

@@ -5,6 +5,7 @@ use crate::env_handle::CqEnv;
 use crate::values::CqThreadInfo;
 use crate::writes::{write_bytes, write_numbers};
 use std::alloc::Global;
+use ti_service::ServiceTries;
 use ti_types::ThreadNo;
 
 /// Meets the threads that were attached since the environment last did.
@@ -18,7 +19,7 @@ pub extern "C" fn cq_meet(alloc: Global, env: &mut CqEnv) -> u32
     let Some(agent) = &mut held.agent else {
         return CQ_MISUSED;
     };
-    match agent.try_meet(alloc) {
+    match agent.meet_now(alloc) {
         Ok(()) => CQ_OK,
         Err(error) => error.number(),
     }
@@ -50,7 +51,7 @@ pub extern "C" fn cq_let_go(env: &mut CqEnv, thread: u32, gone: &mut bool) -> u3
     let Some(agent) = &mut held.agent else {
         return CQ_MISUSED;
     };
-    match agent.try_let_go(ThreadNo(thread)) {
+    match agent.let_go_now(ThreadNo(thread)) {
         Ok(is_gone) => {
             *gone = is_gone;
             CQ_OK
@@ -75,7 +76,7 @@ pub extern "C" fn cq_get_all_threads(
     let Some(agent) = &mut held.agent else {
         return CQ_MISUSED;
     };
-    match agent.try_get_all_threads(alloc) {
+    match agent.get_all_threads_now(alloc) {
         Ok(all) => {
             *count = all.len() as u64;
             write_numbers(&all, threads);
@@ -102,7 +103,7 @@ pub extern "C" fn cq_get_thread_info(
     let Some(agent) = &mut held.agent else {
         return CQ_MISUSED;
     };
-    match agent.try_get_thread_info(alloc, ThreadNo(thread)) {
+    match agent.get_thread_info_now(alloc, ThreadNo(thread)) {
         Ok(told) => {
             let bytes = told.name.as_bytes();
             info.name_length = bytes.len() as u64;

@@ -97,7 +97,7 @@ pub extern "C" fn cq_get_environment_local_storage(env: &mut CqEnv, word: &mut u
 /// SetEnvironmentLocalStorage (JVM TI 11).
 #[unsafe(no_mangle)]
 pub extern "C" fn cq_set_environment_local_storage(env: &mut CqEnv, word: u64) -> u32
-    ensures { Calls (λ s n code. IsRest s n × (n.env ≡ env_with s.env (with_word s.env.state word)) × (code ≡ 0)) ⊤ env.old env.new result }
+    ensures { Calls (λ s n code. (n.home ≡ s.home) × (n.env ≡ env_with s.env (with_word s.env.state word)) × (code ≡ 0)) ⊤ env.old env.new result }
 {
     let Some(held) = env.held() else {
         return CQ_MISUSED;
@@ -111,5 +111,4 @@ pub extern "C" fn cq_set_environment_local_storage(env: &mut CqEnv, word: u64) -
 ghost use Rattle.std.specs.Prelude.{◌≡◌, ⊤};
 ghost use Rattle.ti_agent.specs.Env.{potential_caps};
 ghost use Rattle.ti_env.specs.Env.{with_word};
-ghost use Rattle.ti_service.specs.Agent.{IsRest};
 ghost use Rattle.ti_capi.specs.Calls.{AddsBy, Calls, RelinquishesBy, env_with};

@@ -25,7 +25,7 @@ fn post(
     let Some(agent) = &mut held.agent else {
         return CQ_MISUSED;
     };
-    match agent.try_post(alloc, ThreadNo(thread), call) {
+    match agent.post_now(alloc, ThreadNo(thread), call) {
         Ok(Asked::Answered(told)) => write_answer(told, answer, frames),
         Ok(Asked::Waiting(ticket)) => {
             answer.ticket = ticket_out(ticket);

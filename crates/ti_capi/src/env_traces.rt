@@ -3,6 +3,7 @@
 use crate::codes::{CQ_MISUSED, CQ_NONE, CQ_OK};
 use crate::env_handle::CqEnv;
 use crate::held::HeldEnv;
+use crate::held_trace::HeldTrace;
 use crate::values::{CqFrame, CqStackInfo};
 use crate::writes::write_stack;
 use std::alloc::Global;
@@ -16,7 +17,7 @@ fn put_begun(held: &mut HeldEnv, begun: Result<Gathering, (TiError, Agent)>) -> 
 {
     match begun {
         Ok(first) => {
-            held.trace = Some(first);
+            held.trace = Some(HeldTrace::of(first));
             held.stacks = None;
             CQ_OK
         }
@@ -68,7 +69,7 @@ fn begin_list(
     max_count: i32,
 ) -> Result<Gathering, (TiError, Agent)>
     ensures begins { IfOk result (λ t. BeginsList (numbered numbers.now) max_count agent t) }
-    ensures rest { IfOk result (λ t. HasRest agent t) }
+    ensures home { IfOk result (λ t. t.home ≡ agent.home) }
     ensures refused { IfErr result (λ r. RefusesThreads (numbered numbers.now) max_count agent r.0) }
     ensures back { IfErr result (λ r. r.1 ≡ agent) }
 {
@@ -117,7 +118,7 @@ fn put_back(held: &mut HeldEnv, trace: Gathering) -> bool
             true
         }
         Err(rest) => {
-            held.trace = Some(rest);
+            held.trace = Some(HeldTrace::of(rest));
             false
         }
     }
@@ -127,16 +128,17 @@ fn put_back(held: &mut HeldEnv, trace: Gathering) -> bool
 fn step(held: &mut HeldEnv, over: &mut bool) -> u32
     ensures { StepsIn over.old over.new held.old held.new result }
 {
-    let Some(mut trace) = held.trace.take() else {
+    let Some(kept) = held.trace.take() else {
         return CQ_MISUSED;
     };
+    let mut trace = kept.into_trace();
     match trace.step() {
         Ok(_) => {
             *over = put_back(held, trace);
             CQ_OK
         }
         Err(error) => {
-            held.trace = Some(trace);
+            held.trace = Some(HeldTrace::of(trace));
             error.number()
         }
     }
@@ -161,10 +163,12 @@ pub extern "C" fn cq_gather_give_up(env: &mut CqEnv) -> u32
     let Some(held) = env.held() else {
         return CQ_MISUSED;
     };
-    let Some(trace) = &mut held.trace else {
+    let Some(kept) = held.trace.take() else {
         return CQ_MISUSED;
     };
+    let mut trace = kept.into_trace();
     let _ = trace.give_up();
+    held.trace = Some(HeldTrace::of(trace));
     CQ_OK
 }
 
@@ -216,5 +220,4 @@ pub extern "C" fn cq_gathered_stack(
 
 ghost use Rattle.std.specs.Prelude.{◌≡◌, ⊤, IfErr, IfOk};
 ghost use Rattle.ti_types.specs.declared.error.TiError.TheVariants.{OutOfMemory};
-ghost use Rattle.ti_service.specs.Gathering.{HasRest};
 ghost use Rattle.ti_capi.specs.Gathers.{BeginsAll, BeginsIn, BeginsList, Counts, GivesUpIn, IsBegun, PutsBack, RefusesAll, RefusesThreads, StepsIn, Tells, TellsStack, Works, numbered};

@@ -1,6 +1,7 @@
 //! What lies behind a handle.
 
-use ti_service::{Agent, Gathering, Service};
+use crate::held_trace::HeldTrace;
+use ti_service::{Agent, Service};
 use ti_thread::AnyThread;
 use ti_types::{Frame, StackInfo};
 
@@ -20,7 +21,7 @@ pub struct HeldEnv {
     /// `None` while a call works on it, and while it makes a trace step by step.
     pub agent: Option<Agent>,
     /// The trace that it makes. It has the agent.
-    pub trace: Option<Gathering>,
+    pub trace: Option<HeldTrace>,
     /// What the last trace tells. `None` if there was none, or it was given up.
     pub stacks: Option<Vec<StackInfo>>,
 }

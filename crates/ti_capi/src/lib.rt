@@ -22,6 +22,7 @@ mod env_posts;
 mod env_traces;
 mod handle_lends;
 mod held;
+mod held_trace;
 mod service_at;
 mod service_calls;
 mod service_handle;

@@ -127,7 +127,7 @@ fn attach_thread(
     let Ok(mut held) = Box::new(alloc, held) else {
         return Err(TiError::OutOfMemory);
     };
-    let fresh = service.try_attach_thread(alloc, ThreadInfo { name, priority })?;
+    let fresh = service.attach_thread_now(alloc, ThreadInfo { name, priority })?;
     held.thread = Some(AnyThread::Fresh(fresh));
     Ok(held)
 }
@@ -172,7 +172,7 @@ fn attach_environment(alloc: Global, service: &mut Service) -> Result<Box<HeldEn
     let Ok(mut held) = Box::new(alloc, held) else {
         return Err(TiError::OutOfMemory);
     };
-    held.agent = Some(service.try_attach_environment(alloc)?);
+    held.agent = Some(service.attach_environment_now(alloc)?);
     Ok(held)
 }
 

@@ -58,14 +58,14 @@ fn give_back(held: &mut HeldThread) -> u32
     ensures { GivesBack held.old held.new result }
 {
     match held.thread.take() {
-        Some(AnyThread::Ended(ended)) => match held.service.try_end_thread(ended) {
+        Some(AnyThread::Ended(ended)) => match held.service.end_thread_now(ended) {
             Ok(()) => CQ_OK,
             Err((error, ended)) => {
                 held.thread = Some(AnyThread::Ended(ended));
                 error.number()
             }
         },
-        Some(AnyThread::Fresh(fresh)) => match held.service.try_withdraw_thread(fresh) {
+        Some(AnyThread::Fresh(fresh)) => match held.service.withdraw_thread_now(fresh) {
             Ok(()) => CQ_OK,
             Err((error, fresh)) => {
                 held.thread = Some(AnyThread::Fresh(fresh));

@@ -4,7 +4,7 @@ use crate::codes::{CQ_MISUSED, told_code};
 use crate::held::HeldThread;
 use crate::thread_handle::CqThread;
 use crate::values::reason_in;
-use ti_thread::{AnyThread, Told};
+use ti_thread::{AnyThread, TurnOutcome};
 use ti_types::{Kind, TiError};
 
 /// What a thread does.
@@ -19,7 +19,7 @@ enum Turn {
 }
 
 /// The thread does it.
-fn take_turn(thread: AnyThread, turn: Turn) -> (AnyThread, Told)
+fn take_turn(thread: AnyThread, turn: Turn) -> (AnyThread, TurnOutcome)
     ensures { TakesTurn turn thread result.0 result.1 }
 {
     match turn {

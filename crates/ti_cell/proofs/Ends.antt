@@ -17,7 +17,7 @@ use Rattle.ti_cell.specs.declared.view.User.{User}
 use Rattle.ti_cell.specs.declared.view.View.{View}
 use Rattle.ti_cell.specs.Word.{word_of}
 use Rattle.ti_cell.specs.View.{IsAbout, IsAlone, tickets_of, users}
-use Rattle.ti_cell.specs.Rule.{Each, Kept, Placed, Held, Left, Ends, IsSo, IsAmong, IsWhole, IsSeen, WasSeen, left_out}
+use Rattle.ti_cell.specs.Rule.{Each, CellInvariant, Placed, Held, Left, Ends, IsSo, IsAmong, IsWhole, IsSeen, WasSeen, left_out}
 use Rattle.ti_cell.proofs.Views.{one_left, view_at}
 use Rattle.ti_cell.proofs.Back.{so_of, made_is, posted_is, each_so, all_so}
 use Rattle.ti_cell.proofs.Bits.{even_is_free, odd_is_locked}
@@ -27,7 +27,7 @@ Spot = Option Thread
 
 -- what a closed table had at its place and in its word, where the seat id had the view v
 abbrev pub Closed : Subject → ℕ → View → ℕ → Spot → Type 0
-Closed subject id v word slot = (words : List ℕ) × (slots : List Spot) × Final (Seen (Kept subject) id v) words slots × (get_elem? words 0 ≡ some word) × (get_elem? slots 0 ≡ some slot)
+Closed subject id v word slot = (words : List ℕ) × (slots : List Spot) × Final (Seen (CellInvariant subject) id v) words slots × (get_elem? words 0 ≡ some word) × (get_elem? slots 0 ≡ some slot)
 
 -- the same by what the view itself says
 own_end : (subject : Subject) (id : ℕ) (v : View) (word : ℕ) (slot : Spot) → v.gone ≡ false → Closed subject id v word slot → Closed v.subject v.number v word slot
@@ -41,7 +41,7 @@ last_word subject id v word slot c = some-injective _ _ (sym c.3 ∙ ap (λ (ws 
 ends_free : (subject : Subject) (id : ℕ) (v : View) (word : ℕ) (slot : Spot) → v.gone ≡ false → Closed subject id v word slot → word % 2 ≡ 0 → Ends v slot
 ends_free subject id v word slot there closed even =
     let c = own_end subject id v word slot there closed in
-    let r : Kept v.subject c.2.0 = c.2.1.0 in
+    let r : CellInvariant v.subject c.2.0 = c.2.1.0 in
     let free : r.locked ≡ false = even_is_free v.subject.limits r.locked r.history (ap (λ (x : ℕ). x % 2) (sym (last_word v.subject v.number v word slot c)) ∙ even) in
     let p = subst (λ (b : Bool). Placed v.subject r.history r.tickets b c.2.0.homes) free r.placed in
     let at_home = c.2.4 0 (Some p.0) (ap (λ (hs : List (maybe.Option Spot)). get_elem? hs 0) p.1) in record {
@@ -54,7 +54,7 @@ ends_free subject id v word slot there closed even =
 ends_locked : (subject : Subject) (id : ℕ) (v : View) (word : ℕ) (slot : Spot) → v.gone ≡ false → Closed subject id v word slot → word % 2 ≢ 0 → Ends v None
 ends_locked subject id v word slot there closed odd =
     let c = own_end subject id v word slot there closed in
-    let r : Kept v.subject c.2.0 = c.2.1.0 in
+    let r : CellInvariant v.subject c.2.0 = c.2.1.0 in
     let locked : r.locked ≡ true = odd_is_locked v.subject.limits r.locked r.history (λ even. odd (ap (λ (x : ℕ). x % 2) (last_word v.subject v.number v word slot c) ∙ even)) in record {
       state = c.2.0;
       kept = r;
@@ -95,7 +95,7 @@ end_about v None e = tt
 -- what the seats knew that came back, and what this one knows
 users_so : (v : View) (slot : Spot) → v.gone ≡ false → (e : Ends v slot) → Each (IsSo v.subject.limits e.kept.history e.kept.tickets) (users v)
 users_so v slot there e =
-    let r : Kept v.subject e.state = e.kept in
+    let r : CellInvariant v.subject e.state = e.kept in
     let o = r.returned.owned v.number v e.sits in (
       so_of v.subject r.history r.tickets (length e.state.views) v.number v (r.knows v.number v e.sits there),
       dite (ℕ_discrete v.number 0)
@@ -116,7 +116,7 @@ not_locked views holder true h none = absurd (none h.0 h.1 h.2)
 -- the slot is there, and whole, where all seats came back
 pub end_whole : (v : View) (slot : Spot) → v.gone ≡ false → v.holds ≡ false → IsAlone v → Ends v slot → IsWhole (users v) slot
 end_whole v slot there free alone e =
-    let r : Kept v.subject e.state = e.kept in
+    let r : CellInvariant v.subject e.state = e.kept in
     let views : List View = e.state.views in
     let own : get_elem? views 0 ≡ some v = subst (λ (n : ℕ). get_elem? views n ≡ some v) alone.0 e.sits in
     let back : v.back ≡ r.back = (r.returned.owned v.number v e.sits).0 alone.0 in
@@ -145,7 +145,7 @@ end_whole v slot there free alone e =
 pub end_last : (v : View) (slot : Spot) → v.gone ≡ false → IsAlone v → Ends v slot → IfSome slot (λ t. WasSeen t.history (users v))
 end_last v None there alone e = tt
 end_last v (Some t) there alone e =
-    let r : Kept v.subject e.state = e.kept in
+    let r : CellInvariant v.subject e.state = e.kept in
     let views : List View = e.state.views in
     let own : get_elem? views 0 ≡ some v = subst (λ (n : ℕ). get_elem? views n ≡ some v) alone.0 e.sits in
     let back : v.back ≡ r.back = (r.returned.owned v.number v e.sits).0 alone.0 in

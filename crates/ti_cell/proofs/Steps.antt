@@ -19,7 +19,7 @@ use Rattle.ti_replay.specs.Makers.{made_by, AllBy, StartsWith, Adds}
 use Rattle.ti_cell.specs.Word.{word_at, word_of, look_of, bars, IsLook}
 use Rattle.ti_cell.specs.declared.view.Subject.{Subject}
 use Rattle.ti_cell.specs.View.{IsAbout, tickets_of, tickets_but, newcomer, splitter, split_off, holding, stored, glanced, as_user, rejoined, nobody}
-use Rattle.ti_cell.specs.Rule.{Each, Knows, Holds, Placed, Held, Kept, Keeps, Returned, IsAmong, locks, frees, glances}
+use Rattle.ti_cell.specs.Rule.{Each, Knows, Holds, Placed, Held, CellInvariant, Keeps, Returned, IsAmong, locks, frees, glances}
 use Rattle.ti_cell.proofs.Views.{at_below, at_end, one_set}
 use Rattle.ti_cell.proofs.Back.{tickets_stay, knows_longer, so_of, returned_set, returned_longer, returned_more, returned_join, last_set, last_more, last_join}
 use Rattle.ti_cell.proofs.Entries.{starts_same, starts_length, made_more, made_same, each_looks_longer, each_push}
@@ -44,8 +44,8 @@ held_stays true holder vs me v w at same h = dite (ℕ_discrete holder me)
 
 -- A step that changes no word and no slot
 
-unmoved : (subject : Subject) (s : St) (r : Kept subject s) (me : ℕ) (cs : List (ℕ × Spot)) (v w : View) → get_elem? s.views me ≡ some v → v.gone ≡ false → w.holds ≡ v.holds → w.gone ≡ v.gone → w.back ≡ v.back → w.seen ≡ v.seen
-    → Knows subject r.history r.tickets (length s.views) me w → Holds r.history r.tickets r.locked r.holder me w → Kept subject (stepped s 0 (get_or s.words 0 0) me cs w keeps)
+unmoved : (subject : Subject) (s : St) (r : CellInvariant subject s) (me : ℕ) (cs : List (ℕ × Spot)) (v w : View) → get_elem? s.views me ≡ some v → v.gone ≡ false → w.holds ≡ v.holds → w.gone ≡ v.gone → w.back ≡ v.back → w.seen ≡ v.seen
+    → Knows subject r.history r.tickets (length s.views) me w → Holds r.history r.tickets r.locked r.holder me w → CellInvariant subject (stepped s 0 (get_or s.words 0 0) me cs w keeps)
 unmoved subject s r me cs v w at there same same_gone same_back same_seen knows holds =
     let n : length (set s.views me w) ≡ length s.views = length-set s.views me w in record {
       history = r.history;
@@ -65,12 +65,12 @@ unmoved subject s r me cs v w at there same same_gone same_back same_seen knows 
       unasked = λ k h. r.unasked k (subst (λ (c : ℕ). c ≤ k) n h);
     }
 
-found_is : (subject : Subject) (s : St) (r : Kept subject s) → get_or s.words 0 0 ≡ word_of subject.limits r.locked r.history
+found_is : (subject : Subject) (s : St) (r : CellInvariant subject s) → get_or s.words 0 0 ≡ word_of subject.limits r.locked r.history
 found_is subject s r = ap (λ (ws : List ℕ). get_or ws 0 0) r.word
 
 -- Kind 2, a load
 
-pub looks_keep : (subject : Subject) (slots id : ℕ) (me : Mine) → me.0.gone ≡ false → Allows (Kept subject) slots id me 0 (λ n. n) (glances (step slots 0 0 0 none) me)
+pub looks_keep : (subject : Subject) (slots id : ℕ) (me : Mine) → me.0.gone ≡ false → Allows (CellInvariant subject) slots id me 0 (λ n. n) (glances (step slots 0 0 0 none) me)
 looks_keep subject slots id me there s r _ at _ =
     let n : ℕ = get_or s.words 0 0 in
     let w : View = glanced me.0 (look_of n) in
@@ -93,11 +93,11 @@ looks_keep subject slots id me there s r _ at _ =
 
 -- Kinds 3 and 4, the lock bit and the slot out
 
-unchanged : (subject : Subject) (s : St) (r : Kept subject s) (me : ℕ) (cs : List (ℕ × Spot)) (v : View) → get_elem? s.views me ≡ some v → v.gone ≡ false → Kept subject (stepped s 0 (get_or s.words 0 0) me cs v keeps)
+unchanged : (subject : Subject) (s : St) (r : CellInvariant subject s) (me : ℕ) (cs : List (ℕ × Spot)) (v : View) → get_elem? s.views me ≡ some v → v.gone ≡ false → CellInvariant subject (stepped s 0 (get_or s.words 0 0) me cs v keeps)
 unchanged subject s r me cs v at there = unmoved subject s r me cs v v at there refl refl refl refl (r.knows me v at there) (r.holds me v at)
 
-taken : (subject : Subject) (s : St) (r : Kept subject s) (id : ℕ) (me : Mine) (new : ℕ) (t : Thread) → get_elem? s.views id ≡ some me.0 → me.0.gone ≡ false → r.locked ≡ false → s.homes ≡ some (Some t) ∷ [] → t.history ≡ r.history → t.uncollected ≡ r.tickets
-    → new ≡ word_of subject.limits true r.history → Kept subject (stepped s 0 new id me.1 (holding me.0 t.history t.uncollected) (takes 0 (Some t)))
+taken : (subject : Subject) (s : St) (r : CellInvariant subject s) (id : ℕ) (me : Mine) (new : ℕ) (t : Thread) → get_elem? s.views id ≡ some me.0 → me.0.gone ≡ false → r.locked ≡ false → s.homes ≡ some (Some t) ∷ [] → t.history ≡ r.history → t.uncollected ≡ r.tickets
+    → new ≡ word_of subject.limits true r.history → CellInvariant subject (stepped s 0 new id me.1 (holding me.0 t.history t.uncollected) (takes 0 (Some t)))
 taken subject s r id me new t at there free home same same_tickets now =
     let w : View = holding me.0 t.history t.uncollected in
     let k = r.knows id me.0 at there in
@@ -128,12 +128,12 @@ taken subject s r id me new t at there free home same same_tickets now =
       unasked = λ c h. r.unasked c (subst (λ (z : ℕ). z ≤ c) n h);
     }
 
-pub locks_keep : (subject : Subject) (slots id : ℕ) (me : Mine) (old new : ℕ) → me.0.gone ≡ false → old % 2 ≡ 0 → new ≡ old + 1 → Allows (Kept subject) slots id me 0 (λ n. either (eqb n old) new n) (locks (step slots 0 old new none) me)
+pub locks_keep : (subject : Subject) (slots id : ℕ) (me : Mine) (old new : ℕ) → me.0.gone ≡ false → old % 2 ≡ 0 → new ≡ old + 1 → Allows (CellInvariant subject) slots id me 0 (λ n. either (eqb n old) new n) (locks (step slots 0 old new none) me)
 locks_keep subject slots id me old new there even up s r _ at _ =
     let n : ℕ = get_or s.words 0 0 in
     let k = r.knows id me.0 at there in
     let here = found_is subject s r in
-    let F : ℕ → Type 0 = λ x. (w : View) × (a : Act Spot) × Valid s.homes me.1 a × Kept subject (stepped s 0 x id me.1 w a) × locks (step slots 0 old new none) me n (w, carried_after me.1 a) in
+    let F : ℕ → Type 0 = λ x. (w : View) × (a : Act Spot) × Valid s.homes me.1 a × CellInvariant subject (stepped s 0 x id me.1 w a) × locks (step slots 0 old new none) me n (w, carried_after me.1 a) in
     exchanged n old new F
     (λ hit.
     let free : r.locked ≡ false = even_is_free subject.limits r.locked r.history (ap (λ (x : ℕ). x % 2) (sym here ∙ hit) ∙ even) in
@@ -167,9 +167,9 @@ locks_keep subject slots id me old new there even up s r _ at _ =
 
 -- Kinds 5 to 7, the slot in and the store, with entries or with none
 
-given : (subject : Subject) (s : St) (r : Kept subject s) (id : ℕ) (me : Mine) (new : ℕ) (t : Thread) → get_elem? s.views id ≡ some me.0 → me.0.gone ≡ false → me.0.holds ≡ true → me.1 ≡ (0, Some t) ∷ []
+given : (subject : Subject) (s : St) (r : CellInvariant subject s) (id : ℕ) (me : Mine) (new : ℕ) (t : Thread) → get_elem? s.views id ≡ some me.0 → me.0.gone ≡ false → me.0.holds ≡ true → me.1 ≡ (0, Some t) ∷ []
     → Adds me.0.number me.0.seen t.history → Keeps me.0.number me.0.found t.uncollected → is_legal t.limits t.history ≡ true → IsAbout me.0.subject t → new ≡ word_of t.limits false t.history
-    → Kept subject (stepped s 0 new id me.1 (stored me.0 t.history t.uncollected) gives) × ((stored me.0 t.history t.uncollected).mine ≡ made_by me.0.number t.history)
+    → CellInvariant subject (stepped s 0 new id me.1 (stored me.0 t.history t.uncollected) gives) × ((stored me.0 t.history t.uncollected).mine ≡ made_by me.0.number t.history)
 given subject s r id me new t at there holds out adds keeps_others legal about now =
     let w : View = stored me.0 t.history t.uncollected in
     let v : View = me.0 in
@@ -226,7 +226,7 @@ thread_of ((k, None) ∷ xs) d = d
 thread_of ((k, Some t) ∷ xs) d = t
 
 pub frees_keep : (subject : Subject) (slots id : ℕ) (me : Mine) (new : ℕ) (t : Thread) → me.0.gone ≡ false → me.0.holds ≡ true → me.1 ≡ (0, Some t) ∷ [] → Adds me.0.number me.0.seen t.history → Keeps me.0.number me.0.found t.uncollected → is_legal t.limits t.history ≡ true → IsAbout me.0.subject t
-    → new ≡ word_of t.limits false t.history → Allows (Kept subject) slots id me 0 (λ _. new) (λ _. frees (step slots 0 new 0 none) me new)
+    → new ≡ word_of t.limits false t.history → Allows (CellInvariant subject) slots id me 0 (λ _. new) (λ _. frees (step slots 0 new 0 none) me new)
 frees_keep subject slots id me new t there holds out adds keeps_others legal about now s r _ at _ =
     let g = given subject s r id me new t at there holds out adds keeps_others legal about now in (
       stored me.0 t.history t.uncollected,
@@ -247,7 +247,7 @@ held_more : (locked : Bool) (holder : ℕ) (vs : List View) (c : View) → Held 
 held_more false holder vs c h = tt
 held_more true holder vs c h = (h.0, at_longer vs (c ∷ []) holder h.0 h.1, h.2)
 
-pub seats_keep : (subject : Subject) (id : ℕ) (v : View) → v.number ≡ 0 → v.gone ≡ false → Splits (Kept subject) id v (splitter v) (split_off v)
+pub seats_keep : (subject : Subject) (id : ℕ) (v : View) → v.number ≡ 0 → v.gone ≡ false → Splits (CellInvariant subject) id v (splitter v) (split_off v)
 seats_keep subject id v owner there s r at =
     let k = r.knows id v at there in
     let w : View = splitter v in
@@ -308,7 +308,7 @@ seats_keep subject id v owner there s r at =
 
 -- A seat that comes back
 
-pub joins_keep : (subject : Subject) (id : ℕ) (v : View) (other : ℕ) (w : View) → v.number ≡ 0 → v.gone ≡ false → w.gone ≡ false → w.holds ≡ false → Joins (Kept subject) id v other w (rejoined v w) nobody
+pub joins_keep : (subject : Subject) (id : ℕ) (v : View) (other : ℕ) (w : View) → v.number ≡ 0 → v.gone ≡ false → w.gone ≡ false → w.holds ≡ false → Joins (CellInvariant subject) id v other w (rejoined v w) nobody
 joins_keep subject id v other w owner there there' free s r at ne found =
     let both : View = rejoined v w in
     let one : List View = set s.views id both in
@@ -357,7 +357,7 @@ empty_armed limits = refl
 empty_bars : (limits : Limits) → bars limits [] ≡ false
 empty_bars limits = refl
 
-pub opens : (subject : Subject) (t : Thread) → t.history ≡ [] → t.uncollected ≡ [] → IsAbout subject t → Kept subject (opening (0 ∷ []) (Some t ∷ []) (newcomer subject 0 1))
+pub opens : (subject : Subject) (t : Thread) → t.history ≡ [] → t.uncollected ≡ [] → IsAbout subject t → CellInvariant subject (opening (0 ∷ []) (Some t ∷ []) (newcomer subject 0 1))
 opens subject t empty untold about = record {
   history = [];
   tickets = [];

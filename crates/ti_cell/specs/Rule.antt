@@ -85,7 +85,7 @@ Held true holder views = (v : View) × (get_elem? views holder ≡ some v) × (v
 
 -- There is one legal history, and the word has its length and bits. Seats are numbered as they were made. A number that no
 -- seat has yet has no entry and no ticket
-pub record Kept (subject : Subject) (s : State (Option Thread) View) : Type 0 where
+pub record CellInvariant (subject : Subject) (s : State (Option Thread) View) : Type 0 where
   pub history : List Entry
   pub tickets : List Ticket
   pub locked : Bool
@@ -137,11 +137,11 @@ Left subject history tickets false slot = (t : Thread) × (slot ≡ Some t) × (
 Left subject history tickets true slot = slot ≡ None
 
 -- How a cell ends for a seat with this view. Some state keeps the rule, and the seat sits there. The slot is given exactly
--- if that state's lock bit is clear. The state is the table's last one. By `Kept` it has what each seat that came back knew.
+-- if that state's lock bit is clear. The state is the table's last one. By `CellInvariant` it has what each seat that came back knew.
 -- Nothing here ties it to seats that did not
 pub record Ends (v : View) (slot : Option Thread) : Type 0 where
   pub state : State (Option Thread) View
-  pub kept : Kept v.subject state
+  pub kept : CellInvariant v.subject state
   pub sits : get_elem? state.views v.number ≡ some v
   pub left : Left v.subject kept.history kept.tickets kept.locked slot
 

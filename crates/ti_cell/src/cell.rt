@@ -4,8 +4,9 @@ use crate::hold::Hold;
 use crate::look::Look;
 use crate::pace::Pace;
 use crate::parked::{Parked, unpark};
+use crate::role::Role;
 use crate::seat::{CellSeat, EnvSeat, OwnSeat, Pass};
-use crate::sleepers::{Sleepers, Wish};
+use crate::sleepers::{Sleepers, WakeCondition};
 use crate::view::{CellRule, Frees, Glances, Locks, Returns, Seats, Subject, View};
 use crate::word::Word;
 use atomic_table::Table;
@@ -121,6 +122,7 @@ impl ThreadCell {
         requires pass { pass.old.table_id ≡ self.now }
         requires owner { (pass.old.me.0.number ≡ 0) × (pass.old.me.0.gone ≡ false) }
         requires number { number ≡ pass.old.me.0.made }
+        requires there { (0 < number) × (number ≤ pass.old.me.0.subject.limits.envs) }
         requires thread { thread ≡ pass.old.me.0.subject.thread }
         ensures pass { (pass.new.table_id ≡ pass.old.table_id) × (pass.new.me ≡ (splitter pass.old.me.0, pass.old.me.1)) }
         ensures seat { (result.cell ≡ self.now) × (result.view ≡ split_off pass.old.me.0) }
@@ -143,7 +145,7 @@ impl ThreadCell {
     ///
     /// The slot has one legal history, which begins with all that the seat has seen. Its entries with the seat's number are
     /// exactly those made from the seat. What the seat looked at was this history, when it had the length of the look.
-    pub fn hold<'a, K, R: Wait>(&'a self, rt: &R, seat: CellSeat<K>) -> Hold<'a, K>
+    pub fn hold<'a, K: Role, R: Wait>(&'a self, rt: &R, seat: CellSeat<K>) -> Hold<'a, K>
         requires cell { seat.cell ≡ self.now }
         ensures cell { result.cell ≡ self.now }
         ensures view { result.view ≡ holding seat.view result.slot.history result.slot.uncollected }
@@ -176,7 +178,7 @@ impl ThreadCell {
     {
         let pace = Pace::new();
         for _ in rt.forever() {
-            if let Some(slot) = self.try_take(seat) {
+            if let Some(slot) = self.take_now(seat) {
                 return slot;
             }
             self.await_free(rt, &pace);
@@ -188,13 +190,13 @@ impl ThreadCell {
     /// and may return while it is in use.
     pub fn await_free<R: Wait>(&self, rt: &R, pace: &Pace) {
         if pace.has_had_enough() {
-            self.sleep(rt, Wish::Free, None);
+            self.sleep(rt, WakeCondition::Free, None);
         }
     }
 
     /// The same as `hold`, but it tries once and never waits. If another user holds the cell, or comes first, the seat comes
     /// back as it was.
-    pub fn try_hold<'a, K>(&'a self, seat: CellSeat<K>) -> Result<Hold<'a, K>, CellSeat<K>>
+    pub fn hold_now<'a, K: Role>(&'a self, seat: CellSeat<K>) -> Result<Hold<'a, K>, CellSeat<K>>
         requires cell { seat.cell ≡ self.now }
         ensures cell { IfOk result (λ h. h.cell ≡ self.now) }
         ensures view { IfOk result (λ h. h.view ≡ holding seat.view h.slot.history h.slot.uncollected) }
@@ -209,7 +211,7 @@ impl ThreadCell {
             out,
             role,
         } = seat;
-        match self.try_take(&mut seat) {
+        match self.take_now(&mut seat) {
             Some(slot) => Ok(Hold {
                 cell: self,
                 seat,
@@ -232,7 +234,7 @@ impl ThreadCell {
     /// Takes the lock bit and the slot, by one load and one exchange of the word. `None` if another user has them, or comes
     /// first.
     #[inline]
-    fn try_take(&self, seat: &mut Pass) -> Option<Parked>
+    fn take_now(&self, seat: &mut Pass) -> Option<Parked>
         requires { (seat.old.table_id ≡ self.now) × (seat.old.me.1 ≡ []) × (seat.old.me.0.gone ≡ false) }
         ensures table { seat.new.table_id ≡ seat.old.table_id }
         ensures seat { IfSome result (λ p. seat.new.me ≡ (holding seat.old.me.0 p.history p.uncollected, (0, None) ∷ [])) }
@@ -260,36 +262,41 @@ impl ThreadCell {
 
     /// Sleeps until somebody stores, if the thread's history has no more entries than the seat has seen. It may return
     /// sooner.
-    pub fn sleep_without_news<K, R: Wait>(&self, rt: &R, seat: &CellSeat<K>) {
-        self.sleep(rt, Wish::More(seat.count as u64), None);
+    pub fn sleep_without_news<K: Role, R: Wait>(&self, rt: &R, seat: &CellSeat<K>) {
+        self.sleep(rt, WakeCondition::More(seat.count as u64), None);
     }
 
     /// The same as `sleep_without_news`, but for at most this time.
-    pub fn sleep_without_news_for<K, R: Wait>(&self, rt: &R, seat: &CellSeat<K>, time: Duration) {
-        self.sleep(rt, Wish::More(seat.count as u64), Some(time));
+    pub fn sleep_without_news_for<K: Role, R: Wait>(
+        &self,
+        rt: &R,
+        seat: &CellSeat<K>,
+        time: Duration,
+    ) {
+        self.sleep(rt, WakeCondition::More(seat.count as u64), Some(time));
     }
 
     /// Sleeps until a store leaves the thread not barred, if it is barred. Other stores do not wake it. It may return
     /// sooner.
     pub fn sleep_while_barred<R: Wait>(&self, rt: &R) {
-        self.sleep(rt, Wish::Unbarred, None);
+        self.sleep(rt, WakeCondition::Unbarred, None);
     }
 
     /// Sleeps on the word until a store calls for it (`Sleepers`), or the time is over. If the word shows what is waited
     /// for, it does not sleep.
     #[inline(never)]
-    fn sleep<R: Wait>(&self, rt: &R, wish: Wish, time: Option<Duration>) {
-        self.sleepers.add(wish);
+    fn sleep<R: Wait>(&self, rt: &R, condition: WakeCondition, time: Option<Duration>) {
+        self.sleepers.add(condition);
         let word = Word {
             bits: self.table.shared.peek(0),
         };
-        if !wish.is_met(word) {
+        if !condition.is_met(word) {
             match time {
                 Some(time) => self.table.shared.park_timeout(rt, 0, word.low_half(), time),
                 None => self.table.shared.park(rt, 0, word.low_half()),
             }
         }
-        self.sleepers.remove(wish);
+        self.sleepers.remove(condition);
     }
 
     /// Wakes whoever sleeps on the cell and may go on, after stores that woke nobody (`Hold::store_quietly`). It is one load
@@ -331,7 +338,7 @@ impl ThreadCell {
     /// length of what the seat has seen.
     ///
     /// The seat is this cell's. Its next hold finds a history that had these bits when it had this length.
-    pub fn look<K>(&self, seat: &mut CellSeat<K>) -> Look
+    pub fn look<K: Role>(&self, seat: &mut CellSeat<K>) -> Look
         requires cell { seat.old.cell ≡ self.now }
         ensures seat { (seat.new.cell ≡ seat.old.cell) × (seat.new.view ≡ glanced seat.old.view result) }
         ensures count { length seat.old.view.seen ≤ result.count }
@@ -347,7 +354,6 @@ impl ThreadCell {
     pub fn rejoin(&self, own: &mut OwnSeat, seat: EnvSeat)
         requires cell { own.old.cell ≡ self.now }
         requires other { seat.cell ≡ self.now }
-        requires owner { own.old.view.number ≡ 0 }
         ensures cell { own.new.cell ≡ own.old.cell }
         ensures view { own.new.view ≡ rejoined own.old.view seat.view }
     {
@@ -402,7 +408,7 @@ impl ThreadCell {
     }
 }
 
-ghost use Rattle.std.specs.Prelude.{◌≡◌, ◌+◌, true, false, [], ◌∷◌, length, ◌≤◌, IfOk, IfErr, IfSome, IfNone, None};
+ghost use Rattle.std.specs.Prelude.{◌≡◌, ◌+◌, true, false, [], ◌∷◌, length, ◌<◌, ◌≤◌, IfOk, IfErr, IfSome, IfNone, None};
 ghost use Rattle.ti_types.specs.declared.error.TiError.TheVariants as TiError;
 ghost use Rattle.ti_replay.specs.Legal.{is_legal};
 ghost use Rattle.ti_replay.specs.Makers.{made_by, Adds, StartsWith};

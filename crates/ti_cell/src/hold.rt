@@ -2,6 +2,7 @@
 
 use crate::cell::ThreadCell;
 use crate::parked::Parked;
+use crate::role::Role;
 use crate::seat::{CellSeat, Pass};
 use std::marker::{Model, PhantomData};
 use ti_types::ThreadNo;
@@ -9,7 +10,7 @@ use ti_types::ThreadNo;
 /// The slot, taken out of its cell. It has to be stored: dropping it is a compile error.
 ///
 /// Contracts see it as the cell, its seat's view, and the slot.
-pub struct Hold<'a, K> {
+pub struct Hold<'a, K: Role> {
     pub(crate) cell: &'a ThreadCell,
     pub(crate) seat: Pass,
     pub(crate) number: u32,
@@ -18,7 +19,7 @@ pub struct Hold<'a, K> {
     pub(crate) role: PhantomData<K>,
 }
 
-impl<'a, K> Model for Hold<'a, K> {
+impl<'a, K: Role> Model for Hold<'a, K> {
     ghost use Rattle.std.specs.Prelude.{◌≡◌, [], ◌∷◌, true, false, None};
     ghost use Rattle.ti_cell.specs.Seats.{Holding};
 
@@ -26,10 +27,10 @@ impl<'a, K> Model for Hold<'a, K> {
 
     ghost view = { λ h. record { cell = h.cell.now; view = h.seat.me.0; slot = h.slot } };
 
-    ghost invariant = { λ h. (h.seat.table_id ≡ h.cell.now) × (h.seat.me.1 ≡ (0, None) ∷ []) × (h.seat.me.0.holds ≡ true) × (h.seat.me.0.gone ≡ false) × (h.number ≡ h.seat.me.0.number) × (h.thread ≡ h.seat.me.0.subject.thread) };
+    ghost invariant = { λ h. (h.seat.table_id ≡ h.cell.now) × (h.seat.me.1 ≡ (0, None) ∷ []) × (h.seat.me.0.holds ≡ true) × (h.seat.me.0.gone ≡ false) × (h.number ≡ h.seat.me.0.number) × (h.thread ≡ h.seat.me.0.subject.thread) × K.sits h.seat.me.0.number h.seat.me.0.subject.limits.envs };
 }
 
-impl<'a, K> Hold<'a, K> {
+impl<'a, K: Role> Hold<'a, K> {
     /// Puts the slot back, clears the lock bit, and gives the seat back. The seat has now seen the slot's history.
     ///
     /// The slot is the one that was held. All that was added to its history since is of this seat's number. The tickets of

@@ -1,6 +1,7 @@
 //! The seats at a cell: the owner's, and one for each environment.
 
 use crate::parked::Parked;
+use crate::role::{EnvRole, OwnerRole, Role};
 use crate::view::View;
 use atomic_table::Seat;
 use std::marker::{Model, PhantomData};
@@ -8,12 +9,6 @@ use ti_types::ThreadNo;
 
 /// A seat of the cell's table.
 pub(crate) type Pass = Seat<Option<Parked>, View>;
-
-/// The role of the thread itself.
-pub struct OwnerRole;
-
-/// The role of an environment.
-pub struct EnvRole;
 
 /// The seat of the thread itself.
 pub type OwnSeat = CellSeat<OwnerRole>;
@@ -26,7 +21,7 @@ pub type EnvSeat = CellSeat<EnvRole>;
 /// At run time it has its number, its thread's number, how many entries it has seen, and how many of its calls are out.
 /// Contracts see it as its cell and a `View`.
 #[derive(Drop)]
-pub struct CellSeat<K> {
+pub struct CellSeat<K: Role> {
     pub(crate) seat: Pass,
     /// The number of the seat: 0 for the owner, `e + 1` for environment `e`.
     pub(crate) number: u32,
@@ -39,7 +34,7 @@ pub struct CellSeat<K> {
     pub(crate) role: PhantomData<K>,
 }
 
-impl<K> Model for CellSeat<K> {
+impl<K: Role> Model for CellSeat<K> {
     ghost use Rattle.std.specs.Prelude.{◌≡◌, ◌≤◌, [], true, false, length};
     ghost use Rattle.ti_replay.specs.Legal.{is_legal};
     ghost use Rattle.ti_replay.specs.Makers.{made_by};
@@ -49,19 +44,20 @@ impl<K> Model for CellSeat<K> {
 
     ghost view = { λ s. record { cell = s.seat.table_id; view = s.seat.me.0 } };
 
-    ghost invariant = { λ s. (s.seat.me.1 ≡ []) × (s.seat.me.0.holds ≡ false) × (s.seat.me.0.gone ≡ false) × (is_legal s.seat.me.0.subject.limits s.seat.me.0.seen ≡ true) × (s.seat.me.0.mine ≡ made_by s.seat.me.0.number s.seat.me.0.seen) × (s.number ≡ s.seat.me.0.number) × (s.count ≡ length s.seat.me.0.seen) × (s.seat.me.0.found ≡ []) × (s.out ≡ length s.seat.me.0.posted) × (length s.seat.me.0.posted ≤ length s.seat.me.0.mine) × (s.thread ≡ s.seat.me.0.subject.thread) };
+    ghost invariant = { λ s. (s.seat.me.1 ≡ []) × (s.seat.me.0.holds ≡ false) × (s.seat.me.0.gone ≡ false) × (is_legal s.seat.me.0.subject.limits s.seat.me.0.seen ≡ true) × (s.seat.me.0.mine ≡ made_by s.seat.me.0.number s.seat.me.0.seen) × (s.number ≡ s.seat.me.0.number) × (s.count ≡ length s.seat.me.0.seen) × (s.seat.me.0.found ≡ []) × (s.out ≡ length s.seat.me.0.posted) × (length s.seat.me.0.posted ≤ length s.seat.me.0.mine) × (s.thread ≡ s.seat.me.0.subject.thread) × K.sits s.seat.me.0.number s.seat.me.0.subject.limits.envs };
 }
 
-impl<K> CellSeat<K> {
+impl<K: Role> CellSeat<K> {
     /// What is always true of a seat. It does not hold the cell, and has not come back. What was seen is a legal history.
     /// Its entries with the seat's number are exactly those made from the seat. No more of its calls are out than it made
-    /// entries.
+    /// entries. Its number is one of its role: 0 is the owner's, and those up to the number of environments are theirs.
     pub fn facts(&self)
         ensures rests { (self.now.view.holds ≡ false) × (self.now.view.found ≡ []) }
         ensures there { self.now.view.gone ≡ false }
         ensures legal { is_legal self.now.view.subject.limits self.now.view.seen ≡ true }
         ensures mine { self.now.view.mine ≡ made_by self.now.view.number self.now.view.seen }
         ensures few { length self.now.view.posted ≤ length self.now.view.mine }
+        ensures role { K.sits self.now.view.number self.now.view.subject.limits.envs }
     {
         let _ = &self.seat;
     }

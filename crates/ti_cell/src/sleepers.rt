@@ -4,7 +4,7 @@ use std::sync::atomic::{AtomicU64, Ordering};
 
 /// What a sleeper waits for.
 #[derive(Clone, Copy)]
-pub enum Wish {
+pub enum WakeCondition {
     /// That nobody holds the cell.
     Free,
     /// That the history has more entries than this.
@@ -13,21 +13,21 @@ pub enum Wish {
     Unbarred,
 }
 
-impl Wish {
+impl WakeCondition {
     /// Whether the word shows what is waited for. If it does not, one may sleep.
     pub fn is_met(self, word: Word) -> bool {
         match self {
-            Wish::Free => word.is_free(),
-            Wish::More(count) => word.look().count > count,
-            Wish::Unbarred => !word.look().barred,
+            WakeCondition::Free => word.is_free(),
+            WakeCondition::More(count) => word.look().count > count,
+            WakeCondition::Unbarred => !word.look().barred,
         }
     }
 
-    /// What a sleeper with this wish adds to the count.
+    /// What a sleeper with this condition adds to the count.
     fn weight(self) -> u64 {
         match self {
-            Wish::Free | Wish::More(_) => 1,
-            Wish::Unbarred => UNBARRED,
+            WakeCondition::Free | WakeCondition::More(_) => 1,
+            WakeCondition::Unbarred => UNBARRED,
         }
     }
 }
@@ -64,16 +64,16 @@ impl Sleepers {
     /// does not matter to one who waits until it is not.
     pub fn are_called(&self, word: Word) -> bool {
         let count = self.count.load(Ordering::SeqCst);
-        count != 0 && (count % UNBARRED != 0 || Wish::Unbarred.is_met(word))
+        count != 0 && (count % UNBARRED != 0 || WakeCondition::Unbarred.is_met(word))
     }
 
     /// Counts one more, who is about to sleep.
-    pub fn add(&self, wish: Wish) {
-        self.count.fetch_add(wish.weight(), Ordering::SeqCst);
+    pub fn add(&self, condition: WakeCondition) {
+        self.count.fetch_add(condition.weight(), Ordering::SeqCst);
     }
 
     /// Counts one less, who no longer sleeps.
-    pub fn remove(&self, wish: Wish) {
-        self.count.fetch_sub(wish.weight(), Ordering::SeqCst);
+    pub fn remove(&self, condition: WakeCondition) {
+        self.count.fetch_sub(condition.weight(), Ordering::SeqCst);
     }
 }

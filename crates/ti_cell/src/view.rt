@@ -49,14 +49,14 @@ pub struct User {
     pub posted: LinkedList<Ticket>,
 }
 
-/// The rule of a cell: `Kept` in `specs/Rule`.
+/// The rule of a cell: `CellInvariant` in `specs/Rule`.
 pub struct CellRule;
 
 impl TableRule<Option<Parked>, View, Subject> for CellRule {
-    ghost use Rattle.ti_cell.specs.Rule.{Kept};
+    ghost use Rattle.ti_cell.specs.Rule.{CellInvariant};
     ghost use Rattle.ti_cell.specs.View.{newcomer};
 
-    ghost holds = { Kept };
+    ghost holds = { CellInvariant };
 
     ghost first = { λ subject. newcomer subject 0 1 };
 }

@@ -11,7 +11,7 @@ use Rattle.ti_replay.specs.Admission.{Dealings}
 use Rattle.ti_env.specs.Env.{EnvValue, is_there, spent_at}
 use Rattle.ti_core.specs.Thread.{ThreadState}
 use Rattle.ti_core.specs.Core.{thread_at}
-use Rattle.ti_core.specs.Mirrors.{ThreadMirrors}
+use Rattle.ti_core.specs.Refines.{ThreadRefines}
 
 -- an environment that keeps these dealings at a thread
 pub record Keeps (limits : Limits) (d : Dealings) (t : ThreadNo) (env : EnvValue) : Type 0 where
@@ -39,9 +39,9 @@ pub moves : (limits : Limits) (t u : ThreadNo) (threads threads' : List ThreadSt
     → (goes ≡ true → u.0 < length threads)
     → threads' ≡ cond goes (slice_set threads u.0 x) threads
     → history' ≡ cond (u.0 == t.0 && goes) (history ++ left) history
-    → (u.0 ≡ t.0 → goes ≡ true → ThreadMirrors limits t (history ++ left) x)
-    → ThreadMirrors limits t history (thread_at limits threads t)
-    → ThreadMirrors limits t history' (thread_at limits threads' t)
+    → (u.0 ≡ t.0 → goes ≡ true → ThreadRefines limits t (history ++ left) x)
+    → ThreadRefines limits t history (thread_at limits threads t)
+    → ThreadRefines limits t history' (thread_at limits threads' t)
 moves limits t u threads threads' history history' left goes x there ts ls here k =
     elim (cases_Bool goes) [
       | inl on ↦

@@ -33,7 +33,7 @@ use Rattle.ti_slot.specs.Tickets.{has, AreOnce, without_ticket}
 use Rattle.ti_slot.specs.Thread.{next_asked, ticket_of}
 use Rattle.ti_slot.specs.Tickets.{same}
 use Rattle.ti_core.specs.Thread.{ThreadState, entries, more, reply_now, tickets_after, ask_next, held_by, stop_next, stop_told, go_next, go_told, read_next, read_told, taken}
-use Rattle.ti_core.specs.Mirrors.{ThreadMirrors}
+use Rattle.ti_core.specs.Refines.{ThreadRefines}
 use Rattle.ti_replay.proofs.LoggedLaws.{logged, logged_runs, logged_asked, logged_calls, logged_answer}
 use Rattle.ti_core.proofs.WholeLaws.{passed_mode}
 use Rattle.ti_core.proofs.ThreadLaws.{asked_more}
@@ -47,17 +47,17 @@ alike_situation limits a b env k h =
     (sym (ap (λ (z : Situation). z.asked) sa) ∙ ap (λ z. z.asked) c ∙ ap (λ (z : Situation). z.asked) sb, sym (ap (λ (z : Situation). z.calls) sa) ∙ ap (λ z. z.calls) c ∙ ap (λ (z : Situation). z.calls) sb)
 
 -- the slot's history has asked and spent as much as the definition's
-pub asked_same : (limits : Limits) (t : ThreadNo) (L : List Entry) (s : ThreadState) (env : EnvNo) → ThreadMirrors limits t L s → env.0 < limits.envs → asked_by env s.thread.history ≡ asked_by env L
+pub asked_same : (limits : Limits) (t : ThreadNo) (L : List Entry) (s : ThreadState) (env : EnvNo) → ThreadRefines limits t L s → env.0 < limits.envs → asked_by env s.thread.history ≡ asked_by env L
 asked_same limits t L s env k h = sym (logged_asked env s.thread.history s.steps) ∙ sym (alike_situation limits L (entries s) env k.alike h).0
 
-pub spent_same : (limits : Limits) (t : ThreadNo) (L : List Entry) (s : ThreadState) (env : EnvNo) → ThreadMirrors limits t L s → env.0 < limits.envs → calls_spent env s.thread.history ≡ calls_spent env L
+pub spent_same : (limits : Limits) (t : ThreadNo) (L : List Entry) (s : ThreadState) (env : EnvNo) → ThreadRefines limits t L s → env.0 < limits.envs → calls_spent env s.thread.history ≡ calls_spent env L
 spent_same limits t L s env k h = sym (logged_calls env s.thread.history s.steps) ∙ sym (alike_situation limits L (entries s) env k.alike h).1
 
-slot_runs : (limits : Limits) (t : ThreadNo) (L : List Entry) (s : ThreadState) → ThreadMirrors limits t L s → is_running (view limits s.thread.history).mode ≡ is_running (view limits L).mode
+slot_runs : (limits : Limits) (t : ThreadNo) (L : List Entry) (s : ThreadState) → ThreadRefines limits t L s → is_running (view limits s.thread.history).mode ≡ is_running (view limits L).mode
 slot_runs limits t L s k = sym (logged_runs limits s.thread.history s.steps) ∙ ap (λ (z : HistoryState). is_running z.view.mode) (sym k.alike.state)
 
 -- a call, a stop or a go in front of the logged steps
-passed_alike : (limits : Limits) (t : ThreadNo) (L : List Entry) (s : ThreadState) (x : Entry) → ThreadMirrors limits t L s → is_passed x ≡ true → AreAlike limits (L ++ x ∷ []) ((s.thread.history ++ x ∷ []) ++ steps_of s.steps)
+passed_alike : (limits : Limits) (t : ThreadNo) (L : List Entry) (s : ThreadState) (x : Entry) → ThreadRefines limits t L s → is_passed x ≡ true → AreAlike limits (L ++ x ∷ []) ((s.thread.history ++ x ∷ []) ++ steps_of s.steps)
 passed_alike limits t L s x k p =
     let h = s.thread.history in
     let one = alike-snoc limits L (entries s) x k.alike in
@@ -77,8 +77,8 @@ more_known : (s : ThreadState) (added : List Entry) → ((u : Ticket) → has u 
 more_known s added k u h = omega (arith, k u h, asked_more u.env s.thread.history added)
 
 -- a stop or a go that is not refused, or is
-held_stands : (limits : Limits) (t : ThreadNo) (L : List Entry) (s : ThreadState) (r : Option TiError) (x : Entry) → ThreadMirrors limits t L s → is_passed x ≡ true
-    → ThreadMirrors limits t (L ++ if_none r (x ∷ [])) (held_by limits s r x)
+held_stands : (limits : Limits) (t : ThreadNo) (L : List Entry) (s : ThreadState) (r : Option TiError) (x : Entry) → ThreadRefines limits t L s → is_passed x ≡ true
+    → ThreadRefines limits t (L ++ if_none r (x ∷ [])) (held_by limits s r x)
 held_stands limits t L s None x k p = record {
   limits_are = k.limits_are;
   number_is = k.number_is;
@@ -96,46 +96,46 @@ held_stands limits t L s (Some error) x k p = rw append-nil (record {
   known = more_known s [] k.known;
 })
 
-stopper_same : (limits : Limits) (t : ThreadNo) (L : List Entry) (s : ThreadState) → ThreadMirrors limits t L s → (view limits s.thread.history).stopper ≡ (view limits L).stopper
+stopper_same : (limits : Limits) (t : ThreadNo) (L : List Entry) (s : ThreadState) → ThreadRefines limits t L s → (view limits s.thread.history).stopper ≡ (view limits L).stopper
 stopper_same limits t L s k = sym (logged limits s.thread.history s.steps).stopper ∙ ap (λ (z : HistoryState). z.view.stopper) (sym k.alike.state)
 
-stop_same : (limits : Limits) (t u : ThreadNo) (L : List Entry) (s : ThreadState) (e : EnvNo) → ThreadMirrors limits t L s
+stop_same : (limits : Limits) (t u : ThreadNo) (L : List Entry) (s : ThreadState) (e : EnvNo) → ThreadRefines limits t L s
     → stopping_refusal (view limits s.thread.history) (event.Stop e s.thread.number) ≡ stopping_refusal (view limits L) (event.Stop e u)
 stop_same limits t u L s e k = let v = stopper_same limits t L s k in grind (arith, v)
 
-go_same : (limits : Limits) (t u : ThreadNo) (L : List Entry) (s : ThreadState) (e : EnvNo) → ThreadMirrors limits t L s
+go_same : (limits : Limits) (t u : ThreadNo) (L : List Entry) (s : ThreadState) (e : EnvNo) → ThreadRefines limits t L s
     → stopping_refusal (view limits s.thread.history) (event.Go e s.thread.number) ≡ stopping_refusal (view limits L) (event.Go e u)
 go_same limits t u L s e k = let v = stopper_same limits t L s k in grind (arith, v)
 
-read_same : (limits : Limits) (t u : ThreadNo) (L : List Entry) (s : ThreadState) (e : EnvNo) (n : ℤ) → ThreadMirrors limits t L s
+read_same : (limits : Limits) (t u : ThreadNo) (L : List Entry) (s : ThreadState) (e : EnvNo) (n : ℤ) → ThreadRefines limits t L s
     → stopping_refusal (view limits s.thread.history) (event.Read e s.thread.number n) ≡ stopping_refusal (view limits L) (event.Read e u n)
 read_same limits t u L s e n k = let v = stopper_same limits t L s k in let r = slot_runs limits t L s k in grind (arith, v, r)
 
-pub stop_stands : (limits : Limits) (t u : ThreadNo) (L : List Entry) (s : ThreadState) (e : EnvNo) → ThreadMirrors limits t L s
-    → ThreadMirrors limits t (L ++ if_none (stopping_refusal (view limits L) (event.Stop e u)) (Stop e ∷ [])) (stop_next s.thread.limits s e s.thread.number)
+pub stop_stands : (limits : Limits) (t u : ThreadNo) (L : List Entry) (s : ThreadState) (e : EnvNo) → ThreadRefines limits t L s
+    → ThreadRefines limits t (L ++ if_none (stopping_refusal (view limits L) (event.Stop e u)) (Stop e ∷ [])) (stop_next s.thread.limits s e s.thread.number)
 stop_stands limits t u L s e k =
-    subst (λ l. ThreadMirrors limits t (L ++ if_none (stopping_refusal (view limits L) (event.Stop e u)) (Stop e ∷ [])) (stop_next l s e s.thread.number)) (sym k.limits_are)
-    (subst (λ r. ThreadMirrors limits t (L ++ if_none (stopping_refusal (view limits L) (event.Stop e u)) (Stop e ∷ [])) (held_by limits s r (Stop e))) (sym (stop_same limits t u L s e k))
+    subst (λ l. ThreadRefines limits t (L ++ if_none (stopping_refusal (view limits L) (event.Stop e u)) (Stop e ∷ [])) (stop_next l s e s.thread.number)) (sym k.limits_are)
+    (subst (λ r. ThreadRefines limits t (L ++ if_none (stopping_refusal (view limits L) (event.Stop e u)) (Stop e ∷ [])) (held_by limits s r (Stop e))) (sym (stop_same limits t u L s e k))
     (held_stands limits t L s (stopping_refusal (view limits L) (event.Stop e u)) (Stop e) k refl))
 
-pub stop_told_is : (limits : Limits) (t u : ThreadNo) (L : List Entry) (s : ThreadState) (e : EnvNo) → ThreadMirrors limits t L s
+pub stop_told_is : (limits : Limits) (t u : ThreadNo) (L : List Entry) (s : ThreadState) (e : EnvNo) → ThreadRefines limits t L s
     → stop_told s.thread.limits s e s.thread.number ≡ gave_unless (stopping_refusal (view limits L) (event.Stop e u))
 stop_told_is limits t u L s e k = subst (λ l. stop_told l s e s.thread.number ≡ gave_unless (stopping_refusal (view limits L) (event.Stop e u))) (sym k.limits_are) (ap gave_unless (stop_same limits t u L s e k))
 
-pub go_stands : (limits : Limits) (t u : ThreadNo) (L : List Entry) (s : ThreadState) (e : EnvNo) → ThreadMirrors limits t L s
-    → ThreadMirrors limits t (L ++ if_none (stopping_refusal (view limits L) (event.Go e u)) (Go e ∷ [])) (go_next s.thread.limits s e s.thread.number)
+pub go_stands : (limits : Limits) (t u : ThreadNo) (L : List Entry) (s : ThreadState) (e : EnvNo) → ThreadRefines limits t L s
+    → ThreadRefines limits t (L ++ if_none (stopping_refusal (view limits L) (event.Go e u)) (Go e ∷ [])) (go_next s.thread.limits s e s.thread.number)
 go_stands limits t u L s e k =
-    subst (λ l. ThreadMirrors limits t (L ++ if_none (stopping_refusal (view limits L) (event.Go e u)) (Go e ∷ [])) (go_next l s e s.thread.number)) (sym k.limits_are)
-    (subst (λ r. ThreadMirrors limits t (L ++ if_none (stopping_refusal (view limits L) (event.Go e u)) (Go e ∷ [])) (held_by limits s r (Go e))) (sym (go_same limits t u L s e k))
+    subst (λ l. ThreadRefines limits t (L ++ if_none (stopping_refusal (view limits L) (event.Go e u)) (Go e ∷ [])) (go_next l s e s.thread.number)) (sym k.limits_are)
+    (subst (λ r. ThreadRefines limits t (L ++ if_none (stopping_refusal (view limits L) (event.Go e u)) (Go e ∷ [])) (held_by limits s r (Go e))) (sym (go_same limits t u L s e k))
     (held_stands limits t L s (stopping_refusal (view limits L) (event.Go e u)) (Go e) k refl))
 
-pub go_told_is : (limits : Limits) (t u : ThreadNo) (L : List Entry) (s : ThreadState) (e : EnvNo) → ThreadMirrors limits t L s
+pub go_told_is : (limits : Limits) (t u : ThreadNo) (L : List Entry) (s : ThreadState) (e : EnvNo) → ThreadRefines limits t L s
     → go_told s.thread.limits s e s.thread.number ≡ gave_unless (stopping_refusal (view limits L) (event.Go e u))
 go_told_is limits t u L s e k = subst (λ l. go_told l s e s.thread.number ≡ gave_unless (stopping_refusal (view limits L) (event.Go e u))) (sym k.limits_are) (ap gave_unless (go_same limits t u L s e k))
 
 -- a read comes at a thread that does not run
-read_holds : (limits : Limits) (t : ThreadNo) (L : List Entry) (s : ThreadState) (e : EnvNo) (n : ℤ) (r : Option TiError) → ThreadMirrors limits t L s → (r ≡ None → is_running (view limits L).mode ≡ false)
-    → ThreadMirrors limits t (L ++ if_none r (Read e n ∷ [])) (held_by limits s r (Read e n))
+read_holds : (limits : Limits) (t : ThreadNo) (L : List Entry) (s : ThreadState) (e : EnvNo) (n : ℤ) (r : Option TiError) → ThreadRefines limits t L s → (r ≡ None → is_running (view limits L).mode ≡ false)
+    → ThreadRefines limits t (L ++ if_none r (Read e n ∷ [])) (held_by limits s r (Read e n))
 read_holds limits t L s e n None k q =
     let none : s.steps ≡ [] = k.rests (q refl) in
     let one = alike-snoc limits L (entries s) (Read e n) k.alike in
@@ -162,17 +162,17 @@ read_holds limits t L s e n (Some error) k q = rw append-nil (record {
 free_read : (limits : Limits) (u : ThreadNo) (L : List Entry) (e : EnvNo) (n : ℤ) → stopping_refusal (view limits L) (event.Read e u n) ≡ None → is_running (view limits L).mode ≡ false
 free_read limits u L e n h = grind (arith, h)
 
-pub read_stands : (limits : Limits) (t u : ThreadNo) (L : List Entry) (s : ThreadState) (e : EnvNo) (n : ℤ) → ThreadMirrors limits t L s
-    → ThreadMirrors limits t (L ++ if_none (stopping_refusal (view limits L) (event.Read e u n)) (Read e n ∷ [])) (read_next s.thread.limits s e s.thread.number n)
+pub read_stands : (limits : Limits) (t u : ThreadNo) (L : List Entry) (s : ThreadState) (e : EnvNo) (n : ℤ) → ThreadRefines limits t L s
+    → ThreadRefines limits t (L ++ if_none (stopping_refusal (view limits L) (event.Read e u n)) (Read e n ∷ [])) (read_next s.thread.limits s e s.thread.number n)
 read_stands limits t u L s e n k =
-    subst (λ l. ThreadMirrors limits t (L ++ if_none (stopping_refusal (view limits L) (event.Read e u n)) (Read e n ∷ [])) (read_next l s e s.thread.number n)) (sym k.limits_are)
-    (subst (λ r. ThreadMirrors limits t (L ++ if_none (stopping_refusal (view limits L) (event.Read e u n)) (Read e n ∷ [])) (held_by limits s r (Read e n))) (sym (read_same limits t u L s e n k))
+    subst (λ l. ThreadRefines limits t (L ++ if_none (stopping_refusal (view limits L) (event.Read e u n)) (Read e n ∷ [])) (read_next l s e s.thread.number n)) (sym k.limits_are)
+    (subst (λ r. ThreadRefines limits t (L ++ if_none (stopping_refusal (view limits L) (event.Read e u n)) (Read e n ∷ [])) (held_by limits s r (Read e n))) (sym (read_same limits t u L s e n k))
     (read_holds limits t L s e n (stopping_refusal (view limits L) (event.Read e u n)) k (free_read limits u L e n)))
 
 read_at_once : (limits : Limits) (h : List Entry) (e : EnvNo) (n : ℤ) → reply limits (h ++ Read e n ∷ []) (length h) ≡ Some (stack_of (view limits h) n)
 read_at_once limits h e n = grind (arith, nat_tests, reply-snoc limits h (Read e n) (length h), reply_past limits h (length h))
 
-resting_view : (limits : Limits) (t : ThreadNo) (L : List Entry) (s : ThreadState) → ThreadMirrors limits t L s → is_running (view limits L).mode ≡ false → view limits s.thread.history ≡ view limits L
+resting_view : (limits : Limits) (t : ThreadNo) (L : List Entry) (s : ThreadState) → ThreadRefines limits t L s → is_running (view limits L).mode ≡ false → view limits s.thread.history ≡ view limits L
 resting_view limits t L s k r =
     let none : s.steps ≡ [] = k.rests r in
     ap (view limits) (sym (append-nil s.thread.history) ∙ ap (λ z. s.thread.history ++ steps_of z) (sym none)) ∙ ap (λ (z : HistoryState). z.view) (sym k.alike.state)
@@ -182,7 +182,7 @@ read_tells : (limits : Limits) (L h : List Entry) (e : EnvNo) (n : ℤ) (r : Opt
 read_tells limits L h e n None q = ap given (read_at_once limits h e n ∙ ap (λ v. Some (stack_of v n)) (q refl) ∙ sym (read_at_once limits L e n))
 read_tells limits L h e n (Some error) q = refl
 
-pub read_told_is : (limits : Limits) (t u : ThreadNo) (L : List Entry) (s : ThreadState) (e : EnvNo) (n : ℤ) → ThreadMirrors limits t L s
+pub read_told_is : (limits : Limits) (t u : ThreadNo) (L : List Entry) (s : ThreadState) (e : EnvNo) (n : ℤ) → ThreadRefines limits t L s
     → read_told s.thread.limits s e s.thread.number n
     ≡ read_outcome (stopping_refusal (view limits L) (event.Read e u n)) (reply limits (L ++ if_none (stopping_refusal (view limits L) (event.Read e u n)) (Read e n ∷ [])) (length L))
 read_told_is limits t u L s e n k =
@@ -193,7 +193,7 @@ read_told_is limits t u L s e n k =
     (subst (λ q. read_outcome q (reply limits (h ++ if_none q (Read e n ∷ [])) (length h)) ≡ read_outcome r (reply limits (L ++ if_none r (Read e n ∷ [])) (length L))) (sym (read_same limits t u L s e n k)) told)
 
 -- what is said of a call that is asked now
-ask_tells : (limits : Limits) (t : ThreadNo) (L : List Entry) (s : ThreadState) (e : EnvNo) (n m : ℕ) (call : Call) → ThreadMirrors limits t L s
+ask_tells : (limits : Limits) (t : ThreadNo) (L : List Entry) (s : ThreadState) (e : EnvNo) (n m : ℕ) (call : Call) → ThreadRefines limits t L s
     → reply limits (s.thread.history ++ Asked e n call ∷ []) (length s.thread.history) ≡ reply limits (L ++ Asked e m call ∷ []) (length L)
 ask_tells limits t L s e n m call k =
     let h = s.thread.history in
@@ -204,7 +204,7 @@ ask_tells limits t L s e n m call k =
           reply_at_once limits h e n call (ap (λ b. waits call && b) r ∙ now) ∙ ap Some (ask_answers limits t L s e call k now) ∙ sym (reply_at_once limits L e m call now)
     ]
   where
-    ask_answers : (limits : Limits) (t : ThreadNo) (L : List Entry) (s : ThreadState) (e : EnvNo) (call : Call) → ThreadMirrors limits t L s → (waits call && is_running (view limits L).mode) ≡ false
+    ask_answers : (limits : Limits) (t : ThreadNo) (L : List Entry) (s : ThreadState) (e : EnvNo) (call : Call) → ThreadRefines limits t L s → (waits call && is_running (view limits L).mode) ≡ false
         → answer_of (view limits s.thread.history) e call ≡ answer_of (view limits L) e call
     ask_answers limits t L s e call k now =
         elim (cases_Bool (is_running (view limits L).mode)) [
@@ -214,7 +214,7 @@ ask_tells limits t L s e n m call k =
           | inr rests ↦ ap (λ v. answer_of v e call) (resting_view limits t L s k rests)
         ]
 
-pub ask_told_is : (limits : Limits) (t : ThreadNo) (L : List Entry) (s : ThreadState) (e : EnvNo) (call : Call) → ThreadMirrors limits t L s
+pub ask_told_is : (limits : Limits) (t : ThreadNo) (L : List Entry) (s : ThreadState) (e : EnvNo) (call : Call) → ThreadRefines limits t L s
     → given (reply_now s.thread.limits s e call) ≡ given (reply limits (L ++ Asked e (asked_by e L) call ∷ []) (length L))
 ask_told_is limits t L s e call k =
     subst (λ l. given (reply_now l s e call) ≡ given (reply limits (L ++ Asked e (asked_by e L) call ∷ []) (length L))) (sym k.limits_are)
@@ -282,14 +282,14 @@ pub taken_once : (s : ThreadState) (ticket : Ticket) (found : Bool) → AreOnce 
 taken_once s ticket true h = once_without ticket s.thread.uncollected h
 taken_once s ticket false h = h
 
-pub ask_stands : (limits : Limits) (t : ThreadNo) (L : List Entry) (s : ThreadState) (e : EnvNo) (call : Call) → ThreadMirrors limits t L s → e.0 < limits.envs
-    → ThreadMirrors limits t (L ++ Asked e (asked_by e L) call ∷ []) (ask_next s.thread.limits s e call)
+pub ask_stands : (limits : Limits) (t : ThreadNo) (L : List Entry) (s : ThreadState) (e : EnvNo) (call : Call) → ThreadRefines limits t L s → e.0 < limits.envs
+    → ThreadRefines limits t (L ++ Asked e (asked_by e L) call ∷ []) (ask_next s.thread.limits s e call)
 ask_stands limits t L s e call k there =
     let n = asked_same limits t L s e k there in
     let x = Asked e (asked_by e s.thread.history) call in
     let same_x : x ≡ Asked e (asked_by e L) call = ap (λ m. Asked e m call) n in
-    subst (λ l. ThreadMirrors limits t (L ++ Asked e (asked_by e L) call ∷ []) (ask_next l s e call)) (sym k.limits_are)
-    (subst (λ y. ThreadMirrors limits t (L ++ y ∷ []) (ask_next limits s e call)) same_x (record {
+    subst (λ l. ThreadRefines limits t (L ++ Asked e (asked_by e L) call ∷ []) (ask_next l s e call)) (sym k.limits_are)
+    (subst (λ y. ThreadRefines limits t (L ++ y ∷ []) (ask_next limits s e call)) same_x (record {
       limits_are = k.limits_are;
       number_is = k.number_is;
       alike = passed_alike limits t L s x k refl;
@@ -307,7 +307,7 @@ taken_known : (s : ThreadState) (k : Ticket) (found : Bool) (u : Ticket) → has
 taken_known s k true u h = fewer u k s.thread.uncollected h
 taken_known s k false u h = h
 
-pub taken_stands : (limits : Limits) (t : ThreadNo) (L : List Entry) (s : ThreadState) (ticket : Ticket) (found : Bool) → ThreadMirrors limits t L s → ThreadMirrors limits t L (taken s ticket found)
+pub taken_stands : (limits : Limits) (t : ThreadNo) (L : List Entry) (s : ThreadState) (ticket : Ticket) (found : Bool) → ThreadRefines limits t L s → ThreadRefines limits t L (taken s ticket found)
 taken_stands limits t L s ticket found k = record {
   limits_are = k.limits_are;
   number_is = k.number_is;

@@ -19,7 +19,7 @@ use Rattle.ti_env.specs.Env.{EnvValue, with_caps}
 use Rattle.ti_core.specs.Thread.{ThreadState}
 use Rattle.ti_core.specs.Core.{CoreState, StepResult, env_at, stepped_by, refused_or_else, spending, stepped_own, stepped_poll}
 use Rattle.ti_replay.specs.Outcomes.{env_word, env_word_after}
-use Rattle.ti_core.specs.Mirrors.{EnvMirrors, Mirrors}
+use Rattle.ti_core.specs.Refines.{EnvRefines, Refines}
 use Rattle.ti_core.proofs.StepLaws.{happened, same_thread, whys, whys_is_ask, whys_is_stop, whys_is_read, ask_there, stop_there, read_there, cond_same}
 
 pub same_env : (e f : EnvNo) → e.0 ≡ f.0 → e ≡ f
@@ -29,9 +29,9 @@ word-snoc : (e : EnvNo) (events : List Happening) (h : Happening) → env_word e
 word-snoc e events h = fold-append (env_word_after e) 0 events (h ∷ [])
 
 -- an environment of which nothing changes
-same_stands : (limits : Limits) (e : EnvNo) (events : List Happening) (h : Happening) (env : EnvValue) → EnvMirrors limits e events env
+same_stands : (limits : Limits) (e : EnvNo) (events : List Happening) (h : Happening) (env : EnvValue) → EnvRefines limits e events env
     → ((c : Caps) → caps_after e c h.event ≡ c) → ((t : ThreadNo) → (d : Dealings) → spends limits e t d h ≡ false) → ((n : ℕ) → env_word_after e n h ≡ n)
-    → EnvMirrors limits e (events ++ h ∷ []) env
+    → EnvRefines limits e (events ++ h ∷ []) env
 same_stands limits e events h env k c s n = record {
   caps = λ t. k.caps t ∙ sym (ap (λ d. d.caps) (dealings-snoc limits e t events h) ∙ c (dealings limits e t events).caps);
   spent = λ t l.
@@ -50,11 +50,11 @@ agent_envs envs threads (Some error) other = refl
 
 -- an environment that pays for a call, where it goes through
 paid_stands : (limits : Limits) (e f : EnvNo) (u : ThreadNo) (events : List Happening) (h : Happening) (envs envs' : List EnvValue) (goes : Bool)
-    → EnvMirrors limits e events (env_at envs e) → e.0 < length envs → envs' ≡ cond goes (spending envs f u) envs
+    → EnvRefines limits e events (env_at envs e) → e.0 < length envs → envs' ≡ cond goes (spending envs f u) envs
     → ((c : Caps) → caps_after e c h.event ≡ c) → ((n : ℕ) → env_word_after e n h ≡ n)
     → ((t : ThreadNo) → spends limits e t (dealings limits e t events) h ≡ (u.0 == t.0 && (f.0 == e.0) && goes))
     → (goes ≡ true → u.0 < limits.threads)
-    → EnvMirrors limits e (events ++ h ∷ []) (env_at envs' e)
+    → EnvRefines limits e (events ++ h ∷ []) (env_at envs' e)
 paid_stands limits e f u events h envs envs' goes k there es c n s exists =
     elim (cases_Bool (f.0 == e.0 && goes)) [
       | inl on ↦
@@ -106,12 +106,12 @@ paid_stands limits e f u events h envs envs' goes k there es c n s exists =
     ]
 
 -- a capability call or a word of one environment
-one_stands : (limits : Limits) (e f : EnvNo) (events : List Happening) (h : Happening) (envs envs' : List EnvValue) (new : EnvValue) → EnvMirrors limits e events (env_at envs e) → e.0 < length envs
+one_stands : (limits : Limits) (e f : EnvNo) (events : List Happening) (h : Happening) (envs envs' : List EnvValue) (new : EnvValue) → EnvRefines limits e events (env_at envs e) → e.0 < length envs
     → envs' ≡ slice_set envs f.0 new
     → (f.0 ≢ e.0 → ((c : Caps) → caps_after e c h.event ≡ c) × ((n : ℕ) → env_word_after e n h ≡ n))
     → ((t : ThreadNo) → (d : Dealings) → spends limits e t d h ≡ false)
-    → (f.0 ≡ e.0 → EnvMirrors limits e (events ++ h ∷ []) new)
-    → EnvMirrors limits e (events ++ h ∷ []) (env_at envs' e)
+    → (f.0 ≡ e.0 → EnvRefines limits e (events ++ h ∷ []) new)
+    → EnvRefines limits e (events ++ h ∷ []) (env_at envs' e)
 one_stands limits e f events h envs envs' new k there es away s here =
     elim (cases_eq f.0 e.0) [
       | inl same ↦
@@ -138,12 +138,12 @@ spends_is t u e f why r h =
       | inr away ↦ grind (arith, nat_tests, away)
     ]
 
-with_stands : (limits : Limits) (e f : EnvNo) (events : List Happening) (h : Happening) (envs envs' : List EnvValue) (new : EnvValue) → EnvMirrors limits e events (env_at envs e) → e.0 < length envs
+with_stands : (limits : Limits) (e f : EnvNo) (events : List Happening) (h : Happening) (envs envs' : List EnvValue) (new : EnvValue) → EnvRefines limits e events (env_at envs e) → e.0 < length envs
     → envs' ≡ cond (nat_lt f.0 (length envs)) (slice_set envs f.0 new) envs
     → (f.0 ≢ e.0 → ((c : Caps) → caps_after e c h.event ≡ c) × ((n : ℕ) → env_word_after e n h ≡ n))
     → ((t : ThreadNo) → (d : Dealings) → spends limits e t d h ≡ false)
-    → (f.0 ≡ e.0 → EnvMirrors limits e (events ++ h ∷ []) new)
-    → EnvMirrors limits e (events ++ h ∷ []) (env_at envs' e)
+    → (f.0 ≡ e.0 → EnvRefines limits e (events ++ h ∷ []) new)
+    → EnvRefines limits e (events ++ h ∷ []) (env_at envs' e)
 with_stands limits e f events h envs envs' new k there es away s here =
     elim (cases_Bool (nat_lt f.0 (length envs))) [
       | inl on ↦ one_stands limits e f events h envs envs' new k there (rw (es, on) refl) away s here
@@ -157,12 +157,12 @@ pub own_envs : (s : CoreState) (w : Bool) (event : Event) (u : ThreadNo) (x : En
 own_envs s w event u x = grind arith
 
 -- what changes an environment's own parts
-changed : (limits : Limits) (e : EnvNo) (events : List Happening) (h : Happening) (env new : EnvValue) → EnvMirrors limits e events env
+changed : (limits : Limits) (e : EnvNo) (events : List Happening) (h : Happening) (env new : EnvValue) → EnvRefines limits e events env
     → new.spent ≡ env.spent → new.limits.calls ≡ env.limits.calls
     → ((d : Dealings) → env.caps ≡ d.caps → new.caps ≡ caps_after e d.caps h.event)
     → ((n : ℕ) → env.word ≡ n → new.word ≡ env_word_after e n h)
     → ((t : ThreadNo) → (d : Dealings) → spends limits e t d h ≡ false)
-    → EnvMirrors limits e (events ++ h ∷ []) new
+    → EnvRefines limits e (events ++ h ∷ []) new
 changed limits e events h env new k ns nc c n s = record {
   caps = λ t. c (dealings limits e t events) (k.caps t) ∙ sym (ap (λ d. d.caps) (dealings-snoc limits e t events h));
   spent = λ t l.
@@ -175,8 +175,8 @@ changed limits e events h env new k ns nc c n s = record {
   word = n (env_word e events) k.word ∙ sym (word-snoc e events h);
 }
 
-pub env_goes : (events : List Happening) (s : CoreState) (w : Bool) (event : Event) (e : EnvNo) → Mirrors events s → e.0 < s.limits.envs
-    → EnvMirrors s.limits e (events ++ happened event w ∷ []) (env_at (stepped_by s.limits s.envs s.threads w event).envs e)
+pub env_goes : (events : List Happening) (s : CoreState) (w : Bool) (event : Event) (e : EnvNo) → Refines events s → e.0 < s.limits.envs
+    → EnvRefines s.limits e (events ++ happened event w ∷ []) (env_at (stepped_by s.limits s.envs s.threads w event).envs e)
 env_goes events s w (Start u) e k l = rw (own_envs s w (Start u) u entry.Start) (same_stands s.limits e events (happened (Start u) w) (env_at s.envs e) (k.envs e l) (λ c. refl) (λ t d. refl) (λ n. refl))
 env_goes events s w (Own u step) e k l = rw (own_envs s w (Own u step) u (entry.Own step)) (same_stands s.limits e events (happened (Own u step) w) (env_at s.envs e) (k.envs e l) (λ c. refl) (λ t d. refl) (λ n. refl))
 env_goes events s w (ToNative u) e k l = rw (own_envs s w (ToNative u) u (entry.Hand Native)) (same_stands s.limits e events (happened (ToNative u) w) (env_at s.envs e) (k.envs e l) (λ c. refl) (λ t d. refl) (λ n. refl))

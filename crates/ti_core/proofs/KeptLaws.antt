@@ -35,7 +35,7 @@ use Rattle.ti_core.specs.Threads.{IfPosted, is_ticket_of}
 use Rattle.ti_core.specs.Core.{CoreState, StepResult, thread_at, no_thread, stepped_by, core_told, core_taken, is_uncollected, posts, refused_or_else, stepped_own, IsTicketOf}
 use Rattle.ti_replay.specs.Legal.{asked_by}
 use Rattle.ti_core.specs.Runs.{IsTicketBy}
-use Rattle.ti_core.specs.Mirrors.{Mirrors}
+use Rattle.ti_core.specs.Refines.{Refines}
 use Rattle.ti_core.proofs.ThreadLaws.{entered_tickets}
 use Rattle.ti_core.proofs.StepLaws.{env_threads, is_alone, happened, whys, in_core, ask_there, stop_there, read_there, go_there}
 
@@ -91,7 +91,7 @@ and_false : (b : Bool) → (b && false) ≡ false
 and_false true = refl
 and_false false = refl
 
-ask_kept : (events : List Happening) (s : CoreState) (w : Bool) (e : EnvNo) (u : ThreadNo) (call : Call) (k : Ticket) → Mirrors events s → is_none (whys s w (Ask e u call)) ≡ true → u.0 < length s.threads
+ask_kept : (events : List Happening) (s : CoreState) (w : Bool) (e : EnvNo) (u : ThreadNo) (call : Call) (k : Ticket) → Refines events s → is_none (whys s w (Ask e u call)) ≡ true → u.0 < length s.threads
     → has k (thread_at s.limits (slice_set s.threads u.0 (ask_next (thread_at s.limits s.threads u).thread.limits (thread_at s.limits s.threads u) e call)) k.thread).thread.uncollected
     ≡ (has k (thread_at s.limits s.threads k.thread).thread.uncollected || (is_none (given (reply_now (thread_at s.limits s.threads u).thread.limits (thread_at s.limits s.threads u) e call)) && same (ticket_of (thread_at s.limits s.threads u).thread e) k))
 ask_kept events s w e u call k st free there =
@@ -116,7 +116,7 @@ alone_kept : (s : CoreState) (w : Bool) (event : Event) (k : Ticket) → is_alon
 alone_kept s w event k h = ap (λ ts. has k (thread_at s.limits ts k.thread).thread.uncollected) (env_threads s w event h) ∙ sym (or_false (has k (thread_at s.limits s.threads k.thread).thread.uncollected))
 
 -- an event posts its ticket, and takes none away
-pub kept_goes : (events : List Happening) (s : CoreState) (w : Bool) (event : Event) (k : Ticket) → Mirrors events s
+pub kept_goes : (events : List Happening) (s : CoreState) (w : Bool) (event : Event) (k : Ticket) → Refines events s
     → has k (thread_at s.limits (stepped_by s.limits s.envs s.threads w event).threads k.thread).thread.uncollected ≡ (has k (thread_at s.limits s.threads k.thread).thread.uncollected || posts s (happened event w) event k)
 kept_goes events s w (Start u) k st = own_kept s u entry.Start k
 kept_goes events s w (Own u step) k st = own_kept s u (entry.Own step) k
@@ -210,7 +210,7 @@ taken_there s t k found lt once =
           ap (λ (y : ThreadState). has k y.thread.uncollected) q ∙ (let b = is_uncollected s k in grind (arith, n))
     ]
 
-pub taken_kept : (events : List Happening) (s : CoreState) (t k : Ticket) (found : Bool) → Mirrors events s → (found ≡ true → t.thread.0 < length s.threads)
+pub taken_kept : (events : List Happening) (s : CoreState) (t k : Ticket) (found : Bool) → Refines events s → (found ≡ true → t.thread.0 < length s.threads)
     → is_uncollected (core_taken s t found) k ≡ (is_uncollected s k && not (same t k && found))
 taken_kept events s t k found st there =
     elim (cases_Bool (nat_lt t.thread.0 (length s.threads))) [
@@ -226,7 +226,7 @@ taken_kept events s t k found st there =
     ]
 
 -- a ticket that is given out was none before
-fresh_posted : (events : List Happening) (s : CoreState) (event : Event) (k : Ticket) → Mirrors events s → IsTicketOf s.limits s.envs s.threads event k → is_uncollected s k ≡ false
+fresh_posted : (events : List Happening) (s : CoreState) (event : Event) (k : Ticket) → Refines events s → IsTicketOf s.limits s.envs s.threads event k → is_uncollected s k ≡ false
 fresh_posted events s (Ask e t call) k st p =
     let u = thread_at s.limits s.threads t in
     let l : t.0 < s.limits.threads = (let q = p.0 in omega (arith, q, st.thread_count)) in
@@ -249,7 +249,7 @@ fresh_posted events s (GetCaps f) k st p = absurd p
 fresh_posted events s (SetEnvWord f v) k st p = absurd p
 fresh_posted events s (GetEnvWord f) k st p = absurd p
 
-pub ticket_fresh : (events : List Happening) (s : CoreState) (event : Event) (o : Outcome) → Mirrors events s → IfPosted o (λ k. IsTicketOf s.limits s.envs s.threads event k) → IfPosted o (λ k. is_uncollected s k ≡ false)
+pub ticket_fresh : (events : List Happening) (s : CoreState) (event : Event) (o : Outcome) → Refines events s → IfPosted o (λ k. IsTicketOf s.limits s.envs s.threads event k) → IfPosted o (λ k. is_uncollected s k ≡ false)
 ticket_fresh events s event outcome.Done st p = tt
 ticket_fresh events s event outcome.Clear st p = tt
 ticket_fresh events s event outcome.Went st p = tt
@@ -259,7 +259,7 @@ ticket_fresh events s event (outcome.Gave a) st p = tt
 ticket_fresh events s event (outcome.Posted k) st p = fresh_posted events s event k st p
 
 -- its number is the definitions'
-ticket_by : (events : List Happening) (s : CoreState) (event : Event) (k : Ticket) → Mirrors events s → IsTicketOf s.limits s.envs s.threads event k → IsTicketBy s.limits events event k
+ticket_by : (events : List Happening) (s : CoreState) (event : Event) (k : Ticket) → Refines events s → IsTicketOf s.limits s.envs s.threads event k → IsTicketBy s.limits events event k
 ticket_by events s (Ask e t call) k st p =
     let u = thread_at s.limits s.threads t in
     let l : t.0 < s.limits.threads = (let q = p.0 in omega (arith, q, st.thread_count)) in
@@ -283,7 +283,7 @@ ticket_by events s (GetCaps f) k st p = absurd p
 ticket_by events s (SetEnvWord f v) k st p = absurd p
 ticket_by events s (GetEnvWord f) k st p = absurd p
 
-pub ticket_as : (events : List Happening) (s : CoreState) (event : Event) (o : Outcome) → Mirrors events s → IfPosted o (λ k. IsTicketOf s.limits s.envs s.threads event k) → IfPosted o (λ k. IsTicketBy s.limits events event k)
+pub ticket_as : (events : List Happening) (s : CoreState) (event : Event) (o : Outcome) → Refines events s → IfPosted o (λ k. IsTicketOf s.limits s.envs s.threads event k) → IfPosted o (λ k. IsTicketBy s.limits events event k)
 ticket_as events s event outcome.Done st p = tt
 ticket_as events s event outcome.Clear st p = tt
 ticket_as events s event outcome.Went st p = tt
@@ -293,7 +293,7 @@ ticket_as events s event (outcome.Gave a) st p = tt
 ticket_as events s event (outcome.Posted k) st p = ticket_by events s event k st p
 
 -- what is taken is what the definition's history replies to the ticket
-pub taken_is : (events : List Happening) (s : CoreState) (k : Ticket) → Mirrors events s
+pub taken_is : (events : List Happening) (s : CoreState) (k : Ticket) → Refines events s
     → cond (is_uncollected s k) (reply_to (thread_at s.limits s.threads k.thread).thread.limits (thread_at s.limits s.threads k.thread).thread.history k) None
     ≡ cond (is_uncollected s k) (reply_to s.limits (history_of s.limits k.thread events) k) None
 taken_is events s k st =
@@ -311,7 +311,7 @@ taken_is events s k st =
           rw none refl
     ]
 
-pub standing_is : (events : List Happening) (s : CoreState) (e : EnvNo) (t : ThreadNo) → Mirrors events s
+pub standing_is : (events : List Happening) (s : CoreState) (e : EnvNo) (t : ThreadNo) → Refines events s
     → is_standing (thread_at s.limits s.threads t).thread.limits (thread_at s.limits s.threads t).thread.history e ≡ (nat_lt t.0 s.limits.threads && is_standing s.limits (history_of s.limits t events) e)
 standing_is events s e t st =
     let u = thread_at s.limits s.threads t in

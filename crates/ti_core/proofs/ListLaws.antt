@@ -10,7 +10,7 @@ use Rattle.ti_replay.specs.Admission.{Happening}
 use Rattle.ti_replay.specs.Outcomes.{told_now, happening}
 use Rattle.ti_core.specs.Threads.{IfPosted, is_ticket_of}
 use Rattle.ti_core.specs.Core.{CoreState, is_uncollected}
-use Rattle.ti_core.specs.Mirrors.{Mirrors}
+use Rattle.ti_core.specs.Refines.{Refines}
 use Rattle.ti_replay.specs.Refused.{is_refusal}
 use Rattle.ti_replay.proofs.RefusedLaws.{refusals_keep}
 use Rattle.ti_core.specs.Lists.{each_happened, IsSaid, AreSaid, AreUnchanged, AreFresh, are_tickets_of, HappenedAtEach}
@@ -18,8 +18,8 @@ use Rattle.ti_core.specs.Lists.{each_happened, IsSaid, AreSaid, AreUnchanged, Ar
 -- what a core says of a step
 pub record OneStep (x : Event) (s new : CoreState) (o : Outcome) : Type 0 where
   pub limits : new.limits ≡ s.limits
-  pub mirrors : (events : List Happening) → Mirrors events s → Mirrors (events ++ happening x (told_now o) ∷ []) new
-  pub said : (events : List Happening) → Mirrors events s → IsSaid s.limits events x o
+  pub refines : (events : List Happening) → Refines events s → Refines (events ++ happening x (told_now o) ∷ []) new
+  pub said : (events : List Happening) → Refines events s → IsSaid s.limits events x o
   pub fresh : IfPosted o (λ k. is_uncollected s k ≡ false)
   pub kept : (k : Ticket) → is_uncollected new k ≡ (is_uncollected s k || is_ticket_of o k)
 
@@ -69,7 +69,7 @@ said_unchanged limits front event (t ∷ ts) (o ∷ os) s =
 pub none_happened : (event : ThreadNo → Event) (s : CoreState) → HappenedAtEach event [] s s []
 none_happened event s = record {
   limits = refl;
-  mirrors = λ events k. rw append-nil k;
+  refines = λ events k. rw append-nil k;
   outcomes = λ events k. tt;
   refused = λ events k. tt;
   fresh = tt;
@@ -77,9 +77,9 @@ none_happened event s = record {
 }
 
 more_said : (event : ThreadNo → Event) (ts : List ThreadNo) (s mid new : CoreState) (os : List Outcome) (t : ThreadNo) (o : Outcome)
-    → HappenedAtEach event ts s mid os → OneStep (event t) mid new o → (events : List Happening) → Mirrors events s → AreSaid s.limits events event (ts ++ t ∷ []) (os ++ o ∷ [])
+    → HappenedAtEach event ts s mid os → OneStep (event t) mid new o → (events : List Happening) → Refines events s → AreSaid s.limits events event (ts ++ t ∷ []) (os ++ o ∷ [])
 more_said event ts s mid new os t o h one events k =
-    let said = one.said (events ++ each_happened event ts os) (h.mirrors events k) in
+    let said = one.said (events ++ each_happened event ts os) (h.refines events k) in
     said-snoc s.limits events event ts os t o (h.outcomes events k) (subst (λ m. IsSaid m (events ++ each_happened event ts os) (event t) o) h.limits said)
 
 pub one_more : (event : ThreadNo → Event) (ts : List ThreadNo) (s mid new : CoreState) (os : List Outcome) (t : ThreadNo) (o : Outcome)
@@ -88,10 +88,10 @@ one_more event ts s mid new os t o count h one =
     let outcomes = more_said event ts s mid new os t o h one in
     record {
       limits = one.limits ∙ h.limits;
-      mirrors = λ events k.
-          let more = one.mirrors (events ++ each_happened event ts os) (h.mirrors events k) in
+      refines = λ events k.
+          let more = one.refines (events ++ each_happened event ts os) (h.refines events k) in
           let e = append_assoc events (each_happened event ts os) (happening (event t) (told_now o) ∷ []) ∙ ap (λ l. events ++ l) (sym (happened-snoc event ts os t o count)) in
-          subst (λ l. Mirrors l new) e more;
+          subst (λ l. Refines l new) e more;
       outcomes = outcomes;
       refused = λ events k. said_unchanged s.limits events event (ts ++ t ∷ []) (os ++ o ∷ []) (outcomes events k);
       fresh = fresh-snoc s os o h.fresh (fresh_before s mid os o h.kept one.fresh);

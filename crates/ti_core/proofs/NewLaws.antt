@@ -1,4 +1,4 @@
--- A new core mirrors for nothing.
+-- A new core refines for nothing.
 use Rattle.std.proofs.Common.{◌≡◌, ℕ, ◌+◌, ◌<◌, ◌≤◌, take, drop, get_or, List, [], ◌∷◌, ◌++◌, length, refl, ap, sym, ◌∙◌, arith, replicate, inl, inr, length-append, subst, false, nat_lt, ltb-true}
 use Rattle.std.proofs.lemmas.List.{get_or_past, get_or-replicate, length-replicate, get_or_append_left, take-append-le, take_all}
 use Rattle.std.proofs.Math.Seq.{get_or-append_seam}
@@ -11,7 +11,7 @@ use Rattle.ti_types.specs.declared.numbers.ThreadNo.{ThreadNo}
 use Rattle.ti_env.specs.Env.{new_env}
 use Rattle.ti_core.specs.Thread.{ThreadState, new_state}
 use Rattle.ti_core.specs.Core.{core_of, thread_at, no_thread, no_env}
-use Rattle.ti_core.specs.Mirrors.{Mirrors, ThreadMirrors, AreNew}
+use Rattle.ti_core.specs.Refines.{Refines, ThreadRefines, AreNew}
 use Rattle.ti_core.proofs.ToldLaws.{new_thread_stands, new_env_stands}
 
 pub none_new : (limits : Limits) → AreNew limits 0 []
@@ -34,11 +34,11 @@ one_more_new limits count threads k = record {
       ];
 }
 
-pub new_stands : (limits : Limits) (threads : List ThreadState) → AreNew limits limits.threads threads → Mirrors [] (core_of limits (replicate limits.envs (new_env limits)) threads)
+pub new_stands : (limits : Limits) (threads : List ThreadState) → AreNew limits limits.threads threads → Refines [] (core_of limits (replicate limits.envs (new_env limits)) threads)
 new_stands limits threads k = record {
   thread_count = k.count_is;
   env_count = length-replicate limits.envs (new_env limits);
-  threads = λ t l. subst (ThreadMirrors limits t []) (sym (k.each t l)) (new_thread_stands limits t);
+  threads = λ t l. subst (ThreadRefines limits t []) (sym (k.each t l)) (new_thread_stands limits t);
   envs = λ e l. rw (get_or-replicate limits.envs e.0 (new_env limits) no_env l) (new_env_stands limits e);
 }
 

@@ -120,13 +120,13 @@ pops_at limits thread all front (x ∷ before) more after (o ∷ os) ps qs h k e
     ∙ pops_at limits thread all (front ++ happening x o ∷ []) before more after os ps qs (omega (arith, h)) k (ap rest_of e)
 
 pub runs_tell_one_state : RunsTellOneState
-runs_tell_one_state limits env thread before more after event os ps qs o h k run mirrors stays =
+runs_tell_one_state limits env thread before more after event os ps qs o h k run refines stays =
     let front = happenings before os in
     let now = front ++ happenings more ps in
     let count : length (before ++ more) ≡ length (os ++ ps) = length-append before more ∙ ap₂ (λ a b. a + b) h k ∙ sym (length-append os ps) in
     let split : happenings (before ++ more) (os ++ ps) ≡ now = happenings-append before more os ps h in
     let rest = happenings after qs in
-    let held = one_state limits env thread front (happenings more ps) mirrors stays in
+    let held = one_state limits env thread front (happenings more ps) refines stays in
     let told : told_later o ≡ out_of limits (now ++ happening event o ∷ rest) now (happening event o) =
     run_place limits (before ++ more) after event (os ++ ps) qs o count run ∙ ap (λ f. out_of limits (f ++ happening event o ∷ rest) f (happening event o)) split in
     let whole : happenings ((before ++ more) ++ event ∷ after) ((os ++ ps) ++ o ∷ qs) ≡ now ++ happening event o ∷ rest =

@@ -12,7 +12,7 @@ use Rattle.ti_replay.specs.Legal.{calls_spent}
 use Rattle.ti_env.specs.Env.{call_refusal, stop_refusal, read_refusal}
 use Rattle.ti_core.specs.Thread.{ThreadState, reply_now, ask_next, read_next, read_told}
 use Rattle.ti_core.specs.Core.{CoreState, thread_at, env_at, why_not, spending, stepped_ask, stepped_read}
-use Rattle.ti_core.specs.Mirrors.{IsReached}
+use Rattle.ti_core.specs.Refines.{IsReached}
 use Rattle.ti_core.proofs.CallLaws.{spent_same}
 use Rattle.ti_core.proofs.StepLaws.{whys, whys_is_ask, whys_is_stop, whys_is_read, ask_through, stop_through, read_through, IsLetThrough}
 

@@ -30,7 +30,7 @@ use Rattle.ti_replay.proofs.ReplyLaws.{reply_stays}
 use Rattle.ti_slot.specs.Tickets.{has, same, AreOnce}
 use Rattle.ti_core.specs.Core.{CoreState, is_uncollected}
 use Rattle.ti_core.specs.Threads.{IfPosted, is_ticket_of}
-use Rattle.ti_core.specs.Mirrors.{Mirrors}
+use Rattle.ti_core.specs.Refines.{Refines}
 use Rattle.ti_core.specs.Runs.{IsTicketBy, IsSeen, AreSeen, tickets, are_uncollected, HasSeen, IsDue, AreDue}
 use Rattle.ti_core.proofs.CallLaws.{once_more}
 use Rattle.ti_core.proofs.ToldLaws.{history_now}
@@ -269,20 +269,20 @@ tickets_on s s' ks (outcome.Gave a) h f fresh = no_more s s' ks (λ u. false) h 
 tickets_on s s' ks (outcome.Posted k) h f fresh = one_more s s' ks k h f fresh
 
 -- a run has seen one more event
-pub seen_on : (hs : List Happening) (os : List (Option Outcome)) (s s' : CoreState) (h : Happening) (o : Outcome) → HasSeen hs os s → Mirrors (hs ++ h ∷ []) s' → s'.limits ≡ s.limits → IsSeen s.limits hs h (Some o)
+pub seen_on : (hs : List Happening) (os : List (Option Outcome)) (s s' : CoreState) (h : Happening) (o : Outcome) → HasSeen hs os s → Refines (hs ++ h ∷ []) s' → s'.limits ≡ s.limits → IsSeen s.limits hs h (Some o)
     → ((u : Ticket) → is_uncollected s' u ≡ (is_uncollected s u || is_ticket_of o u)) → IfPosted o (λ k. is_uncollected s k ≡ false) → HasSeen (hs ++ h ∷ []) (os ++ Some o ∷ []) s'
 seen_on hs os s s' h o k st l seen f fresh =
     let ts = tickets_on s s' (tickets os) o (record { kept = k.kept; once = k.once }) f fresh in
     let e = sym (tickets-append os (Some o ∷ [])) in
     record {
-      mirrors = st;
+      refines = st;
       seen = subst (λ m. AreSeen m [] (hs ++ h ∷ []) (os ++ Some o ∷ [])) (sym l) (seen-snoc s.limits [] hs os h (Some o) k.seen seen);
       kept = subst (λ z. are_uncollected s' z ≡ true) e ts.kept;
       once = subst AreOnce e ts.once;
     }
 
-pub nothing_seen : (s : CoreState) → Mirrors [] s → HasSeen [] [] s
-nothing_seen s st = record { mirrors = st; seen = tt; kept = refl; once = tt }
+pub nothing_seen : (s : CoreState) → Refines [] s → HasSeen [] [] s
+nothing_seen s st = record { refines = st; seen = tt; kept = refl; once = tt }
 
 pub told_happening : (x : Event) (o : Outcome) → happening x (told_now o) ≡ happening x (Some o)
 told_happening x o = ap (λ (w : Bool). record { event = x; wanting = w }) (told_memory o)

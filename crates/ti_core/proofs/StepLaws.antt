@@ -26,7 +26,7 @@ use Rattle.ti_replay.proofs.EventLaws.{history_is_paid}
 use Rattle.ti_env.specs.Env.{EnvValue, is_there, spent_at, call_refusal, stop_refusal, read_refusal}
 use Rattle.ti_core.specs.Thread.{ThreadState, own_next, poll_next, ask_next, stop_next, go_next, read_next}
 use Rattle.ti_core.specs.Core.{CoreState, StepResult, thread_at, env_at, stepped_by, why_not, refused_or_else, stepped_own}
-use Rattle.ti_core.specs.Mirrors.{ThreadMirrors, Mirrors}
+use Rattle.ti_core.specs.Refines.{ThreadRefines, Refines}
 use Rattle.ti_core.proofs.ThreadLaws.{own_stands, poll_stands}
 use Rattle.ti_core.proofs.CallLaws.{ask_stands, stop_stands, go_stands, read_stands}
 use Rattle.ti_core.proofs.AdmitLaws.{Keeps, same_reach, where_known, moves}
@@ -60,7 +60,7 @@ agent_threads : (envs : List EnvValue) (threads : List ThreadState) (why : Optio
 agent_threads envs threads None other = refl
 agent_threads envs threads (Some error) other = refl
 
-pub keeps : (events : List Happening) (s : CoreState) (e : EnvNo) (t : ThreadNo) → Mirrors events s → e.0 < s.limits.envs → Keeps s.limits (dealings s.limits e t events) t (env_at s.envs e)
+pub keeps : (events : List Happening) (s : CoreState) (e : EnvNo) (t : ThreadNo) → Refines events s → e.0 < s.limits.envs → Keeps s.limits (dealings s.limits e t events) t (env_at s.envs e)
 keeps events s e t k h =
     let q = k.envs e h in
     record { caps = q.caps t; spent = λ l. q.spent t l; spent_count = q.spent_count; calls = q.calls }
@@ -69,9 +69,9 @@ abbrev pub happened : Event → Bool → Happening
 happened event w = record { event = event; wanting = w }
 
 -- the state of a thread after an own event
-own_goes : (events : List Happening) (s : CoreState) (u : ThreadNo) (x : Entry) (t : ThreadNo) (history' : List Entry) → Mirrors events s → t.0 < s.limits.threads
+own_goes : (events : List Happening) (s : CoreState) (u : ThreadNo) (x : Entry) (t : ThreadNo) (history' : List Entry) → Refines events s → t.0 < s.limits.threads
     → history' ≡ cond (u.0 == t.0 && nat_lt u.0 (length s.threads)) (history_of s.limits t events ++ left_own s.limits (history_of s.limits t events) (Some x)) (history_of s.limits t events)
-    → ThreadMirrors s.limits t history' (thread_at s.limits (stepped_own s.limits s.envs s.threads u x).threads t)
+    → ThreadRefines s.limits t history' (thread_at s.limits (stepped_own s.limits s.envs s.threads u x).threads t)
 own_goes events s u x t history' k l q =
     let history = history_of s.limits t events in
     moves s.limits t u s.threads (stepped_own s.limits s.envs s.threads u x).threads history history' (left_own s.limits history (Some x)) (nat_lt u.0 (length s.threads))
@@ -88,23 +88,23 @@ whys s w (Go e t) = why_not s.envs e (going_refusal (nat_lt t.0 (length s.thread
 whys s w _ = None
 
 -- what an environment of a core refuses at a thread by itself
-reach : (events : List Happening) (s : CoreState) (e : EnvNo) (t : ThreadNo) (well_formed : Bool) → Mirrors events s → nat_lt e.0 s.limits.envs ≡ true
+reach : (events : List Happening) (s : CoreState) (e : EnvNo) (t : ThreadNo) (well_formed : Bool) → Refines events s → nat_lt e.0 s.limits.envs ≡ true
     → reaching_refusal (is_there (env_at s.envs e) t) well_formed (spent_at (env_at s.envs e) t) (env_at s.envs e).limits.calls
     ≡ reaching_refusal (nat_lt t.0 s.limits.threads) well_formed (dealings s.limits e t events).spent s.limits.calls
 reach events s e t well_formed k h = same_reach s.limits (dealings s.limits e t events) t (env_at s.envs e) well_formed (keeps events s e t k (ltb-true _ _ h))
 
-pub whys_is_ask : (events : List Happening) (s : CoreState) (w : Bool) (e : EnvNo) (t : ThreadNo) (c : Call) → Mirrors events s → whys s w (Ask e t c) ≡ refusal_of s.limits (dealings s.limits e t events) w (Ask e t c)
+pub whys_is_ask : (events : List Happening) (s : CoreState) (w : Bool) (e : EnvNo) (t : ThreadNo) (c : Call) → Refines events s → whys s w (Ask e t c) ≡ refusal_of s.limits (dealings s.limits e t events) w (Ask e t c)
 whys_is_ask events s w e t c k =
     rw k.env_count (where_known (nat_lt e.0 s.limits.envs) _ _ (w && takes_buffer c)
     (λ h. ap₂ (λ (held : Caps) r. or_else (unless (has_all held (needed_by c)) MustPossessCapability) r) (keeps events s e t k (ltb-true _ _ h)).caps (reach events s e t (is_well_formed c) k h)))
 
-pub whys_is_stop : (events : List Happening) (s : CoreState) (w : Bool) (e : EnvNo) (t : ThreadNo) → Mirrors events s → whys s w (Stop e t) ≡ refusal_of s.limits (dealings s.limits e t events) w (Stop e t)
+pub whys_is_stop : (events : List Happening) (s : CoreState) (w : Bool) (e : EnvNo) (t : ThreadNo) → Refines events s → whys s w (Stop e t) ≡ refusal_of s.limits (dealings s.limits e t events) w (Stop e t)
 whys_is_stop events s w e t k = rw k.env_count (where_known (nat_lt e.0 s.limits.envs) _ _ false (reach events s e t true k))
 
-pub whys_is_read : (events : List Happening) (s : CoreState) (w : Bool) (e : EnvNo) (t : ThreadNo) (n : ℤ) → Mirrors events s → whys s w (Read e t n) ≡ refusal_of s.limits (dealings s.limits e t events) w (Read e t n)
+pub whys_is_read : (events : List Happening) (s : CoreState) (w : Bool) (e : EnvNo) (t : ThreadNo) (n : ℤ) → Refines events s → whys s w (Read e t n) ≡ refusal_of s.limits (dealings s.limits e t events) w (Read e t n)
 whys_is_read events s w e t n k = rw k.env_count (where_known (nat_lt e.0 s.limits.envs) _ _ w (reach events s e t (is_not_negative n) k))
 
-pub whys_is_go : (events : List Happening) (s : CoreState) (w : Bool) (e : EnvNo) (t : ThreadNo) → Mirrors events s → whys s w (Go e t) ≡ refusal_of s.limits (dealings s.limits e t events) w (Go e t)
+pub whys_is_go : (events : List Happening) (s : CoreState) (w : Bool) (e : EnvNo) (t : ThreadNo) → Refines events s → whys s w (Go e t) ≡ refusal_of s.limits (dealings s.limits e t events) w (Go e t)
 whys_is_go events s w e t k = rw (k.env_count, k.thread_count) refl
 
 -- a call that is let through is an environment's, at a thread, and is paid for
@@ -138,19 +138,19 @@ read_through events limits w e t n h =
     record { env = there; thread = here; calls = omega (arith, left, history_is_paid limits t events e) }
 
 -- where nothing refuses, the thread is there
-pub ask_there : (events : List Happening) (s : CoreState) (w : Bool) (e : EnvNo) (t : ThreadNo) (c : Call) → Mirrors events s → is_none (whys s w (Ask e t c)) ≡ true → t.0 < s.limits.threads
+pub ask_there : (events : List Happening) (s : CoreState) (w : Bool) (e : EnvNo) (t : ThreadNo) (c : Call) → Refines events s → is_none (whys s w (Ask e t c)) ≡ true → t.0 < s.limits.threads
 ask_there events s w e t c k on = (ask_through events s.limits w e t c (ap is_none (sym (whys_is_ask events s w e t c k)) ∙ on)).thread
 
-pub stop_there : (events : List Happening) (s : CoreState) (w : Bool) (e : EnvNo) (t : ThreadNo) → Mirrors events s → is_none (whys s w (Stop e t)) ≡ true → t.0 < s.limits.threads
+pub stop_there : (events : List Happening) (s : CoreState) (w : Bool) (e : EnvNo) (t : ThreadNo) → Refines events s → is_none (whys s w (Stop e t)) ≡ true → t.0 < s.limits.threads
 stop_there events s w e t k on = (stop_through events s.limits w e t (ap is_none (sym (whys_is_stop events s w e t k)) ∙ on)).thread
 
-pub read_there : (events : List Happening) (s : CoreState) (w : Bool) (e : EnvNo) (t : ThreadNo) (n : ℤ) → Mirrors events s → is_none (whys s w (Read e t n)) ≡ true → t.0 < s.limits.threads
+pub read_there : (events : List Happening) (s : CoreState) (w : Bool) (e : EnvNo) (t : ThreadNo) (n : ℤ) → Refines events s → is_none (whys s w (Read e t n)) ≡ true → t.0 < s.limits.threads
 read_there events s w e t n k on = (read_through events s.limits w e t n (ap is_none (sym (whys_is_read events s w e t n k)) ∙ on)).thread
 
-pub go_there : (events : List Happening) (s : CoreState) (w : Bool) (e : EnvNo) (t : ThreadNo) → Mirrors events s → is_none (whys s w (Go e t)) ≡ true → t.0 < s.limits.threads
+pub go_there : (events : List Happening) (s : CoreState) (w : Bool) (e : EnvNo) (t : ThreadNo) → Refines events s → is_none (whys s w (Go e t)) ≡ true → t.0 < s.limits.threads
 go_there events s w e t k on = grind (arith, nat_tests, k.thread_count, on)
 
-pub in_core : (events : List Happening) (s : CoreState) (t : ThreadNo) → Mirrors events s → t.0 < s.limits.threads → t.0 < length s.threads
+pub in_core : (events : List Happening) (s : CoreState) (t : ThreadNo) → Refines events s → t.0 < s.limits.threads → t.0 < length s.threads
 in_core events s t k h = omega (arith, h, k.thread_count)
 
 pub cond_same : {X : Type 0} → (b : Bool) (x : X) → cond b x x ≡ x
@@ -184,8 +184,8 @@ env_threads s w (GetCaps e) h = refl
 env_threads s w (SetEnvWord e v) h = grind arith
 env_threads s w (GetEnvWord e) h = refl
 
-pub thread_goes : (events : List Happening) (s : CoreState) (w : Bool) (event : Event) (t : ThreadNo) → Mirrors events s → t.0 < s.limits.threads
-    → ThreadMirrors s.limits t (history_behind s.limits t events (history_of s.limits t events) (happened event w)) (thread_at s.limits (stepped_by s.limits s.envs s.threads w event).threads t)
+pub thread_goes : (events : List Happening) (s : CoreState) (w : Bool) (event : Event) (t : ThreadNo) → Refines events s → t.0 < s.limits.threads
+    → ThreadRefines s.limits t (history_behind s.limits t events (history_of s.limits t events) (happened event w)) (thread_at s.limits (stepped_by s.limits s.envs s.threads w event).threads t)
 thread_goes events s w (Start u) t k l = own_goes events s u entry.Start t _ k l (own_history s.limits t u (length s.threads) (history_of s.limits t events) _ true k.thread_count)
 thread_goes events s w (Own u step) t k l = own_goes events s u (entry.Own step) t _ k l (own_history s.limits t u (length s.threads) (history_of s.limits t events) _ true k.thread_count)
 thread_goes events s w (ToNative u) t k l = own_goes events s u (entry.Hand Native) t _ k l (own_history s.limits t u (length s.threads) (history_of s.limits t events) _ true k.thread_count)

@@ -19,7 +19,7 @@ use Rattle.ti_replay.specs.LateTickets.{AreAlike, steps_of}
 use Rattle.ti_replay.proofs.LateTicketLaws.{alike-snoc}
 use Rattle.ti_slot.specs.Tickets.{has, AreOnce}
 use Rattle.ti_core.specs.Thread.{ThreadState, entries, seen, entered, at_poll, refusal_at, entered_unless, own_next, poll_next, poll_said}
-use Rattle.ti_core.specs.Mirrors.{ThreadMirrors}
+use Rattle.ti_core.specs.Refines.{ThreadRefines}
 use Rattle.ti_core.proofs.WholeLaws.{runs-snoc}
 use Rattle.ti_core.proofs.PollLaws.{entries-snoc, handed_at}
 
@@ -87,8 +87,8 @@ entered_rests limits L s (Read env n) r h = refl
 entered_rests limits L s (Go env) r h = refl
 
 -- one more entry of the thread's own
-pub entered_stands : (limits : Limits) (t : ThreadNo) (L : List Entry) (s : ThreadState) (x : Entry) → ThreadMirrors limits t L s → own_refusal limits (view limits L) (own_spent L) x ≡ None
-    → ThreadMirrors limits t (L ++ x ∷ []) (entered s x)
+pub entered_stands : (limits : Limits) (t : ThreadNo) (L : List Entry) (s : ThreadState) (x : Entry) → ThreadRefines limits t L s → own_refusal limits (view limits L) (own_spent L) x ≡ None
+    → ThreadRefines limits t (L ++ x ∷ []) (entered s x)
 entered_stands limits t L s x k r = record {
   limits_are = entered_limits s x ∙ k.limits_are;
   number_is = entered_number s x ∙ k.number_is;
@@ -101,20 +101,20 @@ entered_stands limits t L s x k r = record {
 }
 
 -- what the thread refuses is what the definitions refuse
-pub same_refusal : (limits : Limits) (t : ThreadNo) (L : List Entry) (s : ThreadState) (x : Entry) → ThreadMirrors limits t L s → refusal_at limits s x ≡ own_refusal limits (view limits L) (own_spent L) x
+pub same_refusal : (limits : Limits) (t : ThreadNo) (L : List Entry) (s : ThreadState) (x : Entry) → ThreadRefines limits t L s → refusal_at limits s x ≡ own_refusal limits (view limits L) (own_spent L) x
 same_refusal limits t L s x k = ap (λ (z : HistoryState). own_refusal limits z.view z.own x) (sym k.alike.state)
 
-pub own_stands : (limits : Limits) (t : ThreadNo) (L : List Entry) (s : ThreadState) (x : Entry) → ThreadMirrors limits t L s
-    → ThreadMirrors limits t (L ++ left_own limits L (Some x)) (own_next s.thread.limits s x)
+pub own_stands : (limits : Limits) (t : ThreadNo) (L : List Entry) (s : ThreadState) (x : Entry) → ThreadRefines limits t L s
+    → ThreadRefines limits t (L ++ left_own limits L (Some x)) (own_next s.thread.limits s x)
 own_stands limits t L s x k =
     let e = same_refusal limits t L s x k in
-    subst (λ l. ThreadMirrors limits t (L ++ left_own limits L (Some x)) (own_next l s x)) (sym k.limits_are) (elim (own_refusal limits (view limits L) (own_spent L) x)
-    as (λ o. own_refusal limits (view limits L) (own_spent L) x ≡ o → refusal_at limits s x ≡ o → ThreadMirrors limits t (L ++ if_none o (x ∷ [])) (entered_unless (refusal_at limits s x) s x)) [
+    subst (λ l. ThreadRefines limits t (L ++ left_own limits L (Some x)) (own_next l s x)) (sym k.limits_are) (elim (own_refusal limits (view limits L) (own_spent L) x)
+    as (λ o. own_refusal limits (view limits L) (own_spent L) x ≡ o → refusal_at limits s x ≡ o → ThreadRefines limits t (L ++ if_none o (x ∷ [])) (entered_unless (refusal_at limits s x) s x)) [
       | None ↦ λ p r. rw r (entered_stands limits t L s x k p)
       | Some error ↦ λ p r. rw (r, append-nil) k
     ] refl e)
 
-pub own_told : (limits : Limits) (t : ThreadNo) (L : List Entry) (s : ThreadState) (x : Entry) → ThreadMirrors limits t L s
+pub own_told : (limits : Limits) (t : ThreadNo) (L : List Entry) (s : ThreadState) (x : Entry) → ThreadRefines limits t L s
     → done_unless (refusal_at s.thread.limits s x) ≡ own_outcome limits L (Some x)
 own_told limits t L s x k = subst (λ l. done_unless (refusal_at l s x) ≡ own_outcome limits L (Some x)) (sym k.limits_are) (ap done_unless (same_refusal limits t L s x k))
 
@@ -130,11 +130,11 @@ alike_armed limits a b k =
     grind (arith, n, v)
 
 -- what a poll leaves
-pub poll_stands : (limits : Limits) (t : ThreadNo) (L : List Entry) (s : ThreadState) → ThreadMirrors limits t L s → ThreadMirrors limits t (L ++ left_by_poll limits L) (poll_next s.thread.limits s)
+pub poll_stands : (limits : Limits) (t : ThreadNo) (L : List Entry) (s : ThreadState) → ThreadRefines limits t L s → ThreadRefines limits t (L ++ left_by_poll limits L) (poll_next s.thread.limits s)
 poll_stands limits t L s k =
     let v : view limits (entries s) ≡ view limits L = ap (λ (z : HistoryState). z.view) (sym k.alike.state) in
     let a = alike_armed limits L (entries s) k.alike in
-    subst (λ l. ThreadMirrors limits t (L ++ left_by_poll limits L) (poll_next l s)) (sym k.limits_are) (elim (cases_Bool (is_running (view limits L).mode)) [
+    subst (λ l. ThreadRefines limits t (L ++ left_by_poll limits L) (poll_next l s)) (sym k.limits_are) (elim (cases_Bool (is_running (view limits L).mode)) [
       | inl runs ↦
           let rs : is_running (seen limits s).mode ≡ true = ap (λ z. is_running z.mode) v ∙ runs in
           elim (cases_Bool (is_armed limits L)) [
@@ -165,7 +165,7 @@ poll_stands limits t L s k =
     back_free : (limits : Limits) (L : List Entry) → is_barred (view limits (L ++ Hand AtPoll ∷ [])) ≡ false → own_refusal limits (view limits (L ++ Hand AtPoll ∷ [])) (own_spent (L ++ Hand AtPoll ∷ [])) Back ≡ None
     back_free limits L b = let m = handed_at limits L AtPoll in grind (arith, m, b)
 
-pub poll_told : (limits : Limits) (t : ThreadNo) (L : List Entry) (s : ThreadState) → ThreadMirrors limits t L s → poll_said s.thread.limits s ≡ poll_outcome limits L
+pub poll_told : (limits : Limits) (t : ThreadNo) (L : List Entry) (s : ThreadState) → ThreadRefines limits t L s → poll_said s.thread.limits s ≡ poll_outcome limits L
 poll_told limits t L s k =
     let v : view limits (entries s) ≡ view limits L = ap (λ (z : HistoryState). z.view) (sym k.alike.state) in
     let a = alike_armed limits L (entries s) k.alike in

@@ -1,4 +1,4 @@
--- What a core says is what the definitions say, and the core mirrors for one more event.
+-- What a core says is what the definitions say, and the core refines for one more event.
 use Rattle.std.proofs.Common.{◌≡◌, ◌≢◌, ℕ, ◌<◌, Bool, true, false, ◌==◌, nat_lt, cond, List, [], ◌∷◌, ◌++◌, length, refl, ap, sym, ◌∙◌, arith, Option, Some, None, is_none, slice_set, length-set, get_or-set_same, get_or-set_other, inl, inr, ltb-true, bit_or}
 use Rattle.std.proofs.lemmas.List.{get_or-replicate, length-replicate}
 use Rattle.std.proofs.lemmas.Bool.Decides.{nat_tests}
@@ -25,7 +25,7 @@ use Rattle.ti_replay.proofs.AgreementLaws.{history_of-snoc, caps_are}
 use Rattle.ti_env.specs.Env.{EnvValue, new_env, with_caps}
 use Rattle.ti_core.specs.Thread.{ThreadState, new_state, own_next, poll_next, taken}
 use Rattle.ti_core.specs.Core.{CoreState, StepResult, thread_at, env_at, stepped_by, refused_or_else, stepped_own, core_next, core_taken, no_thread, with_env}
-use Rattle.ti_core.specs.Mirrors.{ThreadMirrors, EnvMirrors, Mirrors, IsNext}
+use Rattle.ti_core.specs.Refines.{ThreadRefines, EnvRefines, Refines, IsNext}
 use Rattle.ti_core.proofs.ThreadLaws.{own_told, poll_told}
 use Rattle.ti_core.proofs.CallLaws.{ask_told_is, stop_told_is, go_told_is, read_told_is, taken_stands}
 use Rattle.ti_core.proofs.StepLaws.{happened, same_thread, whys, whys_is_ask, whys_is_stop, whys_is_read, whys_is_go, ask_there, stop_there, read_there, go_there, thread_goes, env_threads}
@@ -34,7 +34,7 @@ use Rattle.ti_core.proofs.EnvLaws.{env_goes, own_envs}
 self : (n : ℕ) → (n == n) ≡ true
 self n = grind (arith, nat_tests)
 
-own_told_goes : (events : List Happening) (s : CoreState) (u : ThreadNo) (x : Entry) → Mirrors events s
+own_told_goes : (events : List Happening) (s : CoreState) (u : ThreadNo) (x : Entry) → Refines events s
     → (stepped_own s.limits s.envs s.threads u x).told ≡ cond (nat_lt u.0 s.limits.threads) (own_outcome s.limits (history_of s.limits u events) (Some x)) (Some (outcome.Refused InvalidThread))
 own_told_goes events s u x k =
     elim (cases_Bool (nat_lt u.0 s.limits.threads)) [
@@ -60,7 +60,7 @@ agent_told envs threads why r other there e h =
       | Some error ↦ λ q g. rw q refl
     ] e h
 
-pub told_goes : (events : List Happening) (s : CoreState) (w : Bool) (event : Event) → Mirrors events s
+pub told_goes : (events : List Happening) (s : CoreState) (w : Bool) (event : Event) → Refines events s
     → (stepped_by s.limits s.envs s.threads w event).told ≡ out_of s.limits (events ++ happened event w ∷ []) events (happened event w)
 told_goes events s w (Start u) k = rw (self u.0) (own_told_goes events s u entry.Start k)
 told_goes events s w (Own u step) k = rw (self u.0) (own_told_goes events s u (entry.Own step) k)
@@ -187,8 +187,8 @@ env_length s w (GetCaps e) = refl
 env_length s w (SetEnvWord e v) = with_length s.envs s.threads e _ _
 env_length s w (GetEnvWord e) = refl
 
--- a thread that has not started mirrors for nothing
-pub new_thread_stands : (limits : Limits) (t : ThreadNo) → ThreadMirrors limits t [] (new_state limits t)
+-- a thread that has not started refines for nothing
+pub new_thread_stands : (limits : Limits) (t : ThreadNo) → ThreadRefines limits t [] (new_state limits t)
 new_thread_stands limits t = record {
   limits_are = refl;
   number_is = refl;
@@ -198,7 +198,7 @@ new_thread_stands limits t = record {
   known = λ k h. cc;
 }
 
-pub new_env_stands : (limits : Limits) (e : EnvNo) → EnvMirrors limits e [] (new_env limits)
+pub new_env_stands : (limits : Limits) (e : EnvNo) → EnvRefines limits e [] (new_env limits)
 new_env_stands limits e = record {
   caps = λ t. refl;
   spent = λ t h. get_or-replicate limits.threads t.0 0 0 h;
@@ -208,7 +208,7 @@ new_env_stands limits e = record {
 }
 
 -- the core after one more event
-pub stands_on : (events : List Happening) (s : CoreState) (h : Happening) → Mirrors events s → Mirrors (events ++ h ∷ []) (core_next s h)
+pub stands_on : (events : List Happening) (s : CoreState) (h : Happening) → Refines events s → Refines (events ++ h ∷ []) (core_next s h)
 stands_on events s h k = record {
   thread_count = thread_length s h.wanting h.event ∙ k.thread_count;
   env_count = env_length s h.wanting h.event ∙ k.env_count;
@@ -216,12 +216,12 @@ stands_on events s h k = record {
   envs = λ e l. env_goes events s h.wanting h.event e k l;
 }
 
--- one event: the core mirrors for it too, and what it comes to is what the definitions say
-pub steps : (events : List Happening) (s : CoreState) (h : Happening) → Mirrors events s → IsNext events s h
-steps events s h k = record { mirrors = stands_on events s h k; told = told_goes events s h.wanting h.event k }
+-- one event: the core refines for it too, and what it comes to is what the definitions say
+pub steps : (events : List Happening) (s : CoreState) (h : Happening) → Refines events s → IsNext events s h
+steps events s h k = record { refines = stands_on events s h k; told = told_goes events s h.wanting h.event k }
 
 -- taking an answer changes nothing of what has happened
-pub take_stands : (events : List Happening) (s : CoreState) (ticket : Ticket) (found : Bool) → Mirrors events s → Mirrors events (core_taken s ticket found)
+pub take_stands : (events : List Happening) (s : CoreState) (ticket : Ticket) (found : Bool) → Refines events s → Refines events (core_taken s ticket found)
 take_stands events s ticket found k =
     let x = taken (thread_at s.limits s.threads ticket.thread) ticket found in
     record {

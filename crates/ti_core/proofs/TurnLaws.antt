@@ -19,7 +19,7 @@ use Rattle.ti_replay.specs.Tickets.{reply_in, reply_to, is_call_of}
 use Rattle.ti_replay.specs.Outcomes.{out_of, outs, outs_from, told_later, was_for_memory, happenings}
 use Rattle.ti_slot.specs.Tickets.{has, same, AreOnce}
 use Rattle.ti_core.specs.Core.{CoreState, is_uncollected}
-use Rattle.ti_core.specs.Mirrors.{Mirrors}
+use Rattle.ti_core.specs.Refines.{Refines}
 use Rattle.ti_core.specs.Runs.{tickets, are_uncollected, HasSeen, IsDue, AreDue, IsFinished, is_posted, AtTurn}
 use Rattle.ti_core.proofs.MemoryLaws.{or_memory, if_memory, entry_memory}
 use Rattle.ti_core.proofs.RunLaws.{all_due, told_memory, same_is}
@@ -127,7 +127,7 @@ drop_at j os lt = rw (add-one, drop-cons os j None) refl
 
 -- one turn
 pub turn : (limits : Limits) (hs : List Happening) (first : List (Option Outcome)) (j : ℕ) (os : List (Option Outcome)) (s s' : CoreState) (r : Option Outcome) → AtTurn limits hs first j os s → j < length os
-    → IsFinished hs s (get_or os j None) r → ((k : Ticket) → is_uncollected s k ≡ true → is_posted (get_or os j None) k ≡ false → is_uncollected s' k ≡ true) → Mirrors hs s' → s'.limits ≡ s.limits
+    → IsFinished hs s (get_or os j None) r → ((k : Ticket) → is_uncollected s k ≡ true → is_posted (get_or os j None) k ≡ false → is_uncollected s' k ≡ true) → Refines hs s' → s'.limits ≡ s.limits
     → AtTurn limits hs first (j + 1) (slice_set os j r) s'
 turn limits hs first j os s s' r a lt fin others st l =
     let o = get_or os j None in
@@ -143,7 +143,7 @@ turn limits hs first j os s s' r a lt fin others st l =
       front = a.front ++ step.h ∷ [];
       rest = step.later_rest;
       limits_are = l ∙ a.limits_are;
-      mirrors = st;
+      refines = st;
       told =
           let t = finished_told limits hs a.front step.h s o r a.limits_are step.due fin posted in
           ap (λ z. map told_later z ++ outs_from limits hs (a.front ++ step.h ∷ []) step.later_rest) (take_more_set os j r lt)
@@ -165,7 +165,7 @@ first_turn hs os s k = record {
   front = [];
   rest = hs;
   limits_are = refl;
-  mirrors = k.mirrors;
+  refines = k.refines;
   told = refl;
   due = all_due s.limits hs [] hs os refl k.seen;
   kept = k.kept;

@@ -1,5 +1,5 @@
 -- All threads and environments of a core, and how each event changes them.
-use Rattle.std.specs.Prelude.{◌<◌, is_none, ◌≡◌, Bool, false, ◌&&◌, nat_lt, if◌then◌else◌, List, [], length, Option, Some, None, slice_index_or, slice_set, ℤ}
+use Rattle.std.specs.Prelude.{◌<◌, ◌≤◌, ◌⊎◌, is_none, ◌≡◌, Bool, false, ◌&&◌, nat_lt, if◌then◌else◌, List, [], length, Option, Some, None, slice_index_or, slice_set, ℤ}
 use Rattle.ti_types.specs.declared.limits.Limits.{Limits}
 use Rattle.ti_types.specs.declared.numbers.EnvNo.{EnvNo}
 use Rattle.ti_types.specs.declared.numbers.ThreadNo.{ThreadNo}
@@ -14,7 +14,7 @@ use Rattle.ti_types.specs.declared.event.Outcome.TheVariants as outcome
 use Rattle.ti_types.specs.declared.answer.Answer.{Answer}
 use Rattle.ti_types.specs.declared.answer.Answer.TheVariants as answer
 use Rattle.ti_types.specs.declared.error.TiError.{TiError}
-use Rattle.ti_types.specs.declared.error.TiError.TheVariants.{InvalidEnvironment, InvalidThread, NotAvailable}
+use Rattle.ti_types.specs.declared.error.TiError.TheVariants.{Full, InvalidEnvironment, InvalidThread, NotAvailable, OutOfMemory}
 use Rattle.ti_types.specs.Caps.{caps_with, caps_without}
 use Rattle.ti_types.specs.Least.{least}
 use Rattle.ti_types.specs.Admitting.{admitting_refusal, going_refusal}
@@ -24,6 +24,10 @@ use Rattle.ti_slot.specs.Thread.{ticket_of}
 use Rattle.ti_slot.specs.Tickets.{has, same}
 use Rattle.ti_env.specs.Env.{EnvValue, call_refusal, stop_refusal, read_refusal, with_caps, with_word, with_spent}
 use Rattle.ti_core.specs.Thread.{ThreadState, refusal_at, own_next, poll_next, poll_said, reply_now, ask_next, stop_next, stop_told, go_next, go_told, read_next, read_told, taken, new_state}
+
+-- why no core is made: its limits let a thread leave more answers lying than it has room for, or there is no memory
+abbrev pub RefusesCore : Limits → TiError → Type 0
+RefusesCore limits e = ((e ≡ Full) × (limits.window < limits.calls)) ⊎ ((e ≡ OutOfMemory) × (limits.calls ≤ limits.window))
 
 pub record CoreState : Type 0 where
   pub limits : Limits

@@ -15,7 +15,7 @@ use Rattle.ti_core.specs.declared.lists.AtEach.{AtEach}
 use Rattle.ti_core.specs.declared.lists.AtEach.TheVariants as each
 use Rattle.ti_core.specs.Threads.{IfPosted, is_ticket_of}
 use Rattle.ti_core.specs.Core.{CoreState, is_uncollected}
-use Rattle.ti_core.specs.Mirrors.{Mirrors}
+use Rattle.ti_core.specs.Refines.{Refines}
 use Rattle.ti_core.specs.Runs.{IsTicketBy}
 
 -- the event for one thread of the list
@@ -65,8 +65,8 @@ AreFresh s (o ∷ os) = IfPosted o (λ k. is_uncollected s k ≡ false) × AreFr
 -- from one core to another by an event for each of these threads, each after those before it
 pub record HappenedAtEach (event : ThreadNo → Event) (threads : List ThreadNo) (s new : CoreState) (os : List Outcome) : Type 0 where
   pub limits : new.limits ≡ s.limits
-  pub mirrors : (events : List Happening) → Mirrors events s → Mirrors (events ++ each_happened event threads os) new
-  pub outcomes : (events : List Happening) → Mirrors events s → AreSaid s.limits events event threads os
-  pub refused : (events : List Happening) → Mirrors events s → AreUnchanged s.limits events event threads os
+  pub refines : (events : List Happening) → Refines events s → Refines (events ++ each_happened event threads os) new
+  pub outcomes : (events : List Happening) → Refines events s → AreSaid s.limits events event threads os
+  pub refused : (events : List Happening) → Refines events s → AreUnchanged s.limits events event threads os
   pub fresh : AreFresh s os
   pub kept : (k : Ticket) → is_uncollected new k ≡ (is_uncollected s k || are_tickets_of os k)

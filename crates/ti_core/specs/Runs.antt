@@ -15,7 +15,7 @@ use Rattle.ti_core.specs.Threads.{IfPosted}
 use Rattle.ti_replay.specs.Tickets.{reply_to}
 use Rattle.ti_slot.specs.Tickets.{AreOnce, same}
 use Rattle.ti_core.specs.Core.{CoreState, is_uncollected}
-use Rattle.ti_core.specs.Mirrors.{Mirrors}
+use Rattle.ti_core.specs.Refines.{Refines}
 
 -- the ticket that a call is given: its number is how many calls its environment asked at the thread before it
 abbrev pub IsTicketBy : Limits → List Happening → Event → Ticket → Type 0
@@ -43,9 +43,9 @@ tickets (o ∷ os) = tickets os
 abbrev pub are_uncollected : CoreState → List Ticket → Bool
 are_uncollected s ks = list_all (is_uncollected s) ks
 
--- a core that mirrors for these events, what was seen of them, and the posted tickets
+-- a core that refines for these events, what was seen of them, and the posted tickets
 pub record HasSeen (hs : List Happening) (os : List (Option Outcome)) (s : CoreState) : Type 0 where
-  pub mirrors : Mirrors hs s
+  pub refines : Refines hs s
   pub seen : AreSeen s.limits [] hs os
   pub kept : are_uncollected s (tickets os) ≡ true
   pub once : AreOnce (tickets os)
@@ -81,7 +81,7 @@ pub record AtTurn (limits : Limits) (hs : List Happening) (first : List (Option 
   pub front : List Happening
   pub rest : List Happening
   pub limits_are : s.limits ≡ limits
-  pub mirrors : Mirrors hs s
+  pub refines : Refines hs s
   pub told : map told_later (take place os) ++ outs_from limits hs front rest ≡ outs limits hs
   pub due : AreDue limits hs front rest (drop place os)
   pub kept : are_uncollected s (tickets (drop place os)) ≡ true

@@ -42,12 +42,13 @@ impl Model for Core {
 
     ghost view = { λ a. core_of a.limits a.envs.items a.threads.items };
 
-    ghost use Rattle.ti_core.specs.Mirrors.{IsReached};
+    ghost use Rattle.ti_core.specs.Refines.{IsReached};
 
     ghost invariant = { λ a. IsReached (core_of a.limits a.envs.items a.threads.items) };
 }
 
 fn new_threads(alloc: Global, limits: Limits) -> Result<Vec<OneThread>, TiError>
+    requires wide { limits.calls ≤ limits.window }
     ensures made { IfOk result (λ v. AreNew limits limits.threads v.items) }
     ensures memory { IfErr result (λ e. e ≡ TiError.OutOfMemory) }
 {
@@ -99,15 +100,20 @@ fn is_standing_at(limits: &Limits, threads: &[OneThread], env: EnvNo, thread: Th
 impl Core {
     /// A new core, with all the room that it will need. Nothing has happened in it, and no ticket of it is out.
     ///
-    /// The error is 110 if memory runs out. Then nothing is made. A core keeps the answer to each call until it is taken. So
-    /// the error is 110 also for limits whose `window` is less than their `calls`, such as those of `Limits::lasting`.
+    /// The error is 216 (this profile: `Full`) if the limits have a `window` less than their `calls`, as those of
+    /// `Limits::lasting` do: a core keeps the answer to each call until it is taken. It is 110 if there is no memory. Then
+    /// nothing is made.
     #[tactic(auto, using(crate::proofs::NewLaws::new_stands, crate::proofs::NewLaws::none_out))]
     pub fn new(alloc: Global, limits: Limits) -> Result<Self, TiError>
         ensures limits { IfOk result (λ c. c.limits ≡ limits) }
-        ensures mirrors { IfOk result (λ c. Mirrors [] c) }
+        ensures refines { IfOk result (λ c. Refines [] c) }
         ensures fresh { IfOk result (λ c. (k : Ticket) → is_uncollected c k ≡ false) }
-        ensures memory { IfErr result (λ e. e ≡ TiError.OutOfMemory) }
+        ensures wide { OnOk result (limits.calls ≤ limits.window) }
+        ensures refused { IfErr result (RefusesCore limits) }
     {
+        if u64::from(limits.window) < limits.calls {
+            return Err(TiError::Full);
+        }
         let envs = new_envs(alloc, limits)?;
         let threads = new_threads(alloc, limits)?;
         Ok(Core {
@@ -117,10 +123,10 @@ impl Core {
         })
     }
 
-    /// What is always true of a core: it mirrors for some list of events, those that have happened in it. What `step`,
+    /// What is always true of a core: it refines for some list of events, those that have happened in it. What `step`,
     /// `take`, `standing` and the list calls say of every such list, they say of that one.
     pub fn facts(&self)
-        ensures mirrors { (events : List Happening) × Mirrors events self.now }
+        ensures refines { (events : List Happening) × Refines events self.now }
     {
         let _ = &self.limits;
     }
@@ -153,7 +159,7 @@ impl Core {
 
     /// Lets one event happen: the profile's rules, and JVM TI 11's for the calls.
     ///
-    /// From a core that mirrors for some events it makes one that mirrors for these and this one. The outcome is what the
+    /// From a core that refines for some events it makes one that refines for these and this one. The outcome is what the
     /// definitions say of the event at the end of all of them. It is `Posted` exactly if the call waits. The ticket has the
     /// number that the call has among its environment's calls at the thread.
     ///
@@ -166,13 +172,13 @@ impl Core {
     /// Memory is taken for a `Trace` and a `Read` alone. If it runs out, the answer is 110, and the call costs nothing.
     pub fn step(&mut self, alloc: Global, event: Event) -> Outcome
         ensures limits { self.new.limits ≡ self.old.limits }
-        ensures mirrors { (events : List Happening) → Mirrors events self.old → Mirrors (events ++ happening event (told_now result) ∷ []) self.new }
-        ensures outcome { (events : List Happening) → Mirrors events self.old →
+        ensures refines { (events : List Happening) → Refines events self.old → Refines (events ++ happening event (told_now result) ∷ []) self.new }
+        ensures outcome { (events : List Happening) → Refines events self.old →
             told_now result ≡ out_of self.old.limits (events ++ happening event (told_now result) ∷ []) events (happening event (told_now result)) }
-        ensures ticket { (events : List Happening) → Mirrors events self.old → IfPosted result (λ k. IsTicketBy self.old.limits events event k) }
+        ensures ticket { (events : List Happening) → Refines events self.old → IfPosted result (λ k. IsTicketBy self.old.limits events event k) }
         ensures fresh { IfPosted result (λ k. is_uncollected self.old k ≡ false) }
         ensures kept { (k : Ticket) → is_uncollected self.new k ≡ (is_uncollected self.old k || is_ticket_of result k) }
-        ensures refused { (events : List Happening) → Mirrors events self.old → is_refusal (told_now result) ≡ true → IsUnchanged self.old.limits events (happening event (told_now result)) }
+        ensures refused { (events : List Happening) → Refines events self.old → is_refusal (told_now result) ≡ true → IsUnchanged self.old.limits events (happening event (told_now result)) }
     {
         self.follow(alloc, event)
     }
@@ -180,8 +186,8 @@ impl Core {
     /// The answer to a call that was posted, once, when it is there. Otherwise `None`. Nothing else changes.
     pub fn take(&mut self, ticket: Ticket) -> Option<Answer>
         ensures limits { self.new.limits ≡ self.old.limits }
-        ensures mirrors { (events : List Happening) → Mirrors events self.old → Mirrors events self.new }
-        ensures answer { (events : List Happening) → Mirrors events self.old →
+        ensures refines { (events : List Happening) → Refines events self.old → Refines events self.new }
+        ensures answer { (events : List Happening) → Refines events self.old →
             option_map said result ≡ (if is_uncollected self.old ticket then reply_to self.old.limits (history_of self.old.limits ticket.thread events) ticket else None) }
         ensures kept { (k : Ticket) → is_uncollected self.new k ≡ (is_uncollected self.old k && not (same ticket k && is_some result)) }
     {
@@ -190,13 +196,13 @@ impl Core {
 
     /// Whether this environment's stop is in force at the thread and the thread does not run.
     pub fn standing(&self, env: EnvNo, thread: ThreadNo) -> bool
-        ensures { (events : List Happening) → Mirrors events self.now → result ≡ (nat_lt thread.0 self.now.limits.threads && is_standing self.now.limits (history_of self.now.limits thread events) env) }
+        ensures { (events : List Happening) → Refines events self.now → result ≡ (nat_lt thread.0 self.now.limits.threads && is_standing self.now.limits (history_of self.now.limits thread events) env) }
     {
         is_standing_at(&self.limits, &self.threads, env, thread)
     }
 }
 
-ghost use Rattle.std.specs.Prelude.{◌≡◌, ◌<◌, ◌&&◌, ◌||◌, not, nat_lt, length, map, IfOk, IfErr, if◌then◌else◌, is_some, None, replicate, [], ◌∷◌, ◌++◌, List, true, false};
+ghost use Rattle.std.specs.Prelude.{◌≡◌, ◌<◌, ◌≤◌, ◌&&◌, ◌||◌, not, nat_lt, length, map, IfOk, IfErr, OnOk, if◌then◌else◌, is_some, None, replicate, [], ◌∷◌, ◌++◌, List, true, false};
 ghost use Rattle.std.specs.Option.{option_map};
 ghost use Rattle.ti_types.specs.Answer.{said};
 ghost use Rattle.ti_replay.specs.Admission.{Happening};
@@ -208,8 +214,8 @@ ghost use Rattle.ti_slot.specs.Tickets.{has, same};
 ghost use Rattle.ti_env.specs.Env.{new_env};
 ghost use Rattle.ti_core.specs.Threads.{IfPosted, is_ticket_of};
 ghost use Rattle.ti_core.specs.Thread.{taken};
-ghost use Rattle.ti_core.specs.Core.{CoreState, core_of, core_next, core_told, core_taken, is_uncollected, thread_at, IsTicketOf};
+ghost use Rattle.ti_core.specs.Core.{CoreState, core_of, core_next, core_told, core_taken, is_uncollected, thread_at, IsTicketOf, RefusesCore};
 ghost use Rattle.std.specs.List.{list_all};
 ghost use Rattle.ti_core.specs.Runs.{IsTicketBy, is_final};
 ghost use Rattle.ti_replay.specs.Refused.{is_refusal, IsUnchanged};
-ghost use Rattle.ti_core.specs.Mirrors.{Mirrors, IsReached, AreNew};
+ghost use Rattle.ti_core.specs.Refines.{Refines, IsReached, AreNew};

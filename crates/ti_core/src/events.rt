@@ -293,7 +293,7 @@ ghost use Rattle.ti_replay.specs.Legal.{is_well_formed, is_not_negative};
 ghost use Rattle.ti_replay.specs.Outcomes.{told_now, was_for_memory};
 ghost use Rattle.ti_slot.specs.Waiting.{IsBufferOf, HasRoomFor};
 ghost use Rattle.ti_core.specs.Thread.{is_made, made_told};
-ghost use Rattle.ti_core.specs.Mirrors.{IsReached};
+ghost use Rattle.ti_core.specs.Refines.{IsReached};
 ghost use Rattle.ti_slot.specs.Thread.{ticket_of};
 ghost use Rattle.ti_env.specs.Env.{with_word};
 ghost use Rattle.ti_core.specs.Threads.{IfPosted};

@@ -6,7 +6,7 @@
 //!
 //! It promises, for every list of events, that the outcome of each event is what the definitions say of it:
 //!
-//! - `Core::step`, from a core that mirrors for the events so far.
+//! - `Core::step`, from a core that refines for the events so far.
 //! - `Core::take`, for calls that waited.
 //! - The list calls (`suspend_list` and its kin), for one event at each thread of a list.
 //! - `Core::run`, for a whole list of events.

@@ -7,9 +7,9 @@ use ti_types::{Event, Limits, Outcome, TiError, Ticket};
 /// The answer to a posted call, if it is there.
 fn answered(core: &mut Core, ticket: Ticket) -> Option<Outcome>
     ensures limits { core.new.limits ≡ core.old.limits }
-    ensures mirrors { (events : List Happening) → Mirrors events core.old → Mirrors events core.new }
+    ensures refines { (events : List Happening) → Refines events core.old → Refines events core.new }
     ensures settled { is_final result ≡ true }
-    ensures finished { (events : List Happening) → Mirrors events core.old → IsFinished events core.old (Some (Outcome.Posted ticket)) result }
+    ensures finished { (events : List Happening) → Refines events core.old → IsFinished events core.old (Some (Outcome.Posted ticket)) result }
     ensures kept { (k : Ticket) → is_uncollected core.old k ≡ true → is_posted (Some (Outcome.Posted ticket)) k ≡ false → is_uncollected core.new k ≡ true }
 {
     match core.take(ticket) {
@@ -21,9 +21,9 @@ fn answered(core: &mut Core, ticket: Ticket) -> Option<Outcome>
 /// Makes of an outcome what it is at the end of a run: the outcome of a posted call is its answer.
 fn finish(core: &mut Core, outcome: &mut Option<Outcome>)
     ensures limits { core.new.limits ≡ core.old.limits }
-    ensures mirrors { (events : List Happening) → Mirrors events core.old → Mirrors events core.new }
+    ensures refines { (events : List Happening) → Refines events core.old → Refines events core.new }
     ensures settled { is_final outcome.new ≡ true }
-    ensures finished { (events : List Happening) → Mirrors events core.old → IsFinished events core.old outcome.old outcome.new }
+    ensures finished { (events : List Happening) → Refines events core.old → IsFinished events core.old outcome.old outcome.new }
     ensures kept { (k : Ticket) → is_uncollected core.old k ≡ true → is_posted outcome.old k ≡ false → is_uncollected core.new k ≡ true }
 {
     let ticket = match outcome {
@@ -48,8 +48,8 @@ impl Core {
     /// Lets a whole list of events happen in a new core. There is one outcome for each event: what the definitions say of it
     /// among all of them. So a posted call has its answer, or `None` if it was left unanswered.
     ///
-    /// The error is 110 if memory runs out for the core or for the list of outcomes, and for limits that `Core::new`
-    /// refuses. Then nothing is given.
+    /// The error is 216 (this profile: `Full`) for limits that `Core::new` refuses with it. It is 110 if there is no memory
+    /// for the core or for the list of outcomes. Then nothing is given.
     pub fn run(
         alloc: Global,
         limits: Limits,
@@ -58,7 +58,8 @@ impl Core {
         ensures outcomes { IfOk result (λ os. map told_later os.items ≡ outs limits (happenings events.now os.items)) }
         ensures settled { IfOk result (λ os. list_all is_final os.items ≡ true) }
         ensures count { IfOk result (λ os. length os.items ≡ length events.now) }
-        ensures memory { IfErr result (λ e. e ≡ TiError.OutOfMemory) }
+        ensures wide { OnOk result (limits.calls ≤ limits.window) }
+        ensures refused { IfErr result (λ e. (e ≡ TiError.OutOfMemory) ⊎ ((e ≡ TiError.Full) × (limits.window < limits.calls))) }
     {
         // Before the core: so large a block finds room in the memory of the document's tree, if that was freed.
         let Ok(mut outcomes) = Vec::with_capacity(alloc, events.len()) else {
@@ -76,10 +77,10 @@ impl Core {
     }
 }
 
-ghost use Rattle.std.specs.Prelude.{◌≡◌, length, map, List, true, false, Some, None, IfOk, IfErr};
+ghost use Rattle.std.specs.Prelude.{◌≡◌, ◌<◌, ◌≤◌, ◌⊎◌, length, map, List, true, false, Some, None, IfOk, IfErr, OnOk};
 ghost use Rattle.ti_replay.specs.Admission.{Happening};
 ghost use Rattle.ti_replay.specs.Outcomes.{told_later, was_for_memory, outs, happenings};
 ghost use Rattle.ti_core.specs.Core.{is_uncollected};
-ghost use Rattle.ti_core.specs.Mirrors.{Mirrors};
+ghost use Rattle.ti_core.specs.Refines.{Refines};
 ghost use Rattle.std.specs.List.{list_all};
 ghost use Rattle.ti_core.specs.Runs.{HasSeen, IsFinished, is_posted, is_final};

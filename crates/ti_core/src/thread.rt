@@ -29,16 +29,15 @@ impl Model for OneThread {
 }
 
 impl OneThread {
-    /// A thread that has not started, with all the room that it will need.
+    /// A thread that has not started, with all the room that it will need. No environment may spend more calls than may be out
+    /// at once.
     ///
-    /// The error is 110 if there is no memory for it, or if an environment may spend more calls than may be out at once.
+    /// The error is 110 if there is no memory for it.
     pub fn new(alloc: Global, limits: Limits, number: ThreadNo) -> Result<Self, TiError>
+        requires wide { limits.calls ≤ limits.window }
         ensures new { IfOk result (λ t. t ≡ new_state limits number) }
         ensures memory { IfErr result (λ e. e ≡ TiError.OutOfMemory) }
     {
-        if u64::from(limits.window) < limits.calls {
-            return Err(TiError::OutOfMemory);
-        }
         let slot = Slot::new(alloc, limits, number)?;
         Ok(OneThread {
             slot,
@@ -241,7 +240,7 @@ impl OneThread {
     }
 }
 
-ghost use Rattle.std.specs.Prelude.{◌≡◌, ◌≢◌, ◌<◌, if◌then◌else◌, true, false, None, Some, MatchOption, IfOk, IfErr, is_some};
+ghost use Rattle.std.specs.Prelude.{◌≡◌, ◌≢◌, ◌<◌, ◌≤◌, if◌then◌else◌, true, false, None, Some, MatchOption, IfOk, IfErr, is_some};
 ghost use Rattle.std.specs.Option.{option_map};
 ghost use Rattle.ti_types.specs.Answer.{said};
 ghost use Rattle.ti_types.specs.declared.entry.Entry.TheVariants as entry;

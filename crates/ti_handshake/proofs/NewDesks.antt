@@ -1,5 +1,5 @@
 -- The desks at a thread that was just made.
-use Rattle.std.proofs.Common.{◌≡◌, ◌-◌, ◌≤◌, ℕ, zero, suc, List, [], ◌∷◌, ◌++◌, map, refl, ap, ◌∙◌, arith}
+use Rattle.std.proofs.Common.{◌≡◌, ◌-◌, ℕ, zero, suc, List, [], ◌∷◌, ◌++◌, map, refl, ap, ◌∙◌, arith}
 use Rattle.std.specs.Prelude.{All}
 use Rattle.std.proofs.lemmas.List.{map-append}
 use Rattle.std.proofs.lemmas.List.Elements.{All-append, All-cons, All-nil}
@@ -8,16 +8,16 @@ use Rattle.ti_cell.specs.declared.view.Subject.{Subject}
 use Rattle.ti_cell.specs.Seats.{Sitting, env_seats}
 use Rattle.ti_cell.specs.View.{newcomer}
 use Rattle.ti_handshake.specs.Desk.{DeskState}
-use Rattle.ti_handshake.specs.NewDesks.{IsEnvSeat, desk_at, new_desk, new_desks}
+use Rattle.ti_handshake.specs.NewDesks.{IsSeatAt, desk_at, new_desk, new_desks}
 
 a_seat : TableId → Subject → ℕ → Sitting
 a_seat cell s n = record { cell = cell; view = newcomer s (suc n) 0 }
 
-pub seats_are : (cell : TableId) (s : Subject) (n : ℕ) → n ≤ s.limits.envs → All (λ x. IsEnvSeat cell s.limits x) (env_seats cell s n)
-seats_are cell s zero h = All-nil (λ x. IsEnvSeat cell s.limits x)
-seats_are cell s (suc n) h =
-    All-append (λ x. IsEnvSeat cell s.limits x) (env_seats cell s n) (record { cell = cell; view = newcomer s (suc n) 0 } ∷ []) (seats_are cell s n (omega (arith, h)))
-    (All-cons (λ x. IsEnvSeat cell s.limits x) (record { cell = cell; view = newcomer s (suc n) 0 }) [] (refl, omega arith, h, refl) (All-nil (λ x. IsEnvSeat cell s.limits x)))
+pub seats_are : (cell : TableId) (s : Subject) (n : ℕ) → All (IsSeatAt cell s.limits) (env_seats cell s n)
+seats_are cell s zero = All-nil (IsSeatAt cell s.limits)
+seats_are cell s (suc n) =
+    All-append (IsSeatAt cell s.limits) (env_seats cell s n) (record { cell = cell; view = newcomer s (suc n) 0 } ∷ []) (seats_are cell s n)
+    (All-cons (IsSeatAt cell s.limits) (record { cell = cell; view = newcomer s (suc n) 0 }) [] (refl, refl) (All-nil (IsSeatAt cell s.limits)))
 
 back_one : (n : ℕ) → suc n - 1 ≡ n
 back_one n = omega arith

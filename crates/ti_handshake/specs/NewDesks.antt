@@ -1,5 +1,5 @@
 -- The desks at a thread that was just made.
-use Rattle.std.specs.Prelude.{ℕ, zero, suc, ◌≡◌, ◌-◌, ◌<◌, ◌≤◌, List, [], ◌∷◌, ◌++◌}
+use Rattle.std.specs.Prelude.{ℕ, zero, suc, ◌≡◌, ◌-◌, List, [], ◌∷◌, ◌++◌}
 use Rattle.atomic_table.specs.Seated.{TableId}
 use Rattle.ti_cell.specs.declared.view.Subject.{Subject}
 use Rattle.ti_cell.specs.Seats.{Sitting}
@@ -8,9 +8,9 @@ use Rattle.ti_types.specs.declared.limits.Limits.{Limits}
 use Rattle.ti_types.specs.declared.numbers.EnvNo.{EnvNo}
 use Rattle.ti_handshake.specs.Desk.{DeskState}
 
--- a seat of an environment at this cell, under these limits
-abbrev pub IsEnvSeat : TableId → Limits → Sitting → Type 0
-IsEnvSeat cell limits s = (s.cell ≡ cell) × (0 < s.view.number) × (s.view.number ≤ s.view.subject.limits.envs) × (limits ≡ s.view.subject.limits)
+-- a seat at this cell, under these limits
+abbrev pub IsSeatAt : TableId → Limits → Sitting → Type 0
+IsSeatAt cell limits s = (s.cell ≡ cell) × (limits ≡ s.view.subject.limits)
 
 -- the desk that has a seat
 abbrev pub desk_at : Sitting → DeskState

@@ -61,8 +61,7 @@ impl Model for Desk {
 }
 
 impl Desk {
-    /// The desk of the environment that has this seat. The seat is this cell's, and not the owner's. Its thread is under these
-    /// limits.
+    /// The desk of the environment that has this seat. The seat is this cell's, and its thread is under these limits.
     ///
     /// `SharedCell::make` gives a thread and its desks, and has no condition.
     ///
@@ -74,8 +73,6 @@ impl Desk {
         limits: Limits,
     ) -> Result<Desk, TiError>
         requires cell { seat.cell ≡ cell }
-        requires number { 0 < seat.view.number }
-        requires there { seat.view.number ≤ seat.view.subject.limits.envs }
         requires limits { limits ≡ seat.view.subject.limits }
         ensures cell { IfOk result (λ d. d.cell ≡ cell) }
         ensures env { IfOk result (λ d. d.env.0 + 1 ≡ seat.view.number) }
@@ -90,14 +87,13 @@ impl Desk {
     /// The same, with limits that the desks at a thread share.
     pub(crate) fn at(cell: SharedCell, seat: EnvSeat, limits: Arc<Limits>) -> Desk
         requires cell { seat.cell ≡ cell }
-        requires number { 0 < seat.view.number }
-        requires there { seat.view.number ≤ seat.view.subject.limits.envs }
         requires limits { arc_value limits ≡ seat.view.subject.limits }
         ensures cell { result.cell ≡ cell }
         ensures env { result.env.0 + 1 ≡ seat.view.number }
         ensures view { result.view ≡ seat.view }
         ensures none { result.cancelled ≡ [] }
     {
+        seat.facts();
         let env = EnvNo(seat.number() - 1);
         Desk {
             cell,
@@ -197,7 +193,7 @@ impl Desk {
         let pace = Pace::new();
         let mut buf = buf;
         for _ in rt.forever() {
-            match self.try_post(call, buf) {
+            match self.post_now(call, buf) {
                 Ok(asked) => {
                     self.wake_sleepers();
                     return asked;
@@ -246,7 +242,7 @@ impl Desk {
     {
         let pace = Pace::new();
         for _ in rt.forever() {
-            match self.try_collect_once(ticket) {
+            match self.collect_now(ticket) {
                 Ok(answer) => {
                     self.wake_sleepers();
                     return answer;

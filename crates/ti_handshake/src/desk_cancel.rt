@@ -51,31 +51,7 @@ impl Desk {
     {
         let pace = Pace::new();
         for _ in rt.forever() {
-            match self.try_cancel(alloc, ticket) {
-                Ok(()) => {
-                    self.wake_sleepers();
-                    return Ok(());
-                }
-                Err(TiError::Busy) => self.cell.await_free(rt, &pace),
-                Err(error) => return Err(error),
-            }
-        }
-        unreachable!()
-    }
-
-    /// Gives up all calls of the desk that are out, in one hold. Each of them still takes place when the thread reaches it.
-    ///
-    /// The error is 110 OUT_OF_MEMORY if there is no memory to note the tickets. Then nothing changes.
-    pub fn cancel_all<R: Wait>(&mut self, rt: &R, alloc: Global) -> Result<(), TiError>
-        ensures here { (self.new.cell ≡ self.old.cell) × (self.new.env ≡ self.old.env) }
-        ensures hold { OnOk result (Holds self.old.view self.new.view []) }
-        ensures cancelled { OnOk result (CancelsAll self.old self.new) }
-        ensures memory { IfErr result (λ e. e ≡ OutOfMemory) }
-        ensures unchanged { OnErr result (self.new ≡ self.old) }
-    {
-        let pace = Pace::new();
-        for _ in rt.forever() {
-            match self.try_cancel_all(alloc) {
+            match self.cancel_now(alloc, ticket) {
                 Ok(()) => {
                     self.wake_sleepers();
                     return Ok(());
@@ -95,7 +71,7 @@ impl Desk {
     {
         let pace = Pace::new();
         for _ in rt.forever() {
-            match self.try_discard() {
+            match self.discard_now() {
                 Ok(thrown) => {
                     self.wake_sleepers();
                     return thrown;

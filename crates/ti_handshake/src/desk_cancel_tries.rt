@@ -11,7 +11,7 @@ use ti_types::{Call, TiError, Ticket, TraceBuf};
 
 impl Desk {
     /// Gives up a posted call whose answer is not collected. It is the same as `cancel`, but tries to hold the cell just
-    /// once. `try_discard` throws its answer away once it is there.
+    /// once. `discard_now` throws its answer away once it is there.
     ///
     /// The call still takes place when the thread reaches it. It is out until its answer is thrown away (this profile). A
     /// ticket that is not out, or was given up before, is left as it is.
@@ -20,7 +20,7 @@ impl Desk {
     ///
     /// - 110 OUT_OF_MEMORY: there is no memory to note the ticket.
     /// - `Busy` (215): the cell is in use (this profile).
-    pub fn try_cancel(&mut self, alloc: Global, ticket: Ticket) -> Result<(), TiError>
+    pub fn cancel_now(&mut self, alloc: Global, ticket: Ticket) -> Result<(), TiError>
         ensures here { (self.new.cell ≡ self.old.cell) × (self.new.env ≡ self.old.env) }
         ensures hold { OnOk result (Holds self.old.view self.new.view []) }
         ensures cancelled { OnOk result (self.new.cancelled ≡ (if is_out self.old ticket then self.old.cancelled ++ ticket ∷ [] else self.old.cancelled)) }
@@ -32,7 +32,7 @@ impl Desk {
             self.put_cancelled(cancelled);
             return Err(error);
         }
-        match self.try_has_out(ticket) {
+        match self.has_out_now(ticket) {
             Ok(out) => {
                 if out && !cancelled.has(ticket) {
                     cancelled.add(ticket);
@@ -54,7 +54,7 @@ impl Desk {
     ///
     /// - 110 OUT_OF_MEMORY: there is no memory to note the tickets.
     /// - `Busy` (215): the cell is in use (this profile).
-    pub fn try_cancel_all(&mut self, alloc: Global) -> Result<(), TiError>
+    pub fn cancel_all_now(&mut self, alloc: Global) -> Result<(), TiError>
         ensures here { (self.new.cell ≡ self.old.cell) × (self.new.env ≡ self.old.env) }
         ensures hold { OnOk result (Holds self.old.view self.new.view []) }
         ensures cancelled { OnOk result (CancelsAll self.old self.new) }
@@ -67,7 +67,7 @@ impl Desk {
             self.put_cancelled(cancelled);
             return Err(error);
         }
-        match self.try_add_out(&mut cancelled) {
+        match self.add_out_now(&mut cancelled) {
             Ok(()) => {
                 self.put_cancelled(cancelled);
                 Ok(())
@@ -83,7 +83,7 @@ impl Desk {
     /// cell just once.
     ///
     /// The error is `Busy` (215) if the cell is in use. Then nothing changes.
-    fn try_add_out(&mut self, cancelled: &mut Cancelled) -> Result<(), TiError>
+    fn add_out_now(&mut self, cancelled: &mut Cancelled) -> Result<(), TiError>
         requires given { AreGivenUp cancelled.old.tickets self.old.view.posted }
         requires room { length self.old.view.posted ≤ cancelled.old.room }
         ensures same { IsSame self.old self.new }
@@ -94,7 +94,7 @@ impl Desk {
         let Some(seat) = self.seat.take() else {
             unreachable!()
         };
-        match self.cell.try_hold(seat) {
+        match self.cell.hold_now(seat) {
             Ok(mut hold) => {
                 add_own_out(hold.slot(), self.env, cancelled);
                 self.seat = Some(hold.store_quietly());
@@ -116,7 +116,7 @@ impl Desk {
     ///
     /// - 110 OUT_OF_MEMORY: there is no memory to note the tickets.
     /// - `Busy` (215): the cell is in use (this profile).
-    pub fn try_clear(&mut self, alloc: Global) -> Result<(), TiError>
+    pub fn clear_now(&mut self, alloc: Global) -> Result<(), TiError>
         requires calls { calls_spent self.old.env self.old.view.mine < self.old.view.subject.limits.calls }
         ensures here { (self.new.cell ≡ self.old.cell) × (self.new.env ≡ self.old.env) }
         ensures hold { OnOk result (Holds self.old.view self.new.view (next_call self.old.view self.old.env (SetWord 0) ∷ [])) }
@@ -130,7 +130,7 @@ impl Desk {
             self.put_cancelled(cancelled);
             return Err(error);
         }
-        match self.try_add_out_and_clear(&mut cancelled) {
+        match self.add_out_and_clear_now(&mut cancelled) {
             Ok(()) => {
                 self.put_cancelled(cancelled);
                 Ok(())
@@ -146,7 +146,7 @@ impl Desk {
     /// room for all tickets, and a call is left. It tries to hold the cell just once.
     ///
     /// The error is `Busy` (215) if the cell is in use. Then nothing changes.
-    fn try_add_out_and_clear(&mut self, cancelled: &mut Cancelled) -> Result<(), TiError>
+    fn add_out_and_clear_now(&mut self, cancelled: &mut Cancelled) -> Result<(), TiError>
         requires calls { calls_spent self.old.env self.old.view.mine < self.old.view.subject.limits.calls }
         requires given { AreGivenUp cancelled.old.tickets self.old.view.posted }
         requires room { length self.old.view.posted ≤ cancelled.old.room }
@@ -158,7 +158,7 @@ impl Desk {
         let Some(seat) = self.seat.take() else {
             unreachable!()
         };
-        match self.cell.try_hold(seat) {
+        match self.cell.hold_now(seat) {
             Ok(mut hold) => {
                 let slot = hold.slot();
                 slot.tickets();
@@ -180,7 +180,7 @@ impl Desk {
     /// Returns whether it was there. If no call was given up, nothing is done, and the result is `false` (this profile).
     ///
     /// The error is `Busy` (215) if the cell is in use (this profile). Then nothing changes.
-    pub fn try_discard(&mut self) -> Result<bool, TiError>
+    pub fn discard_now(&mut self) -> Result<bool, TiError>
         ensures discards { IfOk result (λ thrown. Discards self.old self.new thrown) }
         ensures busy { IfErr result (λ e. (e ≡ Busy) × (self.new ≡ self.old)) }
     {
@@ -188,7 +188,7 @@ impl Desk {
             return Ok(false);
         };
         let mut cancelled = self.take_cancelled();
-        match self.try_collect_once(first) {
+        match self.collect_now(first) {
             Ok(found) => {
                 let thrown = found.is_some();
                 if thrown {

@@ -40,7 +40,7 @@ impl Desk {
     {
         let pace = Pace::new();
         for _ in rt.forever() {
-            match self.try_stop_once() {
+            match self.stop_now() {
                 Ok(answer) => {
                     self.wake_sleepers();
                     return answer;
@@ -93,7 +93,7 @@ impl Desk {
         let pace = Pace::new();
         let mut buf = buf;
         for _ in rt.forever() {
-            match self.try_read(max_count, buf) {
+            match self.read_now(max_count, buf) {
                 Ok(answer) => {
                     self.wake_sleepers();
                     return answer;
@@ -115,7 +115,7 @@ impl Desk {
     {
         let pace = Pace::new();
         for _ in rt.forever() {
-            match self.try_go() {
+            match self.go_now() {
                 Ok(answer) => {
                     self.wake_sleepers();
                     return answer;
@@ -134,7 +134,7 @@ impl Desk {
     {
         let pace = Pace::new();
         for _ in rt.forever() {
-            match self.try_standing() {
+            match self.standing_now() {
                 Ok(standing) => {
                     self.wake_sleepers();
                     return standing;

@@ -30,8 +30,8 @@ impl Desk {
     /// let mut desk = desks.pop().ok_or("there are two environments")?;
     /// // While another user holds the cell, nothing changes. The buffer and the thread come back.
     /// let hold = cell.hold(&rt, other);
-    /// let posted = desk.try_post(Call::FrameCount, TraceBuf::none());
-    /// let started = fresh.try_start_once();
+    /// let posted = desk.post_now(Call::FrameCount, TraceBuf::none());
+    /// let started = fresh.start_now();
     /// let _other = hold.store_quietly();
     /// assert!(rt; posted.is_err());
     /// let Err((error, fresh)) = started else {
@@ -39,19 +39,19 @@ impl Desk {
     /// };
     /// assert!(rt; error == TiError::Busy);
     /// // Now each call goes through, and none of them takes a runtime.
-    /// let Ok(running) = fresh.try_start_once() else {
+    /// let Ok(running) = fresh.start_now() else {
     ///     return Err("nobody has the cell".into());
     /// };
-    /// let Ok(Asked::Waiting(ticket)) = desk.try_post(Call::FrameCount, TraceBuf::none()) else {
+    /// let Ok(Asked::Waiting(ticket)) = desk.post_now(Call::FrameCount, TraceBuf::none()) else {
     ///     return Err("a running thread answers later".into());
     /// };
-    /// assert!(rt; matches!(desk.try_collect_once(ticket), Ok(None)));
-    /// let Ok(Polled::Go(_running)) = running.try_poll() else {
+    /// assert!(rt; matches!(desk.collect_now(ticket), Ok(None)));
+    /// let Ok(Polled::Go(_running)) = running.poll_now() else {
     ///     return Err("nothing bars the thread".into());
     /// };
-    /// assert!(rt; matches!(desk.try_collect_once(ticket), Ok(Some(Answer::Count(0)))));
+    /// assert!(rt; matches!(desk.collect_now(ticket), Ok(Some(Answer::Count(0)))));
     /// ```
-    pub fn try_post(&mut self, call: Call, buf: TraceBuf) -> Result<Asked, TraceBuf>
+    pub fn post_now(&mut self, call: Call, buf: TraceBuf) -> Result<Asked, TraceBuf>
         requires well_formed { is_well_formed call ≡ true }
         requires calls { calls_spent self.old.env self.old.view.mine < self.old.view.subject.limits.calls }
         requires room { waits call ≡ true → length self.old.view.posted ≤ self.old.view.subject.limits.window }
@@ -66,7 +66,7 @@ impl Desk {
         let Some(seat) = self.seat.take() else {
             unreachable!()
         };
-        match self.cell.try_hold(seat) {
+        match self.cell.hold_now(seat) {
             Ok(mut hold) => {
                 let slot = hold.slot();
                 slot.tickets();
@@ -88,7 +88,7 @@ impl Desk {
     /// all tickets stay as they are.
     ///
     /// The error is `Busy` (215) if the cell is in use (this profile). Then nothing changes.
-    pub fn try_collect_once(&mut self, ticket: Ticket) -> Result<Option<Answer>, TiError>
+    pub fn collect_now(&mut self, ticket: Ticket) -> Result<Option<Answer>, TiError>
         ensures same { IsSame self.old self.new }
         ensures hold { IfOk result (λ r. HoldsWith self.old.view self.new.view [] (if is_some r then without_ticket ticket self.old.view.posted else self.old.view.posted)) }
         ensures once { IfOk result (λ r. IfSome r (λ _. has ticket self.new.view.posted ≡ false)) }
@@ -97,13 +97,13 @@ impl Desk {
         ensures busy { IfErr result (λ e. (e ≡ Busy) × (self.new ≡ self.old)) }
     {
         if self.cancelled.has(ticket) {
-            let _out = self.try_has_out(ticket)?;
+            let _out = self.has_out_now(ticket)?;
             return Ok(None);
         }
         let Some(seat) = self.seat.take() else {
             unreachable!()
         };
-        match self.cell.try_hold(seat) {
+        match self.cell.hold_now(seat) {
             Ok(mut hold) => {
                 let slot = hold.slot();
                 slot.tickets();
@@ -121,7 +121,7 @@ impl Desk {
     /// Whether this is the ticket of a call of this desk that is out. It tries to hold the cell just once, and adds nothing.
     ///
     /// The error is `Busy` (215) if the cell is in use. Then nothing changes.
-    pub(crate) fn try_has_out(&mut self, ticket: Ticket) -> Result<bool, TiError>
+    pub(crate) fn has_out_now(&mut self, ticket: Ticket) -> Result<bool, TiError>
         ensures same { IsSame self.old self.new }
         ensures hold { OnOk result (Holds self.old.view self.new.view []) }
         ensures out { IfOk result (λ out. out ≡ has ticket self.old.view.posted) }
@@ -130,7 +130,7 @@ impl Desk {
         let Some(seat) = self.seat.take() else {
             unreachable!()
         };
-        match self.cell.try_hold(seat) {
+        match self.cell.hold_now(seat) {
             Ok(mut hold) => {
                 let out = is_own_out(hold.slot(), self.env, ticket);
                 self.seat = Some(hold.store_quietly());
@@ -150,7 +150,7 @@ impl Desk {
     /// profile). Then nothing changes.
     ///
     /// The error is `Busy` (215) if the cell is in use (this profile). Then nothing changes.
-    pub fn try_stop_once(&mut self) -> Result<Answer, TiError>
+    pub fn stop_now(&mut self) -> Result<Answer, TiError>
         requires calls { calls_spent self.old.env self.old.view.mine < self.old.view.subject.limits.calls }
         ensures same { IsSame self.old self.new }
         ensures hold { OnOk result (Holds self.old.view self.new.view (if_none (stop_refusal self.old self.new) (entry.Stop self.old.env ∷ []))) }
@@ -160,7 +160,7 @@ impl Desk {
         let Some(seat) = self.seat.take() else {
             unreachable!()
         };
-        match self.cell.try_hold(seat) {
+        match self.cell.hold_now(seat) {
             Ok(mut hold) => {
                 let stopped = hold.slot().stop(self.env);
                 self.seat = Some(hold.store_quietly());
@@ -181,7 +181,7 @@ impl Desk {
     /// `StillRunning` (213) if the thread runs (this profile). A refused read changes nothing.
     ///
     /// If the cell is in use (this profile: `Busy`, 215), the error is the buffer, as it was. Then nothing changes.
-    pub fn try_read(&mut self, max_count: i32, buf: TraceBuf) -> Result<Answer, TraceBuf>
+    pub fn read_now(&mut self, max_count: i32, buf: TraceBuf) -> Result<Answer, TraceBuf>
         requires count { is_not_negative max_count ≡ true }
         requires calls { calls_spent self.old.env self.old.view.mine < self.old.view.subject.limits.calls }
         requires buf { HasRoomFor self.old.view.subject.limits (or_zero_of max_count) buf }
@@ -193,7 +193,7 @@ impl Desk {
         let Some(seat) = self.seat.take() else {
             unreachable!()
         };
-        match self.cell.try_hold(seat) {
+        match self.cell.hold_now(seat) {
             Ok(mut hold) => {
                 let read = hold.slot().read(self.env, max_count, buf);
                 self.seat = Some(hold.store_quietly());
@@ -213,7 +213,7 @@ impl Desk {
     /// nothing changes.
     ///
     /// The error is `Busy` (215) if the cell is in use (this profile). Then nothing changes, and the stop stays in force.
-    pub fn try_go(&mut self) -> Result<Answer, TiError>
+    pub fn go_now(&mut self) -> Result<Answer, TiError>
         ensures same { IsSame self.old self.new }
         ensures hold { OnOk result (Holds self.old.view self.new.view (if_none (go_refusal self.old self.new) (entry.Go self.old.env ∷ []))) }
         ensures answer { IfOk result (λ a. said a ≡ done_or (go_refusal self.old self.new)) }
@@ -222,7 +222,7 @@ impl Desk {
         let Some(seat) = self.seat.take() else {
             unreachable!()
         };
-        match self.cell.try_hold(seat) {
+        match self.cell.hold_now(seat) {
             Ok(mut hold) => {
                 let gone = hold.slot().go(self.env);
                 self.seat = Some(hold.store_quietly());
@@ -239,7 +239,7 @@ impl Desk {
     /// hold the cell just once. It adds nothing.
     ///
     /// The error is `Busy` (215) if the cell is in use (this profile). Then nothing changes.
-    pub fn try_standing(&mut self) -> Result<bool, TiError>
+    pub fn standing_now(&mut self) -> Result<bool, TiError>
         ensures same { IsSame self.old self.new }
         ensures hold { OnOk result (Holds self.old.view self.new.view []) }
         ensures standing { IfOk result (λ s. s ≡ is_standing self.old.view.subject.limits self.new.view.seen self.old.env) }
@@ -248,7 +248,7 @@ impl Desk {
         let Some(seat) = self.seat.take() else {
             unreachable!()
         };
-        match self.cell.try_hold(seat) {
+        match self.cell.hold_now(seat) {
             Ok(mut hold) => {
                 let standing = hold.slot().standing(self.env);
                 self.seat = Some(hold.store_quietly());

@@ -1,6 +1,6 @@
 //! A thread that has not started.
 
-use crate::idle::Idle;
+use crate::not_running::NotRunning;
 use crate::running::Running;
 use crate::shared_cell::SharedCell;
 use crate::waits::await_unbarred;
@@ -47,15 +47,15 @@ impl Model for Fresh {
 }
 
 impl Fresh {
-    /// The thread of this cell. The seat is the owner's at this cell, and has made no entry.
+    /// The thread of this cell. The seat is this cell's, and has made no entry.
     ///
     /// `SharedCell::make` gives a thread and its desks, and has no condition.
     pub fn new(cell: SharedCell, seat: OwnSeat) -> Fresh
         requires cell { seat.cell ≡ cell }
-        requires owner { seat.view.number ≡ 0 }
         requires none { seat.view.mine ≡ [] }
         ensures seat { result ≡ seat }
     {
+        seat.facts();
         Fresh { cell, seat }
     }
 
@@ -90,7 +90,7 @@ impl Fresh {
         let pace = Pace::new();
         let mut fresh = self;
         for _ in rt.forever() {
-            match fresh.try_start_once() {
+            match fresh.start_now() {
                 Ok(running) => {
                     running.wake_sleepers();
                     return Ok(running);
@@ -114,7 +114,7 @@ impl Fresh {
         ensures steps { result.steps ≡ [] }
     {
         self.seat.facts();
-        Idle::Fresh(self).run(rt)
+        NotRunning::Fresh(self).run(rt)
     }
 
     /// Waits until the thread is not barred and its history has entries that its seat has not seen. It only looks.

@@ -1,6 +1,6 @@
 //! A thread that is safe, and one that has ended.
 
-use crate::idle::Idle;
+use crate::not_running::NotRunning;
 use crate::running::Running;
 use crate::shared_cell::SharedCell;
 use crate::waits::await_unbarred;
@@ -93,7 +93,7 @@ impl AtSafe {
         let pace = Pace::new();
         let mut safe = self;
         for _ in rt.forever() {
-            match safe.try_back_once() {
+            match safe.back_now() {
                 Ok(running) => {
                     running.wake_sleepers();
                     return Ok(running);
@@ -117,7 +117,7 @@ impl AtSafe {
         ensures steps { result.steps ≡ [] }
     {
         self.seat.facts();
-        Idle::Safe(self).run(rt)
+        NotRunning::Safe(self).run(rt)
     }
 
     /// Waits until the thread is not barred and its history has entries that its seat has not seen. It only looks.

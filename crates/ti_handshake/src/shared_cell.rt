@@ -2,7 +2,7 @@
 
 use crate::desk::Desk;
 use crate::fresh::Fresh;
-use std::alloc::Global;
+use std::alloc::{AllocError, Global};
 use std::marker::Model;
 use std::ops::Deref;
 use std::sync::Arc;
@@ -64,7 +64,7 @@ impl SharedCell {
         let cell = SharedCell::new(alloc, cell)?;
         let shared = shared_limits(alloc, limits)?;
         let desks = desks_of(alloc, &cell, &shared, seats)?;
-        let fresh = Fresh::new(cell.share()?, own);
+        let fresh = Fresh::new(cell.again()?, own);
         Ok((cell, fresh, desks))
     }
 
@@ -79,16 +79,24 @@ impl SharedCell {
         }
     }
 
-    /// One more reference to the same cell. It takes no memory. The error is 110 OUT_OF_MEMORY if there are 2^63 references
-    /// already (this profile).
+    /// One more reference to the same cell. It takes no memory. The error is 216 (this profile: `Full`) if there are 2^63
+    /// references already.
     pub fn share(&self) -> Result<SharedCell, TiError>
         ensures cell { IfOk result (λ s. s ≡ self.now) }
-        ensures memory { IfErr result (λ e. e ≡ OutOfMemory) }
+        ensures full { IfErr result (λ e. e ≡ Full) }
     {
-        match Arc::try_clone(&self.cell) {
-            Ok(cell) => Ok(SharedCell { cell }),
-            Err(_) => Err(TiError::OutOfMemory),
+        match self.again() {
+            Ok(cell) => Ok(cell),
+            Err(_) => Err(TiError::Full),
         }
+    }
+
+    /// One more reference to the same cell, unless there are 2^63 already.
+    fn again(&self) -> Result<SharedCell, AllocError>
+        ensures cell { IfOk result (λ s. s ≡ self.now) }
+    {
+        let cell = Arc::try_clone(&self.cell)?;
+        Ok(SharedCell { cell })
     }
 
     /// The cell, if this is the last reference to it. Otherwise `None`, and there is one reference less.
@@ -112,20 +120,20 @@ pub(crate) fn shared_limits(alloc: Global, limits: Limits) -> Result<Arc<Limits>
 
 /// A desk for each of these seats, in their order. The seats are environments' seats at this cell, under these limits.
 ///
-/// 110 OUT_OF_MEMORY if there is no memory for them, or if there are 2^63 references to the cell or the limits.
+/// 110 OUT_OF_MEMORY if there is no memory for them.
 fn desks_of(
     alloc: Global,
     cell: &SharedCell,
     limits: &Arc<Limits>,
     seats: Vec<EnvSeat>,
 ) -> Result<Vec<Desk>, TiError>
-    requires { All (λ s. IsEnvSeat cell.now (arc_value limits.now) s) seats.items }
+    requires { All (IsSeatAt cell.now (arc_value limits.now)) seats.items }
     ensures desks { IfOk result (λ d. d.items ≡ map desk_at seats.items) }
     ensures memory { IfErr result (λ e. e ≡ OutOfMemory) }
 {
     let mut desks = Vec::with_capacity(alloc, seats.len())?;
     for seat in seats {
-        let cell = cell.share()?;
+        let cell = cell.again()?;
         let limits = Arc::try_clone(limits)?;
         desks.push_reserved(Desk::at(cell, seat, limits));
     }
@@ -146,6 +154,6 @@ impl Deref for SharedCell {
 
 ghost use Rattle.std.specs.Prelude.{◌≡◌, ◌+◌, map, All, IfOk, IfErr, IfSome};
 ghost use Rattle.std.specs.Arc.{arc_value};
-ghost use Rattle.ti_types.specs.declared.error.TiError.TheVariants.{OutOfMemory};
+ghost use Rattle.ti_types.specs.declared.error.TiError.TheVariants.{Full, OutOfMemory};
 ghost use Rattle.ti_cell.specs.View.{subject_of, newcomer};
-ghost use Rattle.ti_handshake.specs.NewDesks.{IsEnvSeat, desk_at, new_desks};
+ghost use Rattle.ti_handshake.specs.NewDesks.{IsSeatAt, desk_at, new_desks};

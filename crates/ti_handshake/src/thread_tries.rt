@@ -18,7 +18,7 @@ impl Fresh {
     ///
     /// - `Barred` (206): a stop is in force (this profile).
     /// - `Busy` (215): the cell is in use (this profile). Then the thread is as it was.
-    pub fn try_start_once(self) -> Result<Running, (TiError, Fresh)>
+    pub fn start_now(self) -> Result<Running, (TiError, Fresh)>
         ensures cell { MatchResult result (λ r. r.cell ≡ self.cell) (λ e. e.1.cell ≡ self.cell) }
         ensures hold { IfOk result (λ r. Holds self.view r.view (entry.Start ∷ [])) }
         ensures when { IfOk result (λ r. refused_at self.view.subject.limits (found self.view r.view) entry.Start ≡ None) }
@@ -27,7 +27,7 @@ impl Fresh {
         ensures busy { IfErr result (λ e. e.0 ≡ Busy → e.1 ≡ self) }
     {
         let Fresh { cell, seat } = self;
-        match cell.try_hold(seat) {
+        match cell.hold_now(seat) {
             Ok(mut hold) => {
                 let slot = hold.slot();
                 match slot.start() {
@@ -53,7 +53,7 @@ impl Running {
     /// barred, and stays at the poll if it is.
     ///
     /// If the cell is in use (this profile: `Busy`, 215), the error is the thread, as it was. It runs on.
-    pub fn try_poll(self) -> Result<Polled, Running>
+    pub fn poll_now(self) -> Result<Polled, Running>
         ensures entries { IfOk result (λ p. Holds self.view (view_of p) (polled self.view.subject.limits (found self.view (view_of p)) self.steps)) }
         ensures polled { IfOk result (λ p. IsPolled self p) }
         ensures busy { IfErr result (λ r. r ≡ self) }
@@ -65,7 +65,7 @@ impl Running {
             mut log,
             left,
         } = self;
-        match cell.try_hold(seat) {
+        match cell.hold_now(seat) {
             Ok(mut hold) => {
                 let slot = hold.slot();
                 if !slot.armed() {
@@ -100,14 +100,14 @@ impl Running {
     /// - `Busy` (215): the cell is in use. Then the thread is as it was.
     /// - `NoNativeFrame` (207): the newest frame is not native, or there is none.
     /// - `OwnSpent` (208): less than 2 is left to spend.
-    pub fn try_native(self) -> Result<AtSafe, (TiError, Running)>
+    pub fn native_now(self) -> Result<AtSafe, (TiError, Running)>
         ensures cell { MatchResult result (λ a. a.cell ≡ self.cell) (λ e. e.1.cell ≡ self.cell) }
         ensures hold { IfOk result (λ a. Holds self.view a.view (steps_of self.steps ++ entry.Hand IntoNative ∷ [])) }
         ensures when { IfOk result (λ a. refused_at self.view.subject.limits (logged (found self.view a.view) self.steps) (entry.Hand IntoNative) ≡ None) }
         ensures refused { IfErr result (λ e. (e ≡ (Busy, self)) ⊎ RunsOn (entry.Hand IntoNative) self e.1 e.0) }
         ensures busy { IfErr result (λ e. e.0 ≡ Busy → e.1 ≡ self) }
     {
-        self.try_hand_over(Safe::Native)
+        self.hand_over_now(Safe::Native)
     }
 
     /// Blocks for the reason `kind` as `block` does, but tries to hold the cell just once. The logged steps enter the
@@ -117,18 +117,18 @@ impl Running {
     ///
     /// - `Busy` (215): the cell is in use. Then the thread is as it was.
     /// - `OwnSpent` (208): less than 2 is left to spend.
-    pub fn try_block(self, kind: Kind) -> Result<AtSafe, (TiError, Running)>
+    pub fn block_now(self, kind: Kind) -> Result<AtSafe, (TiError, Running)>
         ensures cell { MatchResult result (λ a. a.cell ≡ self.cell) (λ e. e.1.cell ≡ self.cell) }
         ensures hold { IfOk result (λ a. Holds self.view a.view (steps_of self.steps ++ entry.Hand (IntoBlocked kind) ∷ [])) }
         ensures when { IfOk result (λ a. refused_at self.view.subject.limits (logged (found self.view a.view) self.steps) (entry.Hand (IntoBlocked kind)) ≡ None) }
         ensures refused { IfErr result (λ e. (e ≡ (Busy, self)) ⊎ RunsOn (entry.Hand (IntoBlocked kind)) self e.1 e.0) }
         ensures busy { IfErr result (λ e. e.0 ≡ Busy → e.1 ≡ self) }
     {
-        self.try_hand_over(Safe::Blocked(kind))
+        self.hand_over_now(Safe::Blocked(kind))
     }
 
     /// Hands over to native code or to a block.
-    pub(crate) fn try_hand_over(self, safe: Safe) -> Result<AtSafe, (TiError, Running)>
+    pub(crate) fn hand_over_now(self, safe: Safe) -> Result<AtSafe, (TiError, Running)>
         requires no_poll { safe ≡ AtPoll → ⊥ }
         ensures cell { MatchResult result (λ a. a.cell ≡ self.cell) (λ e. e.1.cell ≡ self.cell) }
         ensures hold { IfOk result (λ a. Holds self.view a.view (steps_of self.steps ++ entry.Hand safe ∷ [])) }
@@ -143,7 +143,7 @@ impl Running {
             mut log,
             left,
         } = self;
-        match cell.try_hold(seat) {
+        match cell.hold_now(seat) {
             Ok(mut hold) => match hold.slot().hand_over(frames, &mut log, safe) {
                 Ok(()) => {
                     let seat = hold.store_quietly();
@@ -162,7 +162,7 @@ impl Running {
     /// frames go. Then the waiting calls take place, at a thread that is no longer alive (JVM TI 11, GetThreadState).
     ///
     /// If the cell is in use (this profile: `Busy`, 215), the error is the thread, as it was. It runs on.
-    pub fn try_end(self) -> Result<Ended, Running>
+    pub fn end_now(self) -> Result<Ended, Running>
         ensures cell { MatchResult result (λ d. d.cell ≡ self.cell) (λ r. r.cell ≡ self.cell) }
         ensures hold { IfOk result (λ d. Holds self.view d.view (steps_of self.steps ++ entry.End ∷ [])) }
         ensures busy { IfErr result (λ r. r ≡ self) }
@@ -174,7 +174,7 @@ impl Running {
             mut log,
             left,
         } = self;
-        match cell.try_hold(seat) {
+        match cell.hold_now(seat) {
             Ok(mut hold) => {
                 hold.slot().end(frames, &mut log);
                 let seat = hold.store_quietly();
@@ -193,7 +193,7 @@ impl AtSafe {
     ///
     /// - `Barred` (206): it is suspended, or a stop is in force.
     /// - `Busy` (215): the cell is in use (this profile). Then the thread is as it was.
-    pub fn try_back_once(self) -> Result<Running, (TiError, AtSafe)>
+    pub fn back_now(self) -> Result<Running, (TiError, AtSafe)>
         ensures cell { MatchResult result (λ r. r.cell ≡ self.cell) (λ e. e.1.cell ≡ self.cell) }
         ensures hold { IfOk result (λ r. Holds self.view r.view (entry.Back ∷ [])) }
         ensures when { IfOk result (λ r. refused_at self.view.subject.limits (found self.view r.view) entry.Back ≡ None) }
@@ -202,7 +202,7 @@ impl AtSafe {
         ensures busy { IfErr result (λ e. e.0 ≡ Busy → e.1 ≡ self) }
     {
         let AtSafe { cell, seat, log } = self;
-        match cell.try_hold(seat) {
+        match cell.hold_now(seat) {
             Ok(mut hold) => {
                 let slot = hold.slot();
                 match slot.back() {

@@ -4,18 +4,18 @@ use crossbeam_utils::Backoff;
 use std::rt::Clock;
 use std::sync::Wait;
 use std::time::{Duration, Instant};
-use ti_cell::{CellSeat, OwnSeat, ThreadCell};
+use ti_cell::{CellSeat, OwnSeat, Role, ThreadCell};
 
 /// After this many looks a waiting call sleeps. Between them it makes 1, 2, 4 up to 64 pauses, and then 64 each time: 1,215
 /// in all. That takes some 6 microseconds if a pause takes 4.5 ns, and 70 if it takes 56 ns.
 ///
 /// It does not yield its processor between them. If the thread that it waits for shares the processor, that one would keep
-/// it until its time is over, for some milliseconds. A sleeper is woken at once, on another processor if one is idle.
+/// it until its time is over, for some milliseconds. A sleeper is woken at once, on another processor if one is not_running.
 const LOOKS: u32 = 24;
 
 /// Looks until the thread's history has entries that the seat has not seen. Before that a hold would find what the last one
 /// found. After `LOOKS` looks it sleeps between them, until somebody stores.
-pub fn await_news<K, R: Wait>(rt: &R, cell: &ThreadCell, seat: &mut CellSeat<K>)
+pub fn await_news<K: Role, R: Wait>(rt: &R, cell: &ThreadCell, seat: &mut CellSeat<K>)
     requires cell { seat.old.cell ≡ cell.now }
     ensures cell { seat.new.cell ≡ seat.old.cell }
     ensures news { SawNews seat.old.view seat.new.view }
@@ -62,7 +62,7 @@ impl Deadline {
 
 /// The same as `await_news`, but it waits only until the deadline. Returns whether there are such entries. If there are
 /// none, nothing but looks was done.
-pub fn await_news_until<K, R: Wait + Clock>(
+pub fn await_news_until<K: Role, R: Wait + Clock>(
     rt: &R,
     cell: &ThreadCell,
     seat: &mut CellSeat<K>,

@@ -8,6 +8,8 @@ use crate::fresh::Fresh;
 use crate::polled::Polled;
 use crate::running::Running;
 use crate::safe::{AtSafe, Ended};
+use std::sync::Wait;
+use ti_cell::Pace;
 
 impl Fresh {
     /// Wakes whoever sleeps at this thread and may go on. It is one load if nobody sleeps.
@@ -52,5 +54,11 @@ impl Desk {
     /// sleeps.
     pub fn wake_sleepers(&self) {
         self.cell.wake_sleepers();
+    }
+
+    /// Waits a little, after a try that found the cell in use, as the call's pace has it. It may sleep until the cell is free,
+    /// and may return while it is in use.
+    pub fn await_free<R: Wait>(&self, rt: &R, pace: &Pace) {
+        self.cell.await_free(rt, pace);
     }
 }

@@ -1,5 +1,5 @@
 pub mod Listed
-pub mod KeptLaws
+pub mod OutboxLaws
 pub mod TableLaws
 pub mod StepLaws
 pub mod ViewLaws

@@ -5,20 +5,20 @@ use Rattle.std.proofs.lemmas.Bool.Decides.{nat_tests}
 use Rattle.std.proofs.Math.Seq.{take-suc, take-length}
 use Rattle.ti_types.specs.declared.numbers.EnvNo.{EnvNo}
 use Rattle.ti_types.specs.declared.event.Ticket.{Ticket}
-use Rattle.ti_ops.specs.declared.kept.Count.{Count}
-use Rattle.ti_ops.specs.declared.kept.Kept.{Kept}
-use Rattle.ti_ops.specs.declared.kept.Stage.{Stage}
-use Rattle.ti_ops.specs.declared.kept.Stage.TheVariants.{Posted, Taken, Answered}
-use Rattle.ti_ops.specs.Fates.{IsFirstFrom, call_at, is_at, is_open, fate_of}
-use Rattle.ti_ops.specs.Kept.{fate_in, fate_among, has, lists_of, nearer_of, lower_of, IsKept}
-use Rattle.ti_ops.proofs.TableLaws.{fate_is}
+use Rattle.ti_ops.specs.declared.outbox_entry.Count.{Count}
+use Rattle.ti_ops.specs.declared.outbox_entry.OutboxEntry.{OutboxEntry}
+use Rattle.ti_ops.specs.declared.outbox_entry.Stage.{Stage}
+use Rattle.ti_ops.specs.declared.outbox_entry.Stage.TheVariants.{Posted, Taken, Answered}
+use Rattle.ti_ops.specs.Statuses.{IsFirstFrom, call_at, is_at, is_open, status_of}
+use Rattle.ti_ops.specs.OutboxEntry.{status_in, status_among, has, lists_of, nearer_of, lower_of, IsKept}
+use Rattle.ti_ops.proofs.TableLaws.{status_is}
 
 -- the first of these numbers is that of others that are the same
 pub first_same : (p q : ℕ → Bool) (from : ℕ) (r : Option ℕ) → ((n : ℕ) → p n ≡ q n) → IsFirstFrom p from r → IsFirstFrom q from r
 first_same p q from None same f = λ n h. sym (same n) ∙ f n h
 first_same p q from (Some k) same f = (f.0, sym (same k) ∙ f.1, λ m h b. sym (same m) ∙ f.2 m h b)
 
-more : (t : Ticket) (kept : List Kept) (k : Kept) → has t (kept ++ k ∷ []) ≡ (has t kept || is_at k.ticket t)
+more : (t : Ticket) (kept : List OutboxEntry) (k : OutboxEntry) → has t (kept ++ k ∷ []) ≡ (has t kept || is_at k.ticket t)
 more t [] k = grind (arith)
 more t (j ∷ kept) k = let z = more t kept k in grind (arith, z)
 
@@ -51,26 +51,26 @@ first_more p env from r k f =
         ]
 
 -- the first of one more kept call
-pub first_step : (env : EnvNo) (from : ℕ) (r : Option ℕ) (kept : List Kept) (at : ℕ) (d : Kept) → at < length kept → IsFirstFrom (λ n. has (call_at env n) (take at kept)) from r
+pub first_step : (env : EnvNo) (from : ℕ) (r : Option ℕ) (kept : List OutboxEntry) (at : ℕ) (d : OutboxEntry) → at < length kept → IsFirstFrom (λ n. has (call_at env n) (take at kept)) from r
     → IsFirstFrom (λ n. has (call_at env n) (take (at + 1) kept)) from (nearer_of env from r (get_or kept at d).ticket)
 first_step env from r kept at d h f =
-    let k : Kept = get_or kept at d in
+    let k : OutboxEntry = get_or kept at d in
     first_same (λ n. has (call_at env n) (take at kept) || is_at k.ticket (call_at env n)) (λ n. has (call_at env n) (take (at + 1) kept)) from (nearer_of env from r k.ticket)
     (λ n. sym (ap (has (call_at env n)) (taken kept at d h) ∙ more (call_at env n) (take at kept) k))
     (first_more (λ n. has (call_at env n) (take at kept)) env from r k.ticket f)
   where
-    taken : (kept : List Kept) (at : ℕ) (d : Kept) → at < length kept → take (at + 1) kept ≡ take at kept ++ get_or kept at d ∷ []
+    taken : (kept : List OutboxEntry) (at : ℕ) (d : OutboxEntry) → at < length kept → take (at + 1) kept ≡ take at kept ++ get_or kept at d ∷ []
     taken kept at d h = let one : at + 1 ≡ suc at = omega arith in ap (λ (n : ℕ). take n kept) one ∙ take-suc kept at d h
 
-is_left : (t : Ticket) (kept : List Kept) → is_open (fate_among t kept) ≡ has t kept
+is_left : (t : Ticket) (kept : List OutboxEntry) → is_open (status_among t kept) ≡ has t kept
 is_left t [] = refl
 is_left t (k ∷ kept) = let z = is_left t kept in let o = opened k.stage in grind (arith, z, o)
   where
-    opened : (s : Stage) → is_open (fate_in s) ≡ true
+    opened : (s : Stage) → is_open (status_in s) ≡ true
     opened (Posted c b) = refl
     opened Taken = refl
     opened (Answered a) = refl
 
 -- something is left of just the calls that are kept
-pub left_is : (window first cap : ℕ) (counts : List Count) (kept : List Kept) (t : Ticket) → IsKept window first cap counts kept → has t kept ≡ is_open (fate_of t (lists_of counts kept))
-left_is window first cap counts kept t s = sym (ap is_open (fate_is counts kept t s.asked) ∙ is_left t kept)
+pub left_is : (window first cap : ℕ) (counts : List Count) (kept : List OutboxEntry) (t : Ticket) → IsKept window first cap counts kept → has t kept ≡ is_open (status_of t (lists_of counts kept))
+left_is window first cap counts kept t s = sym (ap is_open (status_is counts kept t s.asked) ∙ is_left t kept)

@@ -1,3 +1,3 @@
 pub mod Ops
-pub mod Fates
-pub mod Kept
+pub mod Statuses
+pub mod OutboxEntry

@@ -11,9 +11,9 @@
 //! - Only `PendingOps::new` takes memory, and its only error is lack of it. The room for calls is not filled in advance.
 #![tactic(auto)]
 
-mod fate;
-mod kept;
+mod outbox_entry;
 mod pending;
+mod status;
 
-pub use fate::Fate;
 pub use pending::{Pending, PendingOps};
+pub use status::CallStatus;

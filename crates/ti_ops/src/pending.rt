@@ -1,6 +1,8 @@
 //! The calls that wait at a thread, and the answers that are not collected yet.
 
-use crate::kept::{Count, Kept, Stage, find, find_last, is_answered, nearer, take_out};
+use crate::outbox_entry::{
+    Count, OutboxEntry, Stage, find, find_last, is_answered, nearer, take_out,
+};
 use std::alloc::Global;
 use std::collections::VecDeque;
 use std::marker::Model;
@@ -22,7 +24,7 @@ pub struct Pending {
 #[derive(Drop, Debug)]
 pub struct PendingOps {
     /// The calls that are kept, the earliest posted first.
-    kept: VecDeque<Kept>,
+    kept: VecDeque<OutboxEntry>,
     /// How many of them no longer wait. These come first.
     taken: usize,
     /// What each environment has asked.
@@ -34,7 +36,7 @@ pub struct PendingOps {
 impl Model for PendingOps {
     ghost use Rattle.std.specs.VecDeque.{deque_capacity};
     ghost use Rattle.ti_ops.specs.Ops.{Ops};
-    ghost use Rattle.ti_ops.specs.Kept.{ops_in, IsKept};
+    ghost use Rattle.ti_ops.specs.OutboxEntry.{ops_in, IsKept};
 
     ghost Value = { Ops };
 
@@ -49,7 +51,7 @@ impl PendingOps {
     /// Fails with `OutOfMemory` (110) if there is no memory for the room, and in no other case (this profile).
     pub fn new(alloc: Global, envs: u32, window: u32) -> Result<Self, TiError>
         ensures waiting { IfOk result (λ o. o.waiting ≡ []) }
-        ensures fates { IfOk result (λ o. o.fates ≡ replicate envs []) }
+        ensures statuses { IfOk result (λ o. o.statuses ≡ replicate envs []) }
         ensures window { IfOk result (λ o. o.window ≡ window) }
         ensures memory { IfErr result (λ e. e ≡ TiError.OutOfMemory) }
     {
@@ -73,23 +75,23 @@ impl PendingOps {
 
     /// How many calls an environment has asked. That is the number of its next one.
     pub fn asked(&self, env: EnvNo) -> u64
-        requires { env.0 < length self.now.fates }
-        ensures { result ≡ length (fates_by env self.now.fates) }
+        requires { env.0 < length self.now.statuses }
+        ensures { result ≡ length (statuses_by env self.now.statuses) }
     {
         self.counts[env.0 as usize].asked
     }
 
     /// How many calls of an environment wait, or have an answer that is not collected.
     pub fn out(&self, env: EnvNo) -> u32
-        requires { env.0 < length self.now.fates }
-        ensures { result ≡ open_by env self.now.fates }
+        requires { env.0 < length self.now.statuses }
+        ensures { result ≡ open_by env self.now.statuses }
     {
         self.counts[env.0 as usize].held
     }
 
     /// Whether a ticket's call waits, or has an answer that is not collected.
     pub fn is_out(&self, ticket: Ticket) -> bool
-        ensures { result ≡ is_open (fate_of ticket self.now.fates) }
+        ensures { result ≡ is_open (status_of ticket self.now.statuses) }
     {
         let all = self.kept.len();
         find(&self.kept, all, ticket) != all
@@ -98,7 +100,7 @@ impl PendingOps {
     /// The number of the first of an environment's calls, from a number on, that waits or has an answer that is not collected.
     /// `None` if there is none. It goes over the calls that are kept.
     pub fn next_out(&self, env: EnvNo, from: u64) -> Option<u64>
-        ensures { IsFirstFrom (λ n. is_open (fate_of (call_at env n) self.now.fates)) from result }
+        ensures { IsFirstFrom (λ n. is_open (status_of (call_at env n) self.now.statuses)) from result }
     {
         let mut next = None;
         for at in 0..self.kept.len() {
@@ -109,16 +111,16 @@ impl PendingOps {
 
     /// Puts a call after those that wait. It is its environment's next one, and there is room for it.
     pub fn post(&mut self, ticket: Ticket, call: Call, buf: TraceBuf)
-        requires env { ticket.env.0 < length self.old.fates }
-        requires next { ticket.no ≡ length (fates_by ticket.env self.old.fates) }
+        requires env { ticket.env.0 < length self.old.statuses }
+        requires next { ticket.no ≡ length (statuses_by ticket.env self.old.statuses) }
         requires fits { ticket.no + 1 < 2 ^ 64 }
-        requires room { open_by ticket.env self.old.fates < self.old.window }
+        requires room { open_by ticket.env self.old.statuses < self.old.window }
         ensures { self.new ≡ with_posted self.old (record { ticket = ticket; call = call; buf = buf }) }
     {
         let count = &mut self.counts[ticket.env.0 as usize];
         count.asked += 1;
         count.held += 1;
-        self.kept.push_back_reserved(Kept {
+        self.kept.push_back_reserved(OutboxEntry {
             ticket,
             stage: Stage::Posted { call, buf },
         });
@@ -126,9 +128,9 @@ impl PendingOps {
 
     /// Notes that an environment's next call was answered at once.
     pub fn pass(&mut self, env: EnvNo)
-        requires env { env.0 < length self.old.fates }
-        requires fits { length (fates_by env self.old.fates) + 1 < 2 ^ 64 }
-        ensures { self.new ≡ with_fates self.old (with_call env fate.Gone self.old.fates) }
+        requires env { env.0 < length self.old.statuses }
+        requires fits { length (statuses_by env self.old.statuses) + 1 < 2 ^ 64 }
+        ensures { self.new ≡ with_statuses self.old (with_call env status.Gone self.old.statuses) }
     {
         self.counts[env.0 as usize].asked += 1;
     }
@@ -153,9 +155,9 @@ impl PendingOps {
 
     /// Keeps the answer to a call that was taken and has no answer yet, until it is collected.
     pub fn deliver(&mut self, ticket: Ticket, answer: Answer)
-        requires waits { fate_of ticket self.old.fates ≡ fate.Waiting }
+        requires waits { status_of ticket self.old.statuses ≡ status.Waiting }
         requires taken { is_awaited ticket self.old.waiting ≡ false }
-        ensures { self.new ≡ with_fates self.old (with_fate ticket (fate.Answered answer) self.old.fates) }
+        ensures { self.new ≡ with_statuses self.old (with_status ticket (status.Answered answer) self.old.statuses) }
     {
         let at = find_last(&self.kept, self.taken, ticket);
         self.kept[at].stage = Stage::Answered(answer);
@@ -164,8 +166,8 @@ impl PendingOps {
     /// Takes the answer to a ticket out. `None` if it is not there: the call is not answered yet, was answered at once, was
     /// never asked, or its answer was collected before. Then nothing changes.
     pub fn collect(&mut self, ticket: Ticket) -> Option<Answer>
-        ensures answer { result ≡ answer_by (fate_of ticket self.old.fates) }
-        ensures fates { self.new ≡ with_fates self.old (if is_some result then with_fate ticket fate.Gone self.old.fates else self.old.fates) }
+        ensures answer { result ≡ answer_by (status_of ticket self.old.statuses) }
+        ensures statuses { self.new ≡ with_statuses self.old (if is_some result then with_status ticket status.Gone self.old.statuses else self.old.statuses) }
     {
         let at = find(&self.kept, self.taken, ticket);
         if at == self.taken {
@@ -174,7 +176,7 @@ impl PendingOps {
         if !is_answered(&self.kept[at]) {
             return None;
         }
-        let Kept { ticket: _, stage } = take_out(&mut self.kept, at);
+        let OutboxEntry { ticket: _, stage } = take_out(&mut self.kept, at);
         self.taken -= 1;
         self.counts[ticket.env.0 as usize].held -= 1;
         match stage {
@@ -185,6 +187,6 @@ impl PendingOps {
 }
 
 ghost use Rattle.std.specs.Prelude.{◌≡◌, ◌<◌, ◌+◌, ◌^◌, [], ◌∷◌, false, length, replicate, IfOk, IfErr, MatchOption, is_some, if◌then◌else◌};
-ghost use Rattle.ti_ops.specs.Fates.{IsFirstFrom, call_at, fates_by, fate_of, open_by, answer_by, is_open, with_call, with_fate, is_awaited};
-ghost use Rattle.ti_ops.specs.Ops.{with_waiting, with_fates, with_posted};
-ghost use Rattle.ti_ops.specs.declared.fate.Fate.TheVariants as fate;
+ghost use Rattle.ti_ops.specs.Statuses.{IsFirstFrom, call_at, statuses_by, status_of, open_by, answer_by, is_open, with_call, with_status, is_awaited};
+ghost use Rattle.ti_ops.specs.Ops.{with_waiting, with_statuses, with_posted};
+ghost use Rattle.ti_ops.specs.declared.status.CallStatus.TheVariants as status;

@@ -15,7 +15,7 @@ use Rattle.ti_roster.specs.declared.view.RosterView.{RosterView}
 use Rattle.ti_roster.specs.Log.{Log, mark_of, noted}
 use Rattle.ti_roster.specs.View.{AreWithin, first_view, glanced, holding, split_off, splitter, stored}
 use Rattle.ti_roster.specs.Word.{word_of}
-use Rattle.ti_roster.specs.Rule.{Begins, Holds, Claims, Placed, Kept, Moves, IsFound, MayStore, locks, frees, glances}
+use Rattle.ti_roster.specs.Rule.{Begins, Holds, Claims, Placed, RosterInvariant, Moves, IsFound, MayStore, locks, frees, glances}
 use Rattle.ti_roster.proofs.Views.{at_end, one_set, one_each_set, one_each_same, one_each_end}
 use Rattle.ti_roster.proofs.Logs.{mark_noted}
 use Rattle.ti_roster.proofs.Bits.{counts, even_is_free, locked_is_more}
@@ -32,12 +32,12 @@ St = State Spot RosterView
 begins_length : (log seen : List Coming) → Begins log seen → length seen ≤ length log
 begins_length log seen b = let e = ap (λ (l : List Coming). length l) b.1 ∙ length-append seen b.0 in omega arith
 
-found_is : (limits : Limits) (s : St) (r : Kept limits s) → get_or s.words 0 0 ≡ word_of r.locked r.log
+found_is : (limits : Limits) (s : St) (r : RosterInvariant limits s) → get_or s.words 0 0 ≡ word_of r.locked r.log
 found_is limits s r = ap (λ (ws : List ℕ). get_or ws 0 0) r.word
 
 -- a step that changes no word and no roster, and of a view only the looks
-unmoved : (limits : Limits) (s : St) (r : Kept limits s) (me : ℕ) (cs : List (ℕ × Spot)) (v w : RosterView) → get_elem? s.views me ≡ some v → w.limits ≡ v.limits → w.seen ≡ v.seen → w.holds ≡ v.holds → w.place ≡ v.place → AreWithin (length r.log) w.looked
-    → Kept limits (stepped s 0 (get_or s.words 0 0) me cs w keeps)
+unmoved : (limits : Limits) (s : St) (r : RosterInvariant limits s) (me : ℕ) (cs : List (ℕ × Spot)) (v w : RosterView) → get_elem? s.views me ≡ some v → w.limits ≡ v.limits → w.seen ≡ v.seen → w.holds ≡ v.holds → w.place ≡ v.place → AreWithin (length r.log) w.looked
+    → RosterInvariant limits (stepped s 0 (get_or s.words 0 0) me cs w keeps)
 unmoved limits s r me cs v w at same_limits same_seen same_holds same_place looked = record {
   log = r.log;
   locked = r.locked;
@@ -52,7 +52,7 @@ unmoved limits s r me cs v w at same_limits same_seen same_holds same_place look
   one_each = one_each_same s.views me v w r.one_each at same_place;
 }
 
-unchanged : (limits : Limits) (s : St) (r : Kept limits s) (me : ℕ) (cs : List (ℕ × Spot)) (v : RosterView) → get_elem? s.views me ≡ some v → Kept limits (stepped s 0 (get_or s.words 0 0) me cs v keeps)
+unchanged : (limits : Limits) (s : St) (r : RosterInvariant limits s) (me : ℕ) (cs : List (ℕ × Spot)) (v : RosterView) → get_elem? s.views me ≡ some v → RosterInvariant limits (stepped s 0 (get_or s.words 0 0) me cs v keeps)
 unchanged limits s r me cs v at = unmoved limits s r me cs v v at refl refl refl refl (r.looked me v at)
 
 -- no look showed more than this, nor more than what is more
@@ -60,7 +60,7 @@ more_within : (n m : ℕ) → n ≤ m → (looked : List ℕ) → AreWithin n lo
 more_within n m less looked = All-weaker (λ k. k ≤ n) (λ k. k ≤ m) (λ k h. omega arith) looked
 
 -- a load
-pub looks_keep : (limits : Limits) (slots id : ℕ) (me : Mine) → Allows (Kept limits) slots id me 0 (λ n. n) (glances (step slots 0 0 0 none) me)
+pub looks_keep : (limits : Limits) (slots id : ℕ) (me : Mine) → Allows (RosterInvariant limits) slots id me 0 (λ n. n) (glances (step slots 0 0 0 none) me)
 looks_keep limits slots id me s r _ at _ =
     let here = found_is limits s r in
     let l = begins_length r.log me.0.seen (r.begins id me.0 at) in
@@ -84,8 +84,8 @@ claims_all log seen None c = tt
 claims_all log seen (Some e) c = (refl, c.1)
 
 -- the lock bit set, and the roster out
-taken : (limits : Limits) (s : St) (r : Kept limits s) (id : ℕ) (me : Mine) (new : ℕ) (t : Log) → get_elem? s.views id ≡ some me.0 → r.locked ≡ false → s.homes ≡ some (Some t) ∷ [] → t.items ≡ r.log
-    → new ≡ word_of true r.log → Kept limits (stepped s 0 new id me.1 (holding me.0 t.items) (takes 0 (Some t)))
+taken : (limits : Limits) (s : St) (r : RosterInvariant limits s) (id : ℕ) (me : Mine) (new : ℕ) (t : Log) → get_elem? s.views id ≡ some me.0 → r.locked ≡ false → s.homes ≡ some (Some t) ∷ [] → t.items ≡ r.log
+    → new ≡ word_of true r.log → RosterInvariant limits (stepped s 0 new id me.1 (holding me.0 t.items) (takes 0 (Some t)))
 taken limits s r id me new t at free home same now =
     let w : RosterView = holding me.0 t.items in
     let off : (j : ℕ) (u : RosterView) → get_elem? s.views j ≡ some u → u.holds ≡ true → ⊥ = λ j u e h. true≢false (sym (r.holds j u e h).0 ∙ free) in
@@ -103,11 +103,11 @@ taken limits s r id me new t at free home same now =
       one_each = one_each_same s.views id me.0 w r.one_each at refl;
     }
 
-pub locks_keep : (limits : Limits) (slots id : ℕ) (me : Mine) (old new : ℕ) → old % 2 ≡ 0 → new ≡ old + 1 → Allows (Kept limits) slots id me 0 (λ n. either (eqb n old) new n) (locks (step slots 0 old new none) me)
+pub locks_keep : (limits : Limits) (slots id : ℕ) (me : Mine) (old new : ℕ) → old % 2 ≡ 0 → new ≡ old + 1 → Allows (RosterInvariant limits) slots id me 0 (λ n. either (eqb n old) new n) (locks (step slots 0 old new none) me)
 locks_keep limits slots id me old new even up s r _ at _ =
     let n : ℕ = get_or s.words 0 0 in
     let here = found_is limits s r in
-    let F : ℕ → Type 0 = λ x. (w : RosterView) × (a : Act Spot) × Valid s.homes me.1 a × Kept limits (stepped s 0 x id me.1 w a) × locks (step slots 0 old new none) me n (w, carried_after me.1 a) in
+    let F : ℕ → Type 0 = λ x. (w : RosterView) × (a : Act Spot) × Valid s.homes me.1 a × RosterInvariant limits (stepped s 0 x id me.1 w a) × locks (step slots 0 old new none) me n (w, carried_after me.1 a) in
     exchanged n old new F
     (λ hit.
     let free : r.locked ≡ false = even_is_free r.locked r.log (ap (λ (x : ℕ). x % 2) (sym here ∙ hit) ∙ even) in
@@ -147,8 +147,8 @@ none_is_not : (m : Option ℕ) → m ≡ None → is_some m ≡ true → ⊥
 none_is_not m is some_is = true≢false (sym some_is ∙ ap (λ (x : Option ℕ). is_some x) is)
 
 -- the roster in, and the store
-given : (limits : Limits) (s : St) (r : Kept limits s) (id : ℕ) (me : Mine) (new : ℕ) (t : Log) → get_elem? s.views id ≡ some me.0 → me.0.holds ≡ true → me.1 ≡ (0, Some t) ∷ [] → MayStore t me.0 → new ≡ word_of false t.items
-    → Kept limits (stepped s 0 new id me.1 (stored me.0 t) gives)
+given : (limits : Limits) (s : St) (r : RosterInvariant limits s) (id : ℕ) (me : Mine) (new : ℕ) (t : Log) → get_elem? s.views id ≡ some me.0 → me.0.holds ≡ true → me.1 ≡ (0, Some t) ∷ [] → MayStore t me.0 → new ≡ word_of false t.items
+    → RosterInvariant limits (stepped s 0 new id me.1 (stored me.0 t) gives)
 given limits s r id me new t at holds out may now =
     let w : RosterView = stored me.0 t in
     let own = r.holds id me.0 at holds in
@@ -180,7 +180,7 @@ roster_of ((k, None) ∷ xs) d = d
 roster_of ((k, Some t) ∷ xs) d = t
 
 pub frees_keep : (limits : Limits) (slots id : ℕ) (me : Mine) (new : ℕ) (t : Log) → me.0.holds ≡ true → me.1 ≡ (0, Some t) ∷ [] → MayStore t me.0 → new ≡ word_of false t.items
-    → Allows (Kept limits) slots id me 0 (λ _. new) (λ _. frees (step slots 0 new 0 none) me new)
+    → Allows (RosterInvariant limits) slots id me 0 (λ _. new) (λ _. frees (step slots 0 new 0 none) me new)
 frees_keep limits slots id me new t holds out may now s r _ at _ = (
   stored me.0 t,
   gives,
@@ -195,7 +195,7 @@ frees_keep limits slots id me new t holds out may now s r _ at _ = (
     rest_is = ap (λ (cs : List (ℕ × Spot)). rest cs) out
 
 -- a new seat
-pub splits_keep : (limits : Limits) (id : ℕ) (v : RosterView) → v.holds ≡ false → Splits (Kept limits) id v (splitter v) (split_off v)
+pub splits_keep : (limits : Limits) (id : ℕ) (v : RosterView) → v.holds ≡ false → Splits (RosterInvariant limits) id v (splitter v) (split_off v)
 splits_keep limits id v free s r at = record {
   log = r.log;
   locked = r.locked;
@@ -226,7 +226,7 @@ splits_keep limits id v free s r at = record {
 }
 
 -- a new cell
-pub opens : (limits : Limits) (t : Log) → t.items ≡ [] → t.limits ≡ limits → Kept limits (opening (0 ∷ []) (Some t ∷ []) (first_view limits))
+pub opens : (limits : Limits) (t : Log) → t.items ≡ [] → t.limits ≡ limits → RosterInvariant limits (opening (0 ∷ []) (Some t ∷ []) (first_view limits))
 opens limits t empty about = record {
   log = [];
   locked = false;

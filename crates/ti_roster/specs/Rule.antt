@@ -36,7 +36,7 @@ Placed limits log true homes = homes ≡ none ∷ []
 
 -- There is one list of what happened, whose length the word has. It begins with what each seat has seen, and is as long as
 -- each look showed
-pub record Kept (limits : Limits) (s : State (Option Log) RosterView) : Type 0 where
+pub record RosterInvariant (limits : Limits) (s : State (Option Log) RosterView) : Type 0 where
   pub log : List Coming
   pub locked : Bool
   pub holder : ℕ

@@ -11,7 +11,7 @@
 //! - The starts and ends of threads can be read one by one, in the order in which they happened. The last 4,096 are kept.
 //! - An environment that comes has a place that no other has. Nobody but its own seat takes its desks.
 //! - A hold is stored: one that is let go of is a compile error.
-//! - `try_hold` does not wait. `hold` sleeps after some looks, and `store` wakes it. `store_quietly` does not. No contract
+//! - `hold_now` does not wait. `hold` sleeps after some looks, and `store` wakes it. `store_quietly` does not. No contract
 //!   says either.
 #![tactic(auto)]
 

@@ -4,13 +4,13 @@ use crate::life_event::{EventAt, LifeEvent, NextEvent};
 use std::alloc::Global;
 use std::collections::VecDeque;
 use std::marker::Model;
-use ti_trail::Trail;
+use ti_trail::GhostList;
 use ti_types::TiError;
 
 /// The last 4,096 events of threads' lives, and how many there were. Contracts see it as all of them (`Lives`).
 #[derive(Drop)]
 pub(crate) struct Life {
-    all: Trail<LifeEvent>,
+    all: GhostList<LifeEvent>,
     /// How many happened.
     count: u64,
     /// The last of them, the earliest first. It never takes more memory.
@@ -36,7 +36,7 @@ impl Life {
         ensures memory { IfErr result (λ e. e ≡ OutOfMemory) }
     {
         Ok(Life {
-            all: Trail::new(),
+            all: GhostList::new(),
             count: 0,
             kept: VecDeque::with_capacity(alloc, MOST_KEPT)?,
         })

@@ -9,14 +9,14 @@ use std::alloc::Global;
 use std::marker::Model;
 use ti_agent::FreeDesk;
 use ti_handshake::Fresh;
-use ti_trail::Trail;
+use ti_trail::GhostList;
 use ti_types::{EnvNo, Limits, ThreadNo, TiError};
 
 /// Who is there, and what has happened. Contracts see it as a `Log`: what happened, the limits, and whose seat the roster goes
 /// to when it is put back.
 #[derive(Drop)]
 pub struct Roster {
-    log: Trail<Coming>,
+    log: GhostList<Coming>,
     /// How much has happened.
     len: u64,
     /// The number of the next thread.
@@ -54,7 +54,7 @@ impl Roster {
         ensures memory { IfErr result (λ e. e ≡ OutOfMemory) }
     {
         Ok(Roster {
-            log: Trail::new(),
+            log: GhostList::new(),
             len: 0,
             next: 0,
             limits,
@@ -130,7 +130,7 @@ impl Roster {
         self.index_of(thread).is_some()
     }
 
-    /// How many of the threads that are there have a number below this one. It looks by halves.
+    /// How many of the threads that are there have a number below this one. It is a binary search.
     fn count_below(&self, number: u32) -> usize
         ensures within { result ≤ length (live self.now.items) }
         ensures below { (j : ℕ) (n : Newcomer) → j < result → slice_get (live self.now.items) j ≡ Some n → n.thread.0 < number }

@@ -113,7 +113,7 @@ impl RosterCell {
     }
 
     /// The same by one try, which never waits. The seat comes back as it was if another holds the cell.
-    pub fn try_hold<'a>(&'a self, seat: RosterSeat) -> Result<RosterHold<'a>, RosterSeat>
+    pub fn hold_now<'a>(&'a self, seat: RosterSeat) -> Result<RosterHold<'a>, RosterSeat>
         requires cell { seat.cell ≡ self.now }
         ensures cell { IfOk result (λ h. h.cell ≡ self.now) }
         ensures view { IfOk result (λ h. h.view ≡ holding seat.view h.roster.items) }
@@ -129,7 +129,7 @@ impl RosterCell {
             place,
             limits,
         } = seat;
-        match self.try_take(&mut seat) {
+        match self.take_now(&mut seat) {
             Some(mut roster) => {
                 roster.serve(place);
                 Ok(RosterHold {
@@ -155,7 +155,7 @@ impl RosterCell {
     {
         let pace = Pace::new();
         for _ in rt.forever() {
-            if let Some(roster) = self.try_take(seat) {
+            if let Some(roster) = self.take_now(seat) {
                 return roster;
             }
             self.await_free(rt, &pace);
@@ -173,7 +173,7 @@ impl RosterCell {
 
     /// Takes the lock bit and the roster by one load and one exchange of the word, unless another has them.
     #[inline]
-    fn try_take(&self, seat: &mut Pass) -> Option<Roster>
+    fn take_now(&self, seat: &mut Pass) -> Option<Roster>
         requires { (seat.old.table_id ≡ self.now) × (seat.old.me.1 ≡ []) }
         ensures table { seat.new.table_id ≡ seat.old.table_id }
         ensures seat { IfSome result (λ r. seat.new.me ≡ (holding seat.old.me.0 r.items, (0, None) ∷ [])) }

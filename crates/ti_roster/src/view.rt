@@ -25,14 +25,14 @@ pub struct RosterView {
     pub place: Option<EnvNo>,
 }
 
-/// The rule of a cell: `Kept` in `specs/Rule`.
+/// The rule of a cell: `RosterInvariant` in `specs/Rule`.
 pub struct RosterRule;
 
 impl TableRule<Option<Roster>, RosterView, Limits> for RosterRule {
-    ghost use Rattle.ti_roster.specs.Rule.{Kept};
+    ghost use Rattle.ti_roster.specs.Rule.{RosterInvariant};
     ghost use Rattle.ti_roster.specs.View.{first_view};
 
-    ghost holds = { Kept };
+    ghost holds = { RosterInvariant };
 
     ghost first = { first_view };
 }

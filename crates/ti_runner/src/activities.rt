@@ -77,7 +77,7 @@ fn start_agent<'s, E, R: Wait + Sync, G: Gate>(
     env: Env,
     calls: &'s [AgentCall],
 ) -> Result<PromisedHandle<Called, SeatsAt<'s>>, RunFault>
-    requires { cells_at env.desks ≡ cells.now }
+    requires { cells_at env.env.desks ≡ cells.now }
     ensures { IfOk result (λ h. h.promise.0.now ≡ cells.now) }
 {
     let replies = Vec::with_capacity(alloc, calls.len())?;
@@ -86,8 +86,8 @@ fn start_agent<'s, E, R: Wait + Sync, G: Gate>(
         SeatsAt(cells),
         move || -> Called
             requires empty { seats.items ≡ [] }
-            requires room { length env.desks ≤ vec_capacity seats }
-            ensures { seats_at result.seats.items ≡ cells_at env.desks }
+            requires room { length env.env.desks ≤ vec_capacity seats }
+            ensures { seats_at result.seats.items ≡ cells_at env.env.desks }
         { call_all(rt, alloc, gate, turn, number, env, calls, replies, seats) },
     );
     match started {
@@ -140,7 +140,7 @@ fn start_agents<'s, E, R: Wait + Sync, G: Gate>(
     envs: Vec<Env>,
     calls: &'s [Listed<AgentCall>],
 ) -> Result<Vec<PromisedHandle<Called, SeatsAt<'s>>>, RunFault>
-    requires desks { All (λ e. cells_at e.desks ≡ cells.now) envs.items }
+    requires desks { All (λ e. cells_at e.env.desks ≡ cells.now) envs.items }
     requires count { length envs.items ≡ length calls.now }
     ensures { IfOk result (λ hs. All (λ h. h.promise.0.now ≡ cells.now) hs.items) }
 {
@@ -177,7 +177,7 @@ fn in_scope<'s, E, R: Threads + Wait + Sync, G: Gate>(
     turn: &'s Mutex<VmTurn>,
 ) -> Result<Left, RunFault>
     requires threads { seats_at threads.items ≡ cells.now }
-    requires desks { All (λ e. cells_at e.desks ≡ cells.now) envs.items }
+    requires desks { All (λ e. cells_at e.env.desks ≡ cells.now) envs.items }
     requires walks { length cells.now ≡ length script.now.walks }
     requires calls { length envs.items ≡ length script.now.calls }
     ensures walked { IfOk result (λ left. AreBack cells.now left.0.items) }
@@ -218,7 +218,7 @@ pub(crate) fn activities<R: Threads + Wait + Sync, G: Gate>(
     turn: &Mutex<VmTurn>,
 ) -> Result<Left, RunFault>
     requires threads { seats_at threads.items ≡ cells.now }
-    requires desks { All (λ e. cells_at e.desks ≡ cells.now) envs.items }
+    requires desks { All (λ e. cells_at e.env.desks ≡ cells.now) envs.items }
     requires walks { length cells.now ≡ length script.now.walks }
     requires calls { length envs.items ≡ length script.now.calls }
     ensures walked { IfOk result (λ left. AreBack cells.now left.0.items) }
@@ -229,7 +229,7 @@ pub(crate) fn activities<R: Threads + Wait + Sync, G: Gate>(
         rt,
         move |scope| -> Result<Left, RunFault>
             requires threads { seats_at threads.items ≡ cells.now }
-            requires desks { All (λ e. cells_at e.desks ≡ cells.now) envs.items }
+            requires desks { All (λ e. cells_at e.env.desks ≡ cells.now) envs.items }
             requires walks { length cells.now ≡ length script.now.walks }
             requires calls { length envs.items ≡ length script.now.calls }
             ensures walked { IfOk result (λ left. AreBack cells.entry.now left.0.items) }

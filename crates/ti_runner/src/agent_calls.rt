@@ -7,7 +7,7 @@ use ti_agent::Env;
 use ti_cell::EnvSeat;
 use ti_handshake::Desk;
 use ti_live::{AgentCall, Listed, Reply};
-use ti_types::{Answer, Call, Caps, EnvNo, Frame, StackInfo, ThreadNo, TiError, TraceBuf};
+use ti_types::{Answer, Caps, EnvNo, StackInfo, TiError};
 use ti_vmop::{Round, VmTurn};
 
 /// What an agent gives back when its list is done.
@@ -31,26 +31,6 @@ fn done(came: Result<(), TiError>) -> Answer
     }
 }
 
-/// The answer of a call for a thread's state.
-fn state(came: Result<u32, TiError>) -> Answer
-    ensures { said result ≡ in_state came }
-{
-    match came {
-        Ok(bits) => Answer::State(bits),
-        Err(error) => Answer::Refused(error),
-    }
-}
-
-/// The answer of a call for the number of frames.
-fn count(came: Result<u32, TiError>) -> Answer
-    ensures { said result ≡ in_count came }
-{
-    match came {
-        Ok(count) => Answer::Count(count),
-        Err(error) => Answer::Refused(error),
-    }
-}
-
 /// The answer of a call for a word.
 fn word(came: Result<u64, TiError>) -> Answer
     ensures { said result ≡ in_word came }
@@ -58,45 +38,6 @@ fn word(came: Result<u64, TiError>) -> Answer
     match came {
         Ok(word) => Answer::Word(word),
         Err(error) => Answer::Refused(error),
-    }
-}
-
-/// The answer of a call for a frame.
-fn location(came: Result<Frame, TiError>) -> Answer
-    ensures { said result ≡ in_location came }
-{
-    match came {
-        Ok(frame) => Answer::Location(frame),
-        Err(error) => Answer::Refused(error),
-    }
-}
-
-/// The answer of a call for frames.
-fn trace(came: Result<TraceBuf, TiError>) -> Answer
-    ensures { said result ≡ in_trace came }
-{
-    match came {
-        Ok(frames) => Answer::Trace(frames),
-        Err(error) => Answer::Refused(error),
-    }
-}
-
-/// Makes a call at one thread, and gives the answer.
-fn ask<R: Wait>(rt: &R, alloc: Global, env: &mut Env, thread: ThreadNo, call: Call) -> Answer
-    ensures { IsCalled env.old env.new thread call (said result) }
-{
-    match call {
-        Call::State => state(env.get_thread_state(rt, thread)),
-        Call::FrameCount => count(env.get_frame_count(rt, thread)),
-        Call::Trace { start, max_count } => {
-            trace(env.get_stack_trace(rt, alloc, thread, start, max_count))
-        }
-        Call::Location { depth } => location(env.get_frame_location(rt, thread, depth)),
-        Call::Suspend => done(env.suspend_thread(rt, thread)),
-        Call::Resume => done(env.resume_thread(rt, thread)),
-        Call::GetWord => word(env.get_thread_local_storage(rt, thread)),
-        Call::SetWord(value) => done(env.set_thread_local_storage(rt, thread, value)),
-        Call::Pop => done(env.pop_frame(rt, thread)),
     }
 }
 
@@ -134,10 +75,10 @@ fn make<R: Wait>(
     env: &mut Env,
     call: &AgentCall,
 ) -> Reply
-    ensures { cells_at env.new.desks ≡ cells_at env.old.desks }
+    ensures { cells_at env.new.env.desks ≡ cells_at env.old.env.desks }
 {
     match call {
-        AgentCall::Ask(thread, call) => Reply::Plain(ask(rt, alloc, env, *thread, *call)),
+        AgentCall::Ask(thread, call) => Reply::Plain(env.call(rt, alloc, *thread, *call)),
         AgentCall::AddCaps(caps) => Reply::Plain(done(env.add_capabilities(*caps))),
         AgentCall::Relinquish(caps) => Reply::Plain(done(env.relinquish_capabilities(*caps))),
         AgentCall::GetCaps => Reply::Plain(caps(env.get_capabilities())),
@@ -192,8 +133,8 @@ pub(crate) fn call_all<R: Wait, G: Gate>(
     seats: Vec<EnvSeat>,
 ) -> Called
     requires empty { seats.items ≡ [] }
-    requires room { length env.desks ≤ vec_capacity seats }
-    ensures { seats_at result.seats.items ≡ cells_at env.desks }
+    requires room { length env.env.desks ≤ vec_capacity seats }
+    ensures { seats_at result.seats.items ≡ cells_at env.env.desks }
 {
     let mut env = env;
     let mut replies = replies;
@@ -217,7 +158,7 @@ pub(crate) fn call_all<R: Wait, G: Gate>(
 
 ghost use Rattle.std.specs.Prelude.{◌≡◌, ◌≤◌, [], length, vec_capacity};
 ghost use Rattle.ti_types.specs.Answer.{said};
-ghost use Rattle.ti_agent.specs.Asks.{IsCalled, in_state, in_count, in_word, in_location, in_trace, in_done};
+ghost use Rattle.ti_agent.specs.Asks.{in_word, in_done};
 ghost use Rattle.ti_agent.specs.Env.{cells_at};
 ghost use Rattle.ti_runner.specs.Calls.{in_caps};
 ghost use Rattle.ti_runner.specs.Cells.{seats_at};

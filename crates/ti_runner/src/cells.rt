@@ -63,8 +63,8 @@ fn take_desk(
 
 /// Adds an unused desk to an environment. The errors are those of `FreeDesk::new` and `Env::add_desk`.
 fn add_desk(environment: &mut Env, desk: Desk) -> Result<(), TiError>
-    ensures added { OnOk result (cells_at environment.new.desks ≡ cells_at environment.old.desks ++ desk.cell ∷ []) }
-    ensures limits { OnOk result (environment.new.state.limits ≡ environment.old.state.limits) }
+    ensures added { OnOk result (cells_at environment.new.env.desks ≡ cells_at environment.old.env.desks ++ desk.cell ∷ []) }
+    ensures limits { OnOk result (environment.new.env.state.limits ≡ environment.old.env.state.limits) }
 {
     let free = match FreeDesk::new(desk) {
         Ok(free) => free,
@@ -86,7 +86,7 @@ fn environment(
 ) -> Result<Env, TiError>
     requires count { length cells.now ≡ limits.threads }
     requires desks { AreDesks limits (env.0 + 1) cells.now (map (λ l. l.items) desks.old) }
-    ensures here { IfOk result (λ e. cells_at e.desks ≡ cells.now) }
+    ensures here { IfOk result (λ e. cells_at e.env.desks ≡ cells.now) }
     ensures rest { IfOk result (λ e. AreDesks limits env.0 cells.now (map (λ l. l.items) desks.new)) }
 {
     let mut environment = Env::with_no_desks(alloc, env, limits);
@@ -108,7 +108,7 @@ pub(crate) fn environments(
     requires count { length cells.now ≡ limits.threads }
     requires desks { AreDesks limits limits.envs cells.now (map (λ l. l.items) desks.items) }
     ensures count { IfOk result (λ envs. length envs.items ≡ limits.envs) }
-    ensures here { IfOk result (λ envs. All (λ e. cells_at e.desks ≡ cells.now) envs.items) }
+    ensures here { IfOk result (λ envs. All (λ e. cells_at e.env.desks ≡ cells.now) envs.items) }
 {
     let mut desks = desks;
     let mut envs = Vec::with_capacity(alloc, limits.envs as usize)?;

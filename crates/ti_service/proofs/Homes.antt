@@ -1,20 +1,18 @@
 -- An agent's desks stay at the threads of its service.
-use Rattle.std.proofs.Common.{◌≡◌, ◌==◌, ◌&&◌, ◌<◌, Bool, true, eq-eqb, ℕ, zero, suc, List, [], ◌∷◌, ◌++◌, length, refl, ap, sym, ◌∙◌, arith, subst, append-nil, append_assoc, Option, Some, None, Result, Ok, Err}
-use Rattle.std.specs.Prelude.{All, OnErr, OnOk, slice_get, slice_set}
+use Rattle.std.proofs.Common.{◌≡◌, ◌==◌, ◌&&◌, ◌<◌, Bool, true, eq-eqb, ℕ, List, [], ◌∷◌, ◌++◌, refl, ap, sym, ◌∙◌, subst, append-nil, append_assoc, Option, Some, None}
+use Rattle.std.specs.Prelude.{All, slice_get}
 use Rattle.std.specs.List.{fold}
 use Rattle.std.proofs.lemmas.List.Sums.{fold-append}
 use Rattle.atomic_table.specs.Seated.{TableId}
 use Rattle.ti_types.specs.declared.numbers.ThreadNo.{ThreadNo}
-use Rattle.std.proofs.lemmas.List.{map-append}
-use Rattle.std.proofs.lemmas.List.Elements.{All-pop, All-push, All-weaker}
+use Rattle.std.proofs.lemmas.List.Elements.{All-pop, All-weaker}
 use Rattle.ti_types.specs.declared.limits.Limits.{Limits}
 use Rattle.ti_types.specs.declared.numbers.EnvNo.{EnvNo}
 use Rattle.ti_types.specs.declared.error.TiError.{TiError}
 use Rattle.ti_types.specs.declared.error.TiError.TheVariants.{IllegalArgument, InvalidEnvironment, OutOfMemory}
 use Rattle.ti_types.specs.Refusing.{or_else, unless}
-use Rattle.ti_env.specs.Env.{EnvValue, place_refusal}
-use Rattle.ti_handshake.specs.Desk.{DeskState}
-use Rattle.ti_agent.specs.Desks.{are_same, desk_refusal, is_new, with_desk}
+use Rattle.ti_env.specs.Env.{place_refusal}
+use Rattle.ti_agent.specs.Desks.{are_same, desk_refusal, is_new}
 use Rattle.ti_agent.proofs.SameLimits.{limits_same}
 use Rattle.ti_agent.specs.Env.{Environment}
 use Rattle.ti_agent.specs.FreeDesk.{FreeState}
@@ -27,7 +25,8 @@ use Rattle.ti_roster.specs.Roster.{IsOwn, meeting}
 use Rattle.ti_roster.specs.Rows.{IsAt}
 use Rattle.ti_roster.specs.Rule.{Begins}
 use Rattle.ti_service.specs.Agent.{AgentState}
-use Rattle.ti_service.specs.Homes.{AreOurs, HasCome, Home, home_of, homes_of}
+use Rattle.ti_agent.specs.Spots.{spots_of}
+use Rattle.ti_service.specs.Homes.{AreOurs, AreOursOf, HasCome, IsHomeOf}
 use Rattle.ti_roster.proofs.Places.{get_front, get_within}
 use Rattle.ti_service.specs.Service.{Holds, Member, TakesDesks, TellsNews, with_look}
 
@@ -54,69 +53,6 @@ come_later seen later t cell b at = (
 pub own_later : (seen later : List Coming) (limits : Limits) (e : EnvNo) (f : FreeState) → Begins later seen → IsOwn seen limits e f → IsOwn later limits e f
 own_later seen later limits e f b o = record { at = come_later seen later f.desk.view.subject.thread f.desk.cell b o.at; env = o.env; limits_are = o.limits_are; clean = o.clean }
 
--- Where desks are
-
-some_same : (x y : DeskState) → Some x ≡ Some y → x ≡ y
-some_same x y e = cc
-
-pub same_home : (p q : DeskState) → q.cell ≡ p.cell → q.view.subject ≡ p.view.subject → home_of q ≡ home_of p
-same_home p q cell subject = λ j. record { thread = (subject j).thread; cell = cell j }
-
-pub homes_set : (l : List DeskState) (i : ℕ) (p q : DeskState) → slice_get l i ≡ Some p → home_of q ≡ home_of p → homes_of (slice_set l i q) ≡ homes_of l
-homes_set [] i p q at e = refl
-homes_set (x ∷ l) zero p q at e = ap (λ (h : Home). h ∷ homes_of l) (e ∙ ap home_of (sym (some_same x p at)))
-homes_set (x ∷ l) (suc i) p q at e = ap (λ (t : List Home). home_of x ∷ t) (homes_set l i p q at e)
-
-pub homes_alike : (old new : List DeskState) → length new ≡ length old → ((i : ℕ) (p q : DeskState) → slice_get old i ≡ Some p → slice_get new i ≡ Some q → home_of q ≡ home_of p) → homes_of new ≡ homes_of old
-homes_alike [] [] n h = refl
-homes_alike [] (y ∷ new) n h = absurd (omega (arith, n))
-homes_alike (x ∷ old) [] n h = absurd (omega (arith, n))
-homes_alike (x ∷ old) (y ∷ new) n h =
-    let rest : homes_of new ≡ homes_of old = homes_alike old new (omega (arith, n)) (λ i p q a b. h (suc i) p q a b) in
-    let first : home_of y ≡ home_of x = h 0 x y refl refl in
-    λ j. first j ∷ rest j
-
--- An environment that keeps its number, its limits, and its desks at their threads
-pub record StaysHome (old new : Environment) : Type 0 where
-  pub env : new.env ≡ old.env
-  pub limits : new.state.limits ≡ old.state.limits
-  pub homes : homes_of new.desks ≡ homes_of old.desks
-
-pub stays_same : (old new : Environment) → new ≡ old → StaysHome old new
-stays_same old new is = record {
-  env = ap (λ (s : Environment). s.env) is;
-  limits = ap (λ (s : Environment). s.state.limits) is;
-  homes = ap (λ (s : Environment). homes_of s.desks) is;
-}
-
-pub stays_then : (old mid new : Environment) → StaysHome old mid → StaysHome mid new → StaysHome old new
-stays_then old mid new a b = record { env = b.env ∙ a.env; limits = b.limits ∙ a.limits; homes = b.homes ∙ a.homes }
-
--- what it keeps for itself may change, but not the limits
-pub stays_with : (old new : Environment) (state : EnvValue) → state.limits ≡ old.state.limits → new ≡ record { env = old.env; state = state; desks = old.desks } → StaysHome old new
-stays_with old new state limits is = record {
-  env = ap (λ (s : Environment). s.env) is;
-  limits = ap (λ (s : Environment). s.state.limits) is ∙ limits;
-  homes = ap (λ (s : Environment). homes_of s.desks) is;
-}
-
-pub stays_or : {V E : Type 0} (old new : Environment) (state : EnvValue) → state.limits ≡ old.state.limits → (r : Result V E) → OnOk r (new ≡ record { env = old.env; state = state; desks = old.desks }) → OnErr r (new ≡ old) → StaysHome old new
-stays_or old new state limits (Ok v) is same = stays_with old new state limits is
-stays_or old new state limits (Err e) is same = stays_same old new same
-
--- one of its desks changed, and is where it was
-pub stays_to : (old new : Environment) (state : EnvValue) (i : ℕ) (p q : DeskState) → slice_get old.desks i ≡ Some p → home_of q ≡ home_of p → state.limits ≡ old.state.limits
-    → new ≡ record { env = old.env; state = state; desks = slice_set old.desks i q } → StaysHome old new
-stays_to old new state i p q at home limits is = record {
-  env = ap (λ (s : Environment). s.env) is;
-  limits = ap (λ (s : Environment). s.state.limits) is ∙ limits;
-  homes = ap (λ (s : Environment). homes_of s.desks) is ∙ homes_set old.desks i p q at home;
-}
-
-pub stays_at : (old new : Environment) (state : EnvValue) (i : ℕ) (p q : DeskState) → slice_get old.desks i ≡ Some p → q.cell ≡ p.cell → q.view.subject ≡ p.view.subject → state.limits ≡ old.state.limits
-    → new ≡ record { env = old.env; state = state; desks = slice_set old.desks i q } → StaysHome old new
-stays_at old new state i p q at cell subject limits is = stays_to old new state i p q at (same_home p q cell subject) limits is
-
 -- An agent's desks
 
 abbrev pub agent_of : Member → Environment → List FreeState → AgentState
@@ -126,22 +62,13 @@ agent_of service env waiting = record { service = service; env = env; waiting = 
 abbrev pub agent_with : Member → Environment → List FreeState → Option ℕ → AgentState
 agent_with service env waiting events = record { service = service; env = env; waiting = waiting; events = events }
 
-pub ours_stay : (service : Member) (waiting : List FreeState) (old new : Environment) → StaysHome old new → AreOurs (agent_of service old waiting) → AreOurs (agent_of service new waiting)
-ours_stay service waiting old new s o = record {
-  place = o.place ∙ ap (λ (e : EnvNo). Some e) (sym s.env);
-  there = subst (λ (e : EnvNo). e.0 < service.view.limits.envs) (sym s.env) o.there;
-  limits = s.limits ∙ o.limits;
-  homes = subst (λ (l : List Home). All (HasCome service.view.seen) l) (sym s.homes) o.homes;
-  waiting = subst (λ (e : EnvNo). All (IsOwn service.view.seen service.view.limits e) waiting) (sym s.env) o.waiting;
-}
-
 -- the handle has seen more
 pub ours_later : (old new : Member) (env : Environment) (waiting : List FreeState) → Begins new.view.seen old.view.seen → new.view.place ≡ old.view.place → new.view.limits ≡ old.view.limits → AreOurs (agent_of old env waiting) → AreOurs (agent_of new env waiting)
 ours_later old new env waiting b place limits o = record {
   place = place ∙ o.place;
   there = subst (λ (l : Limits). env.env.0 < l.envs) (sym limits) o.there;
   limits = o.limits ∙ sym limits;
-  homes = All-weaker (HasCome old.view.seen) (HasCome new.view.seen) (λ h c. come_later old.view.seen new.view.seen h.thread h.cell b c) (homes_of env.desks) o.homes;
+  homes = All-weaker (HasCome old.view.seen) (HasCome new.view.seen) (λ h c. come_later old.view.seen new.view.seen h.thread h.cell b c) (spots_of env.desks) o.homes;
   waiting = subst (λ (l : Limits). All (IsOwn new.view.seen l env.env) waiting) (sym limits)
       (All-weaker (IsOwn old.view.seen old.view.limits env.env) (IsOwn new.view.seen old.view.limits env.env) (λ f c. own_later old.view.seen new.view.seen old.view.limits env.env f b c) waiting o.waiting);
 }
@@ -163,19 +90,6 @@ why_not service env all rest f e is o told =
     let alike : are_same f.desk.view.subject.limits env.state.limits ≡ true = limits_same f.desk.view.subject.limits env.state.limits (last_limits service env all rest f is o) in
     let fits : (f.desk.env.0 == env.env.0 && are_same f.desk.view.subject.limits env.state.limits) ≡ true = (λ i. its_own i && alike i) in
     told ∙ ap (λ (b : Bool). or_else (or_else (unless b InvalidEnvironment) (or_else (unless (is_new env f.desk.view.subject.thread) IllegalArgument) (place_refusal env.state))) (Some OutOfMemory)) fits
-
--- it was added
-pub ours_added : (service : Member) (env new : Environment) (all rest : List FreeState) (f : FreeState) → all ≡ rest ++ f ∷ [] → new ≡ with_desk env f → AreOurs (agent_of service env all) → AreOurs (agent_of service new rest)
-ours_added service env new all rest f is added o =
-    let last : All (IsOwn service.view.seen service.view.limits env.env) rest × IsOwn service.view.seen service.view.limits env.env f = last_ours service env all rest f is o in
-    let P : Home → Type 0 = HasCome service.view.seen in
-    subst (λ (s : Environment). AreOurs (agent_of service s rest)) (sym added) (record {
-      place = o.place;
-      there = o.there;
-      limits = o.limits;
-      homes = subst (λ (l : List Home). All P l) (sym (map-append home_of env.desks (f.desk ∷ []))) (All-push P (homes_of env.desks) (home_of f.desk) o.homes last.1.at);
-      waiting = last.0;
-    })
 
 -- a look: the handle has seen what it had seen
 pub looked_at : (old new : Member) (env : Environment) (waiting : List FreeState) (news : Bool) → TellsNews old new news → AreOurs (agent_of old env waiting) → AreOurs (agent_of new env waiting)
@@ -213,3 +127,16 @@ ours_took old new env waiting desks now next t turn o =
   where
     some_env : (x y : EnvNo) → Some x ≡ Some y → x ≡ y
     some_env x y e = cc
+
+-- The two parts of it
+
+pub ours_of : (service : Member) (env : Environment) (waits : List FreeState) → IsHomeOf service waits env.env env.state.limits → All (HasCome service.view.seen) (spots_of env.desks) → AreOursOf service env waits
+ours_of service env waits h at = record { place = h.0; there = h.1; limits = h.2; homes = at; waiting = h.3 }
+
+pub home_of_ours : (service : Member) (env : Environment) (waits : List FreeState) → AreOursOf service env waits → IsHomeOf service waits env.env env.state.limits × All (HasCome service.view.seen) (spots_of env.desks)
+home_of_ours service env waits o = ((o.place, o.there, o.limits, o.waiting), o.homes)
+
+-- a hold of the roster, at home
+pub held_home : (old new : Member) (env : Environment) (waits : List FreeState) (found more : List Coming) → Holds old.view new.view found more → IsHomeOf old waits env.env env.state.limits × All (HasCome old.view.seen) (spots_of env.desks)
+    → IsHomeOf new waits env.env env.state.limits × All (HasCome new.view.seen) (spots_of env.desks)
+held_home old new env waits found more h k = home_of_ours new env waits (holds_ours old new env waits found more h (ours_of old env waits k.0 k.1))

@@ -1,9 +1,9 @@
 -- An agent that clears its desks.
-use Rattle.std.proofs.Common.{◌≡◌, ℕ, zero, suc, ◌<◌, ◌≤◌, inl, inr, Bool, false, List, [], ◌∷◌, ◌++◌, length, remove, refl, ap, sym, ◌∙◌, arith, subst, append_assoc, append-nil, Option, Some, None}
+use Rattle.std.proofs.Common.{◌≡◌, ℕ, zero, suc, ◌<◌, ◌≤◌, inl, inr, Bool, false, List, [], ◌∷◌, ◌++◌, length, refl, ap, sym, ◌∙◌, arith, subst, append_assoc, Option, Some, None}
 use Rattle.std.specs.Prelude.{All, IfNone, IfSome, is_some, slice_get}
 use Rattle.std.proofs.lemmas.Bool.{cases_eq}
 use Rattle.std.proofs.lemmas.List.Edits.{length-remove}
-use Rattle.std.proofs.lemmas.List.Elements.{All-head, All-push, All-tail, All-cons}
+use Rattle.std.proofs.lemmas.List.Elements.{All-push}
 use Rattle.atomic_table.specs.Seated.{TableId}
 use Rattle.ti_types.specs.declared.numbers.EnvNo.{EnvNo}
 use Rattle.ti_types.specs.declared.numbers.ThreadNo.{ThreadNo}
@@ -11,12 +11,14 @@ use Rattle.ti_handshake.specs.Desk.{DeskState}
 use Rattle.ti_agent.specs.Desks.{IsCleared, IsTaken}
 use Rattle.ti_agent.specs.Env.{Environment, outstanding, place_in, thread_at}
 use Rattle.ti_agent.specs.FreeDesk.{FreeState}
+use Rattle.ti_agent.proofs.AtHome.{all_less, one_there, spots_less}
 use Rattle.ti_agent.proofs.Places.{first_place, later_place}
 use Rattle.ti_roster.specs.Log.{is_live}
 use Rattle.ti_roster.specs.Roster.{IsOwn}
 use Rattle.ti_roster.specs.Rows.{IsAt}
 use Rattle.ti_service.specs.Agent.{AgentState}
-use Rattle.ti_service.specs.Homes.{AreOurs, HasCome, Home, home_of, homes_of}
+use Rattle.ti_agent.specs.Spots.{Spot, spots_of}
+use Rattle.ti_service.specs.Homes.{AreOurs, HasCome}
 use Rattle.ti_service.specs.Leaving.{Clears, ClearsEach}
 use Rattle.ti_service.specs.LettingGo.{LetsGo, LetsGoBelow, CallsOut, StillThere, NoDesk, Gone}
 use Rattle.ti_service.specs.Service.{Looks, Member}
@@ -44,41 +46,14 @@ clears_more old at new t f c k waits = record {
   waiting = waits ∙ (ap (λ (l : List FreeState). l ++ f ∷ []) c.waiting ∙ append_assoc old.waiting c.cleared (f ∷ []));
 }
 
-pub clears_none : (old new : AgentState) → new.env ≡ old.env → new.waiting ≡ old.waiting → Clears old new
-clears_none old new env waits = record { cleared = []; each = env; waiting = waits ∙ sym (append-nil old.waiting) }
-
 -- a desk leaves its home
-
-homes_less : (l : List DeskState) (i : ℕ) → homes_of (remove l i) ≡ remove (homes_of l) i
-homes_less [] zero = refl
-homes_less [] (suc i) = refl
-homes_less (x ∷ l) zero = refl
-homes_less (x ∷ l) (suc i) = ap (λ (t : List Home). home_of x ∷ t) (homes_less l i)
-
-all_less : (P : Home → Type 0) (l : List Home) (i : ℕ) → All P l → All P (remove l i)
-all_less P [] zero a = a
-all_less P [] (suc i) a = a
-all_less P (x ∷ l) zero a = All-tail P x l a
-all_less P (x ∷ l) (suc i) a = All-cons P x (remove l i) (All-head P x l a) (all_less P l i (All-tail P x l a))
-
-one_of : (P : Home → Type 0) (l : List DeskState) (i : ℕ) (p : DeskState) → slice_get l i ≡ Some p → All P (homes_of l) → P (home_of p)
-one_of P [] i p at a = absurd (none at)
-  where
-    none : slice_get [] i ≡ Some p → ⊥
-    none e = cc
-one_of P (x ∷ l) zero p at a = subst (λ (q : DeskState). P (home_of q)) (some_is x p at) (All-head P (home_of x) (homes_of l) a)
-  where
-    some_is : (x p : DeskState) → Some x ≡ Some p → x ≡ p
-    some_is x p e = cc
-one_of P (x ∷ l) (suc i) p at a = one_of P l i p at (All-tail P (home_of x) (homes_of l) a)
-
 pub ours_cleared : (service : Member) (env new : Environment) (waiting now : List FreeState) (t : ThreadNo) (f : FreeState) → IsCleared env new t f → now ≡ waiting ++ f ∷ [] → AreOurs (agent_of service env waiting) → AreOurs (agent_of service new now)
 ours_cleared service env new waiting now t f k is o = record {
   place = o.place ∙ ap (λ (e : EnvNo). Some e) (sym same);
   there = subst (λ (e : EnvNo). e.0 < service.view.limits.envs) (sym same) o.there;
   limits = ap (λ (s : Environment). s.state.limits) k.new_is ∙ o.limits;
-  homes = subst (λ (l : List DeskState). All (HasCome service.view.seen) (homes_of l)) (sym (ap (λ (s : Environment). s.desks) k.new_is))
-      (subst (λ (l : List Home). All (HasCome service.view.seen) l) (sym (homes_less env.desks (place_in env.desks t))) (all_less (HasCome service.view.seen) (homes_of env.desks) (place_in env.desks t) o.homes));
+  homes = subst (λ (l : List DeskState). All (HasCome service.view.seen) (spots_of l)) (sym (ap (λ (s : Environment). s.desks) k.new_is))
+      (subst (λ (l : List Spot). All (HasCome service.view.seen) l) (sym (spots_less env.desks (place_in env.desks t))) (all_less (HasCome service.view.seen) (spots_of env.desks) (place_in env.desks t) o.homes));
   waiting = subst (λ (x : EnvNo × List FreeState). All (IsOwn service.view.seen service.view.limits x.0) x.1) (λ j. (sym same j, sym is j)) (All-push (IsOwn service.view.seen service.view.limits env.env) waiting f o.waiting own);
 }
   where
@@ -86,7 +61,7 @@ ours_cleared service env new waiting now t f k is o = record {
     same = ap (λ (s : Environment). s.env) k.new_is
 
     home : IsAt k.before.view.subject.thread k.before.cell service.view.seen
-    home = one_of (HasCome service.view.seen) env.desks (place_in env.desks t) k.before k.there o.homes
+    home = one_there (HasCome service.view.seen) env.desks (place_in env.desks t) k.before k.there o.homes
 
     own : IsOwn service.view.seen service.view.limits env.env f
     own = record {
@@ -100,20 +75,6 @@ ours_cleared service env new waiting now t f k is o = record {
 pub last_there : (l : List DeskState) (i : ℕ) (r : Option ThreadNo) → IfSome r (λ t. t ≡ thread_at l i) → IfSome r (λ t. i < length l) → IfSome r (λ t. place_in l t < length l)
 last_there l i None is there = tt
 last_there l i (Some t) is there = let z = place_before l i there in let e = ap (place_in l) is in omega (arith, z, e, there)
-
--- a desk leaves, and the others stay at home
-pub ours_less : (service : Member) (env new : Environment) (waiting : List FreeState) (t : ThreadNo) (r : Option FreeState) → IfSome r (λ f. IsTaken env new t f) → IfNone r (new ≡ env) → AreOurs (agent_of service env waiting) → AreOurs (agent_of service new waiting)
-ours_less service env new waiting t None taken same o = subst (λ (s : Environment). AreOurs (agent_of service s waiting)) (sym same) o
-ours_less service env new waiting t (Some f) k same o =
-    let number : new.env ≡ env.env = ap (λ (s : Environment). s.env) k.new_is in
-    record {
-      place = o.place ∙ ap (λ (e : EnvNo). Some e) (sym number);
-      there = subst (λ (e : EnvNo). e.0 < service.view.limits.envs) (sym number) o.there;
-      limits = ap (λ (s : Environment). s.state.limits) k.new_is ∙ o.limits;
-      homes = subst (λ (l : List DeskState). All (HasCome service.view.seen) (homes_of l)) (sym (ap (λ (s : Environment). s.desks) k.new_is))
-          (subst (λ (l : List Home). All (HasCome service.view.seen) l) (sym (homes_less env.desks (place_in env.desks t))) (all_less (HasCome service.view.seen) (homes_of env.desks) (place_in env.desks t) o.homes));
-      waiting = subst (λ (e : EnvNo). All (IsOwn service.view.seen service.view.limits e) waiting) (sym number) o.waiting;
-    }
 
 -- Threads that an agent lets go of
 

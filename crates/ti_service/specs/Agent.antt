@@ -25,10 +25,6 @@ pub record AgentState : Type 0 where
   pub waiting : List FreeState
   pub events : Option ℕ
 
--- nothing but the environment has changed
-abbrev pub IsRest : AgentState → AgentState → Type 0
-IsRest old new = (new.service ≡ old.service) × (new.waiting ≡ old.waiting) × (new.events ≡ old.events)
-
 -- nothing but what the handle knows has changed
 abbrev pub IsSameBut : AgentState → AgentState → Type 0
 IsSameBut old new = (new.service.cell ≡ old.service.cell) × (new.env ≡ old.env) × (new.waiting ≡ old.waiting) × (new.events ≡ old.events)

@@ -4,4 +4,4 @@ pub mod Telling
 pub mod Homes
 pub mod Leaving
 pub mod LettingGo
-pub mod Gathering
+pub mod Memberships

@@ -1,15 +1,23 @@
-//! Calls of an agent that hold the roster, and never wait.
-//!
-//! Each is the twin of a call that waits for the roster, and tries to hold it just once. They take no runtime, so they neither
-//! spin nor sleep.
+//! What an agent does at its service, without a wait.
 
 use crate::agent::Agent;
+use crate::agent_desks::{add_waiting, last_thread};
+use crate::membership::Membership;
 use crate::service::Service;
 use std::alloc::Global;
+use ti_agent::Env;
 use ti_roster::{NextEvent, ThreadInfo};
 use ti_types::{ThreadNo, TiError};
 
-impl Agent {
+/// What an agent does at its service, without a wait. Each `try_` form is the twin of one of `ServiceCalls`, and tries to hold
+/// the roster, or a thread's cell, just once. The calls take no runtime, so they neither spin nor sleep. They wake nobody: a
+/// library that may not do so uses this trait alone.
+pub trait ServiceTries {
+    /// Whether threads or environments have come or gone, or another agent has met threads that came, since this one last held
+    /// the list. It is one load, and true exactly if more had happened at that load than the agent has seen. Attaching holds
+    /// the list too, so an agent meets once without news. Nothing changes but that its handle has looked.
+    fn has_news(&mut self) -> bool;
+
     /// Meets the threads that came since the agent last met them, as `meet` does.
     ///
     /// The error is the first of these that fits:
@@ -17,156 +25,183 @@ impl Agent {
     /// - 103 ILLEGAL_ARGUMENT, 110 OUT_OF_MEMORY, 216 `Full` (this profile): as for `meet`. No desk is lost.
     /// - 215 `Busy` (this profile): the roster is in use. Desks that waited are the environment's now. Nothing else has
     ///   changed.
-    pub fn try_meet(&mut self, alloc: Global) -> Result<(), TiError>
-        ensures met { OnOk result (Meets self.old self.new) }
-        ensures kept { IfErr result (λ e. Keeps self.old self.new e ⊎ ((e ≡ Busy) × AddsWaiting self.old self.new)) }
-        ensures events { self.new.events ≡ self.old.events }
-    {
-        self.add_waiting()?;
-        let (desks, next) = self.service.try_meet(alloc)?;
-        self.waiting = desks;
-        self.waiting.reverse();
-        self.add_waiting()?;
-        self.env.know_threads(u64::from(next));
-        Ok(())
-    }
+    fn meet_now(&mut self, alloc: Global) -> Result<(), TiError>;
 
-    /// GetAllThreads (JVM TI 11), as a service's handle gives it by `try_get_all_threads`.
-    pub fn try_get_all_threads(&mut self, alloc: Global) -> Result<Vec<ThreadNo>, TiError>
-        ensures rest { IsSameBut self.old self.new }
-        ensures hold { OnOk result (Looks self.old.service.view self.new.service.view) }
-        ensures threads { IfOk result (λ t. t.items ≡ map (λ n. n.thread) (live self.new.service.view.seen)) }
-        ensures refused { IfErr result (λ e. ((e ≡ OutOfMemory) × Looks self.old.service.view self.new.service.view) ⊎ ((e ≡ Busy) × (self.new ≡ self.old))) }
-    {
-        self.service.try_get_all_threads(alloc)
-    }
+    /// GetAllThreads (JVM TI 11), as a service's handle gives it by `get_all_threads_now`.
+    fn get_all_threads_now(&mut self, alloc: Global) -> Result<Vec<ThreadNo>, TiError>;
 
-    /// GetThreadInfo (JVM TI 11), as a service's handle gives it by `try_get_thread_info`.
-    pub fn try_get_thread_info(
+    /// GetThreadInfo (JVM TI 11), as a service's handle gives it by `get_thread_info_now`.
+    fn get_thread_info_now(
         &mut self,
         alloc: Global,
         thread: ThreadNo,
-    ) -> Result<ThreadInfo, TiError>
-        ensures rest { IsSameBut self.old self.new }
-        ensures hold { OnOk result (Looks self.old.service.view self.new.service.view) }
-        ensures told { IfOk result (λ i. IsToldOf (roster_seen self.new.service.view) thread i) }
-        ensures refused { IfErr result (λ e. RefusesInfo self.old.service.view self.new.service.view thread e ⊎ ((e ≡ Busy) × (self.new ≡ self.old))) }
-    {
-        self.service.try_get_thread_info(alloc, thread)
-    }
+    ) -> Result<ThreadInfo, TiError>;
 
     /// Lets go of a thread that was given back, as `let_go` does. It returns whether it does.
     ///
     /// The error is 215 `Busy` (this profile) if no call of the agent's is out there, and the roster is in use. Then nothing
     /// changes.
-    pub fn try_let_go(&mut self, thread: ThreadNo) -> Result<bool, TiError>
-        ensures steps { IfOk result (λ gone. LetsGo self.old self.new thread gone) }
-        ensures busy { IfErr result (λ e. (e ≡ Busy) × (self.new ≡ self.old)) }
-    {
-        if self.env.out_at(thread) > 0 {
-            return Ok(false);
-        }
-        let there = self.service.try_is_live(thread)?;
-        if there {
-            return Ok(false);
-        }
-        Ok(self.env.take_desk(thread).is_some())
-    }
+    fn let_go_now(&mut self, thread: ThreadNo) -> Result<bool, TiError>;
 
     /// SetEventNotificationMode (JVM TI 11), as `set_event_notification_mode` sets it.
     ///
     /// The error is 215 `Busy` (this profile) if events are to be enabled, were not, and the roster is in use. Then nothing
     /// changes.
-    pub fn try_set_event_notification_mode(&mut self, enabled: bool) -> Result<(), TiError>
-        ensures disables { OnOk result (enabled ≡ false → self.new ≡ with_events self.old None) }
-        ensures stays { OnOk result (enabled ≡ true → is_some self.old.events ≡ true → self.new ≡ self.old) }
-        ensures enables { OnOk result (enabled ≡ true → self.old.events ≡ None → Enables self.old self.new) }
-        ensures busy { IfErr result (λ e. (e ≡ Busy) × (enabled ≡ true) × (self.old.events ≡ None) × (self.new ≡ self.old)) }
-    {
-        if !enabled {
-            self.events = None;
-        } else if self.events.is_none() {
-            self.events = Some(self.service.try_event_count()?);
-        }
-        Ok(())
-    }
+    fn set_event_notification_mode_now(&mut self, enabled: bool) -> Result<(), TiError>;
 
     /// The next ThreadStart or ThreadEnd (JVM TI 11), as `next_event` gives it.
     ///
     /// The error is 215 `Busy` (this profile) if events are enabled and the roster is in use. Then nothing changes.
-    pub fn try_next_event(&mut self) -> Result<Option<NextEvent>, TiError>
-        ensures tells { IfOk result (λ told. TellsNext self.old self.new told) }
-        ensures busy { IfErr result (λ e. (e ≡ Busy) × (is_some self.old.events ≡ true) × (self.new ≡ self.old)) }
-    {
-        let Some(from) = self.events else {
-            return Ok(None);
-        };
-        let next = self.service.try_next_event(from)?;
-        if let Some(told) = &next {
-            self.events = Some(from + told.lost + 1);
-        }
-        Ok(next)
-    }
-
-    /// Clears the environment's desks, as `clear` does. It tries to hold the cell of each just once.
-    fn try_clear(&mut self, alloc: Global) -> Result<(), TiError>
-        ensures service { self.new.service ≡ self.old.service }
-        ensures events { self.new.events ≡ self.old.events }
-        ensures cleared { Clears self.old self.new }
-        ensures done { OnOk result (self.new.env.desks ≡ []) }
-        ensures refused { IfErr result (λ e. (e ≡ OutOfMemory) ⊎ (e ≡ Busy)) }
-    {
-        while let Some(thread) = self.last_thread() {
-            self.waiting.reserve(1)?;
-            let Some(desk) = self.env.try_clear_desk(alloc, thread)? else {
-                unreachable!()
-            };
-            self.waiting.push_reserved(desk);
-        }
-        Ok(())
-    }
+    fn next_event_now(&mut self) -> Result<Option<NextEvent>, TiError>;
 
     /// DisposeEnvironment (JVM TI 11), as `dispose` does it.
     ///
     /// The error is 110 OUT_OF_MEMORY or 216 `Full` as for `dispose`, or 215 `Busy` (this profile) if the cell of a thread or
     /// the roster is in use. Then the agent comes back. It may have left some of its threads already, and can only be disposed of: by a
     /// further try, or by `dispose`.
-    pub fn try_dispose(mut self, alloc: Global) -> Result<Service, (TiError, Agent)>
-        ensures disposed { IfOk result (λ s. Disposes self s) }
-        ensures kept { IfErr result (λ r. StaysOn self r.1 r.0) }
-        ensures events { IfErr result (λ r. r.1.events ≡ self.events) }
+    fn dispose_now(self, alloc: Global) -> Result<Service, (TiError, Agent)>;
+}
+
+/// Clears the environment's desks, as `clear` does. It tries to hold the cell of each just once.
+fn clear_now(agent: &mut Agent, alloc: Global) -> Result<(), TiError>
+    ensures service { agent.new.home.service ≡ agent.old.home.service }
+    ensures events { agent.new.home.events ≡ agent.old.home.events }
+    ensures cleared { Clears (state_of agent.old) (state_of agent.new) }
+    ensures done { OnOk result (agent.new.env.desks ≡ []) }
+    ensures refused { IfErr result (λ e. (e ≡ OutOfMemory) ⊎ (e ≡ Busy)) }
+{
+    while let Some(thread) = last_thread(agent) {
+        agent.home.waiting.reserve(1)?;
+        let Some(desk) = agent.clear_desk_now(alloc, thread)? else {
+            unreachable!()
+        };
+        agent.home.waiting.push_reserved(desk);
+    }
+    Ok(())
+}
+
+impl ServiceTries for Env<Membership> {
+    fn has_news(&mut self) -> bool
+        ensures rest { IsSameBut (state_of self.old) (state_of self.new) }
+        ensures tells { TellsNews self.old.home.service self.new.home.service result }
     {
-        match self.try_clear(alloc) {
+        self.home.service.has_news()
+    }
+
+    fn meet_now(&mut self, alloc: Global) -> Result<(), TiError>
+        ensures met { OnOk result (Meets (state_of self.old) (state_of self.new)) }
+        ensures kept { IfErr result (λ e. Keeps (state_of self.old) (state_of self.new) e ⊎ ((e ≡ Busy) × AddsWaiting (state_of self.old) (state_of self.new))) }
+        ensures events { self.new.home.events ≡ self.old.home.events }
+    {
+        add_waiting(self)?;
+        let (desks, next) = self.home.service.meet_now(alloc)?;
+        self.home.waiting = desks;
+        self.home.waiting.reverse();
+        add_waiting(self)?;
+        self.know_threads(u64::from(next));
+        Ok(())
+    }
+
+    fn get_all_threads_now(&mut self, alloc: Global) -> Result<Vec<ThreadNo>, TiError>
+        ensures rest { IsSameBut (state_of self.old) (state_of self.new) }
+        ensures hold { OnOk result (Looks self.old.home.service.view self.new.home.service.view) }
+        ensures threads { IfOk result (λ t. t.items ≡ map (λ n. n.thread) (live self.new.home.service.view.seen)) }
+        ensures refused { IfErr result (λ e. ((e ≡ OutOfMemory) × Looks self.old.home.service.view self.new.home.service.view) ⊎ ((e ≡ Busy) × (self.new ≡ self.old))) }
+    {
+        self.home.service.get_all_threads_now(alloc)
+    }
+
+    fn get_thread_info_now(
+        &mut self,
+        alloc: Global,
+        thread: ThreadNo,
+    ) -> Result<ThreadInfo, TiError>
+        ensures rest { IsSameBut (state_of self.old) (state_of self.new) }
+        ensures hold { OnOk result (Looks self.old.home.service.view self.new.home.service.view) }
+        ensures told { IfOk result (λ i. IsToldOf (roster_seen self.new.home.service.view) thread i) }
+        ensures refused { IfErr result (λ e. RefusesInfo self.old.home.service.view self.new.home.service.view thread e ⊎ ((e ≡ Busy) × (self.new ≡ self.old))) }
+    {
+        self.home.service.get_thread_info_now(alloc, thread)
+    }
+
+    fn let_go_now(&mut self, thread: ThreadNo) -> Result<bool, TiError>
+        ensures steps { IfOk result (λ gone. LetsGo (state_of self.old) (state_of self.new) thread gone) }
+        ensures busy { IfErr result (λ e. (e ≡ Busy) × (self.new ≡ self.old)) }
+    {
+        if self.out_at(thread) > 0 {
+            return Ok(false);
+        }
+        let there = self.home.service.is_live_now(thread)?;
+        if there {
+            return Ok(false);
+        }
+        Ok(self.take_desk(thread).is_some())
+    }
+
+    fn set_event_notification_mode_now(&mut self, enabled: bool) -> Result<(), TiError>
+        ensures disables { OnOk result (enabled ≡ false → state_of self.new ≡ with_events (state_of self.old) None) }
+        ensures stays { OnOk result (enabled ≡ true → is_some self.old.home.events ≡ true → self.new ≡ self.old) }
+        ensures enables { OnOk result (enabled ≡ true → self.old.home.events ≡ None → Enables (state_of self.old) (state_of self.new)) }
+        ensures busy { IfErr result (λ e. (e ≡ Busy) × (enabled ≡ true) × (self.old.home.events ≡ None) × (self.new ≡ self.old)) }
+    {
+        if !enabled {
+            self.home.events = None;
+        } else if self.home.events.is_none() {
+            self.home.events = Some(self.home.service.event_count_now()?);
+        }
+        Ok(())
+    }
+
+    fn next_event_now(&mut self) -> Result<Option<NextEvent>, TiError>
+        ensures tells { IfOk result (λ told. TellsNext (state_of self.old) (state_of self.new) told) }
+        ensures busy { IfErr result (λ e. (e ≡ Busy) × (is_some self.old.home.events ≡ true) × (self.new ≡ self.old)) }
+    {
+        let Some(from) = self.home.events else {
+            return Ok(None);
+        };
+        let next = self.home.service.next_event_now(from)?;
+        if let Some(told) = &next {
+            self.home.events = Some(from + told.lost + 1);
+        }
+        Ok(next)
+    }
+
+    fn dispose_now(mut self, alloc: Global) -> Result<Service, (TiError, Agent)>
+        ensures disposed { IfOk result (λ s. Disposes (state_of self) s) }
+        ensures kept { IfErr result (λ r. StaysOn (state_of self) (state_of r.1) r.0) }
+        ensures events { IfErr result (λ r. r.1.home.events ≡ self.home.events) }
+    {
+        match clear_now(&mut self, alloc) {
             Ok(()) => (),
             Err(error) => return Err((error, self)),
         }
-        let Agent {
+        let (home, env) = self.leave_home();
+        let Membership {
             mut service,
-            env,
             waiting,
             events,
-        } = self;
-        match service.try_leave(waiting) {
+        } = home;
+        match service.leave_now(waiting) {
             Ok(()) => Ok(service),
-            Err((error, waiting)) => Err((
-                error,
-                Agent {
+            Err((error, waiting)) => {
+                let home = Membership {
                     service,
-                    env,
                     waiting,
                     events,
-                },
-            )),
+                };
+                Err((error, Env::come_home(home, env)))
+            }
         }
     }
 }
 
-ghost use Rattle.std.specs.Prelude.{◌≡◌, ◌⊎◌, true, false, [], is_some, None, map, IfOk, IfErr, OnOk};
+ghost use Rattle.std.specs.Prelude.{◌≡◌, ◌⊎◌, true, false, [], is_some, map, None, IfOk, IfErr, OnOk};
 ghost use Rattle.ti_types.specs.declared.error.TiError.TheVariants.{Busy, OutOfMemory};
 ghost use Rattle.ti_roster.specs.Log.{live};
 ghost use Rattle.ti_roster.specs.Roster.{IsToldOf};
-ghost use Rattle.ti_service.specs.Service.{Looks, RefusesInfo, roster_seen};
+ghost use Rattle.ti_service.specs.Service.{Looks, RefusesInfo, TellsNews, roster_seen};
 ghost use Rattle.ti_service.specs.Agent.{AddsWaiting, IsSameBut, Keeps, Meets};
 ghost use Rattle.ti_service.specs.Leaving.{Clears, Disposes, StaysOn};
 ghost use Rattle.ti_service.specs.LettingGo.{LetsGo};
+ghost use Rattle.ti_service.specs.Memberships.{state_of};
 ghost use Rattle.ti_service.specs.Telling.{Enables, TellsNext, with_events};

@@ -1,4 +1,4 @@
-//! The law that the promise of `Agent::dispose` depends on.
+//! The law that the promise of `ServiceCalls::dispose` depends on.
 
 /// A word that an environment's seat asked last to be 0 is 0, until the thread ends. So the next environment at a place reads
 /// no word of the last one.

@@ -18,23 +18,18 @@
 #![tactic(auto)]
 
 mod agent;
+mod agent_calls;
+mod agent_desks;
 mod agent_tries;
-mod call_deadlines;
-mod call_lists;
-mod call_own;
-mod call_posts;
-mod call_tries;
-mod calls;
-mod dispose;
-mod events;
-mod gathering;
 mod laws;
-mod let_go;
+mod membership;
 mod service;
 mod service_tries;
 
-pub use agent::Agent;
-pub use gathering::Gathering;
+pub use agent::{Agent, Gathering};
+pub use agent_calls::ServiceCalls;
+pub use agent_tries::ServiceTries;
 pub use laws::cleared_words_read_zero;
+pub use membership::Membership;
 pub use service::Service;
 pub use ti_roster::{LifeEvent, LifeKind, NextEvent, ThreadInfo};

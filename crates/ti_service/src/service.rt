@@ -1,6 +1,7 @@
 //! A handle of the service: threads come and go by it, and tell who is there.
 
 use crate::agent::Agent;
+use crate::membership::Membership;
 use std::alloc::Global;
 use std::marker::Model;
 use std::sync::Wait;
@@ -19,7 +20,7 @@ use ti_types::{EnvNo, Limits, ThreadNo, TiError};
 /// # Examples
 ///
 /// ```rattle
-/// # use ti_service::{Service, ThreadInfo};
+/// # use ti_service::{Service, ServiceCalls, ServiceTries, ThreadInfo};
 /// # use ti_types::{Limits, ThreadNo, TiError};
 /// # let alloc = rt.alloc();
 /// # let limits = Limits::new(1, 2, 4, 16, 8).ok_or("the limits are in range")?;
@@ -135,7 +136,7 @@ impl Service {
     {
         let pace = Pace::new();
         for _ in rt.forever() {
-            match self.try_claim() {
+            match self.claim_now() {
                 Err(TiError::Busy) => self.roster.await_free(rt, &pace),
                 result => {
                     self.wake_sleepers();
@@ -147,7 +148,7 @@ impl Service {
     }
 
     /// Attaches an environment. Its number was nobody's, and is never free again. It has no capability, the word 0, and no desk
-    /// yet: it meets the threads by `Agent::meet`.
+    /// yet: it meets the threads by `ServiceCalls::meet`.
     ///
     /// It takes no memory. Nothing changes of this handle but that it has made one more, which is the agent's.
     ///
@@ -155,19 +156,18 @@ impl Service {
     /// all, or 2^63 handles. Then no environment came, and no place is taken. The handle that was made is let go of.
     pub fn attach_environment<R: Wait>(&mut self, rt: &R, alloc: Global) -> Result<Agent, TiError>
         ensures made { OnOk result (self.new ≡ with_handle self.old) }
-        ensures attached { IfOk result (λ a. IsNewAgent self.old a) }
+        ensures attached { IfOk result (λ a. IsNewAgent self.old (state_of a)) }
         ensures refused { IfErr result (λ e. RefusesPlace self.old self.new e) }
     {
         let mut service = self.share()?;
         let env = service.claim(rt)?;
-        let env = Env::with_no_desks(alloc, env, service.limits());
-        let waiting = Vec::new(alloc);
-        Ok(Agent {
+        let limits = service.limits();
+        let home = Membership {
             service,
-            env,
-            waiting,
+            waiting: Vec::new(alloc),
             events: None,
-        })
+        };
+        Ok(Env::at_home(alloc, home, env, limits))
     }
 
     /// The desks of this handle's environment at the threads that came since it last took them, and are there. With them
@@ -184,7 +184,7 @@ impl Service {
     {
         let pace = Pace::new();
         for _ in rt.forever() {
-            match self.try_meet(alloc) {
+            match self.meet_now(alloc) {
                 Err(TiError::Busy) => self.roster.await_free(rt, &pace),
                 result => {
                     self.wake_sleepers();
@@ -214,7 +214,7 @@ impl Service {
         let pace = Pace::new();
         let mut desks = desks;
         for _ in rt.forever() {
-            match self.try_leave(desks) {
+            match self.leave_now(desks) {
                 Err((TiError::Busy, again)) => desks = again,
                 result => {
                     self.wake_sleepers();
@@ -243,13 +243,21 @@ impl Service {
         ensures refused { IfErr result (λ e. e ≡ coming_refusal (roster_seen self.new.view)) }
         ensures unchanged { OnErr result (Looks self.old.view self.new.view) }
     {
-        let Some(seat) = self.seat.take() else {
-            unreachable!()
-        };
-        let mut hold = self.roster.hold(rt, seat);
-        let fresh = hold.roster().come(alloc, info);
-        self.seat = Some(hold.store());
-        fresh
+        let mut info = info;
+        let pace = Pace::new();
+        for _ in rt.forever() {
+            match self.attach_once(alloc, info) {
+                Ok(result) => {
+                    self.wake_sleepers();
+                    return result;
+                }
+                Err(same) => {
+                    info = same;
+                    self.roster.await_free(rt, &pace);
+                }
+            }
+        }
+        unreachable!()
     }
 
     /// A thread of this number is there no more.
@@ -260,7 +268,7 @@ impl Service {
     {
         let pace = Pace::new();
         for _ in rt.forever() {
-            match self.try_end(thread) {
+            match self.end_now(thread) {
                 Err(TiError::Busy) => self.roster.await_free(rt, &pace),
                 result => {
                     self.wake_sleepers();
@@ -327,7 +335,7 @@ impl Service {
     {
         let pace = Pace::new();
         for _ in rt.forever() {
-            match self.try_get_all_threads(alloc) {
+            match self.get_all_threads_now(alloc) {
                 Err(TiError::Busy) => self.roster.await_free(rt, &pace),
                 result => {
                     self.wake_sleepers();
@@ -355,7 +363,7 @@ impl Service {
     {
         let pace = Pace::new();
         for _ in rt.forever() {
-            match self.try_get_thread_info(alloc, thread) {
+            match self.get_thread_info_now(alloc, thread) {
                 Err(TiError::Busy) => self.roster.await_free(rt, &pace),
                 result => {
                     self.wake_sleepers();
@@ -374,7 +382,7 @@ impl Service {
     {
         let pace = Pace::new();
         for _ in rt.forever() {
-            match self.try_event_count() {
+            match self.event_count_now() {
                 Ok(count) => {
                     self.wake_sleepers();
                     return count;
@@ -395,7 +403,7 @@ impl Service {
     {
         let pace = Pace::new();
         for _ in rt.forever() {
-            match self.try_next_event(from) {
+            match self.next_event_now(from) {
                 Ok(next) => {
                     self.wake_sleepers();
                     return next;
@@ -423,7 +431,7 @@ impl Service {
     {
         let pace = Pace::new();
         for _ in rt.forever() {
-            match self.try_is_live(thread) {
+            match self.is_live_now(thread) {
                 Ok(there) => {
                     self.wake_sleepers();
                     return there;
@@ -442,4 +450,5 @@ ghost use Rattle.ti_roster.specs.View.{first_view, split_off};
 ghost use Rattle.ti_roster.specs.Log.{is_live, live};
 ghost use Rattle.ti_roster.specs.Roster.{IsPlaceless, IsToldOf, coming_refusal, info_refusal, meeting_refusal, most_items};
 ghost use Rattle.ti_service.specs.Agent.{IsNewAgent};
+ghost use Rattle.ti_service.specs.Memberships.{state_of};
 ghost use Rattle.ti_service.specs.Service.{Attaches, Claimed, Ends, Leaves, Looks, MayLeave, RefusesEnd, RefusesPlace, TakesDesks, TellsNews, roster_seen, with_handle};

@@ -5,6 +5,7 @@
 //! (215, this profile), and nothing changes.
 
 use crate::agent::Agent;
+use crate::membership::Membership;
 use crate::service::Service;
 use std::alloc::Global;
 use ti_agent::{Env, FreeDesk};
@@ -20,7 +21,7 @@ impl Service {
     }
 
     /// A place for an environment, which is this handle's from now on.
-    pub(crate) fn try_claim(&mut self) -> Result<EnvNo, TiError>
+    pub(crate) fn claim_now(&mut self) -> Result<EnvNo, TiError>
         requires { self.old.view.place ≡ None }
         ensures cell { self.new.cell ≡ self.old.cell }
         ensures claimed { IfOk result (λ e. Claimed self.old.view self.new.view e) }
@@ -29,7 +30,7 @@ impl Service {
         let Some(seat) = self.seat.take() else {
             unreachable!()
         };
-        match self.roster.try_hold(seat) {
+        match self.roster.hold_now(seat) {
             Ok(mut hold) => {
                 let env = hold.roster().attach();
                 self.seat = Some(hold.store_quietly());
@@ -48,25 +49,24 @@ impl Service {
     ///
     /// - 216 `Full` (this profile): as for `attach_environment`.
     /// - 215 `Busy` (this profile): the roster is in use. The handle that was made is let go of.
-    pub fn try_attach_environment(&mut self, alloc: Global) -> Result<Agent, TiError>
+    pub fn attach_environment_now(&mut self, alloc: Global) -> Result<Agent, TiError>
         ensures made { OnOk result (self.new ≡ with_handle self.old) }
-        ensures attached { IfOk result (λ a. IsNewAgent self.old a) }
+        ensures attached { IfOk result (λ a. IsNewAgent self.old (state_of a)) }
         ensures refused { IfErr result (λ e. RefusesPlace self.old self.new e ⊎ ((e ≡ Busy) × (self.new ≡ with_handle self.old))) }
     {
         let mut service = self.share()?;
-        let env = service.try_claim()?;
-        let env = Env::with_no_desks(alloc, env, service.limits());
-        let waiting = Vec::new(alloc);
-        Ok(Agent {
+        let env = service.claim_now()?;
+        let limits = service.limits();
+        let home = Membership {
             service,
-            env,
-            waiting,
+            waiting: Vec::new(alloc),
             events: None,
-        })
+        };
+        Ok(Env::at_home(alloc, home, env, limits))
     }
 
     /// The desks of this handle's environment, as `meet` gives them.
-    pub(crate) fn try_meet(&mut self, alloc: Global) -> Result<(Vec<FreeDesk>, u32), TiError>
+    pub(crate) fn meet_now(&mut self, alloc: Global) -> Result<(Vec<FreeDesk>, u32), TiError>
         ensures cell { self.new.cell ≡ self.old.cell }
         ensures taken { IfOk result (λ d. TakesDesks self.old.view self.new.view d.0.items d.1) }
         ensures refused { IfErr result (λ e. ((e ≡ meeting_refusal (roster_seen self.new.view)) × Looks self.old.view self.new.view) ⊎ ((e ≡ Busy) × (self.new ≡ self.old))) }
@@ -74,7 +74,7 @@ impl Service {
         let Some(seat) = self.seat.take() else {
             unreachable!()
         };
-        match self.roster.try_hold(seat) {
+        match self.roster.hold_now(seat) {
             Ok(mut hold) => {
                 let roster = hold.roster();
                 let next = roster.next();
@@ -93,7 +93,7 @@ impl Service {
     }
 
     /// This handle's environment is disposed of, and gives these desks back, as `leave` does.
-    pub(crate) fn try_leave(&mut self, desks: Vec<FreeDesk>) -> Result<(), (TiError, Vec<FreeDesk>)>
+    pub(crate) fn leave_now(&mut self, desks: Vec<FreeDesk>) -> Result<(), (TiError, Vec<FreeDesk>)>
         requires { MayLeave self.old.view desks.items }
         ensures cell { self.new.cell ≡ self.old.cell }
         ensures left { OnOk result (Leaves self.old.view self.new.view desks.items) }
@@ -103,7 +103,7 @@ impl Service {
         let Some(seat) = self.seat.take() else {
             unreachable!()
         };
-        match self.roster.try_hold(seat) {
+        match self.roster.hold_now(seat) {
             Ok(mut hold) => {
                 let left = hold.roster().dispose(desks);
                 self.seat = Some(hold.store_quietly());
@@ -122,29 +122,46 @@ impl Service {
     ///
     /// - 216 `Full` (this profile), 110 OUT_OF_MEMORY: as for `attach_thread`. Nothing changes but what the handle has seen.
     /// - 215 `Busy` (this profile): the roster is in use. Nothing changes.
-    pub fn try_attach_thread(&mut self, alloc: Global, info: ThreadInfo) -> Result<Fresh, TiError>
+    pub fn attach_thread_now(&mut self, alloc: Global, info: ThreadInfo) -> Result<Fresh, TiError>
         ensures cell { self.new.cell ≡ self.old.cell }
         ensures attached { IfOk result (λ f. Attaches self.old.view self.new.view info f) }
         ensures refused { IfErr result (λ e. ((e ≡ coming_refusal (roster_seen self.new.view)) × Looks self.old.view self.new.view) ⊎ ((e ≡ Busy) × (self.new ≡ self.old))) }
     {
+        match self.attach_once(alloc, info) {
+            Ok(result) => result,
+            Err(_) => Err(TiError::Busy),
+        }
+    }
+
+    /// Attaches a thread, if the roster is free. If it is in use, nothing changes, and what was given comes back.
+    pub(crate) fn attach_once(
+        &mut self,
+        alloc: Global,
+        info: ThreadInfo,
+    ) -> Result<Result<Fresh, TiError>, ThreadInfo>
+        ensures cell { self.new.cell ≡ self.old.cell }
+        ensures attached { IfOk result (λ r. IfOk r (λ f. Attaches self.old.view self.new.view info f)) }
+        ensures refused { IfOk result (λ r. IfErr r (λ e. (e ≡ coming_refusal (roster_seen self.new.view)) × Looks self.old.view self.new.view)) }
+        ensures busy { IfErr result (λ i. (i ≡ info) × (self.new ≡ self.old)) }
+    {
         let Some(seat) = self.seat.take() else {
             unreachable!()
         };
-        match self.roster.try_hold(seat) {
+        match self.roster.hold_now(seat) {
             Ok(mut hold) => {
                 let fresh = hold.roster().come(alloc, info);
                 self.seat = Some(hold.store_quietly());
-                fresh
+                Ok(fresh)
             }
             Err(seat) => {
                 self.seat = Some(seat);
-                Err(TiError::Busy)
+                Err(info)
             }
         }
     }
 
     /// A thread of this number is there no more.
-    pub(crate) fn try_end(&mut self, thread: ThreadNo) -> Result<(), TiError>
+    pub(crate) fn end_now(&mut self, thread: ThreadNo) -> Result<(), TiError>
         ensures cell { self.new.cell ≡ self.old.cell }
         ensures gone { OnOk result (Ends self.old.view self.new.view thread) }
         ensures refused { IfErr result (λ e. RefusesEnd self.old.view self.new.view thread e ⊎ ((e ≡ Busy) × (self.new ≡ self.old))) }
@@ -152,7 +169,7 @@ impl Service {
         let Some(seat) = self.seat.take() else {
             unreachable!()
         };
-        match self.roster.try_hold(seat) {
+        match self.roster.hold_now(seat) {
             Ok(mut hold) => {
                 let ended = hold.roster().end(thread);
                 self.seat = Some(hold.store_quietly());
@@ -172,26 +189,26 @@ impl Service {
     /// - 215 `Busy` (this profile): the roster is in use. Nothing changes.
     /// - 10 INVALID_THREAD, 15 THREAD_NOT_ALIVE, 216 `Full` (this profile): as for `end_thread`. Nothing changes but what the
     ///   handle has seen.
-    pub fn try_end_thread(&mut self, ended: Ended) -> Result<(), (TiError, Ended)>
+    pub fn end_thread_now(&mut self, ended: Ended) -> Result<(), (TiError, Ended)>
         ensures cell { self.new.cell ≡ self.old.cell }
         ensures gone { OnOk result (Ends self.old.view self.new.view ended.view.subject.thread) }
         ensures refused { IfErr result (λ r. RefusesEnd self.old.view self.new.view ended.view.subject.thread r.0 ⊎ ((r.0 ≡ Busy) × (self.new ≡ self.old))) }
         ensures back { IfErr result (λ r. r.1 ≡ ended) }
     {
-        match self.try_end(ended.thread()) {
+        match self.end_now(ended.thread()) {
             Ok(()) => Ok(()),
             Err(error) => Err((error, ended)),
         }
     }
 
-    /// Gives a thread back that never started. Everything else is as for `try_end_thread`.
-    pub fn try_withdraw_thread(&mut self, fresh: Fresh) -> Result<(), (TiError, Fresh)>
+    /// Gives a thread back that never started. Everything else is as for `end_thread_now`.
+    pub fn withdraw_thread_now(&mut self, fresh: Fresh) -> Result<(), (TiError, Fresh)>
         ensures cell { self.new.cell ≡ self.old.cell }
         ensures gone { OnOk result (Ends self.old.view self.new.view fresh.view.subject.thread) }
         ensures refused { IfErr result (λ r. RefusesEnd self.old.view self.new.view fresh.view.subject.thread r.0 ⊎ ((r.0 ≡ Busy) × (self.new ≡ self.old))) }
         ensures back { IfErr result (λ r. r.1 ≡ fresh) }
     {
-        match self.try_end(fresh.thread()) {
+        match self.end_now(fresh.thread()) {
             Ok(()) => Ok(()),
             Err(error) => Err((error, fresh)),
         }
@@ -201,7 +218,7 @@ impl Service {
     ///
     /// The error is 110 OUT_OF_MEMORY if there is no memory for the numbers, or 215 `Busy` (this profile) if the roster is in
     /// use. Then nothing changes, but for what the handle has seen with 110.
-    pub fn try_get_all_threads(&mut self, alloc: Global) -> Result<Vec<ThreadNo>, TiError>
+    pub fn get_all_threads_now(&mut self, alloc: Global) -> Result<Vec<ThreadNo>, TiError>
         ensures cell { self.new.cell ≡ self.old.cell }
         ensures hold { OnOk result (Looks self.old.view self.new.view) }
         ensures threads { IfOk result (λ t. t.items ≡ map (λ n. n.thread) (live self.new.view.seen)) }
@@ -210,7 +227,7 @@ impl Service {
         let Some(seat) = self.seat.take() else {
             unreachable!()
         };
-        match self.roster.try_hold(seat) {
+        match self.roster.hold_now(seat) {
             Ok(mut hold) => {
                 let threads = hold.roster().threads(alloc);
                 self.seat = Some(hold.store_quietly());
@@ -227,7 +244,7 @@ impl Service {
     ///
     /// Errors: 10, 15 and 110 as for `get_thread_info`. Then nothing changes but what the handle has seen. 215 `Busy` (this
     /// profile) if the roster is in use: nothing changes.
-    pub fn try_get_thread_info(
+    pub fn get_thread_info_now(
         &mut self,
         alloc: Global,
         thread: ThreadNo,
@@ -240,7 +257,7 @@ impl Service {
         let Some(seat) = self.seat.take() else {
             unreachable!()
         };
-        match self.roster.try_hold(seat) {
+        match self.roster.hold_now(seat) {
             Ok(mut hold) => {
                 let info = hold.roster().info(alloc, thread);
                 self.seat = Some(hold.store_quietly());
@@ -255,7 +272,7 @@ impl Service {
 
     /// Whether a thread of this number is there, as `is_live` says. The error is 215 `Busy` (this profile) if the roster is in
     /// use. Then nothing changes.
-    pub fn try_is_live(&mut self, thread: ThreadNo) -> Result<bool, TiError>
+    pub fn is_live_now(&mut self, thread: ThreadNo) -> Result<bool, TiError>
         ensures cell { self.new.cell ≡ self.old.cell }
         ensures hold { OnOk result (Looks self.old.view self.new.view) }
         ensures live { IfOk result (λ there. there ≡ is_live thread self.new.view.seen) }
@@ -264,7 +281,7 @@ impl Service {
         let Some(seat) = self.seat.take() else {
             unreachable!()
         };
-        match self.roster.try_hold(seat) {
+        match self.roster.hold_now(seat) {
             Ok(mut hold) => {
                 let there = hold.roster().is_live(thread);
                 self.seat = Some(hold.store_quietly());
@@ -278,7 +295,7 @@ impl Service {
     }
 
     /// How many starts and ends of threads have happened.
-    pub(crate) fn try_event_count(&mut self) -> Result<u64, TiError>
+    pub(crate) fn event_count_now(&mut self) -> Result<u64, TiError>
         ensures cell { self.new.cell ≡ self.old.cell }
         ensures hold { OnOk result (Looks self.old.view self.new.view) }
         ensures count { IfOk result (λ n. n ≡ length (life_of self.new.view.seen)) }
@@ -287,7 +304,7 @@ impl Service {
         let Some(seat) = self.seat.take() else {
             unreachable!()
         };
-        match self.roster.try_hold(seat) {
+        match self.roster.hold_now(seat) {
             Ok(mut hold) => {
                 let count = hold.roster().events();
                 self.seat = Some(hold.store_quietly());
@@ -301,7 +318,7 @@ impl Service {
     }
 
     /// The first start or end of a thread from this index on that is kept, and how many were lost before it.
-    pub(crate) fn try_next_event(&mut self, from: u64) -> Result<Option<NextEvent>, TiError>
+    pub(crate) fn next_event_now(&mut self, from: u64) -> Result<Option<NextEvent>, TiError>
         ensures cell { self.new.cell ≡ self.old.cell }
         ensures hold { OnOk result (Looks self.old.view self.new.view) }
         ensures next { IfOk result (λ n. n ≡ next_event (life_of self.new.view.seen) from) }
@@ -312,7 +329,7 @@ impl Service {
         let Some(seat) = self.seat.take() else {
             unreachable!()
         };
-        match self.roster.try_hold(seat) {
+        match self.roster.hold_now(seat) {
             Ok(mut hold) => {
                 let roster = hold.roster();
                 roster.facts();
@@ -334,4 +351,5 @@ ghost use Rattle.ti_types.specs.declared.error.TiError.TheVariants.{Busy, Full, 
 ghost use Rattle.ti_roster.specs.Log.{is_live, live};
 ghost use Rattle.ti_roster.specs.Roster.{IsPlaceless, IsToldOf, coming_refusal, meeting_refusal, most_items};
 ghost use Rattle.ti_service.specs.Agent.{IsNewAgent};
+ghost use Rattle.ti_service.specs.Memberships.{state_of};
 ghost use Rattle.ti_service.specs.Service.{Attaches, Claimed, Ends, Leaves, Looks, MayLeave, RefusesEnd, RefusesInfo, RefusesPlace, TakesDesks, roster_seen, with_handle};

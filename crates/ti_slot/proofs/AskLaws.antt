@@ -19,9 +19,9 @@ use Rattle.ti_types.specs.declared.view.ThreadView.{ThreadView}
 use Rattle.ti_types.specs.Frames as buffer
 use Rattle.ti_types.specs.Answer.{said}
 use Rattle.ti_frames.specs.Frames.{Stack}
-use Rattle.ti_ops.specs.Ops.{Ops, with_posted, with_fates}
-use Rattle.ti_ops.specs.Fates.{fates_by, open_by, is_open}
-use Rattle.ti_ops.specs.declared.fate.Fate.{Fate}
+use Rattle.ti_ops.specs.Ops.{Ops, with_posted, with_statuses}
+use Rattle.ti_ops.specs.Statuses.{statuses_by, open_by, is_open}
+use Rattle.ti_ops.specs.declared.status.CallStatus.{CallStatus}
 use Rattle.ti_ops.specs.declared.pending.Pending.{Pending}
 use Rattle.ti_replay.specs.Answers.{is_running, answer_of, stack_of}
 use Rattle.ti_replay.specs.Settling.{waits}
@@ -43,7 +43,7 @@ use Rattle.ti_types.specs.declared.event.Event.TheVariants as event
 use Rattle.ti_replay.specs.Events.{stopping_refusal}
 use Rattle.ti_slot.specs.declared.asked.Asked.TheVariants.{Answered, Waiting}
 use Rattle.ti_types.specs.declared.event.Ticket.{Ticket}
-use Rattle.ti_slot.specs.Slot.{Mirrors, shelf, FramesAreHome, LogIsHome}
+use Rattle.ti_slot.specs.Slot.{Refines, shelf, FramesAreHome, LogIsHome}
 use Rattle.ti_slot.proofs.SlotLaws as laws
 use Rattle.ti_slot.proofs.CallLaws.{May, Comes, comes, may_call, view_is}
 
@@ -80,7 +80,7 @@ put_off_is a call s = ap (λ (v : ThreadView). waits call && is_running v.mode) 
 pub asked_waits : (a : Inside) (env : EnvNo) (n : ℕ) (call : Call) (thread : ThreadNo) (buf : buffer.Trace) (h : Recorded Entry) (ops : Ops)
     → IsSlot a → May a (Asked env n call) → (waits call && is_running a.condition.mode) ≡ true → h.items ≡ a.history.items ++ Asked env n call ∷ [] → shelf h ≡ shelf a.history
     → ops ≡ with_posted a.ops (record { ticket = record { env = env; thread = thread; no = n }; call = call; buf = buf }) → IsBufferOf a.limits call buf
-    → Mirrors a.limits h.items (shelf h) a.condition a.frames a.log a.own (history_state a.limits h.items).costs ops
+    → Refines a.limits h.items (shelf h) a.condition a.frames a.log a.own (history_state a.limits h.items).costs ops
 asked_waits a env n call thread buf h ops s may off e le eo b =
     let x = Asked env n call in
     let p : Pending = record { ticket = record { env = env; thread = thread; no = n }; call = call; buf = buf } in
@@ -102,13 +102,13 @@ frames_stay limits m None (Some t) same k = absurd same
 pub answered : (a : Inside) (env : EnvNo) (n : ℕ) (call : Call) (h : Recorded Entry) (c : Condition) (g : Option Stack) (ops : Ops)
     → IsSlot a → May a (Asked env n call) → (waits call && is_running a.condition.mode) ≡ false → h.items ≡ a.history.items ++ Asked env n call ∷ [] → shelf h ≡ shelf a.history
     → ((others : List Frame) → view_of c (frames_or g others) ≡ called (view_of a.condition (frames_or a.frames others)) env call) → AreWhereTheyWere a.frames g
-    → (fates : List (List Fate)) → ops ≡ with_fates a.ops fates
-    → Mirrors a.limits h.items (shelf h) c g a.log a.own (history_state a.limits h.items).costs ops
-answered a env n call h c g ops s may off e le vc stay fates eo =
+    → (statuses : List (List CallStatus)) → ops ≡ with_statuses a.ops statuses
+    → Refines a.limits h.items (shelf h) c g a.log a.own (history_state a.limits h.items).costs ops
+answered a env n call h c g ops s may off e le vc stay statuses eo =
     let x = Asked env n call in
     let f = (view a.limits a.history.items).frames in
     let same : c.mode ≡ a.condition.mode = ap (λ (v : ThreadView). v.mode) (vc []) ∙ (called_keeps (view_of a.condition (frames_or a.frames [])) env call).0 in
-    rw eo (laws.own_costs a.limits h.items (shelf h) c g a.log a.own (charged (costs_in a) x) (with_fates a.ops fates) (laws.goes a.limits a.history.items (shelf a.history) a.condition a.frames a.log a.own (costs_in a) a.ops x h.items (shelf h) c g a.log a.own (charged (costs_in a) x) (with_fates a.ops fates) (frames_or g f) s may e le
+    rw eo (laws.own_costs a.limits h.items (shelf h) c g a.log a.own (charged (costs_in a) x) (with_statuses a.ops statuses) (laws.goes a.limits a.history.items (shelf a.history) a.condition a.frames a.log a.own (costs_in a) a.ops x h.items (shelf h) c g a.log a.own (charged (costs_in a) x) (with_statuses a.ops statuses) (frames_or g f) s may e le
     (grind (arith, off, vc f)) (laws.home g f) (subst (λ m. FramesAreHome a.limits m g) (sym same) (frames_stay a.limits a.condition.mode a.frames g stay s.frames_home)) (subst (λ m. LogIsHome a.limits m a.log) (sym same) s.log_home) refl s.ready s.calls))
 
 pub replied : (a : Inside) (env : EnvNo) (n : ℕ) (call : Call) (h : List Entry) (told : Answer) → IsSlot a → (waits call && is_running a.condition.mode) ≡ false → h ≡ a.history.items ++ Asked env n call ∷ []
@@ -134,7 +134,7 @@ reads_here a t env n f s e he hc hn hs is =
     record { free = grind (arith, view_is a s, hs, hr); comes = comes a (Read env n) s (grind (arith, nat_tests, view_is a s, h.0, h.1)) }
 
 pub was_read : (a : Inside) (env : EnvNo) (n : ℤ) (h : Recorded Entry) → IsSlot a → May a (Read env n) → h.items ≡ a.history.items ++ Read env n ∷ [] → shelf h ≡ shelf a.history
-    → Mirrors a.limits h.items (shelf h) a.condition a.frames a.log a.own (history_state a.limits h.items).costs a.ops
+    → Refines a.limits h.items (shelf h) a.condition a.frames a.log a.own (history_state a.limits h.items).costs a.ops
 was_read a env n h s may e le =
     laws.own_costs a.limits h.items (shelf h) a.condition a.frames a.log a.own (charged (costs_in a) (Read env n)) a.ops (laws.goes a.limits a.history.items (shelf a.history) a.condition a.frames a.log a.own (costs_in a) a.ops (Read env n) h.items (shelf h) a.condition a.frames a.log a.own (charged (costs_in a) (Read env n)) a.ops
     (frames_or a.frames (view a.limits a.history.items).frames) s may e le

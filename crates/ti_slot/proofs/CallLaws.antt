@@ -30,7 +30,7 @@ use Rattle.ti_slot.specs.Refusal.{hand_refusal}
 use Rattle.ti_replay.specs.LateTickets.{steps_of}
 use Rattle.ti_replay.specs.Refusals.{own_refusal}
 use Rattle.ti_replay.proofs.NextStates.{next_state, allows}
-use Rattle.ti_slot.specs.Slot.{Mirrors, Shelf, shelf, state_of, FramesAreHome}
+use Rattle.ti_slot.specs.Slot.{Refines, Shelf, shelf, state_of, FramesAreHome}
 use Rattle.ti_slot.proofs.SlotLaws as laws
 use Rattle.ti_replay.proofs.BoundLaws.{own_bounded}
 
@@ -79,14 +79,14 @@ back_comes a s hm hu hs = comes a Back s (grind (arith, view_is a s))
 
 -- the fields after a stop
 pub stopped : (a : Inside) (env : EnvNo) (h : Recorded Entry) → IsSlot a → May a (Stop env) → h.items ≡ a.history.items ++ Stop env ∷ [] → shelf h ≡ shelf a.history
-    → Mirrors a.limits h.items (shelf h) (record { mode = a.condition.mode; suspended = a.condition.suspended; stopper = Some env; words = a.condition.words }) a.frames a.log a.own (history_state a.limits h.items).costs a.ops
+    → Refines a.limits h.items (shelf h) (record { mode = a.condition.mode; suspended = a.condition.suspended; stopper = Some env; words = a.condition.words }) a.frames a.log a.own (history_state a.limits h.items).costs a.ops
 stopped a env h s may e le =
     laws.own_costs a.limits h.items (shelf h) _ a.frames a.log a.own (charged (costs_in a) (Stop env)) a.ops (laws.goes a.limits a.history.items (shelf a.history) a.condition a.frames a.log a.own (costs_in a) a.ops (Stop env) h.items (shelf h) _ a.frames a.log a.own (charged (costs_in a) (Stop env)) a.ops
     (frames_or a.frames (view a.limits a.history.items).frames) s may e le
     (grind arith) (laws.home a.frames (view a.limits a.history.items).frames) s.frames_home s.log_home refl s.ready s.calls)
 
 pub let_go : (a : Inside) (env : EnvNo) (h : Recorded Entry) → IsSlot a → May a (Go env) → h.items ≡ a.history.items ++ Go env ∷ [] → shelf h ≡ shelf a.history
-    → Mirrors a.limits h.items (shelf h) (record { mode = a.condition.mode; suspended = a.condition.suspended; stopper = None; words = a.condition.words }) a.frames a.log a.own (history_state a.limits h.items).costs a.ops
+    → Refines a.limits h.items (shelf h) (record { mode = a.condition.mode; suspended = a.condition.suspended; stopper = None; words = a.condition.words }) a.frames a.log a.own (history_state a.limits h.items).costs a.ops
 let_go a env h s may e le =
     laws.own_costs a.limits h.items (shelf h) _ a.frames a.log a.own (costs_in a) a.ops (laws.goes a.limits a.history.items (shelf a.history) a.condition a.frames a.log a.own (costs_in a) a.ops (Go env) h.items (shelf h) _ a.frames a.log a.own (costs_in a) a.ops
     (frames_or a.frames (view a.limits a.history.items).frames) s may e le
@@ -94,14 +94,14 @@ let_go a env h s may e le =
 
 -- the thread runs, and its frames are away
 pub started : (a : Inside) (h : Recorded Entry) → IsSlot a → May a Start → h.items ≡ a.history.items ++ Start ∷ [] → shelf h ≡ shelf a.history
-    → Mirrors a.limits h.items (shelf h) (record { mode = mode.Running; suspended = a.condition.suspended; stopper = a.condition.stopper; words = a.condition.words }) None None a.own (history_state a.limits h.items).costs a.ops
+    → Refines a.limits h.items (shelf h) (record { mode = mode.Running; suspended = a.condition.suspended; stopper = a.condition.stopper; words = a.condition.words }) None None a.own (history_state a.limits h.items).costs a.ops
 started a h s may e le =
     laws.own_costs a.limits h.items (shelf h) _ None None a.own (costs_in a) a.ops (laws.goes a.limits a.history.items (shelf a.history) a.condition a.frames a.log a.own (costs_in a) a.ops Start h.items (shelf h) _ None None a.own (costs_in a) a.ops
     (frames_or a.frames (view a.limits a.history.items).frames) s may e le
     (grind (arith, charged_free (costs_in a) Start)) refl refl refl refl s.ready s.calls)
 
 pub returned : (a : Inside) (h : Recorded Entry) → IsSlot a → May a Back → is_safe a.condition.mode ≡ true → h.items ≡ a.history.items ++ Back ∷ [] → shelf h ≡ shelf a.history
-    → Mirrors a.limits h.items (shelf h) (record { mode = mode.Running; suspended = a.condition.suspended; stopper = a.condition.stopper; words = a.condition.words }) None a.log a.own (history_state a.limits h.items).costs a.ops
+    → Refines a.limits h.items (shelf h) (record { mode = mode.Running; suspended = a.condition.suspended; stopper = a.condition.stopper; words = a.condition.words }) None a.log a.own (history_state a.limits h.items).costs a.ops
 returned a h s may safe e le =
     laws.own_costs a.limits h.items (shelf h) _ None a.log a.own (costs_in a) a.ops (laws.goes a.limits a.history.items (shelf a.history) a.condition a.frames a.log a.own (costs_in a) a.ops Back h.items (shelf h) _ None a.log a.own (costs_in a) a.ops
     (frames_or a.frames (view a.limits a.history.items).frames) s may e le
@@ -122,14 +122,14 @@ at_mode c m = record { mode = m; suspended = c.suspended; stopper = c.stopper; w
 
 -- the logged steps enter the history of a running thread
 abbrev pub Ran : Inside → List Step → Type 0
-Ran a steps = Mirrors a.limits (a.history.items ++ steps_of steps) (shelf a.history) a.condition None a.log (a.own + length steps) (costs_in a) a.ops
+Ran a steps = Refines a.limits (a.history.items ++ steps_of steps) (shelf a.history) a.condition None a.log (a.own + length steps) (costs_in a) a.ops
 
 pub runs_here : (a : Inside) → IsSlot a → is_running (view a.limits a.history.items).mode ≡ true → is_running a.condition.mode ≡ true
 runs_here a s r = sym (ap (λ (v : ThreadView). is_running v.mode) (view_is a s)) ∙ r
 
 pub ran : (a : Inside) (steps : List Step) → IsSlot a → is_running (view a.limits a.history.items).mode ≡ true → goes_on a.limits a.history.items (steps_of steps) ≡ true → Ran a steps
 ran a steps s r g =
-    let here = subst (λ f. Mirrors a.limits a.history.items (shelf a.history) a.condition f a.log a.own (costs_in a) a.ops) (laws.away a.limits a.condition.mode a.frames s.frames_home (runs_here a s r)) s in
+    let here = subst (λ f. Refines a.limits a.history.items (shelf a.history) a.condition f a.log a.own (costs_in a) a.ops) (laws.away a.limits a.condition.mode a.frames s.frames_home (runs_here a s r)) s in
     laws.steps_stand a.limits a.history.items (shelf a.history) a.condition a.log a.own (costs_in a) a.ops steps here g
 
 pub ran_own : (a : Inside) (steps : List Step) → Ran a steps → (own_spent (a.history.items ++ steps_of steps) ≡ a.own + length steps) × (a.own + length steps ≤ a.limits.own)

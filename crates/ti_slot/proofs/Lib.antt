@@ -1,7 +1,7 @@
 pub mod SlotLaws
 pub mod CallLaws
 pub mod AskLaws
-pub mod FateLaws
+pub mod CallStatusLaws
 pub mod TicketLaws
 pub mod TellLaws
 pub mod OpenLaws

@@ -29,7 +29,7 @@ use Rattle.ti_slot.specs.Condition.{view_of, frames_or}
 use Rattle.ti_slot.specs.Waiting.{AreReady, calls_of, entries_of}
 use Rattle.ti_replay.specs.LateTickets.{steps_of}
 use Rattle.ti_replay.proofs.NextStates.{next_state}
-use Rattle.ti_slot.specs.Slot.{Mirrors, state_of, FramesAreHome, LogIsHome, Shelf, shelf_of}
+use Rattle.ti_slot.specs.Slot.{Refines, state_of, FramesAreHome, LogIsHome, Shelf, shelf_of}
 
 -- the frames that are here are those
 pub home : (f : Option Stack) (others : List Frame) → frames_or f (frames_or f others) ≡ frames_or f others
@@ -49,23 +49,23 @@ module _ (limits : Limits) (h : List Entry) (cap : Shelf) (c : Condition) (f : O
   abbrev pub frames_of : List Frame
   frames_of = frames_or f (view limits h).frames
 
-  pub view_is : Mirrors limits h cap c f l own costs ops → view limits h ≡ view_of c (frames_or f (view limits h).frames)
+  pub view_is : Refines limits h cap c f l own costs ops → view limits h ≡ view_of c (frames_or f (view limits h).frames)
   view_is s = ap (λ (t : HistoryState). t.view) s.state
 
   -- there is room for an entry that may come
-  pub room_for : (x : Entry) → Mirrors limits h cap c f l own costs ops → may_follow limits h x ≡ true → length h < cap.room
+  pub room_for : (x : Entry) → Refines limits h cap c f l own costs ops → may_follow limits h x ≡ true → length h < cap.room
   room_for x s may =
       let legal : is_legal limits (h ++ x ∷ []) ≡ true = is_legal-snoc limits h x ∙ grind (arith, s.legal, may) in
       omega (arith, length_bounded limits (h ++ x ∷ []) legal, length-append h (x ∷ []), ap (λ (z : Shelf). z.room) s.room)
 
   -- a slot after one more entry
   pub goes : (x : Entry) (h' : List Entry) (cap' : Shelf) (c' : Condition) (f' : Option Stack) (l' : Option Steps) (own' : ℕ) (costs' : List Costs) (ops' : Ops) (frames : List Frame)
-      → Mirrors limits h cap c f l own costs ops → may_follow limits h x ≡ true → h' ≡ h ++ x ∷ [] → cap' ≡ cap
+      → Refines limits h cap c f l own costs ops → may_follow limits h x ≡ true → h' ≡ h ++ x ∷ [] → cap' ≡ cap
       → next_state (state_of c (frames_or f (view limits h).frames) ops.waiting own costs) x ≡ state_of c' frames ops'.waiting own' costs'
       → frames_or f' frames ≡ frames → FramesAreHome limits c'.mode f' → LogIsHome limits c'.mode l'
       → ops'.window ≡ ops.window
       → AreReady limits ops'.waiting → list_all waits (calls_of ops'.waiting) ≡ true
-      → Mirrors limits h' cap' c' f' l' own' costs' ops'
+      → Refines limits h' cap' c' f' l' own' costs' ops'
   goes x h' cap' c' f' l' own' costs' ops' frames s may e le next home fh lh window ready calls =
       let legal : is_legal limits (h ++ x ∷ []) ≡ true = is_legal-snoc limits h x ∙ grind (arith, s.legal, may) in
       let state : history_state limits (h ++ x ∷ []) ≡ state_of c' frames ops'.waiting own' costs' =
@@ -83,8 +83,8 @@ module _ (limits : Limits) (h : List Entry) (cap : Shelf) (c : Condition) (f : O
       })
 
   -- the costs are those that the history has
-  pub own_costs : Mirrors limits h cap c f l own costs ops → Mirrors limits h cap c f l own (history_state limits h).costs ops
-  own_costs s = subst (λ z. Mirrors limits h cap c f l own z ops) (sym (ap (λ (t : HistoryState). t.costs) s.state)) s
+  pub own_costs : Refines limits h cap c f l own costs ops → Refines limits h cap c f l own (history_state limits h).costs ops
+  own_costs s = subst (λ z. Refines limits h cap c f l own z ops) (sym (ap (λ (t : HistoryState). t.costs) s.state)) s
 
 -- calls that wait are waiting calls
 pub calls_wait : (waiting : List Pending) → list_all waits (calls_of waiting) ≡ true → list_all is_waiting_call (entries_of waiting) ≡ true
@@ -104,31 +104,31 @@ away limits m (Some s) k h = cc
 
 -- the thread's own steps enter the history, while it runs
 pub steps_stand : (limits : Limits) (h : List Entry) (cap : Shelf) (c : Condition) (l : Option Steps) (own : ℕ) (costs : List Costs) (ops : Ops) (steps : List Step)
-    → Mirrors limits h cap c None l own costs ops → goes_on limits h (steps_of steps) ≡ true → Mirrors limits (h ++ steps_of steps) cap c None l (own + length steps) costs ops
+    → Refines limits h cap c None l own costs ops → goes_on limits h (steps_of steps) ≡ true → Refines limits (h ++ steps_of steps) cap c None l (own + length steps) costs ops
 steps_stand limits h cap c l own costs ops [] s g = rw (append-nil, add-zero) s
 steps_stand limits h cap c l own costs ops (x ∷ steps) s g =
     let here : may_follow limits h (Own x) ≡ true = grind arith in
     let there : goes_on limits (h ++ Own x ∷ []) (steps_of steps) ≡ true = grind arith in
-    let one : Mirrors limits (h ++ Own x ∷ []) cap c None l (own + 1) costs ops =
+    let one : Refines limits (h ++ Own x ∷ []) cap c None l (own + 1) costs ops =
     goes limits h cap c None l own costs ops (Own x) (h ++ Own x ∷ []) cap c None l (own + 1) costs ops (frames_after (view limits h).frames x) s here refl refl
     (grind (arith, charged_free costs (Own x))) refl s.frames_home s.log_home refl s.ready s.calls in
     let rest = steps_stand limits (h ++ Own x ∷ []) cap c l (own + 1) costs ops steps one there in
     let e1 : (h ++ Own x ∷ []) ++ steps_of steps ≡ h ++ steps_of (x ∷ steps) = append_assoc h (Own x ∷ []) (steps_of steps) in
     let e2 : own + 1 + length steps ≡ own + length (x ∷ steps) = omega arith in
-    subst (λ n. Mirrors limits (h ++ steps_of (x ∷ steps)) cap c None l n costs ops) e2 (subst (λ t. Mirrors limits t cap c None l (own + 1 + length steps) costs ops) e1 rest)
+    subst (λ n. Refines limits (h ++ steps_of (x ∷ steps)) cap c None l n costs ops) e2 (subst (λ t. Refines limits t cap c None l (own + 1 + length steps) costs ops) e1 rest)
 
 abbrev pub at_mode : Condition → Mode → Condition
 at_mode c m = record { mode = m; suspended = c.suspended; stopper = c.stopper; words = c.words }
 
 -- the frames come home, and the waiting calls take place
 pub serve_stands : (limits : Limits) (h : List Entry) (cap cap' : Shelf) (c c' : Condition) (l : Option Steps) (own own' : ℕ) (costs : List Costs) (ops ops' : Ops) (x : Entry) (m : Mode) (fr fr' : Stack) (h' : List Entry)
-    → Mirrors limits h cap c None l own costs ops → may_follow limits h x ≡ true → h' ≡ h ++ x ∷ [] → cap' ≡ cap
+    → Refines limits h cap c None l own costs ops → may_follow limits h x ≡ true → h' ≡ h ++ x ∷ [] → cap' ≡ cap
     → is_hand_over x ≡ true → after (view_of c (view limits h).frames) x ≡ view_of (at_mode c m) fr.frames
     → is_running m ≡ false → is_new m ≡ false → fr'.depth ≡ limits.depth
     → view_of c' fr'.frames ≡ fold after (view_of (at_mode c m) fr.frames) (entries_of ops.waiting)
     → ops'.waiting ≡ [] → ops'.window ≡ ops.window
     → own' ≡ own + own_cost x → charged costs x ≡ costs
-    → Mirrors limits h' cap' c' (Some fr') l own' costs ops'
+    → Refines limits h' cap' c' (Some fr') l own' costs ops'
 serve_stands limits h cap cap' c c' l own own' costs ops ops' x m fr fr' h' s may e le hands first nr nn depth served none window oe ce =
     let quiet = all_quiet (view_of (at_mode c m) fr.frames) (entries_of ops.waiting) (calls_wait ops.waiting s.calls) in
     let same : c'.mode ≡ m = ap (λ (v : ThreadView). v.mode) served ∙ quiet.mode in
@@ -140,7 +140,7 @@ serve_stands limits h cap cap' c c' l own own' costs ops ops' x m fr fr' h' s ma
 -- a thread that has not started
 pub new_stands : (limits : Limits) (h : List Entry) (cap : Shelf) (words : List ℕ) (f : Stack) (l : Steps) (ops : Ops) → h ≡ [] → cap ≡ shelf_of limits → words ≡ replicate limits.envs 0
     → f.frames ≡ [] → f.depth ≡ limits.depth → l.steps ≡ [] → l.room ≡ limits.own → l.kept ≡ limits.kept → ops.waiting ≡ [] → ops.window ≡ limits.window + 1
-    → Mirrors limits h cap (record { mode = mode.New; suspended = false; stopper = None; words = words }) (Some f) (Some l) 0 (history_state limits h).costs ops
+    → Refines limits h cap (record { mode = mode.New; suspended = false; stopper = None; words = words }) (Some f) (Some l) 0 (history_state limits h).costs ops
 new_stands limits h cap words f l ops eh le ew ff fd ls lr lk none window =
     own_costs limits h cap (record { mode = mode.New; suspended = false; stopper = None; words = words }) (Some f) (Some l) 0 (replicate limits.envs no_costs) ops (rw eh (record {
       legal = refl;

@@ -1,4 +1,4 @@
--- What the fates of a history's calls tell, entry by entry.
+-- What the statuses of a history's calls tell, entry by entry.
 use Rattle.std.proofs.Common.{◌≡◌, ℕ, ◌+◌, ◌<◌, ◌≤◌, ◌==◌, nat_lt, Bool, true, false, ◌&&◌, List, [], ◌∷◌, ◌++◌, length, refl, ap, sym, ◌∙◌, arith, Option, Some, None, inl, inr, not, if◌then◌else◌, length-set, subst, append-nil}
 use Rattle.std.specs.Option.{option_or}
 use Rattle.std.proofs.lemmas.Bool.{cases_Bool}
@@ -14,10 +14,10 @@ use Rattle.ti_types.specs.declared.answer.Answer.{Answer}
 use Rattle.ti_types.specs.declared.entry.Entry.{Entry}
 use Rattle.ti_types.specs.declared.entry.Entry.TheVariants.{Start, Own, Hand, Back, End, Asked, Stop, Read, Go}
 use Rattle.ti_types.specs.declared.view.ThreadView.{ThreadView}
-use Rattle.ti_ops.specs.declared.fate.Fate.{Fate}
-use Rattle.ti_ops.specs.declared.fate.Fate.TheVariants.{Waiting, Gone}
+use Rattle.ti_ops.specs.declared.status.CallStatus.{CallStatus}
+use Rattle.ti_ops.specs.declared.status.CallStatus.TheVariants.{Waiting, Gone}
 use Rattle.ti_ops.specs.declared.pending.Pending.{Pending}
-use Rattle.ti_ops.specs.Fates.{fates_by, fate_of, open_by, with_call, answer_by, is_open}
+use Rattle.ti_ops.specs.Statuses.{statuses_by, status_of, open_by, with_call, answer_by, is_open}
 use Rattle.ti_ops.proofs.StepLaws.{open-with_call}
 use Rattle.ti_replay.specs.Settling.{is_hand_over}
 use Rattle.ti_replay.specs.View.{view}
@@ -27,7 +27,7 @@ use Rattle.ti_replay.specs.Tickets.{reply_in, reply_to}
 use Rattle.ti_replay.proofs.NextStates.{is_put_off}
 use Rattle.ti_replay.proofs.TicketReplies.{reply_to-snoc, settling}
 use Rattle.ti_slot.specs.Tickets.{has, held_by, open_in, AreOnce, ticket_in, asked_in, is_at, is_awaited, AreAwaited, AreApart, Tells}
-use Rattle.ti_slot.proofs.FateLaws.{within, fate-passed, fate-with_call, length-with_call, same_fate}
+use Rattle.ti_slot.proofs.CallStatusLaws.{within, status-passed, status-with_call, length-with_call, same_status}
 use Rattle.ti_slot.proofs.TicketLaws.{open-append, open_same, asked_in-snoc, asked_stay, listed_more, once_more}
 
 pub asked-snoc : (env : EnvNo) (history : List Entry) (x : Entry) → asked_by env (history ++ x ∷ []) ≡ asked_by env history + ask_count env x
@@ -108,8 +108,8 @@ unchanged limits h x t e = reply_to-snoc limits h x t ∙ ap (option_or (reply_t
 pub still : (limits : Limits) (h : List Entry) (x : Entry) (t : Ticket) (a : Answer) → reply_to limits h t ≡ Some a → reply_to limits (h ++ x ∷ []) t ≡ Some a
 still limits h x t a e = reply_to-snoc limits h x t ∙ ap (λ r. option_or r (reply_in (view limits h) (settling (history_state limits h) x) t)) e
 
-pub tells_plain : (limits : Limits) (number : ThreadNo) (h : List Entry) (waiting : List Pending) (fates : List (List Fate)) (x : Entry) → is_plain x ≡ true → Tells limits number h waiting fates → Tells limits number (h ++ x ∷ []) waiting fates
-tells_plain limits number h waiting fates x p s =
+pub tells_plain : (limits : Limits) (number : ThreadNo) (h : List Entry) (waiting : List Pending) (statuses : List (List CallStatus)) (x : Entry) → is_plain x ≡ true → Tells limits number h waiting statuses → Tells limits number (h ++ x ∷ []) waiting statuses
+tells_plain limits number h waiting statuses x p s =
     let r : (t : Ticket) → reply_to limits (h ++ x ∷ []) t ≡ reply_to limits h t = λ t. unchanged limits h x t (plain_tells (view limits h) (history_state limits h) x t p) in
     let a : (env : EnvNo) → asked_by env (h ++ x ∷ []) ≡ asked_by env h = λ env. omega (arith, asked-snoc env h x, no_asking env x (plain_free x p)) in
     let same : asked_in number (h ++ x ∷ []) ≡ asked_in number h = asked_stay number h x (no_ticket number x (plain_free x p)) in
@@ -123,12 +123,12 @@ tells_plain limits number h waiting fates x p s =
       apart = s.apart;
       listed = λ t. ap (has t) same ∙ s.listed t ∙ ap (λ m. t.thread.0 == number.0 && nat_lt t.no m) (sym (a t.env));
       once = subst AreOnce (sym same) s.once;
-      held = λ env. ap (λ ts. held_by env (open_in fates ts)) same ∙ s.held env;
+      held = λ env. ap (λ ts. held_by env (open_in statuses ts)) same ∙ s.held env;
     }
 
 -- the number of an open call is below that of the next
-pub asked_before : (limits : Limits) (number : ThreadNo) (h : List Entry) (waiting : List Pending) (fates : List (List Fate)) (t : Ticket) → Tells limits number h waiting fates → is_open (fate_of t fates) ≡ true → t.no < asked_by t.env h
-asked_before limits number h waiting fates t s o = omega (arith, (within t fates o).1, s.lists t.env)
+pub asked_before : (limits : Limits) (number : ThreadNo) (h : List Entry) (waiting : List Pending) (statuses : List (List CallStatus)) (t : Ticket) → Tells limits number h waiting statuses → is_open (status_of t statuses) ≡ true → t.no < asked_by t.env h
+asked_before limits number h waiting statuses t s o = omega (arith, (within t statuses o).1, s.lists t.env)
 
 -- the number of a new call
 abbrev pub is_next : EnvNo → ℕ → Ticket → Bool
@@ -150,18 +150,18 @@ not_next t env h n hn below =
       | inr e ↦ e
     ]
 
--- another ticket has its fate, whatever is asked
-pub awaited_on : (fates others : List (List Fate)) (waiting : List Pending) → ((t : Ticket) → fate_of t fates ≡ Waiting → fate_of t others ≡ Waiting) → AreAwaited fates waiting → AreAwaited others waiting
-awaited_on fates others [] k a = tt
-awaited_on fates others (p ∷ waiting) k a = (k p.ticket a.0, awaited_on fates others waiting k a.1)
+-- another ticket has its status, whatever is asked
+pub awaited_on : (statuses others : List (List CallStatus)) (waiting : List Pending) → ((t : Ticket) → status_of t statuses ≡ Waiting → status_of t others ≡ Waiting) → AreAwaited statuses waiting → AreAwaited others waiting
+awaited_on statuses others [] k a = tt
+awaited_on statuses others (p ∷ waiting) k a = (k p.ticket a.0, awaited_on statuses others waiting k a.1)
 
 -- how the calls are listed with one more
 record ListedMore (number : ThreadNo) (h : List Entry) (x : Entry) : Type 0 where
   listed : (t : Ticket) → has t (asked_in number (h ++ x ∷ [])) ≡ (t.thread.0 == number.0 && nat_lt t.no (asked_by t.env (h ++ x ∷ [])))
   once : AreOnce (asked_in number (h ++ x ∷ []))
 
-asked_more : (limits : Limits) (number : ThreadNo) (h : List Entry) (waiting : List Pending) (fates : List (List Fate)) (env : EnvNo) (n : ℕ) (call : Call) → n ≡ asked_by env h → Tells limits number h waiting fates → ListedMore number h (Asked env n call)
-asked_more limits number h waiting fates env n call hn s =
+asked_more : (limits : Limits) (number : ThreadNo) (h : List Entry) (waiting : List Pending) (statuses : List (List CallStatus)) (env : EnvNo) (n : ℕ) (call : Call) → n ≡ asked_by env h → Tells limits number h waiting statuses → ListedMore number h (Asked env n call)
+asked_more limits number h waiting statuses env n call hn s =
     let x = Asked env n call in
     let u : Ticket = record { env = env; thread = number; no = n } in
     let more : asked_in number (h ++ x ∷ []) ≡ asked_in number h ++ u ∷ [] = asked_in-snoc number h x in
@@ -175,35 +175,35 @@ asked_more limits number h waiting fates env n call hn s =
     }
 
 -- which tickets are open after a call that is answered at once
-pub open_now : (limits : Limits) (number : ThreadNo) (h : List Entry) (waiting : List Pending) (fates : List (List Fate)) (env : EnvNo) (n : ℕ) (call : Call) → env.0 < limits.envs → n ≡ asked_by env h → Tells limits number h waiting fates
-    → open_in (with_call env Gone fates) (asked_in number (h ++ Asked env n call ∷ [])) ≡ open_in fates (asked_in number h)
-open_now limits number h waiting fates env n call he hn s =
+pub open_now : (limits : Limits) (number : ThreadNo) (h : List Entry) (waiting : List Pending) (statuses : List (List CallStatus)) (env : EnvNo) (n : ℕ) (call : Call) → env.0 < limits.envs → n ≡ asked_by env h → Tells limits number h waiting statuses
+    → open_in (with_call env Gone statuses) (asked_in number (h ++ Asked env n call ∷ [])) ≡ open_in statuses (asked_in number h)
+open_now limits number h waiting statuses env n call he hn s =
     let u : Ticket = record { env = env; thread = number; no = n } in
-    let new = with_call env Gone fates in
-    let inside : env.0 < length fates = omega (arith, he, s.envs) in
-    let none : fate_of u new ≡ Gone = fate-passed u env fates inside ∙ get_or_past (fates_by env fates) n Gone (omega (arith, hn, s.lists env)) in
-    let same_ones : open_in new (asked_in number h) ≡ open_in fates (asked_in number h) = open_same new fates (asked_in number h) (λ t k. ap is_open (fate-passed t env fates inside)) in
+    let new = with_call env Gone statuses in
+    let inside : env.0 < length statuses = omega (arith, he, s.envs) in
+    let none : status_of u new ≡ Gone = status-passed u env statuses inside ∙ get_or_past (statuses_by env statuses) n Gone (omega (arith, hn, s.lists env)) in
+    let same_ones : open_in new (asked_in number h) ≡ open_in statuses (asked_in number h) = open_same new statuses (asked_in number h) (λ t k. ap is_open (status-passed t env statuses inside)) in
     let last : open_in new (u ∷ []) ≡ [] = grind (arith, none) in
     ap (open_in new) (asked_in-snoc number h (Asked env n call)) ∙ open-append new (asked_in number h) (u ∷ [])
     ∙ ap (λ ts. open_in new (asked_in number h) ++ ts) last ∙ append-nil (open_in new (asked_in number h)) ∙ same_ones
 
 -- after a call that waits
-pub open_later : (limits : Limits) (number : ThreadNo) (h : List Entry) (waiting : List Pending) (fates : List (List Fate)) (env : EnvNo) (n : ℕ) (call : Call) → env.0 < limits.envs → n ≡ asked_by env h → Tells limits number h waiting fates
-    → open_in (with_call env Waiting fates) (asked_in number (h ++ Asked env n call ∷ [])) ≡ open_in fates (asked_in number h) ++ (record { env = env; thread = number; no = n }) ∷ []
-open_later limits number h waiting fates env n call he hn s =
+pub open_later : (limits : Limits) (number : ThreadNo) (h : List Entry) (waiting : List Pending) (statuses : List (List CallStatus)) (env : EnvNo) (n : ℕ) (call : Call) → env.0 < limits.envs → n ≡ asked_by env h → Tells limits number h waiting statuses
+    → open_in (with_call env Waiting statuses) (asked_in number (h ++ Asked env n call ∷ [])) ≡ open_in statuses (asked_in number h) ++ (record { env = env; thread = number; no = n }) ∷ []
+open_later limits number h waiting statuses env n call he hn s =
     let u : Ticket = record { env = env; thread = number; no = n } in
-    let new = with_call env Waiting fates in
-    let inside : env.0 < length fates = omega (arith, he, s.envs) in
-    let len : length (fates_by env fates) ≡ n = s.lists env ∙ sym hn in
-    let f : (t : Ticket) → fate_of t new ≡ (if is_next env n t then Waiting else fate_of t fates) = λ t. fate-with_call t env Waiting fates inside ∙ ap (λ m. if is_next env m t then Waiting else fate_of t fates) len in
+    let new = with_call env Waiting statuses in
+    let inside : env.0 < length statuses = omega (arith, he, s.envs) in
+    let len : length (statuses_by env statuses) ≡ n = s.lists env ∙ sym hn in
+    let f : (t : Ticket) → status_of t new ≡ (if is_next env n t then Waiting else status_of t statuses) = λ t. status-with_call t env Waiting statuses inside ∙ ap (λ m. if is_next env m t then Waiting else status_of t statuses) len in
     let here : is_next env n u ≡ true = grind (arith, nat_tests) in
-    let waits : fate_of u new ≡ Waiting = f u ∙ grind (arith, here) in
-    let same_ones : open_in new (asked_in number h) ≡ open_in fates (asked_in number h) =
-    open_same new fates (asked_in number h) (λ t k.
+    let waits : status_of u new ≡ Waiting = f u ∙ grind (arith, here) in
+    let same_ones : open_in new (asked_in number h) ≡ open_in statuses (asked_in number h) =
+    open_same new statuses (asked_in number h) (λ t k.
     let below : t.no < asked_by t.env h = (let l = s.listed t in grind (arith, nat_tests, l, k)) in
     let other : is_next env n t ≡ false = not_next t env h n hn below in
-    let same_fates : fate_of t new ≡ fate_of t fates = f t ∙ grind (arith, other) in
-    ap is_open same_fates) in
+    let same_statuses : status_of t new ≡ status_of t statuses = f t ∙ grind (arith, other) in
+    ap is_open same_statuses) in
     let last : open_in new (u ∷ []) ≡ u ∷ [] = grind (arith, waits) in
     ap (open_in new) (asked_in-snoc number h (Asked env n call)) ∙ open-append new (asked_in number h) (u ∷ [])
     ∙ ap (λ ts. open_in new (asked_in number h) ++ ts) last ∙ ap (λ ts. ts ++ u ∷ []) same_ones
@@ -215,82 +215,82 @@ held-more : (e : EnvNo) (ts : List Ticket) (u : Ticket) → held_by e (ts ++ u �
 held-more e ts u = omega (arith, sum_by-append (λ (t : Ticket). if t.env.0 == e.0 then 1 else 0) ts (u ∷ []), held-cons e u [])
 
 -- a call that is answered at once
-pub tells_now : (limits : Limits) (number : ThreadNo) (h : List Entry) (waiting : List Pending) (fates : List (List Fate)) (env : EnvNo) (n : ℕ) (call : Call) → env.0 < limits.envs → n ≡ asked_by env h
-    → is_put_off (history_state limits h) (Asked env n call) ≡ false → Tells limits number h waiting fates → Tells limits number (h ++ Asked env n call ∷ []) waiting (with_call env Gone fates)
-tells_now limits number h waiting fates env n call he hn off s =
+pub tells_now : (limits : Limits) (number : ThreadNo) (h : List Entry) (waiting : List Pending) (statuses : List (List CallStatus)) (env : EnvNo) (n : ℕ) (call : Call) → env.0 < limits.envs → n ≡ asked_by env h
+    → is_put_off (history_state limits h) (Asked env n call) ≡ false → Tells limits number h waiting statuses → Tells limits number (h ++ Asked env n call ∷ []) waiting (with_call env Gone statuses)
+tells_now limits number h waiting statuses env n call he hn off s =
     let x = Asked env n call in
-    let inside : env.0 < length fates = omega (arith, he, s.envs) in
-    let f : (t : Ticket) → fate_of t (with_call env Gone fates) ≡ fate_of t fates = λ t. fate-passed t env fates inside in
+    let inside : env.0 < length statuses = omega (arith, he, s.envs) in
+    let f : (t : Ticket) → status_of t (with_call env Gone statuses) ≡ status_of t statuses = λ t. status-passed t env statuses inside in
     let r : (t : Ticket) → is_next env n t ≡ false → reply_to limits (h ++ x ∷ []) t ≡ reply_to limits h t = λ t e. unchanged limits h x t (grind (arith, off, e)) in
     let later : (t : Ticket) → asked_by t.env (h ++ x ∷ []) ≤ t.no → is_next env n t ≡ false =
     λ t le. elim (cases_Bool (is_next env n t)) [
       | inl e ↦ absurd (let k = next_asked t env h (sym (ap (λ m. is_next env m t) hn) ∙ e) in let one : ask_count t.env x ≡ 1 = grind (arith, nat_tests) in omega (arith, k, le, one, asked-snoc t.env h x))
       | inr e ↦ e
     ] in
-    let l = asked_more limits number h waiting fates env n call hn s in
+    let l = asked_more limits number h waiting statuses env n call hn s in
     record {
       fresh = λ t le. r t (later t le) ∙ s.fresh t (omega (arith, le, asked-snoc t.env h x));
-      envs = length-set fates env.0 _ ∙ s.envs;
-      lists = λ other. length-with_call other env Gone fates inside ∙ omega (arith, s.lists other, asked-snoc other h x);
+      envs = length-set statuses env.0 _ ∙ s.envs;
+      lists = λ other. length-with_call other env Gone statuses inside ∙ omega (arith, s.lists other, asked-snoc other h x);
       quiet = λ t w.
-          let w1 : fate_of t fates ≡ Waiting = sym (f t) ∙ w in
-          r t (not_next t env h n hn (asked_before limits number h waiting fates t s (ap is_open w1))) ∙ s.quiet t w1;
+          let w1 : status_of t statuses ≡ Waiting = sym (f t) ∙ w in
+          r t (not_next t env h n hn (asked_before limits number h waiting statuses t s (ap is_open w1))) ∙ s.quiet t w1;
       told = λ t a w. still limits h x t a (s.told t a (ap answer_by (sym (f t)) ∙ w));
-      awaited = awaited_on fates (with_call env Gone fates) waiting (λ t w. f t ∙ w) s.awaited;
+      awaited = awaited_on statuses (with_call env Gone statuses) waiting (λ t w. f t ∙ w) s.awaited;
       apart = s.apart;
       listed = l.listed;
       once = l.once;
-      held = λ e. ap (held_by e) (open_now limits number h waiting fates env n call he hn s) ∙ s.held e ∙ sym (open-with_call e env Gone fates inside ∙ grind (arith, nat_tests));
+      held = λ e. ap (held_by e) (open_now limits number h waiting statuses env n call he hn s) ∙ s.held e ∙ sym (open-with_call e env Gone statuses inside ∙ grind (arith, nat_tests));
     }
 
-awaited_more : (fates : List (List Fate)) (waiting : List Pending) (p : Pending) → AreAwaited fates waiting → fate_of p.ticket fates ≡ Waiting → AreAwaited fates (waiting ++ p ∷ [])
-awaited_more fates [] p k w = (w, tt)
-awaited_more fates (q ∷ waiting) p k w = (k.0, awaited_more fates waiting p k.1 w)
+awaited_more : (statuses : List (List CallStatus)) (waiting : List Pending) (p : Pending) → AreAwaited statuses waiting → status_of p.ticket statuses ≡ Waiting → AreAwaited statuses (waiting ++ p ∷ [])
+awaited_more statuses [] p k w = (w, tt)
+awaited_more statuses (q ∷ waiting) p k w = (k.0, awaited_more statuses waiting p k.1 w)
 
-apart_more : (fates : List (List Fate)) (waiting : List Pending) (p : Pending) → AreApart waiting → AreAwaited fates waiting → fate_of p.ticket fates ≡ Gone → AreApart (waiting ++ p ∷ [])
-apart_more fates [] p a k g = (refl, tt)
-apart_more fates (q ∷ waiting) p a k g =
-    let differs : is_at p.ticket q.ticket ≡ false = elim (cases_Bool (is_at p.ticket q.ticket)) [ inl e ↦ absurd (let z = same_fate q.ticket p.ticket fates e in let w = k.0 in cc) | inr e ↦ e ] in
-    (not_more q.ticket waiting p a.0 differs, apart_more fates waiting p a.1 k.1 g)
+apart_more : (statuses : List (List CallStatus)) (waiting : List Pending) (p : Pending) → AreApart waiting → AreAwaited statuses waiting → status_of p.ticket statuses ≡ Gone → AreApart (waiting ++ p ∷ [])
+apart_more statuses [] p a k g = (refl, tt)
+apart_more statuses (q ∷ waiting) p a k g =
+    let differs : is_at p.ticket q.ticket ≡ false = elim (cases_Bool (is_at p.ticket q.ticket)) [ inl e ↦ absurd (let z = same_status q.ticket p.ticket statuses e in let w = k.0 in cc) | inr e ↦ e ] in
+    (not_more q.ticket waiting p a.0 differs, apart_more statuses waiting p a.1 k.1 g)
   where
     not_more : (t : Ticket) (waiting : List Pending) (p : Pending) → is_awaited t waiting ≡ false → is_at p.ticket t ≡ false → is_awaited t (waiting ++ p ∷ []) ≡ false
     not_more t [] p n d = grind (arith, d)
     not_more t (q ∷ waiting) p n d = let z = not_more t waiting p (grind (arith, n)) d in grind (arith, n, z)
 
 -- a call that waits
-pub tells_later : (limits : Limits) (number : ThreadNo) (h : List Entry) (waiting : List Pending) (fates : List (List Fate)) (env : EnvNo) (n : ℕ) (call : Call) (p : Pending) → env.0 < limits.envs → n ≡ asked_by env h
-    → is_put_off (history_state limits h) (Asked env n call) ≡ true → p.ticket ≡ record { env = env; thread = number; no = n } → Tells limits number h waiting fates → Tells limits number (h ++ Asked env n call ∷ []) (waiting ++ p ∷ []) (with_call env Waiting fates)
-tells_later limits number h waiting fates env n call p he hn off ep s =
+pub tells_later : (limits : Limits) (number : ThreadNo) (h : List Entry) (waiting : List Pending) (statuses : List (List CallStatus)) (env : EnvNo) (n : ℕ) (call : Call) (p : Pending) → env.0 < limits.envs → n ≡ asked_by env h
+    → is_put_off (history_state limits h) (Asked env n call) ≡ true → p.ticket ≡ record { env = env; thread = number; no = n } → Tells limits number h waiting statuses → Tells limits number (h ++ Asked env n call ∷ []) (waiting ++ p ∷ []) (with_call env Waiting statuses)
+tells_later limits number h waiting statuses env n call p he hn off ep s =
     let x = Asked env n call in
-    let inside : env.0 < length fates = omega (arith, he, s.envs) in
-    let new = with_call env Waiting fates in
-    let len : length (fates_by env fates) ≡ n = s.lists env ∙ sym hn in
-    let f : (t : Ticket) → fate_of t new ≡ (if is_next env n t then Waiting else fate_of t fates) = λ t. fate-with_call t env Waiting fates inside ∙ ap (λ m. if is_next env m t then Waiting else fate_of t fates) len in
+    let inside : env.0 < length statuses = omega (arith, he, s.envs) in
+    let new = with_call env Waiting statuses in
+    let len : length (statuses_by env statuses) ≡ n = s.lists env ∙ sym hn in
+    let f : (t : Ticket) → status_of t new ≡ (if is_next env n t then Waiting else status_of t statuses) = λ t. status-with_call t env Waiting statuses inside ∙ ap (λ m. if is_next env m t then Waiting else status_of t statuses) len in
     let r : (t : Ticket) → reply_to limits (h ++ x ∷ []) t ≡ reply_to limits h t = λ t. unchanged limits h x t (grind (arith, off)) in
     let gone : (t : Ticket) → is_next env n t ≡ true → asked_by t.env h ≤ t.no = λ t e. let k = next_asked t env h (sym (ap (λ m. is_next env m t) hn) ∙ e) in omega (arith, k) in
     let here : is_next env n p.ticket ≡ true = grind (arith, nat_tests, ep) in
-    let none : fate_of p.ticket fates ≡ Gone = get_or_past (fates_by p.ticket.env fates) p.ticket.no Gone (omega (arith, gone p.ticket here, s.lists p.ticket.env)) in
-    let stays : (t : Ticket) → fate_of t fates ≡ Waiting → fate_of t new ≡ Waiting = λ t w. f t ∙ grind (arith, w) in
-    let l = asked_more limits number h waiting fates env n call hn s in
+    let none : status_of p.ticket statuses ≡ Gone = get_or_past (statuses_by p.ticket.env statuses) p.ticket.no Gone (omega (arith, gone p.ticket here, s.lists p.ticket.env)) in
+    let stays : (t : Ticket) → status_of t statuses ≡ Waiting → status_of t new ≡ Waiting = λ t w. f t ∙ grind (arith, w) in
+    let l = asked_more limits number h waiting statuses env n call hn s in
     record {
       fresh = λ t le. r t ∙ s.fresh t (omega (arith, le, asked-snoc t.env h x));
-      envs = length-set fates env.0 _ ∙ s.envs;
-      lists = λ other. length-with_call other env Waiting fates inside ∙ omega (arith, s.lists other, asked-snoc other h x);
+      envs = length-set statuses env.0 _ ∙ s.envs;
+      lists = λ other. length-with_call other env Waiting statuses inside ∙ omega (arith, s.lists other, asked-snoc other h x);
       quiet = λ t w.
           r t ∙ elim (cases_Bool (is_next env n t)) [
             | inl e ↦ s.fresh t (gone t e)
-            | inr e ↦ let w1 : fate_of t fates ≡ Waiting = grind (arith, f t, e, w) in s.quiet t w1
+            | inr e ↦ let w1 : status_of t statuses ≡ Waiting = grind (arith, f t, e, w) in s.quiet t w1
           ];
       told = λ t a w.
           r t ∙ elim (cases_Bool (is_next env n t)) [
-            | inl e ↦ let z : fate_of t new ≡ Waiting = f t ∙ grind (arith, e) in let none_told : answer_by (fate_of t new) ≡ None = ap answer_by z in absurd (cc)
-            | inr e ↦ let z : fate_of t new ≡ fate_of t fates = f t ∙ grind (arith, e) in s.told t a (ap answer_by (sym z) ∙ w)
+            | inl e ↦ let z : status_of t new ≡ Waiting = f t ∙ grind (arith, e) in let none_told : answer_by (status_of t new) ≡ None = ap answer_by z in absurd (cc)
+            | inr e ↦ let z : status_of t new ≡ status_of t statuses = f t ∙ grind (arith, e) in s.told t a (ap answer_by (sym z) ∙ w)
           ];
-      awaited = awaited_more new waiting p (awaited_on fates new waiting stays s.awaited) (f p.ticket ∙ grind (arith, here));
-      apart = apart_more fates waiting p s.apart s.awaited none;
+      awaited = awaited_more new waiting p (awaited_on statuses new waiting stays s.awaited) (f p.ticket ∙ grind (arith, here));
+      apart = apart_more statuses waiting p s.apart s.awaited none;
       listed = l.listed;
       once = l.once;
       held = λ e.
-          ap (held_by e) (open_later limits number h waiting fates env n call he hn s) ∙ held-more e (open_in fates (asked_in number h)) (record { env = env; thread = number; no = n })
-          ∙ ap (λ m. m + (if env.0 == e.0 then 1 else 0)) (s.held e) ∙ sym (open-with_call e env Waiting fates inside ∙ grind (arith, nat_tests));
+          ap (held_by e) (open_later limits number h waiting statuses env n call he hn s) ∙ held-more e (open_in statuses (asked_in number h)) (record { env = env; thread = number; no = n })
+          ∙ ap (λ m. m + (if env.0 == e.0 then 1 else 0)) (s.held e) ∙ sym (open-with_call e env Waiting statuses inside ∙ grind (arith, nat_tests));
     }

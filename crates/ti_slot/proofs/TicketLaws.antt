@@ -10,12 +10,12 @@ use Rattle.ti_types.specs.declared.event.Ticket.{Ticket}
 use Rattle.ti_types.specs.declared.step.Step.{Step}
 use Rattle.ti_types.specs.declared.entry.Entry.{Entry}
 use Rattle.ti_types.specs.declared.entry.Entry.TheVariants.{Own}
-use Rattle.ti_ops.specs.declared.fate.Fate.{Fate}
-use Rattle.ti_ops.specs.declared.fate.Fate.TheVariants.{Gone}
-use Rattle.ti_ops.specs.Fates.{fate_of, with_fate, is_open}
+use Rattle.ti_ops.specs.declared.status.CallStatus.{CallStatus}
+use Rattle.ti_ops.specs.declared.status.CallStatus.TheVariants.{Gone}
+use Rattle.ti_ops.specs.Statuses.{status_of, with_status, is_open}
 use Rattle.ti_replay.specs.LateTickets.{steps_of}
 use Rattle.ti_slot.specs.Tickets.{same, has, without_ticket, AreOnce, ticket_in, asked_in, open_in, is_at}
-use Rattle.ti_slot.proofs.FateLaws.{fate-with_fate, same_fate}
+use Rattle.ti_slot.proofs.CallStatusLaws.{status-with_status, same_status}
 
 pub asked_in-snoc : (number : ThreadNo) (history : List Entry) (x : Entry) → asked_in number (history ++ x ∷ []) ≡ asked_in number history ++ ticket_in number x
 asked_in-snoc number history x = sym (flat_map_more (ticket_in number) [] history x)
@@ -34,53 +34,53 @@ same_self t = grind (arith, nat_tests)
 pub same_sym : (u v : Ticket) → same v u ≡ same u v
 same_sym u v = grind (arith, nat_tests)
 
-open_like : (t u : Ticket) (fates : List (List Fate)) → same u t ≡ true → fate_of u fates ≡ fate_of t fates
-open_like t u fates h = same_fate u t fates (grind (arith, nat_tests))
+open_like : (t u : Ticket) (statuses : List (List CallStatus)) → same u t ≡ true → status_of u statuses ≡ status_of t statuses
+open_like t u statuses h = same_status u t statuses (grind (arith, nat_tests))
 
-pub open-append : (fates : List (List Fate)) (ts us : List Ticket) → open_in fates (ts ++ us) ≡ open_in fates ts ++ open_in fates us
-open-append fates [] us = refl
-open-append fates (t ∷ ts) us = grind (arith, open-append fates ts us)
+pub open-append : (statuses : List (List CallStatus)) (ts us : List Ticket) → open_in statuses (ts ++ us) ≡ open_in statuses ts ++ open_in statuses us
+open-append statuses [] us = refl
+open-append statuses (t ∷ ts) us = grind (arith, open-append statuses ts us)
 
 -- the same tickets are open
-pub open_same : (fates others : List (List Fate)) (ts : List Ticket) → ((t : Ticket) → has t ts ≡ true → is_open (fate_of t fates) ≡ is_open (fate_of t others)) → open_in fates ts ≡ open_in others ts
-open_same fates others [] k = refl
-open_same fates others (t ∷ ts) k =
-    let here : is_open (fate_of t fates) ≡ is_open (fate_of t others) = k t (ap (λ b. b || has t ts) (same_self t)) in
-    let rest : open_in fates ts ≡ open_in others ts = open_same fates others ts (λ u h. k u (grind (arith, h))) in
+pub open_same : (statuses others : List (List CallStatus)) (ts : List Ticket) → ((t : Ticket) → has t ts ≡ true → is_open (status_of t statuses) ≡ is_open (status_of t others)) → open_in statuses ts ≡ open_in others ts
+open_same statuses others [] k = refl
+open_same statuses others (t ∷ ts) k =
+    let here : is_open (status_of t statuses) ≡ is_open (status_of t others) = k t (ap (λ b. b || has t ts) (same_self t)) in
+    let rest : open_in statuses ts ≡ open_in others ts = open_same statuses others ts (λ u h. k u (grind (arith, h))) in
     grind (arith, here, rest)
 
-pub has-open : (t : Ticket) (fates : List (List Fate)) (ts : List Ticket) → has t (open_in fates ts) ≡ (is_open (fate_of t fates) && has t ts)
-has-open t fates [] = grind arith
-has-open t fates (u ∷ ts) =
+pub has-open : (t : Ticket) (statuses : List (List CallStatus)) (ts : List Ticket) → has t (open_in statuses ts) ≡ (is_open (status_of t statuses) && has t ts)
+has-open t statuses [] = grind arith
+has-open t statuses (u ∷ ts) =
     elim (cases_Bool (same u t)) [
-      | inl it ↦ let e = ap is_open (open_like t u fates it) in grind (arith, it, e, has-open t fates ts)
-      | inr other ↦ grind (arith, other, has-open t fates ts)
+      | inl it ↦ let e = ap is_open (open_like t u statuses it) in grind (arith, it, e, has-open t statuses ts)
+      | inr other ↦ grind (arith, other, has-open t statuses ts)
     ]
 
 at_same : (t u : Ticket) → u.thread.0 ≡ t.thread.0 → is_at t u ≡ same u t
 at_same t u e = grind (arith, nat_tests)
 
 -- a ticket of the list that is not open any more
-pub open_less : (t : Ticket) (fates : List (List Fate)) (ts : List Ticket) → is_open (fate_of t fates) ≡ true → AreOnce ts → ((u : Ticket) → has u ts ≡ true → u.thread.0 ≡ t.thread.0)
-    → open_in (with_fate t Gone fates) ts ≡ without_ticket t (open_in fates ts)
-open_less t fates [] o once k = refl
-open_less t fates (u ∷ ts) o once k =
+pub open_less : (t : Ticket) (statuses : List (List CallStatus)) (ts : List Ticket) → is_open (status_of t statuses) ≡ true → AreOnce ts → ((u : Ticket) → has u ts ≡ true → u.thread.0 ≡ t.thread.0)
+    → open_in (with_status t Gone statuses) ts ≡ without_ticket t (open_in statuses ts)
+open_less t statuses [] o once k = refl
+open_less t statuses (u ∷ ts) o once k =
     let one : is_at t u ≡ same u t = at_same t u (k u (ap (λ b. b || has u ts) (same_self u))) in
-    let f = fate-with_fate u t Gone fates o in
+    let f = status-with_status u t Gone statuses o in
     elim (cases_Bool (same u t)) [
       | inl it ↦
-          let here : is_open (fate_of u fates) ≡ true = ap is_open (open_like t u fates it) ∙ o in
-          let gone : fate_of u (with_fate t Gone fates) ≡ Gone = f ∙ grind (arith, one, it) in
-          let rest : open_in (with_fate t Gone fates) ts ≡ open_in fates ts =
-          open_same (with_fate t Gone fates) fates ts (λ v h.
+          let here : is_open (status_of u statuses) ≡ true = ap is_open (open_like t u statuses it) ∙ o in
+          let gone : status_of u (with_status t Gone statuses) ≡ Gone = f ∙ grind (arith, one, it) in
+          let rest : open_in (with_status t Gone statuses) ts ≡ open_in statuses ts =
+          open_same (with_status t Gone statuses) statuses ts (λ v h.
           let apart : same v t ≡ false = elim (cases_Bool (same v t)) [ inl e ↦ absurd (let z = met u v t ts it e h in let w = once.0 in cc) | inr e ↦ e ] in
           let v_at : is_at t v ≡ same v t = at_same t v (k v (grind (arith, h))) in
-          let same_one : fate_of v (with_fate t Gone fates) ≡ fate_of v fates = fate-with_fate v t Gone fates o ∙ grind (arith, v_at, apart) in
+          let same_one : status_of v (with_status t Gone statuses) ≡ status_of v statuses = status-with_status v t Gone statuses o ∙ grind (arith, v_at, apart) in
           ap is_open same_one) in
           grind (arith, here, gone, rest, it)
       | inr other ↦
-          let stays : fate_of u (with_fate t Gone fates) ≡ fate_of u fates = f ∙ grind (arith, one, other) in
-          let rest = open_less t fates ts o once.1 (λ v h. k v (grind (arith, h))) in
+          let stays : status_of u (with_status t Gone statuses) ≡ status_of u statuses = f ∙ grind (arith, one, other) in
+          let rest = open_less t statuses ts o once.1 (λ v h. k v (grind (arith, h))) in
           grind (arith, stays, rest, other)
     ]
   where
@@ -110,14 +110,14 @@ listed_more t env number n m ts e h =
       | inr other ↦ grind (arith, nat_tests, a, h, other)
     ]
 
-pub open_once : (fates : List (List Fate)) (ts : List Ticket) → AreOnce ts → AreOnce (open_in fates ts)
-open_once fates [] o = tt
-open_once fates (t ∷ ts) o =
-    let none : has t (open_in fates ts) ≡ false = has-open t fates ts ∙ ap (λ b. is_open (fate_of t fates) && b) o.0 ∙ and_false (is_open (fate_of t fates)) in
-    let rest = open_once fates ts o.1 in
-    elim (cases_Bool (is_open (fate_of t fates))) [
-      | inl is ↦ subst AreOnce (sym (ap (λ b. if b then t ∷ open_in fates ts else open_in fates ts) is)) (none, rest)
-      | inr not ↦ subst AreOnce (sym (ap (λ b. if b then t ∷ open_in fates ts else open_in fates ts) not)) rest
+pub open_once : (statuses : List (List CallStatus)) (ts : List Ticket) → AreOnce ts → AreOnce (open_in statuses ts)
+open_once statuses [] o = tt
+open_once statuses (t ∷ ts) o =
+    let none : has t (open_in statuses ts) ≡ false = has-open t statuses ts ∙ ap (λ b. is_open (status_of t statuses) && b) o.0 ∙ and_false (is_open (status_of t statuses)) in
+    let rest = open_once statuses ts o.1 in
+    elim (cases_Bool (is_open (status_of t statuses))) [
+      | inl is ↦ subst AreOnce (sym (ap (λ b. if b then t ∷ open_in statuses ts else open_in statuses ts) is)) (none, rest)
+      | inr not ↦ subst AreOnce (sym (ap (λ b. if b then t ∷ open_in statuses ts else open_in statuses ts) not)) rest
     ]
   where
     and_false : (b : Bool) → (b && false) ≡ false

@@ -48,7 +48,7 @@ shelf r = record { room = r.room; kept = r.kept }
 abbrev pub shelf_of : Limits → Shelf
 shelf_of limits = record { room = room_of limits; kept = limits.kept }
 
-pub record Mirrors (limits : Limits) (history : List Entry) (there : Shelf) (c : Condition) (frames : Option Stack) (log : Option Steps) (own : ℕ) (costs : List Costs) (ops : Ops) : Type 0 where
+pub record Refines (limits : Limits) (history : List Entry) (there : Shelf) (c : Condition) (frames : Option Stack) (log : Option Steps) (own : ℕ) (costs : List Costs) (ops : Ops) : Type 0 where
   pub legal : is_legal limits history ≡ true
   pub state : history_state limits history ≡ state_of c (frames_or frames (view limits history).frames) ops.waiting own costs
   pub frames_home : FramesAreHome limits c.mode frames

@@ -8,11 +8,11 @@ use Rattle.ti_types.specs.declared.event.Ticket.{Ticket}
 use Rattle.ti_types.specs.declared.answer.Answer.{Answer}
 use Rattle.ti_types.specs.declared.entry.Entry.{Entry}
 use Rattle.ti_types.specs.declared.entry.Entry.TheVariants.{Asked}
-pub use Rattle.ti_ops.specs.Fates.{is_at, is_awaited}
-use Rattle.ti_ops.specs.Fates.{fates_by, fate_of, open_by, answer_by, is_open}
+pub use Rattle.ti_ops.specs.Statuses.{is_at, is_awaited}
+use Rattle.ti_ops.specs.Statuses.{statuses_by, status_of, open_by, answer_by, is_open}
 use Rattle.ti_ops.specs.declared.pending.Pending.{Pending}
-use Rattle.ti_ops.specs.declared.fate.Fate.{Fate}
-use Rattle.ti_ops.specs.declared.fate.Fate.TheVariants.{Waiting}
+use Rattle.ti_ops.specs.declared.status.CallStatus.{CallStatus}
+use Rattle.ti_ops.specs.declared.status.CallStatus.TheVariants.{Waiting}
 use Rattle.ti_replay.specs.Legal.{asked_by}
 use Rattle.ti_replay.specs.Tickets.{reply_to}
 
@@ -53,33 +53,33 @@ abbrev pub asked_in : ThreadNo → List Entry → List Ticket
 asked_in number history = flat_map (ticket_in number) history
 
 -- the tickets whose call waits, or was answered later and not collected
-abbrev pub open_in : List (List Fate) → List Ticket → List Ticket
-open_in fates [] = []
-open_in fates (t ∷ tickets) = if is_open (fate_of t fates) then t ∷ open_in fates tickets else open_in fates tickets
+abbrev pub open_in : List (List CallStatus) → List Ticket → List Ticket
+open_in statuses [] = []
+open_in statuses (t ∷ tickets) = if is_open (status_of t statuses) then t ∷ open_in statuses tickets else open_in statuses tickets
 
 -- how many tickets are an environment's
 abbrev pub held_by : EnvNo → List Ticket → ℕ
 held_by env tickets = count_by (λ t. t.env.0 == env.0) tickets
 
 -- the calls that wait have no answer yet
-abbrev pub AreAwaited : List (List Fate) → List Pending → Type 0
-AreAwaited fates [] = Unit {0}
-AreAwaited fates (p ∷ waiting) = (fate_of p.ticket fates ≡ Waiting) × AreAwaited fates waiting
+abbrev pub AreAwaited : List (List CallStatus) → List Pending → Type 0
+AreAwaited statuses [] = Unit {0}
+AreAwaited statuses (p ∷ waiting) = (status_of p.ticket statuses ≡ Waiting) × AreAwaited statuses waiting
 
 -- no call waits twice
 abbrev pub AreApart : List Pending → Type 0
 AreApart [] = Unit {0}
 AreApart (p ∷ waiting) = (is_awaited p.ticket waiting ≡ false) × AreApart waiting
 
--- The fates of a history's calls. An answer that is kept is the reply, and a call that waits has no reply yet
-pub record Tells (limits : Limits) (number : ThreadNo) (history : List Entry) (waiting : List Pending) (fates : List (List Fate)) : Type 0 where
+-- The statuses of a history's calls. An answer that is kept is the reply, and a call that waits has no reply yet
+pub record Tells (limits : Limits) (number : ThreadNo) (history : List Entry) (waiting : List Pending) (statuses : List (List CallStatus)) : Type 0 where
   pub fresh : (t : Ticket) → asked_by t.env history ≤ t.no → reply_to limits history t ≡ None
-  pub envs : length fates ≡ limits.envs
-  pub lists : (env : EnvNo) → length (fates_by env fates) ≡ asked_by env history
-  pub quiet : (t : Ticket) → fate_of t fates ≡ Waiting → reply_to limits history t ≡ None
-  pub told : (t : Ticket) (a : Answer) → answer_by (fate_of t fates) ≡ Some a → reply_to limits history t ≡ Some a
-  pub awaited : AreAwaited fates waiting
+  pub envs : length statuses ≡ limits.envs
+  pub lists : (env : EnvNo) → length (statuses_by env statuses) ≡ asked_by env history
+  pub quiet : (t : Ticket) → status_of t statuses ≡ Waiting → reply_to limits history t ≡ None
+  pub told : (t : Ticket) (a : Answer) → answer_by (status_of t statuses) ≡ Some a → reply_to limits history t ≡ Some a
+  pub awaited : AreAwaited statuses waiting
   pub apart : AreApart waiting
   pub listed : (t : Ticket) → has t (asked_in number history) ≡ (t.thread.0 == number.0 && nat_lt t.no (asked_by t.env history))
   pub once : AreOnce (asked_in number history)
-  pub held : (env : EnvNo) → held_by env (open_in fates (asked_in number history)) ≡ open_by env fates
+  pub held : (env : EnvNo) → held_by env (open_in statuses (asked_in number history)) ≡ open_by env statuses

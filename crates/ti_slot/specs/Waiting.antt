@@ -11,9 +11,9 @@ use Rattle.ti_types.specs.declared.view.ThreadView.{ThreadView}
 use Rattle.ti_types.specs.Frames as buffer
 use Rattle.ti_types.specs.Answer.{said}
 use Rattle.ti_ops.specs.declared.pending.Pending.{Pending}
-use Rattle.ti_ops.specs.declared.fate.Fate.{Fate}
-use Rattle.ti_ops.specs.declared.fate.Fate.TheVariants as fate
-use Rattle.ti_ops.specs.Fates.{with_fate}
+use Rattle.ti_ops.specs.declared.status.CallStatus.{CallStatus}
+use Rattle.ti_ops.specs.declared.status.CallStatus.TheVariants as status
+use Rattle.ti_ops.specs.Statuses.{with_status}
 use Rattle.ti_replay.specs.Answers.{answer_of, or_zero}
 use Rattle.ti_replay.specs.View.{called}
 
@@ -50,16 +50,16 @@ answers_of v (p ∷ waiting) =
 abbrev pub calls_of : List Pending → List Call
 calls_of waiting = map (λ p. p.call) waiting
 
--- a fate whose answer is without the room of its buffer
-abbrev pub said_fate : Fate → Fate
-said_fate fate.Waiting = fate.Waiting
-said_fate (fate.Answered a) = fate.Answered (said a)
-said_fate fate.Gone = fate.Gone
+-- a status whose answer is without the room of its buffer
+abbrev pub said_status : CallStatus → CallStatus
+said_status status.Waiting = status.Waiting
+said_status (status.Answered a) = status.Answered (said a)
+said_status status.Gone = status.Gone
 
-abbrev pub said_in : List (List Fate) → List (List Fate)
-said_in fates = map (map said_fate) fates
+abbrev pub said_in : List (List CallStatus) → List (List CallStatus)
+said_in statuses = map (map said_status) statuses
 
--- the fates after answers to tickets
-abbrev pub delivered : List Saying → List (List Fate) → List (List Fate)
-delivered [] fates = fates
-delivered (s ∷ sayings) fates = delivered sayings (with_fate s.ticket (fate.Answered s.answer) fates)
+-- the statuses after answers to tickets
+abbrev pub delivered : List Saying → List (List CallStatus) → List (List CallStatus)
+delivered [] statuses = statuses
+delivered (s ∷ sayings) statuses = delivered sayings (with_status s.ticket (status.Answered s.answer) statuses)

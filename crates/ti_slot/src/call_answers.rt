@@ -130,12 +130,12 @@ pub fn serve(condition: &mut Condition, frames: &mut Frames, limits: &Limits, op
     requires ready { AreReady limits.now ops.old.waiting }
     requires depth { frames.old.depth ≡ limits.now.depth }
     requires calls { list_all waits_is (calls_of ops.old.waiting) ≡ true }
-    requires awaited { AreAwaited ops.old.fates ops.old.waiting }
+    requires awaited { AreAwaited ops.old.statuses ops.old.waiting }
     requires apart { AreApart ops.old.waiting }
     ensures view { view_of condition.new frames.new.frames ≡ fold after (view_of condition.old frames.old.frames) (entries_of ops.old.waiting) }
     ensures depth { frames.new.depth ≡ limits.now.depth }
     ensures waiting { ops.new.waiting ≡ [] }
-    ensures given { said_in ops.new.fates ≡ delivered (answers_of (view_of condition.old frames.old.frames) ops.old.waiting) (said_in ops.old.fates) }
+    ensures given { said_in ops.new.statuses ≡ delivered (answers_of (view_of condition.old frames.old.frames) ops.old.waiting) (said_in ops.old.statuses) }
     ensures window { ops.new.window ≡ ops.old.window }
 {
     while let Some(p) = ops.take_first() {

@@ -10,29 +10,29 @@ use Rattle.ti_cell.specs.View.{glanced}
 use Rattle.ti_handshake.specs.Thread.{Runner, frames_refusal, logged, refused_at, with_all, with_step, with_view}
 use Rattle.ti_thread.specs.declared.any_thread.AnyThread.{AnyThread}
 use Rattle.ti_thread.specs.declared.any_thread.AnyThread.TheVariants.{Fresh, Running, Safe, Ended}
-use Rattle.ti_thread.specs.declared.any_thread.Told.{Told}
-use Rattle.ti_thread.specs.declared.any_thread.Told.TheVariants.{Done, Held, Refused}
+use Rattle.ti_thread.specs.declared.any_thread.TurnOutcome.{TurnOutcome}
+use Rattle.ti_thread.specs.declared.any_thread.TurnOutcome.TheVariants.{Done, Held, Refused}
 use Rattle.ti_thread.specs.Turns.{IsUnfit}
 
 -- a running thread makes a step, or is refused and is as it was
-abbrev pub StepsFrom : Step → Runner → AnyThread → Told → Type 0
+abbrev pub StepsFrom : Step → Runner → AnyThread → TurnOutcome → Type 0
 StepsFrom step r new Done = (new ≡ Running (with_step r step)) × (refused_at r.view.subject.limits (logged r.view.seen r.steps) (Own step) ≡ None)
 StepsFrom step r new (Refused e) = (new ≡ Running r) × (refused_at r.view.subject.limits (logged r.view.seen r.steps) (Own step) ≡ Some e)
 StepsFrom step r new Held = ⊥
 
-abbrev pub Steps : Step → AnyThread → AnyThread → Told → Type 0
+abbrev pub Steps : Step → AnyThread → AnyThread → TurnOutcome → Type 0
 Steps step (Running r) new told = StepsFrom step r new told
 Steps step (Fresh s) new told = IsUnfit NotRunning (Fresh s) new told
 Steps step (Safe s) new told = IsUnfit NotRunning (Safe s) new told
 Steps step (Ended s) new told = IsUnfit NotRunning (Ended s) new told
 
 -- a running thread has these frames, or is refused and is as it was
-abbrev pub SetsFramesFrom : List Frame → Runner → AnyThread → Told → Type 0
+abbrev pub SetsFramesFrom : List Frame → Runner → AnyThread → TurnOutcome → Type 0
 SetsFramesFrom frames r new Done = (new ≡ Running (with_all r frames)) × (frames_refusal r.view.subject.limits (logged r.view.seen r.steps) (length frames) (steps_between r.frames frames) ≡ None)
 SetsFramesFrom frames r new (Refused e) = (new ≡ Running r) × (frames_refusal r.view.subject.limits (logged r.view.seen r.steps) (length frames) (steps_between r.frames frames) ≡ Some e)
 SetsFramesFrom frames r new Held = ⊥
 
-abbrev pub SetsFrames : List Frame → AnyThread → AnyThread → Told → Type 0
+abbrev pub SetsFrames : List Frame → AnyThread → AnyThread → TurnOutcome → Type 0
 SetsFrames frames (Running r) new told = SetsFramesFrom frames r new told
 SetsFrames frames (Fresh s) new told = IsUnfit NotRunning (Fresh s) new told
 SetsFrames frames (Safe s) new told = IsUnfit NotRunning (Safe s) new told

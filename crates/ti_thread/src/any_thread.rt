@@ -5,7 +5,7 @@ use ti_types::{ThreadNo, TiError};
 
 /// What a call of the thread's own comes to.
 #[derive(Clone, Copy, Debug, PartialEq, Eq)]
-pub enum Told {
+pub enum TurnOutcome {
     /// It has happened, and the thread is in the state that the call leads to.
     Done,
     /// The thread handed over at its poll, and is barred: it stays there until it returns by `back`.
@@ -20,17 +20,17 @@ pub enum Told {
 ///
 /// ```rattle
 /// # use ti_handshake::SharedCell;
-/// # use ti_thread::{AnyThread, Told};
+/// # use ti_thread::{AnyThread, TurnOutcome};
 /// # use ti_types::{Limits, ThreadNo, TiError};
 /// # let limits = Limits::new(1, 1, 4, 16, 8).ok_or("the limits are in range")?;
 /// # let (_cell, fresh, _desks) = SharedCell::make(rt.alloc(), limits, ThreadNo(0))?;
 /// let (thread, told) = AnyThread::Fresh(fresh).start();
-/// assert!(rt; told == Told::Done);
+/// assert!(rt; told == TurnOutcome::Done);
 /// // A thread that runs cannot return: it is not safe.
 /// let (thread, told) = thread.back();
-/// assert!(rt; told == Told::Refused(TiError::NotSafe));
+/// assert!(rt; told == TurnOutcome::Refused(TiError::NotSafe));
 /// let (_thread, told) = thread.end();
-/// assert!(rt; told == Told::Done);
+/// assert!(rt; told == TurnOutcome::Done);
 /// ```
 #[derive(Drop)]
 pub enum AnyThread {

@@ -1,6 +1,6 @@
 //! Calls that leave a running thread running. None holds its cell.
 
-use crate::any_thread::{AnyThread, Told};
+use crate::any_thread::{AnyThread, TurnOutcome};
 use ti_types::{Frame, Step, TiError};
 
 impl AnyThread {
@@ -14,16 +14,16 @@ impl AnyThread {
     /// - `NotJavaFrame` (203): the newest frame is moved on, and is native.
     /// - `OwnSpent` (208): nothing is left to spend.
     #[inline(always)]
-    pub fn step(&mut self, step: Step) -> Told
+    pub fn step(&mut self, step: Step) -> TurnOutcome
         ensures { Steps step self.old self.new result }
     {
         match self {
             AnyThread::Running(running) => match running.step(step) {
-                Ok(()) => Told::Done,
-                Err(error) => Told::Refused(error),
+                Ok(()) => TurnOutcome::Done,
+                Err(error) => TurnOutcome::Refused(error),
             },
             AnyThread::Fresh(_) | AnyThread::Safe(_) | AnyThread::Ended(_) => {
-                Told::Refused(TiError::NotRunning)
+                TurnOutcome::Refused(TiError::NotRunning)
             }
         }
     }
@@ -36,16 +36,16 @@ impl AnyThread {
     /// - `NotRunning` (204): the thread does not run.
     /// - `Overflow` (201): there are more frames than the depth limit.
     /// - `OwnSpent` (208): less is left to spend than there are steps.
-    pub fn set_frames(&mut self, frames: &[Frame]) -> Told
+    pub fn set_frames(&mut self, frames: &[Frame]) -> TurnOutcome
         ensures { SetsFrames frames.now self.old self.new result }
     {
         match self {
             AnyThread::Running(running) => match running.set_frames(frames) {
-                Ok(()) => Told::Done,
-                Err(error) => Told::Refused(error),
+                Ok(()) => TurnOutcome::Done,
+                Err(error) => TurnOutcome::Refused(error),
             },
             AnyThread::Fresh(_) | AnyThread::Safe(_) | AnyThread::Ended(_) => {
-                Told::Refused(TiError::NotRunning)
+                TurnOutcome::Refused(TiError::NotRunning)
             }
         }
     }

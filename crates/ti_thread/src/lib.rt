@@ -12,4 +12,4 @@ mod any_thread;
 mod changes;
 mod turns;
 
-pub use any_thread::{AnyThread, Told};
+pub use any_thread::{AnyThread, TurnOutcome};

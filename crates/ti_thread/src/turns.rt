@@ -1,6 +1,6 @@
 //! Calls that lead to another state. Each tries to hold the thread's cell just once.
 
-use crate::any_thread::{AnyThread, Told};
+use crate::any_thread::{AnyThread, TurnOutcome};
 use ti_handshake::Polled;
 use ti_types::{Kind, TiError};
 
@@ -12,13 +12,13 @@ impl AnyThread {
     /// - `NotNew` (210): it has started before.
     /// - `Busy` (215): its cell is in use.
     /// - `Barred` (206): a stop is in force.
-    pub fn start(self) -> (AnyThread, Told)
+    pub fn start(self) -> (AnyThread, TurnOutcome)
         ensures { Starts self result.0 result.1 }
     {
         match self {
-            AnyThread::Fresh(fresh) => match fresh.try_start_once() {
-                Ok(running) => (AnyThread::Running(running), Told::Done),
-                Err((error, fresh)) => (AnyThread::Fresh(fresh), Told::Refused(error)),
+            AnyThread::Fresh(fresh) => match fresh.start_now() {
+                Ok(running) => (AnyThread::Running(running), TurnOutcome::Done),
+                Err((error, fresh)) => (AnyThread::Fresh(fresh), TurnOutcome::Refused(error)),
             },
             AnyThread::Running(running) => not_new(AnyThread::Running(running)),
             AnyThread::Safe(safe) => not_new(AnyThread::Safe(safe)),
@@ -27,20 +27,23 @@ impl AnyThread {
     }
 
     /// Polls (JEP 312). If nobody calls for the thread, nothing happens. Otherwise it hands over, and the waiting calls take
-    /// place. `Told::Held` if it is barred after that.
+    /// place. `TurnOutcome::Held` if it is barred after that.
     ///
     /// Refused with the first of these that fits (this profile). Then nothing changes.
     ///
     /// - `NotRunning` (204): the thread does not run.
     /// - `Busy` (215): its cell is in use.
-    pub fn poll(self) -> (AnyThread, Told)
+    pub fn poll(self) -> (AnyThread, TurnOutcome)
         ensures { Polls self result.0 result.1 }
     {
         match self {
-            AnyThread::Running(running) => match running.try_poll() {
-                Ok(Polled::Go(running)) => (AnyThread::Running(running), Told::Done),
-                Ok(Polled::Held(safe)) => (AnyThread::Safe(safe), Told::Held),
-                Err(running) => (AnyThread::Running(running), Told::Refused(TiError::Busy)),
+            AnyThread::Running(running) => match running.poll_now() {
+                Ok(Polled::Go(running)) => (AnyThread::Running(running), TurnOutcome::Done),
+                Ok(Polled::Held(safe)) => (AnyThread::Safe(safe), TurnOutcome::Held),
+                Err(running) => (
+                    AnyThread::Running(running),
+                    TurnOutcome::Refused(TiError::Busy),
+                ),
             },
             AnyThread::Fresh(fresh) => not_running(AnyThread::Fresh(fresh)),
             AnyThread::Safe(safe) => not_running(AnyThread::Safe(safe)),
@@ -56,13 +59,13 @@ impl AnyThread {
     /// - `Busy` (215): its cell is in use.
     /// - `NoNativeFrame` (207): the newest frame is not native, or there is none.
     /// - `OwnSpent` (208): less than 2 is left to spend.
-    pub fn native(self) -> (AnyThread, Told)
+    pub fn native(self) -> (AnyThread, TurnOutcome)
         ensures { HandsOver IntoNative self result.0 result.1 }
     {
         match self {
-            AnyThread::Running(running) => match running.try_native() {
-                Ok(safe) => (AnyThread::Safe(safe), Told::Done),
-                Err((error, running)) => (AnyThread::Running(running), Told::Refused(error)),
+            AnyThread::Running(running) => match running.native_now() {
+                Ok(safe) => (AnyThread::Safe(safe), TurnOutcome::Done),
+                Err((error, running)) => (AnyThread::Running(running), TurnOutcome::Refused(error)),
             },
             AnyThread::Fresh(fresh) => not_running(AnyThread::Fresh(fresh)),
             AnyThread::Safe(safe) => not_running(AnyThread::Safe(safe)),
@@ -77,13 +80,13 @@ impl AnyThread {
     /// - `NotRunning` (204): the thread does not run.
     /// - `Busy` (215): its cell is in use.
     /// - `OwnSpent` (208): less than 2 is left to spend.
-    pub fn block(self, kind: Kind) -> (AnyThread, Told)
+    pub fn block(self, kind: Kind) -> (AnyThread, TurnOutcome)
         ensures { HandsOver (IntoBlocked kind) self result.0 result.1 }
     {
         match self {
-            AnyThread::Running(running) => match running.try_block(kind) {
-                Ok(safe) => (AnyThread::Safe(safe), Told::Done),
-                Err((error, running)) => (AnyThread::Running(running), Told::Refused(error)),
+            AnyThread::Running(running) => match running.block_now(kind) {
+                Ok(safe) => (AnyThread::Safe(safe), TurnOutcome::Done),
+                Err((error, running)) => (AnyThread::Running(running), TurnOutcome::Refused(error)),
             },
             AnyThread::Fresh(fresh) => not_running(AnyThread::Fresh(fresh)),
             AnyThread::Safe(safe) => not_running(AnyThread::Safe(safe)),
@@ -98,13 +101,13 @@ impl AnyThread {
     /// - `NotSafe` (205): the thread is not safe.
     /// - `Busy` (215): its cell is in use.
     /// - `Barred` (206): it is suspended, or a stop is in force.
-    pub fn back(self) -> (AnyThread, Told)
+    pub fn back(self) -> (AnyThread, TurnOutcome)
         ensures { Returns self result.0 result.1 }
     {
         match self {
-            AnyThread::Safe(safe) => match safe.try_back_once() {
-                Ok(running) => (AnyThread::Running(running), Told::Done),
-                Err((error, safe)) => (AnyThread::Safe(safe), Told::Refused(error)),
+            AnyThread::Safe(safe) => match safe.back_now() {
+                Ok(running) => (AnyThread::Running(running), TurnOutcome::Done),
+                Err((error, safe)) => (AnyThread::Safe(safe), TurnOutcome::Refused(error)),
             },
             AnyThread::Fresh(fresh) => not_safe(AnyThread::Fresh(fresh)),
             AnyThread::Running(running) => not_safe(AnyThread::Running(running)),
@@ -118,13 +121,16 @@ impl AnyThread {
     ///
     /// - `NotRunning` (204): the thread does not run.
     /// - `Busy` (215): its cell is in use.
-    pub fn end(self) -> (AnyThread, Told)
+    pub fn end(self) -> (AnyThread, TurnOutcome)
         ensures { Ends self result.0 result.1 }
     {
         match self {
-            AnyThread::Running(running) => match running.try_end() {
-                Ok(ended) => (AnyThread::Ended(ended), Told::Done),
-                Err(running) => (AnyThread::Running(running), Told::Refused(TiError::Busy)),
+            AnyThread::Running(running) => match running.end_now() {
+                Ok(ended) => (AnyThread::Ended(ended), TurnOutcome::Done),
+                Err(running) => (
+                    AnyThread::Running(running),
+                    TurnOutcome::Refused(TiError::Busy),
+                ),
             },
             AnyThread::Fresh(fresh) => not_running(AnyThread::Fresh(fresh)),
             AnyThread::Safe(safe) => not_running(AnyThread::Safe(safe)),
@@ -134,28 +140,28 @@ impl AnyThread {
 }
 
 /// The thread as it is: it has started before.
-fn not_new(thread: AnyThread) -> (AnyThread, Told)
+fn not_new(thread: AnyThread) -> (AnyThread, TurnOutcome)
     ensures { (result.0 ≡ thread) × (result.1 ≡ Refused NotNew) }
 {
-    (thread, Told::Refused(TiError::NotNew))
+    (thread, TurnOutcome::Refused(TiError::NotNew))
 }
 
 /// The thread as it is: it does not run.
-fn not_running(thread: AnyThread) -> (AnyThread, Told)
+fn not_running(thread: AnyThread) -> (AnyThread, TurnOutcome)
     ensures { (result.0 ≡ thread) × (result.1 ≡ Refused NotRunning) }
 {
-    (thread, Told::Refused(TiError::NotRunning))
+    (thread, TurnOutcome::Refused(TiError::NotRunning))
 }
 
 /// The thread as it is: it is not safe.
-fn not_safe(thread: AnyThread) -> (AnyThread, Told)
+fn not_safe(thread: AnyThread) -> (AnyThread, TurnOutcome)
     ensures { (result.0 ≡ thread) × (result.1 ≡ Refused NotSafe) }
 {
-    (thread, Told::Refused(TiError::NotSafe))
+    (thread, TurnOutcome::Refused(TiError::NotSafe))
 }
 
 ghost use Rattle.std.specs.Prelude.{◌≡◌};
 ghost use Rattle.ti_types.specs.declared.error.TiError.TheVariants.{NotNew, NotRunning, NotSafe};
 ghost use Rattle.ti_types.specs.declared.state.Safe.TheVariants.{Native as IntoNative, Blocked as IntoBlocked};
-ghost use Rattle.ti_thread.specs.declared.any_thread.Told.TheVariants.{Refused};
+ghost use Rattle.ti_thread.specs.declared.any_thread.TurnOutcome.TheVariants.{Refused};
 ghost use Rattle.ti_thread.specs.Turns.{Starts, Polls, HandsOver, Returns, Ends};

@@ -16,8 +16,8 @@ pub(crate) fn expect(holds: bool, what: &'static str) -> Result<(), Fail> {
 
 /// Adds a desk that has not been used, behind the others. It gives whether there was memory for it.
 pub(crate) fn add(env: &mut Env, desk: Desk) -> bool
-    ensures limits { env.new.state.limits ≡ env.old.state.limits }
-    ensures added { result ≡ true → env.new.desks ≡ env.old.desks ++ desk ∷ [] }
+    ensures limits { env.new.env.state.limits ≡ env.old.env.state.limits }
+    ensures added { result ≡ true → env.new.env.desks ≡ env.old.env.desks ++ desk ∷ [] }
 {
     let Ok(free) = FreeDesk::new(desk) else {
         return false;
@@ -27,8 +27,8 @@ pub(crate) fn add(env: &mut Env, desk: Desk) -> bool
 
 /// The environment of a desk. `None` if memory runs out.
 pub(crate) fn environment(alloc: Global, limits: Limits, desk: Desk) -> Option<Env>
-    ensures limits { IfSome result (λ e. e.state.limits ≡ limits) }
-    ensures desk { IfSome result (λ e. HasDeskAt desk.cell e) }
+    ensures limits { IfSome result (λ e. e.env.state.limits ≡ limits) }
+    ensures desk { IfSome result (λ e. HasDeskAt desk.cell e.env) }
 {
     let mut env = Env::with_no_desks(alloc, desk.env(), limits);
     if add(&mut env, desk) { Some(env) } else { None }
@@ -36,7 +36,7 @@ pub(crate) fn environment(alloc: Global, limits: Limits, desk: Desk) -> Option<E
 
 /// The seat of an environment at the one thread.
 pub(crate) fn seat_of(env: Env) -> Option<EnvSeat>
-    ensures seat { (cell : TableId) → HasDeskAt cell env → IfSome result (λ s. s.cell ≡ cell) }
+    ensures seat { (cell : TableId) → HasDeskAt cell env.env → IfSome result (λ s. s.cell ≡ cell) }
 {
     let mut desks = env.into_desks();
     let desk = desks.pop()?;

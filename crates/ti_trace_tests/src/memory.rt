@@ -16,7 +16,7 @@ const T: ThreadNo = ThreadNo(0);
 
 /// Traces all threads. It gives the environment's seat if memory ran out, and otherwise `None`.
 fn trace_all<R: Wait + AllocGlobal>(rt: &R, env: Env) -> Result<Option<EnvSeat>, Fail>
-    ensures seat { (cell : TableId) → HasDeskAt cell env → IfOk result (λ told. IfSome told (λ s. s.cell ≡ cell)) }
+    ensures seat { (cell : TableId) → HasDeskAt cell env.env → IfOk result (λ told. IfSome told (λ s. s.cell ≡ cell)) }
 {
     let mut env = env;
     let turn = Mutex::new(VmTurn::new());
@@ -37,7 +37,7 @@ fn trace_all<R: Wait + AllocGlobal>(rt: &R, env: Env) -> Result<Option<EnvSeat>,
 
 /// Traces the thread twice. It gives the environment's seat if memory ran out, and otherwise `None`.
 fn trace_twice<R: Wait + AllocGlobal>(rt: &R, env: Env) -> Result<Option<EnvSeat>, Fail>
-    ensures seat { (cell : TableId) → HasDeskAt cell env → IfOk result (λ told. IfSome told (λ s. s.cell ≡ cell)) }
+    ensures seat { (cell : TableId) → HasDeskAt cell env.env → IfOk result (λ told. IfSome told (λ s. s.cell ≡ cell)) }
 {
     let mut env = env;
     let turn = Mutex::new(VmTurn::new());

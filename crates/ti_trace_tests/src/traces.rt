@@ -87,14 +87,14 @@ fn a_thread_is_traced_as_often_as_it_is_named(rt: HostRuntime) -> Result<(), Fai
 
 /// The state of the one thread.
 fn state_of<R: Wait>(rt: &R, env: &mut Env) -> Result<u32, TiError>
-    ensures desk { (cell : TableId) → HasDeskAt cell env.old → HasDeskAt cell env.new }
+    ensures desk { (cell : TableId) → HasDeskAt cell env.old.env → HasDeskAt cell env.new.env }
 {
     env.get_thread_state(rt, ThreadNo(0))
 }
 
 /// With one call left at the thread, both traces are refused (209). Then its state is asked, which costs this call.
 fn ask_behind_traces<R: Wait + AllocGlobal>(rt: &R, env: Env) -> Result<EnvSeat, Fail>
-    ensures seat { (cell : TableId) → HasDeskAt cell env → IfOk result (λ s. s.cell ≡ cell) }
+    ensures seat { (cell : TableId) → HasDeskAt cell env.env → IfOk result (λ s. s.cell ≡ cell) }
 {
     let mut env = env;
     let turn = Mutex::new(VmTurn::new());

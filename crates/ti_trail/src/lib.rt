@@ -1,8 +1,8 @@
 //! Lists of what happened. Proofs read them, and they take memory only if they are to be read again.
 #![tactic(auto)]
 
+mod ghost_list;
 mod record;
-mod trail;
 
+pub use ghost_list::{GhostList, Reads};
 pub use record::{Record, Recording};
-pub use trail::{Reads, Trail};

@@ -1,6 +1,6 @@
 //! A list that is counted, and kept only if that was asked.
 
-use crate::trail::{Reads, Trail};
+use crate::ghost_list::{GhostList, Reads};
 use std::alloc::{AllocError, Global};
 use std::marker::Model;
 
@@ -30,7 +30,7 @@ impl Recording {
 /// are kept.
 #[derive(Drop)]
 pub struct Record<T> {
-    trail: Trail<T>,
+    ghost_list: GhostList<T>,
     len: u64,
     room: u64,
     kept: Option<Vec<T>>,
@@ -42,9 +42,9 @@ impl<T> Model for Record<T> {
 
     ghost Value = { Recorded T };
 
-    ghost view = { λ r. record { items = r.trail.items; room = r.room; kept = is_some r.kept } };
+    ghost view = { λ r. record { items = r.ghost_list.items; room = r.room; kept = is_some r.kept } };
 
-    ghost invariant = { λ r. (r.len ≡ length r.trail.items) × (r.len ≤ r.room) × IfSome r.kept (λ v. (v.items ≡ r.trail.items) × (r.room ≤ vec_capacity v)) };
+    ghost invariant = { λ r. (r.len ≡ length r.ghost_list.items) × (r.len ≤ r.room) × IfSome r.kept (λ v. (v.items ≡ r.ghost_list.items) × (r.room ≤ vec_capacity v)) };
 }
 
 impl<T> Record<T> {
@@ -62,7 +62,7 @@ impl<T> Record<T> {
             Recording::Counted => None,
         };
         Ok(Record {
-            trail: Trail::new(),
+            ghost_list: GhostList::new(),
             len: 0,
             room,
             kept,
@@ -102,7 +102,7 @@ impl<T> Record<T> {
         ensures items { IfSome result (λ v. v.items ≡ self.items) }
     {
         let Record {
-            trail: _,
+            ghost_list: _,
             len: _,
             room: _,
             kept,
@@ -118,7 +118,7 @@ impl<T: Drop> Record<T> {
         requires { length self.old.items < self.old.room }
         ensures { self.new ≡ with_items self.old (self.old.items ++ item ∷ []) }
     {
-        self.trail = self.trail.and(&item);
+        self.ghost_list = self.ghost_list.and(&item);
         self.len += 1;
         if let Some(items) = &mut self.kept {
             items.push_reserved(item);
@@ -131,7 +131,7 @@ impl<T: Drop> Record<T> {
         requires { length self.old.items + length more.now.items ≤ self.old.room }
         ensures { self.new ≡ joined self.old more.now.kept (self.old.items ++ map M.read more.now.items) }
     {
-        self.trail = self.trail.and_all::<S, M>(&more.trail);
+        self.ghost_list = self.ghost_list.and_all::<S, M>(&more.ghost_list);
         self.len += more.len;
         match (&mut self.kept, &more.kept) {
             (Some(items), Some(more)) => extend::<S, T, M>(items, more.as_slice()),
@@ -143,7 +143,7 @@ impl<T: Drop> Record<T> {
     pub fn clear(&mut self)
         ensures { self.new ≡ with_items self.old [] }
     {
-        self.trail = Trail::new();
+        self.ghost_list = GhostList::new();
         self.len = 0;
         if let Some(items) = &mut self.kept {
             items.clear();

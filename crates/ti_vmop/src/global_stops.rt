@@ -5,7 +5,7 @@ use std::marker::Model;
 use std::sync::Wait;
 use ti_env::EnvState;
 use ti_handshake::Desk;
-use ti_trail::Trail;
+use ti_trail::GhostList;
 use ti_types::{Answer, EnvNo, ThreadNo, TiError, TraceBuf};
 
 /// The turn to make a global operation, kept in a `Mutex`. Whoever has it makes one, and has it until the threads are let
@@ -27,7 +27,7 @@ pub struct Standing<'t, 'l> {
     pub(crate) env: EnvNo,
     pub(crate) threads: &'l [(ThreadNo, u64)],
     /// The desks at which they were stopped, for contracts alone.
-    pub(crate) desks: Trail<Desk>,
+    pub(crate) desks: GhostList<Desk>,
     pub(crate) reads: u64,
 }
 
@@ -117,11 +117,11 @@ fn await_each<R: Wait>(rt: &R, desks: &mut [Desk], threads: &[(ThreadNo, u64)])
 }
 
 /// The listed desks, in the order of the list. Only contracts read them.
-fn listed_desks(desks: &[Desk], threads: &[(ThreadNo, u64)]) -> Trail<Desk>
+fn listed_desks(desks: &[Desk], threads: &[(ThreadNo, u64)]) -> GhostList<Desk>
     requires there { AreThere (length desks.now) threads.now }
     ensures cells { map (λ p. Some p.cell) result.items ≡ cells_of threads.now desks.now }
 {
-    let mut listed = Trail::new();
+    let mut listed = GhostList::new();
     for i in 0..threads.len() {
         let (thread, _reads) = threads[i];
         listed = listed.and(&desks[thread.0 as usize]);

@@ -10,7 +10,7 @@
 //!   the desk sees begins with that prefix. After it there is no entry of the thread's own (`desks_stay`).
 //! - A read shows the mode of that prefix, and its frames after the pops since (`fronts_tell` of `ti_replay`).
 //! - Only `Standing::go` makes a `Round`, and a `Standing` has to be spent by it, at the cells where it was made.
-//! - `try_stop_one` and its like do one thing at one thread, and never wait. If the thread's cell is in use, nothing changes.
+//! - `stop_one_now` and its like do one thing at one thread, and never wait. If the thread's cell is in use, nothing changes.
 //! - No call takes memory.
 //!
 //! It does not promise that `stop_all` answers: it waits for each thread to hand over.
@@ -23,4 +23,4 @@ mod one_thread_tries;
 
 pub use global_stops::{Round, Standing, VmTurn, stop_all};
 pub use laws::desks_stay;
-pub use one_thread_tries::{try_go_again, try_go_one, try_read_one, try_see_one, try_stop_one};
+pub use one_thread_tries::{go_again_now, go_one_now, read_one_now, see_one_now, stop_one_now};

@@ -9,12 +9,12 @@ use ti_types::{Answer, TiError, TraceBuf};
 ///
 /// The error is `AlreadyStopped` (211) if one is, this environment's own too, or `Busy` (215) if the thread's cell is in use.
 /// Then nothing was added.
-pub fn try_stop_one(desk: &mut Desk) -> Result<(), TiError>
+pub fn stop_one_now(desk: &mut Desk) -> Result<(), TiError>
     requires calls { calls_spent desk.old.env desk.old.view.mine < desk.old.view.subject.limits.calls }
     ensures stopped { OnOk result (HasAdded desk.old desk.new (entry.Stop desk.old.env ∷ [])) }
     ensures barred { IfErr result (λ e. IsBusy desk.old desk.new e ⊎ ((e ≡ AlreadyStopped) × HasAdded desk.old desk.new [] × (stop_refusal desk.old desk.new ≡ Some AlreadyStopped))) }
 {
-    match desk.try_stop_once() {
+    match desk.stop_now() {
         Ok(Answer::Refused(error)) => Err(error),
         Ok(_) => Ok(()),
         Err(error) => Err(error),
@@ -24,11 +24,11 @@ pub fn try_stop_one(desk: &mut Desk) -> Result<(), TiError>
 /// Sees that a thread is standing for the desk's environment. Nothing is added.
 ///
 /// The error is `StillRunning` (213) if it is not, or `Busy` (215) if the thread's cell is in use.
-pub fn try_see_one(desk: &mut Desk) -> Result<(), TiError>
+pub fn see_one_now(desk: &mut Desk) -> Result<(), TiError>
     ensures stands { OnOk result (HasAdded desk.old desk.new [] × (is_standing desk.new.view.subject.limits desk.new.view.seen desk.new.env ≡ true)) }
     ensures runs { IfErr result (λ e. IsBusy desk.old desk.new e ⊎ ((e ≡ StillRunning) × HasAdded desk.old desk.new [] × (is_standing desk.new.view.subject.limits desk.new.view.seen desk.new.env ≡ false))) }
 {
-    match desk.try_standing() {
+    match desk.standing_now() {
         Ok(true) => Ok(()),
         Ok(false) => Err(TiError::StillRunning),
         Err(error) => Err(error),
@@ -36,7 +36,7 @@ pub fn try_see_one(desk: &mut Desk) -> Result<(), TiError>
 }
 
 /// Reads a thread that was seen standing, if its cell is free. The error is the buffer, as it was. Then nothing changed.
-pub fn try_read_one(desk: &mut Desk, max_count: i32, buf: TraceBuf) -> Result<Answer, TraceBuf>
+pub fn read_one_now(desk: &mut Desk, max_count: i32, buf: TraceBuf) -> Result<Answer, TraceBuf>
     requires count { is_not_negative max_count ≡ true }
     requires calls { calls_spent desk.old.env desk.old.view.mine < desk.old.view.subject.limits.calls }
     requires buf { HasRoomFor desk.old.view.subject.limits (or_zero_of max_count) buf }
@@ -46,29 +46,29 @@ pub fn try_read_one(desk: &mut Desk, max_count: i32, buf: TraceBuf) -> Result<An
     ensures busy { IfErr result (λ b. (b ≡ buf) × (desk.new ≡ desk.old)) }
 {
     desk.facts();
-    desk.try_read(max_count, buf)
+    desk.read_now(max_count, buf)
 }
 
 /// Lets a thread go that was seen standing. The error is `Busy` (215) if the thread's cell is in use. Then nothing changed.
-pub fn try_go_one(desk: &mut Desk) -> Result<(), TiError>
+pub fn go_one_now(desk: &mut Desk) -> Result<(), TiError>
     requires stands { is_standing desk.old.view.subject.limits desk.old.view.seen desk.old.env ≡ true }
     ensures gone { OnOk result (HasAdded desk.old desk.new (entry.Go desk.old.env ∷ [])) }
     ensures busy { IfErr result (λ e. IsBusy desk.old desk.new e) }
 {
     desk.facts();
-    let _answer = desk.try_go()?;
+    let _answer = desk.go_now()?;
     Ok(())
 }
 
 /// Lets a thread go at which this environment's stop is in force, whether it was seen standing or not. The error is `Busy`
 /// (215) if the thread's cell is in use. Then nothing changed.
-pub fn try_go_again(desk: &mut Desk) -> Result<(), TiError>
+pub fn go_again_now(desk: &mut Desk) -> Result<(), TiError>
     requires stopped { stops_by desk.old.env desk.old.view.mine ≡ true }
     ensures gone { OnOk result (HasAdded desk.old desk.new (entry.Go desk.old.env ∷ [])) }
     ensures busy { IfErr result (λ e. IsBusy desk.old desk.new e) }
 {
     desk.facts();
-    let _answer = desk.try_go()?;
+    let _answer = desk.go_now()?;
     Ok(())
 }
 

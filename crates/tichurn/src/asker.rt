@@ -6,7 +6,7 @@ use crate::shared::Shared;
 use crate::tally::Tally;
 use crate::visit::{find_zero, post, visit};
 use std::sync::Wait;
-use ti_service::{Agent, Service};
+use ti_service::{Agent, Service, ServiceCalls, ServiceTries};
 use ti_types::{Caps, ThreadNo};
 
 /// An environment suspends one in so many threads at each pass.

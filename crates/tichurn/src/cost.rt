@@ -9,7 +9,7 @@ use std::rt::Clock;
 use std::sync::{Mutex, Wait};
 use std::time::Instant;
 use ti_handshake::{AtSafe, Running};
-use ti_service::{Agent, Service};
+use ti_service::{Agent, Service, ServiceCalls};
 use ti_types::{Limits, ThreadNo, TiError};
 use ti_vmop::VmTurn;
 

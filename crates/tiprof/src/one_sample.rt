@@ -6,7 +6,7 @@ use std::alloc::Global;
 use std::rt::Clock;
 use std::sync::{Mutex, Wait};
 use std::time::Duration;
-use ti_service::Agent;
+use ti_service::{Agent, ServiceCalls, ServiceTries};
 use ti_slot::Asked;
 use ti_types::{Call, ThreadNo, TiError, Ticket};
 use ti_vmop::VmTurn;
@@ -44,7 +44,7 @@ impl Target {
     /// It waits for nobody. A thread that hands over may lose its processor just then, and others that want to run come first.
     fn sample(&mut self, alloc: Global, agent: &mut Agent, taken: &mut Taken) -> Option<()> {
         if let Some(Owed { ticket, samples }) = self.owed {
-            let tried = agent.try_collect_once(ticket);
+            let tried = agent.collect_now(ticket);
             agent.wake_sleepers_at(self.thread);
             let Ok(Some(answer)) = tried else {
                 let samples = samples.saturating_add(1);
@@ -88,7 +88,7 @@ fn ask(
         start: 0,
         max_count: FRAMES,
     };
-    let asked = agent.try_post(alloc, thread, call);
+    let asked = agent.post_now(alloc, thread, call);
     agent.wake_sleepers_at(thread);
     match asked {
         Ok(Asked::Answered(answer)) => {

@@ -1,7 +1,7 @@
 //! The service, threads and environments of one measurement.
 use std::sync::Wait;
 use ti_handshake::Fresh;
-use ti_service::{Agent, Service, ThreadInfo};
+use ti_service::{Agent, Service, ServiceCalls, ThreadInfo};
 use ti_types::Limits;
 
 /// How many threads there are.

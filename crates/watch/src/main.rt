@@ -15,7 +15,7 @@ use std::sync::Wait;
 use std::sync::atomic::{AtomicBool, Ordering};
 use std::thread::{Threads, join};
 use ti_handshake::{Ended, Polled, Running};
-use ti_service::{Agent, Service, ThreadInfo};
+use ti_service::{Agent, Service, ServiceCalls, ThreadInfo};
 use ti_types::{Caps, Limits, MethodNo, Step, ThreadNo};
 
 /// Computes until `over` is set, and polls at each turn. A poll is one load if nobody calls for the thread. If the thread is

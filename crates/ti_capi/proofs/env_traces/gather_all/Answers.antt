@@ -10,4 +10,4 @@ returns c =
     let r = c.gather_all_stack_traces.result in
     let there = sym c.take.ensures.value ∙ c.in-Some.is in
     subst (λ (z : ℤ). BeginsIn (BeginsAll z) (RefusesAll z) c.args.held.now c.put_begun.new.held c.put_begun.result) (to_z-of_z w32 c.args.max_count c.ranges.max_count)
-    (begun _ _ c.in-Some.agent c.take.new.self c.args.held.now c.put_begun.new.held c.put_begun.result r there c.take.ensures.after (both_ok _ _ r e.admitted e.begins) e.rest e.refused e.back c.put_begun.ensures)
+    (begun _ _ c.in-Some.agent c.take.new.self c.args.held.now c.put_begun.new.held c.put_begun.result r there c.take.ensures.after (both_ok _ _ r e.admitted e.begins) e.home e.refused e.back c.put_begun.ensures)

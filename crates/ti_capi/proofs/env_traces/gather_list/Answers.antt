@@ -10,4 +10,4 @@ returns c =
     let r = c.begin_list.result in
     let there = sym c.take.ensures.value ∙ c.in-Some.is in
     subst (λ (z : ℤ). BeginsIn (BeginsList (numbered c.args.numbers.now) z) (RefusesThreads (numbered c.args.numbers.now) z) c.args.held.now c.put_begun.new.held c.put_begun.result) (to_z-of_z w32 c.args.max_count c.ranges.max_count)
-    (begun _ _ c.in-Some.agent c.take.new.self c.args.held.now c.put_begun.new.held c.put_begun.result r there c.take.ensures.after e.begins e.rest e.refused e.back c.put_begun.ensures)
+    (begun _ _ c.in-Some.agent c.take.new.self c.args.held.now c.put_begun.new.held c.put_begun.result r there c.take.ensures.after e.begins e.home e.refused e.back c.put_begun.ensures)

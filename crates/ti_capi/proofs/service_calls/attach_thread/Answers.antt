@@ -14,7 +14,7 @@ returns-clause-attached c =
       name_is = c.in_ok-name.ensures.same;
       priority_is = to_z-of_z w32 c.args.priority c.ranges.priority;
       cell = c.in_ok-fresh.ensures.cell ∙ ap (λ (m : Member). m.cell) c.in_ok-share.ensures.made;
-      attaches = subst (λ (m : Member). Attaches m.view c.try_attach_thread.new.self.view given c.in_ok-fresh.fresh) c.in_ok-share.ensures.made c.in_ok-fresh.ensures.attached;
+      attaches = subst (λ (m : Member). Attaches m.view c.attach_thread_now.new.self.view given c.in_ok-fresh.fresh) c.in_ok-share.ensures.made c.in_ok-fresh.ensures.attached;
       thread_is = refl;
       service_is = ap (λ (h : HeldThread). h.service.cell) (c.deref_mut.ensures.value ∙ c.in-Ok.ensures.ok) ∙ c.in_ok-share.ensures.other.0;
     }

@@ -9,12 +9,12 @@ pub returns-in-Err : goal.returns-in-Err
 returns-in-Err c =
     let was : c.args.held.now.thread ≡ Some (Ended c.in-Some-Ended.ended) = sym c.take.ensures.value ∙ (c.in-Some-Ended.is ∙ ap (λ (t : AnyThread). Some t) c.in-Some-Ended.field-0-is) in
     let e = c.in-Err.ensures in
-    subst (λ (o : Option AnyThread). GivesBackTo o c.args.held.now (record { service = c.try_end_thread.new.self; thread = Some (Ended c.in-Err.ended); frames = c.args.held.now.frames }) c.number.result) (sym was)
+    subst (λ (o : Option AnyThread). GivesBackTo o c.args.held.now (record { service = c.end_thread_now.new.self; thread = Some (Ended c.in-Err.ended); frames = c.args.held.now.frames }) c.number.result) (sym was)
     (NotGone c.in-Err.error c.number.ensures refl (ap (λ (s : Sitting). Some (Ended s)) e.back) e.cell e.refused)
 
-pub returns-in-Err-try_withdraw_thread : goal.returns-in-Err-try_withdraw_thread
-returns-in-Err-try_withdraw_thread c =
+pub returns-in-Err-withdraw_thread_now : goal.returns-in-Err-withdraw_thread_now
+returns-in-Err-withdraw_thread_now c =
     let was : c.args.held.now.thread ≡ Some (Fresh c.in-Some-Fresh.fresh) = sym c.take.ensures.value ∙ (c.in-Some-Fresh.is ∙ ap (λ (t : AnyThread). Some t) c.in-Some-Fresh.field-0-is) in
-    let e = c.in-Err-try_withdraw_thread.ensures in
-    subst (λ (o : Option AnyThread). GivesBackTo o c.args.held.now (record { service = c.try_withdraw_thread.new.self; thread = Some (Fresh c.in-Err-try_withdraw_thread.fresh); frames = c.args.held.now.frames }) c.number-in-Err-try_withdraw_thread.result) (sym was)
-    (NotGone c.in-Err-try_withdraw_thread.error c.number-in-Err-try_withdraw_thread.ensures refl (ap (λ (s : Sitting). Some (Fresh s)) e.back) e.cell e.refused)
+    let e = c.in-Err-withdraw_thread_now.ensures in
+    subst (λ (o : Option AnyThread). GivesBackTo o c.args.held.now (record { service = c.withdraw_thread_now.new.self; thread = Some (Fresh c.in-Err-withdraw_thread_now.fresh); frames = c.args.held.now.frames }) c.number-in-Err-withdraw_thread_now.result) (sym was)
+    (NotGone c.in-Err-withdraw_thread_now.error c.number-in-Err-withdraw_thread_now.ensures refl (ap (λ (s : Sitting). Some (Fresh s)) e.back) e.cell e.refused)

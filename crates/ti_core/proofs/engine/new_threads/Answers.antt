@@ -1,6 +1,6 @@
 use Rattle.std.proofs.Common.{◌≡◌, ◌++◌, ◌∷◌, [], ap, sym, subst, ◌∙◌, ◌+◌}
 use Rattle.ti_core.specs.Thread.{ThreadState, new_state}
-use Rattle.ti_core.specs.Mirrors.{AreNew}
+use Rattle.ti_core.specs.Refines.{AreNew}
 use Rattle.ti_core.proofs.NewLaws.{one_more_new}
 use Rattle.ti_core.proofs.engine.new_threads.Goals as goal
 

@@ -1,4 +1,4 @@
-use Rattle.ti_core.specs.Mirrors.{AreNew}
+use Rattle.ti_core.specs.Refines.{AreNew}
 use Rattle.ti_core.proofs.engine.new_threads.Given as goal
 
 abbrev pub invariant-loop-number : goal.invariant-loop-number

@@ -5,7 +5,7 @@ use Rattle.std.specs.List.{list_all}
 use Rattle.ti_types.specs.declared.event.Outcome.{Outcome}
 use Rattle.ti_types.specs.declared.event.Ticket.{Ticket}
 use Rattle.ti_core.specs.Core.{is_uncollected}
-use Rattle.ti_core.specs.Mirrors.{Mirrors}
+use Rattle.ti_core.specs.Refines.{Refines}
 use Rattle.ti_core.specs.Runs.{IsFinished, is_posted, is_final}
 use Rattle.ti_core.proofs.TurnLaws.{first_turn, turn, last_turn}
 use Rattle.ti_core.proofs.outcomes.answer_all.Goals as goal
@@ -24,10 +24,10 @@ loop-place-preserved c = (
       let n = a.count in
       let lt : j < length os = omega (arith, n) in
       let is : get_or os j c.index-outcomes-place.result ≡ get_or os j None = get_or_default os j c.index-outcomes-place.result None lt in
-      let fin : IsFinished hs s (get_or os j None) o = subst (λ (x : Option Outcome). IsFinished hs s x o) is (c.finish.ensures.finished hs a.mirrors) in
+      let fin : IsFinished hs s (get_or os j None) o = subst (λ (x : Option Outcome). IsFinished hs s x o) is (c.finish.ensures.finished hs a.refines) in
       let others : (u : Ticket) → is_uncollected s u ≡ true → is_posted (get_or os j None) u ≡ false → is_uncollected c.finish.new.core u ≡ true =
       λ u p q. c.finish.ensures.kept u p (ap (λ (x : Option Outcome). is_posted x u) is ∙ q) in
-      let st : Mirrors hs c.finish.new.core = c.finish.ensures.mirrors hs a.mirrors in
+      let st : Refines hs c.finish.new.core = c.finish.ensures.refines hs a.refines in
       (turn c.args.core.now.limits hs c.args.outcomes.now j os s c.finish.new.core o a lt fin others st c.finish.ensures.limits)),
   let os = c.loop-place.outcomes in
       let j = c.loop-place.place in

@@ -6,7 +6,7 @@ use Rattle.std.proofs.lemmas.List.{append_assoc}
 use Rattle.std.proofs.lemmas.List.Elements.{All-head, All-tail}
 use Rattle.ti_cell.specs.Seats.{Sitting}
 use Rattle.ti_handshake.specs.Desk.{DeskState}
-use Rattle.ti_handshake.specs.NewDesks.{IsEnvSeat, desk_at}
+use Rattle.ti_handshake.specs.NewDesks.{IsSeatAt, desk_at}
 use Rattle.ti_handshake.proofs.shared_cell.desks_of.Goals as goal
 
 pub loop-seat-preserved : goal.loop-seat-preserved
@@ -15,8 +15,8 @@ loop-seat-preserved c =
     let seat : Sitting = c.in-Some.seat in
     let rest : List Sitting = into_iter_items c.next.new.self in
     let steps : into_iter_items at.seat-iterator ≡ seat ∷ rest = c.in-Some.ensures.steps.0 in
-    let all : All (λ (s : Sitting). IsEnvSeat c.args.cell.now (arc_value c.args.limits.now) s) (seat ∷ rest) = subst (λ (l : List Sitting). All (λ (s : Sitting). IsEnvSeat c.args.cell.now (arc_value c.args.limits.now) s) l) steps at.invariant.2 in
-    let mine : IsEnvSeat c.args.cell.now (arc_value c.args.limits.now) seat = All-head (λ (s : Sitting). IsEnvSeat c.args.cell.now (arc_value c.args.limits.now) s) seat rest all in
+    let all : All (IsSeatAt c.args.cell.now (arc_value c.args.limits.now)) (seat ∷ rest) = subst (λ (l : List Sitting). All (IsSeatAt c.args.cell.now (arc_value c.args.limits.now)) l) steps at.invariant.2 in
+    let mine : IsSeatAt c.args.cell.now (arc_value c.args.limits.now) seat = All-head (IsSeatAt c.args.cell.now (arc_value c.args.limits.now)) seat rest all in
     let desk : DeskState = c.at.result in
     let cell : desk.cell ≡ seat.cell = c.at.ensures.cell ∙ (c.in_ok-cell.ensures.cell ∙ sym mine.0) in
     let number : desk.env.0 ≡ seat.view.number - 1 = omega (arith, c.at.ensures.env) in
@@ -28,5 +28,5 @@ loop-seat-preserved c =
           ∙ (append_assoc at.desks.items (desk_at seat ∷ []) (map desk_at rest)
           ∙ (ap (λ (l : List Sitting). at.desks.items ++ map desk_at l) (sym steps) ∙ at.invariant.0)),
       omega (arith, at.invariant.1, count, longer, c.push_reserved.ensures.capacity),
-      All-tail (λ (s : Sitting). IsEnvSeat c.args.cell.now (arc_value c.args.limits.now) s) seat rest all,
+      All-tail (IsSeatAt c.args.cell.now (arc_value c.args.limits.now)) seat rest all,
     )

@@ -2,12 +2,11 @@ use Rattle.std.proofs.Common.{◌≡◌, ◌+◌, ◌≤◌, ◌++◌, length, m
 use Rattle.std.specs.Prelude.{All, vec_capacity}
 use Rattle.std.specs.Arc.{arc_value}
 use Rattle.std.specs.Vec.Iter.{into_iter_items}
-use Rattle.ti_cell.specs.Seats.{Sitting}
-use Rattle.ti_handshake.specs.NewDesks.{IsEnvSeat, desk_at}
+use Rattle.ti_handshake.specs.NewDesks.{IsSeatAt, desk_at}
 use Rattle.ti_handshake.proofs.shared_cell.desks_of.Given as goal
 
 abbrev pub invariant-loop-seat : goal.invariant-loop-seat
 invariant-loop-seat l =
     (l.desks.items ++ map desk_at (into_iter_items l.seat-iterator) ≡ map desk_at l.fn.seats.items)
     × (length l.desks.items + length (into_iter_items l.seat-iterator) ≤ vec_capacity l.desks)
-    × All (λ (s : Sitting). IsEnvSeat l.fn.cell (arc_value l.fn.limits) s) (into_iter_items l.seat-iterator)
+    × All (IsSeatAt l.fn.cell (arc_value l.fn.limits)) (into_iter_items l.seat-iterator)

@@ -14,7 +14,7 @@ loop-env-preserved g c =
     let one = c.in_ok-start_agent.field-0 in
     let more = ap length c.push_reserved.ensures.items in (
       omega (arith, at.invariant.0, short, more, length-append at.agents.items (one ∷ [])),
-      All-tail (λ e. cells_at e.desks ≡ c.args.cells.now) c.in-Some.env (into_iter_items c.next.new.self) (subst (All (λ e. cells_at e.desks ≡ c.args.cells.now)) steps at.invariant.1),
+      All-tail (λ e. cells_at e.env.desks ≡ c.args.cells.now) c.in-Some.env (into_iter_items c.next.new.self) (subst (All (λ e. cells_at e.env.desks ≡ c.args.cells.now)) steps at.invariant.1),
       (let all = All-append (λ h. h.promise.0.now ≡ c.args.cells.now) at.agents.items (one ∷ []) at.invariant.2 (All-cons (λ h. h.promise.0.now ≡ c.args.cells.now) one [] c.in_ok-start_agent.ensures (All-nil (λ h. h.promise.0.now ≡ c.args.cells.now))) in
           subst (All (λ h. h.promise.0.now ≡ c.args.cells.now)) (sym c.push_reserved.ensures.items) all),
       search rules,

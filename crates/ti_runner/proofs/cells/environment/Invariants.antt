@@ -5,4 +5,4 @@ use Rattle.ti_runner.proofs.cells.environment.Given as goal
 
 abbrev pub invariant-loop-thread : goal.invariant-loop-thread
 invariant-loop-thread l =
-    (l.environment.state.limits ≡ l.limits) × (cells_at l.environment.desks ≡ take l.thread l.cells) × AreHalf l.limits l.env.0 l.thread l.cells (map (λ v. v.items) l.desks)
+    (l.environment.env.state.limits ≡ l.limits) × (cells_at l.environment.env.desks ≡ take l.thread l.cells) × AreHalf l.limits l.env.0 l.thread l.cells (map (λ v. v.items) l.desks)

@@ -21,7 +21,7 @@ loop-i-preserved c =
       omega (arith, at.invariant.0, grown, length-append at.envs.items (env ∷ [])),
       search rules,
       subst (λ l. AreDesks c.args.limits (c.args.limits.envs - (at.i + 1)) cells (map (λ v. v.items) l)) (sym whole) (subst (λ n. AreDesks c.args.limits n cells (map (λ v. v.items) new)) fewer rest),
-      (let all = All-append (λ e. cells_at e.desks ≡ cells) at.envs.items (env ∷ []) at.invariant.3
-          (All-cons (λ e. cells_at e.desks ≡ cells) env [] c.in_ok-environment.ensures.here (All-nil (λ e. cells_at e.desks ≡ cells))) in
-          subst (All (λ e. cells_at e.desks ≡ cells)) (sym c.push_reserved.ensures.items) all),
+      (let all = All-append (λ e. cells_at e.env.desks ≡ cells) at.envs.items (env ∷ []) at.invariant.3
+          (All-cons (λ e. cells_at e.env.desks ≡ cells) env [] c.in_ok-environment.ensures.here (All-nil (λ e. cells_at e.env.desks ≡ cells))) in
+          subst (All (λ e. cells_at e.env.desks ≡ cells)) (sym c.push_reserved.ensures.items) all),
     )

@@ -11,11 +11,11 @@ abbrev pub invariant-loop-p : goal.invariant-loop-p
 invariant-loop-p l = record {
   ready : AreReady l.limits l.ops.waiting;
   calls : list_all waits (calls_of l.ops.waiting) ≡ true;
-  awaited : AreAwaited l.ops.fates l.ops.waiting;
+  awaited : AreAwaited l.ops.statuses l.ops.waiting;
   apart : AreApart l.ops.waiting;
   depth : l.frames.depth ≡ l.limits.depth;
   view : fold after (view_of l.condition l.frames.frames) (entries_of l.ops.waiting) ≡ fold after (view_of l.fn.condition l.fn.frames.frames) (entries_of l.fn.ops.waiting);
-  given : delivered (answers_of (view_of l.condition l.frames.frames) l.ops.waiting) (said_in l.ops.fates) ≡ delivered (answers_of (view_of l.fn.condition l.fn.frames.frames) l.fn.ops.waiting) (said_in l.fn.ops.fates);
+  given : delivered (answers_of (view_of l.condition l.frames.frames) l.ops.waiting) (said_in l.ops.statuses) ≡ delivered (answers_of (view_of l.fn.condition l.fn.frames.frames) l.fn.ops.waiting) (said_in l.fn.ops.statuses);
   window : l.ops.window ≡ l.fn.ops.window;
 }
 

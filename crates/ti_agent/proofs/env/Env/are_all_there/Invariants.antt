@@ -5,4 +5,4 @@ use Rattle.ti_agent.proofs.env.Env.are_all_there.Given as goal
 
 -- those so far
 abbrev pub invariant-loop-i : goal.invariant-loop-i
-invariant-loop-i l = are_there (length l.self.state.spent) (places_of l.self.desks (take l.i l.threads)) ≡ true
+invariant-loop-i g l = are_there (length l.self.env.state.spent) (places_of l.self.env.desks (take l.i l.threads)) ≡ true

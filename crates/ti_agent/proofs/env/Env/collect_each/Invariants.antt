@@ -7,6 +7,7 @@ abbrev pub invariant-loop-one : goal.invariant-loop-one
 invariant-loop-one g l = record {
   count : length l.codes.items ≡ l.one-index;
   room : length l.posted ≤ vec_capacity l.codes;
-  collects : CollectsEach l.fn.self l.self (take l.one-index l.posted) l.codes.items;
-  out : AreOpen l.self (drop l.one-index l.posted);
+  home : l.self.home ≡ l.fn.self.home;
+  collects : CollectsEach l.fn.self.env l.self.env (take l.one-index l.posted) l.codes.items;
+  out : AreOpen l.self.env (drop l.one-index l.posted);
 }

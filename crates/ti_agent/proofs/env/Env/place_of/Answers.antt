@@ -5,6 +5,7 @@ use Rattle.ti_types.specs.declared.numbers.ThreadNo.{ThreadNo}
 use Rattle.ti_handshake.specs.Desk.{DeskState}
 use Rattle.ti_agent.specs.Env.{Environment, AreInOrder, place_in, place_of, thread_at}
 use Rattle.ti_agent.proofs.Places.{name_of, place_here, place_none}
+use Rattle.ti_agent.proofs.AtHome.{same_env}
 use Rattle.ti_agent.proofs.env.Env.place_of.Goals as goal
 
 -- a place that was found, as an environment has it
@@ -35,26 +36,26 @@ from_on l n i order at j k h =
     ]
 
 pub returns-then-thread : goal.returns-then-thread
-returns-then-thread c =
+returns-then-thread g c =
     let l = c.self.inside.desks.items in
     let s : Environment = record { env = c.self.inside.env; state = c.self.inside.state; desks = l } in
-    let here : c.args.thread.0 < length l = omega (arith, c.if-thread-count.true, c.threads-count.ensures.counted, c.self.invariant.count) in
+    let here : c.args.thread.0 < length l = omega (arith, c.if-thread-count.true, c.threads-count.ensures.counted, c.self.invariant.0.count) in
     let name = name_of l c.args.thread.0 c.index.result.now c.thread.result here c.index.ensures c.thread.ensures in
     let is : (thread_at l c.args.thread.0).0 ≡ c.args.thread.0 = ap (λ (x : ThreadNo). x.0) name ∙ c.if-thread.true in
-    as_found s c.args.self.now c.args.thread c.args.thread.0 c.self.view_is (place_here l c.args.thread c.args.thread.0 c.self.invariant.in_order here is)
+    as_found s c.args.self.now.env c.args.thread c.args.thread.0 (same_env c.self.view_is) (place_here l c.args.thread c.args.thread.0 c.self.invariant.0.in_order here is)
 
 pub returns-then-number-thread : goal.returns-then-number-thread
-returns-then-number-thread c =
+returns-then-number-thread g c =
     let l = c.self.inside.desks.items in
     let s : Environment = record { env = c.self.inside.env; state = c.self.inside.state; desks = l } in
     let v = c.loop-low.invariant in
     let i : ℕ = c.loop-low.low + (c.loop-low.high - c.loop-low.low) / 2 in
     let here : i < length l = omega (arith, (middle c.loop-low.low c.loop-low.high c.loop-low-test.true).1, v.there) in
     let is : (thread_at l i).0 ≡ c.args.thread.0 = number l i c.index-in-loop-low.result.now c.thread-number.result here c.index-in-loop-low.ensures c.thread-number.ensures ∙ c.if-number-thread.true in
-    as_found s c.args.self.now c.args.thread i c.self.view_is (place_here l c.args.thread i c.self.invariant.in_order here is)
+    as_found s c.args.self.now.env c.args.thread i (same_env c.self.view_is) (place_here l c.args.thread i c.self.invariant.0.in_order here is)
 
 pub loop-low-preserved-then-number-thread-2 : goal.loop-low-preserved-then-number-thread-2
-loop-low-preserved-then-number-thread-2 c =
+loop-low-preserved-then-number-thread-2 g c =
     let l = c.self.inside.desks.items in
     let v = c.loop-low.invariant in
     let i : ℕ = c.loop-low.low + (c.loop-low.high - c.loop-low.low) / 2 in
@@ -65,12 +66,12 @@ loop-low-preserved-then-number-thread-2 c =
     record {
       order = omega (arith, between.1);
       there = v.there;
-      lower = λ j k. up_to l c.args.thread.0 i c.self.invariant.in_order here at j (omega (arith, k));
+      lower = λ j k. up_to l c.args.thread.0 i c.self.invariant.0.in_order here at j (omega (arith, k));
       higher = v.higher;
     }
 
 pub loop-low-preserved : goal.loop-low-preserved
-loop-low-preserved c =
+loop-low-preserved g c =
     let l = c.self.inside.desks.items in
     let v = c.loop-low.invariant in
     let i : ℕ = c.loop-low.low + (c.loop-low.high - c.loop-low.low) / 2 in
@@ -82,18 +83,18 @@ loop-low-preserved c =
       order = between.0;
       there = omega (arith, here);
       lower = v.lower;
-      higher = λ j k h. from_on l c.args.thread.0 i c.self.invariant.in_order at j k h;
+      higher = λ j k h. from_on l c.args.thread.0 i c.self.invariant.0.in_order at j k h;
     }
 
 pub returns : goal.returns
-returns c =
+returns g c =
     let l = c.self.inside.desks.items in
     let s : Environment = record { env = c.self.inside.env; state = c.self.inside.state; desks = l } in
-    let count : length l ≡ c.threads-count.result = sym c.self.invariant.count ∙ c.threads-count.ensures.counted in
+    let count : length l ≡ c.threads-count.result = sym c.self.invariant.0.count ∙ c.threads-count.ensures.counted in
     let v = c.loop-low.invariant in
     let none : (j : ℕ) → j < length l → (thread_at l j).0 ≢ c.args.thread.0 = λ j k e.
     elim (cases_lt j c.loop-low.low) [
       | inl before ↦ (let a = v.lower j before in omega (arith, a, e))
       | inr behind ↦ (let a = v.higher j (omega (arith, behind, c.loop-low-test.false)) k in omega (arith, a, e))
     ] in
-    as_found s c.args.self.now c.args.thread c.threads-count.result c.self.view_is (place_none l c.args.thread none ∙ count)
+    as_found s c.args.self.now.env c.args.thread c.threads-count.result (same_env c.self.view_is) (place_none l c.args.thread none ∙ count)

@@ -4,7 +4,7 @@ use Rattle.ti_agent.proofs.env.Env.place_of.Given as goal
 
 -- the numbers before `low` are lower, and those from `high` on are higher
 abbrev pub invariant-loop-low : goal.invariant-loop-low
-invariant-loop-low l = record {
+invariant-loop-low g l = record {
   order : l.low ≤ l.high;
   there : l.high ≤ length l.self-inside.desks.items;
   lower : (j : ℕ) → j < l.low → (thread_at l.self-inside.desks.items j).0 < l.thread.0;
@@ -12,4 +12,4 @@ invariant-loop-low l = record {
 }
 
 abbrev pub decreases-loop-low : goal.decreases-loop-low
-decreases-loop-low l = l.high - l.low
+decreases-loop-low g l = l.high - l.low

@@ -7,18 +7,18 @@ use Rattle.ti_agent.proofs.Listing.{once_all, there_each}
 use Rattle.ti_agent.proofs.env.Env.plan_all.Goals as goal
 
 pub plan-requires : goal.plan-requires
-plan-requires c =
-    let n = length c.args.self.now.state.spent in
+plan-requires g c =
+    let n = length c.args.self.now.env.state.spent in
     let count : c.in_ok-count.count ≡ n = c.in_ok-count.ensures.count in
     let threads : c.in_ok-places.places.items ≡ each_thread n = c.in_ok-places.ensures.all ∙ ap each_thread count in
     let stopping : c.in_ok-stopping.stopping.items ≡ all_once n = c.in_ok-stopping.ensures.all ∙ ap all_once count in
-    let paid : are_paid c.args.self.now.state (all_once n) ≡ true = search rules in
+    let paid : are_paid c.args.self.now.env.state (all_once n) ≡ true = search rules in
     let positive : is_not_negative (to_z w32 (of_z w32 c.args.max_count)) ≡ true = search rules in
     record {
       asked = record {
         stopping_is = stopping ∙ (sym (once_all n) ∙ ap (each_once n) (sym threads));
         there = subst (λ (l : List ThreadNo). are_there n l ≡ true) (sym threads) (there_each n);
-        paid = ap (are_paid c.args.self.now.state) stopping ∙ paid;
+        paid = ap (are_paid c.args.self.now.env.state) stopping ∙ paid;
         count = positive;
       };
     }

@@ -18,12 +18,13 @@ loop-thread-preserved g c =
     let more : take (i + 1) ts ≡ take i ts ++ t ∷ [] = (take_at_read ts i none within).1 in
     let items : c.push_reserved.new.self.items ≡ xs ++ x ∷ [] = c.push_reserved.ensures.items in
     let before = c.loop-thread.invariant in
-    let posts : PostsEach c.args.self.now c.post_at.new.self c.args.call (take i ts ++ t ∷ []) (xs ++ x ∷ []) =
-    posts_more c.args.self.now c.loop-thread.self c.post_at.new.self c.args.call (take i ts) xs t x before.posts c.post_at.ensures.posted in
-    let out : AreOpen c.post_at.new.self (xs ++ x ∷ []) = open_more c.loop-thread.self c.post_at.new.self c.args.call t x xs c.post_at.ensures.posted before.out in
+    let posts : PostsEach c.args.self.now.env c.post_at.new.self.env c.args.call (take i ts ++ t ∷ []) (xs ++ x ∷ []) =
+    posts_more c.args.self.now.env c.loop-thread.self.env c.post_at.new.self.env c.args.call (take i ts) xs t x before.posts c.post_at.ensures.posted in
+    let out : AreOpen c.post_at.new.self.env (xs ++ x ∷ []) = open_more c.loop-thread.self.env c.post_at.new.self.env c.args.call t x xs c.post_at.ensures.posted before.out in
     record {
       count = ap (λ v. length v) items ∙ length-append xs (x ∷ []) ∙ ap (λ n. n + 1) before.count;
       room = search rules;
-      posts = subst (λ (z : List ThreadNo × List Posted). PostsEach c.args.self.now c.post_at.new.self c.args.call z.0 z.1) (λ j. (sym more j, sym items j)) posts;
-      out = subst (AreOpen c.post_at.new.self) (sym items) out;
+      home = c.post_at.ensures.home ∙ before.home;
+      posts = subst (λ (z : List ThreadNo × List Posted). PostsEach c.args.self.now.env c.post_at.new.self.env c.args.call z.0 z.1) (λ j. (sym more j, sym items j)) posts;
+      out = subst (AreOpen c.post_at.new.self.env) (sym items) out;
     }

@@ -7,6 +7,7 @@ abbrev pub invariant-loop-thread : goal.invariant-loop-thread
 invariant-loop-thread g l = record {
   count : length l.posted.items ≡ l.thread-index;
   room : length l.threads ≤ vec_capacity l.posted;
-  posts : PostsEach l.fn.self l.self l.fn.call (take l.thread-index l.threads) l.posted.items;
-  out : AreOpen l.self l.posted.items;
+  home : l.self.home ≡ l.fn.self.home;
+  posts : PostsEach l.fn.self.env l.self.env l.fn.call (take l.thread-index l.threads) l.posted.items;
+  out : AreOpen l.self.env l.posted.items;
 }

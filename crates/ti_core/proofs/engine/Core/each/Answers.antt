@@ -23,7 +23,7 @@ loop-thread-preserved c =
     let f = c.step-outcome.ensures in
     let one : OneStep (at t) c.loop-thread.self c.step-outcome.new.self o =
     subst (λ (x : Event). OneStep x c.loop-thread.self c.step-outcome.new.self o) c.event.ensures
-    (record { limits = f.limits; mirrors = f.mirrors; said = λ events k. (f.outcome events k, f.ticket events k); fresh = f.fresh; kept = f.kept }) in
+    (record { limits = f.limits; refines = f.refines; said = λ events k. (f.outcome events k, f.ticket events k); fresh = f.fresh; kept = f.kept }) in
     let h = one_more at (take i ts) c.args.self.now c.loop-thread.self c.step-outcome.new.self os t o count c.loop-thread.invariant.happened one in
     record {
       count = ap (λ v. length v) items ∙ length-append os (o ∷ []) ∙ ap (λ n. n + 1) c.loop-thread.invariant.count;

@@ -3,7 +3,7 @@ use Rattle.ti_env.specs.Env.{EnvValue}
 use Rattle.ti_replay.specs.Outcomes.{told_now, happening}
 use Rattle.ti_core.specs.Thread.{ThreadState}
 use Rattle.ti_core.specs.Core.{CoreState, core_of, core_next}
-use Rattle.ti_core.specs.Mirrors.{Mirrors}
+use Rattle.ti_core.specs.Refines.{Refines}
 use Rattle.ti_core.proofs.NewLaws.{restored}
 use Rattle.ti_core.proofs.ToldLaws.{stands_on}
 use Rattle.ti_core.proofs.engine.Core.follow.Goals as goal
@@ -21,4 +21,4 @@ invariant_of-self c =
     ap (λ (z : CoreState). core_next z h) (sym same)
     ∙ ap₂ (λ (x : List EnvValue) (y : List ThreadState). core_of i.limits x y) (sym c.step.ensures.envs) (sym c.step.ensures.threads)
     ∙ ap₂ (λ (x : List EnvValue) (y : List ThreadState). core_of i.limits x y) (sym q1) (sym q2) in
-    (k.0 ++ h ∷ [], subst (Mirrors (k.0 ++ h ∷ [])) e (stands_on k.0 s h k.1))
+    (k.0 ++ h ∷ [], subst (Refines (k.0 ++ h ∷ [])) e (stands_on k.0 s h k.1))

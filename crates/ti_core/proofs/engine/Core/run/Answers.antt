@@ -7,7 +7,7 @@ use Rattle.ti_types.specs.declared.event.Event.TheVariants.{Start}
 use Rattle.ti_types.specs.declared.event.Outcome.{Outcome}
 use Rattle.ti_replay.specs.Admission.{Happening}
 use Rattle.ti_replay.specs.Outcomes.{happening, happenings, told_now, told_later, out_of, outs}
-use Rattle.ti_core.specs.Mirrors.{Mirrors}
+use Rattle.ti_core.specs.Refines.{Refines}
 use Rattle.ti_core.specs.Runs.{HasSeen, is_final}
 use Rattle.std.specs.List.{list_all}
 use Rattle.ti_core.proofs.NewLaws.{restored}
@@ -31,9 +31,9 @@ loop-event-preserved c =
     let k = c.loop-event.invariant.seen in
     let h : Happening = happening x (Some o) in
     let same : happening x (told_now o) ≡ h = told_happening x o in
-    let st = subst (λ (g : Happening). Mirrors (hs ++ g ∷ []) c.step-outcome.new.self) same (c.step-outcome.ensures.mirrors hs k.mirrors) in
-    let told = subst (λ (g : Happening). told_now o ≡ out_of s.limits (hs ++ g ∷ []) hs g) same (c.step-outcome.ensures.outcome hs k.mirrors) in
-    let on = seen_on hs os s c.step-outcome.new.self h o k st c.step-outcome.ensures.limits (told, c.step-outcome.ensures.ticket hs k.mirrors) c.step-outcome.ensures.kept c.step-outcome.ensures.fresh in
+    let st = subst (λ (g : Happening). Refines (hs ++ g ∷ []) c.step-outcome.new.self) same (c.step-outcome.ensures.refines hs k.refines) in
+    let told = subst (λ (g : Happening). told_now o ≡ out_of s.limits (hs ++ g ∷ []) hs g) same (c.step-outcome.ensures.outcome hs k.refines) in
+    let on = seen_on hs os s c.step-outcome.new.self h o k st c.step-outcome.ensures.limits (told, c.step-outcome.ensures.ticket hs k.refines) c.step-outcome.ensures.kept c.step-outcome.ensures.fresh in
     record {
       limits = c.step-outcome.ensures.limits ∙ c.loop-event.invariant.limits;
       count = ap (λ v. length v) items ∙ length-append os (Some o ∷ []) ∙ ap (λ n. n + 1) c.loop-event.invariant.count;

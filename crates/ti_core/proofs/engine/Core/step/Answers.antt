@@ -1,17 +1,17 @@
 use Rattle.std.proofs.Common.{◌++◌, ◌∷◌, ◌||◌, [], ap, sym, subst, ◌∙◌}
 use Rattle.ti_replay.specs.Outcomes.{told_now, happening, was_for_memory}
 use Rattle.ti_core.specs.Core.{CoreState, is_uncollected}
-use Rattle.ti_core.specs.Mirrors.{Mirrors}
+use Rattle.ti_core.specs.Refines.{Refines}
 use Rattle.ti_core.proofs.ToldLaws.{steps}
 use Rattle.ti_core.proofs.KeptLaws.{kept_goes, posted_is, ticket_fresh, ticket_as}
 use Rattle.ti_replay.specs.Refused.{is_refusal}
 use Rattle.ti_replay.proofs.RefusedLaws.{refusals_keep}
 use Rattle.ti_core.proofs.engine.Core.step.Goals as goal
 
-pub returns-clause-mirrors : goal.returns-clause-mirrors
-returns-clause-mirrors c = λ events k.
+pub returns-clause-refines : goal.returns-clause-refines
+returns-clause-refines c = λ events k.
     let h = happening c.args.event (told_now c.follow.result) in
-    subst (Mirrors (events ++ h ∷ [])) (sym c.follow.ensures.next) (steps events c.args.self.now h k).mirrors
+    subst (Refines (events ++ h ∷ [])) (sym c.follow.ensures.next) (steps events c.args.self.now h k).refines
 
 pub returns-clause-outcome : goal.returns-clause-outcome
 returns-clause-outcome c = λ events k.

@@ -1,12 +1,12 @@
 use Rattle.std.proofs.Common.{ap, sym, subst, ◌∙◌, is_some}
 use Rattle.ti_core.specs.Core.{CoreState, is_uncollected}
-use Rattle.ti_core.specs.Mirrors.{Mirrors}
+use Rattle.ti_core.specs.Refines.{Refines}
 use Rattle.ti_core.proofs.ToldLaws.{take_stands}
 use Rattle.ti_core.proofs.KeptLaws.{taken_is, taken_kept}
 use Rattle.ti_core.proofs.engine.Core.take.Goals as goal
 
-pub returns-clause-mirrors : goal.returns-clause-mirrors
-returns-clause-mirrors c = λ events k. subst (Mirrors events) (sym c.take_out.ensures.next) (take_stands events c.args.self.now c.args.ticket (is_some c.take_out.result) k)
+pub returns-clause-refines : goal.returns-clause-refines
+returns-clause-refines c = λ events k. subst (Refines events) (sym c.take_out.ensures.next) (take_stands events c.args.self.now c.args.ticket (is_some c.take_out.result) k)
 
 pub returns-clause-answer : goal.returns-clause-answer
 returns-clause-answer c = λ events k. c.take_out.ensures.answer ∙ taken_is events c.args.self.now c.args.ticket k

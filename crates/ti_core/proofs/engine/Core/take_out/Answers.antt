@@ -1,7 +1,7 @@
 use Rattle.std.proofs.Common.{ap, sym, subst, ◌∙◌, arith, List, is_some}
 use Rattle.ti_core.specs.Thread.{ThreadState}
 use Rattle.ti_core.specs.Core.{core_of, core_taken}
-use Rattle.ti_core.specs.Mirrors.{Mirrors}
+use Rattle.ti_core.specs.Refines.{Refines}
 use Rattle.ti_core.proofs.NewLaws.{restored}
 use Rattle.ti_core.proofs.ToldLaws.{take_stands}
 use Rattle.ti_core.proofs.engine.Core.take_out.Goals as goal
@@ -15,4 +15,4 @@ invariant_of-self c =
     let e =
     ap (λ (ts : List ThreadState). core_taken (core_of i.limits i.envs.items ts) c.args.ticket (is_some c.take_at.result)) (sym c.deref_mut.ensures.value)
     ∙ ap (λ (ts : List ThreadState). core_of i.limits i.envs.items ts) (sym c.take_at.ensures.next ∙ sym q) in
-    (k.0, subst (Mirrors k.0) e (take_stands k.0 s c.args.ticket (is_some c.take_at.result) k.1))
+    (k.0, subst (Refines k.0) e (take_stands k.0 s c.args.ticket (is_some c.take_at.result) k.1))

@@ -6,6 +6,6 @@ pub invariant_of-result : goal.invariant_of-result
 invariant_of-result c =
     kept_new c.args.window _ c.args.envs c.in_ok-counts.counts.items c.in_ok-kept.kept.items (c.in_ok-counts.ensures.items_if_clones_equal (λ y same. same)) c.in_ok-kept.ensures.items (omega (arith, c.in_ok-kept.ensures.capacity))
 
-pub returns-clause-fates : goal.returns-clause-fates
-returns-clause-fates c =
+pub returns-clause-statuses : goal.returns-clause-statuses
+returns-clause-statuses c =
     lists_new c.args.envs _ _ (c.in_ok-counts.ensures.items_if_clones_equal (λ y same. same)) c.in_ok-kept.ensures.items

@@ -1,6 +1,6 @@
 use Rattle.std.proofs.Common.{ℕ, take}
-use Rattle.ti_ops.specs.Fates.{IsFirstFrom, call_at}
-use Rattle.ti_ops.specs.Kept.{has}
+use Rattle.ti_ops.specs.Statuses.{IsFirstFrom, call_at}
+use Rattle.ti_ops.specs.OutboxEntry.{has}
 use Rattle.ti_ops.proofs.pending.PendingOps.next_out.Given as goal
 
 abbrev pub invariant-loop-at : goal.invariant-loop-at

@@ -1,5 +1,5 @@
 use Rattle.std.proofs.Common.{ap, ◌∙◌, arith}
-use Rattle.ti_ops.specs.declared.kept.Count.{Count}
+use Rattle.ti_ops.specs.declared.outbox_entry.Count.{Count}
 use Rattle.ti_ops.proofs.ViewLaws.{env_here, held_here, read_here}
 use Rattle.ti_ops.proofs.pending.PendingOps.out.Goals as goal
 

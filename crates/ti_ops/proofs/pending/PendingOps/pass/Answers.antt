@@ -1,9 +1,9 @@
 use Rattle.std.proofs.Common.{◌≡◌, ◌+◌, ap, ◌∙◌, arith, map, drop}
-use Rattle.ti_ops.specs.declared.fate.Fate.TheVariants as fate
-use Rattle.ti_ops.specs.declared.kept.Count.{Count}
-use Rattle.ti_ops.specs.Fates.{with_call}
-use Rattle.ti_ops.specs.Ops.{Ops, with_fates}
-use Rattle.ti_ops.specs.Kept.{count_of, pending_in}
+use Rattle.ti_ops.specs.declared.status.CallStatus.TheVariants as status
+use Rattle.ti_ops.specs.declared.outbox_entry.Count.{Count}
+use Rattle.ti_ops.specs.Statuses.{with_call}
+use Rattle.ti_ops.specs.Ops.{Ops, with_statuses}
+use Rattle.ti_ops.specs.OutboxEntry.{count_of, pending_in}
 use Rattle.ti_ops.proofs.StepLaws.{lists_passed, kept_passed}
 use Rattle.ti_ops.proofs.ViewLaws.{env_here, asked_here, read_here}
 use Rattle.ti_ops.proofs.pending.PendingOps.pass.Goals.{After-index_mut}
@@ -35,8 +35,8 @@ pub returns : goal.returns
 returns c =
     let i = c.self.inside in
     let e = is (goal.at.returns c).After-index_mut in
-    ap (λ fates. record { waiting = map pending_in (drop i.taken i.kept.items); fates = fates; window = i.window })
+    ap (λ statuses. record { waiting = map pending_in (drop i.taken i.kept.items); statuses = statuses; window = i.window })
     (lists_passed i.window i.taken _ i.counts.items i.kept.items c.args.env _ c.self.invariant
     (env_here _ i.window i.taken _ i.counts.items i.kept.items c.args.env c.self.view_is c.self.invariant c.requires.env)
     (ap (λ (d : Count). d.asked + 1) e) (ap (λ (d : Count). d.held) e))
-    ∙ ap (λ (o : Ops). with_fates o (with_call c.args.env fate.Gone o.fates)) c.self.view_is
+    ∙ ap (λ (o : Ops). with_statuses o (with_call c.args.env status.Gone o.statuses)) c.self.view_is

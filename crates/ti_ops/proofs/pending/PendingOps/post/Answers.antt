@@ -1,12 +1,12 @@
 use Rattle.std.proofs.Common.{◌≡◌, ◌<◌, ◌+◌, ◌++◌, ◌∷◌, [], map, drop, set, length, refl, ap, subst, sym, ◌∙◌, arith}
 use Rattle.std.specs.VecDeque.{deque_capacity}
 use Rattle.std.proofs.lemmas.List.{drop-append-le, map-append}
-use Rattle.ti_ops.specs.declared.kept.Count.{Count}
-use Rattle.ti_ops.specs.declared.kept.Kept.{Kept}
-use Rattle.ti_ops.specs.declared.kept.Stage.TheVariants.{Posted}
+use Rattle.ti_ops.specs.declared.outbox_entry.Count.{Count}
+use Rattle.ti_ops.specs.declared.outbox_entry.OutboxEntry.{OutboxEntry}
+use Rattle.ti_ops.specs.declared.outbox_entry.Stage.TheVariants.{Posted}
 use Rattle.ti_ops.specs.declared.pending.Pending.{Pending}
 use Rattle.ti_ops.specs.Ops.{Ops, with_posted}
-use Rattle.ti_ops.specs.Kept.{count_of, pending_in, lists_of, ops_in, IsKept}
+use Rattle.ti_ops.specs.OutboxEntry.{count_of, pending_in, lists_of, ops_in, IsKept}
 use Rattle.ti_ops.proofs.StepLaws.{lists_posted, kept_posted, room_left}
 use Rattle.ti_ops.proofs.ViewLaws.{env_here, asked_here, held_here, read_here}
 use Rattle.ti_ops.proofs.pending.PendingOps.post.Goals.{After-index_mut-count}
@@ -53,7 +53,7 @@ pub invariant_of-self : goal.invariant_of-self
 invariant_of-self c =
     let i = c.self.inside in
     let k = has (goal.at.invariant_of-self c).After-index_mut-count in
-    let j : Kept = record { ticket = c.args.ticket; stage = Posted c.args.call c.args.buf } in
+    let j : OutboxEntry = record { ticket = c.args.ticket; stage = Posted c.args.call c.args.buf } in
     let n : Count = record { asked = c.index_mut-count.result.now.asked + 1; held = c.index_mut-count.result.now.held + 1 } in
     subst (λ items. IsKept i.window i.taken (deque_capacity c.push_back_reserved.new.self) (set i.counts.items c.args.ticket.env.0 n) items) (sym c.push_back_reserved.ensures.items)
     (kept_posted i.window i.taken _ i.counts.items i.kept.items j n c.self.invariant k.here k.next (ap (λ (d : Count). d.asked + 1) k.count) refl
@@ -63,14 +63,14 @@ pub returns : goal.returns
 returns c =
     let i = c.self.inside in
     let k = has (goal.at.returns c).After-index_mut-count in
-    let j : Kept = record { ticket = c.args.ticket; stage = Posted c.args.call c.args.buf } in
+    let j : OutboxEntry = record { ticket = c.args.ticket; stage = Posted c.args.call c.args.buf } in
     let p : Pending = record { ticket = c.args.ticket; call = c.args.call; buf = c.args.buf } in
     let n : Count = record { asked = c.index_mut-count.result.now.asked + 1; held = c.index_mut-count.result.now.held + 1 } in
     let counts = set i.counts.items c.args.ticket.env.0 n in
     let waiting : map pending_in (drop i.taken (i.kept.items ++ j ∷ [])) ≡ map pending_in (drop i.taken i.kept.items) ++ p ∷ [] =
     ap (map pending_in) (drop-append-le i.taken i.kept.items (j ∷ []) c.self.invariant.taken) ∙ map-append pending_in (drop i.taken i.kept.items) (j ∷ []) in
     ap (ops_in i.window i.taken counts) c.push_back_reserved.ensures.items
-    ∙ ap (λ w. record { waiting = w; fates = lists_of counts (i.kept.items ++ j ∷ []); window = i.window }) waiting
-    ∙ ap (λ fates. record { waiting = map pending_in (drop i.taken i.kept.items) ++ p ∷ []; fates = fates; window = i.window })
+    ∙ ap (λ w. record { waiting = w; statuses = lists_of counts (i.kept.items ++ j ∷ []); window = i.window }) waiting
+    ∙ ap (λ statuses. record { waiting = map pending_in (drop i.taken i.kept.items) ++ p ∷ []; statuses = statuses; window = i.window })
     (lists_posted i.window i.taken _ i.counts.items i.kept.items j n c.self.invariant k.here k.next (ap (λ (d : Count). d.asked + 1) k.count) refl)
     ∙ ap (λ (o : Ops). with_posted o p) c.self.view_is

@@ -7,7 +7,7 @@ use Rattle.ti_slot.proofs.slot.Slot.ask.Goals as goal
 pub asked-no-requires : goal.asked-no-requires
 asked-no-requires c = omega (arith, lists_here c.self.inside c.self.invariant, (may_call c.self.inside _ c.args.env c.self.view_is c.requires.env c.requires.calls).0)
 
--- the call may be asked, with the number of fates that are there
+-- the call may be asked, with the number of statuses that are there
 asks : (c : After-asked-no) → Asks c.self.inside c.args.env c.asked-no.result c.args.call
 asks c = asks_here c.self.inside _ c.args.env c.asked-no.result c.args.call c.self.invariant c.self.view_is c.requires.env c.requires.calls c.requires.well_formed c.requires.room c.asked-no.ensures
 

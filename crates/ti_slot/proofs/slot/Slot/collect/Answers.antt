@@ -11,8 +11,8 @@ use Rattle.ti_slot.proofs.slot.Slot.collect.Goals as goal
 pub invariant_of-self : goal.invariant_of-self
 invariant_of-self c =
     let i = c.self.inside in (
-      less_stands i c.collect.new.self _ c.self.invariant.0 c.collect.ensures.fates,
-      less_after i c.args.ticket c.collect.new.self c.collect.result c.self.invariant c.collect.ensures.answer c.collect.ensures.fates,
+      less_stands i c.collect.new.self _ c.self.invariant.0 c.collect.ensures.statuses,
+      less_after i c.args.ticket c.collect.new.self c.collect.result c.self.invariant c.collect.ensures.answer c.collect.ensures.statuses,
     )
 
 pub returns-clause-answer : goal.returns-clause-answer
@@ -26,7 +26,7 @@ returns-clause-thread c =
     let i = c.self.inside in
     let t = c.args.ticket in
     let r = c.collect.result in
-    ap (λ ts. with_tickets (thread_in i) ts) (less_open i t c.collect.new.self r c.self.invariant (omega arith) c.collect.ensures.answer c.collect.ensures.fates)
+    ap (λ ts. with_tickets (thread_in i) ts) (less_open i t c.collect.new.self r c.self.invariant (omega arith) c.collect.ensures.answer c.collect.ensures.statuses)
     ∙ ap (λ (z : Thread). with_tickets z (if is_some r then without_ticket t z.uncollected else z.uncollected)) c.self.view_is
 
 pub returns-then-ticket-self-clause-answer : goal.returns-then-ticket-self-clause-answer

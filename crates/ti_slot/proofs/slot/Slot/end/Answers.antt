@@ -51,4 +51,4 @@ returns-clause-thread c =
     served_thread c.self.inside _ c.args.log.now.steps End _ c.push.new.history.items c.serve.new.ops c.self.invariant c.self.view_is refl (pushed (goal.at.returns-clause-thread c).After-push) c.serve.ensures.given
 
 pub serve-requires-clause-awaited : goal.serve-requires-clause-awaited
-serve-requires-clause-awaited c = awaited_here c.self.inside.ops.fates c.self.inside.ops.waiting c.self.invariant.1.awaited
+serve-requires-clause-awaited c = awaited_here c.self.inside.ops.statuses c.self.inside.ops.waiting c.self.invariant.1.awaited

@@ -15,5 +15,5 @@ invariant_of-result c =
       new_stands limits h.items _ c.in_ok-words.words c.in_ok-frames.frames c.in_ok-log.log ops c.in_ok-history.ensures.items
           (λ i. record { room = room i; kept = kept i }) c.in_ok-words.ensures c.in_ok-frames.ensures.frames c.in_ok-frames.ensures.depth c.in_ok-log.ensures.steps c.in_ok-log.ensures.room (c.in_ok-log.ensures.kept ∙ c.of-recording.ensures)
           o.waiting o.window,
-      rw (c.in_ok-history.ensures.items, o.waiting, o.fates) (tells_nothing limits c.args.number),
+      rw (c.in_ok-history.ensures.items, o.waiting, o.statuses) (tells_nothing limits c.args.number),
     )

@@ -1,0 +1,282 @@
+//! What an agent does at its service.
+
+use crate::agent::Agent;
+use crate::agent_desks::{add_waiting, last_thread};
+use crate::membership::Membership;
+use crate::service::Service;
+use std::alloc::Global;
+use std::rt::Clock;
+use std::sync::Wait;
+use std::time::{Duration, Instant};
+use ti_agent::Env;
+use ti_roster::{NextEvent, ThreadInfo};
+use ti_types::{ThreadNo, TiError};
+
+/// What an agent does at its service. The calls may wait for the roster and for the threads' cells, and wake others.
+pub trait ServiceCalls {
+    /// Wakes whoever sleeps because the roster was in use, or until somebody comes or goes. A program in which others sleep
+    /// calls it after calls that never wait, which wake nobody. It is one load if nobody sleeps.
+    fn wake_sleepers(&self);
+
+    /// Meets the threads that came since the agent last met them, and are there: from now on the environment has a desk at
+    /// each. Its calls at a number that was a thread, and has no desk, are answered 15 from now on.
+    ///
+    /// The error is the first of these that fits:
+    ///
+    /// - 103 ILLEGAL_ARGUMENT: a desk's number is not above those before it. The service gives no such desk. But its list
+    ///   does not say so yet, so the contract allows it.
+    /// - 216 `Full` (this profile): the environment has a desk at 65,536 threads, or there were 2^62 - 1 comings and goings in
+    ///   all.
+    /// - 110 OUT_OF_MEMORY: there is no memory for the desks.
+    ///
+    /// Then no desk is lost: those that could not be added are added by the next meeting.
+    fn meet<R: Wait>(&mut self, rt: &R, alloc: Global) -> Result<(), TiError>;
+
+    /// GetAllThreads (JVM TI 11), as a service's handle gives it.
+    fn get_all_threads<R: Wait>(&mut self, rt: &R, alloc: Global) -> Result<Vec<ThreadNo>, TiError>;
+
+    /// GetThreadInfo (JVM TI 11), as a service's handle gives it.
+    fn get_thread_info<R: Wait>(
+        &mut self,
+        rt: &R,
+        alloc: Global,
+        thread: ThreadNo,
+    ) -> Result<ThreadInfo, TiError>;
+
+    /// Lets go of a thread that was given back, so that its memory can be freed (this profile). From then on the agent has no
+    /// desk there. A call at this number is answered 15 THREAD_NOT_ALIVE, as before.
+    ///
+    /// `false` if it does not: a thread of this number is there, the agent has no desk there, or a call of the agent's is
+    /// out there. Then nothing changes but what the handle has seen.
+    fn let_go<R: Wait>(&mut self, rt: &R, thread: ThreadNo) -> bool;
+
+    /// Lets go of all threads that were given back, as `let_go` does of one (this profile).
+    fn let_go_of_all<R: Wait>(&mut self, rt: &R);
+
+    /// SetEventNotificationMode (JVM TI 11), for ThreadStart and ThreadEnd of all threads at once. It has no error.
+    ///
+    /// From when they are enabled, the agent can be told of each event by `next_event`. What happened before is not told. To
+    /// enable what is enabled changes nothing. What was not told is never told once they are disabled.
+    fn set_event_notification_mode<R: Wait>(&mut self, rt: &R, enabled: bool);
+
+    /// The next ThreadStart or ThreadEnd (JVM TI 11), by one hold of the roster. It is the first one that happened since events
+    /// were enabled, or since the last one that was told. All agents are told the events in one order: that in which they
+    /// happened.
+    ///
+    /// The last 4,096 events are kept. If more have happened since, the earliest of them are lost, and `lost` counts them
+    /// (this profile). `None` if nothing has happened yet, or if events are disabled.
+    ///
+    /// # Examples
+    ///
+    /// ```rattle
+    /// # use ti_service::{LifeKind, Service, ServiceCalls, ThreadInfo};
+    /// # use ti_types::{Limits, ThreadNo};
+    /// # let alloc = rt.alloc();
+    /// # let limits = Limits::new(1, 1, 4, 16, 8).ok_or("the limits are in range")?;
+    /// let mut service = Service::make(alloc, limits)?;
+    /// let mut agent = service.attach_environment(&rt, alloc)?;
+    /// agent.set_event_notification_mode(&rt, true);
+    /// let name = String::from_str(alloc, "main")?;
+    /// let fresh = service.attach_thread(&rt, alloc, ThreadInfo { name, priority: 5 })?;
+    /// let Some(next) = agent.next_event(&rt) else {
+    ///     return Err("a thread came".into());
+    /// };
+    /// assert!(rt; next.event.kind == LifeKind::ThreadStart && next.event.thread == ThreadNo(0));
+    /// assert!(rt; next.lost == 0 && agent.next_event(&rt).is_none());
+    /// let Ok(()) = service.withdraw_thread(&rt, fresh) else {
+    ///     return Err("it is there".into());
+    /// };
+    /// let Some(next) = agent.next_event(&rt) else {
+    ///     return Err("it was given back".into());
+    /// };
+    /// assert!(rt; next.event.kind == LifeKind::ThreadEnd);
+    /// ```
+    fn next_event<R: Wait>(&mut self, rt: &R) -> Option<NextEvent>;
+
+    /// The same, but it waits for an event for at most this time (this profile). It sleeps between its holds. `None` when the
+    /// time is over, if the clock can't be read, or if events are disabled.
+    fn next_event_within<R: Wait + Clock>(&mut self, rt: &R, time: Duration) -> Option<NextEvent>;
+
+    /// DisposeEnvironment (JVM TI 11): the agent leaves the service, and its place is free for another. At each thread its
+    /// word is 0 again, and its calls that were posted and not collected are given up. They still take place: a thread that is
+    /// to be suspended, or was, stays suspended. It has no stop to let go: whoever holds one borrows the environment.
+    ///
+    /// What is left is a handle, which is no environment's. The next environment at this place is at each thread that is
+    /// there, and finds nothing of what this one did but at the threads themselves: what it suspended and popped.
+    ///
+    /// The error is 110 OUT_OF_MEMORY if there is no memory to give calls up, or 216 `Full` if there were 2^62 - 1 comings and
+    /// goings in all, or there would be with the desks (this profile). Then the agent comes back. It may have left some of its threads already, and can only be disposed of.
+    fn dispose<R: Wait>(self, rt: &R, alloc: Global) -> Result<Service, (TiError, Agent)>;
+}
+
+/// Clears the environment's desks: its calls are given up, and its words are 0. They wait from then on, behind those that
+/// waited.
+///
+/// 110 OUT_OF_MEMORY if there is no memory for that. Then some of them are cleared, and the others are as they were.
+fn clear<R: Wait>(agent: &mut Agent, rt: &R, alloc: Global) -> Result<(), TiError>
+    ensures service { agent.new.home.service ≡ agent.old.home.service }
+    ensures events { agent.new.home.events ≡ agent.old.home.events }
+    ensures cleared { Clears (state_of agent.old) (state_of agent.new) }
+    ensures done { OnOk result (agent.new.env.desks ≡ []) }
+    ensures memory { IfErr result (λ e. e ≡ OutOfMemory) }
+{
+    while let Some(thread) = last_thread(agent) {
+        agent.home.waiting.reserve(1)?;
+        let Some(desk) = agent.clear_desk(rt, alloc, thread)? else {
+            unreachable!()
+        };
+        agent.home.waiting.push_reserved(desk);
+    }
+    Ok(())
+}
+
+/// How much time is left of this time since then. `None` if it is over, or the clock can't be read.
+fn time_left<R: Clock>(rt: &R, began: Option<Instant>, time: Duration) -> Option<Duration> {
+    let spent = began?.elapsed(rt).ok()?;
+    time.checked_sub(spent)
+}
+
+impl ServiceCalls for Env<Membership> {
+    fn wake_sleepers(&self) {
+        self.home.service.wake_sleepers();
+    }
+
+    fn meet<R: Wait>(&mut self, rt: &R, alloc: Global) -> Result<(), TiError>
+        ensures met { OnOk result (Meets (state_of self.old) (state_of self.new)) }
+        ensures kept { IfErr result (λ e. Keeps (state_of self.old) (state_of self.new) e) }
+        ensures events { self.new.home.events ≡ self.old.home.events }
+    {
+        add_waiting(self)?;
+        let (desks, next) = self.home.service.meet(rt, alloc)?;
+        self.home.waiting = desks;
+        self.home.waiting.reverse();
+        add_waiting(self)?;
+        self.know_threads(u64::from(next));
+        Ok(())
+    }
+
+    fn get_all_threads<R: Wait>(&mut self, rt: &R, alloc: Global) -> Result<Vec<ThreadNo>, TiError>
+        ensures rest { IsSameBut (state_of self.old) (state_of self.new) }
+        ensures hold { Looks self.old.home.service.view self.new.home.service.view }
+        ensures threads { IfOk result (λ t. t.items ≡ map (λ n. n.thread) (live self.new.home.service.view.seen)) }
+        ensures memory { IfErr result (λ e. e ≡ OutOfMemory) }
+    {
+        self.home.service.get_all_threads(rt, alloc)
+    }
+
+    fn get_thread_info<R: Wait>(
+        &mut self,
+        rt: &R,
+        alloc: Global,
+        thread: ThreadNo,
+    ) -> Result<ThreadInfo, TiError>
+        ensures rest { IsSameBut (state_of self.old) (state_of self.new) }
+        ensures hold { Looks self.old.home.service.view self.new.home.service.view }
+        ensures told { IfOk result (λ i. IsToldOf (roster_seen self.new.home.service.view) thread i) }
+        ensures refused { IfErr result (λ e. e ≡ info_refusal (roster_seen self.new.home.service.view) thread) }
+    {
+        self.home.service.get_thread_info(rt, alloc, thread)
+    }
+
+    fn let_go<R: Wait>(&mut self, rt: &R, thread: ThreadNo) -> bool
+        ensures steps { LetsGo (state_of self.old) (state_of self.new) thread result }
+    {
+        if self.out_at(thread) > 0 || self.home.service.is_live(rt, thread) {
+            return false;
+        }
+        self.take_desk(thread).is_some()
+    }
+
+    fn let_go_of_all<R: Wait>(&mut self, rt: &R)
+        ensures steps { LetsGoBelow (length self.old.env.desks) (state_of self.old) (state_of self.new) }
+    {
+        let mut index = self.desk_count();
+        while index > 0 {
+            index -= 1;
+            let Some(thread) = self.thread_at(index) else {
+                unreachable!()
+            };
+            let _gone = self.let_go(rt, thread);
+        }
+    }
+
+    fn set_event_notification_mode<R: Wait>(&mut self, rt: &R, enabled: bool)
+        ensures disables { enabled ≡ false → state_of self.new ≡ with_events (state_of self.old) None }
+        ensures stays { enabled ≡ true → is_some self.old.home.events ≡ true → self.new ≡ self.old }
+        ensures enables { enabled ≡ true → self.old.home.events ≡ None → Enables (state_of self.old) (state_of self.new) }
+    {
+        if !enabled {
+            self.home.events = None;
+        } else if self.home.events.is_none() {
+            self.home.events = Some(self.home.service.event_count(rt));
+        }
+    }
+
+    fn next_event<R: Wait>(&mut self, rt: &R) -> Option<NextEvent>
+        ensures tells { TellsNext (state_of self.old) (state_of self.new) result }
+    {
+        let from = self.home.events?;
+        let next = self.home.service.next_event(rt, from);
+        if let Some(told) = &next {
+            self.home.events = Some(from + told.lost + 1);
+        }
+        next
+    }
+
+    fn next_event_within<R: Wait + Clock>(&mut self, rt: &R, time: Duration) -> Option<NextEvent>
+        ensures tells { TellsInTime (state_of self.old) (state_of self.new) result }
+    {
+        let began = Instant::now(rt).ok();
+        for _ in rt.forever() {
+            let next = self.next_event(rt);
+            if next.is_some() || self.home.events.is_none() {
+                return next;
+            }
+            match time_left(rt, began, time) {
+                Some(left) => self.home.service.sleep_without_news_for(rt, left),
+                None => return next,
+            }
+        }
+        unreachable!()
+    }
+
+    fn dispose<R: Wait>(mut self, rt: &R, alloc: Global) -> Result<Service, (TiError, Agent)>
+        ensures disposed { IfOk result (λ s. Disposes (state_of self) s) }
+        ensures refused { IfErr result (λ r. (r.0 ≡ OutOfMemory) ⊎ (r.0 ≡ Full)) }
+        ensures kept { IfErr result (λ r. StaysOn (state_of self) (state_of r.1) r.0) }
+        ensures events { IfErr result (λ r. r.1.home.events ≡ self.home.events) }
+    {
+        match clear(&mut self, rt, alloc) {
+            Ok(()) => (),
+            Err(error) => return Err((error, self)),
+        }
+        let (home, env) = self.leave_home();
+        let Membership {
+            mut service,
+            waiting,
+            events,
+        } = home;
+        match service.leave(rt, waiting) {
+            Ok(()) => Ok(service),
+            Err((error, waiting)) => {
+                let home = Membership {
+                    service,
+                    waiting,
+                    events,
+                };
+                Err((error, Env::come_home(home, env)))
+            }
+        }
+    }
+}
+
+ghost use Rattle.std.specs.Prelude.{◌≡◌, ◌⊎◌, true, false, [], is_some, length, map, None, IfOk, IfErr, OnOk};
+ghost use Rattle.ti_types.specs.declared.error.TiError.TheVariants.{Full, OutOfMemory};
+ghost use Rattle.ti_roster.specs.Log.{live};
+ghost use Rattle.ti_roster.specs.Roster.{IsToldOf, info_refusal};
+ghost use Rattle.ti_service.specs.Service.{Looks, roster_seen};
+ghost use Rattle.ti_service.specs.Agent.{IsSameBut, Keeps, Meets};
+ghost use Rattle.ti_service.specs.Leaving.{Clears, Disposes, StaysOn};
+ghost use Rattle.ti_service.specs.LettingGo.{LetsGo, LetsGoBelow};
+ghost use Rattle.ti_service.specs.Memberships.{state_of};
+ghost use Rattle.ti_service.specs.Telling.{Enables, TellsInTime, TellsNext, with_events};

@@ -1,0 +1,25 @@
+//! What an agent has beside its environment.
+
+use crate::service::Service;
+use ti_agent::{FreeDesk, Home};
+
+/// What an agent has beside its environment: its handle of the service, the desks that it has taken and not added, and which
+/// event it is to be told next.
+///
+/// It may be the home of an environment in whose place the handle is, and of desks at the threads that came to the service.
+#[derive(Drop)]
+pub struct Membership {
+    pub(crate) service: Service,
+    /// Desks that were taken, and could not be added for lack of memory. The last is added first.
+    pub(crate) waiting: Vec<FreeDesk>,
+    /// The index of the next event that it is to be told. `None` while its events are disabled.
+    pub(crate) events: Option<u64>,
+}
+
+impl Home for Membership {
+    ghost use Rattle.ti_service.specs.Homes.{HasCome, IsHomeOf};
+
+    ghost about = { λ m e l. IsHomeOf m.service m.waiting.items e l };
+
+    ghost holds = { λ m s. HasCome m.service.view.seen s };
+}
