@@ -4,11 +4,13 @@
 # on all cases, on large documents (and programs that hold cells and run threads), and with each allocation, each start of a
 # thread, each read and each write refused in turn (and the tests of a core so). `make stress` runs it on random live documents,
 # and lets 10,000 threads come to a service and go. `make edits` tries the edits that the gate leaves out.
-# `make lib` builds the library for C into `dist/`. `make capi` tests it: by C programs, under sanitizers and valgrind, and by the
-# bindings for Rust and Python. `make lua` builds the Lua host of `hosts/lua` over it, and tests that.
+# `make lib` builds the library for C into `dist/`. `make capi` tests it: by C programs, under sanitizers and valgrind, by the
+# bindings for Rust and Python, and as it is installed (`make installed`). `make lua` builds the Lua host of `hosts/lua` over it,
+# and tests that. `make install` installs what `make lib` has built, and the programs that are built, below PREFIX. `make uninstall`
+# removes them.
 # `make jvm` carries walks out on a Java VM and compares its answers with the program's lines. `make try` runs the program on all
 # examples without proving anything.
-.PHONY: run try test examples cases bench refused stress edits lib capi lua jvm
+.PHONY: run try test examples cases bench refused stress edits lib capi installed lua install uninstall jvm
 
 CAPI = crates/ti_capi/out/libti_capi.a
 
@@ -42,7 +44,7 @@ bench: lib
 	cd crates/tiprof && rt run -- --samples 0
 	python3 bench/profiling.py
 	cd crates/tichurn && rt run -- cost
-	mkdir -p dist && $(CC) -O2 -std=c11 tests/c/bench.c c/cebdyraq_heap.c c/cebdyraq_wait.c $(CAPI) -lpthread -o dist/bench && dist/bench
+	$(CC) -O2 -std=c11 tests/c/bench.c dist/lib/libcebdyraq.a -lpthread -o dist/bench && dist/bench
 
 refused:
 	python3 ci/refused_memory.py
@@ -61,12 +63,40 @@ lib:
 
 capi: lib
 	python3 tests/c/run.py $(CAPI)
-	python3 bindings/python/test.py $(CAPI)
+	python3 bindings/python/test.py dist/lib/libcebdyraq.a
 	cd bindings/rust && CEBDYRAQ_LIB_DIR=$(CURDIR)/dist/lib cargo test --offline
+	python3 tests/install/run.py
+
+installed: lib
+	python3 tests/install/run.py
 
 lua: lib
-	$(MAKE) -C hosts/lua CEBDYRAQ_LIB=$(CURDIR)/$(CAPI)
+	$(MAKE) -C hosts/lua CEBDYRAQ=$(CURDIR)/dist
 	cd hosts/lua && python3 test.py
+
+# PREFIX is where the files are looked for later, and DESTDIR a folder before it into which they are put now.
+PREFIX ?= /usr/local
+BINDIR ?= $(PREFIX)/bin
+LIBDIR ?= $(PREFIX)/lib
+INCLUDEDIR ?= $(PREFIX)/include
+MANDIR ?= $(PREFIX)/share/man
+PROGRAMS = $(wildcard $(foreach name,tiwalk tilint tiprof,crates/$(name)/out/$(name)) hosts/lua/out/cqlua)
+INSTALLED = $(BINDIR)/tiwalk $(BINDIR)/tilint $(BINDIR)/tiprof $(BINDIR)/cqlua $(MANDIR)/man3/cebdyraq.3 \
+	$(LIBDIR)/libcebdyraq.a $(LIBDIR)/libcebdyraq.so $(LIBDIR)/libcebdyraq.so.1 $(LIBDIR)/libcebdyraq.so.1.* \
+	$(LIBDIR)/pkgconfig/cebdyraq.pc $(INCLUDEDIR)/cebdyraq.h $(INCLUDEDIR)/cebdyraq.hpp $(INCLUDEDIR)/cebdyraq_wait.h
+
+install:
+	@test -f dist/lib/libcebdyraq.a || { echo "there is nothing to install: make lib builds it" >&2; exit 1; }
+	install -d $(addprefix $(DESTDIR),$(LIBDIR)/pkgconfig $(INCLUDEDIR) $(MANDIR)/man3)
+	install -m 644 dist/include/* $(DESTDIR)$(INCLUDEDIR)
+	install -m 644 dist/share/man/man3/cebdyraq.3 $(DESTDIR)$(MANDIR)/man3
+	cp -Pf --preserve=mode dist/lib/libcebdyraq.* $(DESTDIR)$(LIBDIR)
+	sed -e 's|^prefix=.*|prefix=$(PREFIX)|' -e 's|^libdir=.*|libdir=$(LIBDIR)|' -e 's|^includedir=.*|includedir=$(INCLUDEDIR)|' \
+		-e 's| -Wl,-rpath,[^ ]*||' dist/lib/pkgconfig/cebdyraq.pc | install -m 644 /dev/stdin $(DESTDIR)$(LIBDIR)/pkgconfig/cebdyraq.pc
+	$(if $(PROGRAMS),install -d $(DESTDIR)$(BINDIR) && install -m 755 $(PROGRAMS) $(DESTDIR)$(BINDIR))
+
+uninstall:
+	rm -f $(addprefix $(DESTDIR),$(INSTALLED))
 
 jvm:
 	python3 tests/jvm/compare.py

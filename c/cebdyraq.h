@@ -1,38 +1,42 @@
 /* cebdyraq.h: threads of a runtime, inspected by agents while other threads run.
  *
- * A runtime makes one service. Each of its threads is attached to it, and each agent attaches an environment. An agent asks
- * for one thread's state, stack and word, suspends it and resumes it, and other threads run on. A running thread owns its
- * frames. It hands them over when it polls, goes into native code or blocks, and calls that wait for it take place then
- * (JEP 312, thread-local handshakes). Functions with a name of JVM TI 11 do what JVM TI 11 says of it.
+ * A runtime makes one service. It attaches each of its threads to the service, and each agent attaches an environment. An
+ * agent asks for one thread's state, stack and word, suspends it and resumes it, while the other threads run on. A running
+ * thread owns its frames. It hands them over when it polls, goes into native code, blocks or ends, and the calls that wait for
+ * it take place then (JEP 312, thread-local handshakes). A function that is named after one of JVM TI 11 does what JVM TI 11
+ * says.
  *
- *     cc program.c $(PKG_CONFIG_PATH=dist/lib/pkgconfig pkg-config --cflags --libs cebdyraq)
+ * COMPILING
  *
- * The library is libcebdyraq.a. Of the C library it needs malloc, realloc, free, memcpy, memmove and memset, and no other function.
+ *     cc program.c $(pkg-config --cflags --libs cebdyraq)
  *
  * HANDLES
  *
  * A cq_service, cq_thread or cq_env is memory of the caller's. It starts as zeros, which is an empty handle. A function
- * that makes something fills an empty handle, and the function that ends it empties the handle again.
+ * that makes something fills an empty handle. The function that ends it empties the handle again.
  *
- * NO CALL WAITS
+ * NO FUNCTION WAITS
  *
- * Each function returns at once. CQ_BUSY says that another thread uses what is asked for at this moment, and that nothing
- * has changed: call again. CQ_WAITING says that a call was posted at a running thread: collect its answer later.
- * cebdyraq_wait.h has the same functions as ones that wait asleep.
+ * Each function returns at once. CQ_BUSY means that another thread of the operating system uses the same thread or the list
+ * of threads at this moment: call again. CQ_WAITING means that the call was posted at a running thread: collect its answer
+ * later. cebdyraq_wait.h has the same functions as ones that wait asleep.
  *
  * CODES
  *
- * A function gives CQ_OK or the first code of its list that fits. Codes below 200 are errors of JVM TI 11 and have its
- * numbers. With any code but CQ_OK, CQ_HELD and CQ_WAITING nothing has changed, unless the function says more.
- * CQ_MISUSED comes before all others: the handle is empty or of another kind. So it is with a handle after its end, and with
- * an environment while it gathers a trace.
+ * A function returns CQ_OK, or a code of its list that fits. If several fit, it is the first of the list, except that
+ * CQ_BUSY may come before any of them. Codes below 200 are errors of JVM TI 11, with its numbers.
+ *
+ * With any code but CQ_OK, CQ_HELD and CQ_WAITING nothing has changed and nothing is written, unless the function says more.
+ *
+ * CQ_MISUSED 304 comes before all others, from every function that takes a handle: the handle is empty or of another kind,
+ * or it is an environment that gathers a trace. The lists name it only where it has a further reason.
  *
  * WHAT A CALLER OWES
  *
- * - A handle is zeros at first. Later only this library reads or writes it, and nobody copies it.
+ * - A handle is zeros at first. From then on only this library reads or writes it, and nobody copies or moves it.
  * - A handle is used by one call at a time. It may go to another thread of the operating system, ordered by a lock, by the
  *   start or the join of a thread, or by a sequentially consistent atomic.
- * - Pointers are not NULL, also that to no frames. They lead to memory of the size that is given, which no other argument
+ * - No pointer is NULL, not even one to no frames. Each leads to memory of the size that is given, which no other argument
  *   of the call leads to.
  * - No function is called from a signal handler, or in the child of a fork from a process with threads.
  */
@@ -47,9 +51,31 @@
 extern "C" {
 #endif
 
+/* ------------------------------------------------------------------------------------------------------------------
+ * Versions.
+ */
+
+/* The version of this header. */
+#define CQ_VERSION_MAJOR 1
+#define CQ_VERSION_MINOR 0
+#define CQ_VERSION_PATCH 0
+
+/* The version of the library that the program runs with, as major * 1,000,000 + minor * 1,000 + patch. */
+uint32_t cq_version(void);
+
+/* Whether that library has all that this header declares: it has the same major version, and no lower minor version. */
+static inline bool cq_version_fits(void) {
+    uint32_t version = cq_version() / 1000;
+    return version / 1000 == CQ_VERSION_MAJOR && version >= CQ_VERSION_MAJOR * 1000 + CQ_VERSION_MINOR;
+}
+
+/* ------------------------------------------------------------------------------------------------------------------
+ * Codes, bits and values.
+ */
+
 /* The codes. */
 enum {
-    CQ_OK = 0,
+    CQ_OK = 0,                        /* it is done, or the answer is there */
     /* JVM TI 11's errors. */
     CQ_INVALID_THREAD = 10,           /* there is no thread of this number, or the environment has not met it */
     CQ_THREAD_NOT_SUSPENDED = 13,     /* a resumption or a pop, and the thread is not suspended */
@@ -76,8 +102,8 @@ enum {
     CQ_STILL_RUNNING = 213,           /* a thread of the trace has not come to its next poll: call again later */
     CQ_TIMED_OUT = 214,               /* cebdyraq_wait.h alone: the time is over */
     CQ_BUSY = 215,                    /* another thread uses it at this moment: call again */
-    CQ_FULL = 216,                    /* a bound other than memory leaves no place for it: the window, `envs`, or a count of 32 or
-                                         64 bits that no process reaches */
+    CQ_FULL = 216,                    /* a bound other than memory leaves no place for it: the window, `envs`, the 65,536
+                                         threads that an environment may have met, or a count that no process reaches */
     CQ_HELD = 301,                    /* the thread is held at its poll, and returns by cq_back */
     CQ_WAITING = 302,                 /* the call waits for the thread: collect its answer later */
     CQ_NONE = 303,                    /* there is no event to be told, or no trace */
@@ -145,231 +171,418 @@ typedef struct { uint32_t kind; uint32_t thread; uint64_t lost; } cq_event;
 typedef struct { uint32_t thread; uint32_t state; uint64_t frame_count; } cq_stack_info;
 
 /* ------------------------------------------------------------------------------------------------------------------
+ * Memory. The functions of this header use malloc, realloc, free, memcpy, memmove and memset of the C library, and no other
+ * function of it.
+ */
+
+/* Makes these functions the library's own in place of malloc, realloc and free. They keep to what C says of those, and each
+ * thread that uses the library may call them. `allocate` and `resize` get sizes of at least one byte, return blocks that are
+ * aligned to 16 bytes, and return NULL if there is no memory. None of them calls a function of this library.
+ *
+ * It is called before the first service is made, by one thread, or not at all. Each copy of the library that a process has
+ * loaded has functions of its own.
+ *
+ *   CQ_MISUSED 304  the library has taken memory before */
+uint32_t cq_set_heap(void *(*allocate)(size_t size), void *(*resize)(void *block, size_t size),
+                     void (*release)(void *block));
+
+/* ------------------------------------------------------------------------------------------------------------------
  * The service. It lives as long as a handle of it, a thread or an environment.
  */
 
-/* Makes a service. Its threads have at most `depth` frames, 1 to 65,536. At most `envs` environments are there at once, 1 to
- * 32. Each may have `window` calls out at a thread that were posted and not collected, 1 to 1,024. `service` is empty.
- * CQ_MISUSED if it is not, CQ_ILLEGAL_ARGUMENT if a number is out of its range, CQ_OUT_OF_MEMORY. */
+/* Makes a service, and fills the handle `service`.
+ *
+ *   `depth`   how many frames a thread may have: 1 to 65,536
+ *   `envs`    how many environments may be attached at once: 1 to 32
+ *   `window`  how many calls an environment may have out at a thread, posted and not collected: 1 to 1,024
+ *
+ *   CQ_MISUSED 304           `service` is not empty
+ *   CQ_ILLEGAL_ARGUMENT 103  a number is out of its range
+ *   CQ_OUT_OF_MEMORY 110     there is no memory for a service */
 uint32_t cq_make(uint32_t depth, uint32_t envs, uint32_t window, cq_service *service);
 
-/* One more handle of the same service, for another thread of the operating system. `other` is empty.
- * CQ_MISUSED, CQ_OUT_OF_MEMORY, CQ_FULL. */
+/* Fills `other` with one more handle of the same service, for another thread of the operating system.
+ *
+ *   CQ_MISUSED 304        also if `other` is not empty
+ *   CQ_OUT_OF_MEMORY 110  there is no memory for a handle
+ *   CQ_FULL 216           there are 2^63 handles of the service */
 uint32_t cq_share(cq_service *service, cq_service *other);
 
-/* Frees a handle of the service. CQ_MISUSED. */
+/* Frees a handle of the service, and empties it. */
 uint32_t cq_free(cq_service *service);
 
-/* Attaches a thread, which has not started. It has the next number: 0, 1, 2 and so on, and no number is used again. Its name
- * is UTF-8, `length` bytes. The service only keeps the priority, 1 to 10 in Java. `thread` is empty.
- * CQ_MISUSED, CQ_ILLEGAL_ARGUMENT if the name is not UTF-8, CQ_OUT_OF_MEMORY, CQ_FULL, CQ_BUSY. */
+/* Attaches a thread, which has not started, and fills the handle `thread`. Threads are numbered 0, 1, 2 and so on, and no
+ * number is used again.
+ *
+ *   `name`      UTF-8, of `length` bytes. It is copied
+ *   `priority`  any number. The service only keeps it, for cq_get_thread_info
+ *
+ *   CQ_MISUSED 304           also if `thread` is not empty
+ *   CQ_ILLEGAL_ARGUMENT 103  the name is not UTF-8
+ *   CQ_OUT_OF_MEMORY 110     there is no memory for a thread
+ *   CQ_FULL 216              2^32 - 1 threads were attached, or threads and environments have come and gone 2^62 - 1 times
+ *   CQ_BUSY 215              the list of threads is in use */
 uint32_t cq_attach_thread(cq_service *service, const uint8_t *name, size_t length, int32_t priority, cq_thread *thread);
 
-/* Attaches an environment. It has no capability, the word 0, and has met no thread yet. `env` is empty.
- * CQ_MISUSED, CQ_OUT_OF_MEMORY, CQ_FULL if there are as many as the service allows, CQ_BUSY. */
+/* Attaches an environment, and fills the handle `env`. The environment has no capability, the word 0, and has met no thread.
+ *
+ *   CQ_MISUSED 304        also if `env` is not empty
+ *   CQ_OUT_OF_MEMORY 110  there is no memory for an environment
+ *   CQ_FULL 216           `envs` environments are attached, or threads and environments have come and gone 2^62 - 1 times
+ *   CQ_BUSY 215           the list of threads is in use */
 uint32_t cq_attach_environment(cq_service *service, cq_env *env);
 
 /* ------------------------------------------------------------------------------------------------------------------
  * A thread of the runtime. Its handle is used by the thread itself.
  */
 
-/* The thread's number. CQ_MISUSED. */
+/* Writes the thread's number to `number`. */
 uint32_t cq_thread_number(cq_thread *thread, uint32_t *number);
 
-/* Starts the thread: it runs, and is alive (GetThreadState). CQ_MISUSED, CQ_NOT_NEW, CQ_BARRED if a stop is in force,
- * CQ_BUSY. */
+/* Starts the thread. It runs without frames, and is alive (GetThreadState).
+ *
+ *   CQ_NOT_NEW 210  the thread has started before
+ *   CQ_BARRED 206   a trace has stopped the thread: call again later
+ *   CQ_BUSY 215     an environment uses the thread */
 uint32_t cq_start(cq_thread *thread);
 
-/* Enters a method at location 0, or a native method. CQ_MISUSED, CQ_NOT_RUNNING, CQ_OVERFLOW, CQ_OWN_SPENT. */
+/* Enters a method, at location 0. The method is any number of the runtime's.
+ *
+ *   CQ_NOT_RUNNING 204  the thread does not run
+ *   CQ_OVERFLOW 201     the thread has as many frames as the service's depth
+ *   CQ_OWN_SPENT 208    the thread has spent its 2^59 steps */
 uint32_t cq_enter(cq_thread *thread, uint32_t method);
+
+/* Enters a native method, whose frame has the location -1. The codes are those of cq_enter. */
 uint32_t cq_enter_native(cq_thread *thread, uint32_t method);
 
-/* Moves the newest frame to a location. CQ_MISUSED, CQ_NOT_RUNNING, CQ_NO_FRAME, CQ_NOT_JAVA_FRAME, CQ_OWN_SPENT. */
+/* Moves the newest frame to a location, 0 to 2^32 - 1.
+ *
+ *   CQ_NOT_RUNNING 204     the thread does not run
+ *   CQ_NO_FRAME 202        there is no frame
+ *   CQ_NOT_JAVA_FRAME 203  the newest frame is native
+ *   CQ_OWN_SPENT 208       the thread has spent its 2^59 steps */
 uint32_t cq_at(cq_thread *thread, uint32_t location);
 
-/* Leaves the newest frame. CQ_MISUSED, CQ_NOT_RUNNING, CQ_NO_FRAME, CQ_OWN_SPENT. */
+/* Leaves the newest frame.
+ *
+ *   CQ_NOT_RUNNING 204  the thread does not run
+ *   CQ_NO_FRAME 202     there is no frame
+ *   CQ_OWN_SPENT 208    the thread has spent its 2^59 steps */
 uint32_t cq_leave(cq_thread *thread);
 
-/* Replaces all frames of the thread by these, newest first. It is for a runtime that keeps a stack of its own, and gives it
- * only before the thread hands over. It costs the frames that differ, and a look at those that stay.
- * CQ_MISUSED, CQ_NOT_RUNNING, CQ_OUT_OF_MEMORY, CQ_ILLEGAL_ARGUMENT if a location is below -1 or above 2^32 - 1,
- * CQ_OVERFLOW, CQ_OWN_SPENT. */
+/* Replaces all frames of the thread by these `count` frames, newest first. It is for a runtime that keeps a stack of its own,
+ * and gives it only before the thread hands over. It costs a step for each frame that differs, and a look at each that stays.
+ *
+ *   CQ_NOT_RUNNING 204       the thread does not run
+ *   CQ_OUT_OF_MEMORY 110     there is no memory to read the frames
+ *   CQ_ILLEGAL_ARGUMENT 103  a location is below -1 or above 2^32 - 1
+ *   CQ_OVERFLOW 201          there are more frames than the service's depth
+ *   CQ_OWN_SPENT 208         the thread has spent its 2^59 steps */
 uint32_t cq_set_frames(cq_thread *thread, const cq_frame *frames, size_t count);
 
-/* Whether nobody calls for the thread (JEP 312). It is one load. True also of a thread that does not run, and of a handle
- * that is misused. */
+/* Whether nobody calls for the thread (JEP 312). It is one load. It is also true of a thread that does not run, and of a
+ * handle that is misused. */
 bool cq_poll_clear(cq_thread *thread);
 
-/* Polls. If nobody calls for the thread, nothing happens. Otherwise it hands over, and the waiting calls take place. CQ_OK:
- * it runs on. CQ_HELD: it is suspended or stopped, and returns by cq_back. CQ_MISUSED, CQ_NOT_RUNNING, CQ_BUSY. */
+/* Polls. If nobody calls for the thread, nothing happens. Otherwise the thread hands its frames over, and the calls that wait
+ * for it take place. With CQ_OK it runs on.
+ *
+ *   CQ_HELD 301         the thread has handed over and is suspended or stopped. It returns by cq_back
+ *   CQ_NOT_RUNNING 204  the thread does not run
+ *   CQ_BUSY 215         an environment uses the thread */
 uint32_t cq_poll(cq_thread *thread);
 
-/* Goes into native code, or blocks for a reason from CQ_MONITOR_ENTER to CQ_TIMED_PARK. The waiting calls take place, and
- * later ones take place at once, until cq_back. cq_native wants a native newest frame.
- * CQ_MISUSED, CQ_ILLEGAL_ARGUMENT if there is no such reason, CQ_NOT_RUNNING, CQ_BUSY, CQ_NO_NATIVE_FRAME, CQ_OWN_SPENT. */
+/* Goes into native code. The calls that wait take place, and later ones take place at once, until cq_back.
+ *
+ *   CQ_NOT_RUNNING 204      the thread does not run
+ *   CQ_BUSY 215             an environment uses the thread
+ *   CQ_NO_NATIVE_FRAME 207  the newest frame is not native, or there is none
+ *   CQ_OWN_SPENT 208        the thread has spent its 2^59 steps */
 uint32_t cq_native(cq_thread *thread);
+
+/* Blocks, for a reason from CQ_MONITOR_ENTER to CQ_TIMED_PARK. The calls that wait take place, and later ones take place at
+ * once, until cq_back.
+ *
+ *   CQ_ILLEGAL_ARGUMENT 103  there is no such reason
+ *   CQ_NOT_RUNNING 204       the thread does not run
+ *   CQ_BUSY 215              an environment uses the thread
+ *   CQ_OWN_SPENT 208         the thread has spent its 2^59 steps */
 uint32_t cq_block(cq_thread *thread, uint32_t reason);
 
-/* Returns, and runs. CQ_MISUSED, CQ_NOT_SAFE, CQ_BARRED while the thread is suspended or stopped, CQ_BUSY. */
+/* Returns from native code, a block, or a poll at which the thread was held. The thread runs.
+ *
+ *   CQ_NOT_SAFE 205  the thread is none of these
+ *   CQ_BARRED 206    the thread is suspended or stopped: call again later
+ *   CQ_BUSY 215      an environment uses the thread */
 uint32_t cq_back(cq_thread *thread);
 
-/* Ends the thread. Calls that wait for it take place at a thread that is no longer alive. CQ_MISUSED, CQ_NOT_RUNNING,
- * CQ_BUSY. */
+/* Ends the thread. The calls that wait for it take place, at a thread that is no longer alive.
+ *
+ *   CQ_NOT_RUNNING 204  the thread does not run
+ *   CQ_BUSY 215         an environment uses the thread */
 uint32_t cq_end(cq_thread *thread);
 
-/* Gives a thread back that has ended or never started. Its handle is empty then. Its memory is freed when each environment
- * has let go of it. CQ_MISUSED also if the thread is alive, CQ_FULL, CQ_BUSY. */
+/* Gives a thread back that has ended or never started, and empties its handle. The thread's memory is freed once each
+ * environment that has met it has let go of it.
+ *
+ *   CQ_MISUSED 304  also if the thread is alive
+ *   CQ_FULL 216     threads and environments have come and gone 2^62 - 1 times
+ *   CQ_BUSY 215     the list of threads is in use */
 uint32_t cq_detach_thread(cq_thread *thread);
 
 /* ------------------------------------------------------------------------------------------------------------------
- * An agent's environment.
+ * An agent's environment, and the list of threads.
  */
 
-/* Meets the threads that were attached since the environment last did. Its calls reach these from now on.
- * CQ_MISUSED, CQ_ILLEGAL_ARGUMENT if the list of threads is not in order, which it always is, CQ_OUT_OF_MEMORY, CQ_FULL if it
- * has met 65,536 threads that it has not let go of, CQ_BUSY. No thread is lost: the next meeting has those that are missing. */
+/* Meets the threads that were attached since the environment last met them. Its calls reach these from now on.
+ *
+ * With a code other than CQ_OK it may have met some of them. The next meeting has the others.
+ *
+ *   CQ_ILLEGAL_ARGUMENT 103  an earlier cq_dispose_environment has left some threads, so that there is no meeting any more
+ *   CQ_OUT_OF_MEMORY 110     there is no memory to meet a thread
+ *   CQ_FULL 216              it has met 65,536 threads that it has not let go of, or threads and environments have come and
+ *                            gone 2^62 - 1 times
+ *   CQ_BUSY 215              the list of threads is in use */
 uint32_t cq_meet(cq_env *env);
 
-/* Whether threads or environments have come or gone, or another environment has met threads that came, since the environment
- * last looked at the list. It is one load. False of a handle that is misused. An environment that was just attached has
+/* Whether threads or environments have come or gone, or another environment has met threads, since the environment last
+ * looked at the list. It is one load. It is false of a handle that is misused. An environment that was just attached has
  * looked, and has met no thread: it meets once without news. */
 bool cq_has_news(cq_env *env);
 
-/* Lets go of a thread that was given back, so that its memory can be freed, and writes whether it did. It does not while a
- * thread of this number is there, or a call is out at it, or if it was let go of before. CQ_MISUSED, CQ_BUSY. */
+/* Lets go of a thread that was given back, so that its memory can be freed, and writes to `gone` whether it did. It does not
+ * while the thread is there or a call is out at it, and not if it was let go of before.
+ *
+ *   CQ_BUSY 215  the list of threads is in use */
 uint32_t cq_let_go(cq_env *env, uint32_t thread, bool *gone);
 
-/* GetAllThreads: writes the numbers of the threads that are there in rising order, as many as there is `room` for, and to
- * `count` how many there are. CQ_MISUSED, CQ_OUT_OF_MEMORY, CQ_BUSY. */
+/* GetAllThreads. Writes the numbers of the threads that are attached, in rising order, as many as there is `room` for, and
+ * to `count` how many there are. A thread that has not started, and one that has ended, is among them until it is given back.
+ *
+ *   CQ_OUT_OF_MEMORY 110  there is no memory for the list
+ *   CQ_BUSY 215           the list of threads is in use */
 uint32_t cq_get_all_threads(cq_env *env, uint32_t *threads, size_t room, uint64_t *count);
 
-/* GetThreadInfo: writes the thread's name, as many bytes as there is `room` for, and to `info` the whole name's length and
- * the priority. CQ_MISUSED, CQ_INVALID_THREAD, CQ_THREAD_NOT_ALIVE if the thread was given back, CQ_OUT_OF_MEMORY,
- * CQ_BUSY. */
+/* GetThreadInfo. Writes the thread's name, as many of its bytes as there is `room` for, and to `info` the length of the whole
+ * name and the priority.
+ *
+ *   CQ_INVALID_THREAD 10    no thread has had this number
+ *   CQ_THREAD_NOT_ALIVE 15  the thread was given back
+ *   CQ_OUT_OF_MEMORY 110    there is no memory for the name
+ *   CQ_BUSY 215             the list of threads is in use */
 uint32_t cq_get_thread_info(cq_env *env, uint32_t thread, cq_thread_info *info, uint8_t *name, size_t room);
 
-/* Calls at a thread. CQ_OK: the answer is there. CQ_WAITING: the thread runs, and `answer->ticket` is the call's ticket, for
- * cq_collect. Each may be refused, with CQ_MISUSED, CQ_MUST_POSSESS_CAPABILITY, CQ_INVALID_THREAD or CQ_THREAD_NOT_ALIVE,
- * CQ_ILLEGAL_ARGUMENT, CQ_CALLS_SPENT, CQ_FULL if a window of calls is out at the thread, CQ_OUT_OF_MEMORY, or CQ_BUSY. Then
- * the thread's own errors come, which each function names.
+/* ------------------------------------------------------------------------------------------------------------------
+ * Calls at a thread.
+ *
+ * With CQ_OK the answer is there. With CQ_WAITING 302 the thread runs, and the call is posted: `answer->ticket` names it, for
+ * cq_collect. It takes place when the thread next hands over. GetFrameCount, GetFrameLocation, GetStackTrace, SuspendThread and
+ * PopFrame may wait. Each other call is answered at once.
+ *
+ * Each call may be refused before it reaches the thread. Then it costs nothing.
+ *
+ *   CQ_MUST_POSSESS_CAPABILITY 99  the environment has not the capability that the call needs
+ *   CQ_INVALID_THREAD 10           no thread has had this number, or the environment has not met it
+ *   CQ_THREAD_NOT_ALIVE 15         the environment has let go of the thread, or never met it before it was given back
+ *   CQ_ILLEGAL_ARGUMENT 103        `depth` or `max_count` is negative
+ *   CQ_CALLS_SPENT 209             the environment has spent its 2^52 calls at the thread
+ *   CQ_FULL 216                    the call may wait, and `window` calls of the environment are out at the thread
+ *   CQ_OUT_OF_MEMORY 110           there is no memory for the frames of a trace
+ *   CQ_BUSY 215                    the thread itself or another environment uses the thread
+ *
+ * Otherwise it costs one call, whatever the answer. The answer may be one of the errors that each function lists.
  */
 
-/* GetThreadState, into `answer->number`. */
+/* GetThreadState. Writes the bits CQ_STATE_.. of the thread to `answer->number`, also of one that is not alive. */
 uint32_t cq_get_thread_state(cq_env *env, uint32_t thread, cq_answer *answer);
 
-/* GetFrameCount, into `answer->number`. CQ_THREAD_NOT_ALIVE. */
+/* GetFrameCount. Writes the number of frames, 0 to the service's depth, to `answer->number`.
+ *
+ *   CQ_THREAD_NOT_ALIVE 15  the thread has not started, or has ended */
 uint32_t cq_get_frame_count(cq_env *env, uint32_t thread, cq_answer *answer);
 
-/* GetFrameLocation at a depth, 0 for the newest frame, into `answer->frame`. CQ_THREAD_NOT_ALIVE, CQ_NO_MORE_FRAMES. */
+/* GetFrameLocation. Writes the frame at a depth, 0 for the newest one, to `answer->frame`.
+ *
+ *   CQ_THREAD_NOT_ALIVE 15  the thread has not started, or has ended
+ *   CQ_NO_MORE_FRAMES 31    there is no frame at this depth */
 uint32_t cq_get_frame_location(cq_env *env, uint32_t thread, int32_t depth, cq_answer *answer);
 
-/* GetStackTrace: at most `max_count` frames, newest first, from `start` on, which counts from the oldest if it is negative.
- * Writes as many as there is `room` for, and to `answer->number` how many there are.
- * CQ_THREAD_NOT_ALIVE, CQ_ILLEGAL_ARGUMENT if there is no frame at `start`, but for 0 on an empty stack. */
+/* GetStackTrace. It finds at most `max_count` frames, newest first, from the index `start` on. A negative `start` counts from
+ * the oldest frame, which is -1. Writes as many frames as there is `room` for, and to `answer->number` how many it found. With
+ * CQ_WAITING no frame is written: cq_collect gets room of its own.
+ *
+ *   CQ_THREAD_NOT_ALIVE 15   the thread has not started, or has ended
+ *   CQ_ILLEGAL_ARGUMENT 103  there is no frame at `start`, unless `start` is 0 and the stack is empty */
 uint32_t cq_get_stack_trace(cq_env *env, uint32_t thread, int32_t start, int32_t max_count, cq_answer *answer,
                             cq_frame *frames, size_t room);
 
-/* SuspendThread and ResumeThread, with CQ_CAN_SUSPEND. CQ_THREAD_NOT_ALIVE, CQ_THREAD_SUSPENDED, CQ_THREAD_NOT_SUSPENDED.
- * A suspension that waits takes place when the thread hands over. */
+/* SuspendThread, with CQ_CAN_SUSPEND. The thread stays at its next poll, and does not return from native code or a block, until
+ * it is resumed. Suspensions do not nest, and any environment may end one.
+ *
+ *   CQ_THREAD_NOT_ALIVE 15  the thread has not started, or has ended
+ *   CQ_THREAD_SUSPENDED 14  the thread is suspended */
 uint32_t cq_suspend_thread(cq_env *env, uint32_t thread, cq_answer *answer);
+
+/* ResumeThread, with CQ_CAN_SUSPEND. The thread may return by cq_back. While a suspension still waits for the thread, there is
+ * nothing to resume: collect its answer first.
+ *
+ *   CQ_THREAD_NOT_ALIVE 15      the thread has not started, or has ended
+ *   CQ_THREAD_NOT_SUSPENDED 13  the thread is not suspended */
 uint32_t cq_resume_thread(cq_env *env, uint32_t thread, cq_answer *answer);
 
-/* PopFrame, with CQ_CAN_POP_FRAME. CQ_THREAD_NOT_ALIVE, CQ_THREAD_NOT_SUSPENDED, CQ_NO_MORE_FRAMES, CQ_OPAQUE_FRAME. */
+/* PopFrame, with CQ_CAN_POP_FRAME. The newest frame goes, and its caller is the newest one, at the location where it was.
+ *
+ *   CQ_THREAD_NOT_ALIVE 15      the thread has not started, or has ended
+ *   CQ_THREAD_NOT_SUSPENDED 13  the thread is not suspended
+ *   CQ_NO_MORE_FRAMES 31        there are fewer than two frames
+ *   CQ_OPAQUE_FRAME 32          one of the two newest frames is native */
 uint32_t cq_pop_frame(cq_env *env, uint32_t thread, cq_answer *answer);
 
-/* GetThreadLocalStorage, into `answer->number`, and SetThreadLocalStorage: the environment's word at the thread, 0 at first.
- * CQ_THREAD_NOT_ALIVE. */
+/* GetThreadLocalStorage. Writes the environment's word at the thread, 0 at first, to `answer->number`.
+ *
+ *   CQ_THREAD_NOT_ALIVE 15  the thread has not started, or has ended */
 uint32_t cq_get_thread_local_storage(cq_env *env, uint32_t thread, cq_answer *answer);
+
+/* SetThreadLocalStorage. Sets the environment's word at the thread to any 64 bits.
+ *
+ *   CQ_THREAD_NOT_ALIVE 15  the thread has not started, or has ended */
 uint32_t cq_set_thread_local_storage(cq_env *env, uint32_t thread, uint64_t word, cq_answer *answer);
 
-/* The answer to a call that waited, as the call itself would give it. CQ_WAITING while it is not there, and for a ticket that
- * is not out. CQ_MISUSED, CQ_BUSY. */
+/* ------------------------------------------------------------------------------------------------------------------
+ * Calls that wait for a thread.
+ */
+
+/* The answer to a call that waits. It returns the code of the call, and writes what the call itself would have written, with
+ * the frames that there is `room` for. Each answer is collected once.
+ *
+ *   CQ_WAITING 302  the answer is not there yet, or no call of this environment with this ticket is out. Nothing is written
+ *   CQ_BUSY 215     the thread itself or another environment uses the thread */
 uint32_t cq_collect(cq_env *env, const cq_ticket *ticket, cq_answer *answer, cq_frame *frames, size_t room);
 
-/* Gives a call up that was not collected. It may still take place, and its answer is thrown away. Nothing happens with a
- * ticket that is not out. CQ_MISUSED, CQ_OUT_OF_MEMORY, CQ_BUSY. */
+/* Gives up a call that is out: nobody gets its answer. It may still take place, so a thread may be suspended. It keeps its
+ * place in the window until cq_discard. Nothing happens if no call with this ticket is out.
+ *
+ *   CQ_OUT_OF_MEMORY 110  there is no memory to note that the call was given up
+ *   CQ_BUSY 215           the thread itself or another environment uses the thread */
 uint32_t cq_cancel(cq_env *env, const cq_ticket *ticket);
 
-/* Throws the answer away to the call that was given up first at the thread, if it is there, and writes whether it was. A call
- * that was given up keeps its place in the window until then. CQ_MISUSED, CQ_BUSY. */
+/* Throws away the answer to the call that was given up first at the thread, and writes to `thrown` whether it did. It does not
+ * if that answer is not there yet, or no call was given up.
+ *
+ *   CQ_BUSY 215  the thread itself or another environment uses the thread */
 uint32_t cq_discard(cq_env *env, uint32_t thread, bool *thrown);
 
-/* How many calls of the environment are out at the thread. CQ_MISUSED. */
+/* Writes to `count` how many calls of the environment are out at the thread, also those that were given up: 0 to the service's
+ * window. It is 0 at a thread that the environment has not met. */
 uint32_t cq_out_at(cq_env *env, uint32_t thread, uint32_t *count);
 
 /* ------------------------------------------------------------------------------------------------------------------
- * Traces of several threads at one moment (GetAllStackTraces, GetThreadListStackTraces).
+ * Traces of several threads at one moment.
  *
- * A trace is begun, and gathered step by step. First each thread is stopped, in the order of the numbers. Then each is seen
- * standing, then each is read, and then each is let go. So all stand before the first is read, and all are read before the
- * first is let go.
+ * They are GetAllStackTraces and GetThreadListStackTraces. A trace is begun, and gathered step by step. First each thread is
+ * stopped, in the order of the numbers. Then each is seen standing, then each is read, and then each is let go. So all stand
+ * before the first is read, and all are read before the first is let go.
  *
  * A thread that runs when it is stopped runs on to its next poll. There it is CQ_HELD. It may also go native, block or end.
- * Until a thread is let go, its cq_start and cq_back are CQ_BARRED. So a trace has to be gone on with until its end.
+ * Until a thread is let go, its cq_start and cq_back are CQ_BARRED. So go on with a trace until its end.
  *
- * While an environment gathers a trace, its other calls give CQ_MISUSED, also cq_dispose_environment. Afterwards it has its
- * words, its capabilities and its calls that are out as before.
+ * While an environment gathers a trace, its other functions return CQ_MISUSED, also cq_dispose_environment. Afterwards it has
+ * its words, its capabilities and its calls that are out as before.
  *
- * All memory is taken when the trace begins. It spends one call at each thread for the stop, and one for each read.
+ * All memory is taken when the trace begins. A trace costs one call at each thread for the stop, and one for each read.
  */
 
-/* Begins GetAllStackTraces: of all threads that the environment has met, with at most `max_count` frames of each, newest first.
- * Only those that are alive are told of, in the order of their numbers. Nothing is stopped yet. What the last trace has
- * gathered is thrown away. CQ_MISUSED, CQ_ILLEGAL_ARGUMENT if `max_count` is negative, CQ_CALLS_SPENT if fewer than two calls
- * are left at a thread, CQ_OUT_OF_MEMORY. */
+/* Begins GetAllStackTraces, of all threads that the environment has met. `max_count` is how many frames of each it finds at
+ * most, newest first, 0 or more. Only threads that are alive are told of, in the order of their numbers. Nothing is stopped
+ * yet. What the environment's last trace has gathered is thrown away.
+ *
+ *   CQ_ILLEGAL_ARGUMENT 103  `max_count` is negative
+ *   CQ_CALLS_SPENT 209       fewer than two calls are left at a thread
+ *   CQ_OUT_OF_MEMORY 110     there is no memory for the trace */
 uint32_t cq_gather_all_stack_traces(cq_env *env, int32_t max_count);
 
-/* The same for GetThreadListStackTraces: of each element of a list, in its order. A thread that is named twice is stopped once
- * and read twice. One that is not alive has no frames. CQ_MISUSED, CQ_INVALID_THREAD also if the environment has let go of one,
- * CQ_ILLEGAL_ARGUMENT if `max_count` is negative, CQ_OUT_OF_MEMORY, which may come before these two, CQ_CALLS_SPENT if fewer
- * calls are left at a thread than its stop and its reads cost. */
+/* Begins GetThreadListStackTraces, of each of `count` threads, in their order. A thread that is named twice is stopped once and
+ * read twice. One that is not alive has no frames. The rest is as for cq_gather_all_stack_traces.
+ *
+ *   CQ_INVALID_THREAD 10     the environment has not met one of the threads, or has let go of it
+ *   CQ_ILLEGAL_ARGUMENT 103  `max_count` is negative
+ *   CQ_OUT_OF_MEMORY 110     there is no memory for the trace. It may come before the two above
+ *   CQ_CALLS_SPENT 209       fewer calls are left at a thread than its stop and its reads cost */
 uint32_t cq_gather_thread_list_stack_traces(cq_env *env, const uint32_t *threads, size_t count, int32_t max_count);
 
-/* Goes on with the trace. It does one thing at one thread, or nothing between two of the four parts. CQ_OK: it writes to `over`
- * whether the trace has come to its end. While it has not, call again. CQ_MISUSED also if no trace is gathered.
- * CQ_ALREADY_STOPPED: another environment's trace has stopped the next thread. CQ_STILL_RUNNING: the next thread still runs. It
- * has not polled yet, gone native, blocked or ended. CQ_BUSY. With these three nothing is written: call again later. */
+/* Goes on with the trace. It does one thing at one thread, or goes from one of the four parts to the next. It writes to `over`
+ * whether the trace has come to its end. While it has not, call again.
+ *
+ *   CQ_MISUSED 304          also if the environment gathers no trace
+ *   CQ_ALREADY_STOPPED 211  another environment's trace has stopped the next thread: call again later
+ *   CQ_STILL_RUNNING 213    the next thread has not handed over since it was stopped: call again later
+ *   CQ_BUSY 215             the next thread itself or another environment uses it */
 uint32_t cq_gather_step(cq_env *env, bool *over);
 
 /* Gives the trace up if not all of its threads were seen standing yet. From then on each step lets a thread go that it has
- * stopped, until it is over. Otherwise nothing happens, and the trace goes on to its end. CQ_MISUSED also if no trace is
- * gathered. */
+ * stopped, until it is over. Otherwise nothing happens, and the trace goes on to its end.
+ *
+ *   CQ_MISUSED 304  also if the environment gathers no trace */
 uint32_t cq_gather_give_up(cq_env *env);
 
-/* How many threads the environment's last trace tells of. What it has gathered stays until the next one begins, or the
- * environment is disposed of. CQ_MISUSED, CQ_NONE if none was made, or if the last was given up. */
+/* Writes to `count` of how many threads the environment's last trace tells. What it has gathered stays until the next one
+ * begins, or the environment is disposed of.
+ *
+ *   CQ_NONE 303  no trace was made, or the last one was given up */
 uint32_t cq_gathered(cq_env *env, uint64_t *count);
 
 /* What the last trace tells of one thread, by an index from 0. Writes as many frames as there is `room` for, newest first, and
- * to `info` how many there are. CQ_MISUSED, CQ_NONE as for cq_gathered, CQ_ILLEGAL_ARGUMENT if there is no such index. */
+ * to `info` the thread's number, its state, and how many frames there are.
+ *
+ *   CQ_NONE 303              no trace was made, or the last one was given up
+ *   CQ_ILLEGAL_ARGUMENT 103  the trace tells of no thread at this index */
 uint32_t cq_gathered_stack(cq_env *env, uint64_t index, cq_stack_info *info, cq_frame *frames, size_t room);
 
 /* ------------------------------------------------------------------------------------------------------------------
  * What is the environment's own.
  */
 
-/* AddCapabilities: all or none. CQ_MISUSED, CQ_NOT_AVAILABLE. RelinquishCapabilities, GetCapabilities and
- * GetPotentialCapabilities: CQ_MISUSED. */
+/* AddCapabilities: a sum of CQ_CAN_SUSPEND and CQ_CAN_POP_FRAME. It adds all of them, or none.
+ *
+ *   CQ_NOT_AVAILABLE 98  one of them cannot be had */
 uint32_t cq_add_capabilities(cq_env *env, uint32_t capabilities);
+
+/* RelinquishCapabilities. One that the environment does not have is no error. Calls that were posted keep what they need. */
 uint32_t cq_relinquish_capabilities(cq_env *env, uint32_t capabilities);
+
+/* GetCapabilities. Writes those that the environment has. */
 uint32_t cq_get_capabilities(cq_env *env, uint32_t *capabilities);
+
+/* GetPotentialCapabilities. Writes those that can be had: both. */
 uint32_t cq_get_potential_capabilities(cq_env *env, uint32_t *capabilities);
 
-/* GetEnvironmentLocalStorage and SetEnvironmentLocalStorage: the environment's own word, 0 at first. CQ_MISUSED. */
+/* GetEnvironmentLocalStorage. Writes the environment's own word, 0 at first. */
 uint32_t cq_get_environment_local_storage(cq_env *env, uint64_t *word);
+
+/* SetEnvironmentLocalStorage. Sets the environment's own word to any 64 bits. */
 uint32_t cq_set_environment_local_storage(cq_env *env, uint64_t word);
 
-/* SetEventNotificationMode, of ThreadStart and ThreadEnd at all threads. Events that happened before are not told.
- * CQ_MISUSED, CQ_BUSY. */
+/* SetEventNotificationMode, of ThreadStart and ThreadEnd at all threads. An environment is told what happens from then on.
+ *
+ *   CQ_BUSY 215  the list of threads is in use */
 uint32_t cq_set_event_notification_mode(cq_env *env, bool enabled);
 
-/* The next event. A thread's start is told when it was attached, and its end when it was given back. The service keeps the
- * last 4,096 events. CQ_MISUSED, CQ_NONE if there is none or events are disabled, CQ_BUSY. */
+/* Writes the next event to `event`. A thread's start is told when it was attached, and its end when it was given back. The
+ * service keeps the last 4,096 events.
+ *
+ *   CQ_NONE 303  there is no event, or events are disabled
+ *   CQ_BUSY 215  the list of threads is in use */
 uint32_t cq_next_event(cq_env *env, cq_event *event);
 
-/* DisposeEnvironment: calls that wait are given up, its words are 0 again, and its place is free. A thread that it suspended
- * stays suspended. The handle is empty then. CQ_MISUSED, CQ_OUT_OF_MEMORY, CQ_FULL, CQ_BUSY. With any of the last three it may
- * have left some of its threads, and can only be disposed of by another call. */
+/* DisposeEnvironment. Calls that wait are given up, the environment's words are 0 again, its place is free, and its handle is
+ * empty. A thread that it suspended stays suspended.
+ *
+ * With one of these codes the environment may have left some of its threads. It can only be disposed of then: call again.
+ *
+ *   CQ_OUT_OF_MEMORY 110  there is no memory to give a call up
+ *   CQ_FULL 216           threads and environments have come and gone 2^62 - 1 times
+ *   CQ_BUSY 215           a thread or the list of threads is in use */
 uint32_t cq_dispose_environment(cq_env *env);
 
 #ifdef __cplusplus

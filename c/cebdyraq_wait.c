@@ -21,12 +21,24 @@
 
 #include <errno.h>
 #include <linux/futex.h>
+#include <sched.h>
+#include <stdlib.h>
 #include <sys/syscall.h>
 #include <time.h>
 #include <unistd.h>
 
+/* The futex call that takes times of 64 bits. On 32-bit systems it is one of its own, from Linux 5.1 on, whatever size the
+ * program's time_t has. */
+#ifdef SYS_futex_time64
+enum { FUTEX = SYS_futex_time64 };
+#else
+enum { FUTEX = SYS_futex };
+_Static_assert(sizeof(void *) == 8, "a 32-bit system needs the headers of Linux 5.1 or later");
+#endif
+typedef struct { int64_t seconds, nanoseconds; } futex_time;
+
 enum { FOREVER = -1 };
-static const int64_t SPIN_NS = 20000;  /* how long to spin before sleeping */
+static const int32_t SPIN_NS = 20000;  /* how long to spin before sleeping */
 static const int64_t NAP_NS = 50000;   /* the longest sleep of one who met CQ_BUSY, since nobody wakes it */
 static const uint32_t COMINGS = (uint32_t)1 << 31;  /* the bit of those who wait for an event */
 
@@ -77,12 +89,18 @@ static int64_t now_ns(void) {
     return (int64_t)now.tv_sec * 1000000000 + now.tv_nsec;
 }
 
+/* How many processors the process may use. */
+static long processors(void) {
+    cpu_set_t set;
+    return sched_getaffinity(0, sizeof set, &set) == 0 ? CPU_COUNT(&set) : sysconf(_SC_NPROCESSORS_ONLN);
+}
+
 /* On a single processor nobody else gets on while one spins. */
 static int64_t spin_ns(void) {
-    static int64_t found = -1;
-    int64_t spin = __atomic_load_n(&found, __ATOMIC_RELAXED);
+    static int32_t found = -1;
+    int32_t spin = __atomic_load_n(&found, __ATOMIC_RELAXED);
     if (spin < 0) {
-        spin = sysconf(_SC_NPROCESSORS_ONLN) > 1 ? SPIN_NS : 0;
+        spin = processors() > 1 ? SPIN_NS : 0;
         __atomic_store_n(&found, spin, __ATOMIC_RELAXED);
     }
     return spin;
@@ -100,9 +118,9 @@ static void spin(void) {
 
 /* Sleeps while the news are those that it saw, until this time at the latest. A negative time is for ever. */
 static void sleep_until(waiter *w, int64_t end) {
-    struct timespec until = { .tv_sec = end / 1000000000, .tv_nsec = end % 1000000000 };
+    futex_time until = { end / 1000000000, end % 1000000000 };
     int kept = errno;
-    syscall(SYS_futex, &w->among->news, FUTEX_WAIT_BITSET_PRIVATE, w->seen, end < 0 ? NULL : &until, NULL, w->bits);
+    syscall(FUTEX, &w->among->news, FUTEX_WAIT_BITSET_PRIVATE, w->seen, end < 0 ? NULL : &until, NULL, w->bits);
     errno = kept;
 }
 
@@ -167,7 +185,7 @@ static void wake(cq_sleepers *among, uint32_t bits) {
     }
     __atomic_fetch_add(&among->news, 1, __ATOMIC_SEQ_CST);
     int kept = errno;
-    syscall(SYS_futex, &among->news, FUTEX_WAKE_BITSET_PRIVATE, INT32_MAX, NULL, NULL, bits);
+    syscall(FUTEX, &among->news, FUTEX_WAKE_BITSET_PRIVATE, INT32_MAX, NULL, NULL, bits);
     errno = kept;
 }
 
@@ -322,42 +340,76 @@ uint32_t cq_wait_collect(cq_env *env, cq_signal *signal, const cq_ticket *ticket
     return w.code;
 }
 
-/* Before a post, answers are thrown away to calls that were given up at the thread, so that these have no place in the window
- * any more. */
-static waiter begin_post(cq_env *env, cq_signal *signal, uint32_t thread, int64_t timeout_ns) {
+/* A call at a thread. */
+typedef struct {
+    enum { STATE, COUNT, LOCATION, TRACE, SUSPEND, RESUME, POP, GET_WORD, SET_WORD } what;
+    uint32_t thread;
+    int32_t first;  /* the depth of a location, and where a trace begins */
+    int32_t most;   /* how many frames a trace has at most */
+    uint64_t word;  /* to set */
+} thread_call;
+
+static uint32_t post(cq_env *env, const thread_call *call, cq_answer *answer, cq_frame *frames, size_t room) {
+    switch (call->what) {
+    case STATE: return cq_get_thread_state(env, call->thread, answer);
+    case COUNT: return cq_get_frame_count(env, call->thread, answer);
+    case LOCATION: return cq_get_frame_location(env, call->thread, call->first, answer);
+    case TRACE: return cq_get_stack_trace(env, call->thread, call->first, call->most, answer, frames, room);
+    case SUSPEND: return cq_suspend_thread(env, call->thread, answer);
+    case RESUME: return cq_resume_thread(env, call->thread, answer);
+    case POP: return cq_pop_frame(env, call->thread, answer);
+    case GET_WORD: return cq_get_thread_local_storage(env, call->thread, answer);
+    case SET_WORD: return cq_set_thread_local_storage(env, call->thread, call->word, answer);
+    }
+    return CQ_MISUSED;
+}
+
+/* Posts a call once its thread is free. Before that, answers are thrown away to calls that were given up at the thread, so that
+ * these have no place in the window any more. */
+static waiter posted(cq_env *env, cq_signal *signal, const thread_call *call, int64_t timeout_ns, cq_answer *answer,
+                     cq_frame *frames, size_t room) {
     bool thrown = true;
-    while (thrown && cq_discard(env, thread, &thrown) == CQ_OK) {
+    while (thrown && cq_discard(env, call->thread, &thrown) == CQ_OK) {
     }
     waiter w = begin(signal, timeout_ns, CQ_BUSY);
-    w.bits = bit_of(thread);
+    w.bits = bit_of(call->thread);
+    while (again(&w)) w.code = post(env, call, answer, frames, room);
     return w;
 }
 
 /* The code of a call that was posted, once its answer is there. When the time is over, the call is given up. */
-static uint32_t answered(cq_env *env, waiter *w, cq_answer *answer, cq_frame *frames, size_t room) {
-    if (w->code != CQ_WAITING) {
-        return w->code;
-    }
-    cq_ticket ticket = answer->ticket;
+static uint32_t answered(cq_env *env, waiter *w, const cq_ticket *ticket, cq_answer *answer, cq_frame *frames, size_t room) {
     w->not_yet = CQ_WAITING;
-    while (again(w)) w->code = cq_collect(env, &ticket, answer, frames, room);
+    while (again(w)) w->code = cq_collect(env, ticket, answer, frames, room);
     if (w->code == CQ_TIMED_OUT) {
-        cq_wait_cancel(env, w->signal, &ticket);
+        cq_wait_cancel(env, w->signal, ticket);
     }
     return w->code;
 }
 
-static uint32_t answered_without_frames(cq_env *env, waiter *w, cq_answer *answer) {
+static uint32_t call_with(cq_env *env, cq_signal *signal, thread_call call, int64_t timeout_ns, cq_answer *answer,
+                          cq_frame *frames, size_t room) {
+    waiter w = posted(env, signal, &call, timeout_ns, answer, frames, room);
+    if (w.code == CQ_WAITING) {
+        cq_ticket ticket = answer->ticket;
+        answered(env, &w, &ticket, answer, frames, room);
+    }
+    if (call.what == RESUME && w.code == CQ_OK) {
+        wake(&signal->threads, bit_of(call.thread));  /* it may return now */
+    }
+    return w.code;
+}
+
+/* A call whose answer has no frames, or one. */
+static uint32_t call_at(cq_env *env, cq_signal *signal, thread_call call, int64_t timeout_ns, cq_answer *answer) {
     cq_frame none;
-    return answered(env, w, answer, &none, 0);
+    return call_with(env, signal, call, timeout_ns, answer, &none, 0);
 }
 
 uint32_t cq_wait_get_thread_state(cq_env *env, cq_signal *signal, uint32_t thread, int64_t timeout_ns,
                                   uint32_t *state) {
     cq_answer answer;
-    waiter w = begin_post(env, signal, thread, timeout_ns);
-    while (again(&w)) w.code = cq_get_thread_state(env, thread, &answer);
-    uint32_t code = answered_without_frames(env, &w, &answer);
+    uint32_t code = call_at(env, signal, (thread_call){ .what = STATE, .thread = thread }, timeout_ns, &answer);
     if (code == CQ_OK) *state = (uint32_t)answer.number;
     return code;
 }
@@ -365,9 +417,7 @@ uint32_t cq_wait_get_thread_state(cq_env *env, cq_signal *signal, uint32_t threa
 uint32_t cq_wait_get_frame_count(cq_env *env, cq_signal *signal, uint32_t thread, int64_t timeout_ns,
                                  uint32_t *count) {
     cq_answer answer;
-    waiter w = begin_post(env, signal, thread, timeout_ns);
-    while (again(&w)) w.code = cq_get_frame_count(env, thread, &answer);
-    uint32_t code = answered_without_frames(env, &w, &answer);
+    uint32_t code = call_at(env, signal, (thread_call){ .what = COUNT, .thread = thread }, timeout_ns, &answer);
     if (code == CQ_OK) *count = (uint32_t)answer.number;
     return code;
 }
@@ -375,9 +425,8 @@ uint32_t cq_wait_get_frame_count(cq_env *env, cq_signal *signal, uint32_t thread
 uint32_t cq_wait_get_frame_location(cq_env *env, cq_signal *signal, uint32_t thread, int32_t depth, int64_t timeout_ns,
                                     cq_frame *frame) {
     cq_answer answer;
-    waiter w = begin_post(env, signal, thread, timeout_ns);
-    while (again(&w)) w.code = cq_get_frame_location(env, thread, depth, &answer);
-    uint32_t code = answered_without_frames(env, &w, &answer);
+    thread_call call = { .what = LOCATION, .thread = thread, .first = depth };
+    uint32_t code = call_at(env, signal, call, timeout_ns, &answer);
     if (code == CQ_OK) *frame = answer.frame;
     return code;
 }
@@ -385,43 +434,31 @@ uint32_t cq_wait_get_frame_location(cq_env *env, cq_signal *signal, uint32_t thr
 uint32_t cq_wait_get_stack_trace(cq_env *env, cq_signal *signal, uint32_t thread, int32_t start, int32_t max_count,
                                  int64_t timeout_ns, cq_frame *frames, size_t room, uint32_t *count) {
     cq_answer answer;
-    waiter w = begin_post(env, signal, thread, timeout_ns);
-    while (again(&w)) w.code = cq_get_stack_trace(env, thread, start, max_count, &answer, frames, room);
-    uint32_t code = answered(env, &w, &answer, frames, room);
+    thread_call call = { .what = TRACE, .thread = thread, .first = start, .most = max_count };
+    uint32_t code = call_with(env, signal, call, timeout_ns, &answer, frames, room);
     if (code == CQ_OK) *count = (uint32_t)answer.number;
     return code;
 }
 
 uint32_t cq_wait_suspend_thread(cq_env *env, cq_signal *signal, uint32_t thread, int64_t timeout_ns) {
     cq_answer answer;
-    waiter w = begin_post(env, signal, thread, timeout_ns);
-    while (again(&w)) w.code = cq_suspend_thread(env, thread, &answer);
-    return answered_without_frames(env, &w, &answer);
+    return call_at(env, signal, (thread_call){ .what = SUSPEND, .thread = thread }, timeout_ns, &answer);
 }
 
-/* The thread may return now. */
 uint32_t cq_wait_resume_thread(cq_env *env, cq_signal *signal, uint32_t thread, int64_t timeout_ns) {
     cq_answer answer;
-    waiter w = begin_post(env, signal, thread, timeout_ns);
-    while (again(&w)) w.code = cq_resume_thread(env, thread, &answer);
-    uint32_t code = answered_without_frames(env, &w, &answer);
-    if (code == CQ_OK) wake(&signal->threads, bit_of(thread));
-    return code;
+    return call_at(env, signal, (thread_call){ .what = RESUME, .thread = thread }, timeout_ns, &answer);
 }
 
 uint32_t cq_wait_pop_frame(cq_env *env, cq_signal *signal, uint32_t thread, int64_t timeout_ns) {
     cq_answer answer;
-    waiter w = begin_post(env, signal, thread, timeout_ns);
-    while (again(&w)) w.code = cq_pop_frame(env, thread, &answer);
-    return answered_without_frames(env, &w, &answer);
+    return call_at(env, signal, (thread_call){ .what = POP, .thread = thread }, timeout_ns, &answer);
 }
 
 uint32_t cq_wait_get_thread_local_storage(cq_env *env, cq_signal *signal, uint32_t thread, int64_t timeout_ns,
                                           uint64_t *word) {
     cq_answer answer;
-    waiter w = begin_post(env, signal, thread, timeout_ns);
-    while (again(&w)) w.code = cq_get_thread_local_storage(env, thread, &answer);
-    uint32_t code = answered_without_frames(env, &w, &answer);
+    uint32_t code = call_at(env, signal, (thread_call){ .what = GET_WORD, .thread = thread }, timeout_ns, &answer);
     if (code == CQ_OK) *word = answer.number;
     return code;
 }
@@ -429,9 +466,7 @@ uint32_t cq_wait_get_thread_local_storage(cq_env *env, cq_signal *signal, uint32
 uint32_t cq_wait_set_thread_local_storage(cq_env *env, cq_signal *signal, uint32_t thread, uint64_t word,
                                           int64_t timeout_ns) {
     cq_answer answer;
-    waiter w = begin_post(env, signal, thread, timeout_ns);
-    while (again(&w)) w.code = cq_set_thread_local_storage(env, thread, word, &answer);
-    return answered_without_frames(env, &w, &answer);
+    return call_at(env, signal, (thread_call){ .what = SET_WORD, .thread = thread, .word = word }, timeout_ns, &answer);
 }
 
 /* Traces of several threads. */
@@ -480,27 +515,72 @@ uint32_t cq_wait_get_thread_list_stack_traces(cq_env *env, cq_signal *signal, co
 
 /* Lists. */
 
-typedef uint32_t one_call(cq_env *env, cq_signal *signal, uint32_t thread, int64_t timeout_ns);
+/* What is left of the time of a list. */
+static int64_t left_of(int64_t timeout_ns, int64_t began) {
+    if (timeout_ns < 0) {
+        return timeout_ns;
+    }
+    int64_t spent = now_ns() - began;
+    return spent < timeout_ns ? timeout_ns - spent : 0;
+}
 
-static void one_by_one(one_call *call, cq_env *env, cq_signal *signal, const uint32_t *threads, size_t count,
-                       int64_t timeout_ns, uint32_t *codes) {
-    int64_t began = now_ns();
+/* Why a list is refused as a whole: the environment lacks the capability, or the handle is misused. */
+static uint32_t list_refusal(cq_env *env) {
+    uint32_t capabilities = 0;
+    uint32_t code = cq_get_capabilities(env, &capabilities);
+    return code == CQ_OK && !(capabilities & CQ_CAN_SUSPEND) ? CQ_MUST_POSSESS_CAPABILITY : code;
+}
+
+static void post_each(cq_env *env, cq_signal *signal, thread_call call, const uint32_t *threads, size_t count,
+                      int64_t timeout_ns, int64_t began, cq_ticket *tickets, uint32_t *codes) {
+    cq_frame none;
     for (size_t i = 0; i < count; i++) {
-        int64_t left = timeout_ns;
-        if (timeout_ns >= 0) {
-            int64_t spent = now_ns() - began;
-            left = spent < timeout_ns ? timeout_ns - spent : 0;
-        }
-        codes[i] = call(env, signal, threads[i], left);
+        cq_answer answer;
+        call.thread = threads[i];
+        codes[i] = posted(env, signal, &call, left_of(timeout_ns, began), &answer, &none, 0).code;
+        if (codes[i] == CQ_WAITING) tickets[i] = answer.ticket;
     }
 }
 
-void cq_wait_suspend_thread_list(cq_env *env, cq_signal *signal, const uint32_t *threads, size_t count,
-                                 int64_t timeout_ns, uint32_t *codes) {
-    one_by_one(cq_wait_suspend_thread, env, signal, threads, count, timeout_ns, codes);
+static void collect_each(cq_env *env, cq_signal *signal, size_t count, int64_t timeout_ns, int64_t began,
+                         const cq_ticket *tickets, uint32_t *codes) {
+    cq_frame none;
+    for (size_t i = 0; i < count; i++) {
+        if (codes[i] == CQ_WAITING) {
+            cq_answer answer;
+            waiter w = begin(signal, left_of(timeout_ns, began), CQ_WAITING);
+            w.bits = bit_of(tickets[i].thread);
+            codes[i] = answered(env, &w, &tickets[i], &answer, &none, 0);
+        }
+    }
 }
 
-void cq_wait_resume_thread_list(cq_env *env, cq_signal *signal, const uint32_t *threads, size_t count,
-                                int64_t timeout_ns, uint32_t *codes) {
-    one_by_one(cq_wait_resume_thread, env, signal, threads, count, timeout_ns, codes);
+/* A call at each thread of a list. All are posted before the first answer is waited for. */
+static uint32_t call_each(cq_env *env, cq_signal *signal, thread_call call, const uint32_t *threads, size_t count,
+                          int64_t timeout_ns, uint32_t *codes) {
+    uint32_t code = list_refusal(env);
+    if (code != CQ_OK || count == 0) {
+        return code;
+    }
+    cq_ticket *tickets = calloc(count, sizeof *tickets);
+    if (!tickets) {
+        return CQ_OUT_OF_MEMORY;
+    }
+    int64_t began = now_ns();
+    post_each(env, signal, call, threads, count, timeout_ns, began, tickets, codes);
+    collect_each(env, signal, count, timeout_ns, began, tickets, codes);
+    free(tickets);
+    return CQ_OK;
+}
+
+uint32_t cq_wait_suspend_thread_list(cq_env *env, cq_signal *signal, const uint32_t *threads, size_t count,
+                                     int64_t timeout_ns, uint32_t *codes) {
+    return call_each(env, signal, (thread_call){ .what = SUSPEND }, threads, count, timeout_ns, codes);
+}
+
+uint32_t cq_wait_resume_thread_list(cq_env *env, cq_signal *signal, const uint32_t *threads, size_t count,
+                                    int64_t timeout_ns, uint32_t *codes) {
+    uint32_t code = call_each(env, signal, (thread_call){ .what = RESUME }, threads, count, timeout_ns, codes);
+    wake(&signal->threads, FUTEX_BITSET_MATCH_ANY);  /* those that are resumed may return now */
+    return code;
 }

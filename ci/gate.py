@@ -1,7 +1,7 @@
 #!/usr/bin/env python3
 """Runs the tests that need no proof (`ci/unproved_tests.py`) and `rt ci`. Then, on the programs that `rt ci` has built, each case
-(`ci/cases.py`) and runs with an allocation refused (`ci/refused_memory.py`). Then the C programs over the library, and what the
-pages show (`ci/snippets.py`).
+(`ci/cases.py`) and runs with an allocation refused (`ci/refused_memory.py`). Then the C programs over the library, the library
+as it is installed (`tests/install`), and what the pages show (`ci/snippets.py`).
 
 `rt ci` leaves `tiwalk` and `tilint` in their crates' `out/` as LLVM builds them, and, where Rattle's own compiler took them, as
 that builds them. It builds no static library, so `ci/lib.py` does that, over the libraries that were proved. The output of `rt ci` is passed
@@ -61,7 +61,10 @@ def try_library():
     if subprocess.run([sys.executable, "ci/lib.py"]).returncode:
         print("the library for C was not built")
         return 0, 1, 1
-    return counts_of(sys.executable, "tests/c/run.py", lib.ARCHIVE)
+    passed, failed, status = counts_of(sys.executable, "tests/c/run.py", lib.ARCHIVE)
+    well, ill, other = counts_of(sys.executable, "tests/install/run.py", "--gate")
+    print(f"as it is installed: {well} passed, {ill} failed")
+    return passed + well, failed + ill, status or other
 
 
 def main():

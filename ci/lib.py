@@ -1,69 +1,110 @@
-"""Builds the library for C into dist/: the archive, its headers, its C files and a pkg-config file.
+"""Builds the library for C into dist/, which may be moved: the static and the shared library, headers, a pkg-config file and a
+manual page.
 
-A program is then linked by one line:
+    ci/lib.py [ARCHIVE]
+
+The proved half is crates/ti_capi/out/libti_capi.a, which `rt lib` makes first, or ARCHIVE as it is. A program is then linked by
+one line:
 
     cc program.c $(PKG_CONFIG_PATH=dist/lib/pkgconfig pkg-config --cflags --libs cebdyraq)
 
-Where there is no pkg-config, the flags are -Idist/include, -Ldist/lib -lcebdyraq -lpthread.
+Where there is no pkg-config, the flags are -Idist/include and dist/lib/libcebdyraq.a. CC, CFLAGS, LDFLAGS, AR and OBJCOPY are
+taken from the environment. `make install` installs what is in dist/.
 """
 
 import os
+import pathlib
+import shlex
 import shutil
 import subprocess
 import sys
 import tempfile
 
-TOP = os.path.dirname(os.path.dirname(os.path.abspath(__file__)))
-CRATE = f"{TOP}/crates/ti_capi"
-ARCHIVE = f"{CRATE}/out/libti_capi.a"
-HEADERS = ["cebdyraq.h", "cebdyraq_wait.h"]
-SOURCES = ["cebdyraq_heap.c", "cebdyraq_wait.c"]
-PKG_CONFIG = """prefix=${pcfiledir}/../..
-includedir=${prefix}/include
-libdir=${prefix}/lib
+sys.dont_write_bytecode = True
+
+import header
+import man_page
+
+TOP = pathlib.Path(__file__).resolve().parent.parent
+CRATE = TOP / "crates/ti_capi"
+ARCHIVE = CRATE / "out/libti_capi.a"
+DIST = TOP / "dist"
+HEADERS = (*header.HEADERS, "cebdyraq.hpp")
+FLAGS = ("-std=c11", "-O2", "-g", "-fPIC", "-Wall", "-Wextra", "-Werror", f"-ffile-prefix-map={TOP}/=")
+PKG_CONFIG = """prefix=${{pcfiledir}}/../..
+includedir=${{prefix}}/include
+libdir=${{prefix}}/lib
 
 Name: cebdyraq
 Description: Threads of a runtime, inspected by agents while other threads run
-Version: 1.0
-Cflags: -I${includedir}
-Libs: -L${libdir} -lcebdyraq -lpthread
+Version: {version}
+Cflags: -I${{includedir}}
+Libs: -L${{libdir}} -Wl,-rpath,${{libdir}} -lcebdyraq -lpthread
 """
 
 
-def run(*words, **named):
-    subprocess.run(words, check=True, **named)
+def words(name, otherwise):
+    return shlex.split(os.environ.get(name, otherwise))
 
 
-def objects(into):
-    """Compiles the C files into a folder, and gives the objects."""
-    compiler = os.environ.get("CC", "cc")
-    made = []
-    for name in SOURCES:
-        made.append(f"{into}/{name[:-2]}.o")
-        run(compiler, "-std=c11", "-O2", "-fPIC", "-Wall", "-Wextra", "-Werror", "-c", f"{TOP}/c/{name}", "-o", made[-1])
+def run(*command, **named):
+    subprocess.run([str(word) for word in command], check=True, **named)
+
+
+def compiled(name, room):
+    """The object of a C file."""
+    made = room / f"{name}.o"
+    run(*words("CC", "cc"), *FLAGS, *words("CFLAGS", ""), "-c", f"{header.C}/{name}.c", "-o", made)
     return made
 
 
-def copy(folder, names, into):
-    os.makedirs(into)
-    for name in names:
-        shutil.copy(f"{folder}/{name}", into)
+def joined(archive, room):
+    """One object of the proved half, the version and the heap, in which only cq_ names are global."""
+    made = room / "cebdyraq.o"
+    parts = [compiled(name, room) for name in ("cebdyraq_heap", "cebdyraq_version")]
+    run(*words("CC", "cc"), "-nostdlib", "-r", "-Wl,--whole-archive", archive, "-Wl,--no-whole-archive", *parts, "-o", made)
+    # (the partial link makes LLVM's table of addresses stale)
+    run(*words("OBJCOPY", "objcopy"), "--wildcard", "--keep-global-symbol=cq_*", "--remove-section=.llvm_addrsig", made)
+    return made
+
+
+def link_shared(objects, folder):
+    """The shared library, by its whole version, and links to it by its soname and by no version."""
+    version = header.version()
+    whole, soname = "libcebdyraq.so." + ".".join(map(str, version)), f"libcebdyraq.so.{version[0]}"
+    script = f"-Wl,--version-script={header.C}/cebdyraq.map"
+    run(*words("CC", "cc"), *words("CFLAGS", ""), "-shared", *objects, f"-Wl,-soname,{soname}", script, "-Wl,-Bsymbolic,-z,defs,-z,relro,-z,now",
+        *words("LDFLAGS", ""), "-o", folder / whole)
+    os.chmod(folder / whole, 0o644)
+    (folder / soname).symlink_to(whole)
+    (folder / "libcebdyraq.so").symlink_to(soname)
+
+
+def build(archive, dist):
+    shutil.rmtree(dist, ignore_errors=True)
+    include, lib, man = dist / "include", dist / "lib", dist / "share/man/man3"
+    for folder in (include, lib / "pkgconfig", man):
+        folder.mkdir(parents=True)
+    for name in HEADERS:
+        shutil.copyfile(header.C / name, include / name)
+    with tempfile.TemporaryDirectory() as name:
+        room = pathlib.Path(name)
+        objects = [joined(archive, room), compiled("cebdyraq_wait", room)]
+        run(*words("AR", "ar"), "rcs", lib / "libcebdyraq.a", *objects)
+        os.chmod(lib / "libcebdyraq.a", 0o644)
+        link_shared(objects, lib)
+    version = ".".join(map(str, header.version()))
+    (lib / "pkgconfig/cebdyraq.pc").write_text(PKG_CONFIG.format(version=version))
+    (man / "cebdyraq.3").write_text(man_page.page())
 
 
 def main():
-    run("rt", "lib", cwd=CRATE)
-    dist = f"{TOP}/dist"
-    shutil.rmtree(dist, ignore_errors=True)
-    copy(f"{TOP}/c", HEADERS, f"{dist}/include")
-    copy(f"{TOP}/c", SOURCES, f"{dist}/src")
-    os.makedirs(f"{dist}/lib/pkgconfig")
-    archive = f"{dist}/lib/libcebdyraq.a"
-    shutil.copy(ARCHIVE, archive)
-    os.chmod(archive, 0o644)
-    with tempfile.TemporaryDirectory() as room:
-        run("ar", "r", archive, *objects(room))
-    with open(f"{dist}/lib/pkgconfig/cebdyraq.pc", "w", encoding="utf-8") as it:
-        it.write(PKG_CONFIG)
+    if sys.argv[1:]:
+        archive = pathlib.Path(sys.argv[1]).resolve()
+    else:
+        archive = ARCHIVE
+        run("rt", "lib", cwd=CRATE)
+    build(archive, DIST)
     print("cc program.c $(PKG_CONFIG_PATH=dist/lib/pkgconfig pkg-config --cflags --libs cebdyraq)")
 
 

@@ -1,15 +1,15 @@
 #!/usr/bin/env python3
-"""Runs what README.md, CONTRIBUTING.md and examples/README.md show, as it is printed.
+"""Runs what README.md, CONTRIBUTING.md, docs/USING.md and examples/README.md show, as it is printed.
 
-    ci/snippets.py [KIND..]        of these kinds, or of all: rattle, json, sh, c
+    ci/snippets.py [KIND..]        of these kinds, or of all: rattle, json, sh, c, cpp
 
 A snippet is a fenced block of one of these kinds:
 
 - rattle: a whole program. `rt try` compiles and runs it, with nothing proved (`ci/unproved.py`).
 - json: a document. The program that `make run` has built reads it.
 - sh: commands. `sh -e` runs them at the top of the repository.
-- c: a whole program. It is compiled and linked as `c/cebdyraq.h` says, with all warnings, over the library that `make lib`
-  has built. Without a C compiler it is skipped.
+- c, cpp: a whole program. It is compiled and linked with all warnings, over the library that `make lib` has built. Without a
+  compiler it is skipped.
 
 Each has to end with status 0. If the block after it has no kind, that is what it has to write to standard output. A block
 without a kind that follows no snippet is not read. The last line is 'N passed, M failed'.
@@ -30,10 +30,12 @@ sys.dont_write_bytecode = True
 import refused_memory
 import unproved
 
-PAGES = ("README.md", "CONTRIBUTING.md", "examples/README.md")
+PAGES = ("README.md", "CONTRIBUTING.md", "docs/USING.md", "examples/README.md")
 PROGRAM = "crates/tiwalk/out/tiwalk"
 FENCED = re.compile(r"^```(\w*)\n(.*?)^```$", re.M | re.S)
-WARNINGS = ("-std=c11", "-O2", "-Wall", "-Wextra", "-Werror")
+COMPILERS = {"c": ("CC", "cc", "-std=c11"), "cpp": ("CXX", "c++", "-std=c++17")}
+FLAGS = ("-O2", "-Wall", "-Wextra", "-Werror", "-Idist/include")
+LINKED = ("dist/lib/libcebdyraq.a", "-lpthread")
 SECONDS = 300
 
 # `wanted` is what it has to write, or None.
@@ -65,15 +67,26 @@ def run_sh(text, _folder):
     return run(["sh", "-e", "-c", text])
 
 
-def run_c(text, folder):
-    source, made = pathlib.Path(folder, "snippet.c"), pathlib.Path(folder, "snippet")
+def compiler(kind):
+    return os.environ.get(*COMPILERS[kind][:2])
+
+
+def run_compiled(kind, text, folder):
+    source, made = pathlib.Path(folder, f"snippet.{kind}"), pathlib.Path(folder, "snippet")
     source.write_text(text)
-    flags = ("-Idist/include", str(source), "-Ldist/lib", "-lcebdyraq", "-lpthread", "-o", str(made))
-    done = run([os.environ.get("CC", "cc"), *WARNINGS, *flags])
+    done = run([compiler(kind), COMPILERS[kind][2], *FLAGS, str(source), *LINKED, "-o", str(made)])
     return done if done.returncode else run([str(made)])
 
 
-RUNS = {"rattle": run_rattle, "json": run_json, "sh": run_sh, "c": run_c}
+def run_c(text, folder):
+    return run_compiled("c", text, folder)
+
+
+def run_cpp(text, folder):
+    return run_compiled("cpp", text, folder)
+
+
+RUNS = {"rattle": run_rattle, "json": run_json, "sh": run_sh, "c": run_c, "cpp": run_cpp}
 
 
 def fault_of(snippet):
@@ -97,8 +110,8 @@ def main():
     snippets = [snippet for page in PAGES for snippet in snippets_of(page) if snippet.kind in kinds]
     passed = failed = 0
     for snippet in snippets:
-        if snippet.kind == "c" and not shutil.which(os.environ.get("CC", "cc")):
-            print(f"{snippet.place}: skipped, there is no C compiler")
+        if snippet.kind in COMPILERS and not shutil.which(compiler(snippet.kind)):
+            print(f"{snippet.place}: skipped, there is no {compiler(snippet.kind)}")
             continue
         fault = fault_of(snippet)
         print(f"{snippet.place}: {snippet.kind}: {fault or 'passed'}", flush=True)

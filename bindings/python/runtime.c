@@ -1,6 +1,6 @@
 /* runtime.c: a runtime for test.py. It has one thread, which is in method 2 of method 1 and polls, and then a native
  * method. */
-#include "../../c/cebdyraq_wait.h"
+#include <cebdyraq_wait.h>
 
 #include <pthread.h>
 #include <sched.h>

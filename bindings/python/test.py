@@ -1,14 +1,16 @@
 #!/usr/bin/env python3
-"""Tests of cebdyraq.py against a small runtime in C.
+"""Tests of the package cebdyraq against a small runtime in C.
 
-    test.py ARCHIVE
+    test.py LIBRARY [INCLUDE]
 
-ARCHIVE is libcebdyraq.a, with or without the files of C that go with it. CC names the C compiler, otherwise cc.
+LIBRARY is libcebdyraq.a or libcebdyraq.so, or libti_capi.a, the proved half alone. INCLUDE is the folder of the headers, otherwise
+c/. CC names the C compiler, otherwise cc.
 """
 
 import ctypes
 import os
 import pathlib
+import shlex
 import subprocess
 import sys
 import tempfile
@@ -23,13 +25,15 @@ HERE = pathlib.Path(__file__).resolve().parent
 C = HERE.parent.parent / "c"
 
 
-def build(archive, folder):
+def build(library, include, folder):
     made = pathlib.Path(folder) / "libruntime.so"
-    whole = ["-Wl,--whole-archive", str(archive), "-Wl,--no-whole-archive"]
-    members = subprocess.run(["ar", "t", str(archive)], check=True, capture_output=True, text=True).stdout.split()
-    missing = [C / (name + ".c") for name in ("cebdyraq_heap", "cebdyraq_wait") if name + ".o" not in members]
-    subprocess.run([os.environ.get("CC", "cc"), "-shared", "-fPIC", "-O2", "-std=c11", "-o", str(made), *whole,
-                    str(HERE / "runtime.c"), *map(str, missing), "-lpthread"], check=True)
+    linked = [str(library), f"-Wl,-rpath,{library.parent}"]
+    if library.suffix == ".a":
+        linked = ["-Wl,--whole-archive", str(library), "-Wl,--no-whole-archive"]
+    if library.name == "libti_capi.a":
+        linked += map(str, C.glob("*.c"))
+    subprocess.run([*shlex.split(os.environ.get("CC", "cc")), "-shared", "-fPIC", "-O2", "-std=c11", f"-I{include}", "-o", str(made),
+                    str(HERE / "runtime.c"), *linked, "-lpthread"], check=True)
     return made
 
 
@@ -194,5 +198,7 @@ if __name__ == "__main__":
     if len(sys.argv) < 2:
         sys.exit(__doc__)
     with tempfile.TemporaryDirectory() as temporary:
-        WithRuntime.library = cebdyraq.load(build(pathlib.Path(sys.argv.pop(1)).resolve(), temporary))
+        library = pathlib.Path(sys.argv.pop(1)).resolve()
+        include = pathlib.Path(sys.argv.pop(1)).resolve() if sys.argv[1:] else C
+        WithRuntime.library = cebdyraq.load(build(library, include, temporary))
         unittest.main(verbosity=1)

@@ -1,7 +1,7 @@
 #!/usr/bin/env python3
 """Builds cqlua and tests it: python3 test.py [NAME..] runs all tests, or those whose name has one of the words.
 
-Variables of the Makefile go on to it from the environment: CEBDYRAQ_LIB, CEBDYRAQ_C, OUT.
+Variables of the Makefile go on to it from the environment: CEBDYRAQ, CEBDYRAQ_LIB, OUT.
 """
 import collections
 import math

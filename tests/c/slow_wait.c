@@ -39,7 +39,7 @@ static uint32_t slow_gather_step(cq_env *env, bool *over) {
     return code;
 }
 
-static long slow_syscall(long number, uint32_t *at, int what, uint32_t value, const struct timespec *until, void *none,
+static long slow_syscall(long number, uint32_t *at, int what, uint32_t value, const void *until, void *none,
                          uint32_t bits) {
     if (what == FUTEX_WAIT_BITSET_PRIVATE) {
         be_slow(20000);

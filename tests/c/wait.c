@@ -214,13 +214,13 @@ static void hand_over_wakes(void) {
 static void *wait_for_lists(void *unused) {
     const uint32_t threads[] = { 0, 0, 9 };
     uint32_t codes[3] = { 77, 77, 77 };
-    cq_wait_suspend_thread_list(&env, &signal_of_all, threads, 3, -1, codes);
+    OK(cq_wait_suspend_thread_list(&env, &signal_of_all, threads, 3, -1, codes));
     SAME(codes[0], CQ_OK);
     SAME(codes[1], CQ_THREAD_SUSPENDED);
     SAME(codes[2], CQ_INVALID_THREAD);
     atomic_store(&at, 1);
     rest(20 * MILLISECOND);
-    cq_wait_resume_thread_list(&env, &signal_of_all, threads, 3, -1, codes);
+    OK(cq_wait_resume_thread_list(&env, &signal_of_all, threads, 3, -1, codes));
     SAME(codes[0], CQ_OK);
     SAME(codes[1], CQ_THREAD_NOT_SUSPENDED);
     SAME(codes[2], CQ_INVALID_THREAD);
@@ -237,13 +237,58 @@ static void lists(void) {
     join(id);
     OK(cq_wait_poll(&thread, &signal_of_all));
     int64_t before = now_ns();
-    cq_wait_suspend_thread_list(&env, &signal_of_all, threads, 2, 5 * MILLISECOND, codes);
+    OK(cq_wait_suspend_thread_list(&env, &signal_of_all, threads, 2, 5 * MILLISECOND, codes));
     CHECK(now_ns() - before >= 5 * MILLISECOND);
     SAME(codes[0], CQ_TIMED_OUT);
     SAME(codes[1], CQ_TIMED_OUT);
     SAME(cq_poll(&thread), CQ_HELD);
     OK(cq_wait_resume_thread(&env, &signal_of_all, 0, -1));
     OK(cq_wait_back(&thread, &signal_of_all, -1));
+}
+
+static uint32_t both[2];
+
+static void *suspend_both(void *unused) {
+    uint32_t codes[2] = { 77, 77 };
+    OK(cq_wait_suspend_thread_list(&env, &signal_of_all, both, 2, -1, codes));
+    SAME(codes[0], CQ_OK);
+    SAME(codes[1], CQ_OK);
+    OK(cq_wait_resume_thread_list(&env, &signal_of_all, both, 2, -1, codes));
+    SAME(codes[0], CQ_OK);
+    SAME(codes[1], CQ_OK);
+    return unused;
+}
+
+/* A list is posted at its second thread before the first one has polled. */
+static void list_is_posted_before_it_waits(void) {
+    cq_thread second = { 0, NULL };
+    OK(cq_wait_attach_thread(&service, &signal_of_all, (const uint8_t *)"", 0, 5, &second));
+    OK(cq_thread_number(&second, &both[1]));
+    OK(cq_wait_meet(&env, &signal_of_all));
+    OK(cq_wait_start(&second, &signal_of_all, -1));
+    pthread_t id = run(suspend_both);
+    int64_t end = now_ns() + LONG;
+    while (cq_poll_clear(&second)) {
+        CHECK(now_ns() < end);
+        rest(MILLISECOND);
+    }
+    SAME(cq_poll(&second), CQ_HELD);
+    SAME(cq_poll(&thread), CQ_HELD);
+    cq_wake(&signal_of_all);
+    OK(cq_wait_back(&second, &signal_of_all, -1));
+    OK(cq_wait_back(&thread, &signal_of_all, -1));
+    join(id);
+    OK(cq_wait_end(&second, &signal_of_all));
+    OK(cq_wait_detach_thread(&second, &signal_of_all));
+}
+
+/* Without the capability a list is refused as a whole, and no code is written. */
+static void list_without_capability(void) {
+    uint32_t codes[1] = { 77 };
+    OK(cq_relinquish_capabilities(&env, CQ_CAN_SUSPEND));
+    SAME(cq_wait_suspend_thread_list(&env, &signal_of_all, both, 1, -1, codes), CQ_MUST_POSSESS_CAPABILITY);
+    SAME(cq_wait_resume_thread_list(&env, &signal_of_all, both, 0, -1, codes), CQ_MUST_POSSESS_CAPABILITY);
+    SAME(codes[0], 77);
 }
 
 int main(void) {
@@ -254,6 +299,8 @@ int main(void) {
     event_wakes();
     hand_over_wakes();
     lists();
+    list_is_posted_before_it_waits();
+    list_without_capability();
     tear_down();
     return 0;
 }

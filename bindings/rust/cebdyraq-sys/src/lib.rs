@@ -1,9 +1,22 @@
 //! The functions of `cebdyraq.h` and `cebdyraq_wait.h`. Their rules are there.
+//!
+//! The build finds the shared library by pkg-config, or links `libcebdyraq.a` of the folder that `CEBDYRAQ_LIB_DIR` names.
 #![no_std]
 #![allow(non_camel_case_types)]
 
 use core::ffi::c_void;
 use core::ptr::null_mut;
+
+/// The version whose functions are declared here.
+pub const CQ_VERSION_MAJOR: u32 = 1;
+pub const CQ_VERSION_MINOR: u32 = 0;
+
+/// Whether the library that the program runs with has all of them, as `cq_version_fits` of `cebdyraq.h` says.
+pub fn version_fits() -> bool {
+    // SAFETY: it reads nothing and writes nothing.
+    let version = unsafe { cq_version() } / 1000;
+    version / 1000 == CQ_VERSION_MAJOR && version % 1000 + 1 > CQ_VERSION_MINOR
+}
 
 macro_rules! handle {
     ($($name:ident)*) => { $(
@@ -127,6 +140,12 @@ codes! {
 
 extern "C" {
     // cebdyraq.h
+    pub fn cq_version() -> u32;
+    pub fn cq_set_heap(
+        allocate: extern "C" fn(usize) -> *mut c_void,
+        resize: extern "C" fn(*mut c_void, usize) -> *mut c_void,
+        release: extern "C" fn(*mut c_void),
+    ) -> u32;
     pub fn cq_make(depth: u32, envs: u32, window: u32, service: *mut cq_service) -> u32;
     pub fn cq_share(service: *mut cq_service, other: *mut cq_service) -> u32;
     pub fn cq_free(service: *mut cq_service) -> u32;
@@ -317,7 +336,7 @@ extern "C" {
         count: usize,
         timeout_ns: i64,
         codes: *mut u32,
-    );
+    ) -> u32;
     pub fn cq_wait_resume_thread_list(
         env: *mut cq_env,
         signal: *mut cq_signal,
@@ -325,7 +344,7 @@ extern "C" {
         count: usize,
         timeout_ns: i64,
         codes: *mut u32,
-    );
+    ) -> u32;
     pub fn cq_wait_get_all_stack_traces(
         env: *mut cq_env,
         signal: *mut cq_signal,

@@ -234,24 +234,25 @@ impl Environment {
         checked(unsafe { sys::cq_wait_resume_thread(self.at(), self.signal.at(), thread, self.time()) })
     }
 
-    /// SuspendThreadList: the threads one after the other, and a result for each.
-    pub fn suspend_thread_list(&mut self, threads: &[u32]) -> Vec<Result<(), Error>> {
+    /// SuspendThreadList: a result for each thread. All are asked before the first is waited for. The error is that of the whole
+    /// list, and then no thread is suspended.
+    pub fn suspend_thread_list(&mut self, threads: &[u32]) -> Result<Vec<Result<(), Error>>, Error> {
         let mut codes = vec![0; threads.len()];
         let (at, count, time) = (threads.as_ptr(), threads.len(), self.time());
-        unsafe {
-            sys::cq_wait_suspend_thread_list(self.at(), self.signal.at(), at, count, time, codes.as_mut_ptr());
-        }
-        codes.into_iter().map(checked).collect()
+        checked(unsafe {
+            sys::cq_wait_suspend_thread_list(self.at(), self.signal.at(), at, count, time, codes.as_mut_ptr())
+        })?;
+        Ok(codes.into_iter().map(checked).collect())
     }
 
-    /// ResumeThreadList: the threads one after the other, and a result for each.
-    pub fn resume_thread_list(&mut self, threads: &[u32]) -> Vec<Result<(), Error>> {
+    /// ResumeThreadList: a result for each thread. The error is that of the whole list, and then no thread is resumed.
+    pub fn resume_thread_list(&mut self, threads: &[u32]) -> Result<Vec<Result<(), Error>>, Error> {
         let mut codes = vec![0; threads.len()];
         let (at, count, time) = (threads.as_ptr(), threads.len(), self.time());
-        unsafe {
-            sys::cq_wait_resume_thread_list(self.at(), self.signal.at(), at, count, time, codes.as_mut_ptr());
-        }
-        codes.into_iter().map(checked).collect()
+        checked(unsafe {
+            sys::cq_wait_resume_thread_list(self.at(), self.signal.at(), at, count, time, codes.as_mut_ptr())
+        })?;
+        Ok(codes.into_iter().map(checked).collect())
     }
 
     /// PopFrame, with [`capabilities::POP_FRAME`].

@@ -44,7 +44,12 @@ impl Service {
 
     /// Makes a service. Its threads have at most `depth` frames, 1 to 65,536. At most `envs` environments are there at
     /// once, 1 to 32. Each may have `window` calls out at a thread that were posted and not collected, 1 to 1,024.
+    ///
+    /// # Panics
+    ///
+    /// If the version of libcebdyraq is not one that this crate is for.
     pub fn make(depth: u32, envs: u32, window: u32) -> Result<Service, Error> {
+        assert!(sys::version_fits(), "this version of libcebdyraq does not fit cebdyraq {}", env!("CARGO_PKG_VERSION"));
         let mut made = Service::empty(Arc::default());
         // SAFETY: the handle is empty, and this call alone uses it.
         match checked(unsafe { sys::cq_make(depth, envs, window, &mut *made.handle) }) {

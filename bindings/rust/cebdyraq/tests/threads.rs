@@ -75,12 +75,12 @@ fn a_suspended_thread_stays() {
     env.add_capabilities(capabilities::SUSPEND | capabilities::POP_FRAME).unwrap();
     assert_eq!(env.add_capabilities(4), Err(Error::NotAvailable));
     while_polling(&mut running, || {
-        assert_eq!(env.suspend_thread_list(&[0, 0]), [Ok(()), Err(Error::ThreadSuspended)]);
+        assert_eq!(env.suspend_thread_list(&[0, 0]).unwrap(), [Ok(()), Err(Error::ThreadSuspended)]);
         assert_eq!(env.get_thread_state(0), Ok(0x100005));
         assert_eq!(env.pop_frame(0), Ok(()));
         assert_eq!(env.get_frame_location(0, 0), Ok(Frame { method: 1, location: 9 }));
         assert_eq!(env.pop_frame(0), Err(Error::NoMoreFrames));
-        assert_eq!(env.resume_thread_list(&[0, 0]), [Ok(()), Err(Error::ThreadNotSuspended)]);
+        assert_eq!(env.resume_thread_list(&[0, 0]).unwrap(), [Ok(()), Err(Error::ThreadNotSuspended)]);
     });
 }
 

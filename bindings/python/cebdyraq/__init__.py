@@ -1,0 +1,23 @@
+"""An agent's side of Cebdyraq: an environment that inspects the threads of a runtime in the same process.
+
+The runtime uses libcebdyraq.so.1, or has the whole of libcebdyraq.a linked into a shared library of its own:
+
+    cc -shared -fPIC -o libruntime.so runtime.c -Wl,--whole-archive libcebdyraq.a -Wl,--no-whole-archive
+
+It gives the addresses of its cq_service and its cq_signal. An Environment is attached to them:
+
+    library = cebdyraq.load("libruntime.so")
+    with cebdyraq.Environment(library, service, signal) as env:
+        env.meet()
+        for thread in env.get_all_threads():
+            print(thread, env.get_stack_trace(thread))
+
+The functions have the names and the rules of cebdyraq.h. They wait asleep, as those of cebdyraq_wait.h do, and other Python
+threads run on meanwhile. A `timeout` is in seconds, and None is for ever. A code other than CQ_OK is raised as an Error.
+"""
+
+from ._environment import Environment, Posted
+from ._library import load
+from ._values import Capability, Code, Error, Event, EventKind, Frame, StackInfo, ThreadInfo
+
+__all__ = ["Capability", "Code", "Environment", "Error", "Event", "EventKind", "Frame", "Posted", "StackInfo", "ThreadInfo", "load"]

@@ -1,0 +1,123 @@
+"""The library's functions and structs, by ctypes."""
+
+import ctypes
+import os
+from typing import Any, Dict, List, Optional, Sequence, Union
+
+VERSION = (1, 0)
+
+
+class Handle(ctypes.Structure):
+    _fields_ = [("kind", ctypes.c_uint32), ("at", ctypes.c_void_p)]
+
+
+class Frame(ctypes.Structure):
+    _fields_ = [("method", ctypes.c_uint32), ("location", ctypes.c_int64)]
+
+
+class Ticket(ctypes.Structure):
+    _fields_ = [("env", ctypes.c_uint32), ("thread", ctypes.c_uint32), ("no", ctypes.c_uint64)]
+
+
+class Answer(ctypes.Structure):
+    _fields_ = [("number", ctypes.c_uint64), ("frame", Frame), ("ticket", Ticket)]
+
+
+class ThreadInfo(ctypes.Structure):
+    _fields_ = [("name_length", ctypes.c_uint64), ("priority", ctypes.c_int32)]
+
+
+class Event(ctypes.Structure):
+    _fields_ = [("kind", ctypes.c_uint32), ("thread", ctypes.c_uint32), ("lost", ctypes.c_uint64)]
+
+
+class StackInfo(ctypes.Structure):
+    _fields_ = [("thread", ctypes.c_uint32), ("state", ctypes.c_uint32), ("frame_count", ctypes.c_uint64)]
+
+
+U32, U64, I32, I64, SIZE = ctypes.c_uint32, ctypes.c_uint64, ctypes.c_int32, ctypes.c_int64, ctypes.c_size_t
+BOOL, AT = ctypes.c_bool, ctypes.c_void_p
+
+
+def in_range(kind: Any, least: int, most: int) -> Any:
+    """An argument of this type. A number out of its range is refused, and not cut off."""
+
+    def from_param(_: Any, value: int) -> Any:
+        if not least <= value <= most:
+            raise OverflowError(f"{value} is not in the range {least} to {most}")
+        return kind(value)
+
+    return type("In" + kind.__name__, (kind,), {"from_param": classmethod(from_param)})
+
+
+NUMBER, WORD, INT = in_range(U32, 0, 2**32 - 1), in_range(U64, 0, 2**64 - 1), in_range(I32, -2**31, 2**31 - 1)
+
+
+def numbers(threads: Sequence[int]) -> Any:
+    return (U32 * len(threads))(*(NUMBER.from_param(thread) for thread in threads))
+
+
+def room_for(max_count: int) -> Any:
+    """Room for the frames of a trace. A stack has 65,536 frames at most."""
+    return (Frame * max(1, min(max_count, 65536)))()
+
+
+# The arguments of each function, after the handle. A pointer is a void pointer here.
+FUNCTIONS: Dict[str, List[Any]] = {
+    "cq_wait_attach_environment": [AT, AT],
+    "cq_wait_meet": [AT],
+    "cq_has_news": [],
+    "cq_wait_let_go": [AT, NUMBER, AT],
+    "cq_wait_get_all_threads": [AT, AT, SIZE, AT],
+    "cq_wait_get_thread_info": [AT, NUMBER, AT, AT, SIZE],
+    "cq_wait_get_thread_state": [AT, NUMBER, I64, AT],
+    "cq_wait_get_frame_count": [AT, NUMBER, I64, AT],
+    "cq_wait_get_frame_location": [AT, NUMBER, INT, I64, AT],
+    "cq_wait_get_stack_trace": [AT, NUMBER, INT, INT, I64, AT, SIZE, AT],
+    "cq_wait_suspend_thread": [AT, NUMBER, I64],
+    "cq_wait_resume_thread": [AT, NUMBER, I64],
+    "cq_wait_suspend_thread_list": [AT, AT, SIZE, I64, AT],
+    "cq_wait_resume_thread_list": [AT, AT, SIZE, I64, AT],
+    "cq_wait_pop_frame": [AT, NUMBER, I64],
+    "cq_wait_get_all_stack_traces": [AT, INT, I64, AT],
+    "cq_wait_get_thread_list_stack_traces": [AT, AT, SIZE, INT, I64, AT],
+    "cq_gathered_stack": [WORD, AT, AT, SIZE],
+    "cq_wait_get_thread_local_storage": [AT, NUMBER, I64, AT],
+    "cq_wait_set_thread_local_storage": [AT, NUMBER, WORD, I64],
+    "cq_wait_collect": [AT, AT, I64, AT, AT, SIZE],
+    "cq_wait_cancel": [AT, AT],
+    "cq_wait_discard": [AT, NUMBER, AT],
+    "cq_out_at": [NUMBER, AT],
+    "cq_get_frame_count": [NUMBER, AT],
+    "cq_get_frame_location": [NUMBER, INT, AT],
+    "cq_get_stack_trace": [NUMBER, INT, INT, AT, AT, SIZE],
+    "cq_suspend_thread": [NUMBER, AT],
+    "cq_pop_frame": [NUMBER, AT],
+    "cq_add_capabilities": [NUMBER],
+    "cq_relinquish_capabilities": [NUMBER],
+    "cq_get_capabilities": [AT],
+    "cq_get_potential_capabilities": [AT],
+    "cq_get_environment_local_storage": [AT],
+    "cq_set_environment_local_storage": [WORD],
+    "cq_wait_set_event_notification_mode": [AT, BOOL],
+    "cq_wait_next_event": [AT, I64, AT],
+    "cq_wait_dispose_environment": [AT],
+}
+
+WITHOUT_CODE: Dict[str, Any] = {"cq_has_news": BOOL}
+
+
+def load(path: Optional[Union[str, "os.PathLike[str]"]] = None) -> ctypes.CDLL:
+    """Loads a shared library that has the functions of cebdyraq.h and cebdyraq_wait.h. Without a path it is the installed one.
+
+    An OSError says that there is none, and an ImportError that its version does not fit."""
+    library = ctypes.CDLL("libcebdyraq.so.1" if path is None else os.fspath(path))
+    library.cq_version.restype = U32
+    major, minor = divmod(library.cq_version() // 1000, 1000)
+    if major != VERSION[0] or minor < VERSION[1]:
+        raise ImportError(f"libcebdyraq {major}.{minor} does not fit this package, which is for {VERSION[0]}.{VERSION[1]}")
+    for name, arguments in FUNCTIONS.items():
+        function = getattr(library, name)
+        function.argtypes = [AT] + arguments
+        function.restype = WITHOUT_CODE.get(name, U32)
+    return library

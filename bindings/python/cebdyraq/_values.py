@@ -1,0 +1,87 @@
+"""What the calls take and give."""
+
+import enum
+from typing import List, NamedTuple
+
+
+class Code(enum.IntEnum):
+    """The codes of c/cebdyraq.h."""
+
+    OK = 0
+    INVALID_THREAD = 10
+    THREAD_NOT_SUSPENDED = 13
+    THREAD_SUSPENDED = 14
+    THREAD_NOT_ALIVE = 15
+    NO_MORE_FRAMES = 31
+    OPAQUE_FRAME = 32
+    NOT_AVAILABLE = 98
+    MUST_POSSESS_CAPABILITY = 99
+    ILLEGAL_ARGUMENT = 103
+    OUT_OF_MEMORY = 110
+    OVERFLOW = 201
+    NO_FRAME = 202
+    NOT_JAVA_FRAME = 203
+    NOT_RUNNING = 204
+    NOT_SAFE = 205
+    BARRED = 206
+    NO_NATIVE_FRAME = 207
+    OWN_SPENT = 208
+    CALLS_SPENT = 209
+    NOT_NEW = 210
+    ALREADY_STOPPED = 211
+    STILL_RUNNING = 213
+    TIMED_OUT = 214
+    BUSY = 215
+    FULL = 216
+    HELD = 301
+    WAITING = 302
+    NONE = 303
+    MISUSED = 304
+
+
+class Capability(enum.IntFlag):
+    SUSPEND = 1
+    POP_FRAME = 2
+
+
+class EventKind(enum.IntEnum):
+    THREAD_START = 0
+    THREAD_END = 1
+
+
+class Error(Exception):
+    """A call was refused. `code` says why."""
+
+    code: Code
+
+    def __init__(self, code: int) -> None:
+        self.code = Code(code)
+        super().__init__(f"{self.code.value} {self.code.name}")
+
+
+class Frame(NamedTuple):
+    """A method by its number, and a location in it, or -1 if it is native."""
+
+    method: int
+    location: int
+
+
+class ThreadInfo(NamedTuple):
+    name: str
+    priority: int
+
+
+class StackInfo(NamedTuple):
+    """What a trace of several threads tells of one: its number, the bits of its state, and its frames, newest first."""
+
+    thread: int
+    state: int
+    frames: List[Frame]
+
+
+class Event(NamedTuple):
+    """What happened to a thread, and how many events were lost before it."""
+
+    kind: EventKind
+    thread: int
+    lost: int

@@ -1,0 +1,395 @@
+/* cebdyraq.hpp: cebdyraq.h and cebdyraq_wait.h for C++17, as types that free what they hold.
+ *
+ * A function does what that of its name does in C, and waits asleep. A code other than CQ_OK is thrown as an `error`. A `time`
+ * is in nanoseconds, and `forever` is no deadline. Each object is used by one thread of the operating system at a time. It may
+ * be moved, and an object that was moved from may only be destroyed or assigned to.
+ *
+ * Calls that are posted and collected later are not here. They are made in C with the handle that `get` gives. */
+#ifndef CEBDYRAQ_HPP
+#define CEBDYRAQ_HPP
+
+#include "cebdyraq_wait.h"
+
+#include <algorithm>
+#include <chrono>
+#include <cstddef>
+#include <cstdint>
+#include <memory>
+#include <stdexcept>
+#include <string>
+#include <string_view>
+#include <utility>
+#include <vector>
+
+namespace cebdyraq {
+
+enum class code : std::uint32_t {
+    ok = CQ_OK,
+    invalid_thread = CQ_INVALID_THREAD,
+    thread_not_suspended = CQ_THREAD_NOT_SUSPENDED,
+    thread_suspended = CQ_THREAD_SUSPENDED,
+    thread_not_alive = CQ_THREAD_NOT_ALIVE,
+    no_more_frames = CQ_NO_MORE_FRAMES,
+    opaque_frame = CQ_OPAQUE_FRAME,
+    not_available = CQ_NOT_AVAILABLE,
+    must_possess_capability = CQ_MUST_POSSESS_CAPABILITY,
+    illegal_argument = CQ_ILLEGAL_ARGUMENT,
+    out_of_memory = CQ_OUT_OF_MEMORY,
+    overflow = CQ_OVERFLOW,
+    no_frame = CQ_NO_FRAME,
+    not_java_frame = CQ_NOT_JAVA_FRAME,
+    not_running = CQ_NOT_RUNNING,
+    not_safe = CQ_NOT_SAFE,
+    barred = CQ_BARRED,
+    no_native_frame = CQ_NO_NATIVE_FRAME,
+    own_spent = CQ_OWN_SPENT,
+    calls_spent = CQ_CALLS_SPENT,
+    not_new = CQ_NOT_NEW,
+    already_stopped = CQ_ALREADY_STOPPED,
+    still_running = CQ_STILL_RUNNING,
+    timed_out = CQ_TIMED_OUT,
+    busy = CQ_BUSY,
+    full = CQ_FULL,
+    held = CQ_HELD,
+    waiting = CQ_WAITING,
+    none = CQ_NONE,
+    misused = CQ_MISUSED
+};
+
+enum class reason : std::uint32_t {
+    monitor_enter = CQ_MONITOR_ENTER,
+    object_wait = CQ_OBJECT_WAIT,
+    timed_wait = CQ_TIMED_WAIT,
+    sleep = CQ_SLEEP,
+    park = CQ_PARK,
+    timed_park = CQ_TIMED_PARK
+};
+
+using frame = cq_frame;
+using event = cq_event;
+using time = std::chrono::nanoseconds;
+inline constexpr time forever{-1};
+
+/* A call was refused. `why` says for which reason. */
+class error : public std::runtime_error {
+public:
+    explicit error(code why) : std::runtime_error("cebdyraq: code " + std::to_string(std::uint32_t(why))), why_(why) {}
+    code why() const noexcept { return why_; }
+
+private:
+    code why_;
+};
+
+inline void check(std::uint32_t got) {
+    if (got != CQ_OK) throw error(code(got));
+}
+
+/* What is told of a thread (GetThreadInfo). */
+struct thread_info {
+    std::string name;
+    std::int32_t priority;
+};
+
+/* What a trace of several threads tells of one. The frames are newest first. */
+struct stack_info {
+    std::uint32_t thread;
+    std::uint32_t state;
+    std::vector<frame> frames;
+};
+
+/* A handle, which stays where it is, and the signal of its service. */
+template <class Handle>
+class holder {
+public:
+    Handle *get() const noexcept { return handle_.get(); }
+    cq_signal *signal() const noexcept { return signal_.get(); }
+
+protected:
+    explicit holder(std::shared_ptr<cq_signal> signal) : handle_(std::make_unique<Handle>()), signal_(std::move(signal)) {}
+    holder(holder &&) noexcept = default;
+    holder &operator=(holder &&other) noexcept {
+        std::swap(handle_, other.handle_);
+        std::swap(signal_, other.signal_);
+        return *this;
+    }
+    ~holder() = default;
+    std::shared_ptr<cq_signal> shared_signal() const { return signal_; }
+
+private:
+    std::unique_ptr<Handle> handle_;
+    std::shared_ptr<cq_signal> signal_;
+};
+
+/* A thread of the runtime. When it is destroyed it returns, ends and is given back. So its destructor waits while the thread is
+ * suspended. */
+class thread : public holder<cq_thread> {
+public:
+    thread(thread &&) noexcept = default;
+    thread &operator=(thread &&) noexcept = default;
+    ~thread() {
+        if (get() == nullptr) return;
+        cq_wait_back(get(), signal(), -1);
+        cq_wait_end(get(), signal());
+        cq_wait_detach_thread(get(), signal());
+    }
+
+    std::uint32_t number() const {
+        std::uint32_t found = 0;
+        check(cq_thread_number(get(), &found));
+        return found;
+    }
+
+    void start(time within = forever) { check(cq_wait_start(get(), signal(), within.count())); }
+    void enter(std::uint32_t method) { check(cq_enter(get(), method)); }
+    void enter_native(std::uint32_t method) { check(cq_enter_native(get(), method)); }
+    void at(std::uint32_t location) { check(cq_at(get(), location)); }
+    void leave() { check(cq_leave(get())); }
+    void set_frames(const std::vector<frame> &frames) {
+        const frame none{};
+        check(cq_set_frames(get(), frames.empty() ? &none : frames.data(), frames.size()));
+    }
+
+    bool poll_clear() const { return cq_poll_clear(get()); }
+    void poll() { check(cq_wait_poll(get(), signal())); }
+    void end() { check(cq_wait_end(get(), signal())); }
+
+    /* The thread is in native code, or blocked, as long as this lives. Its destructor returns, and waits while the thread is
+     * suspended. */
+    class away {
+    public:
+        away(const away &) = delete;
+        away &operator=(const away &) = delete;
+        ~away() { cq_wait_back(thread_.get(), thread_.signal(), -1); }
+
+    private:
+        friend class thread;
+        explicit away(thread &gone) : thread_(gone) {}
+        thread &thread_;
+    };
+    [[nodiscard]] away native() {
+        check(cq_wait_native(get(), signal()));
+        return away(*this);
+    }
+    [[nodiscard]] away block(reason why) {
+        check(cq_wait_block(get(), signal(), std::uint32_t(why)));
+        return away(*this);
+    }
+
+private:
+    friend class service;
+    using holder::holder;
+};
+
+/* An agent's environment. When it is destroyed, it is disposed of. A thread that it suspended stays suspended. */
+class environment : public holder<cq_env> {
+public:
+    environment(environment &&) noexcept = default;
+    environment &operator=(environment &&) noexcept = default;
+    ~environment() {
+        if (get() != nullptr) cq_wait_dispose_environment(get(), signal());
+    }
+
+    void meet() { check(cq_wait_meet(get(), signal())); }
+    bool has_news() const { return cq_has_news(get()); }
+    bool let_go(std::uint32_t thread) {
+        bool gone = false;
+        check(cq_wait_let_go(get(), signal(), thread, &gone));
+        return gone;
+    }
+
+    std::vector<std::uint32_t> get_all_threads() {
+        std::vector<std::uint32_t> threads(64);
+        for (std::uint64_t count = 0;;) {
+            check(cq_wait_get_all_threads(get(), signal(), threads.data(), threads.size(), &count));
+            bool all = count <= threads.size();
+            threads.resize(count);
+            if (all) return threads;
+        }
+    }
+
+    thread_info get_thread_info(std::uint32_t thread) {
+        std::vector<std::uint8_t> name(64);
+        for (cq_thread_info info{};;) {
+            check(cq_wait_get_thread_info(get(), signal(), thread, &info, name.data(), name.size()));
+            bool all = info.name_length <= name.size();
+            name.resize(info.name_length);
+            if (all) return {std::string(name.begin(), name.end()), info.priority};
+        }
+    }
+
+    std::uint32_t get_thread_state(std::uint32_t thread, time within = forever) {
+        std::uint32_t state = 0;
+        check(cq_wait_get_thread_state(get(), signal(), thread, within.count(), &state));
+        return state;
+    }
+
+    std::uint32_t get_frame_count(std::uint32_t thread, time within = forever) {
+        std::uint32_t count = 0;
+        check(cq_wait_get_frame_count(get(), signal(), thread, within.count(), &count));
+        return count;
+    }
+
+    frame get_frame_location(std::uint32_t thread, std::int32_t depth, time within = forever) {
+        frame found{};
+        check(cq_wait_get_frame_location(get(), signal(), thread, depth, within.count(), &found));
+        return found;
+    }
+
+    /* At most `max_count` frames, newest first. A stack has 65,536 frames at most. */
+    std::vector<frame> get_stack_trace(std::uint32_t thread, std::int32_t start, std::int32_t max_count,
+                                       time within = forever) {
+        std::vector<frame> frames(std::size_t(std::clamp(max_count, 1, 65536)));
+        std::uint32_t count = 0;
+        check(cq_wait_get_stack_trace(get(), signal(), thread, start, max_count, within.count(), frames.data(), frames.size(),
+                                      &count));
+        frames.resize(count);
+        return frames;
+    }
+
+    std::vector<stack_info> get_all_stack_traces(std::int32_t max_count, time within = forever) {
+        std::uint64_t count = 0;
+        check(cq_wait_get_all_stack_traces(get(), signal(), max_count, within.count(), &count));
+        return gathered(count);
+    }
+
+    std::vector<stack_info> get_thread_list_stack_traces(const std::vector<std::uint32_t> &threads, std::int32_t max_count,
+                                                         time within = forever) {
+        std::uint64_t count = 0;
+        check(cq_wait_get_thread_list_stack_traces(get(), signal(), data(threads), threads.size(), max_count, within.count(),
+                                                   &count));
+        return gathered(count);
+    }
+
+    void suspend_thread(std::uint32_t thread, time within = forever) {
+        check(cq_wait_suspend_thread(get(), signal(), thread, within.count()));
+    }
+    void resume_thread(std::uint32_t thread, time within = forever) {
+        check(cq_wait_resume_thread(get(), signal(), thread, within.count()));
+    }
+
+    /* A code for each thread of the list. */
+    std::vector<code> suspend_thread_list(const std::vector<std::uint32_t> &threads, time within = forever) {
+        return each(cq_wait_suspend_thread_list, threads, within);
+    }
+    std::vector<code> resume_thread_list(const std::vector<std::uint32_t> &threads, time within = forever) {
+        return each(cq_wait_resume_thread_list, threads, within);
+    }
+
+    void pop_frame(std::uint32_t thread, time within = forever) {
+        check(cq_wait_pop_frame(get(), signal(), thread, within.count()));
+    }
+
+    std::uint64_t get_thread_local_storage(std::uint32_t thread, time within = forever) {
+        std::uint64_t word = 0;
+        check(cq_wait_get_thread_local_storage(get(), signal(), thread, within.count(), &word));
+        return word;
+    }
+    void set_thread_local_storage(std::uint32_t thread, std::uint64_t word, time within = forever) {
+        check(cq_wait_set_thread_local_storage(get(), signal(), thread, word, within.count()));
+    }
+
+    void add_capabilities(std::uint32_t capabilities) { check(cq_add_capabilities(get(), capabilities)); }
+    void relinquish_capabilities(std::uint32_t capabilities) { check(cq_relinquish_capabilities(get(), capabilities)); }
+    std::uint32_t get_capabilities() const {
+        std::uint32_t found = 0;
+        check(cq_get_capabilities(get(), &found));
+        return found;
+    }
+    std::uint32_t get_potential_capabilities() const {
+        std::uint32_t found = 0;
+        check(cq_get_potential_capabilities(get(), &found));
+        return found;
+    }
+
+    std::uint64_t get_environment_local_storage() const {
+        std::uint64_t word = 0;
+        check(cq_get_environment_local_storage(get(), &word));
+        return word;
+    }
+    void set_environment_local_storage(std::uint64_t word) { check(cq_set_environment_local_storage(get(), word)); }
+
+    void set_event_notification_mode(bool enabled) { check(cq_wait_set_event_notification_mode(get(), signal(), enabled)); }
+    event next_event(time within = forever) {
+        event next{};
+        check(cq_wait_next_event(get(), signal(), within.count(), &next));
+        return next;
+    }
+
+private:
+    friend class service;
+    using holder::holder;
+
+    static const std::uint32_t *data(const std::vector<std::uint32_t> &threads) {
+        static const std::uint32_t none = 0;
+        return threads.empty() ? &none : threads.data();
+    }
+
+    std::vector<code> each(decltype(cq_wait_suspend_thread_list) *call, const std::vector<std::uint32_t> &threads,
+                           time within) {
+        std::vector<std::uint32_t> codes(threads.size() + 1);
+        check(call(get(), signal(), data(threads), threads.size(), within.count(), codes.data()));
+        codes.pop_back();
+        std::vector<code> told;
+        for (std::uint32_t one : codes) told.push_back(code(one));
+        return told;
+    }
+
+    std::vector<stack_info> gathered(std::uint64_t count) {
+        std::vector<stack_info> stacks;
+        for (std::uint64_t index = 0; index < count; index++) {
+            cq_stack_info info{};
+            std::vector<frame> frames(1);
+            check(cq_gathered_stack(get(), index, &info, frames.data(), 0));
+            frames.resize(info.frame_count + 1);
+            check(cq_gathered_stack(get(), index, &info, frames.data(), info.frame_count));
+            frames.pop_back();
+            stacks.push_back({info.thread, info.state, std::move(frames)});
+        }
+        return stacks;
+    }
+};
+
+/* A handle of a service. The service lives as long as one of its handles, threads or environments. */
+class service : public holder<cq_service> {
+public:
+    /* Throws std::runtime_error if the library does not fit the header (cq_version_fits). */
+    service(std::uint32_t depth, std::uint32_t envs, std::uint32_t window) : holder(std::make_shared<cq_signal>()) {
+        if (!cq_version_fits()) {
+            throw std::runtime_error("libcebdyraq has the version " + std::to_string(cq_version()) +
+                                     ", which does not fit the header");
+        }
+        check(cq_make(depth, envs, window, get()));
+    }
+    service(service &&) noexcept = default;
+    service &operator=(service &&) noexcept = default;
+    ~service() {
+        if (get() != nullptr) cq_free(get());
+    }
+
+    service share() {
+        service other(shared_signal());
+        check(cq_share(get(), other.get()));
+        return other;
+    }
+
+    thread attach_thread(std::string_view name, std::int32_t priority) {
+        thread made(shared_signal());
+        std::vector<std::uint8_t> bytes(name.begin(), name.end());
+        bytes.push_back(0);
+        check(cq_wait_attach_thread(get(), signal(), bytes.data(), name.size(), priority, made.get()));
+        return made;
+    }
+
+    environment attach_environment() {
+        environment made(shared_signal());
+        check(cq_wait_attach_environment(get(), signal(), made.get()));
+        return made;
+    }
+
+private:
+    using holder::holder;
+};
+
+}  // namespace cebdyraq
+
+#endif

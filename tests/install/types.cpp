@@ -1,0 +1,176 @@
+// types.cpp: the types of cebdyraq.hpp, with a thread of the operating system for the runtime's thread.
+#include <cebdyraq.hpp>
+
+#include <atomic>
+#include <cstdio>
+#include <thread>
+
+namespace {
+
+int failures = 0;
+
+void expect(bool holds, const char *what, int line) {
+    if (holds) return;
+    failures++;
+    std::fprintf(stderr, "line %d: not so: %s\n", line, what);
+}
+#define EXPECT(...) expect((__VA_ARGS__), #__VA_ARGS__, __LINE__)
+
+template <class Call>
+cebdyraq::code refused(Call call) {
+    try {
+        call();
+    } catch (const cebdyraq::error &error) {
+        return error.why();
+    }
+    return cebdyraq::code::ok;
+}
+
+bool same(const std::vector<cebdyraq::frame> &found, const std::vector<cebdyraq::frame> &wanted) {
+    if (found.size() != wanted.size()) return false;
+    for (std::size_t i = 0; i < found.size(); i++) {
+        if (found[i].method != wanted[i].method || found[i].location != wanted[i].location) return false;
+    }
+    return true;
+}
+
+/* Polls on a thread of its own as long as this lives. */
+class polling {
+public:
+    explicit polling(cebdyraq::thread &running) : runner_([this, &running] {
+        while (!over_) {
+            running.poll();
+            std::this_thread::yield();
+        }
+    }) {}
+    ~polling() {
+        over_ = true;
+        runner_.join();
+    }
+
+private:
+    std::atomic<bool> over_{false};
+    std::thread runner_;
+};
+
+void test_stacks() {
+    cebdyraq::service service(8, 2, 4);
+    auto thread = service.attach_thread("w\xC3\xB6rker", 7);
+    auto env = service.attach_environment();
+    thread.start();
+    thread.enter(1);
+    thread.at(17);
+    thread.enter(2);
+    env.meet();
+    EXPECT(thread.number() == 0 && env.get_all_threads() == std::vector<std::uint32_t>{0});
+    EXPECT(env.get_thread_info(0).name == "w\xC3\xB6rker" && env.get_thread_info(0).priority == 7);
+    {
+        polling runner(thread);
+        EXPECT(env.get_thread_state(0) == 0x5);
+        EXPECT(env.get_frame_count(0) == 2);
+        EXPECT(env.get_frame_location(0, 1).location == 17);
+        EXPECT(same(env.get_stack_trace(0, 0, 8), {{2, 0}, {1, 17}}));
+        EXPECT(same(env.get_stack_trace(0, -1, 8), {{1, 17}}));
+        auto all = env.get_all_stack_traces(1);
+        EXPECT(all.size() == 1 && all[0].thread == 0 && all[0].state == 0x5 && same(all[0].frames, {{2, 0}}));
+        auto twice = env.get_thread_list_stack_traces({0, 0}, 8);
+        EXPECT(twice.size() == 2 && same(twice[1].frames, {{2, 0}, {1, 17}}));
+        EXPECT(env.get_thread_list_stack_traces({}, 8).empty());
+        EXPECT(refused([&] { env.get_frame_count(1); }) == cebdyraq::code::invalid_thread);
+        EXPECT(refused([&] { env.get_stack_trace(0, 0, -1); }) == cebdyraq::code::illegal_argument);
+    }
+    EXPECT(refused([&] { env.get_frame_count(0, std::chrono::milliseconds(1)); }) == cebdyraq::code::timed_out);
+    EXPECT(!thread.poll_clear());
+    thread.set_frames({});
+    thread.poll();
+    EXPECT(thread.poll_clear());
+}
+
+void test_blocks() {
+    cebdyraq::service service(8, 1, 4);
+    auto thread = service.attach_thread("", 5);
+    auto env = service.attach_environment();
+    thread.start();
+    env.meet();
+    EXPECT(refused([&] { auto away = thread.native(); }) == cebdyraq::code::no_native_frame);
+    {
+        auto away = thread.block(cebdyraq::reason::sleep);
+        EXPECT(env.get_thread_state(0) == 0xE1);
+        EXPECT(env.get_stack_trace(0, 0, 8).empty());
+    }
+    EXPECT(env.get_thread_state(0) == 0x5);
+    thread.set_frames({{4, -1}, {3, 9}});
+    auto away = thread.native();
+    EXPECT(env.get_thread_state(0) == 0x400005);
+    EXPECT(same(env.get_stack_trace(0, 0, 8), {{4, -1}, {3, 9}}));
+}
+
+void test_suspensions() {
+    cebdyraq::service service(8, 1, 4);
+    auto thread = service.attach_thread("", 5);
+    auto env = service.attach_environment();
+    thread.start();
+    thread.set_frames({{2, 0}, {1, 17}});
+    env.meet();
+    EXPECT(refused([&] { env.suspend_thread(0); }) == cebdyraq::code::must_possess_capability);
+    EXPECT(env.get_potential_capabilities() == 3 && env.get_capabilities() == 0);
+    env.add_capabilities(CQ_CAN_SUSPEND | CQ_CAN_POP_FRAME);
+    polling runner(thread);
+    EXPECT(env.suspend_thread_list({0, 0, 7}) == std::vector<cebdyraq::code>{cebdyraq::code::ok, cebdyraq::code::thread_suspended, cebdyraq::code::invalid_thread});
+    EXPECT(env.get_thread_state(0) == 0x100005);
+    env.pop_frame(0);
+    EXPECT(same(env.get_stack_trace(0, 0, 8), {{1, 17}}));
+    EXPECT(env.resume_thread_list({0}) == std::vector<cebdyraq::code>{cebdyraq::code::ok});
+    EXPECT(refused([&] { env.resume_thread(0); }) == cebdyraq::code::thread_not_suspended);
+    env.relinquish_capabilities(CQ_CAN_POP_FRAME);
+    EXPECT(env.get_capabilities() == CQ_CAN_SUSPEND);
+}
+
+void test_words_and_events() {
+    cebdyraq::service service(8, 2, 4);
+    auto env = service.attach_environment();
+    auto other = service.attach_environment();
+    env.set_event_notification_mode(true);
+    {
+        auto thread = service.attach_thread("", 5);
+        thread.start();
+        env.meet();
+        other.meet();
+        env.set_thread_local_storage(0, ~std::uint64_t(0));
+        EXPECT(env.get_thread_local_storage(0) == ~std::uint64_t(0) && other.get_thread_local_storage(0) == 0);
+    }
+    auto start = env.next_event(), end = env.next_event();
+    EXPECT(start.kind == CQ_THREAD_START && end.kind == CQ_THREAD_END && end.thread == 0 && end.lost == 0);
+    EXPECT(refused([&] { env.next_event(cebdyraq::time(0)); }) == cebdyraq::code::timed_out);
+    EXPECT(env.get_all_threads().empty() && env.let_go(0) && !env.let_go(0));
+    env.set_environment_local_storage(5);
+    EXPECT(env.get_environment_local_storage() == 5 && other.get_environment_local_storage() == 0);
+}
+
+void test_lives() {
+    cebdyraq::service service(8, 1, 4);
+    auto shared = service.share();
+    auto env = shared.attach_environment();
+    EXPECT(refused([&] { service.attach_environment(); }) == cebdyraq::code::full);
+    {
+        auto moved = std::move(env);
+        EXPECT(refused([&] { service.attach_environment(); }) == cebdyraq::code::full);
+    }
+    auto next = service.attach_environment();
+    EXPECT(refused([] { cebdyraq::service(0, 1, 1); }) == cebdyraq::code::illegal_argument);
+    auto thread = service.attach_thread("first", 5);
+    thread = service.attach_thread("second", 5);
+    next.meet();
+    EXPECT(next.get_all_threads() == std::vector<std::uint32_t>{1} && thread.number() == 1);
+}
+
+}  // namespace
+
+int main() {
+    test_stacks();
+    test_blocks();
+    test_suspensions();
+    test_words_and_events();
+    test_lives();
+    return failures;
+}
