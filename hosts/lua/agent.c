@@ -103,7 +103,7 @@ bool agent_rest(struct agent *agent, int milliseconds) {
 
 void frame_text(const cq_frame *frame, char *text, size_t size) {
     const struct method *m = methods_get(frame->method);
-    if (frame->method <= METHOD_LEFT_OUT)
+    if (frame->method <= METHOD_OWN)
         snprintf(text, size, "%s", m->name);
     else if (frame->location < 0)
         snprintf(text, size, "[C] %s", m->name);

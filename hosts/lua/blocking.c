@@ -9,6 +9,7 @@
 #include <time.h>
 
 #include "host.h"
+#include "nudge.h"
 
 static int sleep_away(lua_State *L) {
     lua_Number seconds = luaL_checknumber(L, 1);
@@ -97,6 +98,20 @@ static int execute(lua_State *L) {
     return lua_isnoneornil(L, 1) || lua_isstring(L, 1) ? call_away(L) : call_as_is(L);
 }
 
+/* os.exit. The thread is inspected here until the process ends, and its state may be closed. One script ends the
+ * process. */
+static int leave(lua_State *L) {
+    static pthread_mutex_t one = PTHREAD_RECURSIVE_MUTEX_INITIALIZER_NP;
+    int is_integer = 0;
+    lua_tointegerx(L, 1, &is_integer);
+    if (lua_isnoneornil(L, 1) || lua_isboolean(L, 1) || is_integer) {
+        script_native(script_of(L), L);
+        nudge_end(script_of(L));
+        pthread_mutex_lock(&one);
+    }
+    return call_as_is(L);
+}
+
 /* Puts a function in place of the field of this name of the table on the top. The old one is its upvalue 1. */
 static void replace(lua_State *L, const char *name, lua_CFunction function) {
     lua_getfield(L, -1, name);
@@ -118,5 +133,6 @@ void open_blocking(lua_State *L) {
     replace(L, "lines", file_lines);
     lua_getglobal(L, LUA_OSLIBNAME);
     replace(L, "execute", execute);
+    replace(L, "exit", leave);
     lua_pop(L, 4);
 }

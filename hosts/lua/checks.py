@@ -54,8 +54,8 @@ def script(folder, name, text):
 
 
 class Debugger:
-    def __init__(self, *scripts):
-        self.process = subprocess.Popen([CQLUA, "debug", *scripts], cwd=SCRIPTS, stdin=subprocess.PIPE,
+    def __init__(self, *scripts, program=CQLUA):
+        self.process = subprocess.Popen([program, "debug", *scripts], cwd=SCRIPTS, stdin=subprocess.PIPE,
                                         stdout=subprocess.PIPE)
         self.read()
 

@@ -9,6 +9,9 @@
 #include <sys/eventfd.h>
 #include <unistd.h>
 
+#include "links.h"
+#include "nudge.h"
+
 /* ------------------------------------------------------------------------------------------------------------------
  * Safepoints.
  */
@@ -17,44 +20,28 @@ struct script *script_of(lua_State *L) {
     return *(struct script **)lua_getextraspace(L);
 }
 
-static bool complain(struct script *script, const char *what, uint32_t code) {
-    if (code == CQ_OK)
-        return false;
-    if (!script->complained)
-        fprintf(stderr, "cqlua: %s: %s is refused with code %u\n", script->path, what, code);
-    script->complained = true;
-    return true;
-}
-
-/* Gives the stack to the service. If there is no memory for it, it gives an empty one. */
-static void give_stack(struct script *script, lua_State *L) {
-    size_t count = stack_read(script, L);
-    if (complain(script, "the stack", cq_set_frames(&script->thread, script->frames, count)))
-        cq_set_frames(&script->thread, script->frames, 0);
-}
-
-/* The safepoint. The Lua stack is read only when an agent calls for the thread. */
-static void on_count(lua_State *L, lua_Debug *ar) {
+/* The hook: that of the polls, or of a nudge. The Lua stack is read only when an agent calls for the thread. A
+ * function that was just called has done nothing yet, and is left out. */
+void script_hook(lua_State *L, lua_Debug *ar) {
     struct script *script = script_of(L);
-    (void)ar;
+    bool hooked = nudge_clear(L);
+    nudge_at(script, L);
     if (!script->inspected || cq_poll_clear(&script->thread))
-        return;
-    give_stack(script, L);
-    complain(script, "a poll", cq_wait_poll(&script->thread, &script->host->signal));
+        nudge_take(script, hooked);
+    else if (give_stack(script, L, ar->event == LUA_HOOKCALL, hooked))
+        complain(script, "a poll", cq_wait_poll(&script->thread, &script->host->signal));
 }
 
 bool script_native(struct script *script, lua_State *L) {
-    if (!script->inspected || script->away)
+    if (!script->inspected || script->away || !give_stack(script, L, 0, false))
         return false;
-    give_stack(script, L);
     script->away = !complain(script, "native code", cq_wait_native(&script->thread, &script->host->signal));
     return script->away;
 }
 
 bool script_block(struct script *script, lua_State *L, uint32_t reason) {
-    if (!script->inspected || script->away)
+    if (!script->inspected || script->away || !give_stack(script, L, 0, false))
         return false;
-    give_stack(script, L);
     script->away = !complain(script, "blocking", cq_wait_block(&script->thread, &script->host->signal, reason));
     return script->away;
 }
@@ -113,13 +100,15 @@ static bool run_state(struct script *script, lua_State *L) {
     lua_gc(L, LUA_GCGEN, 0, 0);
     lua_pushcfunction(L, open_libraries);
     int code = lua_pcall(L, 0, 0, 0);
-    lua_sethook(L, on_count, LUA_MASKCOUNT, INSTRUCTIONS);
+    nudge_clear(L);
+    nudge_begin(script, L);
     if (code == LUA_OK)
         code = run_statements(L, script->host);
     if (code == LUA_OK)
         code = call(L, luaL_loadfile(L, script->path));
     if (code != LUA_OK)
         fprintf(stderr, "cqlua: %s\n", lua_tostring(L, -1));
+    nudge_end(script);
     lua_close(L);
     return code == LUA_OK;
 }
@@ -146,6 +135,7 @@ static void *run_script(void *arg) {
     struct script *script = arg;
     cq_signal *signal = &script->host->signal;
     name_thread(script);
+    nudge_thread(script);
     if (script->host->inspected)
         script->inspected = !complain(script, "the start", cq_wait_start(&script->thread, signal, -1));
     sem_post(&script->host->alive);
@@ -190,6 +180,7 @@ int host_make(struct host *host, char **paths, size_t count, bool inspected) {
         perror("cqlua");
         return -1;
     }
+    links_learn();
     host->count = count;
     host->inspected = inspected;
     atomic_init(&host->living, count);

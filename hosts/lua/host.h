@@ -16,9 +16,10 @@
 
 enum {
     INSTRUCTIONS = 1009,  /* of Lua's machine between two polls; a prime, so that polls keep step with no loop */
-    NEWEST = 480,         /* so many of the newest frames of a deep stack are shown, */
-    OLDEST = 31,          /* and so many of the oldest, with one frame between that stands for the rest */
-    FRAMES = NEWEST + 1 + OLDEST,
+    SHOWN = 512,          /* so many frames of a stack are shown. Of a deeper one these are */
+    OLDEST = 31,          /* so many of the oldest, one that stands for the frames between, */
+    NEWEST = SHOWN - 1 - OLDEST,  /* and so many of the newest */
+    FRAMES = SHOWN + 1,   /* with one besides, which says that the stack came late */
     KNOWN = 1024,         /* functions that a script knows without asking the table of methods; a power of two */
     CHAIN = 256           /* coroutines that resumed one another; Lua itself allows about 200 */
 };
@@ -37,6 +38,11 @@ struct script {
     bool inspected;           /* it is attached and started */
     bool away;                /* it is in native code or blocked */
     bool complained;          /* a refusal was told */
+    _Atomic(lua_State *) running;  /* the state or coroutine that a nudge reaches, or NULL */
+    volatile bool nudged;     /* a nudge came, and no poll since */
+    volatile int64_t nudged_at;
+    volatile bool deep;       /* the stack had more frames than are shown when it was read last */
+    atomic_llong nudge_price; /* what it took of the thread's time to set the hook, in a deep stack */
     bool failed;
     lua_State *chain[CHAIN];  /* the main state, the coroutine that it resumed, and so on */
     size_t links;
@@ -73,6 +79,9 @@ void host_free(struct host *host);
 /* The script of a state or a coroutine. */
 struct script *script_of(lua_State *L);
 
+/* The hook of all states. */
+void script_hook(lua_State *L, lua_Debug *ar);
+
 /* Gives the stack, with the running C function as the newest frame, and goes into native code, or blocks for a reason.
  * Returns whether it did. If not, there is no service, or the script is there already. */
 bool script_native(struct script *script, lua_State *L);
@@ -81,8 +90,16 @@ bool script_block(struct script *script, lua_State *L, uint32_t reason);
 /* Returns from there. It sleeps while the script is suspended. */
 void script_back(struct script *script);
 
-/* stack.c: writes the stack to the script's frames, newest first, and returns how many there are. */
-size_t stack_read(struct script *script, lua_State *L);
+/* give.c: gives the stack from this level on to the service. `hooked` says that a nudge's hook is called. If the
+ * service does not take it, the newest frames are given, with one that says that the stack was cut. Returns whether
+ * the script is still inspected: it is not if no stack can be given any more. */
+bool give_stack(struct script *script, lua_State *L, int level, bool hooked);
+
+/* give.c: tells the first code of a script that is not CQ_OK. Returns whether this one is not. */
+bool complain(struct script *script, const char *what, uint32_t code);
+
+/* stack.c: writes the stack from this level on, newest frame first, and returns how many there are, at most SHOWN. */
+size_t stack_read(struct script *script, lua_State *L, int level, cq_frame *frames);
 
 /* stack.c: cuts the chain of coroutines after this one, which runs. */
 void stack_cut(struct script *script, lua_State *L);

@@ -6,8 +6,12 @@ service, attached with nobody asking, and sampled 1,000 times a second. A ratio 
 tables have the medians of the ratios, and between which values half of them lie. The time on processors is that of the
 process, less what the agent took. On a machine with other work it says more than the clock.
 
+With --deep the script runs at a depth of its own stack, in the last two ways. The table has the medians of the ratios
+of the time on processors.
+
 With --callgrind valgrind counts the instructions of the first two ways, which no other work changes. The table has the
-least of five runs, since Lua's hashes differ from run to run.
+least of five runs, since Lua's hashes differ from run to run. With both, it counts what it takes to read the stack
+once.
 """
 import argparse
 import os
@@ -25,6 +29,12 @@ CQLUA = str((HERE / os.environ.get("OUT", "out") / "cqlua").resolve())
 SIZES = {"nbody.lua": 60000, "binary_trees.lua": 13, "fannkuch.lua": 9, "spectral_norm.lua": 250, "sleeper.lua": 5}
 COUNTED = {"nbody.lua": 5000, "binary_trees.lua": 10, "fannkuch.lua": 7, "spectral_norm.lua": 100, "sleeper.lua": 1}
 WAYS = {"without": ["run", "--no-service"], "attached": ["run"], "sampled": ["prof", "--rate", "1000"]}
+DEPTHS = [10, 1000, 10000, 150000]
+DEEP = """
+local function work() local s = 0 for i = 1, N do s = (s * 3 + i) % 11 end return s end
+local function down(n) if n > 1 then return 1 + down(n - 1) end return 1 + work() end
+down(DEPTH)
+"""
 ASKED = {("attached", "without"): 1.02, ("sampled", "attached"): 1.03}
 
 
@@ -71,6 +81,52 @@ def count_instructions(names):
         print(f"| {name} | {without / 1e6:.1f} | {attached / without:.5f} |", flush=True)
 
 
+def deep_script(folder):
+    path = pathlib.Path(folder) / "deep.lua"
+    path.write_text(DEEP)
+    return str(path)
+
+
+def processor_time(way, depth, path, folder):
+    SIZES[path] = 15000000
+    WAYS["deep"] = [*WAYS[way], "-e", f"DEPTH = {depth}"]
+    return run("deep", path, folder)[1]
+
+
+def measure_deep(rounds):
+    """A line for each depth: the script's time on processors with samples, beside without."""
+    print("\n| depth | attached, s | sampled / attached |\n|---|---|---|")
+    with tempfile.TemporaryDirectory() as folder:
+        path = deep_script(folder)
+        for depth in DEPTHS:
+            times = [[processor_time(way, depth, path, folder) for way in ("attached", "sampled")]
+                     for _ in range(rounds)]
+            low, middle, high = statistics.quantiles((b / a for a, b in times), n=4)
+            attached = statistics.median(a for a, _ in times)
+            print(f"| {depth:,} | {attached:.2f} | {middle:.3f} ({low:.3f} to {high:.3f}) |", flush=True)
+
+
+def instructions_of_a_reading(depth, path, folder):
+    """How many it takes to read the stack once, at this depth, and how often it was read."""
+    out = pathlib.Path(folder) / "callgrind.out"
+    subprocess.run(["valgrind", "--tool=callgrind", f"--callgrind-out-file={out}", CQLUA, "prof", "--rate", "100",
+                    "-o", os.devnull, "-e", f"DEPTH = {depth} N = 500000", path], capture_output=True, check=True)
+    text = subprocess.run(["callgrind_annotate", "--inclusive=yes", "--threshold=100", str(out)], capture_output=True,
+                          text=True, check=True).stdout
+    count = re.search(r"^ *([\d,]+) \([^)]*\) +\S*:stack_read \[", text, re.M).group(1)
+    times = int(re.search(r"=> \S*:stack_read \((\d+)x\)", text).group(1))
+    return int(count.replace(",", "")) / times, times
+
+
+def count_deep():
+    print("\n| depth | readings | instructions of one |\n|---|---|---|")
+    with tempfile.TemporaryDirectory() as folder:
+        path = deep_script(folder)
+        for depth in DEPTHS:
+            count, times = instructions_of_a_reading(depth, path, folder)
+            print(f"| {depth:,} | {times} | {count:,.0f} |", flush=True)
+
+
 def table(title, results, which):
     heads = ["script", "without, s"] + [f"{above} / {below}" for above, below in ASKED]
     print(f"\n{title}:\n\n| " + " | ".join(heads) + " |\n" + "|---" * len(heads) + "|")
@@ -82,10 +138,13 @@ def main():
     parser = argparse.ArgumentParser()
     parser.add_argument("--rounds", type=int, default=30)
     parser.add_argument("--callgrind", action="store_true")
+    parser.add_argument("--deep", action="store_true")
     parser.add_argument("scripts", nargs="*", default=list(SIZES))
     options = parser.parse_args()
     if subprocess.run(["make", "-s", "-C", str(HERE)]).returncode:
         sys.exit(1)
+    if options.deep:
+        return count_deep() if options.callgrind else measure_deep(options.rounds)
     if options.callgrind:
         return count_instructions(options.scripts)
     print(f"{options.rounds} rounds, {os.cpu_count()} processors, load {os.getloadavg()[0]:.1f} at the start")

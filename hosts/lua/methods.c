@@ -6,6 +6,8 @@
 #include <stdlib.h>
 #include <string.h>
 
+#include "text.h"
+
 static pthread_mutex_t lock = PTHREAD_MUTEX_INITIALIZER;
 static struct method **methods;  /* by number; there is room for half as many as places */
 static uint32_t count;
@@ -99,22 +101,22 @@ const struct method *methods_get(uint32_t number) {
 }
 
 int methods_make(void) {
+    static const char *const own[] = { "(no memory for the method)", "(frames left out)", "late" };
     if (grow(1024))
         return -1;
-    if (!methods_find("[C]", -1, "(no memory for the method)") || !methods_find("[C]", -1, "(frames left out)"))
-        return -1;
+    for (size_t i = 0; i <= METHOD_OWN; i++)
+        if (!methods_find("[C]", -1, own[i]))
+            return -1;
     return 0;
 }
 
 void method_text(uint32_t number, char *text, size_t size) {
     const struct method *m = methods_get(number);
-    if (number <= METHOD_LEFT_OUT)
+    if (number <= METHOD_OWN)
         snprintf(text, size, "%s", m->name);
     else if (m->line < 0)
         snprintf(text, size, "[C] %s", m->name);
     else
         snprintf(text, size, "%s (%s:%d)", m->name, m->source, m->line);
-    for (; *text; text++)
-        if (*text == ';' || (unsigned char)*text < ' ')
-            *text = ':';
+    text_clean(text);
 }

@@ -15,7 +15,9 @@ struct method {
 
 enum {
     METHOD_UNKNOWN = 0,  /* there was no memory for the method */
-    METHOD_LEFT_OUT = 1  /* stands for frames that a deep stack does not show */
+    METHOD_LEFT_OUT = 1, /* stands for frames that a deep stack does not show */
+    METHOD_LATE = 2,     /* the time was spent in no function of which it is known */
+    METHOD_OWN = METHOD_LATE
 };
 
 /* Makes the table, with the two methods above. Returns 0, or -1 when there is no memory. */
@@ -27,7 +29,8 @@ const struct method *methods_find(const char *source, int line, const char *name
 /* The method of a number that methods_find gave. */
 const struct method *methods_get(uint32_t number);
 
-/* Writes "name (source:line)", or "[C] name" of a C function. No semicolon and no control character is in it. */
+/* Writes "name (source:line)", or "[C] name" of a C function. It is UTF-8, without a semicolon and a control
+ * character (text.h). */
 void method_text(uint32_t number, char *text, size_t size);
 
 #endif

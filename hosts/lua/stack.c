@@ -6,6 +6,7 @@
 #include <string.h>
 
 #include "host.h"
+#include "links.h"
 
 static const char *source_of(const lua_Debug *ar) {
     if (*ar->what == 'C')
@@ -42,40 +43,40 @@ static uint32_t method_of(struct script *script, lua_State *L, lua_Debug *ar) {
     return k->method->number;
 }
 
-static cq_frame frame_of(struct script *script, lua_State *L, lua_Debug *ar) {
-    lua_getinfo(L, "Slf", ar);
-    uint32_t method = method_of(script, L, ar);
-    if (*ar->what == 'C')
-        return (cq_frame){ method, -1 };
-    return (cq_frame){ method, ar->currentline < 0 ? 0 : ar->currentline };
+/* The function of the frame that was read before. It is in the stack still, so nothing else has its address. */
+struct read {
+    const void *function;
+    cq_frame frame;
+};
+
+static int64_t location_of(const lua_Debug *ar) {
+    return ar->currentline < 0 ? 0 : ar->currentline;
 }
 
-/* The level of the oldest frame, of which there is one. */
-static int oldest_level(lua_State *L) {
-    lua_Debug ar;
-    int there = 0, beyond = 1;
-    while (lua_getstack(L, beyond, &ar)) {
-        there = beyond;
-        beyond *= 2;
+/* A frame. Of a function that calls itself only the line is asked for. */
+static cq_frame frame_of(struct script *script, lua_State *L, lua_Debug *ar, struct read *last) {
+    lua_getinfo(L, "lf", ar);
+    const void *function = lua_topointer(L, -1);
+    if (function == last->function) {
+        lua_pop(L, 1);
+    } else {
+        lua_getinfo(L, "S", ar);
+        last->frame = (cq_frame){ method_of(script, L, ar), *ar->what == 'C' ? -1 : 0 };
+        last->function = function;
     }
-    while (beyond - there > 1) {
-        int middle = there + (beyond - there) / 2;
-        if (lua_getstack(L, middle, &ar))
-            there = middle;
-        else
-            beyond = middle;
-    }
-    return there;
+    if (last->frame.location >= 0)
+        last->frame.location = location_of(ar);
+    return last->frame;
 }
 
-/* Adds the main state's oldest frames to those that are there. Its frames below `level` are among these. */
-static size_t add_oldest(struct script *script, size_t count, int level) {
+/* Puts the main state's oldest frames over those that a whole stack would have from here on. */
+static size_t add_oldest(struct script *script, cq_frame *frames, size_t count) {
     lua_State *L = script->chain[0];
-    lua_Debug ar;
-    int last = oldest_level(L), first = last - OLDEST + 1 > level ? last - OLDEST + 1 : level;
-    script->frames[count++] = (cq_frame){ METHOD_LEFT_OUT, -1 };
-    for (int at = first; at <= last && lua_getstack(L, at, &ar); at++)
-        script->frames[count++] = frame_of(script, L, &ar);
+    lua_Debug oldest[OLDEST];
+    struct read last = { 0 };
+    frames[count++] = (cq_frame){ METHOD_LEFT_OUT, -1 };
+    for (int at = oldest_frames(L, oldest, OLDEST); at-- > 0;)
+        frames[count++] = frame_of(script, L, &oldest[at], &last);
     return count;
 }
 
@@ -89,16 +90,16 @@ void stack_cut(struct script *script, lua_State *L) {
         script->chain[script->links++] = L;
 }
 
-size_t stack_read(struct script *script, lua_State *L) {
+size_t stack_read(struct script *script, lua_State *L, int level, cq_frame *frames) {
+    struct walk walk;
+    struct read last = { 0 };
     size_t count = 0;
-    lua_Debug ar;
     stack_cut(script, L);
-    for (size_t link = script->links; link-- > 0;) {
-        lua_State *one = script->chain[link];
-        for (int level = 0; lua_getstack(one, level, &ar); level++) {
-            if (count == NEWEST)
-                return add_oldest(script, count, link == 0 ? level : 0);
-            script->frames[count++] = frame_of(script, one, &ar);
+    for (size_t link = script->links; link-- > 0; level = 0) {
+        for (bool there = walk_begin(&walk, script->chain[link], level); there; there = walk_on(&walk)) {
+            if (count == SHOWN)
+                return add_oldest(script, frames, NEWEST);
+            frames[count++] = frame_of(script, walk.L, &walk.ar, &last);
         }
     }
     return count;

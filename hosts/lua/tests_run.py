@@ -1,0 +1,93 @@
+"""Scripts that run: what they write, beside plain Lua."""
+import pathlib
+import re
+
+from checks import CQLUA, LUA, check, cqlua, run, script
+
+KNOWN = {  # what each program is known to write, by its size
+    ("nbody.lua", 1000): "-0.169075164\n-0.169087605\n",
+    ("spectral_norm.lua", 100): "1.274219991\n",
+    ("fannkuch.lua", 7): "228\nPfannkuchen(7) = 16\n",
+    ("binary_trees.lua", 10):
+        "stretch tree of depth 11\t check: 4095\n"
+        "1024\t trees of depth 4\t check: 31744\n"
+        "256\t trees of depth 6\t check: 32512\n"
+        "64\t trees of depth 8\t check: 32704\n"
+        "16\t trees of depth 10\t check: 32752\n"
+        "long lived tree of depth 10\t check: 2047\n",
+}
+PLAIN = {"nbody.lua": 100000, "binary_trees.lua": 12, "fannkuch.lua": 8, "spectral_norm.lua": 200, "sleeper.lua": 3}
+
+
+def test_known_results():
+    for (name, size), text in KNOWN.items():
+        for how in ["run"], ["run", "--no-service"]:
+            result = cqlua(*how, "-e", f"N = {size}", name)
+            check(f"{' '.join(how)} {name}, N = {size}, writes what is known", result.stdout == text and
+                  not result.returncode, result.stdout + result.stderr)
+
+
+def test_same_as_plain_lua():
+    for name, size in PLAIN.items():
+        plain = run(LUA, "-e", f"N = {size}", name)
+        ours = cqlua("run", "-e", f"N = {size}", name)
+        check(f"{name} writes what it does under {pathlib.Path(LUA).name}", plain.stdout == ours.stdout != "" and
+              plain.returncode == ours.returncode == 0, ours.stdout + ours.stderr)
+
+
+def test_errors(folder):
+    bad = script(folder, "bad.lua", "local function inner() error('oops') end\nlocal function outer() inner() end\n"
+                                    "outer()\nprint('not here')\n")
+    result = cqlua("run", "-e", "N = 2", bad, "sleeper.lua", bad)
+    check("a script with an error: status 1", result.returncode == 1, result.returncode)
+    check("its message has a traceback", result.stderr.count("bad.lua:1: oops") == 2 and
+          "in upvalue 'inner'" in result.stderr and "in main chunk" in result.stderr, result.stderr)
+    check("the others run on", "2 rounds: " in result.stdout and "not here" not in result.stdout, result.stdout)
+    result = cqlua("run", script(folder, "syntax.lua", "x = = 1"))
+    check("a script that does not compile: status 1", result.returncode == 1 and "syntax.lua:1:" in result.stderr)
+    result = cqlua("run", "not-there.lua")
+    check("a script that is not there: status 1", result.returncode == 1 and "cannot open" in result.stderr)
+    check("no command: usage, status 2", run(CQLUA).returncode == 2 and cqlua("u", "sleeper.lua").returncode == 2 and
+          cqlua("run", "--svg", "sleeper.lua").returncode == 2 and cqlua("prof").returncode == 2)
+
+
+def test_input(folder):
+    """Standard input as under plain Lua, with the same messages of errors."""
+    text = "one\ntwo\n12 0x10 three\nfour\nfive\nsix\n"
+    lines = """
+        print(io.read()) print(io.read("L")) print(io.read("n", "*n", "l"))
+        for line in io.lines() do print(line) break end
+        for line in io.stdin:lines("L") do print(line) break end
+        print(io.stdin:read(2, "a")) print(io.read(), io.stdin:read("l"))
+        print(pcall(io.read, "x")) print(pcall(function() io.read("x") end))
+        print(pcall(function() io.stdin:read("x") end))
+        print(pcall(function() for _ in io.lines(nil, "x") do end end))
+        for line in io.lines(arg[0]) do print(line) break end print(io.lines ~= nil)
+        print(os.execute("exit 3")) print(os.execute()) print(pcall(function() os.execute({}) end))
+        io.stdin:close() print(pcall(io.read)) print(pcall(function() io.read() end)) print((pcall(io.lines)))
+    """
+    path = script(folder, "input.lua", lines)
+    plain, ours = run(LUA, path, input=text), cqlua("run", path, input=text)
+    check("standard input, and its errors, as under plain Lua", plain.stdout == ours.stdout != "" and
+          not ours.returncode, f"{plain.stdout!r} {ours.stdout!r} {ours.stderr!r}")
+
+
+def test_coroutines_as_plain(folder):
+    path = script(folder, "co.lua", """
+        local co = coroutine.create(function(a, b) local c = coroutine.yield(a + b) error({ c }) end)
+        print(coroutine.resume(co, 1, 2)) local ok, e = coroutine.resume(co, 7) print(ok, e[1], coroutine.status(co))
+        print(coroutine.resume(co)) print(pcall(coroutine.resume, 1))
+        local gen = coroutine.wrap(function(...)
+            for i = 1, select("#", ...) do coroutine.yield(i) end
+            error("ended")
+        end)
+        print(gen(1, 2), gen()) print(pcall(gen)) print(pcall(gen))
+        local function nest(n) if n == 0 then return 0 end return 1 + coroutine.wrap(nest)(n - 1) end
+        print(nest(50), (pcall(nest, 1000)))
+        local deep = coroutine.wrap(function() error("in here") end)
+        for i = 1, 3 do print(pcall(deep)) end print(coroutine.isyieldable(), coroutine.running())
+    """)
+    same = lambda text: re.sub(r"0x[0-9a-f]+", "ADDRESS", text)
+    plain, ours = run(LUA, path), cqlua("run", path)
+    check("coroutines as under plain Lua", same(plain.stdout) == same(ours.stdout) != "" and not ours.returncode,
+          f"{plain.stdout!r} {ours.stdout!r} {ours.stderr!r}")
