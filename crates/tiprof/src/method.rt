@@ -1,6 +1,9 @@
 //! The methods of the workers, by name and number.
 use ti_types::MethodNo;
 
+/// How many methods there are. Their numbers are those below this one.
+pub const METHODS: u32 = 13;
+
 /// A method that a worker may be in.
 #[derive(Clone, Copy, Debug, PartialEq, Eq)]
 pub enum Method {

@@ -1,0 +1,8 @@
+pub mod Digits
+pub mod OnBool
+pub mod TrieLaws
+pub mod RowLaws
+pub mod SampleLaws
+pub mod PlaceLaws
+pub mod FrameLaws
+pub mod StringLaws

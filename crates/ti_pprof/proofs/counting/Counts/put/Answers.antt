@@ -1,0 +1,26 @@
+use Rattle.std.proofs.Common.{◌∙◌}
+use Rattle.ti_pprof.specs.Stacks.{stack_at, stacks_of}
+use Rattle.ti_pprof.specs.Samples.{samples_of}
+use Rattle.ti_pprof.proofs.OnBool.{on_true, on_false}
+use Rattle.ti_pprof.proofs.SampleLaws.{samples_in-Grows, IsCounted-along}
+use Rattle.ti_pprof.proofs.counting.Counts.put.Goals as goal
+
+pub returns-in-Some-clause-counted : goal.returns-in-Some-clause-counted
+returns-in-Some-clause-counted c =
+    let old = c.args.self.now in
+    let new = c.count.new.self in
+    let same = samples_in-Grows old.trie.nodes.keys c.number_of.new.self.nodes.keys old.table.rows.keys old.table.counts.items c.number_of.ensures.grown old.numbered in
+    on_true c.count.result
+    (IsCounted-along (samples_of c.number_of.new.self old.table) (samples_of old.trie old.table) (samples_of new.trie new.table) (stack_at (stacks_of c.number_of.new.self.nodes.keys) c.in-Some.stack) c.args.frames.now c.args.thread c.args.state c.args.times same c.in-Some.ensures.stack)
+    c.count.ensures.counted
+
+pub returns-in-Some-clause-kept : goal.returns-in-Some-clause-kept
+returns-in-Some-clause-kept c =
+    let old = c.args.self.now in
+    let same = samples_in-Grows old.trie.nodes.keys c.number_of.new.self.nodes.keys old.table.rows.keys old.table.counts.items c.number_of.ensures.grown old.numbered in
+    on_false c.count.result (λ h. h ∙ same) c.count.ensures.kept
+
+pub returns-in-None-clause-kept : goal.returns-in-None-clause-kept
+returns-in-None-clause-kept c =
+    let old = c.args.self.now in
+    samples_in-Grows old.trie.nodes.keys c.number_of.new.self.nodes.keys old.table.rows.keys old.table.counts.items c.number_of.ensures.grown old.numbered

@@ -1,0 +1,15 @@
+use Rattle.std.specs.Prelude.{◌≡◌, ◌≤◌, drop, length}
+use Rattle.ti_pprof.specs.Stacks.{stack_at, stacks_of, Grows}
+use Rattle.ti_pprof.proofs.stacks.Trie.number_of.Given as goal
+
+abbrev pub invariant-loop-left : goal.invariant-loop-left
+invariant-loop-left l = record {
+  stack : stack_at (stacks_of l.self.nodes.keys) l.number ≡ drop l.left l.frames;
+  within : l.number ≤ length l.self.nodes.keys;
+  in_list : l.left ≤ length l.frames;
+  grown : Grows l.fn.self.nodes.keys l.self.nodes.keys;
+  most : l.self.most ≡ l.fn.self.most;
+}
+
+abbrev pub decreases-loop-left : goal.decreases-loop-left
+decreases-loop-left l = l.left

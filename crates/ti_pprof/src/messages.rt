@@ -1,0 +1,173 @@
+//! The messages of a profile that have no list of messages in them.
+
+use crate::texts::Texts;
+use crate::wire::{push_block, push_number, push_varints};
+use std::alloc::{AllocError, Global};
+
+/// Appends a field that is a list of numbers. One that has none is left out. The error is lack of memory.
+pub(crate) fn push_packed(
+    alloc: Global,
+    out: &mut Vec<u8>,
+    field: u64,
+    numbers: &[u64],
+) -> Result<(), AllocError>
+    requires { field < 2 ^ 29 }
+    ensures { OnOk result (out.new.items ≡ out.old.items ++ packed_field field numbers.now) }
+{
+    if numbers.is_empty() {
+        return Ok(());
+    }
+    let mut inner = Vec::new(alloc);
+    push_varints(&mut inner, numbers)?;
+    push_block(out, field, &inner)
+}
+
+/// Appends the fields of a ValueType. The error is lack of memory.
+pub(crate) fn push_value_type(
+    out: &mut Vec<u8>,
+    texts: &Texts<'_>,
+    kind: &str,
+    unit: &str,
+) -> Result<(), AllocError>
+    ensures { OnOk result (out.new.items ≡ out.old.items ++ value_type (strings_in texts.now) kind.now unit.now) }
+{
+    push_number(out, 1, texts.number(kind))?;
+    push_number(out, 2, texts.number(unit))
+}
+
+/// Appends a field that is a ValueType. The error is lack of memory.
+pub(crate) fn push_value_type_field(
+    alloc: Global,
+    out: &mut Vec<u8>,
+    field: u64,
+    texts: &Texts<'_>,
+    kind: &str,
+    unit: &str,
+) -> Result<(), AllocError>
+    requires { field < 2 ^ 29 }
+    ensures { OnOk result (out.new.items ≡ out.old.items ++ block_field field (value_type (strings_in texts.now) kind.now unit.now)) }
+{
+    let mut inner = Vec::new(alloc);
+    push_value_type(&mut inner, texts, kind, unit)?;
+    push_block(out, field, &inner)
+}
+
+/// Appends a label, if there is a text for it. The error is lack of memory.
+pub(crate) fn push_label(
+    alloc: Global,
+    out: &mut Vec<u8>,
+    texts: &Texts<'_>,
+    key: &str,
+    text: Option<&String>,
+) -> Result<(), AllocError>
+    ensures { OnOk result (out.new.items ≡ out.old.items ++ label_field (strings_in texts.now) key.now (option_copied text.entry)) }
+{
+    let Some(text) = text else {
+        return Ok(());
+    };
+    let mut inner = Vec::new(alloc);
+    push_number(&mut inner, 1, texts.number(key))?;
+    push_number(&mut inner, 2, texts.number(text.as_str()))?;
+    push_block(out, 3, &inner)
+}
+
+/// The nanoseconds of so many samples, at most 2^63 - 1.
+fn wall_of(period: u64, count: u64) -> u64
+    ensures { result ≡ wall_of period count }
+{
+    count.saturating_mul(period).min(i64::MAX as u64)
+}
+
+/// Appends the values of a sample. The error is lack of memory.
+pub(crate) fn push_values(
+    alloc: Global,
+    out: &mut Vec<u8>,
+    period: u64,
+    count: u64,
+) -> Result<(), AllocError>
+    ensures { OnOk result (out.new.items ≡ out.old.items ++ values period count) }
+{
+    push_packed(alloc, out, 2, &[count, wall_of(period, count)])
+}
+
+/// Appends the sample of so many stacks that had no room, if there are any. The error is lack of memory.
+pub(crate) fn push_no_room(
+    alloc: Global,
+    out: &mut Vec<u8>,
+    period: u64,
+    count: u64,
+) -> Result<(), AllocError>
+    ensures { OnOk result (out.new.items ≡ out.old.items ++ no_room_field period count) }
+{
+    if count == 0 {
+        return Ok(());
+    }
+    let mut inner = Vec::new(alloc);
+    push_packed(alloc, &mut inner, 1, &[2])?;
+    push_values(alloc, &mut inner, period, count)?;
+    push_block(out, 2, &inner)
+}
+
+/// Appends the mapping, which has all locations. The error is lack of memory.
+pub(crate) fn push_mapping(
+    alloc: Global,
+    out: &mut Vec<u8>,
+    texts: &Texts<'_>,
+    program: &str,
+) -> Result<(), AllocError>
+    ensures { OnOk result (out.new.items ≡ out.old.items ++ block_field 3 (mapping (strings_in texts.now) program.now)) }
+{
+    let mut inner = Vec::new(alloc);
+    push_number(&mut inner, 1, 1)?;
+    push_number(&mut inner, 5, texts.number(program))?;
+    push_number(&mut inner, 7, 1)?;
+    push_number(&mut inner, 8, 1)?;
+    push_number(&mut inner, 9, 1)?;
+    push_block(out, 3, &inner)
+}
+
+/// Appends a location with one line. The error is lack of memory.
+pub(crate) fn push_location(
+    alloc: Global,
+    out: &mut Vec<u8>,
+    id: u64,
+    function: u64,
+    number: u64,
+) -> Result<(), AllocError>
+    ensures { OnOk result (out.new.items ≡ out.old.items ++ block_field 4 (location id function number)) }
+{
+    let mut line = Vec::new(alloc);
+    push_number(&mut line, 1, function)?;
+    push_number(&mut line, 2, number)?;
+    let mut inner = Vec::new(alloc);
+    push_number(&mut inner, 1, id)?;
+    push_number(&mut inner, 2, 1)?;
+    push_block(&mut inner, 4, &line)?;
+    push_block(out, 4, &inner)
+}
+
+/// Appends a function. The error is lack of memory.
+pub(crate) fn push_function(
+    alloc: Global,
+    out: &mut Vec<u8>,
+    texts: &Texts<'_>,
+    id: u64,
+    name: &str,
+    file: &str,
+    start: u32,
+) -> Result<(), AllocError>
+    ensures { OnOk result (out.new.items ≡ out.old.items ++ block_field 5 (function (strings_in texts.now) id name.now file.now start)) }
+{
+    let mut inner = Vec::new(alloc);
+    push_number(&mut inner, 1, id)?;
+    push_number(&mut inner, 2, texts.number(name))?;
+    push_number(&mut inner, 4, texts.number(file))?;
+    push_number(&mut inner, 5, u64::from(start))?;
+    push_block(out, 5, &inner)
+}
+
+ghost use Rattle.std.specs.Prelude.{◌≡◌, ◌<◌, ◌^◌, ◌++◌, OnOk};
+ghost use Rattle.std.specs.Option.{option_copied};
+ghost use Rattle.ti_pprof.specs.Profile.{function, label_field, location, mapping, no_room_field, value_type, values, wall_of};
+ghost use Rattle.ti_pprof.specs.Strings.{strings_in};
+ghost use Rattle.ti_pprof.specs.Wire.{block_field, packed_field};

@@ -1,0 +1,124 @@
+//! The locations of a profile: the different frames, numbered.
+
+use crate::messages::push_location;
+use crate::stacks::{Frame, Node};
+use indexmap::IndexSet;
+use std::alloc::{AllocError, Global};
+
+/// The frames of these nodes, each once. The error is lack of memory.
+pub(crate) fn frames_of(alloc: Global, nodes: &[Node]) -> Result<IndexSet<Frame>, AllocError>
+    ensures { IfOk result (λ f. f.keys ≡ frames_of nodes.now) }
+{
+    let mut frames = IndexSet::new(alloc);
+    for node in nodes {
+        frames.insert_full(node.frame)?;
+    }
+    Ok(frames)
+}
+
+/// The id of the location of a frame. The first one is 3: two are for stacks that have no frames to tell.
+fn location_of(frames: &IndexSet<Frame>, frame: Frame) -> u64
+    ensures { result ≡ location_of frames.now.keys frame }
+{
+    let count = frames.len();
+    match frames.get_index_of(&frame) {
+        Some(place) => place as u64 + 3,
+        None => count as u64 + 3,
+    }
+}
+
+/// The ids of the locations of a stack's frames, the newest first. The error is lack of memory.
+fn locations_of_frames(
+    alloc: Global,
+    nodes: &[Node],
+    frames: &IndexSet<Frame>,
+    stack: u32,
+) -> Result<Vec<u64>, AllocError>
+    requires there { stack ≤ length nodes.now }
+    requires earlier { AreOnEarlier nodes.now }
+    ensures { IfOk result (λ ids. ids.items ≡ map (location_of frames.now.keys) (stack_at (stacks_of nodes.now) stack)) }
+{
+    let mut ids = Vec::new(alloc);
+    let mut number = stack;
+    while number > 0 {
+        let node = nodes[number as usize - 1];
+        ids.push(location_of(frames, node.frame))?;
+        number = node.rest;
+    }
+    Ok(ids)
+}
+
+/// The ids of the locations of a stack, the newest frame first. A stack without frames has location 1. The error is lack of
+/// memory.
+pub(crate) fn locations_of(
+    alloc: Global,
+    nodes: &[Node],
+    frames: &IndexSet<Frame>,
+    stack: u32,
+) -> Result<Vec<u64>, AllocError>
+    requires there { stack ≤ length nodes.now }
+    requires earlier { AreOnEarlier nodes.now }
+    ensures { IfOk result (λ ids. ids.items ≡ locations_of_stack frames.now.keys (stack_at (stacks_of nodes.now) stack)) }
+{
+    if stack == 0 {
+        let mut ids = Vec::new(alloc);
+        ids.push(1)?;
+        return Ok(ids);
+    }
+    let ids = locations_of_frames(alloc, nodes, frames, stack)?;
+    Ok(ids)
+}
+
+/// The id of the function of a frame, if so many functions have names. Three functions come before these.
+fn function_of(named: usize, frame: Frame) -> u64
+    ensures { result ≡ function_of named frame }
+{
+    if (frame.function as usize) < named {
+        u64::from(frame.function) + 4
+    } else {
+        3
+    }
+}
+
+/// Appends the locations of these frames, if so many functions have names. The error is lack of memory.
+fn push_frames(
+    alloc: Global,
+    out: &mut Vec<u8>,
+    named: usize,
+    frames: &[Frame],
+) -> Result<(), AllocError>
+    requires { length frames.now < 2 ^ 63 }
+    ensures { OnOk result (out.new.items ≡ out.old.items ++ locations_from named 3 frames.now) }
+{
+    let mut id = 3;
+    for frame in frames {
+        push_location(
+            alloc,
+            out,
+            id,
+            function_of(named, *frame),
+            u64::from(frame.line),
+        )?;
+        id += 1;
+    }
+    Ok(())
+}
+
+/// Appends all locations: one for stacks without frames, one for stacks without room, and those of the frames. The error is
+/// lack of memory.
+pub(crate) fn push_locations(
+    alloc: Global,
+    out: &mut Vec<u8>,
+    named: usize,
+    frames: &IndexSet<Frame>,
+) -> Result<(), AllocError>
+    ensures { OnOk result (out.new.items ≡ out.old.items ++ location_fields named frames.now.keys) }
+{
+    push_location(alloc, out, 1, 1, 0)?;
+    push_location(alloc, out, 2, 2, 0)?;
+    push_frames(alloc, out, named, frames.as_slice())
+}
+
+ghost use Rattle.std.specs.Prelude.{◌≡◌, ◌≤◌, ◌<◌, ◌^◌, ◌++◌, length, map, OnOk, IfOk};
+ghost use Rattle.ti_pprof.specs.Profile.{frames_of, function_of, location_fields, location_of, locations_from, locations_of_stack};
+ghost use Rattle.ti_pprof.specs.Stacks.{AreOnEarlier, stack_at, stacks_of};

@@ -1,0 +1,119 @@
+//! The bytes of a profile.
+
+use crate::counting::Counts;
+use crate::messages::{push_mapping, push_no_room, push_packed, push_value_type_field};
+use crate::named::{numbers_of, push_functions, push_strings, texts_of};
+use crate::names::{About, Names};
+use crate::places::{frames_of, push_locations};
+use crate::samples::push_samples;
+use crate::stacks::Frame;
+use crate::texts::Texts;
+use crate::wire::push_number;
+use indexmap::IndexSet;
+use std::alloc::{AllocError, Global};
+
+/// Appends the types of a sample's two values. The error is lack of memory.
+fn push_sample_types(alloc: Global, out: &mut Vec<u8>, texts: &Texts<'_>) -> Result<(), AllocError>
+    ensures { OnOk result (out.new.items ≡ out.old.items ++ sample_types (strings_in texts.now)) }
+{
+    push_value_type_field(alloc, out, 1, texts, "samples", "count")?;
+    push_value_type_field(alloc, out, 1, texts, "wall", "nanoseconds")
+}
+
+/// Appends when and how the stacks were taken. The error is lack of memory.
+fn push_about(
+    alloc: Global,
+    out: &mut Vec<u8>,
+    texts: &Texts<'_>,
+    about: &About,
+) -> Result<(), AllocError>
+    ensures { OnOk result (out.new.items ≡ out.old.items ++ about_fields (strings_in texts.now) about.now) }
+{
+    push_number(out, 9, about.time)?;
+    push_number(out, 10, about.duration)?;
+    push_value_type_field(alloc, out, 11, texts, "wall", "nanoseconds")?;
+    push_number(out, 12, about.period)?;
+    let comments = numbers_of(alloc, texts, about.comments.as_slice())?;
+    push_packed(alloc, out, 13, &comments)?;
+    push_number(out, 14, texts.number("wall"))
+}
+
+/// Appends what was counted. The error is lack of memory.
+fn push_counts(
+    alloc: Global,
+    out: &mut Vec<u8>,
+    texts: &Texts<'_>,
+    names: &Names,
+    period: u64,
+    frames: &IndexSet<Frame>,
+    counts: &Counts,
+) -> Result<(), AllocError>
+    ensures { OnOk result (out.new.items ≡ out.old.items ++ counted_fields (strings_in texts.now) names.now period frames.now.keys (samples_of counts.now.trie counts.now.table) counts.now.no_room) }
+{
+    let nodes = counts.trie().nodes();
+    let table = counts.table();
+    push_samples(
+        alloc,
+        out,
+        texts,
+        names,
+        period,
+        nodes,
+        frames,
+        table.rows(),
+        table.counts(),
+    )?;
+    push_no_room(alloc, out, period, counts.no_room())
+}
+
+/// The bytes of a profile, as `go tool pprof` reads them, without gzip. The samples are in the order in which they were first
+/// seen. If stacks had no room, one more sample has these. A stack without frames has the frame `(no frames)`, one without
+/// room the frame `(no room)`, and a frame whose function has no name is of the function `(unknown)`. The error is lack of
+/// memory.
+pub fn encode(
+    alloc: Global,
+    about: &About,
+    names: &Names,
+    counts: &Counts,
+) -> Result<Vec<u8>, AllocError>
+    ensures { IfOk result (λ b. b.items ≡ profile about.now names.now counts.now.trie.nodes.keys (samples_of counts.now.trie counts.now.table) counts.now.no_room) }
+{
+    let texts = texts_of(alloc, about, names)?;
+    let frames = frames_of(alloc, counts.trie().nodes())?;
+    let mut out = Vec::new(alloc);
+    push_sample_types(alloc, &mut out, &texts)?;
+    push_counts(
+        alloc,
+        &mut out,
+        &texts,
+        names,
+        about.period,
+        &frames,
+        counts,
+    )?;
+    push_tables(alloc, &mut out, &texts, about, names, &frames)?;
+    push_about(alloc, &mut out, &texts, about)?;
+    Ok(out)
+}
+
+/// Appends the mapping, the locations, the functions and the texts. The error is lack of memory.
+fn push_tables(
+    alloc: Global,
+    out: &mut Vec<u8>,
+    texts: &Texts<'_>,
+    about: &About,
+    names: &Names,
+    frames: &IndexSet<Frame>,
+) -> Result<(), AllocError>
+    ensures { OnOk result (out.new.items ≡ out.old.items ++ table_fields (strings_in texts.now) frames.now.keys about.now names.now) }
+{
+    push_mapping(alloc, out, texts, about.program.as_str())?;
+    push_locations(alloc, out, names.functions.len(), frames)?;
+    push_functions(alloc, out, texts, &names.functions)?;
+    push_strings(out, texts)
+}
+
+ghost use Rattle.std.specs.Prelude.{◌≡◌, ◌++◌, OnOk, IfOk};
+ghost use Rattle.ti_pprof.specs.Profile.{about_fields, counted_fields, profile, sample_types, table_fields};
+ghost use Rattle.ti_pprof.specs.Samples.{samples_of};
+ghost use Rattle.ti_pprof.specs.Strings.{strings_in};

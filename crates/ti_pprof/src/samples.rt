@@ -1,0 +1,103 @@
+//! The samples of a profile.
+
+use crate::messages::{push_label, push_packed, push_values};
+use crate::names::Names;
+use crate::places::locations_of;
+use crate::stacks::{Frame, Node};
+use crate::table::Row;
+use crate::texts::Texts;
+use crate::wire::push_block;
+use indexmap::IndexSet;
+use std::alloc::{AllocError, Global};
+
+/// The text at a place, if there is one.
+fn text_at(texts: &[String], place: u32) -> Option<&String>
+    ensures { option_copied result ≡ slice_get texts.now place }
+{
+    if (place as usize) < texts.len() {
+        Some(&texts[place as usize])
+    } else {
+        None
+    }
+}
+
+/// Appends the labels of a sample. The error is lack of memory.
+fn push_labels(
+    alloc: Global,
+    out: &mut Vec<u8>,
+    texts: &Texts<'_>,
+    names: &Names,
+    row: Row,
+) -> Result<(), AllocError>
+    ensures { OnOk result (out.new.items ≡ out.old.items ++ labels (strings_in texts.now) names.now row.thread row.state) }
+{
+    let thread = text_at(&names.threads, row.thread);
+    push_label(alloc, out, texts, "thread", thread)?;
+    let state = text_at(&names.states, row.state);
+    push_label(alloc, out, texts, "state", state)?;
+    Ok(())
+}
+
+/// Appends a sample. The error is lack of memory.
+fn push_sample(
+    alloc: Global,
+    out: &mut Vec<u8>,
+    texts: &Texts<'_>,
+    names: &Names,
+    period: u64,
+    nodes: &[Node],
+    frames: &IndexSet<Frame>,
+    row: Row,
+    count: u64,
+) -> Result<(), AllocError>
+    requires there { row.stack ≤ length nodes.now }
+    requires earlier { AreOnEarlier nodes.now }
+    ensures { OnOk result (out.new.items ≡ out.old.items ++ sample_field (strings_in texts.now) names.now period frames.now.keys (sample_of (stacks_of nodes.now) row count)) }
+{
+    let ids = locations_of(alloc, nodes, frames, row.stack)?;
+    let mut inner = Vec::new(alloc);
+    push_packed(alloc, &mut inner, 1, &ids)?;
+    push_values(alloc, &mut inner, period, count)?;
+    push_labels(alloc, &mut inner, texts, names, row)?;
+    push_block(out, 2, &inner)
+}
+
+/// Appends the samples of these rows and their counts. The error is lack of memory.
+pub(crate) fn push_samples(
+    alloc: Global,
+    out: &mut Vec<u8>,
+    texts: &Texts<'_>,
+    names: &Names,
+    period: u64,
+    nodes: &[Node],
+    frames: &IndexSet<Frame>,
+    rows: &[Row],
+    counts: &[u64],
+) -> Result<(), AllocError>
+    requires there { AreNumbered rows.now (length nodes.now) }
+    requires earlier { AreOnEarlier nodes.now }
+    requires counted { length counts.now ≡ length rows.now }
+    ensures { OnOk result (out.new.items ≡ out.old.items ++ sample_fields (strings_in texts.now) names.now period frames.now.keys (samples_in (stacks_of nodes.now) rows.now counts.now)) }
+{
+    for place in 0..rows.len() {
+        push_sample(
+            alloc,
+            out,
+            texts,
+            names,
+            period,
+            nodes,
+            frames,
+            rows[place],
+            counts[place],
+        )?;
+    }
+    Ok(())
+}
+
+ghost use Rattle.std.specs.Prelude.{◌≡◌, ◌≤◌, ◌++◌, length, slice_get, OnOk};
+ghost use Rattle.std.specs.Option.{option_copied};
+ghost use Rattle.ti_pprof.specs.Profile.{labels, sample_field, sample_fields};
+ghost use Rattle.ti_pprof.specs.Samples.{AreNumbered, sample_of, samples_in};
+ghost use Rattle.ti_pprof.specs.Stacks.{AreOnEarlier, stacks_of};
+ghost use Rattle.ti_pprof.specs.Strings.{strings_in};
