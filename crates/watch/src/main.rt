@@ -1,8 +1,10 @@
-//! `watch`: a thread that computes, and an agent that suspends it, reads it, and resumes it.
+//! `watch`: two threads that compute, and an agent that suspends, reads and resumes each of them.
 //!
-//! The thread adds up numbers in method 1, called by method 0, and polls at each turn. The agent has a thread of the
-//! operating system for itself. It suspends the first thread, writes its state and its methods, the newest first, and
-//! resumes it. Then it leaves the service, and the first thread computes on until it has to end.
+//! Each thread adds up numbers in method 1, called by method 0, and polls at each turn. The agent has a thread of the
+//! operating system for itself. It suspends one thread after the other, writes the thread's state, its methods, the newest
+//! first, and how many they are, and resumes it. Then it leaves the service, and the threads compute on until they have to end.
+//!
+//! Each function joins two threads at the most: the proof of one with nested joins takes far longer than that of two.
 //!
 //! The status is 0, or 1 if memory runs out, something was refused, or the lines cannot be written.
 #![tactic(auto)]
@@ -11,9 +13,12 @@ mod traces;
 
 use crate::traces::trace_twice;
 use std::process::ExitCode;
+use std::rt::Clock;
 use std::sync::Wait;
 use std::sync::atomic::{AtomicBool, Ordering};
 use std::thread::{Threads, join};
+use std::time::Duration;
+use ti_agent::Within;
 use ti_handshake::{Ended, Polled, Running};
 use ti_service::{Agent, Service, ServiceCalls, ThreadInfo};
 use ti_types::{Caps, Limits, MethodNo, Step, ThreadNo};
@@ -43,48 +48,104 @@ fn hand_over<R: Wait>(rt: &R, running: Running) -> Running {
     }
 }
 
-/// Suspends the thread, writes its state and its methods, and resumes it. The suspension waits for the thread's next poll.
-fn inspect<R: Wait + Print + AllocGlobal>(rt: &R, agent: &mut Agent) -> Option<()> {
+/// Suspends a thread, writes its state and its methods, and resumes it. The suspension waits for the thread's next poll. The
+/// count that comes behind it waits ten seconds at the most.
+fn inspect<R: Wait + Clock + Print + AllocGlobal>(
+    rt: &R,
+    agent: &mut Agent,
+    thread: ThreadNo,
+) -> Option<()> {
     let alloc = rt.alloc();
-    agent.meet(rt, alloc).ok()?;
-    let thread = *agent.get_all_threads(rt, alloc).ok()?.first()?;
-    agent.add_capabilities(Caps::CAN_SUSPEND).ok()?;
     let (trace, _again) = trace_twice(rt, alloc, agent, thread, 8).ok()?;
     println!(rt; "state {:#x}", agent.get_thread_state(rt, thread).ok()?).ok()?;
     for frame in trace.frames() {
         println!(rt; "method {}", frame.method.0).ok()?;
     }
+    let time = Duration::from_secs(10);
+    let count = agent
+        .get_frame_count(Within { rt, alloc, time }, thread)
+        .ok()?;
+    println!(rt; "frames {count}").ok()?;
     agent.resume_thread(rt, thread).ok()?;
     println!(rt; "state {:#x}", agent.get_thread_state(rt, thread).ok()?).ok()
 }
 
-/// Inspects the thread, and leaves the service. Then it sets `over`, so that the thread ends.
-fn watch<R: Wait + Print + AllocGlobal>(rt: &R, over: &AtomicBool, agent: Agent) -> Option<()> {
+/// Inspects all threads, one after the other.
+fn inspect_all<R: Wait + Clock + Print + AllocGlobal>(rt: &R, agent: &mut Agent) -> Option<()> {
+    let alloc = rt.alloc();
+    agent.meet(rt, alloc).ok()?;
+    agent.add_capabilities(Caps::CAN_SUSPEND).ok()?;
+    for thread in agent.get_all_threads(rt, alloc).ok()? {
+        inspect(rt, agent, thread)?;
+    }
+    Some(())
+}
+
+/// Inspects the threads, and leaves the service. Then it sets `over`, so that the threads end.
+fn watch<R: Wait + Clock + Print + AllocGlobal>(
+    rt: &R,
+    over: &AtomicBool,
+    agent: Agent,
+) -> Option<()> {
     let mut agent = agent;
-    let done = inspect(rt, &mut agent);
+    let done = inspect_all(rt, &mut agent);
     over.store(true, Ordering::SeqCst);
     agent.dispose(rt, rt.alloc()).ok()?;
     done
 }
 
-/// Runs a thread and an agent, each in a thread of its own.
-fn run<R: Threads + Wait + Sync + Print + AllocGlobal>(rt: &R) -> Option<()> {
+/// A thread of this name that runs, in method 1 called by method 0.
+fn attach<R: Wait + AllocGlobal>(rt: &R, service: &mut Service, name: &str) -> Option<Running> {
     let alloc = rt.alloc();
-    let mut service = Service::make(alloc, Limits::lasting(1, 1, 64)?).ok()?;
-    let name = String::from_str(alloc, "adder").ok()?;
+    let name = String::from_str(alloc, name).ok()?;
     let info = ThreadInfo { name, priority: 5 };
     let mut running = service.attach_thread(rt, alloc, info).ok()?.start(rt);
     running.step(Step::Enter(MethodNo(0))).ok()?;
     running.step(Step::Enter(MethodNo(1))).ok()?;
-    let agent = service.attach_environment(rt, alloc).ok()?;
+    Some(running)
+}
+
+/// Runs two threads side by side, until both have ended.
+fn compute_both<R: Threads + Wait + Sync>(
+    rt: &R,
+    over: &AtomicBool,
+    first: Running,
+    second: Running,
+) -> (Ended, Ended) {
+    let ((_sum, first), (_other, second)) = join(
+        rt,
+        move || -> (u64, Ended) { compute(rt, over, first) },
+        move || -> (u64, Ended) { compute(rt, over, second) },
+    );
+    (first, second)
+}
+
+/// Runs two threads and an agent, each in a thread of its own.
+fn run_all<R: Threads + Wait + Sync + Clock + Print + AllocGlobal>(
+    rt: &R,
+    first: Running,
+    second: Running,
+    agent: Agent,
+) -> ((Ended, Ended), Option<()>) {
     let over = AtomicBool::new(false);
     let over = &over;
-    let ((_sum, ended), done) = join(
+    join(
         rt,
-        move || -> (u64, Ended) { compute(rt, over, running) },
+        move || -> (Ended, Ended) { compute_both(rt, over, first, second) },
         move || -> Option<()> { watch(rt, over, agent) },
-    );
-    service.end_thread(rt, ended).ok()?;
+    )
+}
+
+/// Lets two threads and an agent come to a service and go.
+fn run<R: Threads + Wait + Sync + Clock + Print + AllocGlobal>(rt: &R) -> Option<()> {
+    let alloc = rt.alloc();
+    let mut service = Service::make(alloc, Limits::lasting(2, 1, 64)?).ok()?;
+    let first = attach(rt, &mut service, "adder")?;
+    let second = attach(rt, &mut service, "other adder")?;
+    let agent = service.attach_environment(rt, alloc).ok()?;
+    let ((first, second), done) = run_all(rt, first, second, agent);
+    service.end_thread(rt, first).ok()?;
+    service.end_thread(rt, second).ok()?;
     done
 }
 
