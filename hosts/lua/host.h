@@ -16,7 +16,7 @@
 
 enum {
     INSTRUCTIONS = 1009,  /* of Lua's machine between two polls; a prime, so that polls keep step with no loop */
-    SHOWN = 512,          /* so many frames of a stack are shown. Of a deeper one these are */
+    SHOWN = 512,          /* so many frames of a stack are shown. A deeper one shows these: */
     OLDEST = 31,          /* so many of the oldest, one that stands for the frames between, */
     NEWEST = SHOWN - 1 - OLDEST,  /* and so many of the newest */
     FRAMES = SHOWN + 1,   /* with one besides, which says that the stack came late */
