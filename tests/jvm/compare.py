@@ -1,7 +1,7 @@
 #!/usr/bin/env python3
 """Carries walks out on a real Java VM, and compares the lines with those of `tiwalk`.
 
-The walks are made up by chance, from a seed. The VM is the one that `java` names. Agents' calls are JVM TI calls of a C agent,
+The walks are random, from a seed. The VM is the one that `java` names. Agents' calls are JVM TI calls of a C agent,
 so that their lines are the VM's own answers. Lines of threads' own events are what the driver noted, beside the VM.
 
     tests/jvm/compare.py [--walks N] [--seed TEXT] [--first K] [--program PATH]     1,000 walks of seed 1 by default

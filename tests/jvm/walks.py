@@ -1,4 +1,4 @@
-"""Walks that are made up by chance. A Java VM can carry each of them out."""
+"""Random walks. A Java VM can carry each of them out."""
 
 import random
 

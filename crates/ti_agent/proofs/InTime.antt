@@ -13,6 +13,8 @@ use Rattle.ti_types.specs.declared.error.TiError.{TiError}
 use Rattle.ti_types.specs.declared.error.TiError.TheVariants.{Full, OutOfMemory, TimedOut}
 use Rattle.ti_types.specs.declared.numbers.ThreadNo.{ThreadNo}
 use Rattle.ti_env.specs.Env.{EnvValue, call_refusal, with_spent}
+use Rattle.ti_types.specs.Refusing.{or_else}
+use Rattle.ti_replay.specs.Admission.{takes_buffer}
 use Rattle.ti_replay.specs.Settling.{waits}
 use Rattle.ti_handshake.specs.Call.{GoesOn, Holds, next_call, next_ticket}
 use Rattle.ti_handshake.specs.Desk.{DeskState, Discards, DiscardsOf, IsInTime, is_out}
@@ -138,7 +140,7 @@ unwrapped None a is = ap said is
 unwrapped (Some b) a is = ap said is
 
 -- no memory
-pub short_comes : (s : Environment) (thread : ThreadNo) (c : Call) (e : TiError) → e ≡ OutOfMemory → ComesTo s s thread c (answer.Refused e)
+short_comes : (s : Environment) (thread : ThreadNo) (c : Call) (e : TiError) → e ≡ OutOfMemory → ComesTo s s thread c (answer.Refused e)
 short_comes s thread c e is =
     let none : ComesTo s s thread c (answer.Refused OutOfMemory) = refl in
     subst (λ (x : TiError). ComesTo s s thread c (answer.Refused x)) (sym is) none
@@ -148,9 +150,16 @@ pub comes_within : (old mid new : Environment) (thread : ThreadNo) (c : Call) (a
 comes_within old mid new thread c a thrown free discards comes =
     subst (λ (o : Option TiError). IsCalledWithinBy o old new thread c a) (sym free) (record { thrown = thrown; mid = mid; discards = discards; comes = comes })
 
--- at a full window, and where there is room
-pub comes_full : (mid : Environment) (thread : ThreadNo) (c : Call) → (waits c && is_full mid thread) ≡ true → ComesWith (waits c && is_full mid thread) mid mid thread c (answer.Refused Full)
-comes_full mid thread c full = subst (λ (b : Bool). ComesWith b mid mid thread c (answer.Refused Full)) (sym full) (refl, refl)
-
+-- where there is room
 pub comes_with_room : (mid new : Environment) (thread : ThreadNo) (c : Call) (a : Answer) → (waits c && is_full mid thread) ≡ false → ComesTo mid new thread c a → ComesWith (waits c && is_full mid thread) mid new thread c a
 comes_with_room mid new thread c a room comes = subst (λ (b : Bool). ComesWith b mid new thread c a) (sym room) comes
+
+-- at a full window, and where there is no memory for the buffer
+without_by : (full buffer : Bool) (mid : Environment) (thread : ThreadNo) (c : Call) (e : TiError) → Some e ≡ or_else (if full then Some Full else None) (if buffer then Some OutOfMemory else None) → ComesWith full mid mid thread c (answer.Refused e)
+without_by true buffer mid thread c e is = (refl, (let h : Some e ≡ Some Full = is in ap (λ (x : TiError). answer.Refused x) cc))
+without_by false true mid thread c e is = short_comes mid thread c e (let h : Some e ≡ Some OutOfMemory = is in cc)
+without_by false false mid thread c e is = let h : Some e ≡ None = is in cc
+
+pub comes_without : (mid : Environment) (thread : ThreadNo) (c : Call) (e : TiError) → Some e ≡ or_else (if waits c && is_full mid thread then Some Full else None) (if takes_buffer c then Some OutOfMemory else None)
+    → ComesWith (waits c && is_full mid thread) mid mid thread c (answer.Refused e)
+comes_without mid thread c e is = without_by (waits c && is_full mid thread) (takes_buffer c) mid thread c e is

@@ -18,3 +18,4 @@ pub mod Barred
 pub mod Counted
 pub mod AtHome
 pub mod Stays
+pub mod Resuming

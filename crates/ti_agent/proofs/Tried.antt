@@ -44,11 +44,14 @@ pub tried_discard : (s : Environment) (t : ℕ) (p q : DeskState) (r : Result Bo
 tried_discard s t p q (Ok thrown) whole at discards busy = discard_whole s t p q thrown whole at discards
 tried_discard s t p q (Err e) whole at discards busy = subst (λ (z : Environment). IsWhole z) (sym (seen_same s t p q at busy.1)) whole
 
-pub discards_at : (s : Environment) (thread : ThreadNo) (t : ℕ) (p q : DeskState) (r : Result Bool TiError) → t ≡ place_in s.desks thread → slice_get s.desks t ≡ Some p → IfOk r (λ thrown. Discards p q thrown)
-    → IfOk r (λ thrown. place_in s.desks thread < length s.desks → DiscardsAt s (seen_call s t q) thread thrown)
-discards_at s thread t p q (Ok thrown) is at discards = λ _.
+pub discarded : (s : Environment) (thread : ThreadNo) (t : ℕ) (p q : DeskState) (thrown : Bool) → t ≡ place_in s.desks thread → slice_get s.desks t ≡ Some p → Discards p q thrown → DiscardsAt s (seen_call s t q) thread thrown
+discarded s thread t p q thrown is at discards =
     let there = ap (slice_get s.desks) (sym is) ∙ at in
     record { before = p; after = q; there = there; about = about_at s.desks thread p there; discards = discards; new_is = ap (λ (n : ℕ). seen_call s n q) is }
+
+pub discards_at : (s : Environment) (thread : ThreadNo) (t : ℕ) (p q : DeskState) (r : Result Bool TiError) → t ≡ place_in s.desks thread → slice_get s.desks t ≡ Some p → IfOk r (λ thrown. Discards p q thrown)
+    → IfOk r (λ thrown. place_in s.desks thread < length s.desks → DiscardsAt s (seen_call s t q) thread thrown)
+discards_at s thread t p q (Ok thrown) is at discards = λ _. discarded s thread t p q thrown is at discards
 discards_at s thread t p q (Err e) is at discards = tt
 
 -- if a call was posted and waits, its ticket is out

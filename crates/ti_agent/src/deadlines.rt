@@ -2,7 +2,6 @@
 
 use crate::env::Env;
 use crate::home::Home;
-use crate::posts::buffer_for;
 use std::alloc::Global;
 use std::rt::Clock;
 use std::sync::Wait;
@@ -46,17 +45,22 @@ impl<H: Home> Env<H> {
         ensures nobody { length self.old.env.desks ≤ place_in self.old.env.desks thread → (self.new ≡ self.old) × (result ≡ false) }
         ensures home { self.new.home ≡ self.old.home }
     {
-        let pace = Pace::new();
-        for _ in rt.forever() {
-            match self.discard_now(thread) {
-                Ok(thrown) => {
-                    self.wake_sleepers_at(thread);
-                    return thrown;
-                }
-                Err(_) => self.await_free_at(rt, thread, &pace),
-            }
+        let place = self.place_of(thread);
+        if place.0 >= self.desk_count() {
+            return false;
         }
-        unreachable!()
+        self.discard_at(rt, thread, place)
+    }
+
+    /// The same as `discard`, at the thread at this place, where there is a desk.
+    fn discard_at<R: Wait>(&mut self, rt: &R, thread: ThreadNo, place: ThreadNo) -> bool
+        requires place { place ≡ place_of self.old.env.desks thread }
+        requires there { place_in self.old.env.desks thread < length self.old.env.desks }
+        ensures discards { DiscardsAt self.old.env self.new.env thread result }
+        ensures home { self.new.home ≡ self.old.home }
+    {
+        let _thread = thread;
+        self.desks[place.0 as usize].discard(rt)
     }
 
     /// Asks the thread at this place an admitted call for which there is room, and waits for its answer for at most this
@@ -105,11 +109,8 @@ impl<H: Home> Env<H> {
             Ok(place) => place,
             Err(error) => return Answer::Refused(error),
         };
-        let _thrown = self.discard(rt, thread);
-        if self.has_no_room(thread, place, call) {
-            return Answer::Refused(TiError::Full);
-        }
-        match buffer_for(alloc, self.state.limits(), call) {
+        let _thrown = self.discard_at(rt, thread, place);
+        match self.room_for(alloc, thread, place, call) {
             Ok(buf) => self.ask_one_within(rt, alloc, thread, place, call, buf, time),
             Err(error) => Answer::Refused(error),
         }

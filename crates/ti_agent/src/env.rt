@@ -9,7 +9,6 @@ use std::marker::Model;
 use std::sync::Wait;
 use ti_env::EnvState;
 use ti_handshake::Desk;
-use ti_replay::rules::waits as may_wait;
 use ti_types::{Answer, Call, Caps, EnvNo, Frame, ThreadNo, TiError, TraceBuf};
 
 /// An agent's environment, with a desk at each of its threads. A thread is found by its number. The desks are in the order
@@ -176,8 +175,9 @@ impl<H: Home> Env<H> {
         ensures home { self.new.home ≡ self.old.home }
     {
         let _thread = thread;
+        let answer = self.desks[place.0 as usize].call(rt, call, buf);
         self.state.spend(place);
-        self.desks[place.0 as usize].call(rt, call, buf)
+        answer
     }
 
     /// The place of a thread, if a call reaches it, as `EnvState::admit` says. But 15 in place of 10, if there was a thread of
@@ -193,16 +193,6 @@ impl<H: Home> Env<H> {
             Ok(()) => Ok(place),
             Err(error) => Err(self.map_error(thread, error)),
         }
-    }
-
-    /// Whether a call may wait while the environment's window at the thread at this place is full.
-    pub(crate) fn has_no_room(&self, thread: ThreadNo, place: ThreadNo, call: Call) -> bool
-        requires place { place ≡ place_of self.now.env.desks thread }
-        requires there { place_in self.now.env.desks thread < length self.now.env.desks }
-        ensures { result ≡ (waits call && is_full self.now.env thread) }
-    {
-        let _thread = thread;
-        may_wait(call) && self.desks[place.0 as usize].out() >= self.state.limits().window
     }
 
     /// Whether the environment has all of these capabilities.
@@ -443,14 +433,13 @@ impl<H: Home> Env<H> {
     }
 }
 
-ghost use Rattle.std.specs.Prelude.{◌≡◌, ◌&&◌, ◌↔◌, ◌<◌, nat_lt, length, true, false, None, Some, Ok, IfOk, IfErr, OnOk, OnErr, IsOk};
+ghost use Rattle.std.specs.Prelude.{◌≡◌, ◌↔◌, ◌<◌, nat_lt, length, true, false, None, Some, Ok, IfOk, IfErr, OnOk, OnErr, IsOk};
 ghost use Rattle.ti_types.specs.Answer.{said};
 ghost use Rattle.ti_types.specs.Caps.{caps_with, caps_without, can_be_had, has_all};
 ghost use Rattle.ti_types.specs.declared.call.Call.TheVariants as call;
 ghost use Rattle.ti_types.specs.declared.error.TiError.TheVariants.{NotAvailable};
 ghost use Rattle.ti_env.specs.Env.{with_caps, with_word};
 ghost use Rattle.ti_replay.specs.Admission.{takes_buffer};
-ghost use Rattle.ti_replay.specs.Settling.{waits};
 ghost use Rattle.ti_agent.specs.Buffers.{IsJustBufferOf};
-ghost use Rattle.ti_agent.specs.Env.{Environment, AreNewDesks, place_in, place_of, potential_caps, thread_refusal, map_error, is_full};
+ghost use Rattle.ti_agent.specs.Env.{Environment, AreNewDesks, place_in, place_of, potential_caps, thread_refusal, map_error};
 ghost use Rattle.ti_agent.specs.Asks.{Went, IsCalled, IsKind, is_for_memory, in_state, in_count, in_word, in_location, in_trace, in_done};

@@ -7,6 +7,7 @@ use std::rt::Clock;
 use std::sync::Wait;
 use std::time::Duration;
 use ti_cell::Pace;
+use ti_replay::rules::waits as may_wait;
 use ti_slot::Asked;
 use ti_types::{Answer, Call, Limits, ThreadNo, TiError, Ticket, TraceBuf};
 
@@ -26,6 +27,40 @@ pub(crate) fn buffer_for(alloc: Global, limits: Limits, call: Call) -> Result<Tr
 }
 
 impl<H: Home> Env<H> {
+    /// The buffer that an admitted call takes, if the environment has room for the call at the thread at this place.
+    ///
+    /// 216 (this profile: `Full`) if the call may wait, and `window` calls are out there. Otherwise 110 OUT_OF_MEMORY if a
+    /// trace's buffer cannot be had.
+    pub(crate) fn room_for(
+        &self,
+        alloc: Global,
+        thread: ThreadNo,
+        place: ThreadNo,
+        call: Call,
+    ) -> Result<TraceBuf, TiError>
+        requires place { place ≡ place_of self.now.env.desks thread }
+        requires there { place_in self.now.env.desks thread < length self.now.env.desks }
+        requires admitted { thread_refusal self.now.env thread call ≡ None }
+        ensures room { OnOk result ((waits call && is_full self.now.env thread) ≡ false) }
+        ensures buf { IfOk result (λ b. IsJustBufferOf self.now.env.state.limits call b) }
+        ensures refused { IfErr result (λ e. Some e ≡ or_else (if waits call && is_full self.now.env thread then Some Full else None) (if takes_buffer call then Some OutOfMemory else None)) }
+    {
+        if self.has_no_room(thread, place, call) {
+            return Err(TiError::Full);
+        }
+        buffer_for(alloc, self.state.limits(), call)
+    }
+
+    /// Whether a call may wait while the environment's window at the thread at this place is full.
+    fn has_no_room(&self, thread: ThreadNo, place: ThreadNo, call: Call) -> bool
+        requires place { place ≡ place_of self.now.env.desks thread }
+        requires there { place_in self.now.env.desks thread < length self.now.env.desks }
+        ensures { result ≡ (waits call && is_full self.now.env thread) }
+    {
+        let _thread = thread;
+        may_wait(call) && self.desks[place.0 as usize].out() >= self.state.limits().window
+    }
+
     /// Posts a call at a thread, by one hold. It gives the answer, or a ticket if the call waits for the running thread (JEP
     /// 312). The calls that read frames wait, and so do SuspendThread and PopFrame. It spends one call, also if the answer
     /// is never collected. The environment may make other calls meanwhile.
@@ -126,13 +161,14 @@ impl<H: Home> Env<H> {
     }
 }
 
-ghost use Rattle.std.specs.Prelude.{◌≡◌, ◌<◌, ◌≤◌, true, length, None, Some, IfOk, IfErr, if◌then◌else◌};
+ghost use Rattle.std.specs.Prelude.{◌≡◌, ◌<◌, ◌≤◌, ◌&&◌, true, false, length, None, Some, IfOk, IfErr, OnOk, if◌then◌else◌};
 ghost use Rattle.std.specs.Option.{option_map};
 ghost use Rattle.ti_types.specs.Answer.{said};
 ghost use Rattle.ti_types.specs.Refusing.{or_else};
-ghost use Rattle.ti_types.specs.declared.error.TiError.TheVariants.{OutOfMemory};
+ghost use Rattle.ti_types.specs.declared.error.TiError.TheVariants.{Full, OutOfMemory};
 ghost use Rattle.ti_replay.specs.Admission.{takes_buffer};
 ghost use Rattle.ti_replay.specs.Legal.{is_well_formed};
+ghost use Rattle.ti_replay.specs.Settling.{waits};
 ghost use Rattle.ti_agent.specs.Buffers.{IsJustBufferOf};
-ghost use Rattle.ti_agent.specs.Env.{place_in};
+ghost use Rattle.ti_agent.specs.Env.{place_in, place_of, thread_refusal, is_full};
 ghost use Rattle.ti_agent.specs.Posts.{posting_refusal, Posts, Collects, LooksFor, WaitsFor, IsOut, IsOutIfWaiting};

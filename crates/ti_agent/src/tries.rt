@@ -7,7 +7,6 @@
 use crate::env::Env;
 use crate::free_desk::FreeDesk;
 use crate::home::Home;
-use crate::posts::buffer_for;
 use std::alloc::Global;
 use std::sync::Wait;
 use ti_cell::Pace;
@@ -128,10 +127,7 @@ impl<H: Home> Env<H> {
             Ok(place) => place,
             Err(error) => return Err(error),
         };
-        if self.has_no_room(thread, place, call) {
-            return Err(TiError::Full);
-        }
-        match buffer_for(alloc, self.state.limits(), call) {
+        match self.room_for(alloc, thread, place, call) {
             Ok(buf) => self.post_one_now(thread, place, call, buf),
             Err(error) => Err(error),
         }

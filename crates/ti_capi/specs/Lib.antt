@@ -16,3 +16,4 @@ pub mod Threads
 pub mod Turns
 pub mod Frames
 pub mod Services
+pub mod Resuming

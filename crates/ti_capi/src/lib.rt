@@ -19,6 +19,7 @@ mod env_lends;
 mod env_list;
 mod env_own;
 mod env_posts;
+mod env_resumed;
 mod env_traces;
 mod handle_lends;
 mod held;

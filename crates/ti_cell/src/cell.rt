@@ -12,7 +12,7 @@ use crate::word::Word;
 use atomic_table::Table;
 use std::alloc::{AllocError, Global};
 use std::marker::{Model, PhantomData};
-use std::sync::Wait;
+use std::sync::{Arc, Wait};
 use std::time::Duration;
 use ti_slot::Slot;
 use ti_types::{Limits, ThreadNo, TiError};
@@ -76,8 +76,10 @@ impl ThreadCell {
     {
         let mut seats = Vec::with_capacity(alloc, limits.envs as usize)?;
         let (cell, mut pass) = ThreadCell::open(alloc, limits, number)?;
+        let shared = shared_limits(alloc, limits)?;
         for env in 0..limits.envs {
-            match seats.push(cell.split(&mut pass, env + 1, number)) {
+            let limits = Arc::try_clone(&shared)?;
+            match seats.push(cell.split(&mut pass, env + 1, number, limits)) {
                 Ok(()) => (),
                 Err(refused) => return Err(AllocError::from(refused).into()),
             }
@@ -88,6 +90,7 @@ impl ThreadCell {
             thread: number,
             count: 0,
             out: 0,
+            limits: shared,
             role: PhantomData,
         };
         Ok((cell, own, seats))
@@ -117,13 +120,14 @@ impl ThreadCell {
         }
     }
 
-    /// Splits a seat off the owner's. It gets the next number, which is given, as is the thread's.
-    fn split(&self, pass: &mut Pass, number: u32, thread: ThreadNo) -> EnvSeat
+    /// Splits a seat off the owner's. It gets the next number, which is given, as are the thread's and its limits.
+    fn split(&self, pass: &mut Pass, number: u32, thread: ThreadNo, limits: Arc<Limits>) -> EnvSeat
         requires pass { pass.old.table_id ≡ self.now }
         requires owner { (pass.old.me.0.number ≡ 0) × (pass.old.me.0.gone ≡ false) }
         requires number { number ≡ pass.old.me.0.made }
         requires there { (0 < number) × (number ≤ pass.old.me.0.subject.limits.envs) }
         requires thread { thread ≡ pass.old.me.0.subject.thread }
+        requires limits { arc_value limits ≡ pass.old.me.0.subject.limits }
         ensures pass { (pass.new.table_id ≡ pass.old.table_id) × (pass.new.me ≡ (splitter pass.old.me.0, pass.old.me.1)) }
         ensures seat { (result.cell ≡ self.now) × (result.view ≡ split_off pass.old.me.0) }
     {
@@ -134,6 +138,7 @@ impl ThreadCell {
             thread,
             count: 0,
             out: 0,
+            limits,
             role: PhantomData,
         }
     }
@@ -157,6 +162,7 @@ impl ThreadCell {
             thread,
             count: _,
             out: _,
+            limits,
             role,
         } = seat;
         let slot = self.take(rt, &mut seat);
@@ -166,6 +172,7 @@ impl ThreadCell {
             number,
             thread,
             slot,
+            limits,
             role,
         }
     }
@@ -209,6 +216,7 @@ impl ThreadCell {
             thread,
             count,
             out,
+            limits,
             role,
         } = seat;
         match self.take_now(&mut seat) {
@@ -218,6 +226,7 @@ impl ThreadCell {
                 number,
                 thread,
                 slot,
+                limits,
                 role,
             }),
             None => Err(CellSeat {
@@ -226,6 +235,7 @@ impl ThreadCell {
                 thread,
                 count,
                 out,
+                limits,
                 role,
             }),
         }
@@ -363,6 +373,7 @@ impl ThreadCell {
             thread: _,
             count: _,
             out: _,
+            limits: _,
             role: _,
         } = seat;
         self.table.shared.join_seat::<Returns>(&mut own.seat, seat);
@@ -396,6 +407,7 @@ impl ThreadCell {
             thread: _,
             count: _,
             out: _,
+            limits: _,
             role: _,
         } = seat;
         let mut closed = table.close_with(seat);
@@ -408,6 +420,18 @@ impl ThreadCell {
     }
 }
 
+/// The limits of a thread, once for all seats of its cell. 110 OUT_OF_MEMORY if there is no memory for them.
+fn shared_limits(alloc: Global, limits: Limits) -> Result<Arc<Limits>, TiError>
+    ensures limits { IfOk result (λ l. arc_value l ≡ limits) }
+    ensures memory { IfErr result (λ e. e ≡ TiError.OutOfMemory) }
+{
+    match Arc::new(alloc, limits) {
+        Ok(limits) => Ok(limits),
+        Err(_) => Err(TiError::OutOfMemory),
+    }
+}
+
+ghost use Rattle.std.specs.Arc.{arc_value};
 ghost use Rattle.std.specs.Prelude.{◌≡◌, ◌+◌, true, false, [], ◌∷◌, length, ◌<◌, ◌≤◌, IfOk, IfErr, IfSome, IfNone, None};
 ghost use Rattle.ti_types.specs.declared.error.TiError.TheVariants as TiError;
 ghost use Rattle.ti_replay.specs.Legal.{is_legal};

@@ -5,7 +5,8 @@ use crate::parked::Parked;
 use crate::role::Role;
 use crate::seat::{CellSeat, Pass};
 use std::marker::{Model, PhantomData};
-use ti_types::ThreadNo;
+use std::sync::Arc;
+use ti_types::{Limits, ThreadNo};
 
 /// The slot, taken out of its cell. It has to be stored: dropping it is a compile error.
 ///
@@ -16,18 +17,20 @@ pub struct Hold<'a, K: Role> {
     pub(crate) number: u32,
     pub(crate) thread: ThreadNo,
     pub(crate) slot: Parked,
+    pub(crate) limits: Arc<Limits>,
     pub(crate) role: PhantomData<K>,
 }
 
 impl<'a, K: Role> Model for Hold<'a, K> {
     ghost use Rattle.std.specs.Prelude.{◌≡◌, [], ◌∷◌, true, false, None};
+    ghost use Rattle.std.specs.Arc.{arc_value};
     ghost use Rattle.ti_cell.specs.Seats.{Holding};
 
     ghost Value = { Holding };
 
     ghost view = { λ h. record { cell = h.cell.now; view = h.seat.me.0; slot = h.slot } };
 
-    ghost invariant = { λ h. (h.seat.table_id ≡ h.cell.now) × (h.seat.me.1 ≡ (0, None) ∷ []) × (h.seat.me.0.holds ≡ true) × (h.seat.me.0.gone ≡ false) × (h.number ≡ h.seat.me.0.number) × (h.thread ≡ h.seat.me.0.subject.thread) × K.sits h.seat.me.0.number h.seat.me.0.subject.limits.envs };
+    ghost invariant = { λ h. (h.seat.table_id ≡ h.cell.now) × (h.seat.me.1 ≡ (0, None) ∷ []) × (h.seat.me.0.holds ≡ true) × (h.seat.me.0.gone ≡ false) × (h.number ≡ h.seat.me.0.number) × (h.thread ≡ h.seat.me.0.subject.thread) × K.sits h.seat.me.0.number h.seat.me.0.subject.limits.envs × (arc_value h.limits ≡ h.seat.me.0.subject.limits) };
 }
 
 impl<'a, K: Role> Hold<'a, K> {
@@ -70,6 +73,7 @@ impl<'a, K: Role> Hold<'a, K> {
             number,
             thread,
             slot,
+            limits,
             role,
         } = self;
         let count = slot.len();
@@ -81,6 +85,7 @@ impl<'a, K: Role> Hold<'a, K> {
             thread,
             count,
             out,
+            limits,
             role,
         }
     }

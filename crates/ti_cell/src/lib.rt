@@ -19,8 +19,8 @@
 //! - A hold has to be stored: dropping it is a compile error. So is using a seat twice.
 //! - Only `ThreadCell::make` takes memory, and its only error is lack of it.
 //!
-//! It does not promise that `hold` returns. It waits as long as others hold the cell, so it takes `Wait`. One who waits
-//! sleeps after some looks, and `store` wakes it. `store_quietly` does not. No contract says either.
+//! It does not promise that `hold` returns. It waits as long as others hold the cell, so it takes `Wait`. A thread
+//! that waits sleeps after some looks, and `store` wakes it. `store_quietly` does not. No contract says either.
 #![tactic(auto)]
 
 mod cell;

@@ -5,7 +5,8 @@ use crate::role::{EnvRole, OwnerRole, Role};
 use crate::view::View;
 use atomic_table::Seat;
 use std::marker::{Model, PhantomData};
-use ti_types::ThreadNo;
+use std::sync::Arc;
+use ti_types::{Limits, ThreadNo};
 
 /// A seat of the cell's table.
 pub(crate) type Pass = Seat<Option<Parked>, View>;
@@ -18,8 +19,8 @@ pub type EnvSeat = CellSeat<EnvRole>;
 
 /// A seat of a cell, in the role `K`: what one user of the cell knows. It is moved to where its user runs.
 ///
-/// At run time it has its number, its thread's number, how many entries it has seen, and how many of its calls are out.
-/// Contracts see it as its cell and a `View`.
+/// At run time it has its number, its thread's number and limits, how many entries it has seen, and how many of its calls are
+/// out. Contracts see it as its cell and a `View`.
 #[derive(Drop)]
 pub struct CellSeat<K: Role> {
     pub(crate) seat: Pass,
@@ -31,11 +32,14 @@ pub struct CellSeat<K: Role> {
     pub(crate) count: usize,
     /// How many of its calls wait, or have an answer that is not collected.
     pub(crate) out: u32,
+    /// The limits of the cell's thread, which all seats of the cell share.
+    pub(crate) limits: Arc<Limits>,
     pub(crate) role: PhantomData<K>,
 }
 
 impl<K: Role> Model for CellSeat<K> {
     ghost use Rattle.std.specs.Prelude.{◌≡◌, ◌≤◌, [], true, false, length};
+    ghost use Rattle.std.specs.Arc.{arc_value};
     ghost use Rattle.ti_replay.specs.Legal.{is_legal};
     ghost use Rattle.ti_replay.specs.Makers.{made_by};
     ghost use Rattle.ti_cell.specs.Seats.{Sitting};
@@ -44,7 +48,7 @@ impl<K: Role> Model for CellSeat<K> {
 
     ghost view = { λ s. record { cell = s.seat.table_id; view = s.seat.me.0 } };
 
-    ghost invariant = { λ s. (s.seat.me.1 ≡ []) × (s.seat.me.0.holds ≡ false) × (s.seat.me.0.gone ≡ false) × (is_legal s.seat.me.0.subject.limits s.seat.me.0.seen ≡ true) × (s.seat.me.0.mine ≡ made_by s.seat.me.0.number s.seat.me.0.seen) × (s.number ≡ s.seat.me.0.number) × (s.count ≡ length s.seat.me.0.seen) × (s.seat.me.0.found ≡ []) × (s.out ≡ length s.seat.me.0.posted) × (length s.seat.me.0.posted ≤ length s.seat.me.0.mine) × (s.thread ≡ s.seat.me.0.subject.thread) × K.sits s.seat.me.0.number s.seat.me.0.subject.limits.envs };
+    ghost invariant = { λ s. (s.seat.me.1 ≡ []) × (s.seat.me.0.holds ≡ false) × (s.seat.me.0.gone ≡ false) × (is_legal s.seat.me.0.subject.limits s.seat.me.0.seen ≡ true) × (s.seat.me.0.mine ≡ made_by s.seat.me.0.number s.seat.me.0.seen) × (s.number ≡ s.seat.me.0.number) × (s.count ≡ length s.seat.me.0.seen) × (s.seat.me.0.found ≡ []) × (s.out ≡ length s.seat.me.0.posted) × (length s.seat.me.0.posted ≤ length s.seat.me.0.mine) × (s.thread ≡ s.seat.me.0.subject.thread) × K.sits s.seat.me.0.number s.seat.me.0.subject.limits.envs × (arc_value s.limits ≡ s.seat.me.0.subject.limits) };
 }
 
 impl<K: Role> CellSeat<K> {
@@ -74,6 +78,13 @@ impl<K: Role> CellSeat<K> {
         ensures { result ≡ self.now.view.subject.thread }
     {
         self.thread
+    }
+
+    /// The limits of the thread whose cell it is (this profile).
+    pub fn limits(&self) -> Limits
+        ensures { result ≡ self.now.view.subject.limits }
+    {
+        *self.limits
     }
 
     /// How many entries of the thread's history the seat has seen (this profile).

@@ -38,8 +38,8 @@ const UNBARRED: u64 = 1 << 32;
 
 /// How many sleep on a cell's word, or are about to. Contracts do not see it.
 ///
-/// One who is about to sleep first counts itself, and then looks at the word. One who stores first changes the word, and
-/// then loads the count. All four steps have one order, so one of the two sees what the other did. Either the sleeper finds
+/// A thread that is about to sleep first counts itself, and then looks at the word. A thread that stores first changes the word,
+/// and then loads the count. All four steps have one order, so one of the two sees what the other did. Either the sleeper finds
 /// another word than it would sleep on, or the storer finds the sleeper and wakes it.
 #[derive(Drop)]
 pub struct Sleepers {
@@ -61,18 +61,18 @@ impl Sleepers {
     }
 
     /// Whether somebody has to be woken after this word was stored, by one load. If the thread is still barred, the store
-    /// does not matter to one who waits until it is not.
+    /// does not matter to a sleeper that waits until it is not.
     pub fn are_called(&self, word: Word) -> bool {
         let count = self.count.load(Ordering::SeqCst);
         count != 0 && (count % UNBARRED != 0 || WakeCondition::Unbarred.is_met(word))
     }
 
-    /// Counts one more, who is about to sleep.
+    /// Counts a thread that is about to sleep.
     pub fn add(&self, condition: WakeCondition) {
         self.count.fetch_add(condition.weight(), Ordering::SeqCst);
     }
 
-    /// Counts one less, who no longer sleeps.
+    /// No longer counts a thread that has woken.
     pub fn remove(&self, condition: WakeCondition) {
         self.count.fetch_sub(condition.weight(), Ordering::SeqCst);
     }

@@ -48,11 +48,11 @@ pub record Took (p : DeskState) (env : EnvNo) (s : Sitting) (h : Holding) (n : T
   pub taken : IsTaken s.view h.slot
   pub lent : n ≡ h.slot
 
-pub took : (cell : TableId) (env : EnvNo) (limits : Limits) (o r : Option Sitting) (s : Sitting) (g : List Ticket) (p : DeskState) (h : Holding) (n : Thread)
-    → IsThere cell env limits o g → place_in cell env o g ≡ p → r ≡ Some s → r ≡ o → h.view ≡ holding s.view h.slot.history h.slot.uncollected → IsTaken s.view h.slot → n ≡ h.slot → Took p env s h n
-took cell env limits o r s g p h n there is some same holds taken lent =
+pub took : (cell : TableId) (env : EnvNo) (o r : Option Sitting) (s : Sitting) (g : List Ticket) (p : DeskState) (h : Holding) (n : Thread)
+    → IsThere cell env o g → place_in cell env o g ≡ p → r ≡ Some s → r ≡ o → h.view ≡ holding s.view h.slot.history h.slot.uncollected → IsTaken s.view h.slot → n ≡ h.slot → Took p env s h n
+took cell env o r s g p h n there is some same holds taken lent =
     let e : o ≡ Some s = sym same ∙ some in
-    let sits : Sits cell env s = (subst (λ (x : Option Sitting). IsThere cell env limits x g) e there).0 in
+    let sits : Sits cell env s = (subst (λ (x : Option Sitting). IsThere cell env x g) e there).0 in
     let place : place_in cell env (Some s) g ≡ p = ap (λ (x : Option Sitting). place_in cell env x g) (sym e) ∙ is in
     record {
       view = ap (λ (x : DeskState). x.view) (sym place);

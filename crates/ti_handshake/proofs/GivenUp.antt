@@ -7,7 +7,6 @@ use Rattle.std.proofs.lemmas.List.Folds.{list_any-append}
 use Rattle.atomic_table.specs.Seated.{TableId}
 use Rattle.ti_types.specs.declared.call.Call.{Call}
 use Rattle.ti_types.specs.declared.event.Ticket.{Ticket}
-use Rattle.ti_types.specs.declared.limits.Limits.{Limits}
 use Rattle.ti_types.specs.declared.numbers.EnvNo.{EnvNo}
 use Rattle.ti_slot.specs.declared.asked.Asked as asked
 use Rattle.ti_slot.specs.declared.asked.Asked.TheVariants.{Answered, Waiting}
@@ -71,18 +70,18 @@ pub place_given : (cell : TableId) (env : EnvNo) (o : Option Sitting) (g : List 
 place_given cell env None g p is = ap (λ (x : DeskState). x.cancelled) (sym is)
 place_given cell env (Some s) g p is = ap (λ (x : DeskState). x.cancelled) (sym is)
 
-pub given_there : (cell : TableId) (env : EnvNo) (limits : Limits) (o : Option Sitting) (g : List Ticket) (p : DeskState) → IsThere cell env limits o g → place_in cell env o g ≡ p → AreGivenUp g p.view.posted
-given_there cell env limits None g p k is = absurd k
-given_there cell env limits (Some s) g p k is = subst (λ (x : DeskState). AreGivenUp g x.view.posted) is k.1
+pub given_there : (cell : TableId) (env : EnvNo) (o : Option Sitting) (g : List Ticket) (p : DeskState) → IsThere cell env o g → place_in cell env o g ≡ p → AreGivenUp g p.view.posted
+given_there cell env None g p k is = absurd k
+given_there cell env (Some s) g p k is = subst (λ (x : DeskState). AreGivenUp g x.view.posted) is k.1
 
-pub seat_again : (cell : TableId) (env : EnvNo) (limits : Limits) (o : Option Sitting) (g z : List Ticket) (p : DeskState) (s : Sitting) → IsThere cell env limits o g → place_in cell env o g ≡ p
-    → s.cell ≡ cell → s.view.number ≡ p.view.number → s.view.subject ≡ p.view.subject → AreGivenUp z s.view.posted → IsThere cell env limits (Some s) z
-seat_again cell env limits None g z p s k is here number subject given = absurd k
-seat_again cell env limits (Some t) g z p s k is here number subject given =
+pub seat_again : (cell : TableId) (env : EnvNo) (o : Option Sitting) (g z : List Ticket) (p : DeskState) (s : Sitting) → IsThere cell env o g → place_in cell env o g ≡ p
+    → s.cell ≡ cell → s.view.number ≡ p.view.number → s.view.subject ≡ p.view.subject → AreGivenUp z s.view.posted → IsThere cell env (Some s) z
+seat_again cell env None g z p s k is here number subject given = absurd k
+seat_again cell env (Some t) g z p s k is here number subject given =
     let view : t.view ≡ p.view = ap (λ (x : DeskState). x.view) is in
     let same_number : s.view.number ≡ t.view.number = number ∙ sym (ap (λ (v : View). v.number) view) in
     let same_subject : s.view.subject ≡ t.view.subject = subject ∙ sym (ap (λ (v : View). v.subject) view) in
-    (record { here = here; number = same_number ∙ k.0.number; there = subst (λ (x : Subject). env.0 < x.limits.envs) (sym same_subject) k.0.there }, given, k.2 ∙ sym (ap (λ (x : Subject). x.limits) same_subject))
+    (record { here = here; number = same_number ∙ k.0.number; there = subst (λ (x : Subject). env.0 < x.limits.envs) (sym same_subject) k.0.there }, given)
 
 -- a call that was not given up is out if it is posted
 pub out_posted : (p : DeskState) (t : Ticket) → has t p.cancelled ≡ false → is_out p t ≡ has t p.view.posted

@@ -13,11 +13,11 @@ use Rattle.ti_handshake.specs.NewDesks.{IsSeatAt, desk_at, new_desk, new_desks}
 a_seat : TableId → Subject → ℕ → Sitting
 a_seat cell s n = record { cell = cell; view = newcomer s (suc n) 0 }
 
-pub seats_are : (cell : TableId) (s : Subject) (n : ℕ) → All (IsSeatAt cell s.limits) (env_seats cell s n)
-seats_are cell s zero = All-nil (IsSeatAt cell s.limits)
+pub seats_are : (cell : TableId) (s : Subject) (n : ℕ) → All (IsSeatAt cell) (env_seats cell s n)
+seats_are cell s zero = All-nil (IsSeatAt cell)
 seats_are cell s (suc n) =
-    All-append (IsSeatAt cell s.limits) (env_seats cell s n) (record { cell = cell; view = newcomer s (suc n) 0 } ∷ []) (seats_are cell s n)
-    (All-cons (IsSeatAt cell s.limits) (record { cell = cell; view = newcomer s (suc n) 0 }) [] (refl, refl) (All-nil (IsSeatAt cell s.limits)))
+    All-append (IsSeatAt cell) (env_seats cell s n) (record { cell = cell; view = newcomer s (suc n) 0 } ∷ []) (seats_are cell s n)
+    (All-cons (IsSeatAt cell) (record { cell = cell; view = newcomer s (suc n) 0 }) [] refl (All-nil (IsSeatAt cell)))
 
 back_one : (n : ℕ) → suc n - 1 ≡ n
 back_one n = omega arith

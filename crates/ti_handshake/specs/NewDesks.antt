@@ -4,13 +4,12 @@ use Rattle.atomic_table.specs.Seated.{TableId}
 use Rattle.ti_cell.specs.declared.view.Subject.{Subject}
 use Rattle.ti_cell.specs.Seats.{Sitting}
 use Rattle.ti_cell.specs.View.{newcomer}
-use Rattle.ti_types.specs.declared.limits.Limits.{Limits}
 use Rattle.ti_types.specs.declared.numbers.EnvNo.{EnvNo}
 use Rattle.ti_handshake.specs.Desk.{DeskState}
 
--- a seat at this cell, under these limits
-abbrev pub IsSeatAt : TableId → Limits → Sitting → Type 0
-IsSeatAt cell limits s = (s.cell ≡ cell) × (limits ≡ s.view.subject.limits)
+-- a seat at this cell
+abbrev pub IsSeatAt : TableId → Sitting → Type 0
+IsSeatAt cell s = s.cell ≡ cell
 
 -- the desk that has a seat
 abbrev pub desk_at : Sitting → DeskState

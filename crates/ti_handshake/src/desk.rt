@@ -1,16 +1,15 @@
 //! A desk: an environment's calls at one thread.
 
 use crate::cancelled::Cancelled;
-use crate::shared_cell::{SharedCell, shared_limits};
+use crate::shared_cell::SharedCell;
 use crate::waits::{Deadline, await_news, await_news_until};
-use std::alloc::Global;
 use std::marker::Model;
 use std::rt::Clock;
-use std::sync::{Arc, Wait};
+use std::sync::Wait;
 use std::time::Duration;
 use ti_cell::{EnvSeat, Pace};
 use ti_slot::{Asked, Slot};
-use ti_types::{Answer, Call, EnvNo, Limits, ThreadNo, TiError, Ticket, TraceBuf};
+use ti_types::{Answer, Call, EnvNo, Limits, ThreadNo, Ticket, TraceBuf};
 
 /// One environment at one thread. Contracts see it as a `DeskState`: its cell, its environment, its seat's view, and its calls
 /// that were given up and are still out.
@@ -44,12 +43,9 @@ pub struct Desk {
     /// `None` only while a call holds the cell.
     pub(crate) seat: Option<EnvSeat>,
     pub(crate) cancelled: Cancelled,
-    /// The limits of its thread, which all desks there share.
-    pub(crate) limits: Arc<Limits>,
 }
 
 impl Model for Desk {
-    ghost use Rattle.std.specs.Arc.{arc_value};
     ghost use Rattle.ti_handshake.specs.Desk.{DeskState};
     ghost use Rattle.ti_handshake.specs.Seated.{IsThere, place_in};
 
@@ -57,37 +53,15 @@ impl Model for Desk {
 
     ghost view = { λ d. place_in d.cell d.env d.seat d.cancelled.tickets };
 
-    ghost invariant = { λ d. IsThere d.cell d.env (arc_value d.limits) d.seat d.cancelled.tickets };
+    ghost invariant = { λ d. IsThere d.cell d.env d.seat d.cancelled.tickets };
 }
 
 impl Desk {
-    /// The desk of the environment that has this seat. The seat is this cell's, and its thread is under these limits.
+    /// The desk of the environment that has this seat, which is this cell's.
     ///
     /// `SharedCell::make` gives a thread and its desks, and has no condition.
-    ///
-    /// The error is 110 OUT_OF_MEMORY if there is no memory for the limits (this profile).
-    pub fn new(
-        alloc: Global,
-        cell: SharedCell,
-        seat: EnvSeat,
-        limits: Limits,
-    ) -> Result<Desk, TiError>
+    pub fn new(cell: SharedCell, seat: EnvSeat) -> Desk
         requires cell { seat.cell ≡ cell }
-        requires limits { limits ≡ seat.view.subject.limits }
-        ensures cell { IfOk result (λ d. d.cell ≡ cell) }
-        ensures env { IfOk result (λ d. d.env.0 + 1 ≡ seat.view.number) }
-        ensures view { IfOk result (λ d. d.view ≡ seat.view) }
-        ensures none { IfOk result (λ d. d.cancelled ≡ []) }
-        ensures memory { IfErr result (λ e. e ≡ OutOfMemory) }
-    {
-        let limits = shared_limits(alloc, limits)?;
-        Ok(Desk::at(cell, seat, limits))
-    }
-
-    /// The same, with limits that the desks at a thread share.
-    pub(crate) fn at(cell: SharedCell, seat: EnvSeat, limits: Arc<Limits>) -> Desk
-        requires cell { seat.cell ≡ cell }
-        requires limits { arc_value limits ≡ seat.view.subject.limits }
         ensures cell { result.cell ≡ cell }
         ensures env { result.env.0 + 1 ≡ seat.view.number }
         ensures view { result.view ≡ seat.view }
@@ -100,7 +74,6 @@ impl Desk {
             env,
             seat: Some(seat),
             cancelled: Cancelled::none(),
-            limits,
         }
     }
 
@@ -144,7 +117,10 @@ impl Desk {
     pub fn limits(&self) -> Limits
         ensures { result ≡ self.now.view.subject.limits }
     {
-        *self.limits
+        let Some(seat) = &self.seat else {
+            unreachable!()
+        };
+        seat.limits()
     }
 
     /// How many entries of the thread's history the desk has seen (this profile).
@@ -342,7 +318,6 @@ impl Desk {
             env: _,
             seat,
             cancelled: _,
-            limits: _,
         } = self;
         let Some(seat) = seat else { unreachable!() };
         seat
@@ -367,9 +342,7 @@ pub(crate) fn collect_own(slot: &mut Slot, env: EnvNo, ticket: Ticket) -> Option
     slot.collect(ticket)
 }
 
-ghost use Rattle.std.specs.Prelude.{List, ◌≡◌, ◌==◌, ◌&&◌, ◌<◌, ◌≤◌, ◌+◌, ◌++◌, true, false, if◌then◌else◌, is_some, [], ◌∷◌, length, Some, None, IfSome, IfOk, IfErr};
-ghost use Rattle.ti_types.specs.declared.error.TiError.TheVariants.{OutOfMemory};
-ghost use Rattle.std.specs.Arc.{arc_value};
+ghost use Rattle.std.specs.Prelude.{List, ◌≡◌, ◌==◌, ◌&&◌, ◌<◌, ◌≤◌, ◌+◌, ◌++◌, true, false, if◌then◌else◌, is_some, [], ◌∷◌, length, Some, None, IfSome};
 ghost use Rattle.std.specs.Option.{option_map};
 ghost use Rattle.ti_types.specs.Answer.{said};
 ghost use Rattle.ti_replay.specs.Makers.{made_by};

@@ -12,8 +12,8 @@ use ti_slot::{Asked, Slot};
 use ti_types::{Answer, Call, EnvNo, TiError, Ticket, TraceBuf};
 
 impl Desk {
-    /// The ticket of the call that was given up first. `None` if none was given up.
-    pub(crate) fn first_cancelled(&self) -> Option<Ticket>
+    /// The ticket of the call that was given up first, and is still out (this profile). `None` if there is none.
+    pub fn first_cancelled(&self) -> Option<Ticket>
         ensures { result ≡ slice_get self.now.cancelled 0 }
     {
         self.cancelled.first()

@@ -62,8 +62,7 @@ impl SharedCell {
     {
         let (cell, own, seats) = ThreadCell::make(alloc, limits, number)?;
         let cell = SharedCell::new(alloc, cell)?;
-        let shared = shared_limits(alloc, limits)?;
-        let desks = desks_of(alloc, &cell, &shared, seats)?;
+        let desks = desks_of(alloc, &cell, seats)?;
         let fresh = Fresh::new(cell.again()?, own);
         Ok((cell, fresh, desks))
     }
@@ -107,35 +106,18 @@ impl SharedCell {
     }
 }
 
-/// The limits, once for all desks at a thread. 110 OUT_OF_MEMORY if there is no memory for them.
-pub(crate) fn shared_limits(alloc: Global, limits: Limits) -> Result<Arc<Limits>, TiError>
-    ensures limits { IfOk result (λ l. arc_value l ≡ limits) }
-    ensures memory { IfErr result (λ e. e ≡ OutOfMemory) }
-{
-    match Arc::new(alloc, limits) {
-        Ok(limits) => Ok(limits),
-        Err(_) => Err(TiError::OutOfMemory),
-    }
-}
-
-/// A desk for each of these seats, in their order. The seats are environments' seats at this cell, under these limits.
+/// A desk for each of these seats, in their order. The seats are this cell's.
 ///
 /// 110 OUT_OF_MEMORY if there is no memory for them.
-fn desks_of(
-    alloc: Global,
-    cell: &SharedCell,
-    limits: &Arc<Limits>,
-    seats: Vec<EnvSeat>,
-) -> Result<Vec<Desk>, TiError>
-    requires { All (IsSeatAt cell.now (arc_value limits.now)) seats.items }
+fn desks_of(alloc: Global, cell: &SharedCell, seats: Vec<EnvSeat>) -> Result<Vec<Desk>, TiError>
+    requires { All (IsSeatAt cell.now) seats.items }
     ensures desks { IfOk result (λ d. d.items ≡ map desk_at seats.items) }
     ensures memory { IfErr result (λ e. e ≡ OutOfMemory) }
 {
     let mut desks = Vec::with_capacity(alloc, seats.len())?;
     for seat in seats {
         let cell = cell.again()?;
-        let limits = Arc::try_clone(limits)?;
-        desks.push_reserved(Desk::at(cell, seat, limits));
+        desks.push_reserved(Desk::new(cell, seat));
     }
     Ok(desks)
 }
@@ -153,7 +135,6 @@ impl Deref for SharedCell {
 }
 
 ghost use Rattle.std.specs.Prelude.{◌≡◌, ◌+◌, map, All, IfOk, IfErr, IfSome};
-ghost use Rattle.std.specs.Arc.{arc_value};
 ghost use Rattle.ti_types.specs.declared.error.TiError.TheVariants.{Full, OutOfMemory};
 ghost use Rattle.ti_cell.specs.View.{subject_of, newcomer};
 ghost use Rattle.ti_handshake.specs.NewDesks.{IsSeatAt, desk_at, new_desks};

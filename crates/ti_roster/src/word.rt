@@ -39,7 +39,7 @@ impl Word {
         self.bits / 2
     }
 
-    /// The half of the word on which who waits sleeps.
+    /// The half of the word on which a waiting user sleeps.
     pub fn low_half(self) -> u32 {
         (self.bits & 0xffff_ffff) as u32
     }

@@ -42,7 +42,7 @@ pub record IsNewAgent (s : Member) (a : AgentState) : Type 0 where
   pub waiting : a.waiting ≡ []
   pub events : a.events ≡ None
 
--- Of the desks that waited and these, the first ones are the environment's now, and the others wait
+-- The environment now has the first of the desks that waited and of these. The others wait
 pub record Moved (old new : AgentState) (more : List FreeState) : Type 0 where
   pub added : List FreeState
   pub all : reverse old.waiting ++ more ≡ added ++ reverse new.waiting

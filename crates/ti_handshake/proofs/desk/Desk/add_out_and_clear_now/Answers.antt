@@ -10,7 +10,7 @@ use Rattle.ti_handshake.proofs.desk.Desk.add_out_and_clear_now.Goals as goal
 
 -- the slot that the desk took
 taken : (c : After-slot-slot) → Took c.args.self.now c.self.inside.env c.in-Some.seat c.in-Ok.hold c.slot-slot.result.now
-taken c = took _ _ _ _ _ _ _ _ c.in-Ok.hold _ c.self.invariant c.self.view_is c.in-Some.is c.take.ensures.value c.in-Ok.ensures.view c.in-Ok.ensures.taken c.slot-slot.ensures.value
+taken c = took _ _ _ _ _ _ _ c.in-Ok.hold _ c.self.invariant c.self.view_is c.in-Some.is c.take.ensures.value c.in-Ok.ensures.view c.in-Ok.ensures.taken c.slot-slot.ensures.value
 
 pub ask-requires-clause-calls : goal.ask-requires-clause-calls
 ask-requires-clause-calls c =

@@ -10,7 +10,7 @@ use Rattle.ti_handshake.proofs.desk.Desk.collect_now.Goals as goal
 
 -- the slot that the desk took
 taken : (c : After-slot-slot) → Took c.args.self.now c.self.inside.env c.in-Some.seat c.in-Ok.hold c.slot-slot.result.now
-taken c = took _ _ _ _ _ _ _ _ c.in-Ok.hold _ c.self.invariant c.self.view_is c.in-Some.is c.take.ensures.value c.in-Ok.ensures.view c.in-Ok.ensures.taken c.slot-slot.ensures.value
+taken c = took _ _ _ _ _ _ _ c.in-Ok.hold _ c.self.invariant c.self.view_is c.in-Some.is c.take.ensures.value c.in-Ok.ensures.view c.in-Ok.ensures.taken c.slot-slot.ensures.value
 
 pub store_quietly-requires-clause-adds : goal.store_quietly-requires-clause-adds
 store_quietly-requires-clause-adds c =
@@ -49,6 +49,6 @@ invariant_of-self c =
     let k = taken (goal.at.invariant_of-self c).After-slot-slot in
     let hold = collects _ _ _ _ c.slot-slot.result.now c.collect_own-answer.new.slot _ _ _ k (own_answered i.env c.args.ticket _ _ _ c.collect_own-answer.ensures.answer) c.collect_own-answer.ensures.thread c.store_quietly.ensures.view c.store_quietly.ensures.legal c.store_quietly.ensures.mine in
     let none : has c.args.ticket i.cancelled.tickets ≡ false = sym c.has.ensures ∙ c.if-has.false in
-    let given = still_given i.cancelled.tickets c.args.self.now.view.posted c.args.ticket (is_some c.collect_own-answer.result) (given_there i.cell i.env _ i.seat i.cancelled.tickets c.args.self.now c.self.invariant c.self.view_is) none in
-    seat_again i.cell i.env _ i.seat i.cancelled.tickets i.cancelled.tickets c.args.self.now c.store_quietly.result c.self.invariant c.self.view_is
+    let given = still_given i.cancelled.tickets c.args.self.now.view.posted c.args.ticket (is_some c.collect_own-answer.result) (given_there i.cell i.env i.seat i.cancelled.tickets c.args.self.now c.self.invariant c.self.view_is) none in
+    seat_again i.cell i.env i.seat i.cancelled.tickets i.cancelled.tickets c.args.self.now c.store_quietly.result c.self.invariant c.self.view_is
     (c.store_quietly.ensures.cell ∙ c.in-Ok.ensures.cell ∙ c.deref.ensures) hold.waits.goes.number hold.waits.goes.subject (subst (λ (l : List Ticket). AreGivenUp i.cancelled.tickets l) (sym hold.waits.posted) given)

@@ -19,7 +19,7 @@ adds x = if_none (why x) (entry.Go x.env ∷ [])
 
 -- the slot that the desk took
 taken : (c : After-slot) → Took c.args.self.now c.self.inside.env c.in-Some.seat c.in-Ok.hold c.slot.result.now
-taken c = took _ _ _ _ _ _ _ _ c.in-Ok.hold _ c.self.invariant c.self.view_is c.in-Some.is c.take.ensures.value c.in-Ok.ensures.view c.in-Ok.ensures.taken c.slot.ensures.value
+taken c = took _ _ _ _ _ _ _ c.in-Ok.hold _ c.self.invariant c.self.view_is c.in-Some.is c.take.ensures.value c.in-Ok.ensures.view c.in-Ok.ensures.taken c.slot.ensures.value
 
 pub store_quietly-requires-clause-adds : goal.store_quietly-requires-clause-adds
 store_quietly-requires-clause-adds c =

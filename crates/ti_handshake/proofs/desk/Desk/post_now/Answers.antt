@@ -9,7 +9,7 @@ use Rattle.ti_handshake.proofs.desk.Desk.post_now.Goals as goal
 
 -- the slot that the desk took
 taken : (c : After-slot-slot) → Took c.args.self.now c.self.inside.env c.in-Some.seat c.in-Ok.hold c.slot-slot.result.now
-taken c = took _ _ _ _ _ _ _ _ c.in-Ok.hold _ c.self.invariant c.self.view_is c.in-Some.is c.take.ensures.value c.in-Ok.ensures.view c.in-Ok.ensures.taken c.slot-slot.ensures.value
+taken c = took _ _ _ _ _ _ _ c.in-Ok.hold _ c.self.invariant c.self.view_is c.in-Some.is c.take.ensures.value c.in-Ok.ensures.view c.in-Ok.ensures.taken c.slot-slot.ensures.value
 
 pub ask-asked-requires-clause-calls : goal.ask-asked-requires-clause-calls
 ask-asked-requires-clause-calls c =
@@ -31,8 +31,8 @@ invariant_of-self c =
     let i = c.self.inside in
     let k = taken (goal.at.invariant_of-self c).After-slot-slot in
     let hold = asks _ _ _ _ _ _ _ _ _ k c.ask-asked.ensures.asked c.store_quietly.ensures.view c.store_quietly.ensures.legal c.store_quietly.ensures.mine in
-    let given = posted_given i.cancelled.tickets c.args.self.now.view.posted (ticket_told c.ask-asked.result) c.store_quietly.result.view.posted (given_there i.cell i.env _ i.seat i.cancelled.tickets c.args.self.now c.self.invariant c.self.view_is) hold.waits.posted in
-    seat_again i.cell i.env _ i.seat i.cancelled.tickets i.cancelled.tickets c.args.self.now c.store_quietly.result c.self.invariant c.self.view_is
+    let given = posted_given i.cancelled.tickets c.args.self.now.view.posted (ticket_told c.ask-asked.result) c.store_quietly.result.view.posted (given_there i.cell i.env i.seat i.cancelled.tickets c.args.self.now c.self.invariant c.self.view_is) hold.waits.posted in
+    seat_again i.cell i.env i.seat i.cancelled.tickets i.cancelled.tickets c.args.self.now c.store_quietly.result c.self.invariant c.self.view_is
     (c.store_quietly.ensures.cell ∙ c.in-Ok.ensures.cell ∙ c.deref.ensures) hold.waits.goes.number hold.waits.goes.subject given
 
 pub returns-in-Ok-clause-hold : goal.returns-in-Ok-clause-hold
@@ -46,7 +46,7 @@ returns-in-Ok-clause-out c =
     let hold = asks _ _ _ _ _ _ _ _ _ k c.ask-asked.ensures.asked c.store_quietly.ensures.view c.store_quietly.ensures.legal c.store_quietly.ensures.mine in
     let told_here = told _ _ _ _ _ _ _ _ _ k c.ask-asked.ensures.asked (ticket_fresh c.slot-slot.result.now c.self.inside.env c.tickets.ensures.known) c.store_quietly.ensures.view in
     let now : DeskState = record { cell = c.self.inside.cell; env = c.self.inside.env; view = c.store_quietly.result.view; cancelled = c.self.inside.cancelled.tickets } in
-    ticket_out c.args.self.now.view c.store_quietly.result.view c.args.self.now.env c.args.call c.ask-asked.result c.self.inside.cancelled.tickets now (given_there _ _ _ _ _ _ c.self.invariant c.self.view_is) hold.waits.posted told_here refl refl
+    ticket_out c.args.self.now.view c.store_quietly.result.view c.args.self.now.env c.args.call c.ask-asked.result c.self.inside.cancelled.tickets now (given_there _ _ _ _ _ c.self.invariant c.self.view_is) hold.waits.posted told_here refl refl
 
 pub returns-in-Ok-clause-told : goal.returns-in-Ok-clause-told
 returns-in-Ok-clause-told c =

@@ -19,7 +19,7 @@ adds max_count x = if_none (why max_count x) (entry.Read x.env max_count ∷ [])
 
 -- the slot that the desk took
 taken : (c : After-slot) → Took c.args.self.now c.self.inside.env c.in-Some.seat c.in-Ok.hold c.slot.result.now
-taken c = took _ _ _ _ _ _ _ _ c.in-Ok.hold _ c.self.invariant c.self.view_is c.in-Some.is c.take.ensures.value c.in-Ok.ensures.view c.in-Ok.ensures.taken c.slot.ensures.value
+taken c = took _ _ _ _ _ _ _ c.in-Ok.hold _ c.self.invariant c.self.view_is c.in-Some.is c.take.ensures.value c.in-Ok.ensures.view c.in-Ok.ensures.taken c.slot.ensures.value
 
 pub read-read-requires-clause-calls : goal.read-read-requires-clause-calls
 read-read-requires-clause-calls c =

@@ -1,0 +1,30 @@
+//! A call of an environment that takes its suspensions of a thread back.
+
+use crate::codes::{CQ_MISUSED, CQ_OK, CQ_WAITING};
+use crate::env_handle::CqEnv;
+use std::alloc::Global;
+use ti_types::ThreadNo;
+
+/// Takes back what the environment's suspensions did to a thread, and what those that were given up would still do to it.
+/// `CQ_WAITING` while such a call has not been reached by the thread.
+#[unsafe(no_mangle)]
+pub extern "C" fn cq_ensure_resumed(alloc: Global, env: &mut CqEnv, thread: u32) -> u32
+    ensures { Calls (ResumesBy (thread_no thread)) ⊤ env.old env.new result }
+{
+    let Some(held) = env.held() else {
+        return CQ_MISUSED;
+    };
+    let Some(agent) = &mut held.agent else {
+        return CQ_MISUSED;
+    };
+    match agent.ensure_resumed_now(alloc, ThreadNo(thread)) {
+        Ok(true) => CQ_OK,
+        Ok(false) => CQ_WAITING,
+        Err(error) => error.number(),
+    }
+}
+
+ghost use Rattle.std.specs.Prelude.{⊤};
+ghost use Rattle.ti_capi.specs.Asking.{thread_no};
+ghost use Rattle.ti_capi.specs.Calls.{Calls};
+ghost use Rattle.ti_capi.specs.Resuming.{ResumesBy};
