@@ -3,7 +3,8 @@
 # `make examples`, `make cases`, `make bench` and `make refused` run the program that `make run` has built: on the examples,
 # on all cases, on large documents (and programs that hold cells and run threads), and with each allocation, each start of a
 # thread, each read and each write refused in turn (and the tests of a core so). `make stress` runs it on random live documents,
-# and lets 10,000 threads come to a service and go. `make edits` tries the edits that the gate leaves out.
+# and lets 10,000 threads come to a service and go. `make edits` tries the edits that the gate leaves out. `make bench` and
+# `make stress` prove and build the program of `bench/tibench`, which the gate only tries.
 # `make lib` builds the library for C into `dist/`. `make capi` tests it: by C programs, under sanitizers and valgrind, by the
 # bindings for Rust and Python, and as it is installed (`make installed`). `make lua` builds the Lua host of `hosts/lua` over it,
 # and tests that. `make install` installs what `make lib` has built, and the programs that are built, below PREFIX. `make uninstall`
@@ -13,6 +14,7 @@
 .PHONY: run try test examples cases bench refused stress edits lib capi installed lua install uninstall jvm
 
 CAPI = crates/ti_capi/out/libti_capi.a
+TIBENCH = bench/out/tibench
 
 run:
 	cd crates/tiwalk && rt run < ../../examples/first.json
@@ -35,15 +37,16 @@ examples:
 cases:
 	python3 ci/cases.py
 
-bench: lib
+$(TIBENCH): bench/tibench.py $(shell find bench/tibench crates -name '*.rt' -o -name '*.rattle')
+	python3 bench/tibench.py
+
+bench: lib $(TIBENCH)
 	python3 bench/bench.py
-	cd crates/tiholds && rt run
 	python3 bench/cells.py
-	cd crates/tiruns && rt run -- steps 0
 	python3 bench/running.py
 	cd crates/tiprof && rt run -- --samples 0
 	python3 bench/profiling.py
-	cd crates/tichurn && rt run -- cost
+	$(TIBENCH) cost
 	$(CC) -O2 -std=c11 tests/c/bench.c dist/lib/libcebdyraq.a -lpthread -o dist/bench && dist/bench
 
 refused:
@@ -51,9 +54,9 @@ refused:
 	python3 ci/refused_streams.py
 	python3 ci/refused_tests.py
 
-stress:
+stress: $(TIBENCH)
 	python3 tests/stress/stress.py
-	cd crates/tichurn && rt run -- 10000 200 64
+	$(TIBENCH) churn 10000 200 64
 
 edits:
 	python3 ci/edits.py

@@ -1,11 +1,11 @@
 #!/usr/bin/env python3
-"""Measures running threads and the environments that ask at them, by `tiruns`.
+"""Measures running threads and the environments that ask at them, by `tibench runs`.
 
 A row says what was done, and for each number of environments that asked at once the nanoseconds that one time took the one
 who did it: of the processor, and in brackets of the clock (the best of five runs by processor time). A thread takes 65,536
 steps and an environment 1,024 calls at a thread, so a run goes through 32 rounds of four new threads each; making them and
 starting threads of the operating system is no part of the time. `lasting` is one thread that may run as long as its
-process. So is the thread of `tenth_of_calls`, and that of `coming`: it is asked while other threads come and go.
+process. So is the thread of `calls`, and that of `coming`: it is asked while other threads come and go.
 
 The next line is the time from a resumption to the suspended thread's next step, of the clock: the environment notes the
 clock before it resumes the thread, which has slept for about a millisecond, and the thread notes it after its step.
@@ -14,7 +14,7 @@ Last comes what lasts, in one run each: how many times, what one took, and the m
 of a tenth. The peak of the resident memory has to be below 1.1 times that after a tenth. Otherwise the status is 1.
 Peaks of the same run differ by some 100 kilobytes from time to time, so that of the tenth is the greatest of five.
 
-    bench/running.py [PROGRAM]        crates/tiruns/out/tiruns by default: `rt run` in crates/tiruns builds it
+    bench/running.py [PROGRAM]        bench/out/tibench by default: bench/tibench.py builds it
 """
 
 import os
@@ -39,16 +39,18 @@ ROWS = (
     ("running", ("1", "2", "4"), "count, running thread that polls"),
     ("all", ("1", "2", "4"), "all stacks of 4 parked threads"),
     ("beside", ("0", "1", "2", "4"), "a step and a poll beside an asked thread"),
-    ("tenth_of_calls", ("1",), "one state of 10,000,000, parked thread"),
+    ("calls", ("1",), "one state of 10,000,000, parked thread"),
     ("coming", ("1",), "the same while other threads come and go"),
     ("suspended", ("1",), "a suspension of 2 seconds"),
     ("unpolled", ("1",), "a count, no poll for 2 seconds"),
 )
 LASTING = (
-    ("lasting", "tenth", "0", "steps"),
-    ("calls", "tenth_of_calls", "1", "states, parked thread"),
-    ("posts", "tenth_of_posts", "1", "traces, posted and collected"),
+    ("lasting", "0", "steps"),
+    ("calls", "1", "states, parked thread"),
+    ("posts", "1", "traces, posted and collected"),
 )
+# The rows that are done to a part: as many states as `coming` has.
+SHARES = {"calls": "10"}
 MOST = 1.1
 
 
@@ -59,7 +61,7 @@ def each(wrote):
 
 
 def measure(program, what, envs):
-    ended = subprocess.run([program, what, envs], check=True, capture_output=True, text=True)
+    ended = subprocess.run([program, "runs", what, envs, SHARES.get(what, "1")], check=True, capture_output=True, text=True)
     return each(ended.stderr)[1:]
 
 
@@ -86,10 +88,10 @@ def print_resumed(program):
     print(f"    1,000 each, from {rounded(medians[0])} to {rounded(medians[-1])}", flush=True)
 
 
-def lasts(program, what, tenth, envs, title):
+def lasts(program, what, envs, title):
     """Prints a row of what lasts. Whether its memory is flat."""
-    part = max((usage.watch(program, tenth, envs) for _ in range(RUNS)), key=lambda run: run.kilobytes)
-    whole = usage.watch(program, what, envs)
+    part = max((usage.watch(program, "runs", what, envs, "10") for _ in range(RUNS)), key=lambda run: run.kilobytes)
+    whole = usage.watch(program, "runs", what, envs)
     times, cpu, wall = each(whole.wrote)
     ratio = whole.kilobytes / part.kilobytes
     flat = ratio < MOST
@@ -99,7 +101,7 @@ def lasts(program, what, tenth, envs, title):
 
 
 def main():
-    program = sys.argv[1] if len(sys.argv) > 1 else os.path.join("crates", "tiruns", "out", "tiruns")
+    program = sys.argv[1] if len(sys.argv) > 1 else os.path.join("bench", "out", "tibench")
     print_rows(program)
     print_resumed(program)
     print(f"{'a tenth of it, and all':42}{'ns each':>18}{'pages touched':>18}{'peak, kilobytes':>18}{'ratio':>9}")

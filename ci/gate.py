@@ -1,7 +1,8 @@
 #!/usr/bin/env python3
-"""Runs the tests that need no proof (`ci/unproved_tests.py`) and `rt ci`. Then, on the programs that `rt ci` has built, each case
-(`ci/cases.py`) and runs with an allocation refused (`ci/refused_memory.py`). Then the C programs over the library, the library
-as it is installed (`tests/install`), and what the pages show (`ci/snippets.py`).
+"""Runs the tests that need no proof (`ci/unproved_tests.py`), the benchmark with small numbers (`bench/tibench.py`), and `rt ci`.
+Then, on the programs that `rt ci` has built, each case (`ci/cases.py`) and runs with an allocation refused
+(`ci/refused_memory.py`). Then the C programs over the library, the library as it is installed (`tests/install`), and what the
+pages show (`ci/snippets.py`).
 
 `rt ci` leaves `tiwalk` and `tilint` in their crates' `out/` as LLVM builds them, and, where Rattle's own compiler took them, as
 that builds them. It builds no static library, so `ci/lib.py` does that, over the libraries that were proved. The output of `rt ci` is passed
@@ -70,6 +71,9 @@ def try_library():
 def main():
     passed, failed, _ = counts_of(sys.executable, "ci/unproved_tests.py")
     print(f"tests without a proof: {passed} passed, {failed} failed", flush=True)
+    well, ill, _ = counts_of(sys.executable, "bench/tibench.py", "--try")
+    print(f"the benchmark: {well} passed, {ill} failed", flush=True)
+    passed, failed = passed + well, failed + ill
     well, ill, status = counts_of("rt", "ci")
     passed, failed = passed + well, failed + ill
     others = [program + ".by-rattle" for program in (WALK, LINT) if pathlib.Path(program + ".by-rattle").is_file()]

@@ -48,13 +48,14 @@ def add(root, name, modules):
     return source.parent
 
 
-def add_program(root, name, text):
-    """Adds a program to a copy. It gives the program's folder."""
+def add_program(root, name, text, **modules):
+    """Adds a program to a copy: the text of its root, and of each other module by its name. It gives the program's folder."""
     with open(root / LISTED, "a", encoding="utf-8") as listed:
-        listed.write(f"{name}: {' '.join(libraries_of(text))}\n")
+        listed.write(f"{name}: {' '.join(libraries_of(' '.join([text, *modules.values()])))}\n")
     source = root / CRATES / name / "src"
     source.mkdir(parents=True)
-    (source / "main.rt").write_text(text)
+    for module, its_text in {"main": text, **modules}.items():
+        (source / f"{module}.rt").write_text(its_text)
     return source.parent
 
 

@@ -2,22 +2,17 @@
 
 use crate::texts::Texts;
 use crate::wire::{push_block, push_number, push_varints};
-use std::alloc::{AllocError, Global};
+use std::alloc::AllocError;
 
 /// Appends a field that is a list of numbers. One that has none is left out. The error is lack of memory.
-pub(crate) fn push_packed(
-    alloc: Global,
-    out: &mut Vec<u8>,
-    field: u64,
-    numbers: &[u64],
-) -> Result<(), AllocError>
+pub(crate) fn push_packed(out: &mut Vec<u8>, field: u64, numbers: &[u64]) -> Result<(), AllocError>
     requires { field < 2 ^ 29 }
     ensures { OnOk result (out.new.items ≡ out.old.items ++ packed_field field numbers.now) }
 {
     if numbers.is_empty() {
         return Ok(());
     }
-    let mut inner = Vec::new(alloc);
+    let mut inner = Vec::new(*out.allocator());
     push_varints(&mut inner, numbers)?;
     push_block(out, field, &inner)
 }
@@ -37,7 +32,6 @@ pub(crate) fn push_value_type(
 
 /// Appends a field that is a ValueType. The error is lack of memory.
 pub(crate) fn push_value_type_field(
-    alloc: Global,
     out: &mut Vec<u8>,
     field: u64,
     texts: &Texts<'_>,
@@ -47,14 +41,13 @@ pub(crate) fn push_value_type_field(
     requires { field < 2 ^ 29 }
     ensures { OnOk result (out.new.items ≡ out.old.items ++ block_field field (value_type (strings_in texts.now) kind.now unit.now)) }
 {
-    let mut inner = Vec::new(alloc);
+    let mut inner = Vec::new(*out.allocator());
     push_value_type(&mut inner, texts, kind, unit)?;
     push_block(out, field, &inner)
 }
 
 /// Appends a label, if there is a text for it. The error is lack of memory.
 pub(crate) fn push_label(
-    alloc: Global,
     out: &mut Vec<u8>,
     texts: &Texts<'_>,
     key: &str,
@@ -65,7 +58,7 @@ pub(crate) fn push_label(
     let Some(text) = text else {
         return Ok(());
     };
-    let mut inner = Vec::new(alloc);
+    let mut inner = Vec::new(*out.allocator());
     push_number(&mut inner, 1, texts.number(key))?;
     push_number(&mut inner, 2, texts.number(text.as_str()))?;
     push_block(out, 3, &inner)
@@ -79,45 +72,34 @@ fn wall_of(period: u64, count: u64) -> u64
 }
 
 /// Appends the values of a sample. The error is lack of memory.
-pub(crate) fn push_values(
-    alloc: Global,
-    out: &mut Vec<u8>,
-    period: u64,
-    count: u64,
-) -> Result<(), AllocError>
+pub(crate) fn push_values(out: &mut Vec<u8>, period: u64, count: u64) -> Result<(), AllocError>
     ensures { OnOk result (out.new.items ≡ out.old.items ++ values period count) }
 {
-    push_packed(alloc, out, 2, &[count, wall_of(period, count)])
+    push_packed(out, 2, &[count, wall_of(period, count)])
 }
 
 /// Appends the sample of so many stacks that had no room, if there are any. The error is lack of memory.
-pub(crate) fn push_no_room(
-    alloc: Global,
-    out: &mut Vec<u8>,
-    period: u64,
-    count: u64,
-) -> Result<(), AllocError>
+pub(crate) fn push_no_room(out: &mut Vec<u8>, period: u64, count: u64) -> Result<(), AllocError>
     ensures { OnOk result (out.new.items ≡ out.old.items ++ no_room_field period count) }
 {
     if count == 0 {
         return Ok(());
     }
-    let mut inner = Vec::new(alloc);
-    push_packed(alloc, &mut inner, 1, &[2])?;
-    push_values(alloc, &mut inner, period, count)?;
+    let mut inner = Vec::new(*out.allocator());
+    push_packed(&mut inner, 1, &[2])?;
+    push_values(&mut inner, period, count)?;
     push_block(out, 2, &inner)
 }
 
 /// Appends the mapping, which has all locations. The error is lack of memory.
 pub(crate) fn push_mapping(
-    alloc: Global,
     out: &mut Vec<u8>,
     texts: &Texts<'_>,
     program: &str,
 ) -> Result<(), AllocError>
     ensures { OnOk result (out.new.items ≡ out.old.items ++ block_field 3 (mapping (strings_in texts.now) program.now)) }
 {
-    let mut inner = Vec::new(alloc);
+    let mut inner = Vec::new(*out.allocator());
     push_number(&mut inner, 1, 1)?;
     push_number(&mut inner, 5, texts.number(program))?;
     push_number(&mut inner, 7, 1)?;
@@ -128,7 +110,6 @@ pub(crate) fn push_mapping(
 
 /// Appends a location with one line. The error is lack of memory.
 pub(crate) fn push_location(
-    alloc: Global,
     out: &mut Vec<u8>,
     id: u64,
     function: u64,
@@ -136,10 +117,10 @@ pub(crate) fn push_location(
 ) -> Result<(), AllocError>
     ensures { OnOk result (out.new.items ≡ out.old.items ++ block_field 4 (location id function number)) }
 {
-    let mut line = Vec::new(alloc);
+    let mut line = Vec::new(*out.allocator());
     push_number(&mut line, 1, function)?;
     push_number(&mut line, 2, number)?;
-    let mut inner = Vec::new(alloc);
+    let mut inner = Vec::new(*out.allocator());
     push_number(&mut inner, 1, id)?;
     push_number(&mut inner, 2, 1)?;
     push_block(&mut inner, 4, &line)?;
@@ -148,7 +129,6 @@ pub(crate) fn push_location(
 
 /// Appends a function. The error is lack of memory.
 pub(crate) fn push_function(
-    alloc: Global,
     out: &mut Vec<u8>,
     texts: &Texts<'_>,
     id: u64,
@@ -158,7 +138,7 @@ pub(crate) fn push_function(
 ) -> Result<(), AllocError>
     ensures { OnOk result (out.new.items ≡ out.old.items ++ block_field 5 (function (strings_in texts.now) id name.now file.now start)) }
 {
-    let mut inner = Vec::new(alloc);
+    let mut inner = Vec::new(*out.allocator());
     push_number(&mut inner, 1, id)?;
     push_number(&mut inner, 2, texts.number(name))?;
     push_number(&mut inner, 4, texts.number(file))?;

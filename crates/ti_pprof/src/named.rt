@@ -79,7 +79,6 @@ pub(crate) fn numbers_of(
 
 /// Appends the functions that have names. Their first id is 4. The error is lack of memory.
 fn push_named(
-    alloc: Global,
     out: &mut Vec<u8>,
     texts: &Texts<'_>,
     functions: &[Function],
@@ -90,7 +89,6 @@ fn push_named(
     let mut id = 4;
     for function in functions {
         push_function(
-            alloc,
             out,
             texts,
             id,
@@ -106,17 +104,16 @@ fn push_named(
 /// Appends all functions: one for no frames, one for no room, one for frames whose function has no name, and those that have
 /// names. The error is lack of memory.
 pub(crate) fn push_functions(
-    alloc: Global,
     out: &mut Vec<u8>,
     texts: &Texts<'_>,
     functions: &Vec<Function>,
 ) -> Result<(), AllocError>
     ensures { OnOk result (out.new.items ≡ out.old.items ++ function_fields (strings_in texts.now) functions.now.items) }
 {
-    push_function(alloc, out, texts, 1, "(no frames)", "", 0)?;
-    push_function(alloc, out, texts, 2, "(no room)", "", 0)?;
-    push_function(alloc, out, texts, 3, "(unknown)", "", 0)?;
-    push_named(alloc, out, texts, functions.as_slice())
+    push_function(out, texts, 1, "(no frames)", "", 0)?;
+    push_function(out, texts, 2, "(no room)", "", 0)?;
+    push_function(out, texts, 3, "(unknown)", "", 0)?;
+    push_named(out, texts, functions.as_slice())
 }
 
 /// Appends the table of strings. The error is lack of memory.

@@ -81,24 +81,13 @@ fn function_of(named: usize, frame: Frame) -> u64
 }
 
 /// Appends the locations of these frames, if so many functions have names. The error is lack of memory.
-fn push_frames(
-    alloc: Global,
-    out: &mut Vec<u8>,
-    named: usize,
-    frames: &[Frame],
-) -> Result<(), AllocError>
+fn push_frames(out: &mut Vec<u8>, named: usize, frames: &[Frame]) -> Result<(), AllocError>
     requires { length frames.now < 2 ^ 63 }
     ensures { OnOk result (out.new.items ≡ out.old.items ++ locations_from named 3 frames.now) }
 {
     let mut id = 3;
     for frame in frames {
-        push_location(
-            alloc,
-            out,
-            id,
-            function_of(named, *frame),
-            u64::from(frame.line),
-        )?;
+        push_location(out, id, function_of(named, *frame), u64::from(frame.line))?;
         id += 1;
     }
     Ok(())
@@ -107,16 +96,15 @@ fn push_frames(
 /// Appends all locations: one for stacks without frames, one for stacks without room, and those of the frames. The error is
 /// lack of memory.
 pub(crate) fn push_locations(
-    alloc: Global,
     out: &mut Vec<u8>,
     named: usize,
     frames: &IndexSet<Frame>,
 ) -> Result<(), AllocError>
     ensures { OnOk result (out.new.items ≡ out.old.items ++ location_fields named frames.now.keys) }
 {
-    push_location(alloc, out, 1, 1, 0)?;
-    push_location(alloc, out, 2, 2, 0)?;
-    push_frames(alloc, out, named, frames.as_slice())
+    push_location(out, 1, 1, 0)?;
+    push_location(out, 2, 2, 0)?;
+    push_frames(out, named, frames.as_slice())
 }
 
 ghost use Rattle.std.specs.Prelude.{◌≡◌, ◌≤◌, ◌<◌, ◌^◌, ◌++◌, length, map, OnOk, IfOk};

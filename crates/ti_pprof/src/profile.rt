@@ -5,7 +5,7 @@ use crate::messages::{push_mapping, push_no_room, push_packed, push_value_type_f
 use crate::named::{numbers_of, push_functions, push_strings, texts_of};
 use crate::names::{About, Names};
 use crate::places::{frames_of, push_locations};
-use crate::samples::push_samples;
+use crate::samples::{Tables, push_samples};
 use crate::stacks::Frame;
 use crate::texts::Texts;
 use crate::wire::push_number;
@@ -13,57 +13,38 @@ use indexmap::IndexSet;
 use std::alloc::{AllocError, Global};
 
 /// Appends the types of a sample's two values. The error is lack of memory.
-fn push_sample_types(alloc: Global, out: &mut Vec<u8>, texts: &Texts<'_>) -> Result<(), AllocError>
+fn push_sample_types(out: &mut Vec<u8>, texts: &Texts<'_>) -> Result<(), AllocError>
     ensures { OnOk result (out.new.items ≡ out.old.items ++ sample_types (strings_in texts.now)) }
 {
-    push_value_type_field(alloc, out, 1, texts, "samples", "count")?;
-    push_value_type_field(alloc, out, 1, texts, "wall", "nanoseconds")
+    push_value_type_field(out, 1, texts, "samples", "count")?;
+    push_value_type_field(out, 1, texts, "wall", "nanoseconds")
 }
 
 /// Appends when and how the stacks were taken. The error is lack of memory.
-fn push_about(
-    alloc: Global,
-    out: &mut Vec<u8>,
-    texts: &Texts<'_>,
-    about: &About,
-) -> Result<(), AllocError>
+fn push_about(out: &mut Vec<u8>, texts: &Texts<'_>, about: &About) -> Result<(), AllocError>
     ensures { OnOk result (out.new.items ≡ out.old.items ++ about_fields (strings_in texts.now) about.now) }
 {
     push_number(out, 9, about.time)?;
     push_number(out, 10, about.duration)?;
-    push_value_type_field(alloc, out, 11, texts, "wall", "nanoseconds")?;
+    push_value_type_field(out, 11, texts, "wall", "nanoseconds")?;
     push_number(out, 12, about.period)?;
-    let comments = numbers_of(alloc, texts, about.comments.as_slice())?;
-    push_packed(alloc, out, 13, &comments)?;
+    let comments = numbers_of(*out.allocator(), texts, about.comments.as_slice())?;
+    push_packed(out, 13, &comments)?;
     push_number(out, 14, texts.number("wall"))
 }
 
 /// Appends what was counted. The error is lack of memory.
 fn push_counts(
-    alloc: Global,
     out: &mut Vec<u8>,
-    texts: &Texts<'_>,
-    names: &Names,
-    period: u64,
-    frames: &IndexSet<Frame>,
+    tables: &Tables<'_, '_>,
     counts: &Counts,
 ) -> Result<(), AllocError>
-    ensures { OnOk result (out.new.items ≡ out.old.items ++ counted_fields (strings_in texts.now) names.now period frames.now.keys (samples_of counts.now.trie counts.now.table) counts.now.no_room) }
+    ensures { OnOk result (out.new.items ≡ out.old.items ++ counted_fields (strings_in tables.now.texts.now) tables.now.names.now tables.now.period tables.now.frames.now.keys (samples_of counts.now.trie counts.now.table) counts.now.no_room) }
 {
     let nodes = counts.trie().nodes();
     let table = counts.table();
-    push_samples(
-        alloc,
-        out,
-        texts,
-        names,
-        period,
-        nodes,
-        frames,
-        table.rows(),
-        table.counts(),
-    )?;
-    push_no_room(alloc, out, period, counts.no_room())
+    push_samples(out, tables, nodes, table.rows(), table.counts())?;
+    push_no_room(out, tables.period, counts.no_room())
 }
 
 /// The bytes of a profile, as `go tool pprof` reads them, without gzip. The samples are in the order in which they were first
@@ -81,24 +62,21 @@ pub fn encode(
     let texts = texts_of(alloc, about, names)?;
     let frames = frames_of(alloc, counts.trie().nodes())?;
     let mut out = Vec::new(alloc);
-    push_sample_types(alloc, &mut out, &texts)?;
-    push_counts(
-        alloc,
-        &mut out,
-        &texts,
+    push_sample_types(&mut out, &texts)?;
+    let tables = Tables {
+        texts: &texts,
         names,
-        about.period,
-        &frames,
-        counts,
-    )?;
-    push_tables(alloc, &mut out, &texts, about, names, &frames)?;
-    push_about(alloc, &mut out, &texts, about)?;
+        frames: &frames,
+        period: about.period,
+    };
+    push_counts(&mut out, &tables, counts)?;
+    push_tables(&mut out, &texts, about, names, &frames)?;
+    push_about(&mut out, &texts, about)?;
     Ok(out)
 }
 
 /// Appends the mapping, the locations, the functions and the texts. The error is lack of memory.
 fn push_tables(
-    alloc: Global,
     out: &mut Vec<u8>,
     texts: &Texts<'_>,
     about: &About,
@@ -107,9 +85,9 @@ fn push_tables(
 ) -> Result<(), AllocError>
     ensures { OnOk result (out.new.items ≡ out.old.items ++ table_fields (strings_in texts.now) frames.now.keys about.now names.now) }
 {
-    push_mapping(alloc, out, texts, about.program.as_str())?;
-    push_locations(alloc, out, names.functions.len(), frames)?;
-    push_functions(alloc, out, texts, &names.functions)?;
+    push_mapping(out, texts, about.program.as_str())?;
+    push_locations(out, names.functions.len(), frames)?;
+    push_functions(out, texts, &names.functions)?;
     push_strings(out, texts)
 }
 

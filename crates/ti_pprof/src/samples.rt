@@ -8,7 +8,17 @@ use crate::table::Row;
 use crate::texts::Texts;
 use crate::wire::push_block;
 use indexmap::IndexSet;
-use std::alloc::{AllocError, Global};
+use std::alloc::AllocError;
+
+/// What the samples of a profile refer to.
+#[derive(Clone, Copy)]
+pub(crate) struct Tables<'a, 't> {
+    pub(crate) texts: &'a Texts<'t>,
+    pub(crate) names: &'a Names,
+    pub(crate) frames: &'a IndexSet<Frame>,
+    /// The nanoseconds from one sample to the next.
+    pub(crate) period: u64,
+}
 
 /// The text at a place, if there is one.
 fn text_at(texts: &[String], place: u32) -> Option<&String>
@@ -22,75 +32,52 @@ fn text_at(texts: &[String], place: u32) -> Option<&String>
 }
 
 /// Appends the labels of a sample. The error is lack of memory.
-fn push_labels(
-    alloc: Global,
-    out: &mut Vec<u8>,
-    texts: &Texts<'_>,
-    names: &Names,
-    row: Row,
-) -> Result<(), AllocError>
-    ensures { OnOk result (out.new.items ≡ out.old.items ++ labels (strings_in texts.now) names.now row.thread row.state) }
+fn push_labels(out: &mut Vec<u8>, tables: &Tables<'_, '_>, row: Row) -> Result<(), AllocError>
+    ensures { OnOk result (out.new.items ≡ out.old.items ++ labels (strings_in tables.now.texts.now) tables.now.names.now row.thread row.state) }
 {
-    let thread = text_at(&names.threads, row.thread);
-    push_label(alloc, out, texts, "thread", thread)?;
-    let state = text_at(&names.states, row.state);
-    push_label(alloc, out, texts, "state", state)?;
+    let thread = text_at(&tables.names.threads, row.thread);
+    push_label(out, tables.texts, "thread", thread)?;
+    let state = text_at(&tables.names.states, row.state);
+    push_label(out, tables.texts, "state", state)?;
     Ok(())
 }
 
 /// Appends a sample. The error is lack of memory.
 fn push_sample(
-    alloc: Global,
     out: &mut Vec<u8>,
-    texts: &Texts<'_>,
-    names: &Names,
-    period: u64,
+    tables: &Tables<'_, '_>,
     nodes: &[Node],
-    frames: &IndexSet<Frame>,
     row: Row,
     count: u64,
 ) -> Result<(), AllocError>
     requires there { row.stack ≤ length nodes.now }
     requires earlier { AreOnEarlier nodes.now }
-    ensures { OnOk result (out.new.items ≡ out.old.items ++ sample_field (strings_in texts.now) names.now period frames.now.keys (sample_of (stacks_of nodes.now) row count)) }
+    ensures { OnOk result (out.new.items ≡ out.old.items ++ sample_field (strings_in tables.now.texts.now) tables.now.names.now tables.now.period tables.now.frames.now.keys (sample_of (stacks_of nodes.now) row count)) }
 {
-    let ids = locations_of(alloc, nodes, frames, row.stack)?;
+    let alloc = *out.allocator();
+    let ids = locations_of(alloc, nodes, tables.frames, row.stack)?;
     let mut inner = Vec::new(alloc);
-    push_packed(alloc, &mut inner, 1, &ids)?;
-    push_values(alloc, &mut inner, period, count)?;
-    push_labels(alloc, &mut inner, texts, names, row)?;
+    push_packed(&mut inner, 1, &ids)?;
+    push_values(&mut inner, tables.period, count)?;
+    push_labels(&mut inner, tables, row)?;
     push_block(out, 2, &inner)
 }
 
 /// Appends the samples of these rows and their counts. The error is lack of memory.
 pub(crate) fn push_samples(
-    alloc: Global,
     out: &mut Vec<u8>,
-    texts: &Texts<'_>,
-    names: &Names,
-    period: u64,
+    tables: &Tables<'_, '_>,
     nodes: &[Node],
-    frames: &IndexSet<Frame>,
     rows: &[Row],
     counts: &[u64],
 ) -> Result<(), AllocError>
     requires there { AreNumbered rows.now (length nodes.now) }
     requires earlier { AreOnEarlier nodes.now }
     requires counted { length counts.now ≡ length rows.now }
-    ensures { OnOk result (out.new.items ≡ out.old.items ++ sample_fields (strings_in texts.now) names.now period frames.now.keys (samples_in (stacks_of nodes.now) rows.now counts.now)) }
+    ensures { OnOk result (out.new.items ≡ out.old.items ++ sample_fields (strings_in tables.now.texts.now) tables.now.names.now tables.now.period tables.now.frames.now.keys (samples_in (stacks_of nodes.now) rows.now counts.now)) }
 {
     for place in 0..rows.len() {
-        push_sample(
-            alloc,
-            out,
-            texts,
-            names,
-            period,
-            nodes,
-            frames,
-            rows[place],
-            counts[place],
-        )?;
+        push_sample(out, tables, nodes, rows[place], counts[place])?;
     }
     Ok(())
 }

@@ -1,7 +1,8 @@
 -- The text of a line for each outcome.
-use Rattle.std.specs.Prelude.{◌≡◌, ℕ, ◌+◌, List, [], ◌∷◌, ◌++◌, codes, decimal, slice_get, unwrap_or, false, Option, None, Some, if◌then◌else◌}
+use Rattle.std.specs.Prelude.{String, ◌≡◌, ◌≤◌, ◌<◌, length, string_bytes, Result, OnOk, OnErr, ℕ, ◌+◌, List, [], ◌∷◌, ◌++◌, codes, decimal, slice_get, unwrap_or, false, Option, None, Some, if◌then◌else◌}
 use Rattle.std.specs.List.{flat_map}
 use Rattle.std.specs.Fmt.{digits}
+use Rattle.std.specs.String.{string_len, string_capacity}
 use Rattle.ti_types.specs.declared.place.Place.{Place}
 use Rattle.ti_types.specs.declared.place.Place.TheVariants.{Java, Native}
 use Rattle.ti_types.specs.declared.place.Frame.{Frame}
@@ -77,3 +78,20 @@ pub record AddsFront (old new all : List ℕ) : Type 0 where
   pub rest : List ℕ
   pub split : all ≡ front ++ rest
   pub added : new ≡ old ++ front
+
+-- what a text has, how long it is, and for how much it has room
+pub record Written : Type 0 where
+  pub bytes : List ℕ
+  pub len : ℕ
+  pub room : ℕ
+
+abbrev pub written : {Z : Type 0} → String Z → Written
+written s = record { bytes = string_bytes s; len = string_len s; room = string_capacity s }
+
+-- a text is added to another one. If memory runs out there was no room for it, and a prefix of it is added
+pub record Adds {T E : Type 0} (result : Result T E) (old new : Written) (text : List ℕ) : Type 0 where
+  pub ok : OnOk result (new.bytes ≡ old.bytes ++ text)
+  pub len : OnOk result (new.len ≡ old.len + length text)
+  pub room : old.room ≤ new.room
+  pub full : OnErr result (old.room < old.len + length text)
+  pub front : AddsFront old.bytes new.bytes text

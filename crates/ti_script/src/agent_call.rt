@@ -5,6 +5,7 @@ use crate::event::ask_event;
 use crate::item::{Item, Spot};
 use crate::located::LocatedFault;
 use crate::names::Cast;
+use crate::said::Said;
 use crate::service_event::env_event;
 use crate::tree::array_in;
 use serde_json::Value;
@@ -27,18 +28,12 @@ fn as_call(event: Event) -> AgentCall
 }
 
 /// The call of a word that also makes an event of a walk.
-fn one_event(
-    cast: &Cast,
-    item: Item,
-    agent: EnvNo,
-    text: &str,
-    rest: &[Value],
-) -> Result<Event, LocatedFault>
-    ensures { result ≡ word_event cast.now item (one_table agent) text.now (map view rest.now) }
+fn one_event(said: &Said<'_>, agent: EnvNo) -> Result<Event, LocatedFault>
+    ensures { result ≡ word_event said.now.cast.now said.now.item (one_table agent) said.now.word.now (map view said.now.rest.now) }
 {
-    match ask_event(cast, item, agent, text, rest) {
+    match ask_event(said, agent) {
         Some(event) => event,
-        None => env_event(cast, item, agent, text, rest),
+        None => env_event(said, agent),
     }
 }
 
@@ -72,25 +67,25 @@ fn threads_given(
     Ok(threads)
 }
 
-/// A list of threads: at most 1,024, each a number or a name.
+/// The list of threads that comes first after a word: at most 1,024, each a number or a name.
 ///
 /// It looks at the form of all values only if one of them means no thread. The first of those need not be the first fault.
 #[tactic(auto, using(crate::proofs::TreeLaws::list_all_views, crate::proofs::TreeLaws::length_of_map, crate::proofs::LiveLaws::all_elements))]
 fn threads_in(
     alloc: Global,
-    cast: &Cast,
-    spot: Spot,
+    said: &Said<'_>,
     value: &Value,
 ) -> Result<Listed<ThreadNo>, LocatedFault>
-    ensures { Gives (λ threads. threads) result (threads_in cast.now spot (view value.now)) }
+    ensures { Gives (λ threads. threads) result (threads_in said.now.cast.now (behind_word said.now.item 1) (view value.now)) }
 {
+    let spot = said.item.behind_word(1);
     let Some(values) = array_in(value) else {
         return Err(spot.shape());
     };
     if values.len() > 1024 {
         return Err(spot.shape());
     }
-    match threads_given(alloc, cast, spot, values) {
+    match threads_given(alloc, said.cast, spot, values) {
         Ok(threads) => Ok(threads),
         Err(fault) => if are_thread_elements(values) {
             Err(fault)
@@ -101,92 +96,60 @@ fn threads_in(
 }
 
 /// SuspendThreadList for a list of threads.
-fn suspend_list(
-    alloc: Global,
-    cast: &Cast,
-    item: Item,
-    rest: &[Value],
-) -> Result<AgentCall, LocatedFault>
-    ensures { Gives (λ call. call) result (of_threads cast.now item SuspendList (map view rest.now)) }
+fn suspend_list(alloc: Global, said: &Said<'_>) -> Result<AgentCall, LocatedFault>
+    ensures { Gives (λ call. call) result (of_threads said.now.cast.now said.now.item SuspendList (map view said.now.rest.now)) }
 {
-    match rest {
-        [threads] => Ok(AgentCall::SuspendList(threads_in(
-            alloc,
-            cast,
-            item.behind_word(1),
-            threads,
-        )?)),
-        _ => Err(item.shape()),
+    match said.rest {
+        [threads] => Ok(AgentCall::SuspendList(threads_in(alloc, said, threads)?)),
+        _ => Err(said.item.shape()),
     }
 }
 
 /// ResumeThreadList for a list of threads.
-fn resume_list(
-    alloc: Global,
-    cast: &Cast,
-    item: Item,
-    rest: &[Value],
-) -> Result<AgentCall, LocatedFault>
-    ensures { Gives (λ call. call) result (of_threads cast.now item ResumeList (map view rest.now)) }
+fn resume_list(alloc: Global, said: &Said<'_>) -> Result<AgentCall, LocatedFault>
+    ensures { Gives (λ call. call) result (of_threads said.now.cast.now said.now.item ResumeList (map view said.now.rest.now)) }
 {
-    match rest {
-        [threads] => Ok(AgentCall::ResumeList(threads_in(
-            alloc,
-            cast,
-            item.behind_word(1),
-            threads,
-        )?)),
-        _ => Err(item.shape()),
+    match said.rest {
+        [threads] => Ok(AgentCall::ResumeList(threads_in(alloc, said, threads)?)),
+        _ => Err(said.item.shape()),
     }
 }
 
 /// GetAllStackTraces with a greatest count of frames.
-fn all_stacks(cast: &Cast, item: Item, rest: &[Value]) -> Result<AgentCall, LocatedFault>
-    ensures { Gives (λ call. call) result (of_count cast.now item (map view rest.now)) }
+fn all_stacks(said: &Said<'_>) -> Result<AgentCall, LocatedFault>
+    ensures { Gives (λ call. call) result (of_count said.now.cast.now said.now.item (map view said.now.rest.now)) }
 {
-    match rest {
-        [max_count] => Ok(AgentCall::AllStacks(signed_in(item.behind_word(1), max_count)?)),
-        _ => Err(item.shape()),
+    match said.rest {
+        [max_count] => Ok(AgentCall::AllStacks(signed_in(said.item.behind_word(1), max_count)?)),
+        _ => Err(said.item.shape()),
     }
 }
 
 /// GetThreadListStackTraces for a list of threads, with a greatest count of frames.
-fn list_stacks(
-    alloc: Global,
-    cast: &Cast,
-    item: Item,
-    rest: &[Value],
-) -> Result<AgentCall, LocatedFault>
-    ensures { Gives (λ call. call) result (of_both cast.now item (map view rest.now)) }
+fn list_stacks(alloc: Global, said: &Said<'_>) -> Result<AgentCall, LocatedFault>
+    ensures { Gives (λ call. call) result (of_both said.now.cast.now said.now.item (map view said.now.rest.now)) }
 {
-    match rest {
+    match said.rest {
         [threads, max_count] => {
-            let threads = threads_in(alloc, cast, item.behind_word(1), threads)?;
-            let max_count = signed_in(item.behind_word(2), max_count)?;
+            let threads = threads_in(alloc, said, threads)?;
+            let max_count = signed_in(said.item.behind_word(2), max_count)?;
             Ok(AgentCall::ListStacks(threads, max_count))
         }
-        _ => Err(item.shape()),
+        _ => Err(said.item.shape()),
     }
 }
 
 /// The call of a word, from what comes after it.
-fn word_call(
-    alloc: Global,
-    cast: &Cast,
-    item: Item,
-    agent: EnvNo,
-    text: &str,
-    rest: &[Value],
-) -> Result<AgentCall, LocatedFault>
-    ensures { Gives (λ call. call) result (word_call cast.now item agent text.now (map view rest.now)) }
+fn word_call(alloc: Global, said: &Said<'_>, agent: EnvNo) -> Result<AgentCall, LocatedFault>
+    ensures { Gives (λ call. call) result (word_call said.now.cast.now said.now.item agent said.now.word.now (map view said.now.rest.now)) }
 {
-    match text {
-        "suspend_list" => suspend_list(alloc, cast, item, rest),
-        "resume_list" => resume_list(alloc, cast, item, rest),
-        "all" => all_stacks(cast, item, rest),
-        "list" => list_stacks(alloc, cast, item, rest),
+    match said.word {
+        "suspend_list" => suspend_list(alloc, said),
+        "resume_list" => resume_list(alloc, said),
+        "all" => all_stacks(said),
+        "list" => list_stacks(alloc, said),
         _ => {
-            let event = one_event(cast, item, agent, text, rest)?;
+            let event = one_event(said, agent)?;
             Ok(as_call(event))
         }
     }
@@ -209,7 +172,7 @@ pub(crate) fn call_in(
     let Some(word) = word.as_str() else {
         return Err(item.word().shape());
     };
-    word_call(alloc, cast, item, agent, word, rest)
+    word_call(alloc, &Said::new(cast, item, word, rest), agent)
 }
 
 ghost use Rattle.std.specs.Prelude.{◌≡◌, map};
@@ -217,5 +180,6 @@ ghost use Rattle.std.specs.List.{list_all};
 ghost use Rattle.serde_json.specs.View.{view};
 ghost use Rattle.ti_live.specs.declared.call.AgentCall.TheVariants.{SuspendList, ResumeList};
 ghost use Rattle.ti_script.specs.Faults.{Gives};
+ghost use Rattle.ti_script.specs.Spots.{behind_word};
 ghost use Rattle.ti_script.specs.Events.{word_event};
 ghost use Rattle.ti_script.specs.Lives.{as_call, one_table, is_thread_element, threads_given, threads_in, of_threads, of_count, of_both, word_call, call_in};

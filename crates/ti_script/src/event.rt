@@ -4,6 +4,7 @@ use crate::element::{signed_in, thread_in, word_in};
 use crate::item::Item;
 use crate::located::LocatedFault;
 use crate::names::Cast;
+use crate::said::Said;
 use crate::service_event::service_event;
 use crate::thread_event::thread_event;
 use crate::tree::array_in;
@@ -11,102 +12,83 @@ use serde_json::Value;
 use ti_types::{Call, EnvNo, Event, ThreadNo};
 
 /// A call that has nothing after its thread.
-fn plain_ask(
-    cast: &Cast,
-    item: Item,
-    agent: EnvNo,
-    call: Call,
-    rest: &[Value],
-) -> Result<Event, LocatedFault>
-    ensures { result ≡ row_event cast.now item (map view rest.now) (row (thread ∷ []) (λ t. Ask agent t call)) }
+fn plain_ask(said: &Said<'_>, agent: EnvNo, call: Call) -> Result<Event, LocatedFault>
+    ensures { result ≡ row_event said.now.cast.now said.now.item (map view said.now.rest.now) (row (thread ∷ []) (λ t. Ask agent t call)) }
 {
-    match rest {
-        [thread] => Ok(Event::Ask(agent, thread_in(cast, item.behind_word(1), thread)?, call)),
-        _ => Err(item.shape()),
+    match said.rest {
+        [thread] => Ok(Event::Ask(
+            agent,
+            thread_in(said.cast, said.item.behind_word(1), thread)?,
+            call,
+        )),
+        _ => Err(said.item.shape()),
     }
 }
 
-fn trace_ask(cast: &Cast, item: Item, agent: EnvNo, rest: &[Value]) -> Result<Event, LocatedFault>
-    ensures { result ≡ row_event cast.now item (map view rest.now) (row (thread ∷ signed ∷ signed ∷ []) (λ t s n. Ask agent t (Trace s n))) }
+fn trace_ask(said: &Said<'_>, agent: EnvNo) -> Result<Event, LocatedFault>
+    ensures { result ≡ row_event said.now.cast.now said.now.item (map view said.now.rest.now) (row (thread ∷ signed ∷ signed ∷ []) (λ t s n. Ask agent t (Trace s n))) }
 {
-    match rest {
+    match said.rest {
         [thread, start, max_count] => {
-            let thread = thread_in(cast, item.behind_word(1), thread)?;
-            let start = signed_in(item.behind_word(2), start)?;
-            let max_count = signed_in(item.behind_word(3), max_count)?;
+            let thread = thread_in(said.cast, said.item.behind_word(1), thread)?;
+            let start = signed_in(said.item.behind_word(2), start)?;
+            let max_count = signed_in(said.item.behind_word(3), max_count)?;
             Ok(Event::Ask(agent, thread, Call::Trace { start, max_count }))
         }
-        _ => Err(item.shape()),
+        _ => Err(said.item.shape()),
     }
 }
 
-fn location_ask(
-    cast: &Cast,
-    item: Item,
-    agent: EnvNo,
-    rest: &[Value],
-) -> Result<Event, LocatedFault>
-    ensures { result ≡ row_event cast.now item (map view rest.now) (row (thread ∷ signed ∷ []) (λ t d. Ask agent t (Location d))) }
+fn location_ask(said: &Said<'_>, agent: EnvNo) -> Result<Event, LocatedFault>
+    ensures { result ≡ row_event said.now.cast.now said.now.item (map view said.now.rest.now) (row (thread ∷ signed ∷ []) (λ t d. Ask agent t (Location d))) }
 {
-    match rest {
+    match said.rest {
         [thread, depth] => {
-            let thread = thread_in(cast, item.behind_word(1), thread)?;
-            let depth = signed_in(item.behind_word(2), depth)?;
+            let thread = thread_in(said.cast, said.item.behind_word(1), thread)?;
+            let depth = signed_in(said.item.behind_word(2), depth)?;
             Ok(Event::Ask(agent, thread, Call::Location { depth }))
         }
-        _ => Err(item.shape()),
+        _ => Err(said.item.shape()),
     }
 }
 
-fn set_ask(cast: &Cast, item: Item, agent: EnvNo, rest: &[Value]) -> Result<Event, LocatedFault>
-    ensures { result ≡ row_event cast.now item (map view rest.now) (row (thread ∷ word ∷ []) (λ t w. Ask agent t (SetWord w))) }
+fn set_ask(said: &Said<'_>, agent: EnvNo) -> Result<Event, LocatedFault>
+    ensures { result ≡ row_event said.now.cast.now said.now.item (map view said.now.rest.now) (row (thread ∷ word ∷ []) (λ t w. Ask agent t (SetWord w))) }
 {
-    match rest {
+    match said.rest {
         [thread, word] => {
-            let thread = thread_in(cast, item.behind_word(1), thread)?;
-            let word = word_in(cast, item.behind_word(2), word)?;
+            let thread = thread_in(said.cast, said.item.behind_word(1), thread)?;
+            let word = word_in(said.cast, said.item.behind_word(2), word)?;
             Ok(Event::Ask(agent, thread, Call::SetWord(word)))
         }
-        _ => Err(item.shape()),
+        _ => Err(said.item.shape()),
     }
 }
 
 /// The event of a word that asks a thread. `None` if the word is none of these.
-pub(crate) fn ask_event(
-    cast: &Cast,
-    item: Item,
-    agent: EnvNo,
-    text: &str,
-    rest: &[Value],
-) -> Option<Result<Event, LocatedFault>>
-    ensures { result ≡ option_map (row_event cast.now item (map view rest.now)) (lookup (bytes_eq text.now) (ask_table agent)) }
+pub(crate) fn ask_event(said: &Said<'_>, agent: EnvNo) -> Option<Result<Event, LocatedFault>>
+    ensures { result ≡ option_map (row_event said.now.cast.now said.now.item (map view said.now.rest.now)) (lookup (bytes_eq said.now.word.now) (ask_table agent)) }
 {
-    match text {
-        "state" => Some(plain_ask(cast, item, agent, Call::State, rest)),
-        "count" => Some(plain_ask(cast, item, agent, Call::FrameCount, rest)),
-        "trace" => Some(trace_ask(cast, item, agent, rest)),
-        "location" => Some(location_ask(cast, item, agent, rest)),
-        "suspend" => Some(plain_ask(cast, item, agent, Call::Suspend, rest)),
-        "resume" => Some(plain_ask(cast, item, agent, Call::Resume, rest)),
-        "get" => Some(plain_ask(cast, item, agent, Call::GetWord, rest)),
-        "set" => Some(set_ask(cast, item, agent, rest)),
-        "pop" => Some(plain_ask(cast, item, agent, Call::Pop, rest)),
+    match said.word {
+        "state" => Some(plain_ask(said, agent, Call::State)),
+        "count" => Some(plain_ask(said, agent, Call::FrameCount)),
+        "trace" => Some(trace_ask(said, agent)),
+        "location" => Some(location_ask(said, agent)),
+        "suspend" => Some(plain_ask(said, agent, Call::Suspend)),
+        "resume" => Some(plain_ask(said, agent, Call::Resume)),
+        "get" => Some(plain_ask(said, agent, Call::GetWord)),
+        "set" => Some(set_ask(said, agent)),
+        "pop" => Some(plain_ask(said, agent, Call::Pop)),
         _ => None,
     }
 }
 
-fn agent_event(
-    cast: &Cast,
-    item: Item,
-    agent: EnvNo,
-    text: &str,
-    rest: &[Value],
-) -> Result<Event, LocatedFault>
-    ensures { result ≡ word_event cast.now item (agent_table agent) text.now (map view rest.now) }
+fn agent_event(said: &Said<'_>, agent: EnvNo) -> Result<Event, LocatedFault>
+    ensures { result ≡ word_event said.now.cast.now said.now.item (agent_table agent) said.now.word.now (map view said.now.rest.now) }
 {
-    match ask_event(cast, item, agent, text, rest) {
+    match ask_event(said, agent) {
         Some(event) => event,
-        None => service_event(cast, item, agent, text, rest),
+        None => service_event(said, agent),
     }
 }
 
@@ -124,11 +106,12 @@ pub(crate) fn event_in(cast: &Cast, number: u32, value: &Value) -> Result<Event,
     let Some(word) = word.as_str() else {
         return Err(item.word().shape());
     };
+    let said = Said::new(cast, item, word, rest);
     if let Some(thread) = cast.threads.number(subject) {
-        return thread_event(cast, item, ThreadNo(thread), word, rest);
+        return thread_event(&said, ThreadNo(thread));
     }
     if let Some(agent) = cast.agents.number(subject) {
-        return agent_event(cast, item, EnvNo(agent), word, rest);
+        return agent_event(&said, EnvNo(agent));
     }
     Err(item.subject().name())
 }

@@ -128,10 +128,7 @@ pub fn read_history(alloc: Global, bytes: &[u8]) -> Result<History, ScriptFault>
     ensures ok { IfOk result (λ h. (d : Data) × IsDocument bytes.now d × (history_fault d ≡ None) × IsHistory d h) }
     ensures err { IfErr result (λ e. IsRefusalBy history_fault e bytes.now) }
 {
-    match locate_history(alloc, bytes) {
-        Ok(history) => Ok(history),
-        Err(fault) => Err(fault.without_part()),
-    }
+    locate_history(alloc, bytes).map_err(|fault: LocatedFault| fault.without_part())
 }
 
 ghost use Rattle.std.specs.Prelude.{◌≡◌, ◌≤◌, length, map, codes, unwrap_or, None, IfOk, IfErr};

@@ -28,6 +28,7 @@ mod live_text;
 mod located;
 mod names;
 mod operation;
+mod said;
 mod service_event;
 mod text;
 mod thread_event;

@@ -10,7 +10,7 @@ use crate::walk_document::{bounds_at, cast_in, check_members, member};
 use serde_json::Value;
 use std::alloc::Global;
 use ti_live::{AgentCall, Listed};
-use ti_types::{EnvNo, Event, Limits, ThreadNo};
+use ti_types::{EnvNo, Event, ThreadNo};
 
 /// The elements of an array. Any other value has none.
 fn elements(value: &Value) -> &[Value]
@@ -200,25 +200,11 @@ fn live_in(alloc: Global, value: &Value) -> Result<Live, LocatedFault>
     let bounds = bounds_at(value)?;
     let cast = cast_in(alloc, value)?;
     let (walks, calls) = body_in(alloc, &cast, value)?;
-    let Cast {
-        threads,
-        agents,
-        methods,
-    } = cast;
-    let limits = Limits::new(
-        threads.len() as u32,
-        agents.len() as u32,
-        bounds.depth,
-        bounds.own,
-        bounds.calls,
-    )
-    .unwrap()
-    .recorded();
     Ok(Live {
-        limits,
-        threads,
-        agents,
-        methods,
+        limits: bounds.limits(&cast).recorded(),
+        threads: cast.threads,
+        agents: cast.agents,
+        methods: cast.methods,
         walks,
         calls,
     })
@@ -253,10 +239,7 @@ pub fn read_live(alloc: Global, bytes: &[u8]) -> Result<Live, ScriptFault>
     ensures ok { IfOk result (λ l. (d : Data) × IsDocument bytes.now d × (live_fault d ≡ None) × IsLive d l) }
     ensures err { IfErr result (λ e. IsRefusalBy live_fault e bytes.now) }
 {
-    match locate_live(alloc, bytes) {
-        Ok(live) => Ok(live),
-        Err(fault) => Err(fault.without_part()),
-    }
+    locate_live(alloc, bytes).map_err(|fault: LocatedFault| fault.without_part())
 }
 
 ghost use Rattle.std.specs.Prelude.{◌≡◌, ◌≤◌, ◌+◌, List, length, map, codes, None, Ok, is_some, IfOk, IfErr};

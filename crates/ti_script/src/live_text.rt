@@ -4,67 +4,37 @@
 //! that there was no room, and that memory ran out. Then a prefix of the text has been added.
 
 use crate::names::Names;
-use crate::text::{put_answer, put_bits, put_frames, put_number};
+use crate::text::{put_answer, put_bits, put_frames, put_name, put_number, put_text};
 use std::alloc::AllocError;
 use ti_live::{Listed, Refusal, Reply};
 use ti_types::{Frame, StackInfo};
 
-/// Adds the name of this number, or nothing if no name has it.
-#[tactic(auto, using(crate::proofs::RoomLaws::lengths, crate::proofs::FrontLaws::fronts))]
-fn put_name(out: &mut String, names: &Names, number: u32) -> Result<(), AllocError>
-    ensures ok { OnOk result (string_bytes out.new ≡ string_bytes out.old ++ name_text names.now number) }
-    ensures len { OnOk result (string_len out.new ≡ string_len out.old + length (name_text names.now number)) }
-    ensures room { string_capacity out.old ≤ string_capacity out.new }
-    ensures full { OnErr result (string_capacity out.old < string_len out.old + length (name_text names.now number)) }
-    ensures front { AddsFront (string_bytes out.old) (string_bytes out.new) (name_text names.now number) }
-{
-    out.push_str(names.name(number).unwrap_or(""))
-}
-
 /// Adds a space and a number.
-#[tactic(auto, using(crate::proofs::RoomLaws::lengths, crate::proofs::FrontLaws::fronts))]
 fn put_number_behind(out: &mut String, number: u64) -> Result<(), AllocError>
-    ensures ok { OnOk result (string_bytes out.new ≡ string_bytes out.old ++ (codes " " ++ decimal number)) }
-    ensures len { OnOk result (string_len out.new ≡ string_len out.old + length (codes " " ++ decimal number)) }
-    ensures room { string_capacity out.old ≤ string_capacity out.new }
-    ensures full { OnErr result (string_capacity out.old < string_len out.old + length (codes " " ++ decimal number)) }
-    ensures front { AddsFront (string_bytes out.old) (string_bytes out.new) (codes " " ++ decimal number) }
+    ensures { Adds result (written out.old) (written out.new) (codes " " ++ decimal number) }
 {
-    out.push_str(" ")?;
+    put_text(out, " ")?;
     put_number(out, number)
 }
 
 /// Adds a name, a space and a number.
-#[tactic(auto, using(crate::proofs::RoomLaws::lengths, crate::proofs::FrontLaws::fronts))]
 fn put_numbered(out: &mut String, name: &str, number: u64) -> Result<(), AllocError>
-    ensures ok { OnOk result (string_bytes out.new ≡ string_bytes out.old ++ numbered_text name.now number) }
-    ensures len { OnOk result (string_len out.new ≡ string_len out.old + length (numbered_text name.now number)) }
-    ensures room { string_capacity out.old ≤ string_capacity out.new }
-    ensures full { OnErr result (string_capacity out.old < string_len out.old + length (numbered_text name.now number)) }
-    ensures front { AddsFront (string_bytes out.old) (string_bytes out.new) (numbered_text name.now number) }
+    ensures { Adds result (written out.old) (written out.new) (numbered_text name.now number) }
 {
-    out.push_str(name)?;
+    put_text(out, name)?;
     put_number_behind(out, number)
 }
 
 /// Adds a space and a code.
 fn put_code_behind(out: &mut String, code: u32) -> Result<(), AllocError>
-    ensures ok { OnOk result (string_bytes out.new ≡ string_bytes out.old ++ (codes " " ++ decimal code)) }
-    ensures len { OnOk result (string_len out.new ≡ string_len out.old + length (codes " " ++ decimal code)) }
-    ensures room { string_capacity out.old ≤ string_capacity out.new }
-    ensures full { OnErr result (string_capacity out.old < string_len out.old + length (codes " " ++ decimal code)) }
-    ensures front { AddsFront (string_bytes out.old) (string_bytes out.new) (codes " " ++ decimal code) }
+    ensures { Adds result (written out.old) (written out.new) (codes " " ++ decimal code) }
 {
     put_number_behind(out, u64::from(code))
 }
 
 /// Adds a space and a code, for each code.
 fn put_codes(out: &mut String, numbers: &[u32]) -> Result<(), AllocError>
-    ensures ok { OnOk result (string_bytes out.new ≡ string_bytes out.old ++ codes_text numbers.now) }
-    ensures len { OnOk result (string_len out.new ≡ string_len out.old + length (codes_text numbers.now)) }
-    ensures room { string_capacity out.old ≤ string_capacity out.new }
-    ensures full { OnErr result (string_capacity out.old < string_len out.old + length (codes_text numbers.now)) }
-    ensures front { AddsFront (string_bytes out.old) (string_bytes out.new) (codes_text numbers.now) }
+    ensures { Adds result (written out.old) (written out.new) (codes_text numbers.now) }
 {
     for i in 0..numbers.len() {
         put_code_behind(out, numbers[i])?;
@@ -72,70 +42,43 @@ fn put_codes(out: &mut String, numbers: &[u32]) -> Result<(), AllocError>
     Ok(())
 }
 
-/// Adds a space and state bits.
-#[tactic(auto, using(crate::proofs::RoomLaws::lengths, crate::proofs::FrontLaws::fronts))]
-fn put_bits_behind(out: &mut String, state: u32) -> Result<(), AllocError>
-    ensures ok { OnOk result (string_bytes out.new ≡ string_bytes out.old ++ (codes " " ++ bits_text state)) }
-    ensures len { OnOk result (string_len out.new ≡ string_len out.old + length (codes " " ++ bits_text state)) }
-    ensures room { string_capacity out.old ≤ string_capacity out.new }
-    ensures full { OnErr result (string_capacity out.old < string_len out.old + length (codes " " ++ bits_text state)) }
-    ensures front { AddsFront (string_bytes out.old) (string_bytes out.new) (codes " " ++ bits_text state) }
-{
-    out.push_str(" ")?;
-    put_bits(out, state)
-}
-
 /// Adds a space, state bits and frames.
-#[tactic(auto, using(crate::proofs::RoomLaws::lengths, crate::proofs::FrontLaws::fronts))]
 fn put_look(
     out: &mut String,
     methods: &Names,
     state: u32,
     frames: &[Frame],
 ) -> Result<(), AllocError>
-    ensures ok { OnOk result (string_bytes out.new ≡ string_bytes out.old ++ ((codes " " ++ bits_text state) ++ frames_text methods.now frames.now)) }
-    ensures len { OnOk result (string_len out.new ≡ string_len out.old + length ((codes " " ++ bits_text state) ++ frames_text methods.now frames.now)) }
-    ensures room { string_capacity out.old ≤ string_capacity out.new }
-    ensures full { OnErr result (string_capacity out.old < string_len out.old + length ((codes " " ++ bits_text state) ++ frames_text methods.now frames.now)) }
-    ensures front { AddsFront (string_bytes out.old) (string_bytes out.new) ((codes " " ++ bits_text state) ++ frames_text methods.now frames.now) }
+    ensures { Adds result (written out.old) (written out.new) (codes " " ++ (bits_text state ++ frames_text methods.now frames.now)) }
 {
-    put_bits_behind(out, state)?;
+    put_text(out, " ")?;
+    put_bits(out, state)?;
     put_frames(out, methods, frames)
 }
 
 /// Adds a thread's name, its state bits and its frames.
-#[tactic(auto, using(crate::proofs::RoomLaws::lengths, crate::proofs::FrontLaws::fronts))]
 fn put_info(
     out: &mut String,
     threads: &Names,
     methods: &Names,
     info: &StackInfo,
 ) -> Result<(), AllocError>
-    ensures ok { OnOk result (string_bytes out.new ≡ string_bytes out.old ++ info_text threads.now methods.now info.now) }
-    ensures len { OnOk result (string_len out.new ≡ string_len out.old + length (info_text threads.now methods.now info.now)) }
-    ensures room { string_capacity out.old ≤ string_capacity out.new }
-    ensures full { OnErr result (string_capacity out.old < string_len out.old + length (info_text threads.now methods.now info.now)) }
-    ensures front { AddsFront (string_bytes out.old) (string_bytes out.new) (info_text threads.now methods.now info.now) }
+    ensures { Adds result (written out.old) (written out.new) (info_text threads.now methods.now info.now) }
 {
     put_name(out, threads, info.thread.0)?;
     put_look(out, methods, info.state, info.frames.frames())
 }
 
 /// Adds a bar and a stack.
-#[tactic(auto, using(crate::proofs::RoomLaws::lengths, crate::proofs::FrontLaws::fronts))]
 fn put_info_behind(
     out: &mut String,
     threads: &Names,
     methods: &Names,
     info: &StackInfo,
 ) -> Result<(), AllocError>
-    ensures ok { OnOk result (string_bytes out.new ≡ string_bytes out.old ++ (codes " | " ++ info_text threads.now methods.now info.now)) }
-    ensures len { OnOk result (string_len out.new ≡ string_len out.old + length (codes " | " ++ info_text threads.now methods.now info.now)) }
-    ensures room { string_capacity out.old ≤ string_capacity out.new }
-    ensures full { OnErr result (string_capacity out.old < string_len out.old + length (codes " | " ++ info_text threads.now methods.now info.now)) }
-    ensures front { AddsFront (string_bytes out.old) (string_bytes out.new) (codes " | " ++ info_text threads.now methods.now info.now) }
+    ensures { Adds result (written out.old) (written out.new) (codes " | " ++ info_text threads.now methods.now info.now) }
 {
-    out.push_str(" | ")?;
+    put_text(out, " | ")?;
     put_info(out, threads, methods, info)
 }
 
@@ -146,16 +89,31 @@ fn put_infos(
     methods: &Names,
     infos: &[StackInfo],
 ) -> Result<(), AllocError>
-    ensures ok { OnOk result (string_bytes out.new ≡ string_bytes out.old ++ infos_text threads.now methods.now infos.now) }
-    ensures len { OnOk result (string_len out.new ≡ string_len out.old + length (infos_text threads.now methods.now infos.now)) }
-    ensures room { string_capacity out.old ≤ string_capacity out.new }
-    ensures full { OnErr result (string_capacity out.old < string_len out.old + length (infos_text threads.now methods.now infos.now)) }
-    ensures front { AddsFront (string_bytes out.old) (string_bytes out.new) (infos_text threads.now methods.now infos.now) }
+    ensures { Adds result (written out.old) (written out.new) (infos_text threads.now methods.now infos.now) }
 {
     for i in 0..infos.len() {
         put_info_behind(out, threads, methods, &infos[i])?;
     }
     Ok(())
+}
+
+fn put_reply_codes(out: &mut String, numbers: &[u32]) -> Result<(), AllocError>
+    ensures { Adds result (written out.old) (written out.new) (codes "codes" ++ codes_text numbers.now) }
+{
+    put_text(out, "codes")?;
+    put_codes(out, numbers)
+}
+
+fn put_stacks(
+    out: &mut String,
+    threads: &Names,
+    methods: &Names,
+    infos: &[StackInfo],
+) -> Result<(), AllocError>
+    ensures { Adds result (written out.old) (written out.new) (codes "stacks" ++ infos_text threads.now methods.now infos.now) }
+{
+    put_text(out, "stacks")?;
+    put_infos(out, threads, methods, infos)
 }
 
 /// Adds the text of a reply. An answer has the text that it has in a walk. Codes are `codes 0 10`, and stacks are `stacks |
@@ -177,34 +135,23 @@ pub fn reply_text(
 {
     match reply {
         Reply::Plain(answer) => put_answer(out, methods, answer),
-        Reply::Codes(numbers) => {
-            out.push_str("codes")?;
-            put_codes(out, numbers.as_slice())
-        }
-        Reply::Stacks(infos) => {
-            out.push_str("stacks")?;
-            put_infos(out, threads, methods, infos.as_slice())
-        }
+        Reply::Codes(numbers) => put_reply_codes(out, numbers.as_slice()),
+        Reply::Stacks(infos) => put_stacks(out, threads, methods, infos.as_slice()),
     }
 }
 
 /// Adds a space, a reply and a line feed.
-#[tactic(auto, using(crate::proofs::RoomLaws::lengths, crate::proofs::FrontLaws::fronts))]
 fn put_reply_behind(
     out: &mut String,
     threads: &Names,
     methods: &Names,
     reply: &Reply,
 ) -> Result<(), AllocError>
-    ensures ok { OnOk result (string_bytes out.new ≡ string_bytes out.old ++ (codes " " ++ (reply_text threads.now methods.now reply.now ++ codes "\n"))) }
-    ensures len { OnOk result (string_len out.new ≡ string_len out.old + length (codes " " ++ (reply_text threads.now methods.now reply.now ++ codes "\n"))) }
-    ensures room { string_capacity out.old ≤ string_capacity out.new }
-    ensures full { OnErr result (string_capacity out.old < string_len out.old + length (codes " " ++ (reply_text threads.now methods.now reply.now ++ codes "\n"))) }
-    ensures front { AddsFront (string_bytes out.old) (string_bytes out.new) (codes " " ++ (reply_text threads.now methods.now reply.now ++ codes "\n")) }
+    ensures { Adds result (written out.old) (written out.new) (codes " " ++ (reply_text threads.now methods.now reply.now ++ codes "\n")) }
 {
-    out.push_str(" ")?;
+    put_text(out, " ")?;
     reply_text(out, threads, methods, reply)?;
-    out.push_str("\n")
+    put_text(out, "\n")
 }
 
 /// Adds the line of a reply: the agent's name, the call's number from 0, the reply's text, and a line feed. Source: this
@@ -229,17 +176,12 @@ pub fn reply_line(
 }
 
 /// Adds a word, a number and a line feed.
-#[tactic(auto, using(crate::proofs::RoomLaws::lengths, crate::proofs::FrontLaws::fronts))]
 fn put_line_end(out: &mut String, word: &str, number: u64) -> Result<(), AllocError>
-    ensures ok { OnOk result (string_bytes out.new ≡ string_bytes out.old ++ (word.now ++ (decimal number ++ codes "\n"))) }
-    ensures len { OnOk result (string_len out.new ≡ string_len out.old + length (word.now ++ (decimal number ++ codes "\n"))) }
-    ensures room { string_capacity out.old ≤ string_capacity out.new }
-    ensures full { OnErr result (string_capacity out.old < string_len out.old + length (word.now ++ (decimal number ++ codes "\n"))) }
-    ensures front { AddsFront (string_bytes out.old) (string_bytes out.new) (word.now ++ (decimal number ++ codes "\n")) }
+    ensures { Adds result (written out.old) (written out.new) (word.now ++ (decimal number ++ codes "\n")) }
 {
-    out.push_str(word)?;
+    put_text(out, word)?;
     put_number(out, number)?;
-    out.push_str("\n")
+    put_text(out, "\n")
 }
 
 /// Adds the line of a refused operation: the thread's name, the operation's number from 0, `error`, the error's number, and
@@ -298,7 +240,6 @@ pub fn replies_text(
 }
 
 /// Adds the lines of the replies of the agent of this number.
-#[tactic(auto, using(crate::proofs::RoomLaws::lengths, crate::proofs::FrontLaws::fronts))]
 fn put_agent(
     out: &mut String,
     threads: &Names,
@@ -307,11 +248,7 @@ fn put_agent(
     number: u32,
     replies: &Listed<Reply>,
 ) -> Result<(), AllocError>
-    ensures ok { OnOk result (string_bytes out.new ≡ string_bytes out.old ++ replies_text threads.now methods.now (name_text agents.now number) 0 replies.now) }
-    ensures len { OnOk result (string_len out.new ≡ string_len out.old + length (replies_text threads.now methods.now (name_text agents.now number) 0 replies.now)) }
-    ensures room { string_capacity out.old ≤ string_capacity out.new }
-    ensures full { OnErr result (string_capacity out.old < string_len out.old + length (replies_text threads.now methods.now (name_text agents.now number) 0 replies.now)) }
-    ensures front { AddsFront (string_bytes out.old) (string_bytes out.new) (replies_text threads.now methods.now (name_text agents.now number) 0 replies.now) }
+    ensures { Adds result (written out.old) (written out.new) (replies_text threads.now methods.now (name_text agents.now number) 0 replies.now) }
 {
     let agent = agents.name(number).unwrap_or("");
     replies_text(out, threads, methods, agent, replies.as_slice())
@@ -341,11 +278,7 @@ pub fn agents_text(
 
 /// Adds the lines of a thread's refused operations.
 fn refusals_text(out: &mut String, thread: &str, refused: &[Refusal]) -> Result<(), AllocError>
-    ensures ok { OnOk result (string_bytes out.new ≡ string_bytes out.old ++ refusals_text thread.now refused.now) }
-    ensures len { OnOk result (string_len out.new ≡ string_len out.old + length (refusals_text thread.now refused.now)) }
-    ensures room { string_capacity out.old ≤ string_capacity out.new }
-    ensures full { OnErr result (string_capacity out.old < string_len out.old + length (refusals_text thread.now refused.now)) }
-    ensures front { AddsFront (string_bytes out.old) (string_bytes out.new) (refusals_text thread.now refused.now) }
+    ensures { Adds result (written out.old) (written out.new) (refusals_text thread.now refused.now) }
 {
     for i in 0..refused.len() {
         refusal_line(out, thread, refused[i])?;
@@ -373,5 +306,5 @@ pub fn thread_text(
 
 ghost use Rattle.std.specs.Prelude.{◌≡◌, ◌++◌, ◌+◌, ◌≤◌, ◌<◌, codes, length, decimal, string_bytes, OnOk, OnErr};
 ghost use Rattle.std.specs.String.{string_len, string_capacity};
-ghost use Rattle.ti_script.specs.Texts.{bits_text, frames_text, AddsFront};
+ghost use Rattle.ti_script.specs.Texts.{bits_text, frames_text, written, Adds, AddsFront};
 ghost use Rattle.ti_script.specs.LiveTexts.{name_text, numbered_text, codes_text, infos_text, info_text, reply_text, replies_text, agents_text, reply_line, refusal_line, refusals_text, verdict_line, thread_text};

@@ -3,6 +3,7 @@
 use crate::item::Item;
 use crate::located::LocatedFault;
 use crate::names::Cast;
+use crate::said::Said;
 use crate::thread_event::thread_event;
 use crate::tree::array_in;
 use serde_json::Value;
@@ -24,7 +25,7 @@ pub(crate) fn operation_in(
     let Some(word) = word.as_str() else {
         return Err(item.word().shape());
     };
-    thread_event(cast, item, thread, word, rest)
+    thread_event(&Said::new(cast, item, word, rest), thread)
 }
 
 ghost use Rattle.std.specs.Prelude.{◌≡◌};

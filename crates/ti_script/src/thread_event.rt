@@ -4,111 +4,83 @@ use crate::element::{kind_in, method_in, number_in};
 use crate::item::Item;
 use crate::located::LocatedFault;
 use crate::names::Cast;
+use crate::said::Said;
 use serde_json::Value;
 use ti_types::{Event, Step, ThreadNo};
 
 /// An event with nothing after its word.
-pub(crate) fn plain_event(
-    cast: &Cast,
-    item: Item,
-    event: Event,
-    rest: &[Value],
-) -> Result<Event, LocatedFault>
-    ensures { result ≡ row_event cast.now item (map view rest.now) (row [] event) }
+pub(crate) fn plain_event(said: &Said<'_>, event: Event) -> Result<Event, LocatedFault>
+    ensures { result ≡ row_event said.now.cast.now said.now.item (map view said.now.rest.now) (row [] event) }
 {
-    let _ = cast;
-    match rest {
+    match said.rest {
         [] => Ok(event),
-        _ => Err(item.shape()),
+        _ => Err(said.item.shape()),
     }
 }
 
-fn enter_event(
-    cast: &Cast,
-    item: Item,
-    thread: ThreadNo,
-    rest: &[Value],
-) -> Result<Event, LocatedFault>
-    ensures { result ≡ row_event cast.now item (map view rest.now) (row (method ∷ []) (λ m. Own thread (Enter m))) }
+fn enter_event(said: &Said<'_>, thread: ThreadNo) -> Result<Event, LocatedFault>
+    ensures { result ≡ row_event said.now.cast.now said.now.item (map view said.now.rest.now) (row (method ∷ []) (λ m. Own thread (Enter m))) }
 {
-    match rest {
+    match said.rest {
         [method] => Ok(Event::Own(
             thread,
-            Step::Enter(method_in(cast, item.behind_word(1), method)?),
+            Step::Enter(method_in(said.cast, said.item.behind_word(1), method)?),
         )),
-        _ => Err(item.shape()),
+        _ => Err(said.item.shape()),
     }
 }
 
-fn enter_native_event(
-    cast: &Cast,
-    item: Item,
-    thread: ThreadNo,
-    rest: &[Value],
-) -> Result<Event, LocatedFault>
-    ensures { result ≡ row_event cast.now item (map view rest.now) (row (method ∷ []) (λ m. Own thread (EnterNative m))) }
+fn enter_native_event(said: &Said<'_>, thread: ThreadNo) -> Result<Event, LocatedFault>
+    ensures { result ≡ row_event said.now.cast.now said.now.item (map view said.now.rest.now) (row (method ∷ []) (λ m. Own thread (EnterNative m))) }
 {
-    match rest {
+    match said.rest {
         [method] => {
             Ok(Event::Own(
                 thread,
-                Step::EnterNative(method_in(cast, item.behind_word(1), method)?),
+                Step::EnterNative(method_in(said.cast, said.item.behind_word(1), method)?),
             ))
         },
-        _ => Err(item.shape()),
+        _ => Err(said.item.shape()),
     }
 }
 
-fn at_event(
-    cast: &Cast,
-    item: Item,
-    thread: ThreadNo,
-    rest: &[Value],
-) -> Result<Event, LocatedFault>
-    ensures { result ≡ row_event cast.now item (map view rest.now) (row (number ∷ []) (λ p. Own thread (At p))) }
+fn at_event(said: &Said<'_>, thread: ThreadNo) -> Result<Event, LocatedFault>
+    ensures { result ≡ row_event said.now.cast.now said.now.item (map view said.now.rest.now) (row (number ∷ []) (λ p. Own thread (At p))) }
 {
-    match rest {
-        [place] => Ok(Event::Own(thread, Step::At(number_in(item.behind_word(1), place)?))),
-        _ => Err(item.shape()),
+    match said.rest {
+        [place] => Ok(Event::Own(
+            thread,
+            Step::At(number_in(said.item.behind_word(1), place)?),
+        )),
+        _ => Err(said.item.shape()),
     }
 }
 
-fn block_event(
-    cast: &Cast,
-    item: Item,
-    thread: ThreadNo,
-    rest: &[Value],
-) -> Result<Event, LocatedFault>
-    ensures { result ≡ row_event cast.now item (map view rest.now) (row (kind ∷ []) (λ k. ToBlocked thread k)) }
+fn block_event(said: &Said<'_>, thread: ThreadNo) -> Result<Event, LocatedFault>
+    ensures { result ≡ row_event said.now.cast.now said.now.item (map view said.now.rest.now) (row (kind ∷ []) (λ k. ToBlocked thread k)) }
 {
-    match rest {
-        [kind] => Ok(Event::ToBlocked(thread, kind_in(cast, item.behind_word(1), kind)?)),
-        _ => Err(item.shape()),
+    match said.rest {
+        [kind] => Ok(Event::ToBlocked(thread, kind_in(said.cast, said.item.behind_word(1), kind)?)),
+        _ => Err(said.item.shape()),
     }
 }
 
 /// The event of a thread's word. `Shape` if a thread has no such word.
-pub(crate) fn thread_event(
-    cast: &Cast,
-    item: Item,
-    thread: ThreadNo,
-    text: &str,
-    rest: &[Value],
-) -> Result<Event, LocatedFault>
-    ensures { result ≡ word_event cast.now item (thread_table thread) text.now (map view rest.now) }
+pub(crate) fn thread_event(said: &Said<'_>, thread: ThreadNo) -> Result<Event, LocatedFault>
+    ensures { result ≡ word_event said.now.cast.now said.now.item (thread_table thread) said.now.word.now (map view said.now.rest.now) }
 {
-    match text {
-        "start" => plain_event(cast, item, Event::Start(thread), rest),
-        "enter" => enter_event(cast, item, thread, rest),
-        "enter_native" => enter_native_event(cast, item, thread, rest),
-        "at" => at_event(cast, item, thread, rest),
-        "leave" => plain_event(cast, item, Event::Own(thread, Step::Leave), rest),
-        "poll" => plain_event(cast, item, Event::Poll(thread), rest),
-        "native" => plain_event(cast, item, Event::ToNative(thread), rest),
-        "block" => block_event(cast, item, thread, rest),
-        "back" => plain_event(cast, item, Event::Back(thread), rest),
-        "end" => plain_event(cast, item, Event::End(thread), rest),
-        _ => Err(item.word().shape()),
+    match said.word {
+        "start" => plain_event(said, Event::Start(thread)),
+        "enter" => enter_event(said, thread),
+        "enter_native" => enter_native_event(said, thread),
+        "at" => at_event(said, thread),
+        "leave" => plain_event(said, Event::Own(thread, Step::Leave)),
+        "poll" => plain_event(said, Event::Poll(thread)),
+        "native" => plain_event(said, Event::ToNative(thread)),
+        "block" => block_event(said, thread),
+        "back" => plain_event(said, Event::Back(thread)),
+        "end" => plain_event(said, Event::End(thread)),
+        _ => Err(said.item.word().shape()),
     }
 }
 

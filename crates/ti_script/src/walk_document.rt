@@ -9,7 +9,6 @@ use crate::tree::{array_in, drop_tree, has_exactly, tree_of, wrong_member};
 use crate::walk::{EventList, Walk};
 use serde_json::Value;
 use std::alloc::Global;
-use ti_types::Limits;
 
 /// Tests that the document is an object with exactly these members. `Shape` of item 0 if it is not.
 pub(crate) fn check_members(value: &Value, members: &[MemberName]) -> Result<(), LocatedFault>
@@ -156,24 +155,11 @@ fn walk_in(alloc: Global, value: &Value) -> Result<Walk, LocatedFault>
     let cast = cast_in(alloc, value)?;
     let items = items_at(value, MemberName::Events, LimitName::Events, 65536)?;
     let events = events_in(alloc, &cast, items)?;
-    let Cast {
-        threads,
-        agents,
-        methods,
-    } = cast;
-    let limits = Limits::new(
-        threads.len() as u32,
-        agents.len() as u32,
-        bounds.depth,
-        bounds.own,
-        bounds.calls,
-    )
-    .unwrap();
     Ok(Walk {
-        limits,
-        threads,
-        agents,
-        methods,
+        limits: bounds.limits(&cast),
+        threads: cast.threads,
+        agents: cast.agents,
+        methods: cast.methods,
         events,
     })
 }
@@ -201,10 +187,7 @@ pub fn read_walk(alloc: Global, bytes: &[u8]) -> Result<Walk, ScriptFault>
     ensures ok { IfOk result (λ w. (d : Data) × IsDocument bytes.now d × (walk_fault d ≡ None) × IsWalk d w) }
     ensures err { IfErr result (λ e. IsRefusal e bytes.now) }
 {
-    match locate_walk(alloc, bytes) {
-        Ok(walk) => Ok(walk),
-        Err(fault) => Err(fault.without_part()),
-    }
+    locate_walk(alloc, bytes).map_err(|fault: LocatedFault| fault.without_part())
 }
 
 ghost use Rattle.std.specs.Prelude.{◌≡◌, ◌≤◌, ◌++◌, ◌∷◌, [], length, map, codes, None, IfOk, IfErr, MatchResult};

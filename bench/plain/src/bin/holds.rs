@@ -1,5 +1,5 @@
-//! The plain counterpart of `tiholds`: threads lock a std `Mutex` round a thread's structure, each 1,024 times in each of
-//! 256 rounds, and set their word at each lock. `holds HOW`, with HOW as in `tiholds`: `one`, `two` or `four` threads at one
+//! The plain counterpart of `tibench cells`: threads lock a std `Mutex` round a thread's structure, each 1,024 times in each of
+//! 256 rounds, and set their word at each lock. `holds HOW`, with HOW as in `tibench cells`: `one`, `two` or `four` threads at one
 //! structure, or `apart`, four threads at one each. `bench/cells.py` times both.
 #[allow(dead_code)]
 #[path = "../thread.rs"]

@@ -1,8 +1,8 @@
-use Rattle.std.proofs.Common.{drop, string_bytes}
-use Rattle.std.specs.String.{string_len, string_capacity}
+use Rattle.std.proofs.Common.{drop}
+use Rattle.ti_script.specs.Texts.{written}
 use Rattle.ti_script.specs.LiveTexts.{infos_text}
 use Rattle.ti_script.proofs.LiveTextLaws.{Goes}
 use Rattle.ti_script.proofs.live_text.put_infos.Given as goal
 
 abbrev pub invariant-loop-i : goal.invariant-loop-i
-invariant-loop-i l = Goes (record { bytes = string_bytes l.fn.out; len = string_len l.fn.out; room = string_capacity l.fn.out }) (record { bytes = string_bytes l.out; len = string_len l.out; room = string_capacity l.out }) (infos_text l.threads l.methods (drop l.i l.infos)) (infos_text l.threads l.methods l.infos)
+invariant-loop-i l = Goes (written l.fn.out) (written l.out) (infos_text l.threads l.methods (drop l.i l.infos)) (infos_text l.threads l.methods l.infos)

@@ -1,7 +1,8 @@
 use Rattle.std.proofs.Common.{◌≡◌, ◌+◌, ◌++◌, [], refl, drop, arith, rules, string_bytes}
 use Rattle.std.specs.String.{string_len, string_capacity}
 use Rattle.ti_script.specs.LiveTexts.{replies_text, reply_line}
-use Rattle.ti_script.proofs.LiveTextLaws.{Written, goes_first, goes_more, no_room, front_of_part, next_text, done_text, done_len, done_front, none_left}
+use Rattle.ti_script.specs.Texts.{Written}
+use Rattle.ti_script.proofs.LiveTextLaws.{goes_first, goes_more, no_room, front_of_part, next_text, done_text, done_len, done_front, none_left}
 use Rattle.ti_script.proofs.live_text.replies_text.Goals as goal
 
 pub loop-i-init : goal.loop-i-init

@@ -1,17 +1,21 @@
-use Rattle.std.proofs.Common.{◌≤◌, ◌<◌, ◌^◌, append_assoc, arith, string_bytes, false}
-use Rattle.std.specs.Fmt.{digits}
+use Rattle.std.proofs.Common.{◌≤◌, ◌<◌, ◌^◌, ◌/◌, ◌%◌, ◌∷◌, [], arith, false, subst, sym}
+use Rattle.std.specs.Fmt.{digits, digit_glyph}
+use Rattle.ti_script.specs.Texts.{Adds, written}
 use Rattle.ti_script.proofs.RoomLaws.{more_digits}
-use Rattle.ti_script.proofs.FrontLaws.{front_whole}
+use Rattle.ti_script.proofs.LiveTextLaws.{adds_more, adds_part}
 use Rattle.ti_script.proofs.text.+put_hexadecimal.Goals as goal
 
-pub returns-clause-ok : goal.returns-clause-ok
-returns-clause-ok t c =
+pub returns-in_err-put_hexadecimal : goal.returns-in_err-put_hexadecimal
+returns-in_err-put_hexadecimal t c =
     let large : 16 ≤ c.args.number = omega arith in
     let small : c.args.number < 2 ^ 32 = omega arith in
-    let digits = more_digits c.args.number large small in
-    let added = c.in_ok-push_str.ensures.bytes in
-    let front = c.in_ok-put_hexadecimal.ensures.ok in
-    rw (added, c.hexadecimal_digit-2.ensures, front, digits) (simp append_assoc)
+    subst (λ x. Adds c.from_residual.result (written c.args.out.now) (written c.put_hexadecimal.new.out) x) (sym (more_digits c.args.number large small))
+    (adds_part c.from_residual.result c.from_residual.ensures.0 (written c.args.out.now) (written c.put_hexadecimal.new.out) (digits 16 false (c.args.number / 16)) (digit_glyph false (c.args.number % 16) ∷ []) c.in_err-put_hexadecimal.ensures)
 
-pub returns-clause-front : goal.returns-clause-front
-returns-clause-front t c = front_whole (string_bytes c.args.out.now) (string_bytes c.push_str-2.new.self) (digits 16 false c.args.number) (returns-clause-ok t c)
+pub returns : goal.returns
+returns t c =
+    let large : 16 ≤ c.args.number = omega arith in
+    let small : c.args.number < 2 ^ 32 = omega arith in
+    let last = subst (λ x. Adds c.put_text-2.result (written c.put_hexadecimal.new.out) (written c.put_text-2.new.out) x) c.hexadecimal_digit-2.ensures c.put_text-2.ensures in
+    subst (λ x. Adds c.put_text-2.result (written c.args.out.now) (written c.put_text-2.new.out) x) (sym (more_digits c.args.number large small))
+    (adds_more c.put_text-2.result (written c.args.out.now) (written c.put_hexadecimal.new.out) (written c.put_text-2.new.out) (digits 16 false (c.args.number / 16)) (digit_glyph false (c.args.number % 16) ∷ []) c.in_ok-put_hexadecimal.ensures last)
