@@ -27,7 +27,6 @@ test:
 	python3 ci/examples.py --tested
 	python3 ci/cases.py --covered
 	python3 ci/schemas.py
-	sh ci/must_not_compile.sh
 	python3 ci/doc_examples.py
 	python3 ci/gate.py
 

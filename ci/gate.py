@@ -1,8 +1,9 @@
 #!/usr/bin/env python3
 """Runs the tests that need no proof (`ci/unproved_tests.py`), the benchmark with small numbers (`bench/tibench.py`), and `rt ci`.
 Then, on the programs that `rt ci` has built, each case (`ci/cases.py`) and runs with an allocation refused
-(`ci/refused_memory.py`). Then the C programs over the library, the library as it is installed (`tests/install`), and what the
-pages show (`ci/snippets.py`).
+(`ci/refused_memory.py`). Then, over the libraries that `rt ci` has proved, what the compiler must refuse
+(`ci/must_not_compile.sh`), the C programs, the library as it is installed (`tests/install`), and what the pages show
+(`ci/snippets.py`).
 
 `rt ci` leaves `tiwalk` and `tilint` in their crates' `out/` as LLVM builds them, and, where Rattle's own compiler took them, as
 that builds them. It builds no static library, so `ci/lib.py` does that, over the libraries that were proved. The output of `rt ci` is passed
@@ -28,13 +29,14 @@ LINT = "crates/tilint/out/tilint"
 
 
 def counts_of(*command):
-    """How many passed and failed of what a command tries, and its status. It prints all but the counts, its last line."""
+    """How many passed and failed, or were refused and not, of what a command tries, and its status. It prints all but the counts,
+    its last line."""
     last = ""
     with subprocess.Popen(command, stdout=subprocess.PIPE, text=True, errors="replace") as started:
         for line in started.stdout:
             print(last, end="", flush=True)
             last = line
-    counts = re.fullmatch(r"(\d+) passed, (\d+) failed\n", last)
+    counts = re.fullmatch(r"(\d+) (?:passed|refused), (\d+) (?:failed|not)\n", last)
     if not counts:
         print(last, end="")
         return 0, 1, started.returncode
@@ -58,7 +60,6 @@ def try_library():
     if not has_compiler():
         print("there is no C compiler: the C programs are not tried")
         return 0, 0, 0
-    proved_libraries.note(lib.CRATE, lib.TOP)
     if subprocess.run([sys.executable, "ci/lib.py"]).returncode:
         print("the library for C was not built")
         return 0, 1, 1
@@ -85,6 +86,10 @@ def main():
     print(f"refused allocations: {well} passed, {ill} failed")
     passed, failed = passed + well, failed + ill
     if not status:
+        proved_libraries.note(lib.CRATE, lib.TOP)
+        well, ill, _ = counts_of("sh", "ci/must_not_compile.sh")
+        print(f"what the compiler must refuse: {well} passed, {ill} failed", flush=True)
+        passed, failed = passed + well, failed + ill
         well, ill, status = try_library()
         print(f"C programs: {well} passed, {ill} failed")
         passed, failed = passed + well, failed + ill

@@ -9,8 +9,8 @@
 #     error: NAME             the error that the compiler then gives, as borrow-e0382
 #
 # Each is applied to a copy of the tree, and `rt check` of the crate has to fail there with that error. The copy takes
-# over what is built of the other crates, and nothing of the crate itself. The last line is 'N refused, M not', and the
-# status is 0 exactly where M is 0.
+# over what is built of the other crates, and nothing of the crate itself. So the gate runs this behind `rt ci`: before it, each
+# copy would prove the crates below. The last line is 'N refused, M not', and the status is 0 exactly where M is 0.
 set -u
 
 refused=0
