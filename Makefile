@@ -82,16 +82,18 @@ BINDIR ?= $(PREFIX)/bin
 LIBDIR ?= $(PREFIX)/lib
 INCLUDEDIR ?= $(PREFIX)/include
 MANDIR ?= $(PREFIX)/share/man
+SHAREDIR ?= $(PREFIX)/share/cebdyraq
 PROGRAMS = $(wildcard $(foreach name,tiwalk tilint tiprof,crates/$(name)/out/$(name)) hosts/lua/out/cqlua)
 INSTALLED = $(BINDIR)/tiwalk $(BINDIR)/tilint $(BINDIR)/tiprof $(BINDIR)/cqlua $(MANDIR)/man3/cebdyraq.3 \
 	$(LIBDIR)/libcebdyraq.a $(LIBDIR)/libcebdyraq.so $(LIBDIR)/libcebdyraq.so.1 $(LIBDIR)/libcebdyraq.so.1.* \
-	$(LIBDIR)/pkgconfig/cebdyraq.pc $(INCLUDEDIR)/cebdyraq.h $(INCLUDEDIR)/cebdyraq.hpp $(INCLUDEDIR)/cebdyraq_wait.h
+	$(SHAREDIR)/tsan.supp $(LIBDIR)/pkgconfig/cebdyraq.pc $(INCLUDEDIR)/cebdyraq.h $(INCLUDEDIR)/cebdyraq.hpp $(INCLUDEDIR)/cebdyraq_wait.h
 
 install:
 	@test -f dist/lib/libcebdyraq.a || { echo "there is nothing to install: make lib builds it" >&2; exit 1; }
-	install -d $(addprefix $(DESTDIR),$(LIBDIR)/pkgconfig $(INCLUDEDIR) $(MANDIR)/man3)
+	install -d $(addprefix $(DESTDIR),$(LIBDIR)/pkgconfig $(INCLUDEDIR) $(MANDIR)/man3 $(SHAREDIR))
 	install -m 644 dist/include/* $(DESTDIR)$(INCLUDEDIR)
 	install -m 644 dist/share/man/man3/cebdyraq.3 $(DESTDIR)$(MANDIR)/man3
+	install -m 644 dist/share/cebdyraq/tsan.supp $(DESTDIR)$(SHAREDIR)
 	cp -Pf --preserve=mode dist/lib/libcebdyraq.* $(DESTDIR)$(LIBDIR)
 	sed -e 's|^prefix=.*|prefix=$(PREFIX)|' -e 's|^libdir=.*|libdir=$(LIBDIR)|' -e 's|^includedir=.*|includedir=$(INCLUDEDIR)|' \
 		-e 's| -Wl,-rpath,[^ ]*||' dist/lib/pkgconfig/cebdyraq.pc | install -m 644 /dev/stdin $(DESTDIR)$(LIBDIR)/pkgconfig/cebdyraq.pc

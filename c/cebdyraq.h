@@ -39,6 +39,29 @@
  * - No pointer is NULL, not even one to no frames. Each leads to memory of the size that is given, which no other argument
  *   of the call leads to.
  * - No function is called from a signal handler, or in the child of a fork from a process with threads.
+ *
+ * MEMORY OF THE RUNTIME
+ *
+ * At one thread, these have one order: its hand-overs, its cq_start and cq_back, and the calls of environments that reach it.
+ * Each comes after the earlier ones as a C11 acquire comes after a release, for all memory of the process. So:
+ *
+ * - What a thread wrote before it handed over may be read once a call at it is answered that took place then or later.
+ * - A suspended thread that is held at its poll (CQ_HELD) does nothing until its cq_back. Its memory may be read and written
+ *   after the suspension is answered and before the thread is resumed. It finds what was written once its cq_back is done.
+ * - A thread that was suspended in native code, or while it is blocked, goes on with that until its cq_back. Only what it wrote
+ *   before it went there is ordered.
+ * - A poll to which nobody calls, and cq_poll_clear, order nothing.
+ *
+ * LIMITS
+ *
+ *   threads attached to a service in its life       2^32 - 1. No number is used again
+ *   threads that an environment has met at once     65,536. One that it has let go of does not count
+ *   environments of a service at once               `envs` of cq_make, at most 32
+ *   frames of a thread                              `depth` of cq_make, at most 65,536
+ *   calls of an environment that are out at a thread  `window` of cq_make, at most 1,024
+ *   steps of a thread                               2^59
+ *   calls of an environment at a thread             2^52
+ *   events that a service keeps                     4,096
  */
 #ifndef CEBDYRAQ_H
 #define CEBDYRAQ_H
@@ -46,6 +69,13 @@
 #include <stdbool.h>
 #include <stddef.h>
 #include <stdint.h>
+
+/* The code is to be looked at. */
+#ifdef __GNUC__
+#define CQ_MUST_USE __attribute__((warn_unused_result))
+#else
+#define CQ_MUST_USE
+#endif
 
 #ifdef __cplusplus
 extern "C" {
@@ -57,7 +87,7 @@ extern "C" {
 
 /* The version of this header. */
 #define CQ_VERSION_MAJOR 1
-#define CQ_VERSION_MINOR 0
+#define CQ_VERSION_MINOR 1
 #define CQ_VERSION_PATCH 0
 
 /* The version of the library that the program runs with, as major * 1,000,000 + minor * 1,000 + patch. */
@@ -184,7 +214,7 @@ typedef struct { uint32_t thread; uint32_t state; uint64_t frame_count; } cq_sta
  *
  *   CQ_MISUSED 304  the library has taken memory before */
 uint32_t cq_set_heap(void *(*allocate)(size_t size), void *(*resize)(void *block, size_t size),
-                     void (*release)(void *block));
+                     void (*release)(void *block)) CQ_MUST_USE;
 
 /* ------------------------------------------------------------------------------------------------------------------
  * The service. It lives as long as a handle of it, a thread or an environment.
@@ -199,14 +229,14 @@ uint32_t cq_set_heap(void *(*allocate)(size_t size), void *(*resize)(void *block
  *   CQ_MISUSED 304           `service` is not empty
  *   CQ_ILLEGAL_ARGUMENT 103  a number is out of its range
  *   CQ_OUT_OF_MEMORY 110     there is no memory for a service */
-uint32_t cq_make(uint32_t depth, uint32_t envs, uint32_t window, cq_service *service);
+uint32_t cq_make(uint32_t depth, uint32_t envs, uint32_t window, cq_service *service) CQ_MUST_USE;
 
 /* Fills `other` with one more handle of the same service, for another thread of the operating system.
  *
  *   CQ_MISUSED 304        also if `other` is not empty
  *   CQ_OUT_OF_MEMORY 110  there is no memory for a handle
  *   CQ_FULL 216           there are 2^63 handles of the service */
-uint32_t cq_share(cq_service *service, cq_service *other);
+uint32_t cq_share(cq_service *service, cq_service *other) CQ_MUST_USE;
 
 /* Frees a handle of the service, and empties it. */
 uint32_t cq_free(cq_service *service);
@@ -222,7 +252,8 @@ uint32_t cq_free(cq_service *service);
  *   CQ_OUT_OF_MEMORY 110     there is no memory for a thread
  *   CQ_FULL 216              2^32 - 1 threads were attached, or threads and environments have come and gone 2^62 - 1 times
  *   CQ_BUSY 215              the list of threads is in use */
-uint32_t cq_attach_thread(cq_service *service, const uint8_t *name, size_t length, int32_t priority, cq_thread *thread);
+uint32_t cq_attach_thread(cq_service *service, const uint8_t *name, size_t length, int32_t priority,
+                          cq_thread *thread) CQ_MUST_USE;
 
 /* Attaches an environment, and fills the handle `env`. The environment has no capability, the word 0, and has met no thread.
  *
@@ -230,7 +261,7 @@ uint32_t cq_attach_thread(cq_service *service, const uint8_t *name, size_t lengt
  *   CQ_OUT_OF_MEMORY 110  there is no memory for an environment
  *   CQ_FULL 216           `envs` environments are attached, or threads and environments have come and gone 2^62 - 1 times
  *   CQ_BUSY 215           the list of threads is in use */
-uint32_t cq_attach_environment(cq_service *service, cq_env *env);
+uint32_t cq_attach_environment(cq_service *service, cq_env *env) CQ_MUST_USE;
 
 /* ------------------------------------------------------------------------------------------------------------------
  * A thread of the runtime. Its handle is used by the thread itself.
@@ -244,17 +275,17 @@ uint32_t cq_thread_number(cq_thread *thread, uint32_t *number);
  *   CQ_NOT_NEW 210  the thread has started before
  *   CQ_BARRED 206   a trace has stopped the thread: call again later
  *   CQ_BUSY 215     an environment uses the thread */
-uint32_t cq_start(cq_thread *thread);
+uint32_t cq_start(cq_thread *thread) CQ_MUST_USE;
 
 /* Enters a method, at location 0. The method is any number of the runtime's.
  *
  *   CQ_NOT_RUNNING 204  the thread does not run
  *   CQ_OVERFLOW 201     the thread has as many frames as the service's depth
  *   CQ_OWN_SPENT 208    the thread has spent its 2^59 steps */
-uint32_t cq_enter(cq_thread *thread, uint32_t method);
+uint32_t cq_enter(cq_thread *thread, uint32_t method) CQ_MUST_USE;
 
 /* Enters a native method, whose frame has the location -1. The codes are those of cq_enter. */
-uint32_t cq_enter_native(cq_thread *thread, uint32_t method);
+uint32_t cq_enter_native(cq_thread *thread, uint32_t method) CQ_MUST_USE;
 
 /* Moves the newest frame to a location, 0 to 2^32 - 1.
  *
@@ -262,14 +293,14 @@ uint32_t cq_enter_native(cq_thread *thread, uint32_t method);
  *   CQ_NO_FRAME 202        there is no frame
  *   CQ_NOT_JAVA_FRAME 203  the newest frame is native
  *   CQ_OWN_SPENT 208       the thread has spent its 2^59 steps */
-uint32_t cq_at(cq_thread *thread, uint32_t location);
+uint32_t cq_at(cq_thread *thread, uint32_t location) CQ_MUST_USE;
 
 /* Leaves the newest frame.
  *
  *   CQ_NOT_RUNNING 204  the thread does not run
  *   CQ_NO_FRAME 202     there is no frame
  *   CQ_OWN_SPENT 208    the thread has spent its 2^59 steps */
-uint32_t cq_leave(cq_thread *thread);
+uint32_t cq_leave(cq_thread *thread) CQ_MUST_USE;
 
 /* Replaces all frames of the thread by these `count` frames, newest first. It is for a runtime that keeps a stack of its own,
  * and gives it only before the thread hands over. It costs a step for each frame that differs, and a look at each that stays.
@@ -279,7 +310,7 @@ uint32_t cq_leave(cq_thread *thread);
  *   CQ_ILLEGAL_ARGUMENT 103  a location is below -1 or above 2^32 - 1
  *   CQ_OVERFLOW 201          there are more frames than the service's depth
  *   CQ_OWN_SPENT 208         the thread has spent its 2^59 steps */
-uint32_t cq_set_frames(cq_thread *thread, const cq_frame *frames, size_t count);
+uint32_t cq_set_frames(cq_thread *thread, const cq_frame *frames, size_t count) CQ_MUST_USE;
 
 /* Whether nobody calls for the thread (JEP 312). It is one load. It is also true of a thread that does not run, and of a
  * handle that is misused. */
@@ -291,7 +322,7 @@ bool cq_poll_clear(cq_thread *thread);
  *   CQ_HELD 301         the thread has handed over and is suspended or stopped. It returns by cq_back
  *   CQ_NOT_RUNNING 204  the thread does not run
  *   CQ_BUSY 215         an environment uses the thread */
-uint32_t cq_poll(cq_thread *thread);
+uint32_t cq_poll(cq_thread *thread) CQ_MUST_USE;
 
 /* Goes into native code. The calls that wait take place, and later ones take place at once, until cq_back.
  *
@@ -299,7 +330,7 @@ uint32_t cq_poll(cq_thread *thread);
  *   CQ_BUSY 215             an environment uses the thread
  *   CQ_NO_NATIVE_FRAME 207  the newest frame is not native, or there is none
  *   CQ_OWN_SPENT 208        the thread has spent its 2^59 steps */
-uint32_t cq_native(cq_thread *thread);
+uint32_t cq_native(cq_thread *thread) CQ_MUST_USE;
 
 /* Blocks, for a reason from CQ_MONITOR_ENTER to CQ_TIMED_PARK. The calls that wait take place, and later ones take place at
  * once, until cq_back.
@@ -308,20 +339,20 @@ uint32_t cq_native(cq_thread *thread);
  *   CQ_NOT_RUNNING 204       the thread does not run
  *   CQ_BUSY 215              an environment uses the thread
  *   CQ_OWN_SPENT 208         the thread has spent its 2^59 steps */
-uint32_t cq_block(cq_thread *thread, uint32_t reason);
+uint32_t cq_block(cq_thread *thread, uint32_t reason) CQ_MUST_USE;
 
 /* Returns from native code, a block, or a poll at which the thread was held. The thread runs.
  *
  *   CQ_NOT_SAFE 205  the thread is none of these
  *   CQ_BARRED 206    the thread is suspended or stopped: call again later
  *   CQ_BUSY 215      an environment uses the thread */
-uint32_t cq_back(cq_thread *thread);
+uint32_t cq_back(cq_thread *thread) CQ_MUST_USE;
 
 /* Ends the thread. The calls that wait for it take place, at a thread that is no longer alive.
  *
  *   CQ_NOT_RUNNING 204  the thread does not run
  *   CQ_BUSY 215         an environment uses the thread */
-uint32_t cq_end(cq_thread *thread);
+uint32_t cq_end(cq_thread *thread) CQ_MUST_USE;
 
 /* Gives a thread back that has ended or never started, and empties its handle. The thread's memory is freed once each
  * environment that has met it has let go of it.
@@ -329,7 +360,7 @@ uint32_t cq_end(cq_thread *thread);
  *   CQ_MISUSED 304  also if the thread is alive
  *   CQ_FULL 216     threads and environments have come and gone 2^62 - 1 times
  *   CQ_BUSY 215     the list of threads is in use */
-uint32_t cq_detach_thread(cq_thread *thread);
+uint32_t cq_detach_thread(cq_thread *thread) CQ_MUST_USE;
 
 /* ------------------------------------------------------------------------------------------------------------------
  * An agent's environment, and the list of threads.
@@ -344,7 +375,7 @@ uint32_t cq_detach_thread(cq_thread *thread);
  *   CQ_FULL 216              it has met 65,536 threads that it has not let go of, or threads and environments have come and
  *                            gone 2^62 - 1 times
  *   CQ_BUSY 215              the list of threads is in use */
-uint32_t cq_meet(cq_env *env);
+uint32_t cq_meet(cq_env *env) CQ_MUST_USE;
 
 /* Whether threads or environments have come or gone, or another environment has met threads, since the environment last
  * looked at the list. It is one load. It is false of a handle that is misused. An environment that was just attached has
@@ -352,7 +383,8 @@ uint32_t cq_meet(cq_env *env);
 bool cq_has_news(cq_env *env);
 
 /* Lets go of a thread that was given back, so that its memory can be freed, and writes to `gone` whether it did. It does not
- * while the thread is there or a call is out at it, and not if it was let go of before.
+ * while the thread is there or a call is out at it, and not if it was let go of before. The environment's word at the thread is
+ * gone then, and a call there is CQ_THREAD_NOT_ALIVE 15. What traces have gathered stays.
  *
  *   CQ_BUSY 215  the list of threads is in use */
 uint32_t cq_let_go(cq_env *env, uint32_t thread, bool *gone);
@@ -362,7 +394,7 @@ uint32_t cq_let_go(cq_env *env, uint32_t thread, bool *gone);
  *
  *   CQ_OUT_OF_MEMORY 110  there is no memory for the list
  *   CQ_BUSY 215           the list of threads is in use */
-uint32_t cq_get_all_threads(cq_env *env, uint32_t *threads, size_t room, uint64_t *count);
+uint32_t cq_get_all_threads(cq_env *env, uint32_t *threads, size_t room, uint64_t *count) CQ_MUST_USE;
 
 /* GetThreadInfo. Writes the thread's name, as many of its bytes as there is `room` for, and to `info` the length of the whole
  * name and the priority.
@@ -371,14 +403,27 @@ uint32_t cq_get_all_threads(cq_env *env, uint32_t *threads, size_t room, uint64_
  *   CQ_THREAD_NOT_ALIVE 15  the thread was given back
  *   CQ_OUT_OF_MEMORY 110    there is no memory for the name
  *   CQ_BUSY 215             the list of threads is in use */
-uint32_t cq_get_thread_info(cq_env *env, uint32_t thread, cq_thread_info *info, uint8_t *name, size_t room);
+uint32_t cq_get_thread_info(cq_env *env, uint32_t thread, cq_thread_info *info, uint8_t *name, size_t room) CQ_MUST_USE;
 
 /* ------------------------------------------------------------------------------------------------------------------
  * Calls at a thread.
  *
  * With CQ_OK the answer is there. With CQ_WAITING 302 the thread runs, and the call is posted: `answer->ticket` names it, for
- * cq_collect. It takes place when the thread next hands over. GetFrameCount, GetFrameLocation, GetStackTrace, SuspendThread and
- * PopFrame may wait. Each other call is answered at once.
+ * cq_collect. It takes place when the thread next hands over.
+ *
+ *     at a thread that runs                               is
+ *     cq_get_frame_count, cq_get_frame_location,          CQ_WAITING
+ *     cq_get_stack_trace, cq_suspend_thread, cq_pop_frame
+ *     cq_get_thread_state, cq_resume_thread,              answered at once
+ *     cq_get_thread_local_storage,
+ *     cq_set_thread_local_storage
+ *
+ * At any other thread each call is answered at once. No function gives CQ_WAITING but these five, and cq_collect.
+ *
+ * Calls that wait take place in the order in which they were posted. One that is answered at once takes place at once, also
+ * while earlier ones wait. So a word that is set after a trace was posted is set before the trace is made.
+ *
+ * A thread that runs gets no answer from itself while it does not poll: it posts, polls, and collects.
  *
  * Each call may be refused before it reaches the thread. Then it costs nothing.
  *
@@ -395,18 +440,18 @@ uint32_t cq_get_thread_info(cq_env *env, uint32_t thread, cq_thread_info *info, 
  */
 
 /* GetThreadState. Writes the bits CQ_STATE_.. of the thread to `answer->number`, also of one that is not alive. */
-uint32_t cq_get_thread_state(cq_env *env, uint32_t thread, cq_answer *answer);
+uint32_t cq_get_thread_state(cq_env *env, uint32_t thread, cq_answer *answer) CQ_MUST_USE;
 
 /* GetFrameCount. Writes the number of frames, 0 to the service's depth, to `answer->number`.
  *
  *   CQ_THREAD_NOT_ALIVE 15  the thread has not started, or has ended */
-uint32_t cq_get_frame_count(cq_env *env, uint32_t thread, cq_answer *answer);
+uint32_t cq_get_frame_count(cq_env *env, uint32_t thread, cq_answer *answer) CQ_MUST_USE;
 
 /* GetFrameLocation. Writes the frame at a depth, 0 for the newest one, to `answer->frame`.
  *
  *   CQ_THREAD_NOT_ALIVE 15  the thread has not started, or has ended
  *   CQ_NO_MORE_FRAMES 31    there is no frame at this depth */
-uint32_t cq_get_frame_location(cq_env *env, uint32_t thread, int32_t depth, cq_answer *answer);
+uint32_t cq_get_frame_location(cq_env *env, uint32_t thread, int32_t depth, cq_answer *answer) CQ_MUST_USE;
 
 /* GetStackTrace. It finds at most `max_count` frames, newest first, from the index `start` on. A negative `start` counts from
  * the oldest frame, which is -1. Writes as many frames as there is `room` for, and to `answer->number` how many it found. With
@@ -415,21 +460,21 @@ uint32_t cq_get_frame_location(cq_env *env, uint32_t thread, int32_t depth, cq_a
  *   CQ_THREAD_NOT_ALIVE 15   the thread has not started, or has ended
  *   CQ_ILLEGAL_ARGUMENT 103  there is no frame at `start`, unless `start` is 0 and the stack is empty */
 uint32_t cq_get_stack_trace(cq_env *env, uint32_t thread, int32_t start, int32_t max_count, cq_answer *answer,
-                            cq_frame *frames, size_t room);
+                            cq_frame *frames, size_t room) CQ_MUST_USE;
 
 /* SuspendThread, with CQ_CAN_SUSPEND. The thread stays at its next poll, and does not return from native code or a block, until
  * it is resumed. Suspensions do not nest, and any environment may end one.
  *
  *   CQ_THREAD_NOT_ALIVE 15  the thread has not started, or has ended
  *   CQ_THREAD_SUSPENDED 14  the thread is suspended */
-uint32_t cq_suspend_thread(cq_env *env, uint32_t thread, cq_answer *answer);
+uint32_t cq_suspend_thread(cq_env *env, uint32_t thread, cq_answer *answer) CQ_MUST_USE;
 
 /* ResumeThread, with CQ_CAN_SUSPEND. The thread may return by cq_back. While a suspension still waits for the thread, there is
  * nothing to resume: collect its answer first.
  *
  *   CQ_THREAD_NOT_ALIVE 15      the thread has not started, or has ended
  *   CQ_THREAD_NOT_SUSPENDED 13  the thread is not suspended */
-uint32_t cq_resume_thread(cq_env *env, uint32_t thread, cq_answer *answer);
+uint32_t cq_resume_thread(cq_env *env, uint32_t thread, cq_answer *answer) CQ_MUST_USE;
 
 /* PopFrame, with CQ_CAN_POP_FRAME. The newest frame goes, and its caller is the newest one, at the location where it was.
  *
@@ -437,17 +482,17 @@ uint32_t cq_resume_thread(cq_env *env, uint32_t thread, cq_answer *answer);
  *   CQ_THREAD_NOT_SUSPENDED 13  the thread is not suspended
  *   CQ_NO_MORE_FRAMES 31        there are fewer than two frames
  *   CQ_OPAQUE_FRAME 32          one of the two newest frames is native */
-uint32_t cq_pop_frame(cq_env *env, uint32_t thread, cq_answer *answer);
+uint32_t cq_pop_frame(cq_env *env, uint32_t thread, cq_answer *answer) CQ_MUST_USE;
 
 /* GetThreadLocalStorage. Writes the environment's word at the thread, 0 at first, to `answer->number`.
  *
  *   CQ_THREAD_NOT_ALIVE 15  the thread has not started, or has ended */
-uint32_t cq_get_thread_local_storage(cq_env *env, uint32_t thread, cq_answer *answer);
+uint32_t cq_get_thread_local_storage(cq_env *env, uint32_t thread, cq_answer *answer) CQ_MUST_USE;
 
 /* SetThreadLocalStorage. Sets the environment's word at the thread to any 64 bits.
  *
  *   CQ_THREAD_NOT_ALIVE 15  the thread has not started, or has ended */
-uint32_t cq_set_thread_local_storage(cq_env *env, uint32_t thread, uint64_t word, cq_answer *answer);
+uint32_t cq_set_thread_local_storage(cq_env *env, uint32_t thread, uint64_t word, cq_answer *answer) CQ_MUST_USE;
 
 /* ------------------------------------------------------------------------------------------------------------------
  * Calls that wait for a thread.
@@ -458,7 +503,7 @@ uint32_t cq_set_thread_local_storage(cq_env *env, uint32_t thread, uint64_t word
  *
  *   CQ_WAITING 302  the answer is not there yet, or no call of this environment with this ticket is out. Nothing is written
  *   CQ_BUSY 215     the thread itself or another environment uses the thread */
-uint32_t cq_collect(cq_env *env, const cq_ticket *ticket, cq_answer *answer, cq_frame *frames, size_t room);
+uint32_t cq_collect(cq_env *env, const cq_ticket *ticket, cq_answer *answer, cq_frame *frames, size_t room) CQ_MUST_USE;
 
 /* Gives up a call that is out: nobody gets its answer. It may still take place, so a thread may be suspended. It keeps its
  * place in the window until cq_discard. Nothing happens if no call with this ticket is out.
@@ -500,7 +545,7 @@ uint32_t cq_out_at(cq_env *env, uint32_t thread, uint32_t *count);
  *   CQ_ILLEGAL_ARGUMENT 103  `max_count` is negative
  *   CQ_CALLS_SPENT 209       fewer than two calls are left at a thread
  *   CQ_OUT_OF_MEMORY 110     there is no memory for the trace */
-uint32_t cq_gather_all_stack_traces(cq_env *env, int32_t max_count);
+uint32_t cq_gather_all_stack_traces(cq_env *env, int32_t max_count) CQ_MUST_USE;
 
 /* Begins GetThreadListStackTraces, of each of `count` threads, in their order. A thread that is named twice is stopped once and
  * read twice. One that is not alive has no frames. The rest is as for cq_gather_all_stack_traces.
@@ -509,7 +554,8 @@ uint32_t cq_gather_all_stack_traces(cq_env *env, int32_t max_count);
  *   CQ_ILLEGAL_ARGUMENT 103  `max_count` is negative
  *   CQ_OUT_OF_MEMORY 110     there is no memory for the trace. It may come before the two above
  *   CQ_CALLS_SPENT 209       fewer calls are left at a thread than its stop and its reads cost */
-uint32_t cq_gather_thread_list_stack_traces(cq_env *env, const uint32_t *threads, size_t count, int32_t max_count);
+uint32_t cq_gather_thread_list_stack_traces(cq_env *env, const uint32_t *threads, size_t count,
+                                            int32_t max_count) CQ_MUST_USE;
 
 /* Goes on with the trace. It does one thing at one thread, or goes from one of the four parts to the next. It writes to `over`
  * whether the trace has come to its end. While it has not, call again.
@@ -518,13 +564,13 @@ uint32_t cq_gather_thread_list_stack_traces(cq_env *env, const uint32_t *threads
  *   CQ_ALREADY_STOPPED 211  another environment's trace has stopped the next thread: call again later
  *   CQ_STILL_RUNNING 213    the next thread has not handed over since it was stopped: call again later
  *   CQ_BUSY 215             the next thread itself or another environment uses it */
-uint32_t cq_gather_step(cq_env *env, bool *over);
+uint32_t cq_gather_step(cq_env *env, bool *over) CQ_MUST_USE;
 
 /* Gives the trace up if not all of its threads were seen standing yet. From then on each step lets a thread go that it has
  * stopped, until it is over. Otherwise nothing happens, and the trace goes on to its end.
  *
  *   CQ_MISUSED 304  also if the environment gathers no trace */
-uint32_t cq_gather_give_up(cq_env *env);
+uint32_t cq_gather_give_up(cq_env *env) CQ_MUST_USE;
 
 /* Writes to `count` of how many threads the environment's last trace tells. What it has gathered stays until the next one
  * begins, or the environment is disposed of.
@@ -537,7 +583,7 @@ uint32_t cq_gathered(cq_env *env, uint64_t *count);
  *
  *   CQ_NONE 303              no trace was made, or the last one was given up
  *   CQ_ILLEGAL_ARGUMENT 103  the trace tells of no thread at this index */
-uint32_t cq_gathered_stack(cq_env *env, uint64_t index, cq_stack_info *info, cq_frame *frames, size_t room);
+uint32_t cq_gathered_stack(cq_env *env, uint64_t index, cq_stack_info *info, cq_frame *frames, size_t room) CQ_MUST_USE;
 
 /* ------------------------------------------------------------------------------------------------------------------
  * What is the environment's own.
@@ -546,7 +592,7 @@ uint32_t cq_gathered_stack(cq_env *env, uint64_t index, cq_stack_info *info, cq_
 /* AddCapabilities: a sum of CQ_CAN_SUSPEND and CQ_CAN_POP_FRAME. It adds all of them, or none.
  *
  *   CQ_NOT_AVAILABLE 98  one of them cannot be had */
-uint32_t cq_add_capabilities(cq_env *env, uint32_t capabilities);
+uint32_t cq_add_capabilities(cq_env *env, uint32_t capabilities) CQ_MUST_USE;
 
 /* RelinquishCapabilities. One that the environment does not have is no error. Calls that were posted keep what they need. */
 uint32_t cq_relinquish_capabilities(cq_env *env, uint32_t capabilities);
@@ -566,24 +612,25 @@ uint32_t cq_set_environment_local_storage(cq_env *env, uint64_t word);
 /* SetEventNotificationMode, of ThreadStart and ThreadEnd at all threads. An environment is told what happens from then on.
  *
  *   CQ_BUSY 215  the list of threads is in use */
-uint32_t cq_set_event_notification_mode(cq_env *env, bool enabled);
+uint32_t cq_set_event_notification_mode(cq_env *env, bool enabled) CQ_MUST_USE;
 
 /* Writes the next event to `event`. A thread's start is told when it was attached, and its end when it was given back. The
  * service keeps the last 4,096 events.
  *
  *   CQ_NONE 303  there is no event, or events are disabled
  *   CQ_BUSY 215  the list of threads is in use */
-uint32_t cq_next_event(cq_env *env, cq_event *event);
+uint32_t cq_next_event(cq_env *env, cq_event *event) CQ_MUST_USE;
 
 /* DisposeEnvironment. Calls that wait are given up, the environment's words are 0 again, its place is free, and its handle is
- * empty. A thread that it suspended stays suspended.
+ * empty. What its traces have gathered is gone. A thread that it suspended stays suspended, and a suspension or a pop that was
+ * given up may still take place.
  *
  * With one of these codes the environment may have left some of its threads. It can only be disposed of then: call again.
  *
  *   CQ_OUT_OF_MEMORY 110  there is no memory to give a call up
  *   CQ_FULL 216           threads and environments have come and gone 2^62 - 1 times
  *   CQ_BUSY 215           a thread or the list of threads is in use */
-uint32_t cq_dispose_environment(cq_env *env);
+uint32_t cq_dispose_environment(cq_env *env) CQ_MUST_USE;
 
 #ifdef __cplusplus
 }

@@ -84,6 +84,9 @@ inline void check(std::uint32_t got) {
     if (got != CQ_OK) throw error(code(got));
 }
 
+/* A destructor tells of no refusal. */
+inline void ignore(std::uint32_t) noexcept {}
+
 /* What is told of a thread (GetThreadInfo). */
 struct thread_info {
     std::string name;
@@ -128,9 +131,9 @@ public:
     thread &operator=(thread &&) noexcept = default;
     ~thread() {
         if (get() == nullptr) return;
-        cq_wait_back(get(), signal(), -1);
-        cq_wait_end(get(), signal());
-        cq_wait_detach_thread(get(), signal());
+        ignore(cq_wait_back(get(), signal(), -1));
+        ignore(cq_wait_end(get(), signal()));
+        ignore(cq_wait_detach_thread(get(), signal()));
     }
 
     std::uint32_t number() const {
@@ -159,7 +162,7 @@ public:
     public:
         away(const away &) = delete;
         away &operator=(const away &) = delete;
-        ~away() { cq_wait_back(thread_.get(), thread_.signal(), -1); }
+        ~away() { ignore(cq_wait_back(thread_.get(), thread_.signal(), -1)); }
 
     private:
         friend class thread;
@@ -186,7 +189,7 @@ public:
     environment(environment &&) noexcept = default;
     environment &operator=(environment &&) noexcept = default;
     ~environment() {
-        if (get() != nullptr) cq_wait_dispose_environment(get(), signal());
+        if (get() != nullptr) ignore(cq_wait_dispose_environment(get(), signal()));
     }
 
     void meet() { check(cq_wait_meet(get(), signal())); }

@@ -6,7 +6,7 @@
  * steps are sequentially consistent, and so are those of the library.
  *
  * Who is woken. Threads that are barred sleep apart from agents. Each sleeps for the news of one thread, by one of 31 bits,
- * and an agent that waits for an event by one more. An agent that makes a trace of several threads has all bits. So a hand-over
+ * and an agent that waits for an event by one more. An agent that waits for several threads has the bits of all. So a hand-over
  * wakes agents that wait for its thread, and a resumption the thread. Threads whose numbers have one bit wake each other's,
  * which then sleep on.
  *
@@ -57,6 +57,20 @@ typedef struct {
     int64_t stuck;    /* since when it comes no further, or -1 */
 } waiter;
 
+/* The thread sanitizer does not see the atomics of the library. A program that has it is told by these what they order: what a
+ * thread did before it handed over comes before what an agent does after an answer, and what an agent did before it resumed a
+ * thread comes before what the thread does after its return. Without the sanitizer they are NULL. */
+extern void __tsan_acquire(void *at) __attribute__((weak));
+extern void __tsan_release(void *at) __attribute__((weak));
+
+static void tell_before(cq_sleepers *at) {
+    if (__tsan_release) __tsan_release(at);
+}
+
+static void tell_after(cq_sleepers *at) {
+    if (__tsan_acquire) __tsan_acquire(at);
+}
+
 /* One who waits among the agents, for news of any thread. */
 static waiter begin(cq_signal *signal, int64_t timeout_ns, uint32_t not_yet) {
     return (waiter){
@@ -73,6 +87,12 @@ static uint32_t bit_of_own(cq_thread *thread) {
     uint32_t number = 0;
     cq_thread_number(thread, &number);
     return bit_of(number);
+}
+
+/* A thread that hands over. */
+static waiter begin_hand_over(cq_signal *signal) {
+    tell_before(&signal->agents);
+    return begin(signal, FOREVER, CQ_BUSY);
 }
 
 /* A thread that waits until nothing bars it. */
@@ -202,7 +222,13 @@ static uint32_t handed_over(const waiter *w, cq_thread *thread) {
     return w->code;
 }
 
-/* The code of a call by which a thread may have come or gone. If it has, those go on who wait for events. */
+/* The code of a call by which a thread may go on. */
+static uint32_t goes_on(const waiter *w) {
+    if (w->code == CQ_OK) tell_after(&w->signal->threads);
+    return w->code;
+}
+
+/* The code of a call by which a thread or an environment may have come or gone. If it has, those go on who wait for that. */
 static uint32_t came_or_went(const waiter *w) {
     if (w->code == CQ_OK) {
         wake(&w->signal->agents, COMINGS);
@@ -222,7 +248,7 @@ uint32_t cq_wait_attach_thread(cq_service *service, cq_signal *signal, const uin
 uint32_t cq_wait_attach_environment(cq_service *service, cq_signal *signal, cq_env *env) {
     waiter w = begin(signal, FOREVER, CQ_BUSY);
     while (again(&w)) w.code = cq_attach_environment(service, env);
-    return w.code;
+    return came_or_went(&w);
 }
 
 /* A thread of the runtime. */
@@ -230,26 +256,26 @@ uint32_t cq_wait_attach_environment(cq_service *service, cq_signal *signal, cq_e
 uint32_t cq_wait_start(cq_thread *thread, cq_signal *signal, int64_t timeout_ns) {
     waiter w = begin_own(thread, signal, timeout_ns);
     while (again(&w)) w.code = cq_start(thread);
-    return w.code;
+    return goes_on(&w);
 }
 
 uint32_t cq_wait_poll(cq_thread *thread, cq_signal *signal) {
     if (cq_poll_clear(thread)) {
         return CQ_OK;
     }
-    waiter w = begin(signal, FOREVER, CQ_BUSY);
+    waiter w = begin_hand_over(signal);
     while (again(&w)) w.code = cq_poll(thread);
     return handed_over(&w, thread) == CQ_HELD ? cq_wait_back(thread, signal, FOREVER) : w.code;
 }
 
 uint32_t cq_wait_native(cq_thread *thread, cq_signal *signal) {
-    waiter w = begin(signal, FOREVER, CQ_BUSY);
+    waiter w = begin_hand_over(signal);
     while (again(&w)) w.code = cq_native(thread);
     return handed_over(&w, thread);
 }
 
 uint32_t cq_wait_block(cq_thread *thread, cq_signal *signal, uint32_t reason) {
-    waiter w = begin(signal, FOREVER, CQ_BUSY);
+    waiter w = begin_hand_over(signal);
     while (again(&w)) w.code = cq_block(thread, reason);
     return handed_over(&w, thread);
 }
@@ -257,11 +283,11 @@ uint32_t cq_wait_block(cq_thread *thread, cq_signal *signal, uint32_t reason) {
 uint32_t cq_wait_back(cq_thread *thread, cq_signal *signal, int64_t timeout_ns) {
     waiter w = begin_own(thread, signal, timeout_ns);
     while (again(&w)) w.code = cq_back(thread);
-    return w.code;
+    return goes_on(&w);
 }
 
 uint32_t cq_wait_end(cq_thread *thread, cq_signal *signal) {
-    waiter w = begin(signal, FOREVER, CQ_BUSY);
+    waiter w = begin_hand_over(signal);
     while (again(&w)) w.code = cq_end(thread);
     return handed_over(&w, thread);
 }
@@ -320,7 +346,7 @@ uint32_t cq_wait_set_event_notification_mode(cq_env *env, cq_signal *signal, boo
 uint32_t cq_wait_dispose_environment(cq_env *env, cq_signal *signal) {
     waiter w = begin(signal, FOREVER, CQ_BUSY);
     while (again(&w)) w.code = cq_dispose_environment(env);
-    return w.code;
+    return came_or_went(&w);
 }
 
 uint32_t cq_wait_next_event(cq_env *env, cq_signal *signal, int64_t timeout_ns, cq_event *event) {
@@ -332,12 +358,48 @@ uint32_t cq_wait_next_event(cq_env *env, cq_signal *signal, int64_t timeout_ns, 
 
 /* Calls at a thread. */
 
+/* The code of a call whose answer may be there. */
+static uint32_t answered(const waiter *w) {
+    if (w->code == CQ_OK) tell_after(&w->signal->agents);
+    return w->code;
+}
+
 uint32_t cq_wait_collect(cq_env *env, cq_signal *signal, const cq_ticket *ticket, int64_t timeout_ns, cq_answer *answer,
                          cq_frame *frames, size_t room) {
     waiter w = begin(signal, timeout_ns, CQ_WAITING);
     w.bits = bit_of(ticket->thread);
     while (again(&w)) w.code = cq_collect(env, ticket, answer, frames, room);
-    return w.code;
+    return answered(&w);
+}
+
+/* One try at each of these calls, up to the first whose answer is there. */
+static uint32_t collect_first(cq_env *env, const cq_ticket *tickets, size_t count, size_t *which, cq_answer *answer,
+                              cq_frame *frames, size_t room) {
+    uint32_t none = CQ_WAITING;
+    for (size_t i = 0; i < count; i++) {
+        uint32_t code = cq_collect(env, &tickets[i], answer, frames, room);
+        if (code == CQ_BUSY) {
+            none = CQ_BUSY;
+        } else if (code != CQ_WAITING) {
+            *which = i;
+            return code;
+        }
+    }
+    return cq_has_news(env) ? CQ_NONE : none;
+}
+
+uint32_t cq_wait_any(cq_env *env, cq_signal *signal, const cq_ticket *tickets, size_t count, int64_t timeout_ns,
+                     size_t *which, cq_answer *answer, cq_frame *frames, size_t room) {
+    uint32_t capabilities;
+    uint32_t misused = cq_get_capabilities(env, &capabilities);
+    if (misused != CQ_OK) {
+        return misused;
+    }
+    waiter w = begin(signal, timeout_ns, CQ_WAITING);
+    w.bits = COMINGS;
+    for (size_t i = 0; i < count; i++) w.bits |= bit_of(tickets[i].thread);
+    while (again(&w)) w.code = collect_first(env, tickets, count, which, answer, frames, room);
+    return answered(&w);
 }
 
 /* A call at a thread. */
@@ -364,35 +426,42 @@ static uint32_t post(cq_env *env, const thread_call *call, cq_answer *answer, cq
     return CQ_MISUSED;
 }
 
-/* Posts a call once its thread is free. Before that, answers are thrown away to calls that were given up at the thread, so that
- * these have no place in the window any more. */
-static waiter posted(cq_env *env, cq_signal *signal, const thread_call *call, int64_t timeout_ns, cq_answer *answer,
-                     cq_frame *frames, size_t room) {
+/* One try to post a call. Before that, answers are thrown away to calls that were given up at the thread, so that these have no
+ * place in the window any more. */
+static uint32_t post_now(cq_env *env, const thread_call *call, cq_answer *answer, cq_frame *frames, size_t room) {
     bool thrown = true;
     while (thrown && cq_discard(env, call->thread, &thrown) == CQ_OK) {
     }
-    waiter w = begin(signal, timeout_ns, CQ_BUSY);
+    return post(env, call, answer, frames, room);
+}
+
+/* Posts a call once its thread is free, and unless `not_yet` is CQ_BUSY, also once there is a place in the window. */
+static waiter posted(cq_env *env, cq_signal *signal, const thread_call *call, int64_t timeout_ns, uint32_t not_yet,
+                     cq_answer *answer, cq_frame *frames, size_t room) {
+    if (call->what == RESUME) tell_before(&signal->threads);
+    waiter w = begin(signal, timeout_ns, not_yet);
     w.bits = bit_of(call->thread);
-    while (again(&w)) w.code = post(env, call, answer, frames, room);
+    while (again(&w)) w.code = post_now(env, call, answer, frames, room);
+    answered(&w);
     return w;
 }
 
 /* The code of a call that was posted, once its answer is there. When the time is over, the call is given up. */
-static uint32_t answered(cq_env *env, waiter *w, const cq_ticket *ticket, cq_answer *answer, cq_frame *frames, size_t room) {
+static uint32_t collected(cq_env *env, waiter *w, const cq_ticket *ticket, cq_answer *answer, cq_frame *frames, size_t room) {
     w->not_yet = CQ_WAITING;
     while (again(w)) w->code = cq_collect(env, ticket, answer, frames, room);
     if (w->code == CQ_TIMED_OUT) {
         cq_wait_cancel(env, w->signal, ticket);
     }
-    return w->code;
+    return answered(w);
 }
 
 static uint32_t call_with(cq_env *env, cq_signal *signal, thread_call call, int64_t timeout_ns, cq_answer *answer,
                           cq_frame *frames, size_t room) {
-    waiter w = posted(env, signal, &call, timeout_ns, answer, frames, room);
+    waiter w = posted(env, signal, &call, timeout_ns, CQ_FULL, answer, frames, room);
     if (w.code == CQ_WAITING) {
         cq_ticket ticket = answer->ticket;
-        answered(env, &w, &ticket, answer, frames, room);
+        collected(env, &w, &ticket, answer, frames, room);
     }
     if (call.what == RESUME && w.code == CQ_OK) {
         wake(&signal->threads, bit_of(call.thread));  /* it may return now */
@@ -497,6 +566,7 @@ static uint32_t gathered(cq_env *env, cq_signal *signal, int64_t timeout_ns, uin
     }
     cq_wake(signal);
     if (code != CQ_OK) return code;
+    tell_after(&signal->agents);
     return cq_gathered(env, count) == CQ_NONE ? CQ_TIMED_OUT : CQ_OK;
 }
 
@@ -531,17 +601,6 @@ static uint32_t list_refusal(cq_env *env) {
     return code == CQ_OK && !(capabilities & CQ_CAN_SUSPEND) ? CQ_MUST_POSSESS_CAPABILITY : code;
 }
 
-static void post_each(cq_env *env, cq_signal *signal, thread_call call, const uint32_t *threads, size_t count,
-                      int64_t timeout_ns, int64_t began, cq_ticket *tickets, uint32_t *codes) {
-    cq_frame none;
-    for (size_t i = 0; i < count; i++) {
-        cq_answer answer;
-        call.thread = threads[i];
-        codes[i] = posted(env, signal, &call, left_of(timeout_ns, began), &answer, &none, 0).code;
-        if (codes[i] == CQ_WAITING) tickets[i] = answer.ticket;
-    }
-}
-
 static void collect_each(cq_env *env, cq_signal *signal, size_t count, int64_t timeout_ns, int64_t began,
                          const cq_ticket *tickets, uint32_t *codes) {
     cq_frame none;
@@ -550,8 +609,24 @@ static void collect_each(cq_env *env, cq_signal *signal, size_t count, int64_t t
             cq_answer answer;
             waiter w = begin(signal, left_of(timeout_ns, began), CQ_WAITING);
             w.bits = bit_of(tickets[i].thread);
-            codes[i] = answered(env, &w, &tickets[i], &answer, &none, 0);
+            codes[i] = collected(env, &w, &tickets[i], &answer, &none, 0);
         }
+    }
+}
+
+/* If a window is full, the answers to the earlier calls of the list are collected before a place is waited for. */
+static void post_each(cq_env *env, cq_signal *signal, thread_call call, const uint32_t *threads, size_t count,
+                      int64_t timeout_ns, int64_t began, cq_ticket *tickets, uint32_t *codes) {
+    cq_frame none;
+    for (size_t i = 0; i < count; i++) {
+        cq_answer answer;
+        call.thread = threads[i];
+        codes[i] = posted(env, signal, &call, left_of(timeout_ns, began), CQ_BUSY, &answer, &none, 0).code;
+        if (codes[i] == CQ_FULL) {
+            collect_each(env, signal, i, timeout_ns, began, tickets, codes);
+            codes[i] = posted(env, signal, &call, left_of(timeout_ns, began), CQ_FULL, &answer, &none, 0).code;
+        }
+        if (codes[i] == CQ_WAITING) tickets[i] = answer.ticket;
     }
 }
 

@@ -9,7 +9,9 @@
  *
  *   CQ_BUSY 215              is never given. The function tries again
  *   CQ_HELD 301, CQ_WAITING 302, CQ_NONE 303, CQ_BARRED 206, CQ_ALREADY_STOPPED 211, CQ_STILL_RUNNING 213
- *                            are never given. The function waits for what they stand for
+ *                            are never given. The function waits for what they stand for. (CQ_NONE has a meaning of its own at
+ *                            cq_wait_any)
+ *   CQ_FULL 216              is never given by a call at a thread. The function waits for a place in the window
  *   CQ_TIMED_OUT 214         the time is over. Only functions with a `timeout_ns` give it
  *
  * TIME
@@ -36,8 +38,8 @@ typedef struct { cq_sleepers threads; cq_sleepers agents; } cq_signal;
 /* Wakes all who sleep. It is two loads if nobody does.
  *
  * The functions below do it by themselves. A program that also uses functions of cebdyraq.h calls it after each that
- * may let another go on: cq_poll, cq_native, cq_block, cq_end, cq_resume_thread, cq_attach_thread and cq_detach_thread, and
- * after the last cq_gather_step of a trace. */
+ * may let another go on: cq_poll, cq_native, cq_block, cq_end, cq_resume_thread, cq_attach_thread, cq_detach_thread,
+ * cq_attach_environment and cq_dispose_environment, and after the last cq_gather_step of a trace. */
 void cq_wake(cq_signal *signal);
 
 /* ------------------------------------------------------------------------------------------------------------------
@@ -46,10 +48,10 @@ void cq_wake(cq_signal *signal);
 
 /* cq_attach_thread. CQ_MISUSED 304, CQ_ILLEGAL_ARGUMENT 103, CQ_OUT_OF_MEMORY 110, CQ_FULL 216. */
 uint32_t cq_wait_attach_thread(cq_service *service, cq_signal *signal, const uint8_t *name, size_t length,
-                               int32_t priority, cq_thread *thread);
+                               int32_t priority, cq_thread *thread) CQ_MUST_USE;
 
 /* cq_attach_environment. CQ_MISUSED 304, CQ_OUT_OF_MEMORY 110, CQ_FULL 216. */
-uint32_t cq_wait_attach_environment(cq_service *service, cq_signal *signal, cq_env *env);
+uint32_t cq_wait_attach_environment(cq_service *service, cq_signal *signal, cq_env *env) CQ_MUST_USE;
 
 /* ------------------------------------------------------------------------------------------------------------------
  * A thread of the runtime.
@@ -57,48 +59,49 @@ uint32_t cq_wait_attach_environment(cq_service *service, cq_signal *signal, cq_e
 
 /* cq_start. It sleeps while a trace has stopped the thread. After CQ_TIMED_OUT 214 the thread has not started.
  * CQ_NOT_NEW 210. */
-uint32_t cq_wait_start(cq_thread *thread, cq_signal *signal, int64_t timeout_ns);
+uint32_t cq_wait_start(cq_thread *thread, cq_signal *signal, int64_t timeout_ns) CQ_MUST_USE;
 
 /* A safe point. It returns at once if nobody calls for the thread (cq_poll_clear). Otherwise the thread polls, and sleeps while
  * it is suspended or stopped. With CQ_OK it runs on.
  *
  * It is also CQ_OK for a thread that does not run and for a handle that is misused: nobody calls for those. */
-uint32_t cq_wait_poll(cq_thread *thread, cq_signal *signal);
+uint32_t cq_wait_poll(cq_thread *thread, cq_signal *signal) CQ_MUST_USE;
 
 /* cq_native. It waits only while an environment uses the thread. CQ_NOT_RUNNING 204, CQ_NO_NATIVE_FRAME 207,
  * CQ_OWN_SPENT 208. */
-uint32_t cq_wait_native(cq_thread *thread, cq_signal *signal);
+uint32_t cq_wait_native(cq_thread *thread, cq_signal *signal) CQ_MUST_USE;
 
 /* cq_block. It waits only while an environment uses the thread. CQ_ILLEGAL_ARGUMENT 103, CQ_NOT_RUNNING 204,
  * CQ_OWN_SPENT 208. */
-uint32_t cq_wait_block(cq_thread *thread, cq_signal *signal, uint32_t reason);
+uint32_t cq_wait_block(cq_thread *thread, cq_signal *signal, uint32_t reason) CQ_MUST_USE;
 
 /* cq_back. It sleeps while the thread is suspended or stopped. After CQ_TIMED_OUT 214 the thread has not returned.
  * CQ_NOT_SAFE 205. */
-uint32_t cq_wait_back(cq_thread *thread, cq_signal *signal, int64_t timeout_ns);
+uint32_t cq_wait_back(cq_thread *thread, cq_signal *signal, int64_t timeout_ns) CQ_MUST_USE;
 
 /* cq_end. It waits only while an environment uses the thread. CQ_NOT_RUNNING 204. */
 uint32_t cq_wait_end(cq_thread *thread, cq_signal *signal);
 
 /* cq_detach_thread. It waits only while the list of threads is in use. CQ_MISUSED 304, CQ_FULL 216. */
-uint32_t cq_wait_detach_thread(cq_thread *thread, cq_signal *signal);
+uint32_t cq_wait_detach_thread(cq_thread *thread, cq_signal *signal) CQ_MUST_USE;
 
 /* ------------------------------------------------------------------------------------------------------------------
  * An agent's environment. These wait only while the list of threads or a thread is in use, but for cq_wait_next_event.
  */
 
 /* cq_meet. CQ_ILLEGAL_ARGUMENT 103, CQ_OUT_OF_MEMORY 110, CQ_FULL 216. */
-uint32_t cq_wait_meet(cq_env *env, cq_signal *signal);
+uint32_t cq_wait_meet(cq_env *env, cq_signal *signal) CQ_MUST_USE;
 
 /* cq_let_go. */
 uint32_t cq_wait_let_go(cq_env *env, cq_signal *signal, uint32_t thread, bool *gone);
 
 /* cq_get_all_threads. CQ_OUT_OF_MEMORY 110. */
-uint32_t cq_wait_get_all_threads(cq_env *env, cq_signal *signal, uint32_t *threads, size_t room, uint64_t *count);
+uint32_t cq_wait_get_all_threads(cq_env *env, cq_signal *signal, uint32_t *threads, size_t room,
+                                 uint64_t *count) CQ_MUST_USE;
 
 /* cq_get_thread_info. CQ_INVALID_THREAD 10, CQ_THREAD_NOT_ALIVE 15, CQ_OUT_OF_MEMORY 110. */
 uint32_t cq_wait_get_thread_info(cq_env *env, cq_signal *signal, uint32_t thread, cq_thread_info *info, uint8_t *name,
-                                 size_t room);
+                                 size_t room) CQ_MUST_USE;
 
 /* cq_cancel. CQ_OUT_OF_MEMORY 110. */
 uint32_t cq_wait_cancel(cq_env *env, cq_signal *signal, const cq_ticket *ticket);
@@ -107,13 +110,13 @@ uint32_t cq_wait_cancel(cq_env *env, cq_signal *signal, const cq_ticket *ticket)
 uint32_t cq_wait_discard(cq_env *env, cq_signal *signal, uint32_t thread, bool *thrown);
 
 /* cq_set_event_notification_mode. */
-uint32_t cq_wait_set_event_notification_mode(cq_env *env, cq_signal *signal, bool enabled);
+uint32_t cq_wait_set_event_notification_mode(cq_env *env, cq_signal *signal, bool enabled) CQ_MUST_USE;
 
 /* cq_dispose_environment. CQ_OUT_OF_MEMORY 110, CQ_FULL 216. */
-uint32_t cq_wait_dispose_environment(cq_env *env, cq_signal *signal);
+uint32_t cq_wait_dispose_environment(cq_env *env, cq_signal *signal) CQ_MUST_USE;
 
 /* cq_next_event. It sleeps until there is an event, and for ever if events are disabled. CQ_TIMED_OUT 214. */
-uint32_t cq_wait_next_event(cq_env *env, cq_signal *signal, int64_t timeout_ns, cq_event *event);
+uint32_t cq_wait_next_event(cq_env *env, cq_signal *signal, int64_t timeout_ns, cq_event *event) CQ_MUST_USE;
 
 /* ------------------------------------------------------------------------------------------------------------------
  * Calls at a thread. They sleep until the answer is there. The answer is written with CQ_OK, and nothing otherwise.
@@ -122,53 +125,61 @@ uint32_t cq_wait_next_event(cq_env *env, cq_signal *signal, int64_t timeout_ns, 
  * posted is given up (cq_cancel). It may still take place: a thread may be suspended after CQ_TIMED_OUT 214. If there is no
  * memory to give it up, it stays out (cq_out_at).
  *
- * Before it posts, each throws away the answers to calls that were given up at the thread (cq_discard).
+ * Before it posts, each throws away the answers to calls that were given up at the thread (cq_discard). At a full window it
+ * waits for a place, which comes when the thread hands over. A place that a call of cebdyraq.h has is free once its answer is
+ * collected: the function does not do that, so a program collects before it fills the window.
+ *
+ * Who has an environment and is itself a thread of the service gets no answer from itself: it cannot poll while it waits. State,
+ * words and a resumption are answered at once. The other calls end with their time, and without one never.
  */
 
 /* cq_get_thread_state. Writes the bits to `state`. */
-uint32_t cq_wait_get_thread_state(cq_env *env, cq_signal *signal, uint32_t thread, int64_t timeout_ns, uint32_t *state);
+uint32_t cq_wait_get_thread_state(cq_env *env, cq_signal *signal, uint32_t thread, int64_t timeout_ns,
+                                  uint32_t *state) CQ_MUST_USE;
 
 /* cq_get_frame_count. Writes the number of frames to `count`. CQ_THREAD_NOT_ALIVE 15. */
-uint32_t cq_wait_get_frame_count(cq_env *env, cq_signal *signal, uint32_t thread, int64_t timeout_ns, uint32_t *count);
+uint32_t cq_wait_get_frame_count(cq_env *env, cq_signal *signal, uint32_t thread, int64_t timeout_ns,
+                                 uint32_t *count) CQ_MUST_USE;
 
 /* cq_get_frame_location. Writes to `frame`. CQ_THREAD_NOT_ALIVE 15, CQ_NO_MORE_FRAMES 31. */
 uint32_t cq_wait_get_frame_location(cq_env *env, cq_signal *signal, uint32_t thread, int32_t depth, int64_t timeout_ns,
-                                    cq_frame *frame);
+                                    cq_frame *frame) CQ_MUST_USE;
 
 /* cq_get_stack_trace. Writes as many frames as there is `room` for, and to `count` how many it found.
  * CQ_THREAD_NOT_ALIVE 15, CQ_ILLEGAL_ARGUMENT 103. */
 uint32_t cq_wait_get_stack_trace(cq_env *env, cq_signal *signal, uint32_t thread, int32_t start, int32_t max_count,
-                                 int64_t timeout_ns, cq_frame *frames, size_t room, uint32_t *count);
+                                 int64_t timeout_ns, cq_frame *frames, size_t room, uint32_t *count) CQ_MUST_USE;
 
 /* cq_suspend_thread. With CQ_OK the thread stands. CQ_THREAD_NOT_ALIVE 15, CQ_THREAD_SUSPENDED 14. */
-uint32_t cq_wait_suspend_thread(cq_env *env, cq_signal *signal, uint32_t thread, int64_t timeout_ns);
+uint32_t cq_wait_suspend_thread(cq_env *env, cq_signal *signal, uint32_t thread, int64_t timeout_ns) CQ_MUST_USE;
 
 /* cq_resume_thread. With CQ_OK the thread is woken. CQ_THREAD_NOT_ALIVE 15, CQ_THREAD_NOT_SUSPENDED 13. */
-uint32_t cq_wait_resume_thread(cq_env *env, cq_signal *signal, uint32_t thread, int64_t timeout_ns);
+uint32_t cq_wait_resume_thread(cq_env *env, cq_signal *signal, uint32_t thread, int64_t timeout_ns) CQ_MUST_USE;
 
 /* cq_pop_frame. CQ_THREAD_NOT_ALIVE 15, CQ_THREAD_NOT_SUSPENDED 13, CQ_NO_MORE_FRAMES 31, CQ_OPAQUE_FRAME 32. */
-uint32_t cq_wait_pop_frame(cq_env *env, cq_signal *signal, uint32_t thread, int64_t timeout_ns);
+uint32_t cq_wait_pop_frame(cq_env *env, cq_signal *signal, uint32_t thread, int64_t timeout_ns) CQ_MUST_USE;
 
 /* cq_get_thread_local_storage. Writes to `word`. CQ_THREAD_NOT_ALIVE 15. */
 uint32_t cq_wait_get_thread_local_storage(cq_env *env, cq_signal *signal, uint32_t thread, int64_t timeout_ns,
-                                          uint64_t *word);
+                                          uint64_t *word) CQ_MUST_USE;
 
 /* cq_set_thread_local_storage. CQ_THREAD_NOT_ALIVE 15. */
 uint32_t cq_wait_set_thread_local_storage(cq_env *env, cq_signal *signal, uint32_t thread, uint64_t word,
-                                          int64_t timeout_ns);
+                                          int64_t timeout_ns) CQ_MUST_USE;
 
 /* SuspendThreadList: cq_wait_suspend_thread of each of `count` threads, and to `codes` one code for each. All are posted before
- * the first is waited for, so the threads come to their polls side by side. A code of one stops none after it. The time is that
- * of the whole list. Once it is over, each of the others has one try.
+ * the first is waited for, so the threads come to their polls side by side, unless a window is full before: then the earlier
+ * answers come first. A code of one stops none after it. The time is that of the whole list. Once it is over, each of the others
+ * has one try.
  *
  * CQ_MUST_POSSESS_CAPABILITY 99 and CQ_OUT_OF_MEMORY 110 (malloc has no memory for the list) are of the whole call. Then no code
  * is written, and no thread is suspended. */
 uint32_t cq_wait_suspend_thread_list(cq_env *env, cq_signal *signal, const uint32_t *threads, size_t count,
-                                     int64_t timeout_ns, uint32_t *codes);
+                                     int64_t timeout_ns, uint32_t *codes) CQ_MUST_USE;
 
 /* ResumeThreadList: cq_wait_resume_thread of each of `count` threads, likewise. */
 uint32_t cq_wait_resume_thread_list(cq_env *env, cq_signal *signal, const uint32_t *threads, size_t count,
-                                    int64_t timeout_ns, uint32_t *codes);
+                                    int64_t timeout_ns, uint32_t *codes) CQ_MUST_USE;
 
 /* GetAllStackTraces: a trace is begun and gathered to its end. With CQ_OK it is there, for cq_gathered_stack, and `count` is of
  * how many threads it tells. The function sleeps until each thread that runs has handed over, and while another environment's
@@ -181,19 +192,31 @@ uint32_t cq_wait_resume_thread_list(cq_env *env, cq_signal *signal, const uint32
  * The other codes are those of cq_gather_all_stack_traces, and then nothing was begun: CQ_ILLEGAL_ARGUMENT 103,
  * CQ_CALLS_SPENT 209, CQ_OUT_OF_MEMORY 110. */
 uint32_t cq_wait_get_all_stack_traces(cq_env *env, cq_signal *signal, int32_t max_count, int64_t timeout_ns,
-                                      uint64_t *count);
+                                      uint64_t *count) CQ_MUST_USE;
 
 /* GetThreadListStackTraces: the same of each of `thread_count` threads, in their order. The other codes are those of
  * cq_gather_thread_list_stack_traces: CQ_INVALID_THREAD 10, CQ_ILLEGAL_ARGUMENT 103, CQ_OUT_OF_MEMORY 110,
  * CQ_CALLS_SPENT 209. */
 uint32_t cq_wait_get_thread_list_stack_traces(cq_env *env, cq_signal *signal, const uint32_t *threads,
                                               size_t thread_count, int32_t max_count, int64_t timeout_ns,
-                                              uint64_t *count);
+                                              uint64_t *count) CQ_MUST_USE;
+
+/* Waits for any of several things. It sleeps until the answer to one of `count` calls is there, which were posted by functions of
+ * cebdyraq.h, or until the list of threads has news (cq_has_news). It collects the answer, as cq_collect does: it writes to
+ * `which` the index of the call, and returns the call's code. If several answers are there, it takes one of them.
+ *
+ * It gives the news again and again until the environment looks: by cq_meet or, if events are enabled, by cq_next_event. So take
+ * events until there is none: one that is left is no news.
+ *
+ *   CQ_NONE 303       no answer is there, and threads or environments have come or gone. Nothing is written
+ *   CQ_TIMED_OUT 214  the calls are out as before */
+uint32_t cq_wait_any(cq_env *env, cq_signal *signal, const cq_ticket *tickets, size_t count, int64_t timeout_ns,
+                     size_t *which, cq_answer *answer, cq_frame *frames, size_t room) CQ_MUST_USE;
 
 /* cq_collect, of a call that was posted by a function of cebdyraq.h. It sleeps until the answer is there, and for ever if no
  * call with this ticket is out. After CQ_TIMED_OUT 214 the call is out as before. */
 uint32_t cq_wait_collect(cq_env *env, cq_signal *signal, const cq_ticket *ticket, int64_t timeout_ns, cq_answer *answer,
-                         cq_frame *frames, size_t room);
+                         cq_frame *frames, size_t room) CQ_MUST_USE;
 
 #ifdef __cplusplus
 }

@@ -7,7 +7,7 @@ from collections import namedtuple
 C = pathlib.Path(__file__).resolve().parent.parent / "c"
 HEADERS = ("cebdyraq.h", "cebdyraq_wait.h")
 COMMENT = re.compile(r"^/\*(.*?)\*/$", re.M | re.S)
-PROTOTYPE = re.compile(r"^(?:\w+ )+\*?(cq_\w+)\([^;{}]*\);$", re.M)
+PROTOTYPE = re.compile(r"^(?:\w+ )+\*?(cq_\w+)\([^;{}]*\)(?: CQ_MUST_USE)?;$", re.M)
 
 # A comment that begins a line, and the code between it and the next one.
 Part = namedtuple("Part", "comment code")
@@ -25,7 +25,7 @@ def version(folder=C):
 
 def prototypes(text):
     """The prototype of each function of a header, by its name."""
-    return {found[1]: found[0] for found in PROTOTYPE.finditer(COMMENT.sub("", text))}
+    return {found[1]: found[0].replace(" CQ_MUST_USE", "") for found in PROTOTYPE.finditer(COMMENT.sub("", text))}
 
 
 def functions(folder=C):

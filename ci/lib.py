@@ -1,5 +1,5 @@
-"""Builds the library for C into dist/, which may be moved: the static and the shared library, headers, a pkg-config file and a
-manual page.
+"""Builds the library for C into dist/, which may be moved: the static and the shared library, headers, a pkg-config file, a
+manual page, and suppressions for the thread sanitizer.
 
     ci/lib.py [ARCHIVE]
 
@@ -30,6 +30,7 @@ CRATE = TOP / "crates/ti_capi"
 ARCHIVE = CRATE / "out/libti_capi.a"
 DIST = TOP / "dist"
 HEADERS = (*header.HEADERS, "cebdyraq.hpp")
+SUPPRESSIONS = "tsan.supp"
 FLAGS = ("-std=c11", "-O2", "-g", "-fPIC", "-Wall", "-Wextra", "-Werror", f"-ffile-prefix-map={TOP}/=")
 PKG_CONFIG = """prefix=${{pcfiledir}}/../..
 includedir=${{prefix}}/include
@@ -82,11 +83,12 @@ def link_shared(objects, folder):
 
 def build(archive, dist):
     shutil.rmtree(dist, ignore_errors=True)
-    include, lib, man = dist / "include", dist / "lib", dist / "share/man/man3"
-    for folder in (include, lib / "pkgconfig", man):
+    include, lib, man, share = dist / "include", dist / "lib", dist / "share/man/man3", dist / "share/cebdyraq"
+    for folder in (include, lib / "pkgconfig", man, share):
         folder.mkdir(parents=True)
     for name in HEADERS:
         shutil.copyfile(header.C / name, include / name)
+    shutil.copyfile(header.C / SUPPRESSIONS, share / SUPPRESSIONS)
     with tempfile.TemporaryDirectory() as name:
         room = pathlib.Path(name)
         objects = [joined(archive, room), compiled("cebdyraq_wait", room)]

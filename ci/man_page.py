@@ -13,6 +13,7 @@ import header
 ITEM = re.compile(r"  (\S.*?)(?:  +(.*))?")
 ENUMERATOR = re.compile(r"^ +(CQ_\w+ = \w+),? +/\* (.*?) \*/$", re.M | re.S)
 FRAME = re.compile(r"^(?:#ifdef __cplusplus\n.*\n#endif|#(?:ifndef|define) CEBDYRAQ_\w*|#include.*|#endif)\n?", re.M)
+MUST_USE = re.compile(r"^/\* .* \*/\n#ifdef __GNUC__\n(?:#.*\n)+?#endif\n| CQ_MUST_USE(?=;)", re.M)
 HEAD = """.TH CEBDYRAQ 3 "" "Cebdyraq {version}" "Library Functions Manual"
 .SH NAME
 cebdyraq \\- {what}
@@ -85,11 +86,15 @@ def body(parts):
             yield from (code(shown), ".RS 4\n" + prose(comment) + "\n.RE")
 
 
+def parts(name, folder):
+    """The parts of a header, without what only a compiler reads."""
+    text = MUST_USE.sub("", header.text_of(name, folder))
+    return [part._replace(code=FRAME.sub("", part.code).strip("\n")) for part in header.parts(text)]
+
+
 def page(folder=header.C):
     """The page's text."""
-    (first, *of_first), (second, *of_second) = (
-        [part._replace(code=FRAME.sub("", part.code).strip("\n")) for part in header.parts(header.text_of(name, folder))] for name in header.HEADERS
-    )
+    (first, *of_first), (second, *of_second) = (parts(name, folder) for name in header.HEADERS)
     title, _, about = first.comment.partition("\n\n")
     title_of_second, _, about_second = second.comment.partition("\n\n")
     what, what_second = (escaped(text.split(": ", 1)[1].rstrip(".")) for text in (title, title_of_second))

@@ -157,6 +157,21 @@ class WithRuntime(unittest.TestCase):
         self.assert_code(Code.MUST_POSSESS_CAPABILITY, env.post_suspend_thread, thread)
         self.assert_code(Code.MUST_POSSESS_CAPABILITY, env.post_pop_frame, thread)
 
+    def test_any(self):
+        env, thread = self.env, self.thread
+        posted = [env.post_frame_location(thread, 9), env.post_stack_trace(thread, 0, 1)]
+        first = env.wait_any(posted, timeout=60)
+        other = posted[0] if first is posted[1] else posted[1]
+        self.assertIs(env.wait_any([other], timeout=60), other)
+        self.assert_code(Code.NO_MORE_FRAMES, posted[0].collect)
+        self.assertEqual(posted[1].collect(), [Frame(2, 0)])
+        self.assertIs(env.wait_any(posted[1:], timeout=0), posted[1])
+        self.assert_code(Code.TIMED_OUT, env.wait_any, [], timeout=0)
+        with self.attach():
+            self.assertIsNone(env.wait_any([], timeout=60))
+        env.meet()
+        self.assert_code(Code.TIMED_OUT, env.wait_any, [], timeout=0)
+
     def test_two_environments(self):
         with self.attach() as other:
             self.assertTrue(self.env.has_news())

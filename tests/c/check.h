@@ -31,5 +31,7 @@ static inline void check_same(const char *file, int line, const char *what, uint
 #define SAME(found, wanted) check_same(__FILE__, __LINE__, #found, (uint64_t)(found), (uint64_t)(wanted))
 /* The call succeeds. */
 #define OK(call) SAME(call, CQ_OK)
+/* The call may be refused. */
+#define MAYBE(call) ((void)!(call))
 
 #endif

@@ -55,10 +55,10 @@ static void end_thread(world *w, cq_thread *thread) {
     }
     if (w->env.kind != 0) {
         OK(cq_meet(&w->env));
-        cq_resume_thread(&w->env, 0, &answer);
+        MAYBE(cq_resume_thread(&w->env, 0, &answer));
     }
-    cq_back(thread);
-    cq_end(thread);
+    MAYBE(cq_back(thread));
+    MAYBE(cq_end(thread));
     OK(cq_detach_thread(thread));
 }
 
@@ -89,7 +89,7 @@ static void look_at_env(world *w, picture *p) {
     p->state_code = cq_get_thread_state(&w->env, 0, &answer);
     p->state = answer.number;
     answer.number = 0;
-    cq_get_thread_local_storage(&w->env, 0, &answer);
+    MAYBE(cq_get_thread_local_storage(&w->env, 0, &answer));
     p->word = answer.number;
     OK(cq_out_at(&w->env, 0, &p->outs));
     OK(cq_get_capabilities(&w->env, &p->capabilities));

@@ -86,6 +86,41 @@ uint32_t refuse_memory(void);
 /* Makes each call of an environment while it gathers a trace. It gives how many calls these are. */
 uint32_t refuse_while_gathering(void);
 
+#define COUNT(rows) (sizeof(rows) / sizeof((rows)[0]))
+
+/* The calls of an environment `h`, but for those that go on with a trace. */
+#define ENV_CALLS(CALL) \
+    CALL(meet, cq_meet(h)) \
+    CALL(let_go, cq_let_go(h, 0, &out.flag)) \
+    CALL(get_all_threads, cq_get_all_threads(h, out.threads, 2, &out.word)) \
+    CALL(get_thread_info, cq_get_thread_info(h, 0, &out.info, out.name, 8)) \
+    CALL(get_thread_state, cq_get_thread_state(h, 0, &out.answer)) \
+    CALL(get_frame_count, cq_get_frame_count(h, 0, &out.answer)) \
+    CALL(get_frame_location, cq_get_frame_location(h, 0, 2, &out.answer)) \
+    CALL(get_stack_trace, cq_get_stack_trace(h, 0, 2, 2, &out.answer, out.frames, 2)) \
+    CALL(suspend_thread, cq_suspend_thread(h, 0, &out.answer)) \
+    CALL(resume_thread, cq_resume_thread(h, 0, &out.answer)) \
+    CALL(pop_frame, cq_pop_frame(h, 0, &out.answer)) \
+    CALL(get_thread_local_storage, cq_get_thread_local_storage(h, 0, &out.answer)) \
+    CALL(set_thread_local_storage, cq_set_thread_local_storage(h, 0, 7, &out.answer)) \
+    CALL(collect, cq_collect(h, &w->ticket, &out.answer, out.frames, 2)) \
+    CALL(cancel, cq_cancel(h, &w->ticket)) \
+    CALL(discard, cq_discard(h, 0, &out.flag)) \
+    CALL(out_at, cq_out_at(h, 0, &out.number)) \
+    CALL(gather_all_stack_traces, cq_gather_all_stack_traces(h, 2)) \
+    CALL(gather_thread_list_stack_traces, cq_gather_thread_list_stack_traces(h, out.threads, 0, 2)) \
+    CALL(gathered, cq_gathered(h, &out.word)) \
+    CALL(gathered_stack, cq_gathered_stack(h, 0, &out.stack, out.frames, 2)) \
+    CALL(add_capabilities, cq_add_capabilities(h, 5)) \
+    CALL(relinquish_capabilities, cq_relinquish_capabilities(h, 3)) \
+    CALL(get_capabilities, cq_get_capabilities(h, &out.number)) \
+    CALL(get_potential_capabilities, cq_get_potential_capabilities(h, &out.number)) \
+    CALL(get_environment_local_storage, cq_get_environment_local_storage(h, &out.word)) \
+    CALL(set_environment_local_storage, cq_set_environment_local_storage(h, 7)) \
+    CALL(set_event_notification_mode, cq_set_event_notification_mode(h, true)) \
+    CALL(next_event, cq_next_event(h, &out.event)) \
+    CALL(dispose_environment, cq_dispose_environment(h))
+
 /* Rows of a call, on an empty handle and on one of another kind. */
 #define MISUSES(name) { "cq_" #name, CQ_MISUSED, RUNS, name##_empty }, { "cq_" #name, CQ_MISUSED, RUNS, name##_wrong }
 

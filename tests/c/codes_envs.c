@@ -1,43 +1,31 @@
 /* codes_envs.c: the refusals of the environment's functions. */
 #include "codes.h"
 
-#define COUNT(rows) (sizeof(rows) / sizeof((rows)[0]))
-
 /* The world's thread, and one that is not there. */
 static const uint32_t LISTED[] = { 0, 1 };
 
-MISUSED_ENV(meet, cq_meet(h))
-MISUSED_ENV(let_go, cq_let_go(h, 0, &out.flag))
-MISUSED_ENV(get_all_threads, cq_get_all_threads(h, out.threads, 2, &out.word))
-ON_ENV(get_thread_info, cq_get_thread_info(h, 0, &out.info, out.name, 8))
-ON_ENV(get_thread_state, cq_get_thread_state(h, 0, &out.answer))
-ON_ENV(get_frame_count, cq_get_frame_count(h, 0, &out.answer))
-ON_ENV(get_frame_location, cq_get_frame_location(h, 0, 2, &out.answer))
-ON_ENV(get_stack_trace, cq_get_stack_trace(h, 0, 2, 2, &out.answer, out.frames, 2))
-ON_ENV(suspend_thread, cq_suspend_thread(h, 0, &out.answer))
-ON_ENV(resume_thread, cq_resume_thread(h, 0, &out.answer))
-ON_ENV(pop_frame, cq_pop_frame(h, 0, &out.answer))
-ON_ENV(get_thread_local_storage, cq_get_thread_local_storage(h, 0, &out.answer))
-ON_ENV(set_thread_local_storage, cq_set_thread_local_storage(h, 0, 7, &out.answer))
-ON_ENV(collect, cq_collect(h, &w->ticket, &out.answer, out.frames, 2))
-MISUSED_ENV(cancel, cq_cancel(h, &w->ticket))
-MISUSED_ENV(discard, cq_discard(h, 0, &out.flag))
-MISUSED_ENV(out_at, cq_out_at(h, 0, &out.number))
-MISUSED_ENV(gather_all_stack_traces, cq_gather_all_stack_traces(h, 2))
-MISUSED_ENV(gather_thread_list_stack_traces, cq_gather_thread_list_stack_traces(h, LISTED, 1, 2))
+ENV_CALLS(MISUSED_ENV)
 ON_ENV(gather_step, cq_gather_step(h, &out.flag))
-ON_ENV(gather_give_up, cq_gather_give_up(h))
-ON_ENV(gathered, cq_gathered(h, &out.word))
-ON_ENV(gathered_stack, cq_gathered_stack(h, 0, &out.stack, out.frames, 2))
-ON_ENV(add_capabilities, cq_add_capabilities(h, 5))
-MISUSED_ENV(relinquish_capabilities, cq_relinquish_capabilities(h, 3))
-MISUSED_ENV(get_capabilities, cq_get_capabilities(h, &out.number))
-MISUSED_ENV(get_potential_capabilities, cq_get_potential_capabilities(h, &out.number))
-MISUSED_ENV(get_environment_local_storage, cq_get_environment_local_storage(h, &out.word))
-MISUSED_ENV(set_environment_local_storage, cq_set_environment_local_storage(h, 7))
-MISUSED_ENV(set_event_notification_mode, cq_set_event_notification_mode(h, true))
-ON_ENV(next_event, cq_next_event(h, &out.event))
-MISUSED_ENV(dispose_environment, cq_dispose_environment(h))
+MISUSED_ENV(gather_give_up, cq_gather_give_up(h))
+
+/* The same on the world's environment. */
+#define ITS_OWN(name) static uint32_t name(world *w) { return name##_on(&w->env, w); }
+ITS_OWN(get_thread_info)
+ITS_OWN(get_thread_state)
+ITS_OWN(get_frame_count)
+ITS_OWN(get_frame_location)
+ITS_OWN(get_stack_trace)
+ITS_OWN(suspend_thread)
+ITS_OWN(resume_thread)
+ITS_OWN(pop_frame)
+ITS_OWN(get_thread_local_storage)
+ITS_OWN(set_thread_local_storage)
+ITS_OWN(collect)
+ITS_OWN(gathered)
+ITS_OWN(gathered_stack)
+ITS_OWN(add_capabilities)
+ITS_OWN(next_event)
+ITS_OWN(gather_give_up)
 
 static uint32_t has_news_empty(world *w) { return cq_has_news(&w->no_env) ? CQ_OK : CQ_MISUSED; }
 static uint32_t has_news_wrong(world *w) { return cq_has_news((cq_env *)(void *)&w->thread) ? CQ_OK : CQ_MISUSED; }

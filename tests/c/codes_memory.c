@@ -4,8 +4,6 @@
  * A function with CQ_OUT_OF_MEMORY in its list gives it, and nothing changes. Any other succeeds without memory. */
 #include "codes.h"
 
-#define COUNT(rows) (sizeof(rows) / sizeof((rows)[0]))
-
 enum { MOST_BLOCKS = 100 };
 
 static const cq_frame TWO[] = { { 1, 5 }, { 2, -1 } };

@@ -1,8 +1,6 @@
 /* codes_threads.c: the refusals of the service's and the thread's functions. */
 #include "codes.h"
 
-#define COUNT(rows) (sizeof(rows) / sizeof((rows)[0]))
-
 static const uint8_t NAME[] = "name";
 
 /* The service. */

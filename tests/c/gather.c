@@ -71,9 +71,9 @@ static void set_up(void) {
 static void tear_down(void) {
     for (uint32_t i = 0; i < THREADS; i++) {
         if (threads[i].kind == 0) continue;
-        cq_resume_thread(&other, i, &answer);
-        cq_back(&threads[i]);
-        cq_end(&threads[i]);
+        MAYBE(cq_resume_thread(&other, i, &answer));
+        MAYBE(cq_back(&threads[i]));
+        MAYBE(cq_end(&threads[i]));
         OK(cq_detach_thread(&threads[i]));
     }
     OK(cq_dispose_environment(&env));

@@ -45,7 +45,7 @@ PROGRAMS = [
     Program("life", ["life.c"], COUNTED_HEAP),
     Program("codes", CODES, COUNTED_HEAP),
     Program("gather", ["gather.c"], COUNTED_HEAP),
-    Program("wait", ["wait.c"], HEAP),
+    Program("wait", ["wait.c", "wait_any.c", "wait_window.c"], HEAP),
     Program("gather_waits", ["gather_waits.c"], HEAP, {VALGRIND: ["100"]}),
     Program("gather_busy", ["gather_busy.c"], HEAP, wait=[]),
     Program("turns", ["turns.c"], HEAP, {VALGRIND: ["100"]}, wait=[HERE / "slow_wait.c"]),
@@ -148,6 +148,29 @@ def needed(archive):
     return wanted - defined - {"rattle_alloc", "rattle_realloc", "rattle_dealloc"} - set(COPIES)
 
 
+def built_plain(source, folder):
+    made = folder / (source.stem + ".o")
+    run([compiler(False), *flags(PLAIN), "-std=c11", "-c", str(source), "-o", str(made)], check=True)
+    return str(made)
+
+
+def report_ordered(archive):
+    """The thread sanitizer over the library as it is built, with the suppressions that are installed: a program that keeps to the
+    library's order is right, and the same with a race in it is reported."""
+    with tempfile.TemporaryDirectory() as name:
+        folder = pathlib.Path(name)
+        parts = [built_plain(source, folder) for source in WAIT + HEAP]
+        made = str(folder / "ordered")
+        run([compiler(False), *flags(THREAD), "-std=c11", str(HERE / "ordered.c"), *parts, str(archive), "-lpthread", "-o", made], check=True)
+        environment = dict(os.environ, TSAN_OPTIONS="exitcode=66 suppressions=%s" % (C / "tsan.supp"))
+        right, wrong = (run([made, *words], env=environment, timeout=LONGEST) for words in ([], ["race"]))
+    passed = (right.returncode, right.stdout) == (0, "") and wrong.returncode == 66 and "in count " in wrong.stdout
+    print("the thread sanitizer knows the library's order: " + ("passed" if passed else "FAILED"))
+    if not passed:
+        print(right.stdout + wrong.stdout, flush=True)
+    return passed
+
+
 def report_needed(archive):
     names = sorted(needed(archive))
     print("the library needs memory alone: " + ("passed" if not names else "FAILED, it needs " + ", ".join(names)))
@@ -176,6 +199,9 @@ def main(words):
     passed = failed = skipped = 0
     if not words[2:] and shutil.which("nm"):
         passed, failed = (1, 0) if report_needed(archive) else (0, 1)
+    if not words[2:] and is_missing(THREAD) is None:
+        ordered = report_ordered(archive)
+        passed, failed = passed + ordered, failed + (not ordered)
     for mode in MODES:
         missing = is_missing(mode)
         for program in chosen:

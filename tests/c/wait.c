@@ -1,22 +1,15 @@
 /* wait.c: who waits sleeps, is woken, and is not woken too early. */
 #define _GNU_SOURCE
-#include "check.h"
+#include "wait.h"
 
-#include <pthread.h>
-#include <stdatomic.h>
 #include <sys/resource.h>
 #include <time.h>
 
-static const int64_t MILLISECOND = 1000000, SECOND = 1000000000;
-
-/* A wait that is ended by a wake-up ends long before this. */
-static const int64_t LONG = 60 * (int64_t)1000000000;
-
-static cq_signal signal_of_all;
-static cq_service service;
-static cq_thread thread;
-static cq_env env;
-static atomic_int at;         /* how far the other thread of the operating system is */
+cq_signal signal_of_all;
+cq_service service;
+cq_thread thread;
+cq_env env;
+atomic_int at;
 static int64_t time_used;     /* of the processor, while the thread was held */
 static long sleeps;           /* how often it slept meanwhile */
 
@@ -26,7 +19,7 @@ static int64_t read_clock(clockid_t clock) {
     return (int64_t)now.tv_sec * SECOND + now.tv_nsec;
 }
 
-static int64_t now_ns(void) { return read_clock(CLOCK_MONOTONIC); }
+int64_t now_ns(void) { return read_clock(CLOCK_MONOTONIC); }
 
 static long sleeps_so_far(void) {
     struct rusage used;
@@ -34,28 +27,28 @@ static long sleeps_so_far(void) {
     return used.ru_nvcsw;
 }
 
-static void rest(int64_t time) {
+void rest(int64_t time) {
     struct timespec left = { .tv_sec = time / SECOND, .tv_nsec = time % SECOND };
     while (nanosleep(&left, &left) != 0) { }
 }
 
-static void await(int wanted) {
+void await(int wanted) {
     while (atomic_load(&at) < wanted) {
         rest(MILLISECOND);
     }
 }
 
-static pthread_t run(void *(*body)(void *)) {
+pthread_t run(void *(*body)(void *)) {
     pthread_t id;
     atomic_store(&at, 0);
     SAME(pthread_create(&id, NULL, body, NULL), 0);
     return id;
 }
 
-static void join(pthread_t id) { SAME(pthread_join(id, NULL), 0); }
+void join(pthread_t id) { SAME(pthread_join(id, NULL), 0); }
 
 static void set_up(void) {
-    OK(cq_make(8, 1, 8, &service));
+    OK(cq_make(8, 1, WINDOW, &service));
     OK(cq_wait_attach_thread(&service, &signal_of_all, (const uint8_t *)"main", 4, 5, &thread));
     OK(cq_wait_attach_environment(&service, &signal_of_all, &env));
     OK(cq_wait_meet(&env, &signal_of_all));
@@ -301,6 +294,10 @@ int main(void) {
     lists();
     list_is_posted_before_it_waits();
     list_without_capability();
+    OK(cq_add_capabilities(&env, CQ_CAN_SUSPEND));
+    OK(cq_leave(&thread));
+    waits_for_any();
+    full_windows();
     tear_down();
     return 0;
 }

@@ -11,7 +11,7 @@ from installed import CC, CXX, HERE, TOP, VERSION, WARNINGS, compiled, files, fl
 
 FILES = {
     "include/cebdyraq.h", "include/cebdyraq.hpp", "include/cebdyraq_wait.h", "lib/libcebdyraq.a", "lib/libcebdyraq.so",
-    "lib/libcebdyraq.so.1", f"lib/libcebdyraq.so.{VERSION}", "lib/pkgconfig/cebdyraq.pc", "share/man/man3/cebdyraq.3",
+    "lib/libcebdyraq.so.1", f"lib/libcebdyraq.so.{VERSION}", "lib/pkgconfig/cebdyraq.pc", "share/cebdyraq/tsan.supp", "share/man/man3/cebdyraq.3",
 }
 PROGRAMS = {
     "bin/tiwalk": "crates/tiwalk/out/tiwalk", "bin/tilint": "crates/tilint/out/tilint", "bin/tiprof": "crates/tiprof/out/tiprof",

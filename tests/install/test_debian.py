@@ -16,7 +16,7 @@ PACKAGES = {
     "libcebdyraq1": ("libs", "libc6 (>= 2.34)", "threads of a runtime, inspected by agents", (f"{MULTIARCH}/libcebdyraq.so.*",)),
     "libcebdyraq-dev": (
         "libdevel", f"libcebdyraq1 (= {VERSION}-1), libc6-dev", "threads of a runtime, inspected by agents (headers)",
-        ("usr/include/*", f"{MULTIARCH}/libcebdyraq.a", f"{MULTIARCH}/libcebdyraq.so", f"{MULTIARCH}/pkgconfig/*", "usr/share/man/man3/*"),
+        ("usr/include/*", f"{MULTIARCH}/libcebdyraq.a", f"{MULTIARCH}/libcebdyraq.so", f"{MULTIARCH}/pkgconfig/*", "usr/share/man/man3/*", "usr/share/cebdyraq/*"),
     ),
     "cebdyraq": ("devel", "libc6 (>= 2.34)", "walks and profiles of inspected threads", ("usr/bin/*",)),
 }

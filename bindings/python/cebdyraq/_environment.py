@@ -26,7 +26,7 @@ class Posted(Generic[Told]):
 
     def __init__(self, env: "Environment", read: Callable[[Any, Any], Told], frames: Any) -> None:
         self._env, self._read, self._frames = env, read, frames
-        self._answer, self._is_out = lib.Answer(), False
+        self._answer, self._is_out, self._code = lib.Answer(), False, int(Code.OK)
 
     def _post(self, name: str, *arguments: Any) -> "Posted[Told]":
         with_frames = (self._frames, len(self._frames)) if name == "cq_get_stack_trace" else ()
@@ -49,6 +49,8 @@ class Posted(Generic[Told]):
             self._is_out = code == Code.TIMED_OUT
             if code != Code.OK:
                 raise Error(code)
+        if self._code != Code.OK:
+            raise Error(self._code)
         return self._read(self._answer, self._frames)
 
     def cancel(self) -> None:
@@ -237,6 +239,25 @@ class Environment:
 
     def post_pop_frame(self, thread: int) -> Posted[None]:
         return Posted(self, _nothing, lib.room_for(0))._post("cq_pop_frame", thread)
+
+    def wait_any(self, calls: Sequence[Posted[Any]], timeout: Optional[float] = None) -> Optional[Posted[Any]]:
+        """Waits until one of these calls is answered, and gives it: its `collect` does not wait then. None says that threads or
+        environments have come or gone, again and again until the environment looks, as by `meet`."""
+        for call in calls:
+            if not call._is_out:
+                return call
+        tickets = (lib.Ticket * len(calls))(*(call._ticket for call in calls))
+        which, answer, frames = lib.SIZE(), lib.Answer(), max((call._frames for call in calls), key=len, default=lib.room_for(0))
+        room = (lib.Frame * len(frames))()
+        code = self._plain_call("cq_wait_any", self._signal, tickets, len(calls), _nanoseconds(timeout), ctypes.byref(which),
+                                ctypes.byref(answer), room, len(room))
+        if code == Code.NONE:
+            return None
+        if code in (Code.TIMED_OUT, Code.MISUSED):
+            raise Error(code)
+        found = calls[which.value]
+        found._answer, found._frames, found._code, found._is_out = answer, room, code, False
+        return found
 
     def discard(self, thread: int) -> bool:
         """Throws the answer away to the call that was given up first at the thread, and says whether it was there."""

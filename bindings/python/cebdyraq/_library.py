@@ -4,7 +4,7 @@ import ctypes
 import os
 from typing import Any, Dict, List, Optional, Sequence, Union
 
-VERSION = (1, 0)
+VERSION = (1, 1)
 
 
 class Handle(ctypes.Structure):
@@ -85,6 +85,7 @@ FUNCTIONS: Dict[str, List[Any]] = {
     "cq_wait_get_thread_local_storage": [AT, NUMBER, I64, AT],
     "cq_wait_set_thread_local_storage": [AT, NUMBER, WORD, I64],
     "cq_wait_collect": [AT, AT, I64, AT, AT, SIZE],
+    "cq_wait_any": [AT, AT, SIZE, I64, AT, AT, AT, SIZE],
     "cq_wait_cancel": [AT, AT],
     "cq_wait_discard": [AT, NUMBER, AT],
     "cq_out_at": [NUMBER, AT],

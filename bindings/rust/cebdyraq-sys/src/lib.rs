@@ -9,7 +9,7 @@ use core::ptr::null_mut;
 
 /// The version whose functions are declared here.
 pub const CQ_VERSION_MAJOR: u32 = 1;
-pub const CQ_VERSION_MINOR: u32 = 0;
+pub const CQ_VERSION_MINOR: u32 = 1;
 
 /// Whether the library that the program runs with has all of them, as `cq_version_fits` of `cebdyraq.h` says.
 pub fn version_fits() -> bool {
@@ -360,6 +360,17 @@ extern "C" {
         max_count: i32,
         timeout_ns: i64,
         count: *mut u64,
+    ) -> u32;
+    pub fn cq_wait_any(
+        env: *mut cq_env,
+        signal: *mut cq_signal,
+        tickets: *const cq_ticket,
+        count: usize,
+        timeout_ns: i64,
+        which: *mut usize,
+        answer: *mut cq_answer,
+        frames: *mut cq_frame,
+        room: usize,
     ) -> u32;
     pub fn cq_wait_collect(
         env: *mut cq_env,

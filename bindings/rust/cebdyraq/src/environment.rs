@@ -46,6 +46,9 @@ pub struct Event {
     pub lost: u64,
 }
 
+/// A call at each thread of a list, with a code for each.
+type ListCall = unsafe extern "C" fn(*mut sys::cq_env, *mut sys::cq_signal, *const u32, usize, i64, *mut u32) -> u32;
+
 /// An agent's environment.
 ///
 /// Its calls wait asleep, for ever or for the time that [`Environment::set_timeout`] sets. When it is dropped, it is
@@ -237,21 +240,18 @@ impl Environment {
     /// SuspendThreadList: a result for each thread. All are asked before the first is waited for. The error is that of the whole
     /// list, and then no thread is suspended.
     pub fn suspend_thread_list(&mut self, threads: &[u32]) -> Result<Vec<Result<(), Error>>, Error> {
-        let mut codes = vec![0; threads.len()];
-        let (at, count, time) = (threads.as_ptr(), threads.len(), self.time());
-        checked(unsafe {
-            sys::cq_wait_suspend_thread_list(self.at(), self.signal.at(), at, count, time, codes.as_mut_ptr())
-        })?;
-        Ok(codes.into_iter().map(checked).collect())
+        self.each(sys::cq_wait_suspend_thread_list, threads)
     }
 
     /// ResumeThreadList: a result for each thread. The error is that of the whole list, and then no thread is resumed.
     pub fn resume_thread_list(&mut self, threads: &[u32]) -> Result<Vec<Result<(), Error>>, Error> {
+        self.each(sys::cq_wait_resume_thread_list, threads)
+    }
+
+    fn each(&mut self, call: ListCall, threads: &[u32]) -> Result<Vec<Result<(), Error>>, Error> {
         let mut codes = vec![0; threads.len()];
         let (at, count, time) = (threads.as_ptr(), threads.len(), self.time());
-        checked(unsafe {
-            sys::cq_wait_resume_thread_list(self.at(), self.signal.at(), at, count, time, codes.as_mut_ptr())
-        })?;
+        checked(unsafe { call(self.at(), self.signal.at(), at, count, time, codes.as_mut_ptr()) })?;
         Ok(codes.into_iter().map(checked).collect())
     }
 

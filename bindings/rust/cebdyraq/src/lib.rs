@@ -56,6 +56,6 @@ mod thread;
 
 pub use environment::{capabilities, Environment, Event, EventKind, StackInfo, ThreadInfo};
 pub use error::Error;
-pub use posts::{Answer, Call, Posted, Ticket};
+pub use posts::{Answer, Any, Call, Posted, Ticket};
 pub use service::Service;
 pub use thread::{Ended, Frame, Fresh, Reason, Running, Safe};

@@ -38,6 +38,17 @@ pub enum Posted {
     Waiting(Ticket),
 }
 
+/// What ended a wait for any of several things.
+#[derive(Debug)]
+pub enum Any {
+    /// The call at this place of the list was answered. Its ticket is no more in the list.
+    Answered { index: usize, answer: Result<Answer, Error> },
+    /// Threads or environments have come or gone.
+    News,
+    /// The time is over, and all calls are out as before.
+    TimedOut,
+}
+
 impl Call {
     fn room(self) -> Vec<Frame> {
         match self {
@@ -100,6 +111,26 @@ impl Environment {
         match unsafe { sys::cq_wait_collect(self.at(), self.signal.at(), &ticket.raw, time, &mut raw, at, room) } {
             sys::CQ_TIMED_OUT => Ok(Posted::Waiting(ticket)),
             code => checked(code).map(|()| Posted::Answered(ticket.call.answer(&raw, frames))),
+        }
+    }
+
+    /// Waits for the answer to any of these calls, or for news of the list of threads ([`Environment::has_news`]). It gives the
+    /// news again until the environment looks, as by [`Environment::meet`].
+    pub fn wait_any(&mut self, tickets: &mut Vec<Ticket>) -> Any {
+        let raws: Vec<_> = tickets.iter().map(|ticket| ticket.raw).collect();
+        let mut frames = tickets.iter().map(|ticket| ticket.call.room()).max_by_key(Vec::len).unwrap_or_default();
+        let (mut raw, mut index) = (sys::cq_answer::default(), 0);
+        let (at, room, time) = (frames.as_mut_ptr(), frames.len(), nanoseconds(self.timeout));
+        let (env, signal) = (self.at(), self.signal.at());
+        // SAFETY: this call alone uses the handle, and the tickets and frames are there as long as it lasts.
+        match unsafe { sys::cq_wait_any(env, signal, raws.as_ptr(), raws.len(), time, &mut index, &mut raw, at, room) }
+        {
+            sys::CQ_NONE => Any::News,
+            sys::CQ_TIMED_OUT => Any::TimedOut,
+            code => {
+                let call = tickets.remove(index).call;
+                Any::Answered { index, answer: checked(code).map(|()| call.answer(&raw, frames)) }
+            }
         }
     }
 

@@ -1,7 +1,7 @@
 //! A runtime and its agents, each on a thread of its own.
 
-use cebdyraq::{capabilities, Answer, Call, Ended, Environment, Error, Event, EventKind, Frame, Fresh, Posted};
-use cebdyraq::{Reason, Running, Safe, Service, StackInfo, ThreadInfo};
+use cebdyraq::{capabilities, Answer, Any, Call, Ended, Environment, Error, Event, EventKind, Frame, Fresh, Posted};
+use cebdyraq::{Reason, Running, Safe, Service, StackInfo, ThreadInfo, Ticket};
 use std::sync::atomic::{AtomicBool, Ordering::SeqCst};
 use std::thread;
 use std::time::{Duration, Instant};
@@ -140,6 +140,34 @@ fn calls_are_posted_and_collected() {
     running.poll();
     assert!(env.discard(0) && env.discard(0) && !env.discard(0));
     assert_eq!(env.out_at(0), 0);
+}
+
+#[test]
+fn one_wait_is_for_several_calls() {
+    let (mut service, mut running, mut env) = with_thread();
+    running.enter(7).unwrap();
+    let mut tickets: Vec<Ticket> = [Call::FrameCount, Call::FrameLocation { depth: 1 }]
+        .into_iter()
+        .map(|call| match env.post(0, call) {
+            Ok(Posted::Waiting(ticket)) => ticket,
+            other => panic!("it runs: {other:?}"),
+        })
+        .collect();
+    env.set_timeout(Some(Duration::ZERO));
+    assert!(matches!(env.wait_any(&mut tickets), Any::TimedOut));
+    assert_eq!(tickets.len(), 2);
+    running.poll();
+    let Any::Answered { index: 0, answer: Ok(Answer::Count(1)) } = env.wait_any(&mut tickets) else {
+        panic!("it polled")
+    };
+    let Any::Answered { index: 0, answer: Err(Error::NoMoreFrames) } = env.wait_any(&mut tickets) else {
+        panic!("it polled")
+    };
+    assert!(tickets.is_empty());
+    assert!(matches!(env.wait_any(&mut tickets), Any::TimedOut));
+    env.set_timeout(None);
+    let _fresh = service.attach_thread("", 5).unwrap();
+    assert!(matches!(env.wait_any(&mut tickets), Any::News));
 }
 
 #[test]
