@@ -418,7 +418,8 @@ uint32_t cq_get_thread_info(cq_env *env, uint32_t thread, cq_thread_info *info, 
  *     cq_get_thread_local_storage,
  *     cq_set_thread_local_storage
  *
- * At any other thread each call is answered at once. No function gives CQ_WAITING but these five, and cq_collect.
+ * At any other thread each call is answered at once. No function gives CQ_WAITING but these five, cq_collect and
+ * cq_ensure_resumed.
  *
  * Calls that wait take place in the order in which they were posted. One that is answered at once takes place at once, also
  * while earlier ones wait. So a word that is set after a trace was posted is set before the trace is made.
@@ -517,6 +518,22 @@ uint32_t cq_cancel(cq_env *env, const cq_ticket *ticket);
  *
  *   CQ_BUSY 215  the thread itself or another environment uses the thread */
 uint32_t cq_discard(cq_env *env, uint32_t thread, bool *thrown);
+
+/* Takes back what the environment's suspensions did to a thread, and what those that were given up would still do to it: for a
+ * suspension whose time was over, after which cq_resume_thread gives CQ_THREAD_NOT_SUSPENDED at once. It needs CQ_CAN_SUSPEND.
+ *
+ * It throws away one answer at the thread, as cq_discard does. If no call that was given up there is out then, it resumes the
+ * thread, which costs one call. With CQ_OK the thread is not suspended, whether it was before or not. A suspension belongs to the
+ * thread, so this may end one that another environment made.
+ *
+ *   CQ_WAITING 302                 a call that was given up is out, and may yet suspend the thread: call again once the thread has
+ *                                  handed over
+ *   CQ_MUST_POSSESS_CAPABILITY 99  the environment has no CQ_CAN_SUSPEND
+ *   CQ_INVALID_THREAD 10           the environment has not met the thread
+ *   CQ_CALLS_SPENT 209             no call is left at the thread
+ *   CQ_THREAD_NOT_ALIVE 15         the thread has not started, or has ended, or was let go of
+ *   CQ_BUSY 215                    the thread itself or another environment uses the thread. An answer may have been thrown away */
+uint32_t cq_ensure_resumed(cq_env *env, uint32_t thread) CQ_MUST_USE;
 
 /* Writes to `count` how many calls of the environment are out at the thread, also those that were given up: 0 to the service's
  * window. It is 0 at a thread that the environment has not met. */

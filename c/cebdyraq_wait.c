@@ -426,12 +426,16 @@ static uint32_t post(cq_env *env, const thread_call *call, cq_answer *answer, cq
     return CQ_MISUSED;
 }
 
-/* One try to post a call. Before that, answers are thrown away to calls that were given up at the thread, so that these have no
- * place in the window any more. */
-static uint32_t post_now(cq_env *env, const thread_call *call, cq_answer *answer, cq_frame *frames, size_t room) {
+/* Throws away the answers that are there to calls that were given up at the thread. */
+static void discard_all(cq_env *env, uint32_t thread) {
     bool thrown = true;
-    while (thrown && cq_discard(env, call->thread, &thrown) == CQ_OK) {
+    while (thrown && cq_discard(env, thread, &thrown) == CQ_OK) {
     }
+}
+
+/* One try to post a call. Calls that were given up at the thread and are answered have no place in the window any more. */
+static uint32_t post_now(cq_env *env, const thread_call *call, cq_answer *answer, cq_frame *frames, size_t room) {
+    discard_all(env, call->thread);
     return post(env, call, answer, frames, room);
 }
 
@@ -517,6 +521,20 @@ uint32_t cq_wait_suspend_thread(cq_env *env, cq_signal *signal, uint32_t thread,
 uint32_t cq_wait_resume_thread(cq_env *env, cq_signal *signal, uint32_t thread, int64_t timeout_ns) {
     cq_answer answer;
     return call_at(env, signal, (thread_call){ .what = RESUME, .thread = thread }, timeout_ns, &answer);
+}
+
+uint32_t cq_wait_ensure_resumed(cq_env *env, cq_signal *signal, uint32_t thread, int64_t timeout_ns) {
+    tell_before(&signal->threads);
+    waiter w = begin(signal, timeout_ns, CQ_WAITING);
+    w.bits = bit_of(thread);
+    while (again(&w)) {
+        discard_all(env, thread);
+        w.code = cq_ensure_resumed(env, thread);
+    }
+    if (w.code == CQ_OK) {
+        wake(&signal->threads, bit_of(thread));  /* it may return now */
+    }
+    return answered(&w);
 }
 
 uint32_t cq_wait_pop_frame(cq_env *env, cq_signal *signal, uint32_t thread, int64_t timeout_ns) {

@@ -109,6 +109,11 @@ uint32_t cq_wait_cancel(cq_env *env, cq_signal *signal, const cq_ticket *ticket)
 /* cq_discard. */
 uint32_t cq_wait_discard(cq_env *env, cq_signal *signal, uint32_t thread, bool *thrown);
 
+/* cq_ensure_resumed. It sleeps until the thread has reached all calls of this environment that were given up there. With
+ * CQ_TIMED_OUT 214 it has not, so one of them may yet suspend it: call again. CQ_MUST_POSSESS_CAPABILITY 99, CQ_INVALID_THREAD 10,
+ * CQ_THREAD_NOT_ALIVE 15, CQ_CALLS_SPENT 209. */
+uint32_t cq_wait_ensure_resumed(cq_env *env, cq_signal *signal, uint32_t thread, int64_t timeout_ns) CQ_MUST_USE;
+
 /* cq_set_event_notification_mode. */
 uint32_t cq_wait_set_event_notification_mode(cq_env *env, cq_signal *signal, bool enabled) CQ_MUST_USE;
 

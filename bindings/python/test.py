@@ -155,6 +155,7 @@ class WithRuntime(unittest.TestCase):
         while env.out_at(thread) > 0:
             env.discard(thread)
         self.assert_code(Code.MUST_POSSESS_CAPABILITY, env.post_suspend_thread, thread)
+        self.assert_code(Code.MUST_POSSESS_CAPABILITY, env.ensure_resumed, thread)
         self.assert_code(Code.MUST_POSSESS_CAPABILITY, env.post_pop_frame, thread)
 
     def test_any(self):

@@ -106,6 +106,7 @@ uint32_t refuse_while_gathering(void);
     CALL(collect, cq_collect(h, &w->ticket, &out.answer, out.frames, 2)) \
     CALL(cancel, cq_cancel(h, &w->ticket)) \
     CALL(discard, cq_discard(h, 0, &out.flag)) \
+    CALL(ensure_resumed, cq_ensure_resumed(h, 0)) \
     CALL(out_at, cq_out_at(h, 0, &out.number)) \
     CALL(gather_all_stack_traces, cq_gather_all_stack_traces(h, 2)) \
     CALL(gather_thread_list_stack_traces, cq_gather_thread_list_stack_traces(h, out.threads, 0, 2)) \

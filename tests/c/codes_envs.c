@@ -17,6 +17,7 @@ ITS_OWN(get_frame_location)
 ITS_OWN(get_stack_trace)
 ITS_OWN(suspend_thread)
 ITS_OWN(resume_thread)
+ITS_OWN(ensure_resumed)
 ITS_OWN(pop_frame)
 ITS_OWN(get_thread_local_storage)
 ITS_OWN(set_thread_local_storage)
@@ -57,6 +58,7 @@ static uint32_t gather_two_below(world *w) { return cq_gather_thread_list_stack_
     }
 WITHOUT(suspend_thread, CQ_CAN_SUSPEND)
 WITHOUT(resume_thread, CQ_CAN_SUSPEND)
+WITHOUT(ensure_resumed, CQ_CAN_SUSPEND)
 WITHOUT(pop_frame, CQ_CAN_POP_FRAME)
 
 /* A thread of another number. */
@@ -67,6 +69,7 @@ OF_NONE(get_frame_location, cq_get_frame_location(h, 1, -1, &out.answer))
 OF_NONE(get_stack_trace, cq_get_stack_trace(h, 1, 0, -1, &out.answer, out.frames, 2))
 OF_NONE(suspend_thread, cq_suspend_thread(h, 1, &out.answer))
 OF_NONE(resume_thread, cq_resume_thread(h, 1, &out.answer))
+OF_NONE(ensure_resumed, cq_ensure_resumed(h, 1))
 OF_NONE(pop_frame, cq_pop_frame(h, 1, &out.answer))
 OF_NONE(get_thread_local_storage, cq_get_thread_local_storage(h, 1, &out.answer))
 OF_NONE(set_thread_local_storage, cq_set_thread_local_storage(h, 1, 7, &out.answer))
@@ -109,6 +112,8 @@ const row ENV_ROWS[] = {
     { "cq_resume_thread", CQ_MUST_POSSESS_CAPABILITY, HELD, resume_thread_without },
     { "cq_resume_thread", CQ_THREAD_NOT_SUSPENDED, RUNS, resume_thread },
     { "cq_resume_thread", CQ_THREAD_NOT_SUSPENDED, NATIVE, resume_thread },
+    AT_A_THREAD(ensure_resumed), NOT_ALIVE(ensure_resumed),
+    { "cq_ensure_resumed", CQ_MUST_POSSESS_CAPABILITY, HELD, ensure_resumed_without },
     AT_A_THREAD(pop_frame), NOT_ALIVE(pop_frame), NO_ROOM(pop_frame),
     { "cq_pop_frame", CQ_MUST_POSSESS_CAPABILITY, HELD, pop_frame_without },
     { "cq_pop_frame", CQ_THREAD_NOT_SUSPENDED, NATIVE, pop_frame },

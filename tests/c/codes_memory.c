@@ -26,6 +26,7 @@ static uint32_t get_stack_trace(world *w) { return cq_get_stack_trace(&w->env, 0
 static uint32_t suspend_thread(world *w) { return cq_suspend_thread(&w->env, 0, &out.answer); }
 static uint32_t resume_thread(world *w) { return cq_resume_thread(&w->env, 0, &out.answer); }
 static uint32_t pop_frame(world *w) { return cq_pop_frame(&w->env, 0, &out.answer); }
+static uint32_t ensure_resumed(world *w) { return cq_ensure_resumed(&w->env, 0); }
 static uint32_t get_word(world *w) { return cq_get_thread_local_storage(&w->env, 0, &out.answer); }
 static uint32_t set_word(world *w) { return cq_set_thread_local_storage(&w->env, 0, 7, &out.answer); }
 static uint32_t cancel(world *w) { return cq_cancel(&w->env, &w->ticket); }
@@ -161,7 +162,7 @@ static const row WITHOUT_MEMORY[] = {
     { "cq_poll", CQ_OK, FULL_WINDOW, poll }, { "cq_native", CQ_OK, IN_NATIVE, native },
     { "cq_block", CQ_OK, WAITS, block },
     { "cq_back", CQ_OK, NATIVE, back }, { "cq_end", CQ_OK, FULL_WINDOW, end },
-    { "cq_let_go", CQ_OK, GIVEN_BACK, let_go },
+    { "cq_let_go", CQ_OK, GIVEN_BACK, let_go }, { "cq_ensure_resumed", CQ_OK, HELD, ensure_resumed },
     { "cq_discard", CQ_OK, WAITS, discard }, { "cq_add_capabilities", CQ_OK, RUNS, add_capabilities },
     { "cq_set_event_notification_mode", CQ_OK, RUNS, enable }, { "cq_free", CQ_OK, RUNS, free_handle },
     { "cq_collect", CQ_OK, WAITS, poll_and_collect }, { "cq_next_event", CQ_OK, RUNS, told_of_a_thread },

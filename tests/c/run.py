@@ -45,7 +45,7 @@ PROGRAMS = [
     Program("life", ["life.c"], COUNTED_HEAP),
     Program("codes", CODES, COUNTED_HEAP),
     Program("gather", ["gather.c"], COUNTED_HEAP),
-    Program("wait", ["wait.c", "wait_any.c", "wait_window.c"], HEAP),
+    Program("wait", ["wait.c", "wait_any.c", "wait_resumed.c", "wait_window.c"], HEAP),
     Program("gather_waits", ["gather_waits.c"], HEAP, {VALGRIND: ["100"]}),
     Program("gather_busy", ["gather_busy.c"], HEAP, wait=[]),
     Program("turns", ["turns.c"], HEAP, {VALGRIND: ["100"]}, wait=[HERE / "slow_wait.c"]),

@@ -298,6 +298,7 @@ int main(void) {
     OK(cq_leave(&thread));
     waits_for_any();
     full_windows();
+    suspensions_taken_back();
     tear_down();
     return 0;
 }

@@ -33,4 +33,7 @@ void full_windows(void);
 /* Waits for any of several things. */
 void waits_for_any(void);
 
+/* Suspensions that are taken back. */
+void suspensions_taken_back(void);
+
 #endif

@@ -201,6 +201,11 @@ class Environment:
     def resume_thread(self, thread: int, timeout: Optional[float] = None) -> None:
         self._call("cq_wait_resume_thread", self._signal, thread, _nanoseconds(timeout))
 
+    def ensure_resumed(self, thread: int, timeout: Optional[float] = None) -> None:
+        """Takes back what the environment's suspensions did to the thread, and what those that were given up would still do to it.
+        With Code.TIMED_OUT the thread has not reached one of them: call again."""
+        self._call("cq_wait_ensure_resumed", self._signal, thread, _nanoseconds(timeout))
+
     def _list(self, name: str, threads: Sequence[int], timeout: Optional[float]) -> List[Code]:
         wanted, codes = lib.numbers(threads), (lib.U32 * len(threads))()
         self._call(name, self._signal, wanted, len(threads), _nanoseconds(timeout), codes)

@@ -76,6 +76,7 @@ FUNCTIONS: Dict[str, List[Any]] = {
     "cq_wait_get_stack_trace": [AT, NUMBER, INT, INT, I64, AT, SIZE, AT],
     "cq_wait_suspend_thread": [AT, NUMBER, I64],
     "cq_wait_resume_thread": [AT, NUMBER, I64],
+    "cq_wait_ensure_resumed": [AT, NUMBER, I64],
     "cq_wait_suspend_thread_list": [AT, AT, SIZE, I64, AT],
     "cq_wait_resume_thread_list": [AT, AT, SIZE, I64, AT],
     "cq_wait_pop_frame": [AT, NUMBER, I64],

@@ -210,6 +210,7 @@ extern "C" {
     ) -> u32;
     pub fn cq_cancel(env: *mut cq_env, ticket: *const cq_ticket) -> u32;
     pub fn cq_discard(env: *mut cq_env, thread: u32, thrown: *mut bool) -> u32;
+    pub fn cq_ensure_resumed(env: *mut cq_env, thread: u32) -> u32;
     pub fn cq_out_at(env: *mut cq_env, thread: u32, count: *mut u32) -> u32;
     pub fn cq_gather_all_stack_traces(env: *mut cq_env, max_count: i32) -> u32;
     pub fn cq_gather_thread_list_stack_traces(
@@ -276,6 +277,7 @@ extern "C" {
     ) -> u32;
     pub fn cq_wait_cancel(env: *mut cq_env, signal: *mut cq_signal, ticket: *const cq_ticket) -> u32;
     pub fn cq_wait_discard(env: *mut cq_env, signal: *mut cq_signal, thread: u32, thrown: *mut bool) -> u32;
+    pub fn cq_wait_ensure_resumed(env: *mut cq_env, signal: *mut cq_signal, thread: u32, timeout_ns: i64) -> u32;
     pub fn cq_wait_set_event_notification_mode(env: *mut cq_env, signal: *mut cq_signal, enabled: bool) -> u32;
     pub fn cq_wait_dispose_environment(env: *mut cq_env, signal: *mut cq_signal) -> u32;
     pub fn cq_wait_next_event(env: *mut cq_env, signal: *mut cq_signal, timeout_ns: i64, event: *mut cq_event) -> u32;

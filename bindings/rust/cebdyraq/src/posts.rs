@@ -148,6 +148,14 @@ impl Environment {
         thrown
     }
 
+    /// Takes back what the environment's suspensions did to the thread, and what those that were given up would still do to it. With
+    /// [`Error::TimedOut`] the thread has not reached one of them: call again.
+    pub fn ensure_resumed(&mut self, thread: u32) -> Result<(), Error> {
+        let time = nanoseconds(self.timeout);
+        // SAFETY: this call alone uses the handle.
+        checked(unsafe { sys::cq_wait_ensure_resumed(self.at(), self.signal.at(), thread, time) })
+    }
+
     /// How many calls of the environment are out at the thread.
     pub fn out_at(&mut self, thread: u32) -> u32 {
         let mut count = 0;

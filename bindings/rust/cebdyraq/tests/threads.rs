@@ -140,6 +140,7 @@ fn calls_are_posted_and_collected() {
     running.poll();
     assert!(env.discard(0) && env.discard(0) && !env.discard(0));
     assert_eq!(env.out_at(0), 0);
+    assert_eq!(env.ensure_resumed(0), Err(Error::MustPossessCapability));
 }
 
 #[test]
