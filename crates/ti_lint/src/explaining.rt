@@ -1,9 +1,10 @@
 //! Explains a document's first fault.
 
 use crate::explanation::Explanation;
-use crate::head::{of_other_kind, out_of_range, wrong_document, wrong_member, wrong_names};
+use crate::head::{of_other_kind, out_of_range, wrong_document, wrong_member};
 use crate::items::item_words;
 use crate::kind::Kind;
+use crate::names::wrong_names;
 use crate::place::Place;
 use crate::tree::{elements, listed_in};
 use serde_json::Value;

@@ -3,13 +3,13 @@
 use crate::explanation::Explanation;
 use crate::kind::Kind;
 use crate::place::Place;
-use crate::texts::{is_one_of, listed, nearest, quoted, shown};
-use crate::tree::{elements, has_text, keys_of, listed_in, member_in};
+use crate::texts::{is_one_of, listed, nearest, quoted, shown, stands};
+use crate::tree::{elements, keys_of, listed_in, member_in};
 use crate::values::no_number;
 use crate::vocabulary::meant_by;
 use serde_json::Value;
 use std::alloc::{AllocError, Global};
-use ti_script::{LimitName, MemberName, Names};
+use ti_script::{LimitName, MemberName};
 
 /// The members of an object in a document's head.
 fn members_beside(kind: Kind, member: MemberName) -> &'static [&'static str] {
@@ -42,14 +42,15 @@ fn means(alloc: Global, key: &str, members: &[&str], wanted: &str) -> Result<boo
     Ok(near.is_some())
 }
 
-/// The first of the keys that seems to mean this member.
+/// The first key of an object that is none of the members, and seems to mean this one.
 fn misspelt<'a>(
     alloc: Global,
-    keys: &[&'a str],
+    value: &'a Value,
     members: &[&str],
     wanted: &str,
 ) -> Result<Option<&'a str>, AllocError> {
-    for key in keys {
+    let keys = keys_of(alloc, value)?;
+    for key in keys.as_slice() {
         let key: &'a str = *key;
         if means(alloc, key, members, wanted)? {
             return Ok(Some(key));
@@ -96,21 +97,21 @@ fn missing(
             .unwrap_or(tree),
         _ => tree,
     };
-    let keys = keys_of(alloc, around)?;
-    let members = members_beside(kind, member);
-    if let Some(key) = misspelt(alloc, keys.as_slice(), members, wanted)? {
-        let key = quoted(alloc, key)?;
-        return format!(in alloc; "member '{wanted}' is missing; call member {key} '{wanted}'");
+    match misspelt(alloc, around, members_beside(kind, member), wanted)? {
+        Some(key) => {
+            let key = quoted(alloc, key)?;
+            format!(in alloc; "member '{wanted}' is missing; call member {key} '{wanted}'")
+        }
+        None => format!(in alloc; "member '{wanted}' is missing"),
     }
-    format!(in alloc; "member '{wanted}' is missing")
 }
 
 /// Explains an object that has a member too many, or a value that is no object.
 fn no_such_object(alloc: Global, value: &Value, members: &[&str]) -> Result<String, AllocError> {
     let all = listed(alloc, members)?;
     if !value.is_object() {
-        let here = shown(alloc, value)?;
-        return format!(in alloc; "{here} stands there; an object with {all} is wanted");
+        let wanted = format!(in alloc; "an object with {all} is wanted")?;
+        return stands(alloc, value, wanted.as_str());
     }
     let keys = keys_of(alloc, value)?;
     let key = quoted(alloc, unknown(keys.as_slice(), members).unwrap_or(""))?;
@@ -134,14 +135,12 @@ fn wrong_texts(alloc: Global, member: MemberName, value: &Value) -> Result<Expla
     ensures { IfOk result (λ x. IsInHead x.place) }
 {
     let Some(texts) = value.as_array() else {
-        let here = shown(alloc, value)?;
-        let words = format!(in alloc; "{here} stands there; an array of names is wanted")?;
+        let words = stands(alloc, value, "an array of names is wanted")?;
         return Ok(Explanation::at(Place::of_member(member), words));
     };
     for (number, text) in texts.iter().enumerate() {
         if !text.is_string() {
-            let here = shown(alloc, text)?;
-            let words = format!(in alloc; "{here} stands there; a name is a text")?;
+            let words = stands(alloc, text, "a name is a text")?;
             return Ok(Explanation::at(Place::in_head(member, number), words));
         }
     }
@@ -166,21 +165,35 @@ fn wrong_lists(
         _ => ("agents", "calls"),
     };
     let all = format!(in alloc; "an array of {items} is wanted for each of the {owners}")?;
-    let wanted = listed_in(tree, owners).len();
     let Some(lists) = value.as_array() else {
-        let here = shown(alloc, value)?;
-        let words = format!(in alloc; "{here} stands there; {all}")?;
+        let words = stands(alloc, value, all.as_str())?;
         return Ok(Explanation::at(Place::of_member(member), words));
     };
-    for (number, list) in lists.iter().enumerate() {
-        if !list.is_array() && lists.len() == wanted {
-            let here = shown(alloc, list)?;
-            let words = format!(in alloc; "{here} stands there; an array of {items} is wanted")?;
-            return Ok(Explanation::at(Place::in_head(member, number), words));
-        }
+    let wanted = listed_in(tree, owners).len();
+    if lists.len() == wanted {
+        return wrong_list(alloc, member, lists, items);
     }
     let words = format!(in alloc; "{all}; {} given for {wanted}", lists.len())?;
     Ok(Explanation::at(Place::of_member(member), words))
+}
+
+/// Explains lists of which one is no array.
+fn wrong_list(
+    alloc: Global,
+    member: MemberName,
+    lists: &[Value],
+    items: &str,
+) -> Result<Explanation, AllocError>
+    ensures { IfOk result (λ x. IsInHead x.place) }
+{
+    let wanted = format!(in alloc; "an array of {items} is wanted")?;
+    for (number, list) in lists.iter().enumerate() {
+        if !list.is_array() {
+            let words = stands(alloc, list, wanted.as_str())?;
+            return Ok(Explanation::at(Place::in_head(member, number), words));
+        }
+    }
+    Ok(Explanation::at(Place::of_member(member), wanted))
 }
 
 /// Explains a member whose value has a wrong shape.
@@ -212,12 +225,8 @@ fn wrong_shape(
         }
         MemberName::Walks | MemberName::Calls => wrong_lists(alloc, tree, member, value),
         MemberName::Events | MemberName::Entries => {
-            let here = shown(alloc, value)?;
-            let words = format!(in alloc;
-                "{here} stands there; an array of {} is wanted",
-                member.key()
-            )?;
-            Ok(Explanation::at(place, words))
+            let wanted = format!(in alloc; "an array of {} is wanted", member.key())?;
+            Ok(Explanation::at(place, stands(alloc, value, wanted.as_str())?))
         }
     }
 }
@@ -238,86 +247,6 @@ pub(crate) fn wrong_member(
             Ok(Explanation::at(Place::of_member(member), words))
         }
     }
-}
-
-/// Whether a character may be in a name.
-fn is_name_letter(letter: char) -> bool {
-    letter.is_ascii_alphanumeric() || "_.$/<>".contains(letter)
-}
-
-/// What is wrong with the form of a name, if anything is.
-fn wrong_form(alloc: Global, text: &str) -> Result<Option<String>, AllocError> {
-    if text.is_empty() {
-        return Ok(Some(String::from_str(
-            alloc,
-            "a name has 1 to 64 letters, and this one has none",
-        )?));
-    }
-    for letter in text.chars() {
-        if !is_name_letter(letter) {
-            let name = quoted(alloc, text)?;
-            return Ok(Some(format!(in alloc;
-                "{name}: '{letter}' is not allowed in names; tools/plain_names.py makes names that are"
-            )?));
-        }
-    }
-    if text.len() > 64 {
-        return Ok(Some(format!(in alloc;
-            "a name has 1 to 64 letters, and this one has {}",
-            text.len()
-        )?));
-    }
-    Ok(None)
-}
-
-/// What is wrong with the name of this number, if anything is. Those before it are right.
-fn wrong_at(
-    alloc: Global,
-    tree: &Value,
-    member: MemberName,
-    before: &Names,
-    number: usize,
-    text: &str,
-) -> Result<Option<String>, AllocError> {
-    if let Some(words) = wrong_form(alloc, text)? {
-        return Ok(Some(words));
-    }
-    let key = member.key();
-    let name = quoted(alloc, text)?;
-    if let Some(place) = before.number(text) {
-        let words = format!(in alloc; "{name} is given at {key}[{place}] and {key}[{number}]")?;
-        return Ok(Some(words));
-    }
-    if key == "agents" && has_text(tree, "threads", text) {
-        let words = format!(in alloc; "{name} is also a thread; no agent is called like a thread")?;
-        return Ok(Some(words));
-    }
-    Ok(None)
-}
-
-/// Explains a member with a name that is malformed, or given twice.
-pub(crate) fn wrong_names(
-    alloc: Global,
-    tree: &Value,
-    member: MemberName,
-) -> Result<Explanation, AllocError>
-    ensures { IfOk result (λ x. IsInHead x.place) }
-{
-    let mut before = Names::new(alloc);
-    for (number, name) in listed_in(tree, member.key()).iter().enumerate() {
-        let text = name.as_str().unwrap_or("");
-        if let Some(words) = wrong_at(alloc, tree, member, &before, number, text)? {
-            return Ok(Explanation::at(Place::in_head(member, number), words));
-        }
-        if before.len() < 65536 {
-            before.add(alloc, text)?;
-        }
-    }
-    Explanation::fixed(
-        alloc,
-        Place::of_member(member),
-        "a name is malformed, or given twice",
-    )
 }
 
 /// The member that a limit is about, and the range of its number.

@@ -96,47 +96,60 @@ fn why_asked(
     }
 }
 
+/// What is said of a thread at which an event was refused, before its name and after it.
+fn of_thread(error: TiError) -> Option<(&'static str, &'static str)> {
+    match error {
+        TiError::InvalidThread => Some(("there is no thread ", "")),
+        TiError::ThreadSuspended => Some(("", " is suspended already")),
+        TiError::ThreadNotAlive => Some(("", " has not started, or has ended")),
+        TiError::OpaqueFrame => Some(("one of the two newest frames of ", " is native")),
+        TiError::Overflow => Some(("", " has as many frames as limits.depth allows")),
+        TiError::NoFrame => Some(("", " has no frame: 'enter' first")),
+        TiError::NotJavaFrame => Some((
+            "the newest frame of ",
+            " is native, and a native frame has no position",
+        )),
+        TiError::NotRunning => Some((
+            "",
+            " does not run: it has not started, is safe, or has ended",
+        )),
+        TiError::NotSafe => Some(("", " is not safe, so it has nothing to return from")),
+        TiError::Barred => Some(("", " is suspended or stopped: 'resume' or 'go' first")),
+        TiError::NoNativeFrame => Some((
+            "the newest frame of ",
+            " is not native: 'enter_native' first",
+        )),
+        TiError::NotNew => Some(("", " has started before")),
+        TiError::AlreadyStopped => Some(("a stop is in force at ", ": 'go' first")),
+        TiError::StillRunning => Some((
+            "",
+            " still runs: it has to hand over, or poll, after the stop",
+        )),
+        _ => None,
+    }
+}
+
+/// What is said of an event that was refused, whichever thread it is about.
+fn of_any(error: TiError) -> &'static str {
+    match error {
+        TiError::NotAvailable => "can_tag_objects cannot be had",
+        TiError::IllegalArgument => "a count is 0 or more",
+        TiError::OutOfMemory => "there was no memory",
+        _ => "refused",
+    }
+}
+
 /// What is said of any event at a thread that was refused, by its error.
 fn why_at(alloc: Global, error: TiError, agent: &str, thread: &str) -> Result<String, AllocError> {
+    if let Some((before, after)) = of_thread(error) {
+        return format!(in alloc; "{before}{thread}{after}");
+    }
     match error {
-        TiError::InvalidThread => format!(in alloc; "there is no thread {thread}"),
-        TiError::ThreadSuspended => format!(in alloc; "{thread} is suspended already"),
-        TiError::ThreadNotAlive => format!(in alloc; "{thread} has not started, or has ended"),
-        TiError::OpaqueFrame => format!(in alloc;
-            "one of the two newest frames of {thread} is native"
-        ),
-        TiError::NotAvailable => String::from_str(alloc, "can_tag_objects cannot be had"),
-        TiError::IllegalArgument => String::from_str(alloc, "a count is 0 or more"),
-        TiError::OutOfMemory => String::from_str(alloc, "there was no memory"),
-        TiError::Overflow => format!(in alloc;
-            "{thread} has as many frames as limits.depth allows"
-        ),
-        TiError::NoFrame => format!(in alloc; "{thread} has no frame: 'enter' first"),
-        TiError::NotJavaFrame => format!(in alloc;
-            "the newest frame of {thread} is native, and a native frame has no position"
-        ),
-        TiError::NotRunning => format!(in alloc;
-            "{thread} does not run: it has not started, is safe, or has ended"
-        ),
-        TiError::NotSafe => format!(in alloc;
-            "{thread} is not safe, so it has nothing to return from"
-        ),
-        TiError::Barred => format!(in alloc;
-            "{thread} is suspended or stopped: 'resume' or 'go' first"
-        ),
-        TiError::NoNativeFrame => format!(in alloc;
-            "the newest frame of {thread} is not native: 'enter_native' first"
-        ),
         TiError::CallsSpent => format!(in alloc; "{agent} has spent limits.calls at {thread}"),
-        TiError::NotNew => format!(in alloc; "{thread} has started before"),
-        TiError::AlreadyStopped => format!(in alloc; "a stop is in force at {thread}: 'go' first"),
         TiError::NotStopped => format!(in alloc;
             "no stop of {agent} is in force at {thread}: 'stop' first"
         ),
-        TiError::StillRunning => format!(in alloc;
-            "{thread} still runs: it has to hand over, or poll, after the stop"
-        ),
-        _ => String::from_str(alloc, "refused"),
+        _ => String::from_str(alloc, of_any(error)),
     }
 }
 
@@ -162,6 +175,33 @@ fn parties(alloc: Global, walk: &Walk, event: Event) -> Result<(String, String),
     Ok((agent, thread))
 }
 
+/// Why an event was refused, in words.
+fn why(
+    alloc: Global,
+    own: u64,
+    event: Event,
+    error: TiError,
+    agent: &str,
+    thread: &str,
+) -> Result<String, AllocError> {
+    match event {
+        Event::Own(_, _) | Event::ToNative(_) | Event::ToBlocked(_, _)
+            if error == TiError::OwnSpent => format!(in alloc;
+            "limits.own is {own}, and {thread} has spent it; further ones are left out"
+        ),
+        Event::Ask(_, _, call) => why_asked(alloc, error, call, agent, thread),
+        _ => why_at(alloc, error, agent, thread),
+    }
+}
+
+/// What is said of an event that was refused.
+fn refusal(alloc: Global, walk: &Walk, event: Event, error: TiError) -> Result<String, AllocError> {
+    let (agent, thread) = parties(alloc, walk, event)?;
+    let own = walk.limits.own;
+    let words = why(alloc, own, event, error, agent.as_str(), thread.as_str())?;
+    format!(in alloc; "answers {}: {words}", error.number())
+}
+
 /// What is said of an event and its outcome, if it was refused or never answered.
 fn hint_of(
     alloc: Global,
@@ -169,30 +209,17 @@ fn hint_of(
     event: Event,
     outcome: &Option<Outcome>,
 ) -> Result<Option<String>, AllocError> {
-    let Some(outcome) = outcome else {
-        let (_agent, thread) = parties(alloc, walk, event)?;
-        let words = format!(in alloc; "never answered: {thread} makes no hand-over after it")?;
-        return Ok(Some(words));
-    };
-    let Some(error) = refused_by(outcome) else {
-        return Ok(None);
-    };
-    let (agent, thread) = parties(alloc, walk, event)?;
-    let why = match event {
-        Event::Own(_, _) | Event::ToNative(_) | Event::ToBlocked(_, _)
-            if error == TiError::OwnSpent => {
-            let own = walk.limits.own;
-            format!(in alloc;
-                "limits.own is {own}, and {thread} has spent it; further ones are left out"
-            )?
+    match outcome {
+        Some(outcome) => match refused_by(outcome) {
+            Some(error) => Ok(Some(refusal(alloc, walk, event, error)?)),
+            None => Ok(None),
+        },
+        None => {
+            let (_agent, thread) = parties(alloc, walk, event)?;
+            let words = format!(in alloc; "never answered: {thread} makes no hand-over after it")?;
+            Ok(Some(words))
         }
-        Event::Ask(_, _, call) => {
-            why_asked(alloc, error, call, agent.as_str(), thread.as_str())?
-        }
-        _ => why_at(alloc, error, agent.as_str(), thread.as_str())?,
-    };
-    let words = format!(in alloc; "answers {}: {why}", error.number())?;
-    Ok(Some(words))
+    }
 }
 
 /// Whether an event was refused because its thread has spent its own budget, and an earlier one was too. The thread is noted.

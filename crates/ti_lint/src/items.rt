@@ -2,7 +2,7 @@
 
 use crate::kind::Kind;
 use crate::place::Place;
-use crate::texts::{listed, meant, quoted, shown};
+use crate::texts::{listed, meant, quoted, shown, stands, with_commas};
 use crate::tree::{elements, has_text, texts_in, value_at};
 use crate::values::wrong_value;
 use crate::vocabulary::{Speaker, Takes, meant_by};
@@ -109,22 +109,37 @@ fn wrong_item(alloc: Global, item: &Item<'_>) -> Result<String, AllocError> {
 /// Explains the subject of an event.
 fn wrong_subject(alloc: Global, item: &Item<'_>, value: &Value) -> Result<String, AllocError> {
     let Some(text) = value.as_str() else {
-        let here = shown(alloc, value)?;
-        return format!(in alloc;
-            "{here} stands there; an event begins with the name of a thread or an agent"
+        return stands(
+            alloc,
+            value,
+            "an event begins with the name of a thread or an agent",
         );
     };
     let second = text_at(item.parts, 1);
-    let is_subject = has_text(item.tree, "threads", second)
-        || has_text(item.tree, "agents", second);
     let is_word = Speaker::Thread.takes(text).is_some() || Speaker::Agent.takes(text).is_some();
-    if is_subject && is_word {
+    if is_word && is_subject(item.tree, second) {
         return format!(in alloc; "the subject comes first: [\"{second}\",\"{text}\"]");
     }
-    let mut names = texts_in(alloc, item.tree, "threads")?;
-    for agent in texts_in(alloc, item.tree, "agents")? {
+    no_subject(alloc, item.tree, text)
+}
+
+/// Whether a text is the name of a thread or an agent.
+fn is_subject(tree: &Value, text: &str) -> bool {
+    has_text(tree, "threads", text) || has_text(tree, "agents", text)
+}
+
+/// The names of the threads, and then those of the agents.
+fn subjects(alloc: Global, tree: &Value) -> Result<Vec<&str>, AllocError> {
+    let mut names = texts_in(alloc, tree, "threads")?;
+    for agent in texts_in(alloc, tree, "agents")? {
         names.push(agent)?;
     }
+    Ok(names)
+}
+
+/// Explains a text that is no thread's and no agent's name.
+fn no_subject(alloc: Global, tree: &Value, text: &str) -> Result<String, AllocError> {
+    let names = subjects(alloc, tree)?;
     let name = quoted(alloc, text)?;
     let near = meant(alloc, None, text, names.as_slice())?;
     let all = listed(alloc, names.as_slice())?;
@@ -177,25 +192,23 @@ fn belongs(item: &Item<'_>, word: &str) -> Option<&'static str> {
 /// Explains a text that is no word of its speaker.
 fn no_word(alloc: Global, item: &Item<'_>, word: &str) -> Result<String, AllocError> {
     let name = quoted(alloc, word)?;
-    let is_subject = has_text(item.tree, "threads", word) || has_text(item.tree, "agents", word);
-    if item.kind == Kind::Live && is_subject {
+    if item.kind == Kind::Live && is_subject(item.tree, word) {
         return format!(in alloc; "drop {name}: the list says whose it is");
     }
     if let Some(words) = belongs(item, word) {
         return format!(in alloc; "{name} {words}");
     }
-    let words = item.speaker.words();
-    let near = meant(alloc, meant_by(word), word, words)?;
-    let mut all = String::new(alloc);
-    for (place, word) in words.iter().enumerate() {
-        if place > 0 {
-            all.push_str(", ")?;
-        }
-        all.push_str(word)?;
-    }
+    unknown_word(alloc, item.speaker, word)
+}
+
+/// Explains a text that nobody says.
+fn unknown_word(alloc: Global, speaker: Speaker, word: &str) -> Result<String, AllocError> {
+    let name = quoted(alloc, word)?;
+    let near = meant(alloc, meant_by(word), word, speaker.words())?;
+    let all = with_commas(alloc, speaker.words())?;
     format!(in alloc;
         "{name} is no word of {}{near}; there are {all}",
-        item.speaker.text()
+        speaker.text()
     )
 }
 
@@ -203,10 +216,7 @@ fn no_word(alloc: Global, item: &Item<'_>, word: &str) -> Result<String, AllocEr
 fn wrong_word(alloc: Global, item: &Item<'_>, value: &Value) -> Result<String, AllocError> {
     match value.as_str() {
         Some(text) => no_word(alloc, item, text),
-        None => {
-            let here = shown(alloc, value)?;
-            format!(in alloc; "{here} stands there; a word is wanted")
-        }
+        None => stands(alloc, value, "a word is wanted"),
     }
 }
 
@@ -258,8 +268,7 @@ pub(crate) fn item_words(
         return String::from_str(alloc, "there is nothing");
     };
     if !value.is_array() {
-        let here = shown(alloc, value)?;
-        return format!(in alloc; "{here} stands there; an array is wanted");
+        return stands(alloc, value, "an array is wanted");
     }
     let parts = elements(value);
     let item = Item {

@@ -18,6 +18,7 @@ mod hints_of_walk;
 mod items;
 mod json;
 mod kind;
+mod names;
 mod place;
 mod positions;
 mod report;

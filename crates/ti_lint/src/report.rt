@@ -13,7 +13,9 @@ use std::alloc::{AllocError, Global};
 use std::fmt::Write;
 use ti_core::Core;
 use ti_replay::{ReplayFault, replay};
-use ti_script::{LimitName, LocatedFault, locate_history, locate_live, locate_walk};
+use ti_script::{
+    History, LimitName, Live, LocatedFault, Walk, locate_history, locate_live, locate_walk,
+};
 
 /// What is said of a document. Without a fault the text has its warnings, or `fine` if there are none.
 #[derive(Drop, Debug)]
@@ -107,6 +109,38 @@ fn faultless(alloc: Global, hints: &[Explanation]) -> Result<Report, AllocError>
     Ok(Report { fault: None, text })
 }
 
+/// The report of a walk, by a run of its events.
+fn walk_report(alloc: Global, walk: &Walk) -> Result<Report, AllocError>
+    ensures { IfOk result (λ r. r.fault ≡ None) }
+{
+    match Core::run(alloc, walk.limits, walk.events.as_slice()) {
+        Ok(outcomes) => faultless(alloc, &walk_hints(alloc, walk, &outcomes)?),
+        Err(_) => Err(AllocError),
+    }
+}
+
+/// The report of a live script, which is not run.
+fn live_report(alloc: Global, live: &Live) -> Result<Report, AllocError>
+    ensures { IfOk result (λ r. r.fault ≡ None) }
+{
+    let hints = live_hints(alloc, live)?;
+    faultless(alloc, &hints)
+}
+
+/// The report of a history, by a replay.
+fn history_report(alloc: Global, history: &History) -> Result<Report, AllocError>
+    ensures { IfOk result (λ r. r.fault ≡ None) }
+{
+    match replay(alloc, history.limits, history.entries.as_slice()) {
+        Ok(_) => faultless(alloc, &[]),
+        Err(ReplayFault::Illegal { at }) => {
+            let hint = illegal_hint(alloc, history.entries.as_slice(), at)?;
+            faultless(alloc, &[hint])
+        }
+        Err(ReplayFault::Memory) => Err(AllocError),
+    }
+}
+
 /// The report of a document that has more bytes than are read. The error is lack of memory. Source: this profile.
 pub fn lint_too_long(alloc: Global) -> Result<Report, AllocError>
     ensures { IfOk result (λ r. r.fault ≡ Some (Limit Input)) }
@@ -131,14 +165,10 @@ pub fn lint_walk(alloc: Global, bytes: &[u8]) -> Result<Report, AllocError>
     ensures faultless { IfOk result (λ r. r.fault ≡ None → (d : Data) × IsDocument bytes.now d × (walk_fault d ≡ None)) }
 {
     match locate_walk(alloc, bytes) {
-        Ok(walk) => match Core::run(alloc, walk.limits, walk.events.as_slice()) {
-            Ok(outcomes) => {
-                let hints = walk_hints(alloc, &walk, &outcomes)?;
-                let report = faultless(alloc, &hints)?;
-                Ok(report)
-            }
-            Err(_) => Err(AllocError),
-        },
+        Ok(walk) => {
+            let report = walk_report(alloc, &walk)?;
+            Ok(report)
+        }
         Err(fault) => faulty(alloc, Kind::Walk, bytes, fault),
     }
 }
@@ -152,8 +182,7 @@ pub fn lint_live(alloc: Global, bytes: &[u8]) -> Result<Report, AllocError>
 {
     match locate_live(alloc, bytes) {
         Ok(live) => {
-            let hints = live_hints(alloc, &live)?;
-            let report = faultless(alloc, &hints)?;
+            let report = live_report(alloc, &live)?;
             Ok(report)
         }
         Err(fault) => faulty(alloc, Kind::Live, bytes, fault),
@@ -168,14 +197,10 @@ pub fn lint_history(alloc: Global, bytes: &[u8]) -> Result<Report, AllocError>
     ensures faultless { IfOk result (λ r. r.fault ≡ None → (d : Data) × IsDocument bytes.now d × (history_fault d ≡ None)) }
 {
     match locate_history(alloc, bytes) {
-        Ok(history) => match replay(alloc, history.limits, history.entries.as_slice()) {
-            Ok(_) => faultless(alloc, &[]),
-            Err(ReplayFault::Illegal { at }) => {
-                let hint = illegal_hint(alloc, history.entries.as_slice(), at)?;
-                faultless(alloc, &[hint])
-            }
-            Err(ReplayFault::Memory) => Err(AllocError),
-        },
+        Ok(history) => {
+            let report = history_report(alloc, &history)?;
+            Ok(report)
+        }
         Err(fault) => faulty(alloc, Kind::History, bytes, fault),
     }
 }

@@ -1,6 +1,6 @@
 //! Words about a value that stands where another is wanted.
 
-use crate::texts::{is_one_of, listed, meant, quoted, shown};
+use crate::texts::{is_one_of, listed, meant, quoted, shown, stands};
 use crate::tree::{elements, has_text, texts_in};
 use crate::vocabulary::{Takes, capabilities, kinds, meant_by};
 use serde_json::Value;
@@ -88,12 +88,11 @@ fn may_be_thread(value: &Value) -> bool {
 fn of_thread(alloc: Global, tree: &Value, value: &Value) -> Result<String, AllocError> {
     match value.as_str() {
         Some(text) => no_thread(alloc, tree, text),
-        None => {
-            let here = shown(alloc, value)?;
-            format!(in alloc;
-                "{here} stands there; a thread is a name, or a number from 0 to 4,294,967,295"
-            )
-        }
+        None => stands(
+            alloc,
+            value,
+            "a thread is a name, or a number from 0 to 4,294,967,295",
+        ),
     }
 }
 
@@ -127,10 +126,7 @@ fn of_method(alloc: Global, tree: &Value, value: &Value) -> Result<String, Alloc
             let names = texts_in(alloc, tree, "methods")?;
             no_name(alloc, text, "method", names.as_slice())
         }
-        None => {
-            let here = shown(alloc, value)?;
-            format!(in alloc; "{here} stands there; a method is a name")
-        }
+        None => stands(alloc, value, "a method is a name"),
     }
 }
 
@@ -159,9 +155,9 @@ fn of_kind(alloc: Global, value: &Value, words: &[&str]) -> Result<String, Alloc
     match value.as_str() {
         Some(text) => no_name(alloc, text, "kind of block", words),
         None => {
-            let here = shown(alloc, value)?;
             let all = listed(alloc, words)?;
-            format!(in alloc; "{here} stands there; there are {all}")
+            let wanted = format!(in alloc; "there are {all}")?;
+            stands(alloc, value, wanted.as_str())
         }
     }
 }
