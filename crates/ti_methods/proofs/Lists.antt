@@ -1,12 +1,12 @@
 -- Beginnings of one list, and where classes and methods stand in it.
-use Rattle.std.proofs.Common.{◌≡◌, ℕ, zero, suc, ◌+◌, ◌-◌, ◌<◌, ◌≤◌, List, [], ◌∷◌, ◌++◌, length, take, Some, slice_get, refl, ap, sym, ◌∙◌, arith, append_assoc, length-append, inr}
+use Rattle.std.proofs.Common.{◌≡◌, ℕ, zero, suc, ◌+◌, ◌-◌, ◌<◌, ◌≤◌, List, [], ◌∷◌, ◌++◌, length, take, Some, slice_get, refl, ap, ap₂, sym, ◌∙◌, arith, append_assoc, length-append, inr}
 use native.Mathlib.Numerals.{unary_clauses}
 use mathlib.Core.List.{IsPrefix}
 use Rattle.ti_methods.specs.declared.info.ClassInfo.{ClassInfo}
 use Rattle.ti_methods.specs.declared.info.MethodInfo.{MethodInfo}
 use Rattle.ti_types.specs.declared.numbers.MethodNo.{MethodNo}
 use Rattle.ti_methods.specs.declared.error.ClassError.TheVariants.{Busy}
-use Rattle.ti_methods.specs.Classes.{RefusesMethod, count, count_from, first_of, methods_in}
+use Rattle.ti_methods.specs.Classes.{AreAlike, RefusesMethod, count, count_from, first_of, methods_in}
 
 -- each list begins with itself
 pub prefix_self : {A : Type 0} (xs : List A) → IsPrefix xs xs
@@ -114,3 +114,22 @@ count_from_more first (suc n) =
 -- a method that was there is still there, if its class is not found yet
 pub busy_still : (xs ys : List ClassInfo) (m : MethodNo) → IsPrefix xs ys → m.0 < length (methods_in xs) → RefusesMethod ys m Busy
 busy_still xs ys m p h = inr (refl, omega (arith, methods_grow xs ys p))
+
+-- a longer list has the same methods first
+pub methods_prefix : (xs ys : List ClassInfo) → IsPrefix xs ys → IsPrefix (methods_in xs) (methods_in ys)
+methods_prefix [] ys p = (methods_in ys, refl)
+methods_prefix (x ∷ xs) [] p = absurd (cc (p.1))
+methods_prefix (x ∷ xs) (y ∷ ys) p =
+    let same : x ≡ y = cc (p.1) in
+    let rest = methods_prefix xs ys (p.0, cc (p.1)) in
+    (rest.0, append_assoc x.methods.items (methods_in xs) rest.0 ∙ ap₂ (λ (c : ClassInfo) l. c.methods.items ++ l) same rest.1)
+
+-- two beginnings of one list have the same under each number
+pub one_under : {A : Type 0} (xs ys all : List A) (k : ℕ) (x y : A) → IsPrefix xs all → IsPrefix ys all → slice_get xs k ≡ Some x → slice_get ys k ≡ Some y → x ≡ y
+one_under xs ys all k x y p q h i = let e : Some x ≡ Some y = sym (prefix_get xs all k x p h) ∙ prefix_get ys all k y q i in cc e
+
+pub alike : (xs ys all : List ClassInfo) → IsPrefix xs all → IsPrefix ys all → AreAlike xs ys
+alike xs ys all p q = record {
+  classes = λ class x y h i. one_under xs ys all class.0 x y p q h i;
+  methods = λ method x y h i. one_under (methods_in xs) (methods_in ys) (methods_in all) method.0 x y (methods_prefix xs all p) (methods_prefix ys all q) h i;
+}

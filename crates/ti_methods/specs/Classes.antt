@@ -32,6 +32,11 @@ class_at log class = slice_get log class.0
 abbrev pub method_at : List ClassInfo → MethodNo → Option MethodInfo
 method_at log method = slice_get (methods_in log) method.0
 
+-- no number names two classes, or two methods
+pub record AreAlike (a b : List ClassInfo) : Type 0 where
+  pub classes : (class : ClassNo) (x y : ClassInfo) → class_at a class ≡ Some x → class_at b class ≡ Some y → x ≡ y
+  pub methods : (method : MethodNo) (x y : MethodInfo) → method_at a method ≡ Some x → method_at b method ≡ Some y → x ≡ y
+
 -- how many methods the classes below this number have
 abbrev pub first_of : List ClassInfo → ℕ → ℕ
 first_of log class = length (methods_in (take class log))

@@ -176,12 +176,13 @@ impl Classes {
         }
     }
 
-    /// Sees what another handle of the table has seen. So what both were told of a number is the same.
+    /// Sees what another handle of the table has seen. What both were told of a number was the same.
     pub fn learn(&mut self, other: &Classes)
         requires { other.now.book ≡ self.old.book }
         ensures book { self.new.book ≡ self.old.book }
         ensures mine { IsPrefix self.old.seen self.new.seen }
         ensures others { IsPrefix other.now.seen self.new.seen }
+        ensures alike { AreAlike self.old.seen other.now.seen }
     {
         self.seen.learn(&other.seen);
     }
@@ -258,5 +259,5 @@ impl Classes {
 ghost use Rattle.std.specs.Prelude.{◌≡◌, ◌+◌, ◌^◌, ◌<◌, ◌++◌, ◌∷◌, [], length, true, IfOk, IfErr, IfSome};
 ghost use mathlib.Core.List.{IsPrefix};
 ghost use Rattle.ti_methods.specs.Errors.{IsTransient};
-ghost use Rattle.ti_methods.specs.Classes.{HasRoom, IsDefined, IsPut, RefusesClass, methods_in};
+ghost use Rattle.ti_methods.specs.Classes.{AreAlike, HasRoom, IsDefined, IsPut, RefusesClass, methods_in};
 ghost use Rattle.ti_methods.specs.declared.error.ClassError.TheVariants.{Full, OutOfMemory};

@@ -21,6 +21,3 @@ mod told;
 pub use classes::Classes;
 pub use error::ClassError;
 pub use info::{ClassInfo, ClassNo, Defined, LineEntry, Lines, MethodInfo, MethodName};
-
-#[cfg(test)]
-mod tests;

@@ -1,4 +1,4 @@
-use Rattle.std.proofs.Common.{arith, ℕ, ◌≡◌, ◌+◌, ◌*◌, ◌<◌, ◌≤◌, ◌^◌, lt_of_not-le, pow_mono}
+use Rattle.std.proofs.Common.{arith, ℕ, ◌+◌, ◌*◌, ◌<◌, ◌≤◌, ◌^◌, lt_of_not-le, pow_mono}
 use Rattle.boxcar.proofs.Spans.{top_above, span_top}
 use Rattle.ti_methods.proofs.slots.locate.Goals as goal
 

@@ -1,7 +1,7 @@
 use Rattle.std.proofs.Common.{arith, ◌≡◌, ◌-◌, ◌<◌, ◌≤◌, ◌∙◌, Some, ap, sym, length, slice_get}
 use Rattle.std.proofs.lemmas.Bool.Decides.{nat_tests}
 use Rattle.std.proofs.lemmas.Option.{slice_get-get_or}
-use Rattle.ti_methods.specs.Classes.{first_of, methods_in}
+use Rattle.ti_methods.specs.Classes.{first_of}
 use Rattle.ti_methods.proofs.Lists.{busy_still, method_found}
 use Rattle.ti_methods.proofs.told.find_method.Goals as goal
 

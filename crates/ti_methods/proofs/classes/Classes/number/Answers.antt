@@ -1,4 +1,4 @@
-use Rattle.std.proofs.Common.{rules, refl, subst}
+use Rattle.std.proofs.Common.{rules, subst}
 use mathlib.Core.List.{IsPrefix}
 use Rattle.ti_methods.specs.declared.info.Defined.{Defined}
 use Rattle.ti_methods.specs.Classes.{HasRoom, Known}

@@ -1,5 +1,4 @@
 use Rattle.std.proofs.Common.{arith, ◌≡◌, ◌+◌, ◌*◌, ◌∙◌, ap, sym, length}
-use Rattle.ti_methods.specs.Classes.{HasRoom, methods_in}
 use Rattle.ti_methods.specs.Rules.{word_of}
 use Rattle.ti_methods.proofs.Adding.{adds_moves}
 use Rattle.ti_methods.proofs.classes.Shared.add.Goals as goal
