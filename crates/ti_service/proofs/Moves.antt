@@ -5,7 +5,6 @@ use Rattle.std.specs.List.{fold}
 use Rattle.std.proofs.lemmas.List.{reverse-append}
 use Rattle.std.proofs.lemmas.List.Elements.{All-weaker}
 use Rattle.std.proofs.lemmas.List.Sums.{fold-append}
-use Rattle.atomic_table.specs.Seated.{TableId}
 use Rattle.ti_types.specs.declared.error.TiError.{TiError}
 use Rattle.ti_types.specs.declared.numbers.EnvNo.{EnvNo}
 use Rattle.ti_agent.specs.Desks.{with_desk}
@@ -22,10 +21,10 @@ use Rattle.ti_roster.proofs.Moving.{may_attach, may_dispose, may_meet_any, may_s
 use Rattle.ti_roster.proofs.Returning.{backs_own}
 use Rattle.ti_service.specs.Agent.{AgentState, Meets, MeetsSome, Moved, knowing}
 use Rattle.ti_service.proofs.Homes.{own_later}
-use Rattle.ti_service.specs.Service.{Holds, Member, TakesDesks, member_in}
+use Rattle.ti_service.specs.Service.{Base, Holds, Member, TakesDesks, member_in}
 
 -- what a handle's seat knows is what the handle knows
-pub seat_view : (cell : TableId) (o : Option Sitting) (s : Sitting) (m : Member) → member_in cell o ≡ m → o ≡ Some s → s.view ≡ m.view
+pub seat_view : (cell : Base) (o : Option Sitting) (s : Sitting) (m : Member) → member_in cell o ≡ m → o ≡ Some s → s.view ≡ m.view
 seat_view cell o s m e is = ap (λ (x : Option Sitting). (member_in cell x).view) (sym is) ∙ ap (λ (x : Member). x.view) e
 
 pub claim_moves : (o : Option EnvNo) (r r' : Log) (seen : List Coming) (res : Result EnvNo TiError) → o ≡ None → Claims r.items o seen → r.user ≡ o

@@ -25,7 +25,7 @@ pub record AgentState : Type 0 where
   pub waiting : List FreeState
   pub events : Option ℕ
 
--- nothing but what the handle knows has changed
+-- nothing but what the handle knows of the roster has changed
 abbrev pub IsSameBut : AgentState → AgentState → Type 0
 IsSameBut old new = (new.service.cell ≡ old.service.cell) × (new.env ≡ old.env) × (new.waiting ≡ old.waiting) × (new.events ≡ old.events)
 

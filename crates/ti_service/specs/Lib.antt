@@ -5,3 +5,4 @@ pub mod Homes
 pub mod Leaving
 pub mod LettingGo
 pub mod Memberships
+pub mod Classes

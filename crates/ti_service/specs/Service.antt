@@ -10,6 +10,7 @@ use Rattle.ti_types.specs.declared.numbers.ThreadNo.{ThreadNo}
 use Rattle.ti_agent.specs.FreeDesk.{FreeState}
 use Rattle.ti_cell.specs.Seats.{Sitting as ThreadSitting}
 use Rattle.ti_cell.specs.View.{newcomer, subject_of}
+use Rattle.ti_methods.specs.Classes.{Known}
 use Rattle.ti_roster.specs.declared.coming.Coming.{Coming}
 use Rattle.ti_roster.specs.declared.coming.Coming.TheVariants.{Came, Ended, Attached, Disposed}
 use Rattle.ti_roster.specs.declared.info.ThreadInfo.{ThreadInfo}
@@ -21,18 +22,26 @@ use Rattle.ti_roster.specs.Rule.{Begins, Claims}
 use Rattle.ti_roster.specs.Seats.{Sitting}
 use Rattle.ti_roster.specs.View.{AreWithin, first_view, glanced, splitter}
 
--- a handle: the roster's cell, and what it knows
+-- Which service it is: the cell of its roster, and the table of its classes. With it the classes that a handle has seen
+pub record Base : Type 0 where
+  pub roster : TableId
+  pub classes : Known
+
+abbrev pub base_of : TableId → Known → Base
+base_of roster classes = record { roster = roster; classes = classes }
+
+-- a handle: which service it is of, and what it knows of the roster
 pub record Member : Type 0 where
-  pub cell : TableId
+  pub cell : Base
   pub view : RosterView
 
 -- the handle has its seat between calls
-abbrev pub member_in : TableId → Option Sitting → Member
+abbrev pub member_in : Base → Option Sitting → Member
 member_in cell (Some s) = record { cell = cell; view = s.view }
 member_in cell None = record { cell = cell; view = first_view least }
 
-abbrev pub IsThere : TableId → Option Sitting → Type 0
-IsThere cell (Some s) = s.cell ≡ cell
+abbrev pub IsThere : Base → Option Sitting → Type 0
+IsThere cell (Some s) = s.cell ≡ cell.roster
 IsThere cell None = ⊥
 
 -- the roster as a handle has seen it
@@ -45,6 +54,10 @@ roster_seen v = roster_of v v.seen
 -- the handle after one more look, at which so much had happened
 abbrev pub with_look : Member → ℕ → Member
 with_look m count = record { cell = m.cell; view = glanced m.view count }
+
+-- the handle once it has seen these classes
+abbrev pub with_classes : Member → Known → Member
+with_classes m classes = record { cell = base_of m.cell.roster classes; view = m.view }
 
 -- the handle after one more was made from it
 abbrev pub with_handle : Member → Member

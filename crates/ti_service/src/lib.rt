@@ -4,8 +4,8 @@
 //! is attached under a number of its own and given back when it has ended. An agent attaches an environment, and meets
 //! the threads that came since it last did.
 //!
-//! This crate uses `ti_roster`, which has the list of who is there, and `ti_agent`, which has an environment's calls. It
-//! promises:
+//! This crate uses `ti_roster`, which has the list of who is there, `ti_methods`, which has the classes, and `ti_agent`, which
+//! has an environment's calls. It promises:
 //!
 //! - No two threads have one number, and none is used again.
 //! - An environment that meets the threads has a desk at each thread that came since it last did and is still there.
@@ -14,22 +14,29 @@
 //! - An agent that makes a trace of several threads step by step comes back at its end, with what was read.
 //! - No two agents have one environment's number.
 //! - Agents are told threads' starts and ends in one order, each once. What was lost is counted.
+//! - What is told of a class or a method is what was defined under its number, and never waits.
 //! - The list of who is there is held for each coming, going and meeting, and never while a thread is asked.
 #![tactic(auto)]
 
 mod agent;
 mod agent_calls;
+mod agent_classes;
 mod agent_desks;
 mod agent_tries;
 mod laws;
 mod membership;
 mod service;
+mod service_classes;
 mod service_tries;
 
 pub use agent::{Agent, Gathering};
 pub use agent_calls::ServiceCalls;
+pub use agent_classes::ClassCalls;
 pub use agent_tries::ServiceTries;
 pub use laws::cleared_words_read_zero;
 pub use membership::Membership;
 pub use service::Service;
+pub use ti_methods::{
+    ClassError, ClassInfo, ClassNo, Defined, LineEntry, Lines, MethodInfo, MethodName,
+};
 pub use ti_roster::{LifeEvent, LifeKind, NextEvent, ThreadInfo};

@@ -9,13 +9,15 @@ use std::time::Duration;
 use ti_agent::{Env, FreeDesk};
 use ti_cell::{OwnSeat, Pace};
 use ti_handshake::{Ended, Fresh};
+use ti_methods::Classes;
 use ti_roster::{NextEvent, RosterSeat, SharedRoster, ThreadInfo};
 use ti_types::{EnvNo, Limits, ThreadNo, TiError};
 
 /// A handle of a service. A runtime makes one, and shares it with whoever attaches threads or environments. The service lives
 /// as long as one of its handles.
 ///
-/// Contracts see it as the roster's cell, and what the handle knows: what has happened, as far as it has seen.
+/// Contracts see it as the service that it is of, with the classes that it has seen, and what it knows of the roster: what has
+/// happened, as far as it has seen.
 ///
 /// # Examples
 ///
@@ -54,32 +56,38 @@ use ti_types::{EnvNo, Limits, ThreadNo, TiError};
 #[derive(Drop)]
 pub struct Service {
     pub(crate) roster: SharedRoster,
+    pub(crate) classes: Classes,
     /// `None` only while a call holds the roster.
     pub(crate) seat: Option<RosterSeat>,
 }
 
 impl Model for Service {
-    ghost use Rattle.ti_service.specs.Service.{Member, IsThere, member_in};
+    ghost use Rattle.ti_service.specs.Service.{Member, IsThere, base_of, member_in};
 
     ghost Value = { Member };
 
-    ghost view = { λ s. member_in s.roster s.seat };
+    ghost view = { λ s. member_in (base_of s.roster s.classes) s.seat };
 
-    ghost invariant = { λ s. IsThere s.roster s.seat };
+    ghost invariant = { λ s. IsThere (base_of s.roster s.classes) s.seat };
 }
 
 impl Service {
-    /// Makes a service with nobody. Its threads have the depth and the window of these limits. At most `envs`
+    /// Makes a service with nobody, and without a class. Its threads have the depth and the window of these limits. At most `envs`
     /// environments come to it. An environment has desks at 65,536 threads at most.
     ///
     /// 110 OUT_OF_MEMORY if there is no memory for it, and no other error (this profile).
     pub fn make(alloc: Global, limits: Limits) -> Result<Service, TiError>
         ensures new { IfOk result (λ s. s.view ≡ first_view limits) }
+        ensures classes { IfOk result (λ s. s.cell.classes.seen ≡ []) }
         ensures memory { IfErr result (λ e. e ≡ OutOfMemory) }
     {
         let (roster, seat) = SharedRoster::make(alloc, limits)?;
+        let Ok(classes) = Classes::make(alloc) else {
+            return Err(TiError::OutOfMemory);
+        };
         Ok(Service {
             roster,
+            classes,
             seat: Some(seat),
         })
     }
@@ -94,12 +102,16 @@ impl Service {
         ensures unchanged { OnErr result (self.new ≡ self.old) }
     {
         let roster = self.roster.share()?;
+        let Ok(classes) = self.classes.share() else {
+            return Err(TiError::Full);
+        };
         let Some(seat) = &mut self.seat else {
             unreachable!()
         };
         let seat = self.roster.split(seat);
         Ok(Service {
             roster,
+            classes,
             seat: Some(seat),
         })
     }
@@ -117,7 +129,7 @@ impl Service {
     }
 
     /// The limits of the service's threads and environments.
-    pub(crate) fn limits(&self) -> Limits
+    pub fn limits(&self) -> Limits
         ensures { result ≡ self.now.view.limits }
     {
         let Some(seat) = &self.seat else {
@@ -443,7 +455,7 @@ impl Service {
     }
 }
 
-ghost use Rattle.std.specs.Prelude.{◌≡◌, ◌<◌, ◌≤◌, ◌+◌, ◌^◌, None, length, map, IfOk, IfErr, IfSome, OnOk, OnErr};
+ghost use Rattle.std.specs.Prelude.{◌≡◌, ◌<◌, ◌≤◌, ◌+◌, ◌^◌, [], None, length, map, IfOk, IfErr, IfSome, OnOk, OnErr};
 ghost use Rattle.ti_roster.specs.Events.{AreInOrder, life_of, next_event};
 ghost use Rattle.ti_types.specs.declared.error.TiError.TheVariants.{Full, OutOfMemory};
 ghost use Rattle.ti_roster.specs.View.{first_view, split_off};

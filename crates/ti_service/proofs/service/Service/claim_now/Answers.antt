@@ -5,6 +5,7 @@ use Rattle.ti_roster.specs.declared.view.RosterView.{RosterView}
 use Rattle.ti_roster.specs.Log.{Log}
 use Rattle.ti_roster.specs.Rule.{Claims, Moves}
 use Rattle.ti_roster.specs.Seats.{Sitting}
+use Rattle.ti_service.specs.Service.{base_of}
 use Rattle.ti_service.proofs.Moves.{claim_moves, seat_view}
 use Rattle.ti_service.proofs.service.Service.claim_now.Goals as goal
 
@@ -15,7 +16,7 @@ store_quietly-requires-clause-moves c =
     let r : Log = c.roster.result.now in
     let r' : Log = c.attach-env.new.self in
     let value : r ≡ h.roster = c.roster.ensures.value in
-    let mine : seat.view ≡ c.args.self.now.view = seat_view c.self.inside.roster c.self.inside.seat seat c.args.self.now c.self.view_is (sym c.take.ensures.value ∙ c.in-Some.is) in
+    let mine : seat.view ≡ c.args.self.now.view = seat_view (base_of c.self.inside.roster c.self.inside.classes) c.self.inside.seat seat c.args.self.now c.self.view_is (sym c.take.ensures.value ∙ c.in-Some.is) in
     let nobody : seat.view.place ≡ None = ap (λ (v : RosterView). v.place) mine ∙ c.requires in
     let place : h.view.place ≡ seat.view.place = ap (λ (v : RosterView). v.place) c.in-Ok.ensures.view in
     let seen : h.view.seen ≡ r.items = ap (λ (v : RosterView). v.seen) c.in-Ok.ensures.view ∙ ap (λ (x : Log). x.items) (sym value) in

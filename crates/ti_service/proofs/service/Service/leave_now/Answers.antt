@@ -8,6 +8,7 @@ use Rattle.ti_roster.specs.Log.{Log}
 use Rattle.ti_roster.specs.Roster.{IsOwn, MayGoBack}
 use Rattle.ti_roster.specs.Rule.{Begins, Claims, Moves}
 use Rattle.ti_roster.specs.Seats.{Sitting}
+use Rattle.ti_service.specs.Service.{base_of}
 use Rattle.ti_service.proofs.Moves.{all_back, leave_begins, leave_moves, seat_view}
 use Rattle.ti_service.proofs.service.Service.leave_now.Goals.{After-roster}
 use Rattle.ti_service.proofs.service.Service.leave_now.Goals as goal
@@ -18,7 +19,7 @@ back c =
     let seat : Sitting = c.in-Some.seat in
     let r : Log = c.roster.result.now in
     let value : r ≡ c.in-Ok.hold.roster = c.roster.ensures.value in
-    let mine : seat.view ≡ c.args.self.now.view = seat_view c.self.inside.roster c.self.inside.seat seat c.args.self.now c.self.view_is (sym c.take.ensures.value ∙ c.in-Some.is) in
+    let mine : seat.view ≡ c.args.self.now.view = seat_view (base_of c.self.inside.roster c.self.inside.classes) c.self.inside.seat seat c.args.self.now c.self.view_is (sym c.take.ensures.value ∙ c.in-Some.is) in
     let user : r.user ≡ Some c.requires.env = ap (λ (x : Log). x.user) value ∙ (c.in-Ok.ensures.roster.1 ∙ (ap (λ (v : RosterView). v.place) mine ∙ c.requires.place)) in
     let limits : r.limits ≡ c.args.self.now.view.limits = ap (λ (x : Log). x.limits) value ∙ (c.in-Ok.ensures.roster.0 ∙ ap (λ (v : RosterView). v.limits) mine) in
     let begins : Begins r.items c.args.self.now.view.seen = subst (λ (x : Log × RosterView). Begins x.0.items x.1.seen) (λ j. (sym value j, mine j)) c.in-Ok.ensures.begins in
