@@ -222,6 +222,36 @@ impl Picture {
         Ok(())
     }
 
+    /// Writes all of it.
+    fn draw(&mut self, alloc: Global, roots: &Roots, title: &str) -> Result<(), AllocError> {
+        self.begin(title)?;
+        let mut before: u64 = 0;
+        for (place, part) in roots.parts().iter().enumerate() {
+            let count = count_of(part);
+            let owner = roots.owner(place);
+            self.owned(alloc, owner, part, Span { before, count })?;
+            before = before.saturating_add(count);
+        }
+        self.text.push_str("</svg>")
+    }
+
+    /// Writes the bars of an owner's part, on the owner's own bar if it has a name and a stack.
+    fn owned(
+        &mut self,
+        alloc: Global,
+        owner: Owner,
+        part: &Part,
+        span: Span,
+    ) -> Result<(), AllocError> {
+        match owner.name(alloc)? {
+            Some(name) if span.count > 0 => {
+                self.bar(name.as_str(), GREEN, 0, span)?;
+                self.part(alloc, part, 1, span.before)
+            }
+            _ => self.part(alloc, part, 0, span.before),
+        }
+    }
+
     /// Writes the bars of a part.
     fn part(
         &mut self,
@@ -286,20 +316,7 @@ pub fn flame_of(alloc: Global, roots: &Roots, title: &str) -> Result<String, All
         foot: (height_of(roots) as u64).saturating_mul(HEIGHT),
         total: roots.total(),
     };
-    picture.begin(title)?;
-    let mut before: u64 = 0;
-    for (place, part) in roots.parts().iter().enumerate() {
-        let count = count_of(part);
-        match roots.owner(place).name(alloc)? {
-            Some(name) if count > 0 => {
-                picture.bar(name.as_str(), GREEN, 0, Span { before, count })?;
-                picture.part(alloc, part, 1, before)?;
-            }
-            _ => picture.part(alloc, part, 0, before)?,
-        }
-        before = before.saturating_add(count);
-    }
-    picture.text.push_str("</svg>")?;
+    picture.draw(alloc, roots, title)?;
     Ok(picture.text)
 }
 

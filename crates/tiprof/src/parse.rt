@@ -124,54 +124,60 @@ fn parse_string<R: Wait>(
     Ok(ends)
 }
 
-#[cycle(parsing)]
-/// Goes past the rest of an array, and gives whether it is well formed.
-fn parse_array<R: Wait>(
-    rt: &R,
-    worker: &mut Worker,
-    reader: &mut Reader<'_>,
-    depth: u32,
-) -> Result<bool, Spent>
-    ensures same { worker.new ≡ worker.old }
-{
-    worker.enter(Method::ParseArray)?;
-    let mut well = reader.eat(b']');
-    if !well {
-        for _ in reader.at..reader.text.len() {
-            worker.poll(rt);
-            if !parse_value(rt, worker, reader, depth)? {
-                break;
-            }
-            if !reader.eat(b',') {
-                well = reader.eat(b']');
-                break;
-            }
+/// What has values inside.
+#[derive(Clone, Copy)]
+enum Group {
+    Array,
+    Object,
+}
+
+impl Group {
+    /// The method in which it is parsed.
+    fn method(self) -> Method {
+        match self {
+            Group::Array => Method::ParseArray,
+            Group::Object => Method::ParseObject,
         }
     }
-    worker.leave()?;
-    Ok(well)
+
+    /// The byte that ends it.
+    fn end(self) -> u8 {
+        match self {
+            Group::Array => b']',
+            Group::Object => b'}',
+        }
+    }
+
+    /// Goes past what comes before a value in it, and gives whether it was there.
+    fn begin_value(self, reader: &mut Reader<'_>) -> bool {
+        match self {
+            Group::Array => true,
+            Group::Object => reader.key(),
+        }
+    }
 }
 
 #[cycle(parsing)]
-/// Goes past the rest of an object, and gives whether it is well formed.
-fn parse_object<R: Wait>(
+/// Goes past the rest of an array or an object, and gives whether it is well formed.
+fn parse_group<R: Wait>(
     rt: &R,
     worker: &mut Worker,
     reader: &mut Reader<'_>,
+    group: Group,
     depth: u32,
 ) -> Result<bool, Spent>
     ensures same { worker.new ≡ worker.old }
 {
-    worker.enter(Method::ParseObject)?;
-    let mut well = reader.eat(b'}');
+    worker.enter(group.method())?;
+    let mut well = reader.eat(group.end());
     if !well {
         for _ in reader.at..reader.text.len() {
             worker.poll(rt);
-            if !reader.key() || !parse_value(rt, worker, reader, depth)? {
+            if !group.begin_value(reader) || !parse_value(rt, worker, reader, depth)? {
                 break;
             }
             if !reader.eat(b',') {
-                well = reader.eat(b'}');
+                well = reader.eat(group.end());
                 break;
             }
         }
@@ -198,11 +204,11 @@ fn parse_value<R: Wait>(
     match reader.peek() {
         b'{' => {
             reader.advance();
-            parse_object(rt, worker, reader, depth - 1)
+            parse_group(rt, worker, reader, Group::Object, depth - 1)
         }
         b'[' => {
             reader.advance();
-            parse_array(rt, worker, reader, depth - 1)
+            parse_group(rt, worker, reader, Group::Array, depth - 1)
         }
         b'"' => {
             reader.advance();
@@ -255,22 +261,27 @@ fn write_letters(text: &mut String, count: u32) -> Result<(), AllocError> {
     text.push_str("\"")
 }
 
+/// Writes an object of a few arrays and strings.
+fn write_document(text: &mut String, numbers: u32) -> Result<(), AllocError> {
+    let letters = numbers.saturating_mul(5) / 2;
+    text.push_str("{\"series\": ")?;
+    write_series(text, numbers)?;
+    text.push_str(", \"inner\": {\"letters\": ")?;
+    write_letters(text, letters)?;
+    text.push_str(", \"rows\": [")?;
+    write_series(text, numbers / 4)?;
+    text.push_str(", ")?;
+    write_series(text, numbers / 4)?;
+    text.push_str("]}, \"more\": ")?;
+    write_letters(text, letters)?;
+    text.push_str("}")
+}
+
 /// A document: an object of a few arrays and strings. The longest array has so many numbers, and there are some 15 bytes for
 /// each. The error is lack of memory.
 pub fn document(alloc: Global, numbers: u32) -> Result<String, AllocError> {
-    let letters = numbers.saturating_mul(5) / 2;
     let mut text = String::new(alloc);
-    text.push_str("{\"series\": ")?;
-    write_series(&mut text, numbers)?;
-    text.push_str(", \"inner\": {\"letters\": ")?;
-    write_letters(&mut text, letters)?;
-    text.push_str(", \"rows\": [")?;
-    write_series(&mut text, numbers / 4)?;
-    text.push_str(", ")?;
-    write_series(&mut text, numbers / 4)?;
-    text.push_str("]}, \"more\": ")?;
-    write_letters(&mut text, letters)?;
-    text.push_str("}")?;
+    write_document(&mut text, numbers)?;
     Ok(text)
 }
 
