@@ -4,10 +4,10 @@ use Rattle.std.proofs.lemmas.List.{append-nil}
 use Rattle.std.proofs.lemmas.Bool.Decides.{nat_tests}
 use mathlib.Core.List.{IsPrefix}
 use prog.Atomic.{either}
-use Rattle.logbook.specs.Pages.{Cell, Book, cell, keeps, no_nib, step, Moves, Goes}
+use Rattle.logbook.specs.Pages.{Cell, cell, keeps, no_nib, step, Moves, Goes}
 use Rattle.ti_methods.specs.declared.info.ClassInfo.{ClassInfo}
 use Rattle.ti_methods.specs.Classes.{count, methods_in, HasRoom}
-use Rattle.ti_methods.specs.Rules.{IsKept, IsLegal, Adds, word_of, numbers_of}
+use Rattle.ti_methods.specs.Rules.{IsKept, IsLegal, Adds, word_of}
 use Rattle.ti_methods.proofs.Lists.{prefix_whole, methods_snoc}
 
 abbrev pub shown : List ClassInfo → List ClassInfo
@@ -15,14 +15,6 @@ shown log = []
 
 abbrev pub moved : List ClassInfo → List ClassInfo → ℕ → Type 0
 moved xs ys n = Unit {0}
-
--- tables of the same numbers are one
-pub one_book : (a b : Book) → numbers_of a ≡ numbers_of b → a ≡ b
-one_book a b e =
-    let n : a.number ≡ b.number = cc e in
-    let l : a.log_name ≡ b.log_name = cc e in
-    let c : a.cells_name ≡ b.cells_name = cc e in
-    λ i. record { number = n i; log_name = l i; cells_name = c i }
 
 -- both counts are in the word
 pub counts : (c m d n : ℕ) → m < 2 ^ 32 → n < 2 ^ 32 → c * 2 ^ 32 + m ≡ d * 2 ^ 32 + n → c ≡ d

@@ -1,5 +1,5 @@
 -- Beginnings of one list, and where classes and methods stand in it.
-use Rattle.std.proofs.Common.{◌≡◌, ℕ, zero, suc, ◌+◌, ◌-◌, ◌<◌, ◌≤◌, List, [], ◌∷◌, ◌++◌, length, take, Some, slice_get, refl, ap, ap₂, sym, ◌∙◌, arith, append_assoc, length-append, inr}
+use Rattle.std.proofs.Common.{◌≡◌, ℕ, zero, suc, ◌+◌, ◌-◌, ◌<◌, ◌≤◌, List, [], ◌∷◌, ◌++◌, length, take, Some, slice_get, refl, ap, sym, ◌∙◌, arith, append_assoc, length-append, inr}
 use native.Mathlib.Numerals.{unary_clauses}
 use mathlib.Core.List.{IsPrefix}
 use Rattle.ti_methods.specs.declared.info.ClassInfo.{ClassInfo}
@@ -120,9 +120,12 @@ pub methods_prefix : (xs ys : List ClassInfo) → IsPrefix xs ys → IsPrefix (m
 methods_prefix [] ys p = (methods_in ys, refl)
 methods_prefix (x ∷ xs) [] p = absurd (cc (p.1))
 methods_prefix (x ∷ xs) (y ∷ ys) p =
-    let same : x ≡ y = cc (p.1) in
-    let rest = methods_prefix xs ys (p.0, cc (p.1)) in
-    (rest.0, append_assoc x.methods.items (methods_in xs) rest.0 ∙ ap₂ (λ (c : ClassInfo) l. c.methods.items ++ l) same rest.1)
+    let class : x ≡ y = cc (p.1) in
+    let first : List MethodInfo = x.methods.items in
+    let same : first ≡ y.methods.items = ap (λ (c : ClassInfo). c.methods.items) class in
+    let rest : IsPrefix (methods_in xs) (methods_in ys) = methods_prefix xs ys (p.0, cc (p.1)) in
+    let joined : (first ++ methods_in xs) ++ rest.0 ≡ first ++ methods_in ys = append_assoc first (methods_in xs) rest.0 ∙ ap (λ l. first ++ l) rest.1 in
+    (rest.0, joined ∙ ap (λ l. l ++ methods_in ys) same)
 
 -- two beginnings of one list have the same under each number
 pub one_under : {A : Type 0} (xs ys all : List A) (k : ℕ) (x y : A) → IsPrefix xs all → IsPrefix ys all → slice_get xs k ≡ Some x → slice_get ys k ≡ Some y → x ≡ y
