@@ -24,12 +24,17 @@ def libraries_of(text):
     return sorted(named.union(used, *(below[crate].split() for crate in named)))
 
 
+def left_out(folder, names):
+    """What of a crate's folder is not copied. Folders of proofs may have such names, and are."""
+    return {name for name in names if name in LEFT_OUT} if pathlib.Path(folder).parent == CRATES else set()
+
+
 @contextlib.contextmanager
 def copy_of_crates():
     """A folder with a copy of the crates, for as long as it is needed."""
     with tempfile.TemporaryDirectory(prefix="unproved-") as folder:
         root = pathlib.Path(folder)
-        shutil.copytree(CRATES, root / CRATES, ignore=shutil.ignore_patterns(*LEFT_OUT))
+        shutil.copytree(CRATES, root / CRATES, ignore=left_out)
         for file in (LISTED, "HANDLES"):
             shutil.copy(file, root)
         yield root
