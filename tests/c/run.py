@@ -164,7 +164,7 @@ def report_ordered(archive):
         run([compiler(False), *flags(THREAD), "-std=c11", str(HERE / "ordered.c"), *parts, str(archive), "-lpthread", "-o", made], check=True)
         environment = dict(os.environ, TSAN_OPTIONS="exitcode=66 suppressions=%s" % (C / "tsan.supp"))
         right, wrong = (run([made, *words], env=environment, timeout=LONGEST) for words in ([], ["race"]))
-    passed = (right.returncode, right.stdout) == (0, "") and wrong.returncode == 66 and "in count " in wrong.stdout
+    passed = (right.returncode, right.stdout) == (0, "") and wrong.returncode == 66 and "in count\n" in wrong.stdout
     print("the thread sanitizer knows the library's order: " + ("passed" if passed else "FAILED"))
     if not passed:
         print(right.stdout + wrong.stdout, flush=True)

@@ -56,7 +56,7 @@ static void resumes_what_is_suspended(void) {
     OK(cq_wait_ensure_resumed(&env, &signal_of_all, 0, 0));
     CHECK(!is_suspended());
     OK(cq_wait_back(&thread, &signal_of_all, 0));
-    SAME(cq_wait_ensure_resumed(&env, &signal_of_all, 1, 0), CQ_INVALID_THREAD);
+    SAME(cq_wait_ensure_resumed(&env, &signal_of_all, UINT32_MAX, 0), CQ_INVALID_THREAD);
     OK(cq_relinquish_capabilities(&env, CQ_CAN_SUSPEND));
     SAME(cq_wait_ensure_resumed(&env, &signal_of_all, 0, 0), CQ_MUST_POSSESS_CAPABILITY);
     OK(cq_add_capabilities(&env, CQ_CAN_SUSPEND));
