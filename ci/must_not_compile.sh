@@ -37,9 +37,9 @@ replace() {
         END { exit count == 1 ? 0 : 1 }' "$1" > "$1.new" && mv "$1.new" "$1"
 }
 
-# Copies the sources, and what is built of the crates other than $1.
+# Copies the sources, folders of proofs that are named out among them, and what is built of the crates other than $1.
 copy_tree() {
-    tar -cf - --exclude=./.git --exclude=out . | tar -xf - -C "$2"
+    tar -cf - --anchored --no-wildcards-match-slash --exclude=./.git --exclude='./*/out' --exclude='./*/*/out' . | tar -xf - -C "$2"
     for built in crates/*/out/rlib; do
         other=$(basename "$(dirname "$(dirname "$built")")")
         if [ -d "$built" ] && [ "$other" != "$1" ]; then
