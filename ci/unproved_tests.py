@@ -24,18 +24,27 @@ import unproved
 
 TESTS = pathlib.Path("tests/crates")
 ENDING = ".rattle"
+SHARED = TESTS / f"made{ENDING}"
+
+
+def files_of(name):
+    """The files of a folder of tests. If its tests use the module `made` and have none of their own, the one that folders share is
+    among them."""
+    own = sorted((TESTS / name).glob(f"*{ENDING}"))
+    is_shared = all(file.name != SHARED.name for file in own) and any("crate::made::" in file.read_text() for file in own)
+    return own + [SHARED] * is_shared
 
 
 def add(root, name):
     """Adds a folder of tests to a copy of the crates. It gives the crate's folder."""
-    return unproved.add(root, name, {file.stem: file.read_text() for file in sorted((TESTS / name).glob(f"*{ENDING}"))})
+    return unproved.add(root, name, {file.stem: file.read_text() for file in files_of(name)})
 
 
 def laid_out(folder):
     """The files of a folder of tests that are not laid out, with the text that they should have."""
     subprocess.run(["rt", "fmt"], cwd=folder, check=True, stdout=subprocess.DEVNULL)
-    files = ((TESTS / folder.name / f"{file.stem}{ENDING}", file.read_text()) for file in sorted((folder / "src").glob("*.rt")))
-    return [(file, text) for file, text in files if file.is_file() and file.read_text() != text]
+    files = ((file, (folder / "src" / f"{file.stem}.rt").read_text()) for file in files_of(folder.name))
+    return [(file, text) for file, text in files if file.read_text() != text]
 
 
 def try_folder(root, name):
@@ -55,7 +64,7 @@ def try_folder(root, name):
 
 def main():
     words = sys.argv[1:]
-    names = [word for word in words if word != "--fmt"] or sorted(folder.name for folder in TESTS.iterdir() if any(folder.glob(f"*{ENDING}")))
+    names = [word for word in words if word != "--fmt"] or sorted(folder.name for folder in TESTS.iterdir() if folder.is_dir())
     with unproved.copy_of_crates() as root:
         if "--fmt" in words:
             for name in names:

@@ -8,7 +8,7 @@ use Rattle.std_heap.specs.contracts.GlobalAllocator.TheImpl.{ghosts, dict}
 use Rattle.std_heap.proofs.Global.TheLaws as heap
 use Rattle.ti_capi.specs.contracts.held.HeldEnv as Core
 use Rattle.ti_capi.proofs.held.HeldEnv.TheLaws as core
-use Rattle.ti_held.specs.contracts.parts.Parts as Parts
+use Rattle.ti_capi.specs.contracts.parts.Parts as Parts
 use Rattle.ti_capi.specs.contracts.env_at.EnvAt as CoreAt
 
 abbrev pub E : Bx

@@ -8,7 +8,7 @@ use Rattle.std_heap.specs.contracts.GlobalAllocator.TheImpl.{ghosts, dict}
 use Rattle.std_heap.proofs.Global.TheLaws as heap
 use Rattle.ti_service.specs.contracts.service.Service as Core
 use Rattle.ti_service.proofs.service.Service.TheLaws as core
-use Rattle.ti_held.specs.contracts.parts.Parts as Parts
+use Rattle.ti_capi.specs.contracts.parts.Parts as Parts
 use Rattle.ti_capi.specs.contracts.service_at.ServiceAt as CoreAt
 
 abbrev pub E : Bx

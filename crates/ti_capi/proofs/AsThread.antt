@@ -8,7 +8,7 @@ use Rattle.std_heap.specs.contracts.GlobalAllocator.TheImpl.{ghosts, dict}
 use Rattle.std_heap.proofs.Global.TheLaws as heap
 use Rattle.ti_capi.specs.contracts.held.HeldThread as Core
 use Rattle.ti_capi.proofs.held.HeldThread.TheLaws as core
-use Rattle.ti_held.specs.contracts.parts.Parts as Parts
+use Rattle.ti_capi.specs.contracts.parts.Parts as Parts
 use Rattle.ti_capi.specs.contracts.thread_at.ThreadAt as CoreAt
 
 abbrev pub E : Bx

@@ -4,9 +4,9 @@ ghost use Rattle.ti_capi.specs.declared.held.HeldEnv.{HeldEnv as EnvValue};
 ghost use Rattle.ti_capi.specs.HeldEnv.{env_owns, env_coded};
 
 use crate::held::HeldEnv;
+use crate::parts::Parts;
 use std::alloc::Global;
 use std::marker::Model;
-use ti_held::Parts;
 
 /// The box of an environment, or nothing.
 #[derive(Drop)]

@@ -3,10 +3,10 @@ ghost use Rattle.std.specs.Prelude.{◌≡◌, ◌==◌, IfSome, IfNone, Some, N
 
 use crate::env_at::EnvAt;
 use crate::held::HeldEnv;
+use crate::parts::Parts;
 use std::alloc::Global;
 use std::marker::Model;
 use std::mem::replace;
-use ti_held::Parts;
 
 /// The kind of this handle.
 const KIND: u32 = 3;

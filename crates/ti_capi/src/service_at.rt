@@ -3,9 +3,9 @@ ghost use Rattle.std.specs.Prelude.{◌≡◌, Option, Some, None};
 ghost use Rattle.ti_service.specs.Service.{Member};
 ghost use Rattle.ti_capi.specs.HeldService.{service_owns, service_coded};
 
+use crate::parts::Parts;
 use std::alloc::Global;
 use std::marker::Model;
-use ti_held::Parts;
 use ti_service::Service;
 
 /// The box of a handle of the service, or nothing.

@@ -1,11 +1,11 @@
 //! The handle of a handle of the service.
 ghost use Rattle.std.specs.Prelude.{◌≡◌, ◌==◌, IfSome, IfNone, Some, None};
 
+use crate::parts::Parts;
 use crate::service_at::ServiceAt;
 use std::alloc::Global;
 use std::marker::Model;
 use std::mem::replace;
-use ti_held::Parts;
 use ti_service::Service;
 
 /// The kind of this handle.

@@ -4,9 +4,9 @@ ghost use Rattle.ti_capi.specs.declared.held.HeldThread.{HeldThread as ThreadVal
 ghost use Rattle.ti_capi.specs.HeldThread.{thread_owns, thread_coded};
 
 use crate::held::HeldThread;
+use crate::parts::Parts;
 use std::alloc::Global;
 use std::marker::Model;
-use ti_held::Parts;
 
 /// The box of a thread, or nothing.
 #[derive(Drop)]

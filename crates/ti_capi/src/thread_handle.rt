@@ -2,11 +2,11 @@
 ghost use Rattle.std.specs.Prelude.{◌≡◌, ◌==◌, IfSome, IfNone, Some, None};
 
 use crate::held::HeldThread;
+use crate::parts::Parts;
 use crate::thread_at::ThreadAt;
 use std::alloc::Global;
 use std::marker::Model;
 use std::mem::replace;
-use ti_held::Parts;
 
 /// The kind of this handle.
 const KIND: u32 = 2;

@@ -1,7 +1,10 @@
-//! Tests of what no clause says about a cell that threads share.
+//! Runs over a shared cell whose contracts say what its history is at the end, for every schedule. They also test what no clause
+//! says: that each hold goes through, and that a poll is clear if nobody calls for the thread.
 //!
-//! They test that each hold goes through, whoever else holds the cell. Nothing depends on this crate.
+//! Nothing depends on this crate.
 #![tactic(auto)]
 
 #[cfg(test)]
 mod cells;
+#[cfg(test)]
+mod clear_polls;

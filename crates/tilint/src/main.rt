@@ -1,16 +1,43 @@
-//! `tilint`: explains one document from standard input to people. The words are made by `ti_lint`.
+//! `tilint`: explains one document from standard input to people: its first fault in words, or what surprises in one that has
+//! none.
 //!
 //! It takes the arguments of `tiwalk`. On standard output it writes the first fault in words, and then the line by which
 //! `tiwalk` refuses the document. The status is then 2. For a document without a fault it writes warnings, or `fine`, with the
 //! status 0.
+//!
+//! `ti_script` finds the first fault, with the part at fault. `ti_core` runs a walk, and `ti_replay` a history, for the
+//! warnings. It is proved:
+//!
+//! - The fault of a report is that of the readers of `ti_script`. A report without a fault is of a document that has none.
+//! - The place that an explanation names is in the item of the fault.
+//!
+//! No clause speaks of the words: `tests/cases/lint` has them.
 #![tactic(auto)]
 
+mod explaining;
+mod explanation;
+mod head;
+mod hints_of_history;
+mod hints_of_live;
+mod hints_of_walk;
+mod items;
+mod json;
+mod kind;
+mod names;
+mod place;
+mod positions;
+mod report;
+mod texts;
+mod tree;
+mod values;
+mod vocabulary;
+
+use crate::report::{Report, lint_history, lint_live, lint_too_long, lint_walk};
 use std::alloc::Global;
 use std::io::{Read, Write};
 use std::process::ExitCode;
 use std::rt::Env;
 use ti_driver::{Command, Fault, asked_command, put_fault, read_input, status, write_whole};
-use ti_lint::{Report, lint_history, lint_live, lint_too_long, lint_walk};
 
 /// What is said of the document that these bytes are.
 fn report_of(alloc: Global, command: Command, bytes: &[u8]) -> Result<Report, Fault>

@@ -1,2 +1,0 @@
-pub mod HandOvers
-pub mod ClearPolls

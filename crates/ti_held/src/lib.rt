@@ -1,6 +1,0 @@
-//! A box as its pointer.
-#![tactic(auto)]
-
-mod parts;
-
-pub use parts::Parts;
