@@ -58,7 +58,7 @@ stress: $(TIBENCH)
 	$(TIBENCH) churn 10000 200 64
 
 edits:
-	python3 ci/edits.py
+	python3 ci/edits.py --more
 
 lib:
 	python3 ci/lib.py

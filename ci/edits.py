@@ -1,16 +1,24 @@
 #!/usr/bin/env python3
-"""Tries the edits that the gate leaves out: those of crates/NAME/more-edits, which the prover has to refuse too.
+"""Tries wrong bodies, which the prover has to refuse: the edits of crates/NAME/edits and crates/NAME/more-edits.
 
-An edit there has the form of those of must-fail/: a line 'file: src/x.rt', then pairs of lines 'old: TEXT' and
-'new: TEXT', where each old text stands in the file once when its turn comes. The edits of must-fail/ are tried by `rt ci`:
-one for each clause that pins what a function means, the cheapest to refuse. Here are the others.
+An edit is a line 'file: src/x.rt', then pairs of lines 'old: TEXT' and 'new: TEXT', where each old text stands in the file once
+when its turn comes. The gate tries those of edits/: one for each relation that a crate's contracts speak of, the cheapest to refuse.
 
-    ci/edits.py [NAME..]        of these crates, or of all: on a copy of the tree, with what is built there
-    ci/edits.py --apply         tries none, but looks whether each edit of both folders can be applied
+    ci/edits.py [NAME..]          the edits of edits/, of these crates or of all
+    ci/edits.py --more [NAME..]   those of more-edits/
+    ci/edits.py --apply           tries none, but looks whether each edit of both folders can be applied
 
-The last line is 'N refused, M not', or 'N passed, M failed' of the second.
+The crates have to be proved. An edit is refused if a function that it changes is not proved then. The others of its crate keep
+their contracts, so edits of different functions are made together, on a copy. Those of edits/ are checked function by function,
+and those of more-edits/ by one check of the crate. An edit that changes anything but bodies is tried alone, by a check of the
+crate. What does not compile is not refused.
+
+The last line is 'N refused, M not', or 'N passed, M failed' of the last form.
 """
 
+import contextlib
+import dataclasses
+import os
 import pathlib
 import re
 import shutil
@@ -19,62 +27,211 @@ import sys
 import tempfile
 
 CRATES = pathlib.Path("crates")
+LEFT_BEHIND = ("edits", "more-edits", "must-not-compile", "out")
+
+
+class Misfit(Exception):
+    """Why an edit cannot be applied."""
+
+
+@dataclasses.dataclass(frozen=True)
+class Edit:
+    """An edit: its crate and its name, the file that it changes, and the pairs of an old and a new text."""
+
+    crate: str
+    name: str
+    file: str
+    pairs: tuple
+
+    @classmethod
+    def read(cls, path):
+        words = [line.split(":", 1) for line in path.read_text().splitlines() if line]
+        texts = [rest.removeprefix(" ") for word, rest in words if word in ("old", "new")]
+        file = next((rest.strip() for word, rest in words if word == "file"), "")
+        return cls(path.parent.parent.name, path.stem, file, tuple(zip(texts[::2], texts[1::2])))
+
+    def applied(self, text):
+        """The file's text after the edit, and the function whose body each place is in."""
+        functions = set()
+        for old, new in self.pairs:
+            if text.count(old) != 1:
+                raise Misfit(f"an old text stands in {self.file} {text.count(old)} times")
+            functions.add(function_at(text, text.index(old)))
+            text = text.replace(old, new)
+        if not functions:
+            raise Misfit("it has no pair of an old and a new text")
+        return text, {function and self.module() + function for function in functions}
+
+    def module(self):
+        """The path of the file's module, as the prover prints it before a function's name."""
+        names = [self.crate, *self.file.removeprefix("src/").removesuffix(".rt").split("/")]
+        return "::".join(names[:-1] if names[-1] in ("lib", "main") else names) + "::"
+
+
+def function_at(text, place):
+    """The function in whose body a place of a laid out text is: its name, with that of its type before it. None if it is in no
+    body."""
+    for head in reversed(list(re.finditer(r"^( *)(?:[\w()\"]+ )*fn (\w+)", text[:place], re.M))):
+        end = re.compile(rf"^{head[1]}}}$", re.M).search(text, head.end())
+        body = re.compile(rf"\{{$|^{head[1]}\{{", re.M).search(text, head.end())
+        if end and body and body.start() < place < end.start():
+            return of_type(text, head) + head[2]
+    return None
+
+
+def of_type(text, head):
+    """The name of the type before a function's, as the prover prints it."""
+    if not head[1]:
+        return ""
+    impl = list(re.finditer(r"^impl(?:<[^{]*?>)? (?:(\w+)(?:<([^{]*?)>)? for )?(\w+)", text[: head.start()], re.M))[-1]
+    trait, argument, name = impl.groups("")
+    return f"{name}{trait}{argument}::"
+
+
+@dataclasses.dataclass
+class Said:
+    """What checks said: the functions with a goal that is not proved, and those that only call such a one."""
+
+    unproved: set
+    callers: set
+
+    @classmethod
+    def of(cls, folder, *flags):
+        done = subprocess.run(["rt", "check", *flags], cwd=folder, stdout=subprocess.PIPE, stderr=subprocess.STDOUT, text=True, errors="replace")
+        callers = set(re.findall(r"^fn (\S+): no proof: it calls", done.stdout, re.M))
+        unproved = set(re.findall(r"^fn (\S+): (?:not proved|no proof: (?!it calls))", done.stdout, re.M))
+        if done.returncode and not callers | unproved:
+            print(done.stdout[-800:])
+        return cls(unproved, callers)
+
+    @classmethod
+    def of_each(cls, folder, functions):
+        said = [cls.of(folder, "--only", function) for function in sorted(functions)]
+        return cls(set().union(*(one.unproved for one in said)), set().union(*(one.callers for one in said)))
+
+
+def link(source, target):
+    """Gives a file a second name, or copies it where there is none to be had."""
+    try:
+        os.link(source, target)
+    except OSError:
+        shutil.copy2(source, target)
+
+
+class Tree:
+    """A copy of all crates. What was built of them, in out/, is not copied but for the crate that is tried."""
+
+    def __init__(self, room):
+        self.room = pathlib.Path(room)
+        for file in ("crates.txt", "HANDLES"):
+            shutil.copy(file, room)
+        for crate in CRATES.iterdir():
+            shutil.copytree(crate, self.room / crate, ignore=lambda folder, names: {name for name in names if pathlib.Path(folder) == crate and name in LEFT_BEHIND})
+            if (crate / "out").is_dir():
+                shutil.copytree(crate / "out", self.room / crate / "out", copy_function=link)
+
+    @contextlib.contextmanager
+    def copy_of(self, crate):
+        """The crate's copy, with what was built of it."""
+        out, aside = self.room / crate / "out", self.room / "aside"
+        if out.is_dir():
+            out.rename(aside)
+            shutil.copytree(crate / "out", out)
+        yield Copy(crate, self.room / crate)
+        if aside.is_dir():
+            shutil.rmtree(out)
+            aside.rename(out)
+
+
+class Copy:
+    """A crate's copy, in which edits are made."""
+
+    def __init__(self, crate, folder):
+        self.crate, self.folder = crate, folder
+
+    def choose(self, waiting):
+        """Edits that can be tried together, with their functions, and the texts of files with all of them."""
+        texts, taken, chosen = {}, set(), []
+        for edit in waiting:
+            try:
+                text, functions = edit.applied(texts.get(edit.file) or (self.crate / edit.file).read_text())
+            except Misfit:
+                continue
+            if functions & taken or None in functions and chosen:
+                continue
+            texts[edit.file], taken = text, taken | functions
+            chosen.append((edit, functions))
+            if None in functions:
+                break
+        return chosen, texts
+
+    def said_of(self, chosen, texts, is_whole):
+        """What a check of the crate says of these edits, or a check of each of their functions."""
+        functions = set().union(*(functions for _, functions in chosen))
+        for file, text in texts.items():
+            (self.folder / file).write_text(text)
+        said = Said.of(self.folder) if is_whole or None in functions else Said.of_each(self.folder, functions)
+        for file in texts:
+            shutil.copy(self.crate / file, self.folder / file)
+        return said
+
+    def refused(self, edits, is_whole):
+        """Those of the edits that are refused. One whose function only calls another that is not proved is tried again."""
+        refused, waiting = [], list(edits)
+        while waiting:
+            chosen, texts = self.choose(waiting)
+            said = self.said_of(chosen, texts, is_whole)
+            now = [edit for edit, functions in chosen if functions & said.unproved or None in functions and said.unproved]
+            again = [edit for edit, functions in chosen if edit not in now and functions & said.callers]
+            done = [edit for edit, _ in chosen if not now or edit not in again]
+            refused, waiting = refused + now, [edit for edit in waiting if done and edit not in done]
+        return refused
 
 
 def edits_of(crate, folder):
-    return sorted((crate / folder).glob("*.edit"))
-
-
-def fault_of(edit, crate):
-    """Why the edit cannot be applied, or None."""
-    text, old, pairs = None, None, 0
-    for line in edit.read_text().splitlines():
-        word, _, rest = line.partition(": ") if not line.startswith("new:") else ("new", "", line[5:])
-        if word == "file":
-            path = crate / rest.strip()
-            if not path.is_file():
-                return f"there is no file {path}"
-            text = path.read_text()
-        elif word == "old":
-            old = rest
-        elif word == "new" and text is not None and old:
-            if text.count(old) != 1:
-                return f"an old text stands in {path} {text.count(old)} times"
-            text, old, pairs = text.replace(old, rest), None, pairs + 1
-    return None if pairs else "it has no pair of an old and a new text"
+    return [Edit.read(path) for path in sorted((crate / folder).glob("*.edit"))]
 
 
 def apply_all():
     passed = failed = 0
-    for edit in (edit for crate in sorted(CRATES.iterdir()) for folder in ("must-fail", "more-edits") for edit in edits_of(crate, folder)):
-        why = fault_of(edit, edit.parent.parent)
-        passed, failed = passed + (not why), failed + bool(why)
-        if why:
-            print(f"{edit}: {why}")
+    for crate in sorted(CRATES.iterdir()):
+        for edit in edits_of(crate, "edits") + edits_of(crate, "more-edits"):
+            try:
+                edit.applied((crate / edit.file).read_text())
+                passed += 1
+            except (Misfit, OSError) as why:
+                print(f"{edit.crate}/{edit.name}: {why}")
+                failed += 1
     print(f"{passed} passed, {failed} failed")
     return 1 if failed or not passed else 0
 
 
-def try_all(names):
-    """Tries the edits of each crate by `rt must-fail`, in a copy where they stand in place of those of the gate."""
-    crates = [crate for crate in sorted(CRATES.iterdir()) if edits_of(crate, "more-edits") and (not names or crate.name in names)]
-    refused = missed = 0
+def try_crate(tree, crate, edits, is_whole):
+    """How many edits of a crate are refused, and how many are not."""
+    with tree.copy_of(crate) as copy:
+        refused = copy.refused(edits, is_whole)
+    print(f"{crate}: {len(refused)} of {len(edits)} edits refused", flush=True)
+    missed = [edit for edit in edits if edit not in refused]
+    for edit in missed:
+        print(f"{crate}: {edit.name} is NOT refused", flush=True)
+    return len(refused), len(missed)
+
+
+def try_all(folder, names):
+    crates = [crate for crate in sorted(CRATES.iterdir()) if not names or crate.name in names]
     with tempfile.TemporaryDirectory(prefix="edits-") as room:
-        copy = pathlib.Path(room, "tree")
-        shutil.copytree(".", copy, ignore=shutil.ignore_patterns(".git", "must-fail", "incremental"))
-        for crate in crates:
-            (copy / crate / "more-edits").rename(copy / crate / "must-fail")
-            done = subprocess.run(["rt", "must-fail", crate.name], cwd=copy, stdout=subprocess.PIPE, text=True, errors="replace")
-            print(done.stdout, end="", flush=True)
-            well = len(re.findall(r"^rt: must-fail \S+: refused, as it must be", done.stdout, re.M))
-            refused, missed = refused + well, missed + len(edits_of(crate, "more-edits")) - well
+        tree = Tree(room)
+        counts = [try_crate(tree, crate, edits, folder == "more-edits") for crate in crates if (edits := edits_of(crate, folder))]
+    refused, missed = map(sum, zip(*counts)) if counts else (0, 0)
     print(f"{refused} refused, {missed} not")
-    return 1 if missed else 0
+    return 1 if missed or not refused else 0
 
 
 def main():
     words = sys.argv[1:]
-    return apply_all() if words == ["--apply"] else try_all(words)
+    if words == ["--apply"]:
+        return apply_all()
+    return try_all("more-edits" if "--more" in words else "edits", [word for word in words if word != "--more"])
 
 
 if __name__ == "__main__":

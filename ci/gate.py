@@ -1,9 +1,9 @@
 #!/usr/bin/env python3
 """Runs the tests that need no proof (`ci/unproved_tests.py`), the benchmark with small numbers (`bench/tibench.py`), and `rt ci`.
 Then, on the programs that `rt ci` has built, each case (`ci/cases.py`) and runs with an allocation refused
-(`ci/refused_memory.py`). Then, over the libraries that `rt ci` has proved, what the compiler must refuse
-(`ci/must_not_compile.sh`), the C programs, the library as it is installed (`tests/install`), and what the pages show
-(`ci/snippets.py`).
+(`ci/refused_memory.py`). Then, over the libraries that `rt ci` has proved, wrong bodies that the prover must refuse
+(`ci/edits.py`), what the compiler must refuse (`ci/must_not_compile.sh`), the C programs, the library as it is installed
+(`tests/install`), and what the pages show (`ci/snippets.py`).
 
 `rt ci` leaves `tiwalk` and `tilint` in their crates' `out/` as LLVM builds them, and, where Rattle's own compiler took them, as
 that builds them. It builds no static library, so `ci/lib.py` does that, over the libraries that were proved. The output of `rt ci` is passed
@@ -87,6 +87,9 @@ def main():
     passed, failed = passed + well, failed + ill
     if not status:
         proved_libraries.note(lib.CRATE, lib.TOP)
+        well, ill, _ = counts_of(sys.executable, "ci/edits.py")
+        print(f"edits that the prover must refuse: {well} refused, {ill} not", flush=True)
+        passed, failed = passed + well, failed + ill
         well, ill, _ = counts_of("sh", "ci/must_not_compile.sh")
         print(f"what the compiler must refuse: {well} passed, {ill} failed", flush=True)
         passed, failed = passed + well, failed + ill

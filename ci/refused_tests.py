@@ -43,8 +43,8 @@ def turn(folder, greater, numbers):
 def main():
     first, last = int(sys.argv[1]) if len(sys.argv) > 1 else 1, int(sys.argv[2]) if len(sys.argv) > 2 else 200
     with unproved.copy_of_crates() as root:
-        turns = ((unproved_tests.add(root, "ti_core_tests"), "lists::"), (root / unproved.CRATES / "ti_trace_tests", "traces::"))
-        counts = [turn(folder, greater, range(first, last + 1)) for folder, greater in turns]
+        turns = (("ti_core_tests", "lists::"), ("ti_trace_tests", "traces::"))
+        counts = [turn(unproved_tests.add(root, name), greater, range(first, last + 1)) for name, greater in turns]
     passed, failed = map(sum, zip(*counts))
     print(f"{passed} passed, {failed} failed")
     return 1 if failed else 0

@@ -13,7 +13,7 @@ import tempfile
 
 CRATES = pathlib.Path("crates")
 LISTED = pathlib.Path("crates.txt")
-LEFT_OUT = ("out", "must-fail", "more-edits", "must-not-compile")
+LEFT_OUT = ("out", "edits", "more-edits", "must-not-compile")
 
 
 def libraries_of(text):

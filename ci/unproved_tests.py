@@ -4,10 +4,10 @@
     ci/unproved_tests.py [NAME..]        of these folders, or of all
     ci/unproved_tests.py --fmt           lays their files out, and runs none
 
-Each folder tests/crates/NAME is the source of a crate of tests, with a module for each file NAME/*.rattle. They call nothing with a
-condition (`requires`), so there is nothing to prove of them (`ci/unproved.py`). A test that calls something with one stands
-in a crate below crates/, and `rt ci` proves it. The files have an ending of their own because `rt ci` refuses a .rt file
-that it does not read.
+Each folder tests/crates/NAME is the source of a crate of tests, with a module for each file NAME/*.rattle. Several share the module
+made.rattle. They call nothing with a condition (`requires`), so there is nothing to prove of them (`ci/unproved.py`). A test that
+calls something with one stands in a crate below crates/, and `rt ci` proves it. The files have an ending of their own because
+`rt ci` refuses a .rt file that it does not read.
 
 A file that is not laid out as `rt fmt` does it fails. So does a folder that does not compile. There are 60 seconds for the
 tests of a folder. The last line is 'N passed, M failed'.
