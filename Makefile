@@ -9,7 +9,8 @@
 # bindings for Rust and Python, and as it is installed (`make installed`). `make lua` builds the Lua host of `hosts/lua` over it,
 # and tests that. `make install` installs what `make lib` has built, and the programs that are built, below PREFIX. `make uninstall`
 # removes them.
-# `make jvm` carries walks out on a Java VM and compares its answers with the program's lines. `make try` runs the program on all
+# `make jvm` carries walks out on a Java VM and compares its answers with the program's lines, and what the library tells of the VM's
+# classes with what JVM TI tells. `make try` runs the program on all
 # examples without proving anything.
 .PHONY: run try test examples cases bench refused stress edits lib capi installed lua install uninstall jvm
 
@@ -102,5 +103,6 @@ install:
 uninstall:
 	rm -f $(addprefix $(DESTDIR),$(INSTALLED))
 
-jvm:
+jvm: lib
 	python3 tests/jvm/compare.py
+	python3 tests/jvm/classes.py dist/lib/libcebdyraq.a

@@ -47,11 +47,17 @@ def run(words):
         raise Missing(f"{words[0]} failed:\n{done.stdout}")
 
 
+def build_library(folder, made, sources, *more):
+    """Builds an agent library of C files, with the headers of the JDK in a folder."""
+    made.parent.mkdir(parents=True, exist_ok=True)
+    includes = [folder / "include", *{path.parent for path in folder.glob("include/*/jni_md.h")}]
+    flags = ["-O1", "-Wall", "-Wextra", "-shared", "-fPIC", "-pthread", *(f"-I{path}" for path in includes)]
+    run(["cc", *flags, "-o", made, *sorted(sources), *more])
+
+
 def build():
     """Builds both anew."""
     folder = home()
     CLASSES.mkdir(parents=True, exist_ok=True)
-    includes = [folder / "include", *{path.parent for path in folder.glob("include/*/jni_md.h")}]
-    flags = ["-O1", "-Wall", "-Wextra", "-shared", "-fPIC", "-pthread", *(f"-I{path}" for path in includes)]
-    run(["cc", *flags, "-o", LIBRARY, *sorted(HERE.glob("agent/*.c"))])
+    build_library(folder, LIBRARY, HERE.glob("agent/*.c"))
     run([folder / "bin/javac", "-Xlint", "-g:lines", "-d", CLASSES, *sorted(HERE.glob("driver/*.java"))])
