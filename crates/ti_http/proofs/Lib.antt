@@ -1,0 +1,4 @@
+pub mod Texts
+pub mod Rests
+pub mod Parts
+pub mod Steps

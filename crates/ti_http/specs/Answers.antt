@@ -78,15 +78,19 @@ own_fields status.NotImplemented = pprof_field ∷ []
 own_fields (status.ServiceUnavailable seconds) = pprof_field ∷ (codes "Retry-After", decimal seconds) ∷ []
 own_fields status.VersionNotSupported = pprof_field ∷ []
 
--- the fields that each answer has, whose content has this many bytes
-abbrev pub common_fields : ContentType → ℕ → Bool → List Header
-common_fields type len keeps =
-    (codes "Content-Type", type_of type)
-    ∷ (codes "Content-Length", decimal len)
+-- the fields that each answer has
+abbrev pub with_values : List ℕ → List ℕ → List ℕ → List Header
+with_values type len connection =
+    (codes "Content-Type", type)
+    ∷ (codes "Content-Length", len)
     ∷ (codes "X-Content-Type-Options", codes "nosniff")
     ∷ (codes "Cache-Control", codes "no-store")
-    ∷ (codes "Connection", option_of keeps)
+    ∷ (codes "Connection", connection)
     ∷ []
+
+-- the same of an answer whose content has this many bytes
+abbrev pub common_fields : ContentType → ℕ → Bool → List Header
+common_fields type len keeps = with_values (type_of type) (decimal len) (option_of keeps)
 
 abbrev pub head_text : Status → ContentType → ℕ → Bool → List ℕ
 head_text s type len keeps = response_text 1 (code_of s) (reason_of s) (common_fields type len keeps ++ own_fields s)

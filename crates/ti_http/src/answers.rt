@@ -54,21 +54,51 @@ fn write_head(
     ensures memory { IfErr result (λ e. e ≡ OutOfMemory) }
 {
     let mut digits = Buffer::new();
-    let fields = [
-        field(b"Content-Type", content_type.value()),
-        field(b"Content-Length", digits.format(length).as_bytes()),
-        field(b"X-Content-Type-Options", b"nosniff"),
-        field(b"Cache-Control", b"no-store"),
-        field(b"Connection", option(keeps)),
-    ];
-    write_fields(out, status, &fields)
+    write_common(
+        out,
+        status,
+        content_type.value(),
+        digits.format(length).as_bytes(),
+        option(keeps),
+    )
 }
 
-fn field<'a>(name: &'a [u8], value: &'a [u8]) -> Header<'a>
-    ensures name { result.name.now ≡ name.now }
-    ensures value { result.value.now ≡ value.now }
+/// Writes the head with these values of the fields that each answer has.
+fn write_common<'a>(
+    out: &mut Vec<u8>,
+    status: Status,
+    content_type: &'a [u8],
+    length: &'a [u8],
+    connection: &'a [u8],
+) -> Result<(), HttpError>
+    requires { are_headers (with_values content_type.now length.now connection.now) ≡ true }
+    ensures ok { OnOk result (out.new.items ≡ out.old.items
+        ++ response_text 1 (code_of status) (reason_of status) (with_values content_type.now length.now connection.now ++ own_fields status)) }
+    ensures memory { IfErr result (λ e. e ≡ OutOfMemory) }
 {
-    Header { name, value }
+    let fields = [
+        Header {
+            name: b"Content-Type",
+            value: content_type,
+        },
+        Header {
+            name: b"Content-Length",
+            value: length,
+        },
+        Header {
+            name: b"X-Content-Type-Options",
+            value: b"nosniff",
+        },
+        Header {
+            name: b"Cache-Control",
+            value: b"no-store",
+        },
+        Header {
+            name: b"Connection",
+            value: connection,
+        },
+    ];
+    write_fields(out, status, &fields)
 }
 
 /// The value of the field `Connection`.
@@ -85,27 +115,49 @@ fn write_fields(out: &mut Vec<u8>, status: Status, fields: &[Header<'_>]) -> Res
         ++ response_text 1 (code_of status) (reason_of status) (pairs fields.now ++ own_fields status)) }
     ensures memory { IfErr result (λ e. e ≡ OutOfMemory) }
 {
-    let pprof = field(b"X-Go-Pprof", b"1");
+    let pprof = Header {
+        name: b"X-Go-Pprof",
+        value: b"1",
+    };
     match status {
         Status::Ok => put(out, status, fields, &[]),
-        Status::MethodNotAllowed => put(
-            out,
-            status,
-            fields,
-            &[pprof, field(b"Allow", b"GET, HEAD")],
-        ),
-        Status::ServiceUnavailable { retry_after } => {
-            let mut digits = Buffer::new();
-            let seconds = digits.format(retry_after).as_bytes();
-            put(
-                out,
-                status,
-                fields,
-                &[pprof, field(b"Retry-After", seconds)],
-            )
+        Status::MethodNotAllowed => {
+            let allow = Header {
+                name: b"Allow",
+                value: b"GET, HEAD",
+            };
+            put(out, status, fields, &[pprof, allow])
         }
+        Status::ServiceUnavailable { retry_after } => put_retry(out, status, fields, retry_after),
         _ => put(out, status, fields, &[pprof]),
     }
+}
+
+/// Writes the head of a 503, which says after how many seconds the client may try again.
+fn put_retry(
+    out: &mut Vec<u8>,
+    status: Status,
+    fields: &[Header<'_>],
+    seconds: u32,
+) -> Result<(), HttpError>
+    requires fields { are_headers (pairs fields.now) ≡ true }
+    requires status { status ≡ ServiceUnavailable seconds }
+    ensures ok { OnOk result (out.new.items ≡ out.old.items
+        ++ response_text 1 (code_of status) (reason_of status) (pairs fields.now ++ own_fields status)) }
+    ensures memory { IfErr result (λ e. e ≡ OutOfMemory) }
+{
+    let mut digits = Buffer::new();
+    let own = [
+        Header {
+            name: b"X-Go-Pprof",
+            value: b"1",
+        },
+        Header {
+            name: b"Retry-After",
+            value: digits.format(seconds).as_bytes(),
+        },
+    ];
+    put(out, status, fields, &own)
 }
 
 fn put(
@@ -122,8 +174,11 @@ fn put(
 {
     match head::write_response(out, 1, status.code(), status.reason(), fields, own) {
         Ok(()) => Ok(()),
-        Err(WriteError::OutOfMemory) => Err(HttpError::OutOfMemory),
-        Err(_) => unreachable!(),
+        Err(error) => {
+            // A head of these fields can be written, so only memory lacks.
+            prove!(error == WriteError::OutOfMemory);
+            Err(HttpError::OutOfMemory)
+        }
     }
 }
 
@@ -150,5 +205,6 @@ pub(crate) fn answer(
 
 ghost use Rattle.std.specs.Prelude.{◌≡◌, ◌++◌, true, IfOk, IfErr, OnOk};
 ghost use Rattle.http1.specs.Head.{pairs, all_headers, are_headers, response_text};
-ghost use Rattle.ti_http.specs.Answers.{type_of, option_of, own_fields, code_of, reason_of, head_text, answer_text};
+ghost use Rattle.ti_http.specs.Answers.{type_of, option_of, own_fields, with_values, code_of, reason_of, head_text, answer_text};
 ghost use Rattle.ti_http.specs.declared.error.HttpError.TheVariants.{OutOfMemory};
+ghost use Rattle.ti_http.specs.declared.status.Status.TheVariants.{ServiceUnavailable};

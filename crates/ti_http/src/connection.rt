@@ -225,7 +225,7 @@ impl Connection {
     }
 
     fn close(&mut self)
-        requires { self.old.phase ≡ Reading }
+        requires { outstanding self.old.phase ≡ 0 }
         ensures { self.new ≡ closed self.old }
     {
         self.input.clear();

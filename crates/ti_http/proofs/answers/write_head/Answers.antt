@@ -1,0 +1,8 @@
+use Rattle.std.proofs.Common.{◌≡◌, true, List, sym, ap, subst, ◌∙◌}
+use Rattle.http1.specs.Head.{are_headers}
+use Rattle.ti_http.specs.Answers.{with_values}
+use Rattle.ti_http.proofs.Texts.{common_stand}
+use Rattle.ti_http.proofs.answers.write_head.Goals as goal
+
+pub write_common-requires : goal.write_common-requires
+write_common-requires c = common_stand _ _ _ c.args.content_type c.args.length c.args.keeps c.ranges.length.fits c.value.ensures (c.as_bytes.ensures.value ∙ c.format.ensures.text) c.option.ensures
