@@ -2,3 +2,4 @@ pub mod Texts
 pub mod Rests
 pub mod Parts
 pub mod Steps
+pub mod Protocol

@@ -17,8 +17,8 @@ one_part p (x ∷ xs) h = by_test (p x) h (one_part p xs)
 first_part : (p : Params) (rest : List ℕ) (at : ℕ) → at ≡ position_or_len (is_byte 38) rest → at < length rest → with_parts p (slice_split (is_byte 38) rest) ≡ and_then (with_part p (take at rest)) (λ q. with_parts q (slice_split (is_byte 38) (drop (at + 1) rest)))
 first_part p rest at is inside =
     let split : slice_split (is_byte 38) rest ≡ take at rest ∷ slice_split (is_byte 38) (drop (at + 1) rest) =
-      subst (λ (n : ℕ). slice_split (is_byte 38) rest ≡ take n rest ∷ slice_split (is_byte 38) (drop (n + 1) rest)) (sym is)
-      (slice_split_first (is_byte 38) rest 0 (omega (arith, is))) in
+    subst (λ (n : ℕ). slice_split (is_byte 38) rest ≡ take n rest ∷ slice_split (is_byte 38) (drop (n + 1) rest)) (sym is)
+    (slice_split_first (is_byte 38) rest 0 (omega (arith, is))) in
     ap (with_parts p) split
 
 -- a part more that is one

@@ -5,7 +5,7 @@ use Rattle.ti_http.specs.declared.connection.Phase.{Phase}
 use Rattle.ti_http.specs.declared.connection.Phase.TheVariants as phase
 use Rattle.ti_http.specs.Talks.{Rests}
 
-nothing_left : (count : ℕ) → drop {A = ℕ} count [] ≡ []
+pub nothing_left : (count : ℕ) → drop {A = ℕ} count [] ≡ []
 nothing_left count = search rules
 
 still_nothing : (out : List ℕ) (sent count : ℕ) → drop sent out ≡ [] → drop (sent + count) out ≡ []

@@ -4,3 +4,4 @@ pub mod Targets
 pub mod Refusals
 pub mod Heads
 pub mod Talks
+pub mod Runs

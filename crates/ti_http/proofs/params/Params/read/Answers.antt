@@ -17,8 +17,8 @@ overflow_add-rest c = search (rules, c.loop-rest.invariant.1)
 pub loop-rest-preserved : goal.loop-rest-preserved
 loop-rest-preserved c = (
   ap (λ t. with_parts c.in_ok-all.all (slice_split (is_byte 38) t)) (take_rest c.loop-rest.rest.now (c.place-at.result + 1))
-  ∙ goes_on c.loop-rest.all c.in_ok-all.all c.loop-rest.rest.now c.place-at.result c.place-at.ensures.place (omega (arith, c.place-at.ensures.place, c.place.ensures.place, c.loop-rest-test.true)) (sym c.with_part.ensures ∙ c.in_ok-all.was)
-  ∙ c.loop-rest.invariant.0,
+      ∙ goes_on c.loop-rest.all c.in_ok-all.all c.loop-rest.rest.now c.place-at.result c.place-at.ensures.place (omega (arith, c.place-at.ensures.place, c.place.ensures.place, c.loop-rest-test.true)) (sym c.with_part.ensures ∙ c.in_ok-all.was)
+      ∙ c.loop-rest.invariant.0,
   search (rules, c.loop-rest.invariant.1),
 )
 

@@ -1,0 +1,9 @@
+//! What holds of whole runs of calls.
+
+/// Whatever calls come, in whatever order: each request that is handed out gets one answer before the next one is handed
+/// out, no answer comes without a request, and after a close nothing is asked, answered or written.
+pub fn runs_follow_the_protocol()
+    ensures { FollowsTheProtocol }
+{}
+
+ghost use Rattle.ti_http.specs.Runs.{FollowsTheProtocol};
