@@ -3,3 +3,4 @@ pub mod Rests
 pub mod Parts
 pub mod Steps
 pub mod Protocol
+pub mod Sending

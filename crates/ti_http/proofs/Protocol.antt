@@ -1,5 +1,5 @@
 -- Each call is allowed by the protocol, and so is each run.
-use Rattle.std.proofs.Common.{◌≡◌, ℕ, ◌+◌, ◌-◌, ◌<◌, Bool, true, false, not, cond, ◌&&◌, ◌||◌, List, [], ◌∷◌, length, take, drop, Option, Some, None, Result, Ok, Err, refl, sym, ap, subst, ◌∙◌, eqb, arith}
+use Rattle.std.proofs.Common.{◌≡◌, ℕ, Bool, true, false, cond, ◌&&◌, ◌||◌, List, [], ◌∷◌, length, take, drop, Option, Some, None, Result, Ok, Err, refl, sym, ap, subst, ◌∙◌, eqb}
 use Rattle.std.specs.Prelude.{nat_lt, min}
 use Rattle.ti_http.specs.declared.answers.ContentType.{ContentType}
 use Rattle.ti_http.specs.declared.connection.Action.{Action}
@@ -14,7 +14,7 @@ use Rattle.ti_http.specs.declared.refusals.Refusal.{Refusal}
 use Rattle.ti_http.specs.declared.refusals.Refusal.TheVariants as refusal
 use Rattle.ti_http.specs.declared.status.Status.{Status}
 use Rattle.ti_http.specs.Targets.{or_else}
-use Rattle.ti_http.specs.Talks.{Talk, opened, room_in, fed, ended_by_peer, Goes, GoesWith, GoesIn, goes_by, judged, starves, asks, refuses, refuses_whole, closed, answered_in, answered_by, written_from, patience_in, patience, gives_up, ticks, ticked}
+use Rattle.ti_http.specs.Talks.{Talk, opened, room_in, fed, GoesWith, GoesIn, goes_by, judged, refuses, closed, answered_in, patience_in, patience, ticks}
 use Rattle.ti_http.specs.Runs.{Call, Fed, PeerEnded, Told, Answered, Written, Ticked, Step, Runs, State, idle, waits, shut, state_of, is_idle, is_waiting, is_shut, is_same, may_tell, allows, Follows, FollowsTheProtocol}
 use Rattle.ti_http.proofs.Rests.{nothing_left}
 
@@ -152,7 +152,7 @@ ticked_well : (o : Option ℕ) (t : Talk) (now : ℕ) → patience t ≡ o → F
 ticked_well None t now is h = (or_true _ _ (same_state (state_of t.phase)), h)
 ticked_well (Some wait) t now is h = late_well t now _ _ (idle_in_time t.phase t.output t.input wait h is) h
 
-step_well : (t m : Talk) (c : Call) → Fine t → Step t c m → (allows c (state_of t.phase) (state_of m.phase) ≡ true) × Fine m
+pub step_well : (t m : Talk) (c : Call) → Fine t → Step t c m → (allows c (state_of t.phase) (state_of m.phase) ≡ true) × Fine m
 step_well t m (Fed bytes now) h step =
     (keeps_state t m (ap (λ (x : Talk). x.phase) step ∙ fed_phase t (take (room_in t) bytes) now), subst Fine (sym step) (fed_fine t (take (room_in t) bytes) now h))
 step_well t m PeerEnded h step = (keeps_state t m (ap (λ (x : Talk). x.phase) step), subst Fine (sym step) h)

@@ -1,5 +1,5 @@
 -- What a phase rules out still is, once more of the output was taken.
-use Rattle.std.proofs.Common.{◌≡◌, ℕ, ◌+◌, List, [], ◌∷◌, drop, rules, refl, sym, ap, ◌∙◌}
+use Rattle.std.proofs.Common.{◌≡◌, ℕ, ◌+◌, List, [], drop, rules, sym, ap, ◌∙◌}
 use Rattle.std.proofs.lemmas.List.{drop-drop}
 use Rattle.ti_http.specs.declared.connection.Phase.{Phase}
 use Rattle.ti_http.specs.declared.connection.Phase.TheVariants as phase

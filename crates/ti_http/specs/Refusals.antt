@@ -13,7 +13,6 @@ use Rattle.ti_http.specs.declared.refusals.Refusal.{Refusal}
 use Rattle.ti_http.specs.declared.refusals.Refusal.TheVariants as refusal
 use Rattle.ti_http.specs.declared.status.Status.{Status}
 use Rattle.ti_http.specs.declared.status.Status.TheVariants as status
-use Rattle.ti_http.specs.declared.target.Target.{Target}
 use Rattle.ti_http.specs.Hosts.{are_served, crosses_sites}
 use Rattle.ti_http.specs.Targets.{found, or_else, target_of}
 

@@ -1,12 +1,14 @@
 -- Whole runs of calls, and the protocol that each of them follows.
-use Rattle.std.specs.Prelude.{◌≡◌, ℕ, Bool, true, false, not, ◌&&◌, ◌||◌, List, [], ◌∷◌, Some, take}
+use Rattle.std.specs.Prelude.{◌≡◌, ℕ, Bool, true, false, not, ◌&&◌, ◌||◌, List, [], ◌∷◌, ◌++◌, Some, length, min, take, flat_map}
 use Rattle.ti_http.specs.declared.answers.ContentType.{ContentType}
+use Rattle.ti_http.specs.declared.answers.Manner.{Manner}
 use Rattle.ti_http.specs.declared.connection.Action.{Action}
 use Rattle.ti_http.specs.declared.connection.Action.TheVariants as action
 use Rattle.ti_http.specs.declared.connection.Phase.{Phase}
 use Rattle.ti_http.specs.declared.connection.Phase.TheVariants as phase
 use Rattle.ti_http.specs.declared.hosts.Hosts.{Hosts}
 use Rattle.ti_http.specs.declared.status.Status.{Status}
+use Rattle.ti_http.specs.Answers.{answer_text}
 use Rattle.ti_http.specs.Talks.{Talk, opened, room_in, fed, ended_by_peer, Goes, answered_by, written_from, ticked}
 
 -- A call that succeeds, at a time. One that fails changes nothing.
@@ -85,3 +87,40 @@ Follows old (c ∷ calls) new = (next : State) × (allows c old next ≡ true) �
 -- each run follows the protocol
 abbrev pub FollowsTheProtocol : Type 0
 FollowsTheProtocol = (hosts : Hosts) (start : ℕ) (calls : List Call) (end : Talk) → Runs (opened hosts start) calls end → Follows idle calls (state_of end.phase)
+
+-- an answer that was given
+pub record Reply : Type 0 where
+  pub status : Status
+  pub type : ContentType
+  pub manner : Manner
+  pub body : List ℕ
+
+abbrev pub reply_text : Reply → List ℕ
+reply_text r = answer_text r.status r.type r.manner r.body
+
+-- the bytes that the socket took with a call
+abbrev pub taken_by : Talk → Call → List ℕ
+taken_by t (Fed bytes now) = []
+taken_by t PeerEnded = []
+taken_by t (Told act now) = []
+taken_by t (Answered status type body now) = []
+taken_by t (Written count now) = take (min count (length t.output)) t.output
+taken_by t (Ticked now) = []
+
+-- these calls, with all that the socket took
+abbrev pub Sends : Talk → List Call → List ℕ → Talk → Type 0
+Sends old [] sent new = (old ≡ new) × (sent ≡ [])
+Sends old (c ∷ calls) sent new =
+    (next : Talk) × (later : List ℕ) × Step old c next × (sent ≡ taken_by old c ++ later) × Sends next calls later new
+
+-- What was sent and what is still to be sent are whole answers, as many as were given, in their order. After a close they may
+-- be a front of these, if time closed the connection.
+pub record AreAnswers (sent : List ℕ) (t : Talk) : Type 0 where
+  pub replies : List Reply
+  pub cut : List ℕ
+  pub each : length replies ≡ t.answered
+  pub bytes : flat_map reply_text replies ≡ sent ++ (t.output ++ cut)
+  pub whole : is_shut (state_of t.phase) ≡ false → cut ≡ []
+
+abbrev pub SendsAnswers : Type 0
+SendsAnswers = (hosts : Hosts) (start : ℕ) (calls : List Call) (sent : List ℕ) (end : Talk) → Sends (opened hosts start) calls sent end → AreAnswers sent end

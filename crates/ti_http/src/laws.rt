@@ -6,4 +6,10 @@ pub fn runs_follow_the_protocol()
     ensures { FollowsTheProtocol }
 {}
 
-ghost use Rattle.ti_http.specs.Runs.{FollowsTheProtocol};
+/// Whatever calls come, in whatever order: what the socket took and what is still to be written are whole answers, one for
+/// each request that was answered, in their order. Only what time cut off is missing behind them.
+pub fn runs_send_answers()
+    ensures { SendsAnswers }
+{}
+
+ghost use Rattle.ti_http.specs.Runs.{FollowsTheProtocol, SendsAnswers};

@@ -30,7 +30,7 @@ pub use connection::{Action, Connection};
 pub use error::HttpError;
 pub use head::{MAX_FIELDS, MAX_HEAD, MAX_TARGET, Method, Request};
 pub use hosts::Hosts;
-pub use laws::runs_follow_the_protocol;
+pub use laws::{runs_follow_the_protocol, runs_send_answers};
 pub use status::Status;
 pub use target::{Debug, Labels, Target};
 pub use times::{HEAD_MILLIS, IDLE_MILLIS, WRITE_MILLIS};

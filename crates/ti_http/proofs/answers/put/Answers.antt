@@ -1,4 +1,4 @@
-use Rattle.std.proofs.Common.{◌≡◌, rules, sym, ◌∙◌}
+use Rattle.std.proofs.Common.{◌≡◌, rules}
 use Rattle.http1.specs.declared.error.WriteError.TheVariants.{OutOfMemory}
 use Rattle.http1.specs.Head.{pairs}
 use Rattle.ti_http.proofs.Texts.{only_memory}

@@ -1,6 +1,4 @@
-use Rattle.std.proofs.Common.{◌≡◌, true, List, sym, ap, subst, ◌∙◌}
-use Rattle.http1.specs.Head.{are_headers}
-use Rattle.ti_http.specs.Answers.{with_values}
+use Rattle.std.proofs.Common.{◌∙◌}
 use Rattle.ti_http.proofs.Texts.{common_stand}
 use Rattle.ti_http.proofs.answers.write_head.Goals as goal
 

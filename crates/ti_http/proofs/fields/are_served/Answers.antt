@@ -1,4 +1,4 @@
-use Rattle.std.proofs.Common.{◌≡◌, take_all, sym, ap, ◌∙◌, arith}
+use Rattle.std.proofs.Common.{take_all, sym, ap, ◌∙◌, arith}
 use Rattle.std.specs.List.{list_all}
 use Rattle.std.proofs.lemmas.List.Folds.{list_all-map}
 use Rattle.httparse.specs.declared.spans.HeaderSpan.{HeaderSpan}

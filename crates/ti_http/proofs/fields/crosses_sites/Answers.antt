@@ -1,4 +1,4 @@
-use Rattle.std.proofs.Common.{◌≡◌, take_all, sym, ap, ◌∙◌, arith}
+use Rattle.std.proofs.Common.{take_all, sym, ap, ◌∙◌, arith}
 use Rattle.std.specs.List.{list_any}
 use Rattle.httparse.specs.declared.spans.HeaderSpan.{HeaderSpan}
 use Rattle.httparse.specs.Spans.{header_bytes}

@@ -1,4 +1,4 @@
-use Rattle.std.proofs.Common.{◌≡◌, ℕ, List, subst}
+use Rattle.std.proofs.Common.{ℕ, List, subst}
 use Rattle.ti_http.specs.declared.head.Seen.{Seen}
 use Rattle.ti_http.specs.declared.head.Seen.TheVariants as seen
 use Rattle.ti_http.specs.Heads.{Sees}

@@ -1,4 +1,4 @@
-use Rattle.std.proofs.Common.{◌≡◌, ◌≤◌, ◌+◌, length, drop, arith, rules}
+use Rattle.std.proofs.Common.{rules}
 use Rattle.ti_http.proofs.Rests.{rests_dropped}
 use Rattle.ti_http.proofs.connection.Connection.written.Goals as goal
 

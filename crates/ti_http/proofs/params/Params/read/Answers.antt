@@ -1,7 +1,7 @@
-use Rattle.std.proofs.Common.{◌≡◌, ℕ, ◌+◌, ◌≤◌, ◌<◌, length, take, drop, rules, sym, ap, ◌∙◌, arith}
-use Rattle.std.specs.List.{slice_split, position_or_len}
+use Rattle.std.proofs.Common.{◌+◌, rules, sym, ap, ◌∙◌, arith}
+use Rattle.std.specs.List.{slice_split}
 use Rattle.std.proofs.lemmas.List.{take_rest}
-use Rattle.ti_http.specs.Targets.{is_byte, with_part, with_parts, params_of}
+use Rattle.ti_http.specs.Targets.{is_byte, with_parts}
 use Rattle.ti_http.proofs.Parts.{goes_on, stops, last_part}
 use Rattle.ti_http.proofs.params.Params.read.Goals as goal
 
