@@ -20,6 +20,7 @@ mod head;
 mod hosts;
 mod laws;
 mod params;
+mod reading;
 mod refusals;
 mod status;
 mod target;
