@@ -204,7 +204,7 @@ impl Connection {
         }
     }
 
-    /// Since when it waits for the peer, and how long at most; `None` while the peer waits.
+    /// How long it waits for the peer, at most. `None` while the peer waits, and after a close.
     fn patience(&self) -> Option<u64>
         ensures { result ≡ patience self.now }
     {
@@ -218,7 +218,7 @@ impl Connection {
         }
     }
 
-    /// When `tick` has something to do, unless another call comes first.
+    /// When `tick` has something to do, if no other call comes first. `None` while a request waits, and after a close.
     pub fn deadline(&self) -> Option<u64>
         ensures { result ≡ deadline_of self.now }
     {
