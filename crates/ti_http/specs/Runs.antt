@@ -114,7 +114,7 @@ Sends old (c ∷ calls) sent new =
     (next : Talk) × (later : List ℕ) × Step old c next × (sent ≡ taken_by old c ++ later) × Sends next calls later new
 
 -- What was sent and what is still to be sent are whole answers, as many as were given, in their order. After a close they may
--- be a front of these, if time closed the connection.
+-- be a front of these.
 pub record AreAnswers (sent : List ℕ) (t : Talk) : Type 0 where
   pub replies : List Reply
   pub cut : List ℕ

@@ -7,7 +7,8 @@ pub fn runs_follow_the_protocol()
 {}
 
 /// Whatever calls come, in whatever order: what the socket took and what is still to be written are whole answers, one for
-/// each request that was answered, in their order. Only what time cut off is missing behind them.
+/// each request that was answered, in their order. After a close the last bytes of these may be missing, as where time
+/// closed the connection.
 pub fn runs_send_answers()
     ensures { SendsAnswers }
 {}
