@@ -6,3 +6,4 @@ mod Behind
 mod Calling
 mod Ending
 mod Traced
+mod ClassParts

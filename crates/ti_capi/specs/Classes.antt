@@ -28,16 +28,24 @@ use Rattle.ti_capi.specs.Values.{over}
 abbrev pub class_no : ℕ → ClassNo
 class_no n = record { 0 = n }
 
--- A class is defined, or why it is not. The handle's service sees classes of the same table, and has not changed otherwise
+-- a handle of the service has seen more classes of the same table, and nothing else has changed
 pub record SeesTable (m n : Member) : Type 0 where
   pub rest : n ≡ with_classes m n.cell.classes
   pub book : n.cell.classes.book ≡ m.cell.classes.book
   pub grows : IsPrefix m.cell.classes.seen n.cell.classes.seen
 
+-- the code tells why the class is refused
+pub record RefusesBy (log : List ClassInfo) (info : ClassInfo) (code : ℕ) : Type 0 where
+  pub error : ClassError
+  pub code_is : code ≡ class_number_of error
+  pub refused : RefusesClass log info error
+
+-- A class is defined, or why it is not: C describes none, there is no memory to read it, or the service refuses it
+-- (`ti_service`, `Service::define_class`)
 pub data DefinesFor (g : Given) (c0 c1 f0 f1 : ℕ) (m n : Member) (code : ℕ) : Type 0 where
   ClassDefined : (info : ClassInfo) (d : Defined) → code ≡ 0 → IsClass g info → SeesTable m n → IsDefined m.cell.classes n.cell.classes info d → c1 ≡ d.class.0 → f1 ≡ d.first.0 → DefinesFor g c0 c1 f0 f1 m n code
   ClassUnread : (e : TiError) → code ≡ number_of e → Lacks (HasClass g) e → n ≡ m → c1 ≡ c0 → f1 ≡ f0 → DefinesFor g c0 c1 f0 f1 m n code
-  ClassRefused : (info : ClassInfo) (e : ClassError) → code ≡ class_number_of e → IsClass g info → SeesTable m n → RefusesClass n.cell.classes.seen info e → c1 ≡ c0 → f1 ≡ f0 → DefinesFor g c0 c1 f0 f1 m n code
+  ClassRefused : (info : ClassInfo) → IsClass g info → SeesTable m n → RefusesBy n.cell.classes.seen info code → c1 ≡ c0 → f1 ≡ f0 → DefinesFor g c0 c1 f0 f1 m n code
 
 -- the same behind a handle: if it is empty or of another kind, nothing changes
 abbrev pub DefinesBehind : Option Member → Option Member → Given → ℕ → ℕ → ℕ → ℕ → ServiceHandle → ServiceHandle → ℕ → Type 0
