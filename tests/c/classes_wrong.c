@@ -172,10 +172,10 @@ static void refuse_blocks(definition *call) {
 }
 
 void refuse_memory(void) {
-    world w = build();
-    uint32_t c = 77, f = 78;
     refuse_blocks(define_right);
     refuse_blocks(define_strings);
+    world w = build();
+    uint32_t c = 77, f = 78;
     /* Wrong parts without memory: either code, and nothing is defined. A misused handle comes first. */
     parts p = RIGHT;
     p.methods[1].lines_kind = 4;
