@@ -321,13 +321,8 @@ extern "C" {
         first_method: *mut u32,
     ) -> u32;
     pub fn cq_get_loaded_classes(env: *mut cq_env, classes: *mut u32, room: usize, count: *mut u64) -> u32;
-    pub fn cq_get_class_signature(
-        env: *mut cq_env,
-        class_no: u32,
-        text: *mut u8,
-        room: usize,
-        length: *mut u64,
-    ) -> u32;
+    pub fn cq_get_class_signature(env: *mut cq_env, class_no: u32, text: *mut u8, room: usize, length: *mut u64)
+        -> u32;
     pub fn cq_get_source_file_name(
         env: *mut cq_env,
         class_no: u32,

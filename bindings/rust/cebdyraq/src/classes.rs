@@ -160,17 +160,15 @@ impl Environment {
 
     /// GetClassSignature.
     pub fn get_class_signature(&mut self, class: u32) -> Result<String, Error> {
-        let text = whole(|at, room, length| unsafe {
-            sys::cq_get_class_signature(self.at(), class, at, room, length)
-        })?;
+        let text =
+            whole(|at, room, length| unsafe { sys::cq_get_class_signature(self.at(), class, at, room, length) })?;
         Ok(text_of(text))
     }
 
     /// GetSourceFileName. [`Error::AbsentInformation`] if the class was defined without one.
     pub fn get_source_file_name(&mut self, class: u32) -> Result<String, Error> {
-        let text = whole(|at, room, length| unsafe {
-            sys::cq_get_source_file_name(self.at(), class, at, room, length)
-        })?;
+        let text =
+            whole(|at, room, length| unsafe { sys::cq_get_source_file_name(self.at(), class, at, room, length) })?;
         Ok(text_of(text))
     }
 
