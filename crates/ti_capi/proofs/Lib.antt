@@ -7,3 +7,4 @@ mod Calling
 mod Ending
 mod Traced
 mod ClassParts
+mod ClassTelling

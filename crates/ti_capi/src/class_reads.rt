@@ -1,66 +1,12 @@
 //! What an environment is told of classes and methods.
 
-use crate::class_values::{
-    CqLineEntry, CqMethodName, LINES_ABSENT, LINES_LOCATIONS, LINES_TABLE, line_out,
-};
+use crate::class_values::{CqLineEntry, CqMethodName};
+use crate::class_writes::{write_classes, write_lines, write_methods, write_name, write_text};
 use crate::codes::{CQ_MISUSED, CQ_OK};
 use crate::env_handle::CqEnv;
-use crate::writes::{smaller, write_bytes};
 use std::alloc::Global;
-use ti_service::{ClassCalls, ClassNo, LineEntry, Lines, MethodName};
+use ti_service::{ClassCalls, ClassNo};
 use ti_types::MethodNo;
-
-/// Writes as many of the classes' numbers as there is room for.
-fn write_classes(classes: &[ClassNo], room: &mut [u32])
-    ensures { room.new ≡ over (map (λ c. c.0) classes.now) room.old }
-{
-    for i in 0..smaller(classes.len(), room.len()) {
-        room[i] = classes[i].0;
-    }
-}
-
-/// Writes as many of the methods' numbers as there is room for.
-fn write_methods(methods: &[MethodNo], room: &mut [u32])
-    ensures { room.new ≡ over (map (λ m. m.0) methods.now) room.old }
-{
-    for i in 0..smaller(methods.len(), room.len()) {
-        room[i] = methods[i].0;
-    }
-}
-
-/// Writes as many of the entries as there is room for.
-fn write_entries(entries: &[LineEntry], room: &mut [CqLineEntry])
-    ensures { room.new ≡ over (map line_written entries.now) room.old }
-{
-    for i in 0..smaller(entries.len(), room.len()) {
-        room[i] = line_out(entries[i]);
-    }
-}
-
-/// Writes a text as far as there is room, and its length in bytes.
-fn write_text(text: &str, room: &mut [u8], length: &mut u64)
-    ensures { IsListWritten text.now room.old room.new length.new }
-{
-    let bytes = text.as_bytes();
-    *length = bytes.len() as u64;
-    write_bytes(bytes, room);
-}
-
-/// Writes the kind of lines, and the entries of a table.
-fn write_lines(lines: &Lines, kind: &mut u32, room: &mut [CqLineEntry], count: &mut u64)
-    ensures { AreWritten lines.now kind.new room.old room.new count.new }
-{
-    *count = 0;
-    match lines {
-        Lines::Absent => *kind = LINES_ABSENT,
-        Lines::Locations => *kind = LINES_LOCATIONS,
-        Lines::Table(table) => {
-            *kind = LINES_TABLE;
-            *count = table.len() as u64;
-            write_entries(table, room);
-        }
-    }
-}
 
 /// GetLoadedClasses (JVM TI 11).
 #[unsafe(no_mangle)]
@@ -194,17 +140,6 @@ pub extern "C" fn cq_get_method_name(
     }
 }
 
-/// Writes a method's name and signature as far as there is room, their lengths, and its first line.
-fn write_name(told: &MethodName, info: &mut CqMethodName, name: &mut [u8], signature: &mut [u8])
-    ensures info { info.new ≡ name_written told.now }
-    ensures name { name.new ≡ over (string_bytes told.now.name) name.old }
-    ensures signature { signature.new ≡ over (string_bytes told.now.signature) signature.old }
-{
-    info.first_line = told.first_line;
-    write_text(told.name.as_str(), name, &mut info.name_length);
-    write_text(told.signature.as_str(), signature, &mut info.signature_length);
-}
-
 /// GetMethodDeclaringClass (JVM TI 11).
 #[unsafe(no_mangle)]
 pub extern "C" fn cq_get_method_declaring_class(
@@ -276,9 +211,7 @@ pub extern "C" fn cq_get_line_number_table(
     }
 }
 
-ghost use Rattle.std.specs.Prelude.{◌≡◌, map, string_bytes};
+ghost use Rattle.std.specs.Prelude.{◌≡◌};
 ghost use Rattle.ti_methods.specs.Classes.{RefusesClassCall, RefusesLines, RefusesMethod, RefusesMethodCall, RefusesSourceFile};
-ghost use Rattle.ti_capi.specs.Classes.{AllWritten, AreWritten, ClassWritten, IsListWritten, LinesWritten, MethodsWritten, NameWritten, NativeWritten, RefusesAll, SignatureWritten, SourceFileWritten, Tells, class_no, name_written};
-ghost use Rattle.ti_capi.specs.Defining.{line_written};
+ghost use Rattle.ti_capi.specs.Classes.{AllWritten, ClassWritten, LinesWritten, MethodsWritten, NameWritten, NativeWritten, RefusesAll, SignatureWritten, SourceFileWritten, Tells, class_no};
 ghost use Rattle.ti_capi.specs.Threads.{method_no};
-ghost use Rattle.ti_capi.specs.Values.{over};

@@ -14,6 +14,7 @@ mod class_defines;
 mod class_parts;
 mod class_reads;
 mod class_values;
+mod class_writes;
 mod codes;
 mod env_at;
 mod env_collects;
