@@ -64,11 +64,7 @@ fn file_at(alloc: Global, text: &[u8], range: CqRange) -> Result<Option<String>,
 }
 
 /// A table of lines.
-fn table_at(
-    alloc: Global,
-    lines: &[CqLineEntry],
-    range: CqRange,
-) -> Result<Vec<LineEntry>, TiError>
+fn table_at(alloc: Global, lines: &[CqLineEntry], range: CqRange) -> Result<Vec<LineEntry>, TiError>
     ensures same { IfOk result (λ t. IsTable lines.now range t.items) }
     ensures refused { IfErr result (λ e. Lacks (IsWithin (length lines.now) range) e) }
 {
@@ -83,11 +79,7 @@ fn table_at(
 }
 
 /// The lines of a method. 103 if there is no such kind of lines, or the range of a table does not lie within the list.
-fn lines_of(
-    alloc: Global,
-    lines: &[CqLineEntry],
-    method: CqMethodRanges,
-) -> Result<Lines, TiError>
+fn lines_of(alloc: Global, lines: &[CqLineEntry], method: CqMethodRanges) -> Result<Lines, TiError>
     ensures same { IfOk result (λ l. AreLines lines.now method l) }
     ensures refused { IfErr result (λ e. Lacks (HasLines lines.now method) e) }
 {

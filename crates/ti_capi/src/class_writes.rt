@@ -72,7 +72,11 @@ pub(crate) fn write_name(
 {
     info.first_line = told.first_line;
     write_text(told.name.as_str(), name, &mut info.name_length);
-    write_text(told.signature.as_str(), signature, &mut info.signature_length);
+    write_text(
+        told.signature.as_str(),
+        signature,
+        &mut info.signature_length,
+    );
 }
 
 ghost use Rattle.std.specs.Prelude.{◌≡◌, map, string_bytes};
