@@ -4,7 +4,7 @@ use mathlib.Core.List.{IsPrefix}
 use Rattle.ti_types.specs.TiError.{number_of}
 use Rattle.ti_types.specs.declared.error.TiError.{TiError}
 use Rattle.ti_types.specs.declared.numbers.MethodNo.{MethodNo}
-use Rattle.ti_methods.specs.Classes.{AreLinesOf, AreMethodsOf, IsDeclaredBy, IsDefined, IsNameOf, IsSignature, IsSourceFile, Known, RefusesClass, count_from, method_at}
+use Rattle.ti_methods.specs.Classes.{AreLinesOf, AreMethodsOf, IsDeclaredBy, IsDefined, IsNameOf, IsSignature, IsSourceFile, RefusesClass, count_from, method_at}
 use Rattle.ti_methods.specs.Errors.{number_of as class_number_of}
 use Rattle.ti_methods.specs.declared.error.ClassError.{ClassError}
 use Rattle.ti_methods.specs.declared.error.ClassError.TheVariants.{OutOfMemory as NoMemory}

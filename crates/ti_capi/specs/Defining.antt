@@ -1,5 +1,5 @@
 -- Classes that C defines: parts of a text and of a list of line entries.
-use Rattle.std.specs.Prelude.{ℕ, ◌≡◌, ◌==◌, ◌+◌, ◌≤◌, ◌⊎◌, true, false, All, IsUtf8, List, Option, Some, None, drop, length, map, take}
+use Rattle.std.specs.Prelude.{ℕ, ◌≡◌, ◌==◌, ◌+◌, ◌≤◌, ◌⊎◌, false, All, IsUtf8, List, Option, Some, None, drop, length, map, take}
 use Rattle.std.specs.List.{AllZip}
 use Rattle.std.specs.Option.{option_map}
 use Rattle.std.specs.String.{string_bytes}

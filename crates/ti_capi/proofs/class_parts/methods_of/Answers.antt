@@ -1,5 +1,4 @@
-use Rattle.std.proofs.Common.{rules, ◌++◌, ◌∷◌, ◌≡◌, ◌+◌, [], length, take, List, sym, ap, subst, ◌∙◌}
-use Rattle.std.proofs.lemmas.List.{length-append}
+use Rattle.std.proofs.Common.{rules, ◌≡◌, ◌+◌, length, take, List, sym, subst}
 use Rattle.ti_methods.specs.declared.info.MethodInfo.{MethodInfo}
 use Rattle.ti_capi.specs.Defining.{AreMethods}
 use Rattle.ti_capi.proofs.ClassParts.{one_more}
