@@ -62,6 +62,7 @@
  *   steps of a thread                               2^59
  *   calls of an environment at a thread             2^52
  *   events that a service keeps                     4,096
+ *   classes of a service, and methods               2^32 - 1 of each. No number is used again
  */
 #ifndef CEBDYRAQ_H
 #define CEBDYRAQ_H
@@ -87,7 +88,7 @@ extern "C" {
 
 /* The version of this header. */
 #define CQ_VERSION_MAJOR 1
-#define CQ_VERSION_MINOR 1
+#define CQ_VERSION_MINOR 2
 #define CQ_VERSION_PATCH 0
 
 /* The version of the library that the program runs with, as major * 1,000,000 + minor * 1,000 + patch. */
@@ -111,11 +112,15 @@ enum {
     CQ_THREAD_NOT_SUSPENDED = 13,     /* a resumption or a pop, and the thread is not suspended */
     CQ_THREAD_SUSPENDED = 14,         /* a suspension, and the thread is suspended */
     CQ_THREAD_NOT_ALIVE = 15,         /* the thread has not started, or has ended */
+    CQ_INVALID_CLASS = 21,            /* no class of this number was defined */
+    CQ_INVALID_METHODID = 23,         /* no method of this number was defined */
     CQ_NO_MORE_FRAMES = 31,           /* there is no frame at this depth, or there are fewer than two for a pop */
     CQ_OPAQUE_FRAME = 32,             /* a pop, and one of the two newest frames is native */
     CQ_NOT_AVAILABLE = 98,            /* a capability that cannot be had */
     CQ_MUST_POSSESS_CAPABILITY = 99,  /* the call needs a capability that the environment does not have */
+    CQ_ABSENT_INFORMATION = 101,      /* the class has no source file, or the method no lines */
     CQ_ILLEGAL_ARGUMENT = 103,        /* an argument is out of its range */
+    CQ_NATIVE_METHOD = 104,           /* a native method has no lines */
     CQ_OUT_OF_MEMORY = 110,           /* there is no memory for it */
     /* This service's errors. */
     CQ_OVERFLOW = 201,                /* the stack has as many frames as the service's depth */
@@ -201,8 +206,8 @@ typedef struct { uint32_t kind; uint32_t thread; uint64_t lost; } cq_event;
 typedef struct { uint32_t thread; uint32_t state; uint64_t frame_count; } cq_stack_info;
 
 /* ------------------------------------------------------------------------------------------------------------------
- * Memory. The functions of this header use malloc, realloc, free, memcpy, memmove and memset of the C library, and no other
- * function of it.
+ * Memory. The functions of this header use malloc, realloc, free, memcpy, memmove, memset and strlen of the C library, and no
+ * other function of it.
  */
 
 /* Makes these functions the library's own in place of malloc, realloc and free. They keep to what C says of those, and each
@@ -648,6 +653,158 @@ uint32_t cq_next_event(cq_env *env, cq_event *event) CQ_MUST_USE;
  *   CQ_FULL 216           threads and environments have come and gone 2^62 - 1 times
  *   CQ_BUSY 215           a thread or the list of threads is in use */
 uint32_t cq_dispose_environment(cq_env *env) CQ_MUST_USE;
+
+/* ------------------------------------------------------------------------------------------------------------------
+ * Classes and methods.
+ *
+ * A runtime defines a class with its methods, and from then on each environment of the service is told of it. A class is a Java
+ * class, or whatever of a program comes at once, as a chunk, a module or a file. Classes are numbered 0, 1, 2 and so on, and so
+ * are the methods of all classes together. These are the numbers of cq_enter and of frames. No number is used again, and what it
+ * names never changes. A runtime that learns of a method late defines one more class with the same signature. A frame may also
+ * name a method that was never defined.
+ *
+ * These functions ask no thread, and use no list of threads. They change nothing but that a class is defined.
+ *
+ * A text is UTF-8, and no 0 is at its end. What a function tells it writes as far as there is `room`, with the whole length. A
+ * caller may ask again with more room, and is told the same.
+ *
+ *     cq_define_class, cq_define_class_strings            a handle of the service
+ *     cq_get_loaded_classes                               all classes
+ *     cq_get_class_signature, cq_get_source_file_name,    a class
+ *     cq_get_class_methods
+ *     cq_get_method_name, cq_get_method_declaring_class,  a method
+ *     cq_is_method_native, cq_get_line_number_table
+ */
+
+/* What is known of a method's lines. */
+enum {
+    CQ_LINES_ABSENT = 0,     /* nothing */
+    CQ_LINES_LOCATIONS = 1,  /* a location is its line */
+    CQ_LINES_TABLE = 2,      /* there is a table */
+    CQ_LINES_NATIVE = 3      /* the method is native, and has no lines */
+};
+
+/* An entry of a table of lines (jvmtiLineNumberEntry): from this location on, up to that of the next entry, a method is at this
+ * line. */
+typedef struct { uint32_t start_location; uint32_t line_number; } cq_line_entry;
+
+/* A part of a text, in bytes, or of a list of line entries: where it starts, from 0, and how long it is. */
+typedef struct { size_t start; size_t length; } cq_range;
+
+/* A class for cq_define_class: its signature (JVM TI 11), as in `Ljava/lang/Object;`, and the name of its source file, as parts
+ * of a text. A name of no bytes is no name. Two classes may have the same signature. */
+typedef struct { cq_range signature; cq_range source_file; } cq_class_ranges;
+
+/* A method for cq_define_class: its name and its signature (JVM TI 11), as in `(I)V`, as parts of the text. With CQ_LINES_TABLE
+ * `lines` is its part of the line entries, and otherwise nothing reads it. The first line is that at which the method is
+ * defined, or 0 if it is not known. */
+typedef struct {
+    cq_range name;
+    cq_range signature;
+    cq_range lines;
+    uint32_t lines_kind;
+    uint32_t first_line;
+} cq_method_ranges;
+
+/* A method for cq_define_class_strings: the same as strings that end with a 0, and with `line_count` line entries of its own.
+ * NULL is the empty signature, or no lines. */
+typedef struct {
+    const char *name;
+    const char *signature;
+    const cq_line_entry *lines;
+    size_t line_count;
+    uint32_t lines_kind;
+    uint32_t first_line;
+} cq_method_strings;
+
+/* What is told of a method's name (GetMethodName): the lengths of the name and of the signature in bytes, and the line at which
+ * the method is defined. */
+typedef struct { uint64_t name_length; uint64_t signature_length; uint32_t first_line; } cq_method_name;
+
+/* Defines a class with `count` methods. Writes the number of the class to `class_no`, and to `first_method` that of its first
+ * method, which the others follow. If it has no method, that is the number of the next method of any class.
+ *
+ *   `text`     all names and signatures, in any order. Parts of it may overlap
+ *   `entries`  the line entries of all tables. The same holds of them
+ *
+ * All is copied.
+ *
+ *   CQ_ILLEGAL_ARGUMENT 103  a range does not lie within the text or the entries, its part of the text is not UTF-8, or there
+ *                            is no such kind of lines
+ *   CQ_OUT_OF_MEMORY 110     there is no memory for the class. It may come before the one above
+ *   CQ_FULL 216              there would be 2^32 classes, or 2^32 methods
+ *   CQ_BUSY 215              other threads of the operating system defined classes again and again at this moment */
+uint32_t cq_define_class(cq_service *service, const uint8_t *text, size_t text_length, const cq_class_ranges *class_ranges,
+                         const cq_method_ranges *methods, size_t count, const cq_line_entry *entries, size_t entry_count,
+                         uint32_t *class_no, uint32_t *first_method) CQ_MUST_USE;
+
+/* Defines a class of strings that end with a 0, by cq_define_class, whose codes these are. It takes memory to bring them
+ * together, and gives it back. `source_file` may be NULL, and so may be `methods` if `count` is 0. */
+uint32_t cq_define_class_strings(cq_service *service, const char *signature, const char *source_file,
+                                 const cq_method_strings *methods, size_t count, uint32_t *class_no,
+                                 uint32_t *first_method) CQ_MUST_USE;
+
+/* GetLoadedClasses. Writes the numbers of all classes, in rising order, as many as there is `room` for, and to `count` how many
+ * there are.
+ *
+ *   CQ_OUT_OF_MEMORY 110  there is no memory for the list */
+uint32_t cq_get_loaded_classes(cq_env *env, uint32_t *classes, size_t room, uint64_t *count) CQ_MUST_USE;
+
+/* GetClassSignature. Writes the class's signature, as many of its bytes as there is `room` for, and to `length` how long it is.
+ *
+ *   CQ_INVALID_CLASS 21   no class of this number was defined
+ *   CQ_OUT_OF_MEMORY 110  there is no memory for the text
+ *   CQ_BUSY 215           the class is just being defined, and nobody has its number yet */
+uint32_t cq_get_class_signature(cq_env *env, uint32_t class_no, uint8_t *text, size_t room, uint64_t *length) CQ_MUST_USE;
+
+/* GetSourceFileName. Writes the name of the class's source file, as many of its bytes as there is `room` for, and to `length`
+ * how long it is.
+ *
+ *   CQ_INVALID_CLASS 21        no class of this number was defined
+ *   CQ_ABSENT_INFORMATION 101  the class was defined without a source file
+ *   CQ_OUT_OF_MEMORY 110       there is no memory for the text
+ *   CQ_BUSY 215                the class is just being defined, and nobody has its number yet */
+uint32_t cq_get_source_file_name(cq_env *env, uint32_t class_no, uint8_t *text, size_t room, uint64_t *length) CQ_MUST_USE;
+
+/* GetClassMethods. Writes the numbers of the class's methods, in the order in which they were given, as many as there is `room`
+ * for, and to `count` how many there are.
+ *
+ *   CQ_INVALID_CLASS 21   no class of this number was defined
+ *   CQ_OUT_OF_MEMORY 110  there is no memory for the list
+ *   CQ_BUSY 215           the class is just being defined, and nobody has its number yet */
+uint32_t cq_get_class_methods(cq_env *env, uint32_t class_no, uint32_t *methods, size_t room, uint64_t *count) CQ_MUST_USE;
+
+/* GetMethodName. Writes the method's name and its signature, as many bytes of each as there is room for, and to `info` the
+ * length of each and the line at which the method is defined.
+ *
+ *   CQ_INVALID_METHODID 23  no method of this number was defined
+ *   CQ_OUT_OF_MEMORY 110    there is no memory for the texts
+ *   CQ_BUSY 215             its class is just being defined, and nobody has the number yet */
+uint32_t cq_get_method_name(cq_env *env, uint32_t method, cq_method_name *info, uint8_t *name, size_t name_room,
+                            uint8_t *signature, size_t signature_room) CQ_MUST_USE;
+
+/* GetMethodDeclaringClass. Writes the number of the method's class to `class_no`.
+ *
+ *   CQ_INVALID_METHODID 23  no method of this number was defined
+ *   CQ_BUSY 215             its class is just being defined, and nobody has the number yet */
+uint32_t cq_get_method_declaring_class(cq_env *env, uint32_t method, uint32_t *class_no) CQ_MUST_USE;
+
+/* IsMethodNative. Writes to `native` whether the method is native.
+ *
+ *   CQ_INVALID_METHODID 23  no method of this number was defined
+ *   CQ_BUSY 215             its class is just being defined, and nobody has the number yet */
+uint32_t cq_is_method_native(cq_env *env, uint32_t method, bool *native) CQ_MUST_USE;
+
+/* GetLineNumberTable. Writes CQ_LINES_LOCATIONS or CQ_LINES_TABLE to `kind`, the entries of the table, as many as there is `room`
+ * for, and to `count` how many there are. Where locations are lines there is no entry.
+ *
+ *   CQ_INVALID_METHODID 23     no method of this number was defined
+ *   CQ_NATIVE_METHOD 104       the method is native
+ *   CQ_ABSENT_INFORMATION 101  the method was defined without lines
+ *   CQ_OUT_OF_MEMORY 110       there is no memory for the table
+ *   CQ_BUSY 215                its class is just being defined, and nobody has the number yet */
+uint32_t cq_get_line_number_table(cq_env *env, uint32_t method, uint32_t *kind, cq_line_entry *entries, size_t room,
+                                  uint64_t *count) CQ_MUST_USE;
 
 #ifdef __cplusplus
 }

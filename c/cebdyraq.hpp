@@ -18,6 +18,7 @@
 #include <stdexcept>
 #include <string>
 #include <string_view>
+#include <thread>
 #include <utility>
 #include <vector>
 
@@ -29,11 +30,15 @@ enum class code : std::uint32_t {
     thread_not_suspended = CQ_THREAD_NOT_SUSPENDED,
     thread_suspended = CQ_THREAD_SUSPENDED,
     thread_not_alive = CQ_THREAD_NOT_ALIVE,
+    invalid_class = CQ_INVALID_CLASS,
+    invalid_methodid = CQ_INVALID_METHODID,
     no_more_frames = CQ_NO_MORE_FRAMES,
     opaque_frame = CQ_OPAQUE_FRAME,
     not_available = CQ_NOT_AVAILABLE,
     must_possess_capability = CQ_MUST_POSSESS_CAPABILITY,
+    absent_information = CQ_ABSENT_INFORMATION,
     illegal_argument = CQ_ILLEGAL_ARGUMENT,
+    native_method = CQ_NATIVE_METHOD,
     out_of_memory = CQ_OUT_OF_MEMORY,
     overflow = CQ_OVERFLOW,
     no_frame = CQ_NO_FRAME,
@@ -98,6 +103,87 @@ struct stack_info {
     std::uint32_t thread;
     std::uint32_t state;
     std::vector<frame> frames;
+};
+
+/* What is known of a method's lines. */
+enum class lines_kind : std::uint32_t {
+    absent = CQ_LINES_ABSENT,
+    locations = CQ_LINES_LOCATIONS,
+    table = CQ_LINES_TABLE,
+    native = CQ_LINES_NATIVE
+};
+
+using line_entry = cq_line_entry;
+
+/* A method of a class that is defined. `entries` are those of a table. */
+struct method_info {
+    std::string name;
+    std::string signature;
+    std::uint32_t first_line = 0;
+    lines_kind kind = lines_kind::absent;
+    std::vector<line_entry> entries;
+};
+
+/* The numbers of a class that was defined. */
+struct defined {
+    std::uint32_t class_no;
+    std::uint32_t first_method;
+};
+
+/* What is told of a method's name (GetMethodName). */
+struct method_name {
+    std::string name;
+    std::string signature;
+    std::uint32_t first_line;
+};
+
+/* What is told of a method's lines (GetLineNumberTable). */
+struct line_table {
+    lines_kind kind;
+    std::vector<line_entry> entries;
+};
+
+/* Calls again as long as a class is just being defined. */
+template <class Call>
+void settle(Call call) {
+    std::uint32_t got = call();
+    for (; got == CQ_BUSY; got = call()) std::this_thread::yield();
+    check(got);
+}
+
+/* The texts, methods and line entries of a class, as cq_define_class takes them. None of the lists is empty. */
+class class_parts {
+public:
+    class_parts(std::string_view signature, std::string_view source_file, const std::vector<method_info> &methods)
+        : ranges_{put(signature), put(source_file)}, count_(methods.size()) {
+        for (const method_info &method : methods) {
+            cq_range name = put(method.name), signature = put(method.signature);
+            cq_range lines{entries_.size(), method.entries.size()};
+            entries_.insert(entries_.end(), method.entries.begin(), method.entries.end());
+            methods_.push_back({name, signature, lines, std::uint32_t(method.kind), method.first_line});
+        }
+        text_.push_back(0);
+        methods_.push_back({});
+        entries_.push_back({});
+    }
+
+    std::uint32_t define(cq_service *service, defined &made) const {
+        return cq_define_class(service, text_.data(), text_.size() - 1, &ranges_, methods_.data(), count_, entries_.data(),
+                               entries_.size() - 1, &made.class_no, &made.first_method);
+    }
+
+private:
+    cq_range put(std::string_view text) {
+        cq_range range{text_.size(), text.size()};
+        text_.insert(text_.end(), text.begin(), text.end());
+        return range;
+    }
+
+    std::vector<std::uint8_t> text_;
+    std::vector<cq_method_ranges> methods_;
+    std::vector<line_entry> entries_;
+    cq_class_ranges ranges_;
+    std::size_t count_;
 };
 
 /* A handle, which stays where it is, and the signal of its service. */
@@ -318,9 +404,67 @@ public:
         return next;
     }
 
+    std::vector<std::uint32_t> get_loaded_classes() { return whole<std::uint32_t>(cq_get_loaded_classes); }
+    std::string get_class_signature(std::uint32_t class_no) {
+        return text(whole<std::uint8_t>(cq_get_class_signature, class_no));
+    }
+    std::string get_source_file_name(std::uint32_t class_no) {
+        return text(whole<std::uint8_t>(cq_get_source_file_name, class_no));
+    }
+    std::vector<std::uint32_t> get_class_methods(std::uint32_t class_no) {
+        return whole<std::uint32_t>(cq_get_class_methods, class_no);
+    }
+
+    method_name get_method_name(std::uint32_t method) {
+        std::vector<std::uint8_t> name(64), signature(64);
+        for (cq_method_name info{};;) {
+            settle([&] {
+                return cq_get_method_name(get(), method, &info, name.data(), name.size(), signature.data(), signature.size());
+            });
+            bool all = info.name_length <= name.size() && info.signature_length <= signature.size();
+            if (all) {
+                name.resize(info.name_length);
+                signature.resize(info.signature_length);
+                return {text(name), text(signature), info.first_line};
+            }
+            name.resize(std::max<std::size_t>(name.size(), info.name_length));
+            signature.resize(std::max<std::size_t>(signature.size(), info.signature_length));
+        }
+    }
+
+    std::uint32_t get_method_declaring_class(std::uint32_t method) {
+        std::uint32_t class_no = 0;
+        settle([&] { return cq_get_method_declaring_class(get(), method, &class_no); });
+        return class_no;
+    }
+    bool is_method_native(std::uint32_t method) {
+        bool native = false;
+        settle([&] { return cq_is_method_native(get(), method, &native); });
+        return native;
+    }
+    line_table get_line_number_table(std::uint32_t method) {
+        std::uint32_t kind = 0;
+        auto entries = whole<line_entry>(cq_get_line_number_table, method, &kind);
+        return {lines_kind(kind), std::move(entries)};
+    }
+
 private:
     friend class service;
     using holder::holder;
+
+    /* Asks with more room until all is there. */
+    template <class Item, class Call, class... Arguments>
+    std::vector<Item> whole(Call *call, Arguments... arguments) {
+        std::vector<Item> items(64);
+        for (std::uint64_t count = 0;;) {
+            settle([&] { return call(get(), arguments..., items.data(), items.size(), &count); });
+            bool all = count <= items.size();
+            items.resize(count);
+            if (all) return items;
+        }
+    }
+
+    static std::string text(const std::vector<std::uint8_t> &bytes) { return {bytes.begin(), bytes.end()}; }
 
     static const std::uint32_t *data(const std::vector<std::uint32_t> &threads) {
         static const std::uint32_t none = 0;
@@ -386,6 +530,14 @@ public:
     environment attach_environment() {
         environment made(shared_signal());
         check(cq_wait_attach_environment(get(), signal(), made.get()));
+        return made;
+    }
+
+    /* An empty name of a source file is none. */
+    defined define_class(std::string_view signature, std::string_view source_file, const std::vector<method_info> &methods) {
+        class_parts parts(signature, source_file, methods);
+        defined made{};
+        settle([&] { return parts.define(get(), made); });
         return made;
     }
 

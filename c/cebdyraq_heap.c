@@ -3,15 +3,9 @@
  * `align` is a divisor of 16, and malloc keeps to that. A block of no bytes takes `align` bytes. The three functions that
  * begin with rattle_ are called by the proved half. They are hidden in libcebdyraq.a and libcebdyraq.so. */
 #include "cebdyraq.h"
+#include "cebdyraq_heap.h"
 
 #include <stdlib.h>
-
-/* Whether there is memory, and where. It is never NULL, also if there is none. */
-typedef struct { bool ok; void *at; } tried;
-
-tried rattle_alloc(size_t size, size_t align);
-tried rattle_realloc(void *block, size_t kept, size_t size, size_t align);
-void rattle_dealloc(void *block);
 
 static _Alignas(16) char nothing[16];
 static bool taken;  /* whether memory was taken */

@@ -60,9 +60,9 @@ def compiled(name, room):
 
 
 def joined(archive, room):
-    """One object of the proved half, the version and the heap, in which only cq_ names are global."""
+    """One object of the proved half, the version, the heap and classes of strings, in which only cq_ names are global."""
     made = room / "cebdyraq.o"
-    parts = [compiled(name, room) for name in ("cebdyraq_heap", "cebdyraq_version")]
+    parts = [compiled(name, room) for name in ("cebdyraq_heap", "cebdyraq_version", "cebdyraq_classes")]
     run(*words("CC", "cc"), "-nostdlib", "-r", "-Wl,--whole-archive", archive, "-Wl,--no-whole-archive", *parts, "-o", made)
     # (the partial link makes LLVM's table of addresses stale)
     run(*words("OBJCOPY", "objcopy"), "--wildcard", "--keep-global-symbol=cq_*", "--remove-section=.llvm_addrsig", made)

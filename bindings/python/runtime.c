@@ -5,6 +5,11 @@
 #include <pthread.h>
 #include <sched.h>
 
+enum { MANY = 100 };
+
+/* 70 bytes, more than the room with which the package begins to ask. */
+#define LONG_NAME "0123456789012345678901234567890123456789012345678901234567890123456789"
+
 static cq_service service, service_of_agents;
 static cq_signal signal_of_all;
 static cq_thread thread;
@@ -53,10 +58,29 @@ static void await(uint32_t where) {
 cq_service *runtime_service(void) { return &service_of_agents; }
 cq_signal *runtime_signal(void) { return &signal_of_all; }
 
+/* Class 0 has a method of each kind. Class 1 has many, with long names. */
+static void define_classes(void) {
+    static const cq_line_entry lines[] = { { 0, 3 }, { 4, 5 } };
+    static const cq_method_strings methods[] = {
+        { .name = "fib", .signature = "(I)I", .lines = lines, .line_count = 2, .lines_kind = CQ_LINES_TABLE, .first_line = 3 },
+        { .name = "m\xC3\xA4in", .lines_kind = CQ_LINES_LOCATIONS, .first_line = 8 },
+        { .name = "sleep", .signature = "()V", .lines_kind = CQ_LINES_NATIVE },
+        { .name = "lost" },
+    };
+    static cq_method_strings many[MANY];
+    uint32_t class_no, first;
+    for (uint32_t i = 0; i < MANY; i++) {
+        many[i] = (cq_method_strings){ .name = LONG_NAME, .signature = LONG_NAME, .first_line = i };
+    }
+    expect(cq_define_class_strings(&service, "Lfib;", "fib.java", methods, 4, &class_no, &first));
+    expect(cq_define_class_strings(&service, "many", NULL, many, MANY, &class_no, &first));
+}
+
 void runtime_begin(void) {
     static const uint8_t name[] = "m\xC3\xA4in";
     expect(cq_make(16, 2, 4, &service));
     expect(cq_share(&service, &service_of_agents));
+    define_classes();
     expect(cq_wait_attach_thread(&service, &signal_of_all, name, 5, 7, &thread));
     __atomic_store_n(&phase, 0, __ATOMIC_SEQ_CST);
     reach(0);

@@ -19,7 +19,7 @@ import time
 import unittest
 
 import cebdyraq
-from cebdyraq import Capability, Code, Environment, Error, EventKind, Frame, StackInfo
+from cebdyraq import Capability, Code, Environment, Error, EventKind, Frame, LineEntry, MethodName, StackInfo
 
 HERE = pathlib.Path(__file__).resolve().parent
 C = HERE.parent.parent / "c"
@@ -82,6 +82,36 @@ class WithRuntime(unittest.TestCase):
         self.library.runtime_go_native()
         self.assertEqual(self.env.get_thread_state(self.thread), 0x400005)
         self.assertEqual(self.env.get_stack_trace(self.thread, 0, 1), [Frame(3, -1)])
+
+    def test_classes(self):
+        env = self.env
+        self.assertEqual(env.get_loaded_classes(), [0, 1])
+        self.assertEqual(env.get_class_signature(0), "Lfib;")
+        self.assertEqual(env.get_source_file_name(0), "fib.java")
+        self.assertEqual(env.get_class_methods(0), [0, 1, 2, 3])
+        self.assertEqual(env.get_method_name(0), MethodName("fib", "(I)I", 3))
+        self.assertEqual(env.get_method_name(1), MethodName("m\u00e4in", "", 8))
+        self.assertEqual([env.get_method_declaring_class(method) for method in (3, 4)], [0, 1])
+        self.assertEqual([env.is_method_native(method) for method in range(4)], [False, False, True, False])
+        self.assertEqual(env.get_line_number_table(0), [LineEntry(0, 3), LineEntry(4, 5)])
+        self.assertIsNone(env.get_line_number_table(1))
+        self.assert_code(Code.NATIVE_METHOD, env.get_line_number_table, 2)
+        self.assert_code(Code.ABSENT_INFORMATION, env.get_line_number_table, 3)
+        self.assert_code(Code.ABSENT_INFORMATION, env.get_source_file_name, 1)
+
+    def test_long_texts_and_lists_are_whole(self):
+        long = "0123456789" * 7
+        self.assertEqual(self.env.get_class_methods(1), list(range(4, 104)))
+        self.assertEqual(self.env.get_method_name(103), MethodName(long, long, 99))
+
+    def test_unknown_numbers_are_refused(self):
+        env = self.env
+        for call in (env.get_class_signature, env.get_source_file_name, env.get_class_methods):
+            self.assert_code(Code.INVALID_CLASS, call, 2)
+        for call in (env.get_method_name, env.get_method_declaring_class, env.is_method_native, env.get_line_number_table):
+            self.assert_code(Code.INVALID_METHODID, call, 104)
+        with self.assertRaises(ctypes.ArgumentError):
+            env.get_class_signature(-1)
 
     def test_all_stacks(self):
         env, thread = self.env, self.thread

@@ -21,6 +21,7 @@ C = HERE.parent.parent / "c"
 WAIT = [C / "cebdyraq_wait.c"]
 HEAP = [C / "cebdyraq_heap.c"]
 COUNTED_HEAP = [HERE / "counted_heap.c"]
+STRINGS = [C / "cebdyraq_classes.c"]
 MODEL = [HERE / name for name in ("model.c", "model_calls.c", "model_envs.c", "model_traces.c")]
 
 PLAIN, ADDRESS, THREAD, VALGRIND = "plain", "address,undefined", "thread", "valgrind"
@@ -39,11 +40,13 @@ class Program:
         return any(source.suffix == ".cpp" for source in self.sources)
 
 
+CLASSES = ["classes.c", "classes_wrong.c", "classes_threads.c"]
 CODES = ["codes.c", "codes_threads.c", "codes_envs.c", "codes_memory.c", "codes_gather.c"]
 PROGRAMS = [
     Program("two_threads", ["two_threads.c"], HEAP),
     Program("life", ["life.c"], COUNTED_HEAP),
     Program("codes", CODES, COUNTED_HEAP),
+    Program("classes", CLASSES, COUNTED_HEAP + STRINGS, wait=[]),
     Program("gather", ["gather.c"], COUNTED_HEAP),
     Program("wait", ["wait.c", "wait_any.c", "wait_resumed.c", "wait_window.c"], HEAP),
     Program("gather_waits", ["gather_waits.c"], HEAP, {VALGRIND: ["100"]}),

@@ -75,7 +75,7 @@ class Declared(unittest.TestCase):
 
     def test_rust_declares_each_function(self):
         text = (RUST / "cebdyraq-sys/src/lib.rs").read_text()
-        declared = dict(re.findall(r"pub fn (cq_\w+)\(((?:[^;]|;(?!\n))*?)\)(?: -> \w+)?;", text))
+        declared = dict(re.findall(r"pub fn (cq_\w+)\(((?:[^;]|;(?!\n))*?)\)(?:\s+-> \w+)?;", text))
         counts = {name: len(re.findall(r"\w+: ", parameters)) for name, parameters in declared.items()}
         self.assertEqual(counts, self.parameters())
 

@@ -164,6 +164,37 @@ void test_lives() {
     EXPECT(next.get_all_threads() == std::vector<std::uint32_t>{1} && thread.number() == 1);
 }
 
+bool is(const cebdyraq::method_name &found, const std::string &name, const std::string &signature, std::uint32_t line) {
+    return found.name == name && found.signature == signature && found.first_line == line;
+}
+
+void test_classes() {
+    cebdyraq::service service(4, 1, 1);
+    auto env = service.attach_environment();
+    const std::string longer(100, 'x');
+    EXPECT(env.get_loaded_classes().empty());
+    auto none = service.define_class("none", "", {});
+    EXPECT(none.class_no == 0 && none.first_method == 0);
+    auto made = service.define_class("Lfib;", "fib.java", {{"fib", "(I)I", 3, cebdyraq::lines_kind::table, {{0, 3}, {4, 5}}},
+                                                           {longer, "", 0, cebdyraq::lines_kind::native, {}},
+                                                           {"lost", longer, 7, cebdyraq::lines_kind::locations, {}}});
+    EXPECT(made.class_no == 1 && made.first_method == 0);
+    EXPECT(env.get_loaded_classes() == std::vector<std::uint32_t>({0, 1}));
+    EXPECT(env.get_class_signature(1) == "Lfib;" && env.get_source_file_name(1) == "fib.java");
+    EXPECT(env.get_class_methods(1) == std::vector<std::uint32_t>({0, 1, 2}) && env.get_class_methods(0).empty());
+    EXPECT(is(env.get_method_name(0), "fib", "(I)I", 3) && is(env.get_method_name(1), longer, "", 0));
+    EXPECT(is(env.get_method_name(2), "lost", longer, 7) && env.get_method_declaring_class(2) == 1);
+    EXPECT(env.is_method_native(1) && !env.is_method_native(0));
+    auto lines = env.get_line_number_table(0);
+    EXPECT(lines.kind == cebdyraq::lines_kind::table && lines.entries.size() == 2 && lines.entries[1].line_number == 5);
+    EXPECT(env.get_line_number_table(2).kind == cebdyraq::lines_kind::locations);
+    EXPECT(refused([&] { env.get_line_number_table(1); }) == cebdyraq::code::native_method);
+    EXPECT(refused([&] { env.get_source_file_name(0); }) == cebdyraq::code::absent_information);
+    EXPECT(refused([&] { env.get_class_methods(2); }) == cebdyraq::code::invalid_class);
+    EXPECT(refused([&] { env.get_method_name(3); }) == cebdyraq::code::invalid_methodid);
+    EXPECT(refused([&] { service.define_class("\xff", "", {}); }) == cebdyraq::code::illegal_argument);
+}
+
 }  // namespace
 
 int main() {
@@ -172,5 +203,6 @@ int main() {
     test_suspensions();
     test_words_and_events();
     test_lives();
+    test_classes();
     return failures;
 }

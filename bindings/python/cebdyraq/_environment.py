@@ -8,6 +8,7 @@ from types import TracebackType
 from typing import Any, Callable, Generic, List, Optional, Sequence, Type, TypeVar
 
 from . import _library as lib
+from ._classes import Classes
 from ._values import Capability, Code, Error, Event, EventKind, Frame, StackInfo, ThreadInfo
 
 Told = TypeVar("Told")
@@ -76,7 +77,7 @@ def _nothing(_answer: Any, _frames: Any) -> None:
     return None
 
 
-class Environment:
+class Environment(Classes):
     """An environment of a service. `service` and `signal` are the addresses of the runtime's cq_service and cq_signal.
 
     Any Python thread may use it: its calls are made one after the other. The cq_service is used only while the environment is

@@ -4,7 +4,7 @@ import ctypes
 import os
 from typing import Any, Dict, List, Optional, Sequence, Union
 
-VERSION = (1, 1)
+VERSION = (1, 2)
 
 
 class Handle(ctypes.Structure):
@@ -33,6 +33,14 @@ class Event(ctypes.Structure):
 
 class StackInfo(ctypes.Structure):
     _fields_ = [("thread", ctypes.c_uint32), ("state", ctypes.c_uint32), ("frame_count", ctypes.c_uint64)]
+
+
+class MethodName(ctypes.Structure):
+    _fields_ = [("name_length", ctypes.c_uint64), ("signature_length", ctypes.c_uint64), ("first_line", ctypes.c_uint32)]
+
+
+class LineEntry(ctypes.Structure):
+    _fields_ = [("start_location", ctypes.c_uint32), ("line_number", ctypes.c_uint32)]
 
 
 U32, U64, I32, I64, SIZE = ctypes.c_uint32, ctypes.c_uint64, ctypes.c_int32, ctypes.c_int64, ctypes.c_size_t
@@ -104,6 +112,14 @@ FUNCTIONS: Dict[str, List[Any]] = {
     "cq_wait_set_event_notification_mode": [AT, BOOL],
     "cq_wait_next_event": [AT, I64, AT],
     "cq_wait_dispose_environment": [AT],
+    "cq_get_loaded_classes": [AT, SIZE, AT],
+    "cq_get_class_signature": [NUMBER, AT, SIZE, AT],
+    "cq_get_source_file_name": [NUMBER, AT, SIZE, AT],
+    "cq_get_class_methods": [NUMBER, AT, SIZE, AT],
+    "cq_get_method_name": [NUMBER, AT, AT, SIZE, AT, SIZE],
+    "cq_get_method_declaring_class": [NUMBER, AT],
+    "cq_is_method_native": [NUMBER, AT],
+    "cq_get_line_number_table": [NUMBER, AT, AT, SIZE, AT],
 }
 
 WITHOUT_CODE: Dict[str, Any] = {"cq_has_news": BOOL}

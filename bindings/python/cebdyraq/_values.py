@@ -12,11 +12,15 @@ class Code(enum.IntEnum):
     THREAD_NOT_SUSPENDED = 13
     THREAD_SUSPENDED = 14
     THREAD_NOT_ALIVE = 15
+    INVALID_CLASS = 21
+    INVALID_METHODID = 23
     NO_MORE_FRAMES = 31
     OPAQUE_FRAME = 32
     NOT_AVAILABLE = 98
     MUST_POSSESS_CAPABILITY = 99
+    ABSENT_INFORMATION = 101
     ILLEGAL_ARGUMENT = 103
+    NATIVE_METHOD = 104
     OUT_OF_MEMORY = 110
     OVERFLOW = 201
     NO_FRAME = 202
@@ -85,3 +89,18 @@ class Event(NamedTuple):
     kind: EventKind
     thread: int
     lost: int
+
+
+class MethodName(NamedTuple):
+    """A method's name, its signature, and the line at which it is defined, or 0 if that is not known."""
+
+    name: str
+    signature: str
+    first_line: int
+
+
+class LineEntry(NamedTuple):
+    """From this location on, up to that of the next entry, a method is at this line."""
+
+    start_location: int
+    line_number: int

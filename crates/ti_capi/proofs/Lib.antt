@@ -6,3 +6,5 @@ mod Behind
 mod Calling
 mod Ending
 mod Traced
+mod ClassParts
+mod ClassTelling

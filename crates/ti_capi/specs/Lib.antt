@@ -17,3 +17,5 @@ pub mod Turns
 pub mod Frames
 pub mod Services
 pub mod Resuming
+pub mod Defining
+pub mod Classes

@@ -10,6 +10,11 @@
 //! - While an environment makes a trace step by step, its other calls have the code 304 too, and change nothing.
 #![tactic(auto)]
 
+mod class_defines;
+mod class_parts;
+mod class_reads;
+mod class_values;
+mod class_writes;
 mod codes;
 mod env_at;
 mod env_collects;
@@ -38,6 +43,7 @@ mod thread_turns;
 mod values;
 mod writes;
 
+pub use class_values::{CqClassRanges, CqLineEntry, CqMethodName, CqMethodRanges, CqRange};
 pub use env_at::EnvAt;
 pub use env_handle::CqEnv;
 pub use held::{HeldEnv, HeldThread};

@@ -5,7 +5,7 @@ use crate::values::{CqAnswer, CqFrame, CqStackInfo, frame_out};
 use ti_types::{Answer, Frame, StackInfo, ThreadNo};
 
 /// How many of these items there is room for.
-fn smaller(items: usize, room: usize) -> usize
+pub(crate) fn smaller(items: usize, room: usize) -> usize
     ensures { result ≡ min items room }
 {
     if items < room { items } else { room }

@@ -4,12 +4,12 @@
 #![no_std]
 #![allow(non_camel_case_types)]
 
-use core::ffi::c_void;
+use core::ffi::{c_char, c_void};
 use core::ptr::null_mut;
 
 /// The version whose functions are declared here.
 pub const CQ_VERSION_MAJOR: u32 = 1;
-pub const CQ_VERSION_MINOR: u32 = 1;
+pub const CQ_VERSION_MINOR: u32 = 2;
 
 /// Whether the library that the program runs with has all of them, as `cq_version_fits` of `cebdyraq.h` says.
 pub fn version_fits() -> bool {
@@ -85,6 +85,56 @@ pub struct cq_stack_info {
     pub frame_count: u64,
 }
 
+#[repr(C)]
+#[derive(Clone, Copy, Debug, Default, PartialEq, Eq, Hash)]
+pub struct cq_line_entry {
+    pub start_location: u32,
+    pub line_number: u32,
+}
+
+#[repr(C)]
+#[derive(Clone, Copy, Debug, Default)]
+pub struct cq_range {
+    pub start: usize,
+    pub length: usize,
+}
+
+#[repr(C)]
+#[derive(Clone, Copy, Debug, Default)]
+pub struct cq_class_ranges {
+    pub signature: cq_range,
+    pub source_file: cq_range,
+}
+
+#[repr(C)]
+#[derive(Clone, Copy, Debug, Default)]
+pub struct cq_method_ranges {
+    pub name: cq_range,
+    pub signature: cq_range,
+    pub lines: cq_range,
+    pub lines_kind: u32,
+    pub first_line: u32,
+}
+
+#[repr(C)]
+#[derive(Clone, Copy, Debug)]
+pub struct cq_method_strings {
+    pub name: *const c_char,
+    pub signature: *const c_char,
+    pub lines: *const cq_line_entry,
+    pub line_count: usize,
+    pub lines_kind: u32,
+    pub first_line: u32,
+}
+
+#[repr(C)]
+#[derive(Clone, Copy, Debug, Default)]
+pub struct cq_method_name {
+    pub name_length: u64,
+    pub signature_length: u64,
+    pub first_line: u32,
+}
+
 /// Those who sleep for one kind of news.
 #[repr(C)]
 #[derive(Debug, Default)]
@@ -111,11 +161,15 @@ codes! {
     CQ_THREAD_NOT_SUSPENDED = 13
     CQ_THREAD_SUSPENDED = 14
     CQ_THREAD_NOT_ALIVE = 15
+    CQ_INVALID_CLASS = 21
+    CQ_INVALID_METHODID = 23
     CQ_NO_MORE_FRAMES = 31
     CQ_OPAQUE_FRAME = 32
     CQ_NOT_AVAILABLE = 98
     CQ_MUST_POSSESS_CAPABILITY = 99
+    CQ_ABSENT_INFORMATION = 101
     CQ_ILLEGAL_ARGUMENT = 103
+    CQ_NATIVE_METHOD = 104
     CQ_OUT_OF_MEMORY = 110
     CQ_OVERFLOW = 201
     CQ_NO_FRAME = 202
@@ -137,6 +191,12 @@ codes! {
     CQ_NONE = 303
     CQ_MISUSED = 304
 }
+
+/// What is known of a method's lines.
+pub const CQ_LINES_ABSENT: u32 = 0;
+pub const CQ_LINES_LOCATIONS: u32 = 1;
+pub const CQ_LINES_TABLE: u32 = 2;
+pub const CQ_LINES_NATIVE: u32 = 3;
 
 extern "C" {
     // cebdyraq.h
@@ -238,6 +298,64 @@ extern "C" {
     pub fn cq_set_event_notification_mode(env: *mut cq_env, enabled: bool) -> u32;
     pub fn cq_next_event(env: *mut cq_env, event: *mut cq_event) -> u32;
     pub fn cq_dispose_environment(env: *mut cq_env) -> u32;
+
+    pub fn cq_define_class(
+        service: *mut cq_service,
+        text: *const u8,
+        text_length: usize,
+        class_ranges: *const cq_class_ranges,
+        methods: *const cq_method_ranges,
+        count: usize,
+        entries: *const cq_line_entry,
+        entry_count: usize,
+        class_no: *mut u32,
+        first_method: *mut u32,
+    ) -> u32;
+    pub fn cq_define_class_strings(
+        service: *mut cq_service,
+        signature: *const c_char,
+        source_file: *const c_char,
+        methods: *const cq_method_strings,
+        count: usize,
+        class_no: *mut u32,
+        first_method: *mut u32,
+    ) -> u32;
+    pub fn cq_get_loaded_classes(env: *mut cq_env, classes: *mut u32, room: usize, count: *mut u64) -> u32;
+    pub fn cq_get_class_signature(env: *mut cq_env, class_no: u32, text: *mut u8, room: usize, length: *mut u64)
+        -> u32;
+    pub fn cq_get_source_file_name(
+        env: *mut cq_env,
+        class_no: u32,
+        text: *mut u8,
+        room: usize,
+        length: *mut u64,
+    ) -> u32;
+    pub fn cq_get_class_methods(
+        env: *mut cq_env,
+        class_no: u32,
+        methods: *mut u32,
+        room: usize,
+        count: *mut u64,
+    ) -> u32;
+    pub fn cq_get_method_name(
+        env: *mut cq_env,
+        method: u32,
+        info: *mut cq_method_name,
+        name: *mut u8,
+        name_room: usize,
+        signature: *mut u8,
+        signature_room: usize,
+    ) -> u32;
+    pub fn cq_get_method_declaring_class(env: *mut cq_env, method: u32, class_no: *mut u32) -> u32;
+    pub fn cq_is_method_native(env: *mut cq_env, method: u32, native: *mut bool) -> u32;
+    pub fn cq_get_line_number_table(
+        env: *mut cq_env,
+        method: u32,
+        kind: *mut u32,
+        entries: *mut cq_line_entry,
+        room: usize,
+        count: *mut u64,
+    ) -> u32;
 
     // cebdyraq_wait.h
     pub fn cq_wake(signal: *mut cq_signal);

@@ -31,6 +31,10 @@ errors! {
     ThreadSuspended = CQ_THREAD_SUSPENDED
     /// The thread has not started, or has ended.
     ThreadNotAlive = CQ_THREAD_NOT_ALIVE
+    /// No class of this number was defined.
+    InvalidClass = CQ_INVALID_CLASS
+    /// No method of this number was defined.
+    InvalidMethodid = CQ_INVALID_METHODID
     /// There is no frame at this depth, or there are fewer than two for a pop.
     NoMoreFrames = CQ_NO_MORE_FRAMES
     /// A pop, and one of the two newest frames is native.
@@ -39,8 +43,12 @@ errors! {
     NotAvailable = CQ_NOT_AVAILABLE
     /// The call needs a capability that the environment does not have.
     MustPossessCapability = CQ_MUST_POSSESS_CAPABILITY
+    /// The class has no source file, or the method no lines.
+    AbsentInformation = CQ_ABSENT_INFORMATION
     /// An argument is out of its range.
     IllegalArgument = CQ_ILLEGAL_ARGUMENT
+    /// A native method has no lines.
+    NativeMethod = CQ_NATIVE_METHOD
     /// There is no memory for it.
     OutOfMemory = CQ_OUT_OF_MEMORY
     /// The stack has as many frames as the service's depth.
@@ -57,7 +65,7 @@ errors! {
     CallsSpent = CQ_CALLS_SPENT
     /// The time is over.
     TimedOut = CQ_TIMED_OUT
-    /// A bound other than memory leaves no place: for an environment, or in the window of calls.
+    /// A bound other than memory leaves no place: for an environment, a class, or a call in the window.
     Full = CQ_FULL
 }
 

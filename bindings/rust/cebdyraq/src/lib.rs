@@ -48,12 +48,14 @@
 //! });
 //! ```
 
+mod classes;
 mod environment;
 mod error;
 mod posts;
 mod service;
 mod thread;
 
+pub use classes::{ClassInfo, Defined, LineEntry, Lines, MethodInfo, MethodName};
 pub use environment::{capabilities, Environment, Event, EventKind, StackInfo, ThreadInfo};
 pub use error::Error;
 pub use posts::{Answer, Any, Call, Posted, Ticket};

@@ -29,7 +29,7 @@ pub(crate) type NotShared = PhantomData<Cell<()>>;
 #[derive(Debug)]
 pub struct Service {
     // Boxed, since a handle stays where it is.
-    handle: Box<sys::cq_service>,
+    pub(crate) handle: Box<sys::cq_service>,
     signal: Arc<Signal>,
     _not_shared: NotShared,
 }

@@ -1,0 +1,217 @@
+//! What an environment is told of classes and methods.
+
+use crate::class_values::{CqLineEntry, CqMethodName};
+use crate::class_writes::{write_classes, write_lines, write_methods, write_name, write_text};
+use crate::codes::{CQ_MISUSED, CQ_OK};
+use crate::env_handle::CqEnv;
+use std::alloc::Global;
+use ti_service::{ClassCalls, ClassNo};
+use ti_types::MethodNo;
+
+/// GetLoadedClasses (JVM TI 11).
+#[unsafe(no_mangle)]
+pub extern "C" fn cq_get_loaded_classes(
+    alloc: Global,
+    env: &mut CqEnv,
+    classes: &mut [u32],
+    count: &mut u64,
+) -> u32
+    ensures { Tells (AllWritten classes.old classes.new count.new) RefusesAll ((classes.new ≡ classes.old) × (count.new ≡ count.old)) env.old env.new result }
+{
+    let Some(held) = env.held() else {
+        return CQ_MISUSED;
+    };
+    let Some(agent) = &mut held.agent else {
+        return CQ_MISUSED;
+    };
+    match agent.get_loaded_classes(alloc) {
+        Ok(all) => {
+            *count = all.len() as u64;
+            write_classes(&all, classes);
+            CQ_OK
+        }
+        Err(error) => error.number(),
+    }
+}
+
+/// GetClassSignature (JVM TI 11).
+#[unsafe(no_mangle)]
+pub extern "C" fn cq_get_class_signature(
+    alloc: Global,
+    env: &mut CqEnv,
+    class: u32,
+    text: &mut [u8],
+    length: &mut u64,
+) -> u32
+    ensures { Tells (SignatureWritten (class_no class) text.old text.new length.new) (λ log. RefusesClassCall log (class_no class)) ((text.new ≡ text.old) × (length.new ≡ length.old)) env.old env.new result }
+{
+    let Some(held) = env.held() else {
+        return CQ_MISUSED;
+    };
+    let Some(agent) = &mut held.agent else {
+        return CQ_MISUSED;
+    };
+    match agent.get_class_signature(alloc, ClassNo(class)) {
+        Ok(told) => {
+            write_text(told.as_str(), text, length);
+            CQ_OK
+        }
+        Err(error) => error.number(),
+    }
+}
+
+/// GetSourceFileName (JVM TI 11).
+#[unsafe(no_mangle)]
+pub extern "C" fn cq_get_source_file_name(
+    alloc: Global,
+    env: &mut CqEnv,
+    class: u32,
+    text: &mut [u8],
+    length: &mut u64,
+) -> u32
+    ensures { Tells (SourceFileWritten (class_no class) text.old text.new length.new) (λ log. RefusesSourceFile log (class_no class)) ((text.new ≡ text.old) × (length.new ≡ length.old)) env.old env.new result }
+{
+    let Some(held) = env.held() else {
+        return CQ_MISUSED;
+    };
+    let Some(agent) = &mut held.agent else {
+        return CQ_MISUSED;
+    };
+    match agent.get_source_file_name(alloc, ClassNo(class)) {
+        Ok(told) => {
+            write_text(told.as_str(), text, length);
+            CQ_OK
+        }
+        Err(error) => error.number(),
+    }
+}
+
+/// GetClassMethods (JVM TI 11).
+#[unsafe(no_mangle)]
+pub extern "C" fn cq_get_class_methods(
+    alloc: Global,
+    env: &mut CqEnv,
+    class: u32,
+    methods: &mut [u32],
+    count: &mut u64,
+) -> u32
+    ensures { Tells (MethodsWritten (class_no class) methods.old methods.new count.new) (λ log. RefusesClassCall log (class_no class)) ((methods.new ≡ methods.old) × (count.new ≡ count.old)) env.old env.new result }
+{
+    let Some(held) = env.held() else {
+        return CQ_MISUSED;
+    };
+    let Some(agent) = &mut held.agent else {
+        return CQ_MISUSED;
+    };
+    match agent.get_class_methods(alloc, ClassNo(class)) {
+        Ok(told) => {
+            *count = told.len() as u64;
+            write_methods(&told, methods);
+            CQ_OK
+        }
+        Err(error) => error.number(),
+    }
+}
+
+/// GetMethodName (JVM TI 11).
+#[unsafe(no_mangle)]
+pub extern "C" fn cq_get_method_name(
+    alloc: Global,
+    env: &mut CqEnv,
+    method: u32,
+    info: &mut CqMethodName,
+    name: &mut [u8],
+    signature: &mut [u8],
+) -> u32
+    ensures { Tells (NameWritten (method_no method) info.new name.old name.new signature.old signature.new) (λ log. RefusesMethodCall log (method_no method)) ((info.new ≡ info.old) × (name.new ≡ name.old) × (signature.new ≡ signature.old)) env.old env.new result }
+{
+    let Some(held) = env.held() else {
+        return CQ_MISUSED;
+    };
+    let Some(agent) = &mut held.agent else {
+        return CQ_MISUSED;
+    };
+    match agent.get_method_name(alloc, MethodNo(method)) {
+        Ok(told) => {
+            write_name(&told, info, name, signature);
+            CQ_OK
+        }
+        Err(error) => error.number(),
+    }
+}
+
+/// GetMethodDeclaringClass (JVM TI 11).
+#[unsafe(no_mangle)]
+pub extern "C" fn cq_get_method_declaring_class(
+    env: &mut CqEnv,
+    method: u32,
+    class: &mut u32,
+) -> u32
+    ensures { Tells (ClassWritten (method_no method) class.new) (λ log. RefusesMethod log (method_no method)) (class.new ≡ class.old) env.old env.new result }
+{
+    let Some(held) = env.held() else {
+        return CQ_MISUSED;
+    };
+    let Some(agent) = &mut held.agent else {
+        return CQ_MISUSED;
+    };
+    match agent.get_method_declaring_class(MethodNo(method)) {
+        Ok(told) => {
+            *class = told.0;
+            CQ_OK
+        }
+        Err(error) => error.number(),
+    }
+}
+
+/// IsMethodNative (JVM TI 11).
+#[unsafe(no_mangle)]
+pub extern "C" fn cq_is_method_native(env: &mut CqEnv, method: u32, native: &mut bool) -> u32
+    ensures { Tells (NativeWritten (method_no method) native.new) (λ log. RefusesMethod log (method_no method)) (native.new ≡ native.old) env.old env.new result }
+{
+    let Some(held) = env.held() else {
+        return CQ_MISUSED;
+    };
+    let Some(agent) = &mut held.agent else {
+        return CQ_MISUSED;
+    };
+    match agent.is_method_native(MethodNo(method)) {
+        Ok(told) => {
+            *native = told;
+            CQ_OK
+        }
+        Err(error) => error.number(),
+    }
+}
+
+/// GetLineNumberTable (JVM TI 11).
+#[unsafe(no_mangle)]
+pub extern "C" fn cq_get_line_number_table(
+    alloc: Global,
+    env: &mut CqEnv,
+    method: u32,
+    kind: &mut u32,
+    lines: &mut [CqLineEntry],
+    count: &mut u64,
+) -> u32
+    ensures { Tells (LinesWritten (method_no method) kind.new lines.old lines.new count.new) (λ log. RefusesLines log (method_no method)) ((kind.new ≡ kind.old) × (lines.new ≡ lines.old) × (count.new ≡ count.old)) env.old env.new result }
+{
+    let Some(held) = env.held() else {
+        return CQ_MISUSED;
+    };
+    let Some(agent) = &mut held.agent else {
+        return CQ_MISUSED;
+    };
+    match agent.get_line_number_table(alloc, MethodNo(method)) {
+        Ok(told) => {
+            write_lines(&told, kind, lines, count);
+            CQ_OK
+        }
+        Err(error) => error.number(),
+    }
+}
+
+ghost use Rattle.std.specs.Prelude.{◌≡◌};
+ghost use Rattle.ti_methods.specs.Classes.{RefusesClassCall, RefusesLines, RefusesMethod, RefusesMethodCall, RefusesSourceFile};
+ghost use Rattle.ti_capi.specs.Classes.{AllWritten, ClassWritten, LinesWritten, MethodsWritten, NameWritten, NativeWritten, RefusesAll, SignatureWritten, SourceFileWritten, Tells, class_no};
+ghost use Rattle.ti_capi.specs.Threads.{method_no};
