@@ -7,6 +7,7 @@
  * newest first, and mixed. After each third the environment lets go of them, and the rest are told as before. */
 #define _POSIX_C_SOURCE 200809L
 #include "check.h"
+#include "counted_heap.h"
 
 #include <pthread.h>
 
@@ -96,9 +97,8 @@ static void check_all(void) {
         OK(cq_wait_get_thread_state(&env, &shared, told[i], -1, &state));
         SAME(state, PARKED);
     }
-    OK(cq_wait_get_all_stack_traces(&env, &shared, 2, -1, NULL));
     uint64_t traced = 0;
-    OK(cq_gathered(&env, &traced));
+    OK(cq_wait_get_all_stack_traces(&env, &shared, 2, -1, &traced));
     SAME(traced, count);
     for (uint64_t i = 0; i < traced; i++) {
         cq_stack_info info;
@@ -138,5 +138,6 @@ int main(int count, char **words) {
     for (uint32_t i = 0; i < CARRIERS; i++) OK(cq_free(&services[i]));
     SAME(shared.threads.sleepers, 0);
     SAME(shared.agents.sleepers, 0);
+    SAME(heap_blocks(), 0);
     return 0;
 }

@@ -52,7 +52,7 @@ PROGRAMS = [
     Program("gather_waits", ["gather_waits.c"], HEAP, {VALGRIND: ["100"]}),
     Program("gather_busy", ["gather_busy.c"], HEAP, wait=[]),
     Program("turns", ["turns.c"], HEAP, {VALGRIND: ["100"]}, wait=[HERE / "slow_wait.c"]),
-    Program("green", ["green.c"], HEAP, {THREAD: ["512"], VALGRIND: ["128"]}),
+    Program("green", ["green.c"], COUNTED_HEAP, {THREAD: ["512"], VALGRIND: ["128"]}),
     Program("cxx", ["cxx.cpp"], HEAP),
     Program("fuzz", ["fuzz.c", "fuzz_calls.c"], MODEL + COUNTED_HEAP,
             {ADDRESS: ["1", "20000"], THREAD: ["1", "10000"], VALGRIND: ["1", "500"]}),
