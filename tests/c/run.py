@@ -44,6 +44,7 @@ PROGRAMS = [
     Program("two_threads", ["two_threads.c"], HEAP),
     Program("life", ["life.c"], COUNTED_HEAP),
     Program("codes", CODES, COUNTED_HEAP),
+    Program("pops", ["pops.c", "pops_unwound.c"], COUNTED_HEAP),
     Program("gather", ["gather.c"], COUNTED_HEAP),
     Program("wait", ["wait.c", "wait_any.c", "wait_resumed.c", "wait_window.c"], HEAP),
     Program("gather_waits", ["gather_waits.c"], HEAP, {VALGRIND: ["100"]}),

@@ -4,7 +4,7 @@ import ctypes
 import os
 from typing import Any, Dict, List, Optional, Sequence, Union
 
-VERSION = (1, 1)
+VERSION = (1, 2)
 
 
 class Handle(ctypes.Structure):

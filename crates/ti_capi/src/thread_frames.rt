@@ -5,7 +5,7 @@ use crate::held::HeldThread;
 use crate::thread_handle::CqThread;
 use crate::values::{CqFrame, frame_in};
 use std::alloc::Global;
-use ti_thread::AnyThread;
+use ti_thread::{AnyThread, HostThread};
 use ti_types::{Frame, TiError};
 
 /// Reads all frames into a list, which is cleared first. It gives whether each is one.
@@ -32,7 +32,7 @@ fn set_frames(held: &mut HeldThread, frames: &[CqFrame]) -> u32
     let Some(thread) = &mut held.thread else {
         return CQ_MISUSED;
     };
-    if !thread.is_running() {
+    if !thread.thread.is_running() {
         return TiError::NotRunning.number();
     }
     match read_frames(frames, &mut held.frames) {
@@ -57,30 +57,53 @@ pub extern "C" fn cq_set_frames(thread: &mut CqThread, frames: &[CqFrame]) -> u3
 fn give_back(held: &mut HeldThread) -> u32
     ensures { GivesBack held.old held.new result }
 {
-    match held.thread.take() {
-        Some(AnyThread::Ended(ended)) => match held.service.end_thread_now(ended) {
+    let Some(HostThread {
+        thread,
+        given,
+        popped,
+    }) = held.thread.take()
+    else {
+        return CQ_MISUSED;
+    };
+    match thread {
+        AnyThread::Ended(ended) => match held.service.end_thread_now(ended) {
             Ok(()) => CQ_OK,
             Err((error, ended)) => {
-                held.thread = Some(AnyThread::Ended(ended));
+                held.thread = Some(HostThread {
+                    thread: AnyThread::Ended(ended),
+                    given,
+                    popped,
+                });
                 error.number()
             }
         },
-        Some(AnyThread::Fresh(fresh)) => match held.service.withdraw_thread_now(fresh) {
+        AnyThread::Fresh(fresh) => match held.service.withdraw_thread_now(fresh) {
             Ok(()) => CQ_OK,
             Err((error, fresh)) => {
-                held.thread = Some(AnyThread::Fresh(fresh));
+                held.thread = Some(HostThread {
+                    thread: AnyThread::Fresh(fresh),
+                    given,
+                    popped,
+                });
                 error.number()
             }
         },
-        Some(AnyThread::Running(running)) => {
-            held.thread = Some(AnyThread::Running(running));
+        AnyThread::Running(running) => {
+            held.thread = Some(HostThread {
+                thread: AnyThread::Running(running),
+                given,
+                popped,
+            });
             CQ_MISUSED
         }
-        Some(AnyThread::Safe(safe)) => {
-            held.thread = Some(AnyThread::Safe(safe));
+        AnyThread::Safe(safe) => {
+            held.thread = Some(HostThread {
+                thread: AnyThread::Safe(safe),
+                given,
+                popped,
+            });
             CQ_MISUSED
         }
-        None => CQ_MISUSED,
     }
 }
 

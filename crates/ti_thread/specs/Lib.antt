@@ -1,3 +1,4 @@
 pub mod AnyThread
 pub mod Turns
 pub mod Changes
+pub mod Hosts

@@ -9,7 +9,7 @@ use core::ptr::null_mut;
 
 /// The version whose functions are declared here.
 pub const CQ_VERSION_MAJOR: u32 = 1;
-pub const CQ_VERSION_MINOR: u32 = 1;
+pub const CQ_VERSION_MINOR: u32 = 2;
 
 /// Whether the library that the program runs with has all of them, as `cq_version_fits` of `cebdyraq.h` says.
 pub fn version_fits() -> bool {
@@ -136,6 +136,7 @@ codes! {
     CQ_WAITING = 302
     CQ_NONE = 303
     CQ_MISUSED = 304
+    CQ_POPPED = 305
 }
 
 extern "C" {
@@ -165,6 +166,8 @@ extern "C" {
     pub fn cq_at(thread: *mut cq_thread, location: u32) -> u32;
     pub fn cq_leave(thread: *mut cq_thread) -> u32;
     pub fn cq_set_frames(thread: *mut cq_thread, frames: *const cq_frame, count: usize) -> u32;
+    pub fn cq_frame_count(thread: *mut cq_thread, count: *mut u64) -> u32;
+    pub fn cq_take_pops(thread: *mut cq_thread, count: *mut u64) -> u32;
     pub fn cq_poll_clear(thread: *mut cq_thread) -> bool;
     pub fn cq_poll(thread: *mut cq_thread) -> u32;
     pub fn cq_native(thread: *mut cq_thread) -> u32;

@@ -59,6 +59,8 @@ errors! {
     TimedOut = CQ_TIMED_OUT
     /// A bound other than memory leaves no place: for an environment, or in the window of calls.
     Full = CQ_FULL
+    /// All frames are to be set, and frames were popped that the runtime has not taken note of.
+    Popped = CQ_POPPED
 }
 
 impl fmt::Display for Error {
