@@ -12,6 +12,7 @@ static pthread_t id;
 static uint32_t phase;    /* 0: it polls, 1: it is in native code, 2: it ends */
 static uint32_t reached;
 static uint32_t failures;
+static uint64_t popped;    /* how many pops the runtime was told of */
 
 static void expect(uint32_t code) {
     if (code != CQ_OK) {
@@ -22,6 +23,12 @@ static void expect(uint32_t code) {
 static void reach(uint32_t where) { __atomic_store_n(&reached, where, __ATOMIC_SEQ_CST); }
 static uint32_t wanted(void) { return __atomic_load_n(&phase, __ATOMIC_SEQ_CST); }
 
+static void note_pops(void) {
+    uint64_t count = 0;
+    expect(cq_take_pops(&thread, &count));
+    __atomic_fetch_add(&popped, count, __ATOMIC_SEQ_CST);
+}
+
 static void *body(void *unused) {
     expect(cq_wait_start(&thread, &signal_of_all, -1));
     expect(cq_enter(&thread, 1));
@@ -30,6 +37,7 @@ static void *body(void *unused) {
     reach(1);
     while (wanted() == 0) {
         expect(cq_wait_poll(&thread, &signal_of_all));
+        note_pops();
         sched_yield();
     }
     expect(cq_enter_native(&thread, 3));
@@ -53,12 +61,15 @@ static void await(uint32_t where) {
 cq_service *runtime_service(void) { return &service_of_agents; }
 cq_signal *runtime_signal(void) { return &signal_of_all; }
 
+uint64_t runtime_pops(void) { return __atomic_load_n(&popped, __ATOMIC_SEQ_CST); }
+
 void runtime_begin(void) {
     static const uint8_t name[] = "m\xC3\xA4in";
     expect(cq_make(16, 2, 4, &service));
     expect(cq_share(&service, &service_of_agents));
     expect(cq_wait_attach_thread(&service, &signal_of_all, name, 5, 7, &thread));
     __atomic_store_n(&phase, 0, __ATOMIC_SEQ_CST);
+    __atomic_store_n(&popped, 0, __ATOMIC_SEQ_CST);
     reach(0);
     if (pthread_create(&id, NULL, body, NULL) != 0) {
         expect(CQ_MISUSED);

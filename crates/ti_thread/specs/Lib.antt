@@ -2,3 +2,4 @@ pub mod AnyThread
 pub mod Turns
 pub mod Changes
 pub mod Hosts
+pub mod Laws

@@ -13,6 +13,7 @@
 mod any_thread;
 mod changes;
 mod host_thread;
+pub mod laws;
 mod turn;
 mod turns;
 
