@@ -27,7 +27,7 @@ CountBehind None old new n0 n1 code = (new ≡ old) × (n1 ≡ n0) × (code ≡ 
 
 -- The pops are told. From then on there are none, and nothing else of the box changes
 abbrev pub NotesTo : Option HostThread → HeldThread → HeldThread → ℕ → ℕ → ℕ → Type 0
-NotesTo (Some t) old new n0 n1 code = (new ≡ held_with old (with_popped t 0)) × (n1 ≡ t.popped) × (code ≡ 0)
+NotesTo (Some t) old new n0 n1 code = (new ≡ held_with old (with_popped t 0)) × (n1 ≡ t.pops.popped) × (code ≡ 0)
 NotesTo None old new n0 n1 code = (new ≡ old) × (n1 ≡ n0) × (code ≡ misused)
 
 abbrev pub NotesBehind : Option HeldThread → Option HeldThread → ThreadHandle → ThreadHandle → ℕ → ℕ → ℕ → Type 0

@@ -29,14 +29,14 @@ fn read_frames(frames: &[CqFrame], into: &mut Vec<Frame>) -> Result<bool, TiErro
 fn set_frames(held: &mut HeldThread, frames: &[CqFrame]) -> u32
     ensures { SetsIn frames.now held.old held.new result }
 {
-    let Some(thread) = &mut held.thread else {
+    let Some(host) = &mut held.thread else {
         return CQ_MISUSED;
     };
-    if !thread.thread.is_running() {
+    if !host.thread.is_running() {
         return TiError::NotRunning.number();
     }
     match read_frames(frames, &mut held.frames) {
-        Ok(true) => told_code(thread.set_frames(&held.frames)),
+        Ok(true) => told_code(host.set_frames(&held.frames)),
         Ok(false) => TiError::IllegalArgument.number(),
         Err(error) => error.number(),
     }
@@ -57,51 +57,30 @@ pub extern "C" fn cq_set_frames(thread: &mut CqThread, frames: &[CqFrame]) -> u3
 fn give_back(held: &mut HeldThread) -> u32
     ensures { GivesBack held.old held.new result }
 {
-    let Some(HostThread {
-        thread,
-        given,
-        popped,
-    }) = held.thread.take()
-    else {
+    let Some(HostThread { thread, pops }) = held.thread.take() else {
         return CQ_MISUSED;
     };
     match thread {
         AnyThread::Ended(ended) => match held.service.end_thread_now(ended) {
             Ok(()) => CQ_OK,
             Err((error, ended)) => {
-                held.thread = Some(HostThread {
-                    thread: AnyThread::Ended(ended),
-                    given,
-                    popped,
-                });
+                held.thread = Some(HostThread::of(AnyThread::Ended(ended), pops));
                 error.number()
             }
         },
         AnyThread::Fresh(fresh) => match held.service.withdraw_thread_now(fresh) {
             Ok(()) => CQ_OK,
             Err((error, fresh)) => {
-                held.thread = Some(HostThread {
-                    thread: AnyThread::Fresh(fresh),
-                    given,
-                    popped,
-                });
+                held.thread = Some(HostThread::of(AnyThread::Fresh(fresh), pops));
                 error.number()
             }
         },
         AnyThread::Running(running) => {
-            held.thread = Some(HostThread {
-                thread: AnyThread::Running(running),
-                given,
-                popped,
-            });
+            held.thread = Some(HostThread::of(AnyThread::Running(running), pops));
             CQ_MISUSED
         }
         AnyThread::Safe(safe) => {
-            held.thread = Some(HostThread {
-                thread: AnyThread::Safe(safe),
-                given,
-                popped,
-            });
+            held.thread = Some(HostThread::of(AnyThread::Safe(safe), pops));
             CQ_MISUSED
         }
     }

@@ -12,10 +12,10 @@ pub extern "C" fn cq_thread_number(thread: &mut CqThread, number: &mut u32) -> u
     let Some(held) = thread.held() else {
         return CQ_MISUSED;
     };
-    let Some(thread) = &mut held.thread else {
+    let Some(host) = &mut held.thread else {
         return CQ_MISUSED;
     };
-    *number = thread.thread.thread().0;
+    *number = host.thread.thread().0;
     CQ_OK
 }
 

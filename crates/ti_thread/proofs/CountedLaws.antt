@@ -38,7 +38,7 @@ home_again : (old new : View) (more : List Entry) → Holds old new more → old
 home_again old new more k owner whole own =
     let a : new.mine ≡ made_by 0 new.seen = k.waits.goes.whole ∙ ap (λ (n : ℕ). made_by n new.seen) owner in
     let b : made_by 0 new.seen ≡ made_by 0 (found old new) ++ more =
-        ap (made_by 0) k.waits.last ∙ (made-append 0 (found old new) more ∙ ap (λ (l : List Entry). made_by 0 (found old new) ++ l) own) in
+    ap (made_by 0) k.waits.last ∙ (made-append 0 (found old new) more ∙ ap (λ (l : List Entry). made_by 0 (found old new) ++ l) own) in
     append_cancel_right (made_by 0 old.seen) (made_by 0 (found old new)) more (ap (λ (l : List Entry). l ++ more) (sym whole) ∙ (sym k.waits.mine ∙ (a ∙ b)))
 
 left_with : (n : ℕ) (old new : View) (more : List Entry) → Holds old new more → old.number ≡ 0 → length (view old.subject.limits new.seen).frames ≤ n → LeavesAtMost n new
@@ -97,9 +97,9 @@ gone r t k w g =
     let f = logged (found r.view t.view) r.steps in
     let same = at_steps r t.view (steps_of r.steps ++ tail) k h (own_made r.steps tail refl) in
     let seen : t.view.seen ≡ (f ++ Hand AtPoll ∷ []) ++ Back ∷ [] =
-        h.waits.last ∙ (sym (append_assoc (found r.view t.view) (steps_of r.steps) tail) ∙ sym (append_assoc f (Hand AtPoll ∷ []) (Back ∷ []))) in
+    h.waits.last ∙ (sym (append_assoc (found r.view t.view) (steps_of r.steps) tail) ∙ sym (append_assoc f (Hand AtPoll ∷ []) (Back ∷ []))) in
     let frames : t.frames ≡ (view l (f ++ Hand AtPoll ∷ [])).frames =
-        running_frames t w g.steps ∙ ((λ i. (view (h.waits.goes.subject i).limits (seen i)).frames) ∙ frames_back l (f ++ Hand AtPoll ∷ [])) in
+    running_frames t w g.steps ∙ ((λ i. (view (h.waits.goes.subject i).limits (seen i)).frames) ∙ frames_back l (f ++ Hand AtPoll ∷ [])) in
     omega (arith, ap length frames, frames_handed l f AtPoll, ap length same)
 
 unfit : (n : ℕ) (e : TiError) (old new : AnyThread) (told : TurnOutcome) → HasAtMost n old → IsUnfit e old new told → HasAtMost n new
@@ -240,7 +240,7 @@ again (Safe s) m n e k = (subst (λ (i : ℕ). LeavesAtMost i s.view) (sym e) k,
 again (Ended s) m n e k = (tt, omega arith)
 
 pub turns_counted : TurnsAreCounted
-turns_counted what old new told k w h = again new.thread new.given (given_by old) h.1 (takes what (given_by old) old.thread new.thread told k w h.0)
+turns_counted what old new told k w h = again new.thread new.pops.given (given_by old) h.1 (takes what (given_by old) old.thread new.thread told k w h.0)
 
 -- a thread that has not started has made no entry, so it has no frames
 pub new_counted : NewIsCounted

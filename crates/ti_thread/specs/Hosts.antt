@@ -13,6 +13,7 @@ use Rattle.ti_thread.specs.declared.any_thread.AnyThread.TheVariants.{Fresh, Run
 use Rattle.ti_thread.specs.declared.any_thread.TurnOutcome.{TurnOutcome}
 use Rattle.ti_thread.specs.declared.any_thread.TurnOutcome.TheVariants.{Done, Held, Popped, Refused}
 use Rattle.ti_thread.specs.declared.host_thread.HostThread.{HostThread}
+use Rattle.ti_thread.specs.declared.host_thread.Pops.{Pops}
 use Rattle.ti_thread.specs.declared.turn.Turn.{Turn}
 use Rattle.ti_thread.specs.declared.turn.Turn.TheVariants as turn
 
@@ -39,20 +40,24 @@ CountsFrames (Fresh s) counted = counted ≡ Err NotRunning
 CountsFrames (Safe s) counted = counted ≡ Err NotRunning
 CountsFrames (Ended s) counted = counted ≡ Err NotRunning
 
+-- a thread with these pops
+abbrev pub host_of : AnyThread → Pops → HostThread
+host_of t p = record { thread = t; pops = p }
+
 -- a thread that has not started
 abbrev pub new_host : Sitting → HostThread
-new_host s = record { thread = Fresh s; given = 0; popped = 0 }
+new_host s = record { thread = Fresh s; pops = record { given = 0; popped = 0 } }
 
 -- the same with another thread, or with another number of pops
 abbrev pub with_thread : HostThread → AnyThread → HostThread
-with_thread h t = record { thread = t; given = h.given; popped = h.popped }
+with_thread h t = record { thread = t; pops = h.pops }
 
 abbrev pub with_popped : HostThread → ℕ → HostThread
-with_popped h n = record { thread = h.thread; given = h.given; popped = n }
+with_popped h n = record { thread = h.thread; pops = record { given = h.pops.given; popped = n } }
 
 -- how many frames it hands over, or handed over
 abbrev pub given_by : HostThread → ℕ
-given_by h = count_or h.thread h.given
+given_by h = count_or h.thread h.pops.given
 
 -- how many of these did not come back. None is missing while they are away
 abbrev pub missing : HostThread → AnyThread → ℕ
@@ -64,7 +69,7 @@ pops_and popped more = min (popped + more) (2 ^ 64 - 1)
 
 -- The thread takes its turn, and the frames that are missing then are counted as popped
 abbrev pub TakesTurn : Turn → HostThread → HostThread → TurnOutcome → Type 0
-TakesTurn turn old new told = Takes turn old.thread new.thread told × (new.given ≡ given_by old) × (new.popped ≡ pops_and old.popped (missing old new.thread))
+TakesTurn turn old new told = Takes turn old.thread new.thread told × (new.pops.given ≡ given_by old) × (new.pops.popped ≡ pops_and old.pops.popped (missing old new.thread))
 
 -- a call of the thread alone, which says nothing of pops
 abbrev pub Keeps : (AnyThread → AnyThread → TurnOutcome → Type 0) → HostThread → HostThread → TurnOutcome → Type 0
@@ -72,11 +77,11 @@ Keeps R old new told = (new ≡ with_thread old new.thread) × R old.thread new.
 
 -- all frames are set, if the runtime has taken note of each pop
 abbrev pub SetsNoted : List Frame → HostThread → HostThread → TurnOutcome → Type 0
-SetsNoted frames old new told = Keeps (SetsFrames frames) old new told × (is_running old.thread ≡ true → old.popped ≡ 0)
+SetsNoted frames old new told = Keeps (SetsFrames frames) old new told × (is_running old.thread ≡ true → old.pops.popped ≡ 0)
 
 -- otherwise nothing changes
 abbrev pub SetsUnlessPopped : List Frame → HostThread → HostThread → TurnOutcome → Type 0
-SetsUnlessPopped frames old new Popped = (new ≡ old) × (is_running old.thread ≡ true) × (0 < old.popped)
+SetsUnlessPopped frames old new Popped = (new ≡ old) × (is_running old.thread ≡ true) × (0 < old.pops.popped)
 SetsUnlessPopped frames old new Done = SetsNoted frames old new Done
 SetsUnlessPopped frames old new Held = SetsNoted frames old new Held
 SetsUnlessPopped frames old new (Refused e) = SetsNoted frames old new (Refused e)

@@ -37,6 +37,12 @@ use ti_types::{Frame, Step, TiError};
 #[derive(Drop)]
 pub struct HostThread {
     pub thread: AnyThread,
+    pub pops: Pops,
+}
+
+/// How many frames a thread gave away, and did not get back.
+#[derive(Clone, Copy, Drop)]
+pub struct Pops {
     /// How many frames the thread had when it last handed over.
     pub given: usize,
     /// How many frames were popped since the runtime last took note. It stays at the largest number if there are more.
@@ -50,9 +56,18 @@ impl HostThread {
     {
         HostThread {
             thread: AnyThread::Fresh(fresh),
-            given: 0,
-            popped: 0,
+            pops: Pops {
+                given: 0,
+                popped: 0,
+            },
         }
+    }
+
+    /// This thread, with these pops.
+    pub fn of(thread: AnyThread, pops: Pops) -> HostThread
+        ensures { result ≡ host_of thread pops }
+    {
+        HostThread { thread, pops }
     }
 
     /// How many frames the thread has (JVM TI 11, GetFrameCount). It takes no hold.
@@ -74,11 +89,11 @@ impl HostThread {
     /// Pops at a thread that is in native code, blocked or held are told once it has returned. Those at a thread that ends
     /// before it has returned cannot be: it cannot end.
     pub fn take_pops(&mut self) -> usize
-        ensures popped { result ≡ self.old.popped }
+        ensures popped { result ≡ self.old.pops.popped }
         ensures noted { self.new ≡ with_popped self.old 0 }
     {
-        let popped = self.popped;
-        self.popped = 0;
+        let popped = self.pops.popped;
+        self.pops.popped = 0;
         popped
     }
 
@@ -88,20 +103,13 @@ impl HostThread {
     pub fn take_turn(self, turn: Turn) -> (HostThread, TurnOutcome)
         ensures { TakesTurn turn self result.0 result.1 }
     {
-        let HostThread {
-            thread,
-            given,
-            popped,
-        } = self;
-        let given = thread.frames_or(given);
+        let HostThread { thread, pops } = self;
+        let given = thread.frames_or(pops.given);
         let (thread, told) = thread.take_turn(turn);
         let missing = given.saturating_sub(thread.frames_or(given));
-        let host = HostThread {
-            thread,
-            given,
-            popped: popped.saturating_add(missing),
-        };
-        (host, told)
+        let popped = pops.popped.saturating_add(missing);
+        let pops = Pops { given, popped };
+        (HostThread::of(thread, pops), told)
     }
 
     /// Makes a step on the thread's own frames, as they are, popped or not. It takes no hold.
@@ -126,7 +134,7 @@ impl HostThread {
     pub fn set_frames(&mut self, frames: &[Frame]) -> TurnOutcome
         ensures { SetsUnlessPopped frames.now self.old self.new result }
     {
-        if self.popped != 0 && self.thread.is_running() {
+        if self.pops.popped != 0 && self.thread.is_running() {
             return TurnOutcome::Popped;
         }
         self.thread.set_frames(frames)
@@ -142,4 +150,4 @@ impl HostThread {
 
 ghost use Rattle.std.specs.Prelude.{◌≡◌};
 ghost use Rattle.ti_thread.specs.Changes.{LooksFor, Steps};
-ghost use Rattle.ti_thread.specs.Hosts.{CountsFrames, Keeps, SetsUnlessPopped, TakesTurn, new_host, with_popped, with_thread};
+ghost use Rattle.ti_thread.specs.Hosts.{CountsFrames, Keeps, SetsUnlessPopped, TakesTurn, host_of, new_host, with_popped, with_thread};

@@ -18,5 +18,5 @@ mod turn;
 mod turns;
 
 pub use any_thread::{AnyThread, TurnOutcome};
-pub use host_thread::HostThread;
+pub use host_thread::{HostThread, Pops};
 pub use turn::Turn;
