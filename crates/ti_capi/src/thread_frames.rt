@@ -25,6 +25,13 @@ fn read_frames(frames: &[CqFrame], into: &mut Vec<Frame>) -> Result<bool, TiErro
     Ok(true)
 }
 
+/// Whether the thread runs.
+fn runs(host: &HostThread) -> bool
+    ensures { result ≡ is_running host.now.thread }
+{
+    host.thread.is_running()
+}
+
 /// Replaces all frames of the thread of a box.
 fn set_frames(held: &mut HeldThread, frames: &[CqFrame]) -> u32
     ensures { SetsIn frames.now held.old held.new result }
@@ -32,7 +39,7 @@ fn set_frames(held: &mut HeldThread, frames: &[CqFrame]) -> u32
     let Some(host) = &mut held.thread else {
         return CQ_MISUSED;
     };
-    if !host.thread.is_running() {
+    if !runs(host) {
         return TiError::NotRunning.number();
     }
     match read_frames(frames, &mut held.frames) {
@@ -103,5 +110,6 @@ pub extern "C" fn cq_detach_thread(alloc: Global, thread: &mut CqThread) -> u32
 
 ghost use Rattle.std.specs.Prelude.{◌≡◌, true, map, IfOk, IfErr};
 ghost use Rattle.ti_types.specs.declared.error.TiError.TheVariants.{OutOfMemory};
+ghost use Rattle.ti_thread.specs.AnyThread.{is_running};
 ghost use Rattle.ti_capi.specs.Frames.{Detaches, GivesBack, Sets, SetsIn};
 ghost use Rattle.ti_capi.specs.Values.{are_frames, frame_of};
