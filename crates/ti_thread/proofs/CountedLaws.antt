@@ -3,7 +3,7 @@ use Rattle.std.proofs.Common.{◌≡◌, ℕ, ◌≤◌, ◌⊎◌, inl, inr, Li
 use Rattle.std.proofs.lemmas.List.{append_cancel_right}
 use Rattle.ti_types.specs.declared.error.TiError.{TiError}
 use Rattle.ti_types.specs.declared.entry.Entry.{Entry}
-use Rattle.ti_types.specs.declared.entry.Entry.TheVariants.{Start, Own, Hand, Back, End}
+use Rattle.ti_types.specs.declared.entry.Entry.TheVariants.{Start, Own, Hand, Back}
 use Rattle.ti_types.specs.declared.error.TiError.TheVariants.{Busy, NotNew, NotRunning, NotSafe}
 use Rattle.ti_types.specs.declared.state.Safe.{Safe as Manner}
 use Rattle.ti_types.specs.declared.state.Safe.TheVariants.{Native as IntoNative, Blocked as IntoBlocked, AtPoll}
@@ -15,12 +15,12 @@ use Rattle.ti_replay.proofs.AloneLaws.{left_alone, made-append}
 use Rattle.ti_cell.specs.Seats.{Sitting}
 use Rattle.ti_cell.specs.declared.view.View.{View}
 use Rattle.ti_handshake.specs.Call.{Holds, found}
-use Rattle.ti_handshake.specs.Polls.{IsClear, HasGone, HasStayed}
-use Rattle.ti_handshake.specs.Thread.{IsRunning, Runner, logged, with_view}
+use Rattle.ti_handshake.specs.Polls.{IsClear, HasGone}
+use Rattle.ti_handshake.specs.Thread.{IsRunning, Runner, logged}
 use Rattle.ti_handshake.specs.Tries.{StaysBarred, RunsOn}
-use Rattle.ti_thread.specs.Hosts.{Takes, TakesTurn, count_or, given_by}
-use Rattle.ti_thread.specs.Laws.{HasAtMost, IsCounted, IsWell, LeavesAtMost, NewIsCounted, TurnsAreCounted}
-use Rattle.ti_thread.specs.Turns.{Ends, EndsFrom, HandsOver, HandsOverFrom, IsUnfit, Polls, PollsFrom, Returns, ReturnsFrom, Starts, StartsFrom}
+use Rattle.ti_thread.specs.Hosts.{Takes, count_or, given_by}
+use Rattle.ti_thread.specs.Laws.{HasAtMost, IsWell, LeavesAtMost, NewIsCounted, TurnsAreCounted}
+use Rattle.ti_thread.specs.Turns.{EndsFrom, HandsOverFrom, IsUnfit, PollsFrom, ReturnsFrom, StartsFrom}
 use Rattle.ti_thread.specs.declared.any_thread.AnyThread.{AnyThread}
 use Rattle.ti_thread.specs.declared.any_thread.AnyThread.TheVariants.{Fresh, Running, Safe, Ended}
 use Rattle.ti_thread.specs.declared.any_thread.TurnOutcome.{TurnOutcome}

@@ -86,8 +86,7 @@ impl HostThread {
 
     /// How many frames were popped since the runtime last took note. It takes note of these now.
     ///
-    /// Pops at a thread that is in native code, blocked or held are told once it has returned. Those at a thread that ends
-    /// before it has returned cannot be: it cannot end.
+    /// Pops at a thread that is in native code, blocked or held are told once it has returned.
     pub fn take_pops(&mut self) -> usize
         ensures popped { result ≡ self.old.pops.popped }
         ensures noted { self.new ≡ with_popped self.old 0 }
