@@ -142,8 +142,10 @@ enum {
     CQ_HELD = 301,                    /* the thread is held at its poll, and returns by cq_back */
     CQ_WAITING = 302,                 /* the call waits for the thread: collect its answer later */
     CQ_NONE = 303,                    /* there is no event to be told, or no trace */
-    CQ_MISUSED = 304                  /* the handle is empty, of another kind, or full when an empty one is wanted. Or the
+    CQ_MISUSED = 304,                 /* the handle is empty, of another kind, or full when an empty one is wanted. Or the
                                          environment gathers a trace, or has none to go on with */
+    CQ_POPPED = 305                   /* all frames are to be set, and frames were popped that the runtime has not taken note
+                                         of (cq_take_pops) */
 };
 
 /* Bits of GetThreadState (JVM TI 11). */
@@ -310,19 +312,38 @@ uint32_t cq_leave(cq_thread *thread) CQ_MUST_USE;
 /* Replaces all frames of the thread by these `count` frames, newest first. It is for a runtime that keeps a stack of its own,
  * and gives it only before the thread hands over. It costs a step for each frame that differs, and a look at each that stays.
  *
+ * After a pop it is refused until the runtime has taken note by cq_take_pops: the whole stack would undo the pop.
+ *
  *   CQ_NOT_RUNNING 204       the thread does not run
  *   CQ_OUT_OF_MEMORY 110     there is no memory to read the frames
  *   CQ_ILLEGAL_ARGUMENT 103  a location is below -1 or above 2^32 - 1
+ *   CQ_POPPED 305            frames were popped, and cq_take_pops has not told them
  *   CQ_OVERFLOW 201          there are more frames than the service's depth
  *   CQ_OWN_SPENT 208         the thread has spent its 2^59 steps */
 uint32_t cq_set_frames(cq_thread *thread, const cq_frame *frames, size_t count) CQ_MUST_USE;
+
+/* Writes to `count` how many frames the thread has, 0 to the service's depth.
+ *
+ *   CQ_NOT_RUNNING 204  the thread does not run */
+uint32_t cq_frame_count(cq_thread *thread, uint64_t *count) CQ_MUST_USE;
+
+/* Writes to `count` how many frames were popped by cq_pop_frame since the last cq_take_pops, and takes note of them: from now on
+ * they no longer count. It is 0 if none was popped. It works in each state of the thread.
+ *
+ * A runtime that keeps a stack of its own calls it each time cq_poll or cq_back, or its namesake in cebdyraq_wait.h, has
+ * returned CQ_OK. It takes as many frames off the top of its stack, and goes on as PopFrame says: in the frame that is the newest
+ * then, before the call that it had made. Only then does it give its stack again.
+ *
+ * Pops at a thread that is native, blocked or held count once it has returned. cq_enter, cq_at and cq_leave change the frames as
+ * they are, without those that were popped. They are not refused, and change nothing of what is told here. */
+uint32_t cq_take_pops(cq_thread *thread, uint64_t *count) CQ_MUST_USE;
 
 /* Whether nobody calls for the thread (JEP 312). It is one load. It is also true of a thread that does not run, and of a
  * handle that is misused. */
 bool cq_poll_clear(cq_thread *thread);
 
 /* Polls. If nobody calls for the thread, nothing happens. Otherwise the thread hands its frames over, and the calls that wait
- * for it take place. With CQ_OK it runs on.
+ * for it take place. With CQ_OK it runs on, perhaps with fewer frames (cq_take_pops).
  *
  *   CQ_HELD 301         the thread has handed over and is suspended or stopped. It returns by cq_back
  *   CQ_NOT_RUNNING 204  the thread does not run
@@ -346,7 +367,8 @@ uint32_t cq_native(cq_thread *thread) CQ_MUST_USE;
  *   CQ_OWN_SPENT 208         the thread has spent its 2^59 steps */
 uint32_t cq_block(cq_thread *thread, uint32_t reason) CQ_MUST_USE;
 
-/* Returns from native code, a block, or a poll at which the thread was held. The thread runs.
+/* Returns from native code, a block, or a poll at which the thread was held. The thread runs, perhaps with fewer frames
+ * (cq_take_pops).
  *
  *   CQ_NOT_SAFE 205  the thread is none of these
  *   CQ_BARRED 206    the thread is suspended or stopped: call again later
@@ -482,7 +504,8 @@ uint32_t cq_suspend_thread(cq_env *env, uint32_t thread, cq_answer *answer) CQ_M
  *   CQ_THREAD_NOT_SUSPENDED 13  the thread is not suspended */
 uint32_t cq_resume_thread(cq_env *env, uint32_t thread, cq_answer *answer) CQ_MUST_USE;
 
-/* PopFrame, with CQ_CAN_POP_FRAME. The newest frame goes, and its caller is the newest one, at the location where it was.
+/* PopFrame, with CQ_CAN_POP_FRAME. The newest frame goes, and its caller is the newest one, at the location where it was. The
+ * runtime is told when the thread runs again (cq_take_pops).
  *
  *   CQ_THREAD_NOT_ALIVE 15      the thread has not started, or has ended
  *   CQ_THREAD_NOT_SUSPENDED 13  the thread is not suspended

@@ -58,7 +58,8 @@ enum class code : std::uint32_t {
     held = CQ_HELD,
     waiting = CQ_WAITING,
     none = CQ_NONE,
-    misused = CQ_MISUSED
+    misused = CQ_MISUSED,
+    popped = CQ_POPPED
 };
 
 enum class reason : std::uint32_t {
@@ -236,6 +237,16 @@ public:
     void set_frames(const std::vector<frame> &frames) {
         const frame none{};
         check(cq_set_frames(get(), frames.empty() ? &none : frames.data(), frames.size()));
+    }
+    std::uint64_t frame_count() const {
+        std::uint64_t count = 0;
+        check(cq_frame_count(get(), &count));
+        return count;
+    }
+    std::uint64_t take_pops() {
+        std::uint64_t count = 0;
+        check(cq_take_pops(get(), &count));
+        return count;
     }
 
     bool poll_clear() const { return cq_poll_clear(get()); }

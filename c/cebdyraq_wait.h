@@ -62,7 +62,7 @@ uint32_t cq_wait_attach_environment(cq_service *service, cq_signal *signal, cq_e
 uint32_t cq_wait_start(cq_thread *thread, cq_signal *signal, int64_t timeout_ns) CQ_MUST_USE;
 
 /* A safe point. It returns at once if nobody calls for the thread (cq_poll_clear). Otherwise the thread polls, and sleeps while
- * it is suspended or stopped. With CQ_OK it runs on.
+ * it is suspended or stopped. With CQ_OK it runs on, perhaps with fewer frames (cq_take_pops).
  *
  * It is also CQ_OK for a thread that does not run and for a handle that is misused: nobody calls for those. */
 uint32_t cq_wait_poll(cq_thread *thread, cq_signal *signal) CQ_MUST_USE;
@@ -75,7 +75,8 @@ uint32_t cq_wait_native(cq_thread *thread, cq_signal *signal) CQ_MUST_USE;
  * CQ_OWN_SPENT 208. */
 uint32_t cq_wait_block(cq_thread *thread, cq_signal *signal, uint32_t reason) CQ_MUST_USE;
 
-/* cq_back. It sleeps while the thread is suspended or stopped. After CQ_TIMED_OUT 214 the thread has not returned.
+/* cq_back. It sleeps while the thread is suspended or stopped. With CQ_OK the thread runs, perhaps with fewer frames
+ * (cq_take_pops). After CQ_TIMED_OUT 214 it has not returned.
  * CQ_NOT_SAFE 205. */
 uint32_t cq_wait_back(cq_thread *thread, cq_signal *signal, int64_t timeout_ns) CQ_MUST_USE;
 

@@ -17,6 +17,7 @@ static pthread_t id;
 static uint32_t phase;    /* 0: it polls, 1: it is in native code, 2: it ends */
 static uint32_t reached;
 static uint32_t failures;
+static uint64_t popped;    /* how many pops the runtime was told of */
 
 static void expect(uint32_t code) {
     if (code != CQ_OK) {
@@ -27,6 +28,12 @@ static void expect(uint32_t code) {
 static void reach(uint32_t where) { __atomic_store_n(&reached, where, __ATOMIC_SEQ_CST); }
 static uint32_t wanted(void) { return __atomic_load_n(&phase, __ATOMIC_SEQ_CST); }
 
+static void note_pops(void) {
+    uint64_t count = 0;
+    expect(cq_take_pops(&thread, &count));
+    __atomic_fetch_add(&popped, count, __ATOMIC_SEQ_CST);
+}
+
 static void *body(void *unused) {
     expect(cq_wait_start(&thread, &signal_of_all, -1));
     expect(cq_enter(&thread, 1));
@@ -35,6 +42,7 @@ static void *body(void *unused) {
     reach(1);
     while (wanted() == 0) {
         expect(cq_wait_poll(&thread, &signal_of_all));
+        note_pops();
         sched_yield();
     }
     expect(cq_enter_native(&thread, 3));
@@ -76,6 +84,8 @@ static void define_classes(void) {
     expect(cq_define_class_strings(&service, "many", NULL, many, MANY, &class_no, &first));
 }
 
+uint64_t runtime_pops(void) { return __atomic_load_n(&popped, __ATOMIC_SEQ_CST); }
+
 void runtime_begin(void) {
     static const uint8_t name[] = "m\xC3\xA4in";
     expect(cq_make(16, 2, 4, &service));
@@ -83,6 +93,7 @@ void runtime_begin(void) {
     define_classes();
     expect(cq_wait_attach_thread(&service, &signal_of_all, name, 5, 7, &thread));
     __atomic_store_n(&phase, 0, __ATOMIC_SEQ_CST);
+    __atomic_store_n(&popped, 0, __ATOMIC_SEQ_CST);
     reach(0);
     if (pthread_create(&id, NULL, body, NULL) != 0) {
         expect(CQ_MISUSED);

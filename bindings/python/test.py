@@ -45,6 +45,7 @@ class WithRuntime(unittest.TestCase):
         library.runtime_service.restype = ctypes.c_void_p
         library.runtime_signal.restype = ctypes.c_void_p
         library.runtime_end.restype = ctypes.c_uint32
+        library.runtime_pops.restype = ctypes.c_uint64
         library.runtime_begin()
         self.env = self.attach()
         self.env.meet()
@@ -162,6 +163,9 @@ class WithRuntime(unittest.TestCase):
         self.assert_code(Code.THREAD_NOT_SUSPENDED, env.resume_thread, thread)
         env.suspend_thread(thread, timeout=60)
         env.resume_thread(thread)
+        self.library.runtime_go_native()
+        self.assertEqual(self.library.runtime_pops(), 1)
+        self.assertEqual(env.get_stack_trace(thread), [Frame(3, -1), Frame(1, 10)])
         env.relinquish_capabilities(Capability.POP_FRAME)
         self.assertEqual(env.get_capabilities(), Capability.SUSPEND)
         self.assert_code(Code.NOT_AVAILABLE, env.add_capabilities, 4)

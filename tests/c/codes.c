@@ -22,10 +22,22 @@ static void hold(world *w) {
     OK(cq_collect(&w->env, &answer.ticket, &answer, &none, 0));
 }
 
+static void pop_one(world *w) {
+    cq_answer answer;
+    OK(cq_enter(&w->thread, 1));
+    OK(cq_enter(&w->thread, 2));
+    OK(cq_block(&w->thread, CQ_PARK));
+    OK(cq_suspend_thread(&w->env, 0, &answer));
+    OK(cq_pop_frame(&w->env, 0, &answer));
+    OK(cq_resume_thread(&w->env, 0, &answer));
+    OK(cq_back(&w->thread));
+}
+
 static void run_to(world *w, stage at) {
     OK(cq_start(&w->thread));
     if (at == IN_METHOD || at == FULL_STACK || at == HELD || at == HELD_IN_NATIVE) OK(cq_enter(&w->thread, 1));
     if (at == FULL_STACK) OK(cq_enter(&w->thread, 2));
+    if (at == POPPED) pop_one(w);
     if (at == IN_NATIVE || at == NATIVE || at == HELD_IN_NATIVE) OK(cq_enter_native(&w->thread, 3));
     if (at == NATIVE) OK(cq_native(&w->thread));
     if (at == HELD || at == HELD_IN_NATIVE) hold(w);

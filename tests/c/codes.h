@@ -22,6 +22,7 @@ typedef enum {
     IN_METHOD,      /* it runs in one method */
     IN_NATIVE,      /* it runs in a native method */
     FULL_STACK,     /* it runs in two methods */
+    POPPED,         /* it runs in one method, and one was popped */
     NATIVE,         /* it is in native code */
     HELD,           /* it is suspended, and was held at a poll in one method */
     HELD_IN_NATIVE, /* the same, in a native method that a method has called */

@@ -77,6 +77,8 @@ ON_THREAD(enter_native, cq_enter_native(h, 9))
 ON_THREAD(at, cq_at(h, 9))
 ON_THREAD(leave, cq_leave(h))
 ON_THREAD(set_frames, cq_set_frames(h, THREE, 2))
+ON_THREAD(frame_count, cq_frame_count(h, &out.word))
+MISUSED_THREAD(take_pops, cq_take_pops(h, &out.word))
 ON_THREAD(poll, cq_poll(h))
 ON_THREAD(native, cq_native(h))
 ON_THREAD(block, cq_block(h, CQ_PARK))
@@ -115,6 +117,9 @@ const row THREAD_ROWS[] = {
     { "cq_set_frames", CQ_ILLEGAL_ARGUMENT, IN_METHOD, set_high },
     { "cq_set_frames", CQ_ILLEGAL_ARGUMENT, IN_METHOD, set_low_and_many },
     { "cq_set_frames", CQ_NOT_RUNNING, HELD, set_low },
+    MISUSES(frame_count), NOT_RUNNING("cq_frame_count", frame_count), MISUSES(take_pops),
+    { "cq_set_frames", CQ_POPPED, POPPED, set_frames }, { "cq_set_frames", CQ_POPPED, POPPED, set_three },
+    { "cq_set_frames", CQ_ILLEGAL_ARGUMENT, POPPED, set_low },
     MISUSES(poll_clear), MISUSES(poll), NOT_RUNNING("cq_poll", poll),
     MISUSES(native), NOT_RUNNING("cq_native", native), { "cq_native", CQ_NO_NATIVE_FRAME, RUNS, native },
     { "cq_native", CQ_NO_NATIVE_FRAME, IN_METHOD, native },

@@ -118,6 +118,14 @@ static void thread_number(void) {
     agree("a thread's number", real, model);
 }
 
+#define COUNT_AT_THREAD(name) \
+    static void name(void) { \
+        slot *s = pick_thread(); \
+        uint64_t real = 77, model = 77; \
+        BOTH(name, (&s->real.thread, &real), (&s->model.thread, &model)); \
+        agree("what cq_" #name " writes", real, model); \
+    }
+
 #define AT_THREAD(name) \
     static void name(void) { \
         slot *s = pick_thread(); \
@@ -131,6 +139,8 @@ static void thread_number(void) {
         BOTH(name, (&s->real.thread, number), (&s->model.thread, number)); \
     }
 
+COUNT_AT_THREAD(frame_count)
+COUNT_AT_THREAD(take_pops)
 AT_THREAD(start)
 AT_THREAD(leave)
 AT_THREAD(poll)
@@ -436,7 +446,7 @@ typedef struct { uint32_t weight; void (*make)(void); } weighted;
 
 static const weighted CALLS[] = {
     { 1, make }, { 2, share }, { 1, free_handle }, { 3, attach_thread }, { 3, attach_environment },
-    { 1, thread_number }, { 4, start }, { 14, enter }, { 6, enter_native }, { 6, at }, { 4, leave }, { 8, set_frames },
+    { 1, thread_number }, { 4, start }, { 14, enter }, { 6, enter_native }, { 6, at }, { 4, leave }, { 8, set_frames }, { 2, frame_count }, { 4, take_pops },
     { 4, poll_clear }, { 16, poll }, { 5, native }, { 4, block }, { 14, back }, { 2, end }, { 2, detach_thread },
     { 6, meet }, { 3, has_news }, { 3, let_go }, { 2, get_all_threads }, { 2, get_thread_info },
     { 5, get_thread_state }, { 6, get_frame_count }, { 6, get_frame_location }, { 10, get_stack_trace },

@@ -163,11 +163,28 @@ uint32_t model_set_frames(cq_thread *thread, const cq_frame *frames, size_t coun
     for (size_t i = 0; i < count; i++) {
         if (frames[i].location < -1 || frames[i].location > UINT32_MAX) return CQ_ILLEGAL_ARGUMENT;
     }
+    if (t->popped > 0) return CQ_POPPED;
     if (count > t->service->depth) return CQ_OVERFLOW;
     for (size_t i = 0; i < count; i++) {
         t->frames[count - 1 - i] = frames[i];
     }
     t->count = count;
+    return CQ_OK;
+}
+
+uint32_t model_frame_count(cq_thread *thread, uint64_t *count) {
+    m_thread *t = thread_of(thread);
+    if (t == NULL) return CQ_MISUSED;
+    if (t->mode != RUNNING) return CQ_NOT_RUNNING;
+    *count = t->count;
+    return CQ_OK;
+}
+
+uint32_t model_take_pops(cq_thread *thread, uint64_t *count) {
+    m_thread *t = thread_of(thread);
+    if (t == NULL) return CQ_MISUSED;
+    *count = t->popped;
+    t->popped = 0;
     return CQ_OK;
 }
 
@@ -184,6 +201,12 @@ static void become_safe(m_thread *t, uint32_t bits) {
     hand_over(t);
 }
 
+static void run_on(m_thread *t) {
+    t->mode = RUNNING;
+    t->popped += t->popped_away;
+    t->popped_away = 0;
+}
+
 uint32_t model_poll(cq_thread *thread) {
     m_thread *t = thread_of(thread);
     if (t == NULL) return CQ_MISUSED;
@@ -191,7 +214,7 @@ uint32_t model_poll(cq_thread *thread) {
     if (!is_called_for(t)) return CQ_OK;
     become_safe(t, CQ_STATE_ALIVE | CQ_STATE_RUNNABLE);
     if (is_barred(t)) return CQ_HELD;
-    t->mode = RUNNING;
+    run_on(t);
     return CQ_OK;
 }
 
@@ -220,7 +243,7 @@ uint32_t model_back(cq_thread *thread) {
     if (t == NULL) return CQ_MISUSED;
     if (t->mode != SAFE) return CQ_NOT_SAFE;
     if (is_barred(t)) return CQ_BARRED;
-    t->mode = RUNNING;
+    run_on(t);
     return CQ_OK;
 }
 

@@ -42,6 +42,7 @@ static uint32_t pop(m_thread *t) {
     if (t->count < 2) return CQ_NO_MORE_FRAMES;
     if (from_newest(t, 0).location == -1 || from_newest(t, 1).location == -1) return CQ_OPAQUE_FRAME;
     t->count--;
+    t->popped_away++;
     return CQ_OK;
 }
 

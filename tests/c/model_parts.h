@@ -43,6 +43,8 @@ typedef struct {
     uint32_t stopped_by;  /* the place of the environment whose trace has stopped it, or NOBODY */
     cq_frame *frames;     /* the oldest first */
     size_t count;
+    uint64_t popped;      /* frames that were popped and not told */
+    uint64_t popped_away; /* the same since it handed over */
     posted *calls;        /* those that are out, in the order of posting */
     uint64_t given_up;
     uint64_t posts[ENVS];

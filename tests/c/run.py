@@ -47,6 +47,7 @@ PROGRAMS = [
     Program("life", ["life.c"], COUNTED_HEAP),
     Program("codes", CODES, COUNTED_HEAP),
     Program("classes", CLASSES, COUNTED_HEAP + STRINGS, wait=[]),
+    Program("pops", ["pops.c", "pops_unwound.c"], COUNTED_HEAP),
     Program("gather", ["gather.c"], COUNTED_HEAP),
     Program("wait", ["wait.c", "wait_any.c", "wait_resumed.c", "wait_window.c"], HEAP),
     Program("gather_waits", ["gather_waits.c"], HEAP, {VALGRIND: ["100"]}),

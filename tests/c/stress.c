@@ -26,10 +26,12 @@ static cq_frame any_frame(worker *w) {
 
 static void set_frames(worker *w) {
     cq_frame frames[DEPTH];
+    uint64_t popped;
     uint32_t count = roll(&w->dice, DEPTH + 1);
     for (uint32_t i = 0; i < count; i++) {
         frames[i] = any_frame(w);
     }
+    OK(cq_take_pops(&w->thread, &popped));
     OK(cq_set_frames(&w->thread, frames, count));
 }
 

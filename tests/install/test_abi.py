@@ -10,7 +10,7 @@ from installed import new_folder, wants
 # A change of a header, what becomes of it there, and whether programs that were compiled before are harmed.
 CHANGES = (
     ("a function goes", "uint32_t cq_free(cq_service *service);\n", "", True),
-    ("a parameter grows", "uint32_t cq_enter(cq_thread *thread, uint32_t method)", "uint32_t cq_enter(cq_thread *thread, uint64_t method)", True),
+    ("a parameter grows", "cq_enter(cq_thread *thread, uint32_t method)", "cq_enter(cq_thread *thread, uint64_t method)", True),
     ("a struct grows", "uint64_t lost; } cq_event;", "uint64_t lost; uint64_t more; } cq_event;", True),
     ("a handle grows", "void *at; } cq_env;", "void *at; void *more; } cq_env;", True),
     ("a function comes", "bool cq_poll_clear(", "bool cq_comes(cq_thread *thread);\nbool cq_poll_clear(", False),

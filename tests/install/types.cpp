@@ -126,6 +126,31 @@ void test_suspensions() {
     EXPECT(env.get_capabilities() == CQ_CAN_SUSPEND);
 }
 
+void test_pops() {
+    cebdyraq::service service(8, 1, 4);
+    auto thread = service.attach_thread("", 5);
+    auto env = service.attach_environment();
+    thread.start();
+    thread.set_frames({{3, 30}, {2, 20}, {1, 10}});
+    env.meet();
+    env.add_capabilities(CQ_CAN_SUSPEND | CQ_CAN_POP_FRAME);
+    {
+        auto away = thread.block(cebdyraq::reason::sleep);
+        env.suspend_thread(0);
+        env.pop_frame(0);
+        env.pop_frame(0);
+        EXPECT(same(env.get_stack_trace(0, 0, 8), {{1, 10}}));
+        env.resume_thread(0);
+        EXPECT(refused([&] { thread.frame_count(); }) == cebdyraq::code::not_running);
+    }
+    EXPECT(refused([&] { thread.set_frames({{3, 30}, {2, 20}, {1, 10}}); }) == cebdyraq::code::popped);
+    EXPECT(thread.frame_count() == 1);
+    EXPECT(thread.take_pops() == 2);
+    EXPECT(thread.take_pops() == 0);
+    thread.set_frames({{2, 0}, {1, 10}});
+    EXPECT(thread.frame_count() == 2);
+}
+
 void test_words_and_events() {
     cebdyraq::service service(8, 2, 4);
     auto env = service.attach_environment();
@@ -201,6 +226,7 @@ int main() {
     test_stacks();
     test_blocks();
     test_suspensions();
+    test_pops();
     test_words_and_events();
     test_lives();
     test_classes();

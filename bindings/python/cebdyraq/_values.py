@@ -41,6 +41,7 @@ class Code(enum.IntEnum):
     WAITING = 302
     NONE = 303
     MISUSED = 304
+    POPPED = 305
 
 
 class Capability(enum.IntFlag):

@@ -5,8 +5,8 @@ use Rattle.ti_types.specs.declared.error.TiError.{TiError}
 use Rattle.ti_types.specs.declared.error.TiError.TheVariants.{Busy, IllegalArgument, NotRunning, OutOfMemory}
 use Rattle.ti_service.specs.Service.{Ends, RefusesEnd}
 use Rattle.ti_thread.specs.AnyThread.{is_running, number_in, may_leave}
-use Rattle.ti_thread.specs.Changes.{SetsFrames}
-use Rattle.ti_thread.specs.declared.any_thread.AnyThread.{AnyThread}
+use Rattle.ti_thread.specs.Hosts.{SetsUnlessPopped}
+use Rattle.ti_thread.specs.declared.host_thread.HostThread.{HostThread}
 use Rattle.ti_thread.specs.declared.any_thread.TurnOutcome.{TurnOutcome}
 use Rattle.ti_capi.specs.declared.held.HeldThread.{HeldThread}
 use Rattle.ti_capi.specs.declared.values.CqFrame.{CqFrame}
@@ -15,13 +15,13 @@ use Rattle.ti_capi.specs.Handles.{ThreadHandle, with_held}
 use Rattle.ti_capi.specs.Values.{are_frames, frame_of}
 
 -- The thread of a box has other frames, or why it does not, and is as it was
-pub data SetsFor (frames : List CqFrame) (t n : AnyThread) (code : ℕ) : Type 0 where
-  NotRuns : code ≡ number_of NotRunning → is_running t ≡ false → n ≡ t → SetsFor frames t n code
-  NoFrames : code ≡ number_of IllegalArgument → is_running t ≡ true → are_frames frames ≡ false → n ≡ t → SetsFor frames t n code
-  NoRoom : code ≡ number_of OutOfMemory → is_running t ≡ true → n ≡ t → SetsFor frames t n code
-  FramesSet : (told : TurnOutcome) → are_frames frames ≡ true → SetsFrames (map frame_of frames) t n told → code ≡ code_told told → SetsFor frames t n code
+pub data SetsFor (frames : List CqFrame) (t n : HostThread) (code : ℕ) : Type 0 where
+  NotRuns : code ≡ number_of NotRunning → is_running t.thread ≡ false → n ≡ t → SetsFor frames t n code
+  NoFrames : code ≡ number_of IllegalArgument → is_running t.thread ≡ true → are_frames frames ≡ false → n ≡ t → SetsFor frames t n code
+  NoRoom : code ≡ number_of OutOfMemory → is_running t.thread ≡ true → n ≡ t → SetsFor frames t n code
+  FramesSet : (told : TurnOutcome) → are_frames frames ≡ true → SetsUnlessPopped (map frame_of frames) t n told → code ≡ code_told told → SetsFor frames t n code
 
-abbrev pub SetsTo : Option AnyThread → Option AnyThread → List CqFrame → HeldThread → HeldThread → ℕ → Type 0
+abbrev pub SetsTo : Option HostThread → Option HostThread → List CqFrame → HeldThread → HeldThread → ℕ → Type 0
 SetsTo (Some t) (Some n) frames old new code = (new.service ≡ old.service) × SetsFor frames t n code
 SetsTo (Some t) None frames old new code = ⊥
 SetsTo None n frames old new code = (new ≡ old) × (code ≡ misused)
@@ -39,13 +39,13 @@ abbrev pub Sets : List CqFrame → ThreadHandle → ThreadHandle → ℕ → Typ
 Sets frames old new code = SetsBehind old.place.thread new.place.thread frames old new code
 
 -- A thread is given back, if it has ended or never started (`ti_service`, `Service::end_thread_now`, `withdraw_thread_now`)
-pub data GivesBackFor (t : AnyThread) (old new : HeldThread) (code : ℕ) : Type 0 where
-  Gone : code ≡ 0 → may_leave t ≡ true → new.thread ≡ None → new.service.cell ≡ old.service.cell → Ends old.service.view new.service.view (number_in t) → GivesBackFor t old new code
-  NotGone : (e : TiError) → code ≡ number_of e → may_leave t ≡ true → new.thread ≡ Some t → new.service.cell ≡ old.service.cell
-      → RefusesEnd old.service.view new.service.view (number_in t) e ⊎ ((e ≡ Busy) × (new.service ≡ old.service)) → GivesBackFor t old new code
-  IsAlive : code ≡ misused → may_leave t ≡ false → new ≡ old → GivesBackFor t old new code
+pub data GivesBackFor (t : HostThread) (old new : HeldThread) (code : ℕ) : Type 0 where
+  Gone : code ≡ 0 → may_leave t.thread ≡ true → new.thread ≡ None → new.service.cell ≡ old.service.cell → Ends old.service.view new.service.view (number_in t.thread) → GivesBackFor t old new code
+  NotGone : (e : TiError) → code ≡ number_of e → may_leave t.thread ≡ true → new.thread ≡ Some t → new.service.cell ≡ old.service.cell
+      → RefusesEnd old.service.view new.service.view (number_in t.thread) e ⊎ ((e ≡ Busy) × (new.service ≡ old.service)) → GivesBackFor t old new code
+  IsAlive : code ≡ misused → may_leave t.thread ≡ false → new ≡ old → GivesBackFor t old new code
 
-abbrev pub GivesBackTo : Option AnyThread → HeldThread → HeldThread → ℕ → Type 0
+abbrev pub GivesBackTo : Option HostThread → HeldThread → HeldThread → ℕ → Type 0
 GivesBackTo (Some t) old new code = GivesBackFor t old new code
 GivesBackTo None old new code = (new ≡ old) × (code ≡ misused)
 

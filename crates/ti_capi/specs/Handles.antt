@@ -2,7 +2,7 @@
 use Rattle.std.specs.Prelude.{ℕ, Option, Some, None}
 use Rattle.ti_service.specs.Memberships.{AgentValue, TraceValue}
 use Rattle.ti_service.specs.Service.{Member}
-use Rattle.ti_thread.specs.declared.any_thread.AnyThread.{AnyThread}
+use Rattle.ti_thread.specs.declared.host_thread.HostThread.{HostThread}
 use Rattle.ti_capi.specs.declared.held.HeldThread.{HeldThread}
 use Rattle.ti_capi.specs.declared.held.HeldEnv.{HeldEnv}
 use Rattle.ti_capi.specs.declared.service_at.ServiceAt.{ServiceAt}
@@ -50,5 +50,5 @@ abbrev pub env_held_tracing : HeldEnv → TraceValue → HeldEnv
 env_held_tracing h t = record { agent = h.agent; trace = Some t; stacks = h.stacks }
 
 -- the same thing behind a handle, with another thread
-abbrev pub held_with : HeldThread → AnyThread → HeldThread
+abbrev pub held_with : HeldThread → HostThread → HeldThread
 held_with h t = record { service = h.service; thread = Some t; frames = h.frames }

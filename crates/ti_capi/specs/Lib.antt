@@ -15,6 +15,7 @@ pub mod Disposing
 pub mod Threads
 pub mod Turns
 pub mod Frames
+pub mod Pops
 pub mod Services
 pub mod Resuming
 pub mod Defining

@@ -13,7 +13,7 @@ use Rattle.ti_roster.specs.View.{first_view, split_off, splitter}
 use Rattle.ti_service.specs.Agent.{IsNewAgent}
 use Rattle.ti_service.specs.Memberships.{AgentValue, state_of}
 use Rattle.ti_service.specs.Service.{Attaches as AttachesTo, Looks, Member, RefusesPlace, roster_seen, with_handle}
-use Rattle.ti_thread.specs.declared.any_thread.AnyThread.TheVariants.{Fresh}
+use Rattle.ti_thread.specs.Hosts.{new_host}
 use Rattle.ti_capi.specs.declared.held.HeldEnv.{HeldEnv}
 use Rattle.ti_capi.specs.declared.held.HeldThread.{HeldThread}
 use Rattle.ti_capi.specs.Codes.{misused}
@@ -88,7 +88,7 @@ pub record AttachesThread (name : List ℕ) (priority : ℤ) (m n : Member) (hel
   pub priority_is : info.priority ≡ priority
   pub cell : n.cell ≡ m.cell
   pub attaches : AttachesTo (splitter m.view) n.view info fresh
-  pub thread_is : held.thread ≡ Some (Fresh fresh)
+  pub thread_is : held.thread ≡ Some (new_host fresh)
   pub service_is : held.service.cell ≡ m.cell
 
 -- why the service took no thread, once there was a handle for it

@@ -3,7 +3,8 @@ use Rattle.std.specs.Prelude.{ℕ, ◌≡◌, Bool, true, Option, Some, None}
 use Rattle.ti_types.specs.declared.numbers.MethodNo.{MethodNo}
 use Rattle.ti_thread.specs.AnyThread.{number_in}
 use Rattle.ti_thread.specs.Changes.{LooksFor}
-use Rattle.ti_thread.specs.declared.any_thread.AnyThread.{AnyThread}
+use Rattle.ti_thread.specs.Hosts.{with_thread}
+use Rattle.ti_thread.specs.declared.host_thread.HostThread.{HostThread}
 use Rattle.ti_thread.specs.declared.any_thread.TurnOutcome.{TurnOutcome}
 use Rattle.ti_capi.specs.declared.held.HeldThread.{HeldThread}
 use Rattle.ti_capi.specs.Codes.{code_told, misused}
@@ -13,32 +14,32 @@ abbrev pub method_no : ℕ → MethodNo
 method_no n = record { 0 = n }
 
 -- A call of the thread of a box comes to what this relation says, and to its code. Nothing else of the box changes
-pub record ChangesFor (t n : AnyThread) (R : AnyThread → AnyThread → TurnOutcome → Type 0) (old new : HeldThread) (code : ℕ) : Type 0 where
+pub record ChangesFor (t n : HostThread) (R : HostThread → HostThread → TurnOutcome → Type 0) (old new : HeldThread) (code : ℕ) : Type 0 where
   pub told : TurnOutcome
   pub says : R t n told
   pub code_is : code ≡ code_told told
   pub box : new ≡ held_with old n
 
-abbrev pub ChangesTo : Option AnyThread → Option AnyThread → (AnyThread → AnyThread → TurnOutcome → Type 0) → HeldThread → HeldThread → ℕ → Type 0
+abbrev pub ChangesTo : Option HostThread → Option HostThread → (HostThread → HostThread → TurnOutcome → Type 0) → HeldThread → HeldThread → ℕ → Type 0
 ChangesTo (Some t) (Some n) R old new code = ChangesFor t n R old new code
 ChangesTo (Some t) None R old new code = ⊥
 ChangesTo None n R old new code = (new ≡ old) × (code ≡ misused)
 
-abbrev pub ChangesIn : (AnyThread → AnyThread → TurnOutcome → Type 0) → HeldThread → HeldThread → ℕ → Type 0
+abbrev pub ChangesIn : (HostThread → HostThread → TurnOutcome → Type 0) → HeldThread → HeldThread → ℕ → Type 0
 ChangesIn R old new code = ChangesTo old.thread new.thread R old new code
 
 -- the same behind a handle: if it is empty or of another kind, nothing changes
-abbrev pub ChangesBehind : Option HeldThread → Option HeldThread → (AnyThread → AnyThread → TurnOutcome → Type 0) → ThreadHandle → ThreadHandle → ℕ → Type 0
+abbrev pub ChangesBehind : Option HeldThread → Option HeldThread → (HostThread → HostThread → TurnOutcome → Type 0) → ThreadHandle → ThreadHandle → ℕ → Type 0
 ChangesBehind (Some h) (Some n) R old new code = (new ≡ with_held old n) × ChangesIn R h n code
 ChangesBehind (Some h) None R old new code = ⊥
 ChangesBehind None n R old new code = (new ≡ old) × (code ≡ misused)
 
-abbrev pub Changes : (AnyThread → AnyThread → TurnOutcome → Type 0) → ThreadHandle → ThreadHandle → ℕ → Type 0
+abbrev pub Changes : (HostThread → HostThread → TurnOutcome → Type 0) → ThreadHandle → ThreadHandle → ℕ → Type 0
 Changes R old new code = ChangesBehind old.place.thread new.place.thread R old new code
 
 -- one look at the word of the thread of a box
-abbrev pub LooksTo : Option AnyThread → Option AnyThread → HeldThread → HeldThread → Bool → Type 0
-LooksTo (Some t) (Some n) old new clear = (new ≡ held_with old n) × LooksFor t n clear
+abbrev pub LooksTo : Option HostThread → Option HostThread → HeldThread → HeldThread → Bool → Type 0
+LooksTo (Some t) (Some n) old new clear = (new ≡ held_with old n) × (n ≡ with_thread t n.thread) × LooksFor t.thread n.thread clear
 LooksTo (Some t) None old new clear = ⊥
 LooksTo None n old new clear = (new ≡ old) × (clear ≡ true)
 
@@ -48,8 +49,8 @@ LooksBehind (Some h) None old new clear = ⊥
 LooksBehind None n old new clear = (new ≡ old) × (clear ≡ true)
 
 -- the number of the thread of a box
-abbrev pub NumberTo : Option AnyThread → ℕ → ℕ → ℕ → Type 0
-NumberTo (Some t) n0 n1 code = (n1 ≡ (number_in t).0) × (code ≡ 0)
+abbrev pub NumberTo : Option HostThread → ℕ → ℕ → ℕ → Type 0
+NumberTo (Some t) n0 n1 code = (n1 ≡ (number_in t.thread).0) × (code ≡ 0)
 NumberTo None n0 n1 code = (n1 ≡ n0) × (code ≡ misused)
 
 abbrev pub NumberBehind : Option HeldThread → ThreadHandle → ThreadHandle → ℕ → ℕ → ℕ → Type 0

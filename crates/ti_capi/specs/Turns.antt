@@ -1,27 +1,16 @@
 -- A thread's own calls that lead to another state, as C makes them.
 use Rattle.std.specs.Prelude.{ℕ, ◌≡◌, Option, Some, None}
 use Rattle.ti_types.specs.declared.state.Kind.{Kind}
-use Rattle.ti_types.specs.declared.state.Safe.TheVariants.{Native as IntoNative, Blocked as IntoBlocked}
-use Rattle.ti_thread.specs.Turns.{Starts, Polls, HandsOver, Returns, Ends}
-use Rattle.ti_thread.specs.declared.any_thread.AnyThread.{AnyThread}
-use Rattle.ti_thread.specs.declared.any_thread.TurnOutcome.{TurnOutcome}
+use Rattle.ti_thread.specs.Hosts.{TakesTurn}
+use Rattle.ti_thread.specs.declared.host_thread.HostThread.{HostThread}
+use Rattle.ti_thread.specs.declared.turn.Turn.TheVariants as turn
 use Rattle.ti_capi.specs.Codes.{misused}
 use Rattle.ti_capi.specs.Handles.{ThreadHandle}
 use Rattle.ti_capi.specs.Threads.{Changes}
 use Rattle.ti_capi.specs.declared.held.HeldThread.{HeldThread}
-use Rattle.ti_capi.specs.declared.thread_turns.Turn.{Turn}
-use Rattle.ti_capi.specs.declared.thread_turns.Turn.TheVariants as turn
-
-abbrev pub TakesTurn : Turn → AnyThread → AnyThread → TurnOutcome → Type 0
-TakesTurn turn.Start = Starts
-TakesTurn turn.Poll = Polls
-TakesTurn turn.Native = HandsOver IntoNative
-TakesTurn (turn.Block k) = HandsOver (IntoBlocked k)
-TakesTurn turn.Back = Returns
-TakesTurn turn.End = Ends
 
 -- the code of a block for no reason: 103, if there is a thread
-abbrev pub code_unknown : Option AnyThread → ℕ
+abbrev pub code_unknown : Option HostThread → ℕ
 code_unknown (Some t) = 103
 code_unknown None = misused
 
@@ -31,5 +20,5 @@ UnknownBehind None old new code = (new ≡ old) × (code ≡ misused)
 
 -- a thread blocks for a reason, if there is such a reason
 abbrev pub Blocks : Option Kind → ThreadHandle → ThreadHandle → ℕ → Type 0
-Blocks (Some k) old new code = Changes (HandsOver (IntoBlocked k)) old new code
+Blocks (Some k) old new code = Changes (TakesTurn (turn.Block k)) old new code
 Blocks None old new code = UnknownBehind old.place.thread old new code

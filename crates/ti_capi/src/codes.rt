@@ -13,6 +13,8 @@ pub const CQ_WAITING: u32 = 302;
 pub const CQ_NONE: u32 = 303;
 /// The handle is empty, of another kind, or full when an empty one is wanted. Or its environment makes a trace step by step.
 pub const CQ_MISUSED: u32 = 304;
+/// Frames of the thread were popped, and its runtime has not taken note of it.
+pub const CQ_POPPED: u32 = 305;
 
 /// The code of what a thread's own call comes to.
 pub fn told_code(told: TurnOutcome) -> u32
@@ -22,6 +24,7 @@ pub fn told_code(told: TurnOutcome) -> u32
         TurnOutcome::Done => CQ_OK,
         TurnOutcome::Held => CQ_HELD,
         TurnOutcome::Refused(error) => error.number(),
+        TurnOutcome::Popped => CQ_POPPED,
     }
 }
 

@@ -2,7 +2,7 @@
 
 use crate::held_trace::HeldTrace;
 use ti_service::{Agent, Service};
-use ti_thread::AnyThread;
+use ti_thread::HostThread;
 use ti_types::{Frame, StackInfo};
 
 /// A thread, and a handle of its service, by which it is given back.
@@ -10,7 +10,7 @@ use ti_types::{Frame, StackInfo};
 pub struct HeldThread {
     pub service: Service,
     /// `None` only while a call works on it.
-    pub thread: Option<AnyThread>,
+    pub thread: Option<HostThread>,
     /// Room for the frames that the runtime gives.
     pub frames: Vec<Frame>,
 }

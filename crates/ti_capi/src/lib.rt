@@ -38,6 +38,7 @@ mod thread_at;
 mod thread_frames;
 mod thread_handle;
 mod thread_lends;
+mod thread_pops;
 mod thread_steps;
 mod thread_turns;
 mod values;

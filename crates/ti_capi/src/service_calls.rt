@@ -7,7 +7,7 @@ use crate::service_handle::CqService;
 use crate::thread_handle::CqThread;
 use std::alloc::Global;
 use ti_service::{Service, ThreadInfo};
-use ti_thread::AnyThread;
+use ti_thread::HostThread;
 use ti_types::{Limits, TiError};
 
 /// The limits of a service. `None` if a number is not within its range.
@@ -128,7 +128,7 @@ fn attach_thread(
         return Err(TiError::OutOfMemory);
     };
     let fresh = service.attach_thread_now(alloc, ThreadInfo { name, priority })?;
-    held.thread = Some(AnyThread::Fresh(fresh));
+    held.thread = Some(HostThread::new(fresh));
     Ok(held)
 }
 

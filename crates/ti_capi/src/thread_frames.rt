@@ -5,7 +5,7 @@ use crate::held::HeldThread;
 use crate::thread_handle::CqThread;
 use crate::values::{CqFrame, frame_in};
 use std::alloc::Global;
-use ti_thread::AnyThread;
+use ti_thread::{AnyThread, HostThread};
 use ti_types::{Frame, TiError};
 
 /// Reads all frames into a list, which is cleared first. It gives whether each is one.
@@ -25,18 +25,25 @@ fn read_frames(frames: &[CqFrame], into: &mut Vec<Frame>) -> Result<bool, TiErro
     Ok(true)
 }
 
+/// Whether the thread runs.
+fn runs(host: &HostThread) -> bool
+    ensures { result ≡ is_running host.now.thread }
+{
+    host.thread.is_running()
+}
+
 /// Replaces all frames of the thread of a box.
 fn set_frames(held: &mut HeldThread, frames: &[CqFrame]) -> u32
     ensures { SetsIn frames.now held.old held.new result }
 {
-    let Some(thread) = &mut held.thread else {
+    let Some(host) = &mut held.thread else {
         return CQ_MISUSED;
     };
-    if !thread.is_running() {
+    if !runs(host) {
         return TiError::NotRunning.number();
     }
     match read_frames(frames, &mut held.frames) {
-        Ok(true) => told_code(thread.set_frames(&held.frames)),
+        Ok(true) => told_code(host.set_frames(&held.frames)),
         Ok(false) => TiError::IllegalArgument.number(),
         Err(error) => error.number(),
     }
@@ -57,30 +64,32 @@ pub extern "C" fn cq_set_frames(thread: &mut CqThread, frames: &[CqFrame]) -> u3
 fn give_back(held: &mut HeldThread) -> u32
     ensures { GivesBack held.old held.new result }
 {
-    match held.thread.take() {
-        Some(AnyThread::Ended(ended)) => match held.service.end_thread_now(ended) {
+    let Some(HostThread { thread, pops }) = held.thread.take() else {
+        return CQ_MISUSED;
+    };
+    match thread {
+        AnyThread::Ended(ended) => match held.service.end_thread_now(ended) {
             Ok(()) => CQ_OK,
             Err((error, ended)) => {
-                held.thread = Some(AnyThread::Ended(ended));
+                held.thread = Some(HostThread::of(AnyThread::Ended(ended), pops));
                 error.number()
             }
         },
-        Some(AnyThread::Fresh(fresh)) => match held.service.withdraw_thread_now(fresh) {
+        AnyThread::Fresh(fresh) => match held.service.withdraw_thread_now(fresh) {
             Ok(()) => CQ_OK,
             Err((error, fresh)) => {
-                held.thread = Some(AnyThread::Fresh(fresh));
+                held.thread = Some(HostThread::of(AnyThread::Fresh(fresh), pops));
                 error.number()
             }
         },
-        Some(AnyThread::Running(running)) => {
-            held.thread = Some(AnyThread::Running(running));
+        AnyThread::Running(running) => {
+            held.thread = Some(HostThread::of(AnyThread::Running(running), pops));
             CQ_MISUSED
         }
-        Some(AnyThread::Safe(safe)) => {
-            held.thread = Some(AnyThread::Safe(safe));
+        AnyThread::Safe(safe) => {
+            held.thread = Some(HostThread::of(AnyThread::Safe(safe), pops));
             CQ_MISUSED
         }
-        None => CQ_MISUSED,
     }
 }
 
@@ -101,5 +110,6 @@ pub extern "C" fn cq_detach_thread(alloc: Global, thread: &mut CqThread) -> u32
 
 ghost use Rattle.std.specs.Prelude.{◌≡◌, true, map, IfOk, IfErr};
 ghost use Rattle.ti_types.specs.declared.error.TiError.TheVariants.{OutOfMemory};
+ghost use Rattle.ti_thread.specs.AnyThread.{is_running};
 ghost use Rattle.ti_capi.specs.Frames.{Detaches, GivesBack, Sets, SetsIn};
 ghost use Rattle.ti_capi.specs.Values.{are_frames, frame_of};

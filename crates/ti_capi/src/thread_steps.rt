@@ -12,17 +12,17 @@ pub extern "C" fn cq_thread_number(thread: &mut CqThread, number: &mut u32) -> u
     let Some(held) = thread.held() else {
         return CQ_MISUSED;
     };
-    let Some(thread) = &mut held.thread else {
+    let Some(host) = &mut held.thread else {
         return CQ_MISUSED;
     };
-    *number = thread.thread().0;
+    *number = host.thread.thread().0;
     CQ_OK
 }
 
 /// Makes a step.
 #[inline(always)]
 fn step(thread: &mut CqThread, step: Step) -> u32
-    ensures { Changes (Steps step) thread.old thread.new result }
+    ensures { Changes (Keeps (Steps step)) thread.old thread.new result }
 {
     let Some(held) = thread.held() else {
         return CQ_MISUSED;
@@ -36,7 +36,7 @@ fn step(thread: &mut CqThread, step: Step) -> u32
 /// Enters a method.
 #[unsafe(no_mangle)]
 pub extern "C" fn cq_enter(thread: &mut CqThread, method: u32) -> u32
-    ensures { Changes (Steps (step.Enter (method_no method))) thread.old thread.new result }
+    ensures { Changes (Keeps (Steps (step.Enter (method_no method)))) thread.old thread.new result }
 {
     step(thread, Step::Enter(MethodNo(method)))
 }
@@ -44,7 +44,7 @@ pub extern "C" fn cq_enter(thread: &mut CqThread, method: u32) -> u32
 /// Enters a native method.
 #[unsafe(no_mangle)]
 pub extern "C" fn cq_enter_native(thread: &mut CqThread, method: u32) -> u32
-    ensures { Changes (Steps (step.EnterNative (method_no method))) thread.old thread.new result }
+    ensures { Changes (Keeps (Steps (step.EnterNative (method_no method)))) thread.old thread.new result }
 {
     step(thread, Step::EnterNative(MethodNo(method)))
 }
@@ -52,7 +52,7 @@ pub extern "C" fn cq_enter_native(thread: &mut CqThread, method: u32) -> u32
 /// Moves the newest frame on.
 #[unsafe(no_mangle)]
 pub extern "C" fn cq_at(thread: &mut CqThread, location: u32) -> u32
-    ensures { Changes (Steps (step.At location)) thread.old thread.new result }
+    ensures { Changes (Keeps (Steps (step.At location))) thread.old thread.new result }
 {
     step(thread, Step::At(location))
 }
@@ -60,7 +60,7 @@ pub extern "C" fn cq_at(thread: &mut CqThread, location: u32) -> u32
 /// Leaves the newest frame.
 #[unsafe(no_mangle)]
 pub extern "C" fn cq_leave(thread: &mut CqThread) -> u32
-    ensures { Changes (Steps step.Leave) thread.old thread.new result }
+    ensures { Changes (Keeps (Steps step.Leave)) thread.old thread.new result }
 {
     step(thread, Step::Leave)
 }
@@ -81,4 +81,5 @@ pub extern "C" fn cq_poll_clear(thread: &mut CqThread) -> bool
 
 ghost use Rattle.ti_types.specs.declared.step.Step.TheVariants as step;
 ghost use Rattle.ti_thread.specs.Changes.{Steps};
+ghost use Rattle.ti_thread.specs.Hosts.{Keeps};
 ghost use Rattle.ti_capi.specs.Threads.{Changes, LooksBehind, NumberBehind, method_no};

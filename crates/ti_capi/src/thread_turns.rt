@@ -4,33 +4,8 @@ use crate::codes::{CQ_MISUSED, told_code};
 use crate::held::HeldThread;
 use crate::thread_handle::CqThread;
 use crate::values::reason_in;
-use ti_thread::{AnyThread, TurnOutcome};
+use ti_thread::Turn;
 use ti_types::{Kind, TiError};
-
-/// What a thread does.
-#[derive(Clone, Copy)]
-enum Turn {
-    Start,
-    Poll,
-    Native,
-    Block(Kind),
-    Back,
-    End,
-}
-
-/// The thread does it.
-fn take_turn(thread: AnyThread, turn: Turn) -> (AnyThread, TurnOutcome)
-    ensures { TakesTurn turn thread result.0 result.1 }
-{
-    match turn {
-        Turn::Start => thread.start(),
-        Turn::Poll => thread.poll(),
-        Turn::Native => thread.native(),
-        Turn::Block(kind) => thread.block(kind),
-        Turn::Back => thread.back(),
-        Turn::End => thread.end(),
-    }
-}
 
 /// The thread of a box does it.
 fn take_turn_in(held: &mut HeldThread, turn: Turn) -> u32
@@ -38,7 +13,7 @@ fn take_turn_in(held: &mut HeldThread, turn: Turn) -> u32
 {
     match held.thread.take() {
         Some(thread) => {
-            let (thread, told) = take_turn(thread, turn);
+            let (thread, told) = thread.take_turn(turn);
             held.thread = Some(thread);
             told_code(told)
         }
@@ -59,7 +34,7 @@ fn take_turn_of(thread: &mut CqThread, turn: Turn) -> u32
 /// Starts the thread.
 #[unsafe(no_mangle)]
 pub extern "C" fn cq_start(thread: &mut CqThread) -> u32
-    ensures { Changes Starts thread.old thread.new result }
+    ensures { Changes (TakesTurn turn.Start) thread.old thread.new result }
 {
     take_turn_of(thread, Turn::Start)
 }
@@ -67,7 +42,7 @@ pub extern "C" fn cq_start(thread: &mut CqThread) -> u32
 /// Polls (JEP 312).
 #[unsafe(no_mangle)]
 pub extern "C" fn cq_poll(thread: &mut CqThread) -> u32
-    ensures { Changes Polls thread.old thread.new result }
+    ensures { Changes (TakesTurn turn.Poll) thread.old thread.new result }
 {
     take_turn_of(thread, Turn::Poll)
 }
@@ -75,7 +50,7 @@ pub extern "C" fn cq_poll(thread: &mut CqThread) -> u32
 /// Goes into native code.
 #[unsafe(no_mangle)]
 pub extern "C" fn cq_native(thread: &mut CqThread) -> u32
-    ensures { Changes (HandsOver IntoNative) thread.old thread.new result }
+    ensures { Changes (TakesTurn turn.Native) thread.old thread.new result }
 {
     take_turn_of(thread, Turn::Native)
 }
@@ -107,7 +82,7 @@ fn unknown_reason(thread: &mut CqThread) -> u32
 /// Returns, and runs.
 #[unsafe(no_mangle)]
 pub extern "C" fn cq_back(thread: &mut CqThread) -> u32
-    ensures { Changes Returns thread.old thread.new result }
+    ensures { Changes (TakesTurn turn.Back) thread.old thread.new result }
 {
     take_turn_of(thread, Turn::Back)
 }
@@ -115,13 +90,13 @@ pub extern "C" fn cq_back(thread: &mut CqThread) -> u32
 /// Ends the thread.
 #[unsafe(no_mangle)]
 pub extern "C" fn cq_end(thread: &mut CqThread) -> u32
-    ensures { Changes Ends thread.old thread.new result }
+    ensures { Changes (TakesTurn turn.End) thread.old thread.new result }
 {
     take_turn_of(thread, Turn::End)
 }
 
-ghost use Rattle.ti_types.specs.declared.state.Safe.TheVariants.{Native as IntoNative};
-ghost use Rattle.ti_thread.specs.Turns.{Starts, Polls, HandsOver, Returns, Ends};
+ghost use Rattle.ti_thread.specs.Hosts.{TakesTurn};
+ghost use Rattle.ti_thread.specs.declared.turn.Turn.TheVariants as turn;
 ghost use Rattle.ti_capi.specs.Threads.{Changes, ChangesIn};
-ghost use Rattle.ti_capi.specs.Turns.{Blocks, TakesTurn, UnknownBehind};
+ghost use Rattle.ti_capi.specs.Turns.{Blocks, UnknownBehind};
 ghost use Rattle.ti_capi.specs.Values.{reason_read};

@@ -11,7 +11,7 @@ use Rattle.ti_handshake.specs.Thread.{Runner, frames_refusal, logged, refused_at
 use Rattle.ti_thread.specs.declared.any_thread.AnyThread.{AnyThread}
 use Rattle.ti_thread.specs.declared.any_thread.AnyThread.TheVariants.{Fresh, Running, Safe, Ended}
 use Rattle.ti_thread.specs.declared.any_thread.TurnOutcome.{TurnOutcome}
-use Rattle.ti_thread.specs.declared.any_thread.TurnOutcome.TheVariants.{Done, Held, Refused}
+use Rattle.ti_thread.specs.declared.any_thread.TurnOutcome.TheVariants.{Done, Held, Popped, Refused}
 use Rattle.ti_thread.specs.Turns.{IsUnfit}
 
 -- a running thread makes a step, or is refused and is as it was
@@ -19,6 +19,7 @@ abbrev pub StepsFrom : Step → Runner → AnyThread → TurnOutcome → Type 0
 StepsFrom step r new Done = (new ≡ Running (with_step r step)) × (refused_at r.view.subject.limits (logged r.view.seen r.steps) (Own step) ≡ None)
 StepsFrom step r new (Refused e) = (new ≡ Running r) × (refused_at r.view.subject.limits (logged r.view.seen r.steps) (Own step) ≡ Some e)
 StepsFrom step r new Held = ⊥
+StepsFrom step r new Popped = ⊥
 
 abbrev pub Steps : Step → AnyThread → AnyThread → TurnOutcome → Type 0
 Steps step (Running r) new told = StepsFrom step r new told
@@ -31,6 +32,7 @@ abbrev pub SetsFramesFrom : List Frame → Runner → AnyThread → TurnOutcome 
 SetsFramesFrom frames r new Done = (new ≡ Running (with_all r frames)) × (frames_refusal r.view.subject.limits (logged r.view.seen r.steps) (length frames) (steps_between r.frames frames) ≡ None)
 SetsFramesFrom frames r new (Refused e) = (new ≡ Running r) × (frames_refusal r.view.subject.limits (logged r.view.seen r.steps) (length frames) (steps_between r.frames frames) ≡ Some e)
 SetsFramesFrom frames r new Held = ⊥
+SetsFramesFrom frames r new Popped = ⊥
 
 abbrev pub SetsFrames : List Frame → AnyThread → AnyThread → TurnOutcome → Type 0
 SetsFrames frames (Running r) new told = SetsFramesFrom frames r new told

@@ -12,6 +12,8 @@ pub enum TurnOutcome {
     Held,
     /// It is refused.
     Refused(TiError),
+    /// It is refused, since frames were popped and the runtime has not taken note of it. Only `HostThread::set_frames` says so.
+    Popped,
 }
 
 /// A thread, by its state.

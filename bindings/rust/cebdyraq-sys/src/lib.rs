@@ -190,6 +190,7 @@ codes! {
     CQ_WAITING = 302
     CQ_NONE = 303
     CQ_MISUSED = 304
+    CQ_POPPED = 305
 }
 
 /// What is known of a method's lines.
@@ -225,6 +226,8 @@ extern "C" {
     pub fn cq_at(thread: *mut cq_thread, location: u32) -> u32;
     pub fn cq_leave(thread: *mut cq_thread) -> u32;
     pub fn cq_set_frames(thread: *mut cq_thread, frames: *const cq_frame, count: usize) -> u32;
+    pub fn cq_frame_count(thread: *mut cq_thread, count: *mut u64) -> u32;
+    pub fn cq_take_pops(thread: *mut cq_thread, count: *mut u64) -> u32;
     pub fn cq_poll_clear(thread: *mut cq_thread) -> bool;
     pub fn cq_poll(thread: *mut cq_thread) -> u32;
     pub fn cq_native(thread: *mut cq_thread) -> u32;

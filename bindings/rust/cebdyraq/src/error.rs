@@ -67,6 +67,8 @@ errors! {
     TimedOut = CQ_TIMED_OUT
     /// A bound other than memory leaves no place: for an environment, a class, or a call in the window.
     Full = CQ_FULL
+    /// All frames are to be set, and frames were popped that the runtime has not taken note of.
+    Popped = CQ_POPPED
 }
 
 impl fmt::Display for Error {

@@ -125,9 +125,26 @@ impl Running {
         checked(unsafe { sys::cq_leave(self.0.at()) })
     }
 
-    /// Replaces all frames by these, newest first.
+    /// Replaces all frames by these, newest first. After a pop it is refused until [`Running::take_pops`] has told the runtime.
     pub fn set_frames(&mut self, frames: &[Frame]) -> Result<(), Error> {
         checked(unsafe { sys::cq_set_frames(self.0.at(), frames.as_ptr(), frames.len()) })
+    }
+
+    /// How many frames the thread has.
+    pub fn frame_count(&mut self) -> u64 {
+        let mut count = 0;
+        surely(unsafe { sys::cq_frame_count(self.0.at(), &mut count) });
+        count
+    }
+
+    /// How many frames were popped since the last call. From now on they no longer count.
+    ///
+    /// A runtime that keeps a stack of its own calls it after each poll and each return, takes as many frames off the top of its
+    /// stack, and goes on in the frame that is the newest then.
+    pub fn take_pops(&mut self) -> u64 {
+        let mut count = 0;
+        surely(unsafe { sys::cq_take_pops(self.0.at(), &mut count) });
+        count
     }
 
     /// Whether nobody calls for the thread. It is one load.

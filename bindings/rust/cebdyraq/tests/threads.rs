@@ -85,6 +85,29 @@ fn a_suspended_thread_stays() {
 }
 
 #[test]
+fn the_runtime_is_told_of_pops() {
+    let (_service, mut running, mut env) = with_thread();
+    let frames = [(3, 30), (2, 20), (1, 10)].map(|(method, location)| Frame { method, location });
+    running.set_frames(&frames).unwrap();
+    assert_eq!(running.frame_count(), 3);
+    env.add_capabilities(capabilities::SUSPEND | capabilities::POP_FRAME).unwrap();
+    let safe = running.block(Reason::Sleep).unwrap();
+    env.suspend_thread(0).unwrap();
+    assert_eq!(env.pop_frame(0), Ok(()));
+    assert_eq!(env.pop_frame(0), Ok(()));
+    assert_eq!(env.get_stack_trace(0, 0, 8).unwrap(), frames[2..]);
+    env.resume_thread(0).unwrap();
+    let mut running = safe.back();
+    assert_eq!(running.set_frames(&frames), Err(Error::Popped));
+    assert_eq!(running.frame_count(), 1);
+    assert_eq!(running.take_pops(), 2);
+    assert_eq!(running.take_pops(), 0);
+    running.set_frames(&frames[2..]).unwrap();
+    while_polling(&mut running, || assert_eq!(env.get_stack_trace(0, 0, 8).unwrap(), frames[2..]));
+    assert_eq!(running.take_pops(), 0);
+}
+
+#[test]
 fn a_thread_blocks_and_returns() {
     let (_service, running, mut env) = with_thread();
     let Err((error, running)) = running.native() else { panic!("it has no native frame") };

@@ -1,8 +1,9 @@
 use mir.Val.{of_z, to_z}
-use Rattle.std.proofs.Common.{w32, refl, ap, subst, ◌∙◌}
+use Rattle.std.proofs.Common.{w32, Some, ap, subst, ◌∙◌}
 use Rattle.std.proofs.lemmas.Int.{to_z-of_z}
 use Rattle.ti_roster.specs.declared.info.ThreadInfo.{ThreadInfo}
 use Rattle.ti_service.specs.Service.{Attaches, Member}
+use Rattle.ti_thread.specs.declared.host_thread.HostThread.{HostThread}
 use Rattle.ti_capi.specs.declared.held.HeldThread.{HeldThread}
 use Rattle.ti_capi.proofs.service_calls.attach_thread.Goals as goal
 
@@ -15,6 +16,6 @@ returns-clause-attached c =
       priority_is = to_z-of_z w32 c.args.priority c.ranges.priority;
       cell = c.in_ok-fresh.ensures.cell ∙ ap (λ (m : Member). m.cell) c.in_ok-share.ensures.made;
       attaches = subst (λ (m : Member). Attaches m.view c.attach_thread_now.new.self.view given c.in_ok-fresh.fresh) c.in_ok-share.ensures.made c.in_ok-fresh.ensures.attached;
-      thread_is = refl;
+      thread_is = ap (λ (h : HostThread). Some h) c.new-3.ensures;
       service_is = ap (λ (h : HeldThread). h.service.cell) (c.deref_mut.ensures.value ∙ c.in-Ok.ensures.ok) ∙ c.in_ok-share.ensures.other.0;
     }

@@ -1,0 +1,41 @@
+//! How many frames a thread has, and how many of them were popped.
+
+use crate::codes::{CQ_MISUSED, CQ_OK};
+use crate::thread_handle::CqThread;
+
+/// How many frames the thread has.
+#[unsafe(no_mangle)]
+pub extern "C" fn cq_frame_count(thread: &mut CqThread, count: &mut u64) -> u32
+    ensures { CountBehind thread.old.place.thread thread.old thread.new count.old count.new result }
+{
+    let Some(held) = thread.held() else {
+        return CQ_MISUSED;
+    };
+    let Some(thread) = &mut held.thread else {
+        return CQ_MISUSED;
+    };
+    match thread.frame_count() {
+        Ok(frames) => {
+            *count = frames as u64;
+            CQ_OK
+        }
+        Err(error) => error.number(),
+    }
+}
+
+/// How many frames of the thread were popped since the runtime last took note. It takes note of these now.
+#[unsafe(no_mangle)]
+pub extern "C" fn cq_take_pops(thread: &mut CqThread, count: &mut u64) -> u32
+    ensures { NotesBehind thread.old.place.thread thread.new.place.thread thread.old thread.new count.old count.new result }
+{
+    let Some(held) = thread.held() else {
+        return CQ_MISUSED;
+    };
+    let Some(thread) = &mut held.thread else {
+        return CQ_MISUSED;
+    };
+    *count = thread.take_pops() as u64;
+    CQ_OK
+}
+
+ghost use Rattle.ti_capi.specs.Pops.{CountBehind, NotesBehind};

@@ -1,0 +1,2 @@
+mod FewerLaws
+mod CountedLaws
