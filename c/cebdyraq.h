@@ -322,6 +322,12 @@ uint32_t cq_leave(cq_thread *thread) CQ_MUST_USE;
  *   CQ_OWN_SPENT 208         the thread has spent its 2^59 steps */
 uint32_t cq_set_frames(cq_thread *thread, const cq_frame *frames, size_t count) CQ_MUST_USE;
 
+/* cq_set_frames with the newest of these `count` frames: all, or as many as the service's depth if there are more. Writes to
+ * `kept` how many that is, so the stack was cut if it is less than `count`. The frames behind them are not read.
+ *
+ * The codes are those of cq_set_frames. With any but CQ_OK nothing changes, and nothing is written. */
+uint32_t cq_set_newest_frames(cq_thread *thread, const cq_frame *frames, size_t count, uint64_t *kept) CQ_MUST_USE;
+
 /* Writes to `count` how many frames the thread has, 0 to the service's depth.
  *
  *   CQ_NOT_RUNNING 204  the thread does not run */
@@ -534,36 +540,36 @@ uint32_t cq_set_thread_local_storage(cq_env *env, uint32_t thread, uint64_t word
  *   CQ_BUSY 215     the thread itself or another environment uses the thread */
 uint32_t cq_collect(cq_env *env, const cq_ticket *ticket, cq_answer *answer, cq_frame *frames, size_t room) CQ_MUST_USE;
 
-/* Gives up a call that is out: nobody gets its answer. It may still take place, so a thread may be suspended. It keeps its
+/* Cancels a call that is out: nobody gets its answer. It may still take place, so a thread may be suspended. It keeps its
  * place in the window until cq_discard. Nothing happens if no call with this ticket is out.
  *
- *   CQ_OUT_OF_MEMORY 110  there is no memory to note that the call was given up
+ *   CQ_OUT_OF_MEMORY 110  there is no memory to note that the call was cancelled
  *   CQ_BUSY 215           the thread itself or another environment uses the thread */
 uint32_t cq_cancel(cq_env *env, const cq_ticket *ticket);
 
-/* Throws away the answer to the call that was given up first at the thread, and writes to `thrown` whether it did. It does not
- * if that answer is not there yet, or no call was given up.
+/* Discards the answer to the call that was cancelled first at the thread, and writes to `thrown` whether it did. It does not
+ * if that answer is not there yet, or no call was cancelled.
  *
  *   CQ_BUSY 215  the thread itself or another environment uses the thread */
 uint32_t cq_discard(cq_env *env, uint32_t thread, bool *thrown);
 
-/* Takes back what the environment's suspensions did to a thread, and what those that were given up would still do to it: for a
+/* Takes back what the environment's suspensions did to a thread, and what cancelled ones would still do to it: for a
  * suspension whose time was over, after which cq_resume_thread gives CQ_THREAD_NOT_SUSPENDED at once. It needs CQ_CAN_SUSPEND.
  *
- * It throws away one answer at the thread, as cq_discard does. If no call that was given up there is out then, it resumes the
+ * It discards one answer at the thread, as cq_discard does. If no cancelled call there is out then, it resumes the
  * thread, which costs one call. With CQ_OK the thread is not suspended, whether it was before or not. A suspension belongs to the
  * thread, so this may end one that another environment made.
  *
- *   CQ_WAITING 302                 a call that was given up is out, and may yet suspend the thread: call again once the thread has
+ *   CQ_WAITING 302                 a cancelled call is out, and may yet suspend the thread: call again once the thread has
  *                                  handed over
  *   CQ_MUST_POSSESS_CAPABILITY 99  the environment has no CQ_CAN_SUSPEND
  *   CQ_INVALID_THREAD 10           the environment has not met the thread
  *   CQ_CALLS_SPENT 209             no call is left at the thread
  *   CQ_THREAD_NOT_ALIVE 15         the thread has not started, or has ended, or was let go of
- *   CQ_BUSY 215                    the thread itself or another environment uses the thread. An answer may have been thrown away */
+ *   CQ_BUSY 215                    the thread itself or another environment uses the thread. An answer may have been discarded */
 uint32_t cq_ensure_resumed(cq_env *env, uint32_t thread) CQ_MUST_USE;
 
-/* Writes to `count` how many calls of the environment are out at the thread, also those that were given up: 0 to the service's
+/* Writes to `count` how many calls of the environment are out at the thread, also cancelled ones: 0 to the service's
  * window. It is 0 at a thread that the environment has not met. */
 uint32_t cq_out_at(cq_env *env, uint32_t thread, uint32_t *count);
 
@@ -585,7 +591,7 @@ uint32_t cq_out_at(cq_env *env, uint32_t thread, uint32_t *count);
 
 /* Begins GetAllStackTraces, of all threads that the environment has met. `max_count` is how many frames of each it finds at
  * most, newest first, 0 or more. Only threads that are alive are told of, in the order of their numbers. Nothing is stopped
- * yet. What the environment's last trace has gathered is thrown away.
+ * yet. What the environment's last trace has gathered is discarded.
  *
  *   CQ_ILLEGAL_ARGUMENT 103  `max_count` is negative
  *   CQ_CALLS_SPENT 209       fewer than two calls are left at a thread
@@ -666,9 +672,9 @@ uint32_t cq_set_event_notification_mode(cq_env *env, bool enabled) CQ_MUST_USE;
  *   CQ_BUSY 215  the list of threads is in use */
 uint32_t cq_next_event(cq_env *env, cq_event *event) CQ_MUST_USE;
 
-/* DisposeEnvironment. Calls that wait are given up, the environment's words are 0 again, its place is free, and its handle is
- * empty. What its traces have gathered is gone. A thread that it suspended stays suspended, and a suspension or a pop that was
- * given up may still take place.
+/* DisposeEnvironment. Calls that wait are cancelled, the environment's words are 0 again, its place is free, and its handle is
+ * empty. What its traces have gathered is gone. A thread that it suspended stays suspended, and a cancelled suspension or pop
+ * may still take place.
  *
  * With one of these codes the environment may have left some of its threads. It can only be disposed of then: call again.
  *

@@ -238,6 +238,13 @@ public:
         const frame none{};
         check(cq_set_frames(get(), frames.empty() ? &none : frames.data(), frames.size()));
     }
+    // Gives how many of the frames were kept: the newest ones.
+    std::uint64_t set_newest_frames(const std::vector<frame> &frames) {
+        const frame none{};
+        std::uint64_t kept = 0;
+        check(cq_set_newest_frames(get(), frames.empty() ? &none : frames.data(), frames.size(), &kept));
+        return kept;
+    }
     std::uint64_t frame_count() const {
         std::uint64_t count = 0;
         check(cq_frame_count(get(), &count));

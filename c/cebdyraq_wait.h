@@ -110,7 +110,7 @@ uint32_t cq_wait_cancel(cq_env *env, cq_signal *signal, const cq_ticket *ticket)
 /* cq_discard. */
 uint32_t cq_wait_discard(cq_env *env, cq_signal *signal, uint32_t thread, bool *thrown);
 
-/* cq_ensure_resumed. It sleeps until the thread has reached all calls of this environment that were given up there. With
+/* cq_ensure_resumed. It sleeps until the thread has reached all calls of this environment that it has cancelled there. With
  * CQ_TIMED_OUT 214 it has not, so one of them may yet suspend it: call again. CQ_MUST_POSSESS_CAPABILITY 99, CQ_INVALID_THREAD 10,
  * CQ_THREAD_NOT_ALIVE 15, CQ_CALLS_SPENT 209. */
 uint32_t cq_wait_ensure_resumed(cq_env *env, cq_signal *signal, uint32_t thread, int64_t timeout_ns) CQ_MUST_USE;
@@ -128,10 +128,10 @@ uint32_t cq_wait_next_event(cq_env *env, cq_signal *signal, int64_t timeout_ns, 
  * Calls at a thread. They sleep until the answer is there. The answer is written with CQ_OK, and nothing otherwise.
  *
  * A thread that runs and does not poll keeps a call waiting: without a time, for ever. When the time is over, a call that was
- * posted is given up (cq_cancel). It may still take place: a thread may be suspended after CQ_TIMED_OUT 214. If there is no
+ * posted is cancelled (cq_cancel). It may still take place: a thread may be suspended after CQ_TIMED_OUT 214. If there is no
  * memory to give it up, it stays out (cq_out_at).
  *
- * Before it posts, each throws away the answers to calls that were given up at the thread (cq_discard). At a full window it
+ * Before it posts, each discards the answers to cancelled calls at the thread (cq_discard). At a full window it
  * waits for a place, which comes when the thread hands over. A place that a call of cebdyraq.h has is free once its answer is
  * collected: the function does not do that, so a program collects before it fills the window.
  *

@@ -15,6 +15,7 @@ static uint32_t attach_thread(world *w) {
 }
 static uint32_t attach_environment(world *w) { return cq_attach_environment(&w->service, &w->no_env); }
 static uint32_t set_frames(world *w) { return cq_set_frames(&w->thread, TWO, 2); }
+static uint32_t set_newest_frames(world *w) { return cq_set_newest_frames(&w->thread, TWO, 2, &out.word); }
 static uint32_t detach_thread(world *w) { return cq_detach_thread(&w->thread); }
 static uint32_t meet(world *w) { return cq_meet(&w->env); }
 static uint32_t get_all_threads(world *w) { return cq_get_all_threads(&w->env, out.threads, 2, &out.word); }
@@ -66,6 +67,7 @@ static const row WITH_MEMORY[] = {
     { "cq_make", CQ_OK, RUNS, make }, { "cq_share", CQ_OK, RUNS, share },
     { "cq_attach_thread", CQ_OK, RUNS, attach_thread },
     { "cq_attach_environment", CQ_OK, RUNS, attach_environment }, { "cq_set_frames", CQ_OK, IN_METHOD, set_frames },
+    { "cq_set_newest_frames", CQ_OK, IN_METHOD, set_newest_frames },
     { "cq_detach_thread", CQ_OK, ENDED, detach_thread }, { "cq_detach_thread", CQ_OK, FRESH, detach_thread },
     { "cq_meet", CQ_OK, UNMET, meet }, { "cq_meet", CQ_OK, RUNS, meet },
     { "cq_get_all_threads", CQ_OK, RUNS, get_all_threads },

@@ -77,6 +77,7 @@ ON_THREAD(enter_native, cq_enter_native(h, 9))
 ON_THREAD(at, cq_at(h, 9))
 ON_THREAD(leave, cq_leave(h))
 ON_THREAD(set_frames, cq_set_frames(h, THREE, 2))
+ON_THREAD(set_newest_frames, cq_set_newest_frames(h, THREE, 2, &out.word))
 ON_THREAD(frame_count, cq_frame_count(h, &out.word))
 MISUSED_THREAD(take_pops, cq_take_pops(h, &out.word))
 ON_THREAD(poll, cq_poll(h))
@@ -90,6 +91,7 @@ static uint32_t set_three(world *w) { return cq_set_frames(&w->thread, THREE, 3)
 static uint32_t set_low(world *w) { return cq_set_frames(&w->thread, LOW, 2); }
 static uint32_t set_high(world *w) { return cq_set_frames(&w->thread, HIGH, 2); }
 static uint32_t set_low_and_many(world *w) { return cq_set_frames(&w->thread, LOW_AND_MANY, 3); }
+static uint32_t set_newest_low(world *w) { return cq_set_newest_frames(&w->thread, LOW, 2, &out.word); }
 static uint32_t block_for_nothing(world *w) { return cq_block(&w->thread, CQ_TIMED_PARK + 1); }
 static uint32_t block_for_too_much(world *w) { return cq_block(&w->thread, UINT32_MAX); }
 
@@ -117,6 +119,9 @@ const row THREAD_ROWS[] = {
     { "cq_set_frames", CQ_ILLEGAL_ARGUMENT, IN_METHOD, set_high },
     { "cq_set_frames", CQ_ILLEGAL_ARGUMENT, IN_METHOD, set_low_and_many },
     { "cq_set_frames", CQ_NOT_RUNNING, HELD, set_low },
+    MISUSES(set_newest_frames), NOT_RUNNING("cq_set_newest_frames", set_newest_frames),
+    { "cq_set_newest_frames", CQ_ILLEGAL_ARGUMENT, IN_METHOD, set_newest_low },
+    { "cq_set_newest_frames", CQ_POPPED, POPPED, set_newest_frames },
     MISUSES(frame_count), NOT_RUNNING("cq_frame_count", frame_count), MISUSES(take_pops),
     { "cq_set_frames", CQ_POPPED, POPPED, set_frames }, { "cq_set_frames", CQ_POPPED, POPPED, set_three },
     { "cq_set_frames", CQ_ILLEGAL_ARGUMENT, POPPED, set_low },

@@ -158,16 +158,31 @@ static void poll_clear(void) {
     agree("cq_poll_clear", cq_poll_clear(&s->real.thread), model_poll_clear(&s->model.thread));
 }
 
-static void set_frames(void) {
+/* Makes some frames, and gives their number. Some are none. */
+static uint32_t random_frames(cq_frame *frames) {
     static const int64_t edges[] = { -2, INT64_MIN, (int64_t)UINT32_MAX + 1, INT64_MAX, UINT32_MAX };
-    slot *s = pick_thread();
-    cq_frame frames[FRAMES];
     uint32_t count = below(FRAMES + 1);
     for (uint32_t i = 0; i < count; i++) {
         int64_t location = below(24) == 0 ? edges[below(5)] : (int64_t)below(5) - 1;
         frames[i] = (cq_frame){ below(4), location };
     }
+    return count;
+}
+
+static void set_frames(void) {
+    slot *s = pick_thread();
+    cq_frame frames[FRAMES];
+    uint32_t count = random_frames(frames);
     BOTH(set_frames, (&s->real.thread, frames, count), (&s->model.thread, frames, count));
+}
+
+static void set_newest_frames(void) {
+    slot *s = pick_thread();
+    cq_frame frames[FRAMES];
+    uint32_t count = random_frames(frames);
+    uint64_t real = 77, model = 77;
+    BOTH(set_newest_frames, (&s->real.thread, frames, count, &real), (&s->model.thread, frames, count, &model));
+    agree("kept", real, model);
 }
 
 /* An environment. */
@@ -446,7 +461,8 @@ typedef struct { uint32_t weight; void (*make)(void); } weighted;
 
 static const weighted CALLS[] = {
     { 1, make }, { 2, share }, { 1, free_handle }, { 3, attach_thread }, { 3, attach_environment },
-    { 1, thread_number }, { 4, start }, { 14, enter }, { 6, enter_native }, { 6, at }, { 4, leave }, { 8, set_frames }, { 2, frame_count }, { 4, take_pops },
+    { 1, thread_number }, { 4, start }, { 14, enter }, { 6, enter_native }, { 6, at }, { 4, leave }, { 6, set_frames },
+    { 4, set_newest_frames }, { 2, frame_count }, { 4, take_pops },
     { 4, poll_clear }, { 16, poll }, { 5, native }, { 4, block }, { 14, back }, { 2, end }, { 2, detach_thread },
     { 6, meet }, { 3, has_news }, { 3, let_go }, { 2, get_all_threads }, { 2, get_thread_info },
     { 5, get_thread_state }, { 6, get_frame_count }, { 6, get_frame_location }, { 10, get_stack_trace },

@@ -101,6 +101,28 @@ static void parts_of_a_trace(void) {
     OK(cq_set_frames(&thread, &five[1], 4));
 }
 
+/* The newest frames are shown, as many as the service's depth, and those behind them are not read: the last is none. */
+static void deeper_than_the_depth(void) {
+    const cq_frame ten[10] = { { 10, 0 }, { 9, 0 }, { 8, 0 }, { 7, 0 }, { 6, 0 }, { 5, 0 }, { 4, 0 }, { 3, 33 }, { 2, 0 }, { 1, -2 } };
+    uint64_t kept = 77;
+    SAME(cq_set_frames(&thread, &ten[1], 9), CQ_ILLEGAL_ARGUMENT);
+    SAME(cq_set_frames(&thread, ten, 9), CQ_OVERFLOW);
+    OK(cq_set_newest_frames(&thread, ten, 10, &kept));
+    SAME(kept, 8);
+    OK(after_a_poll(cq_get_stack_trace(&env, 0, 0, 8, &answer, frames, 8), CQ_OK));
+    SAME(answer.number, 8);
+    check_frame(frames[0], 10, 0);
+    check_frame(frames[7], 3, 33);
+    SAME(cq_set_newest_frames(&thread, &ten[8], 2, &kept), CQ_ILLEGAL_ARGUMENT);
+    SAME(kept, 8);
+    OK(cq_frame_count(&thread, &kept));
+    SAME(kept, 8);
+    OK(cq_set_newest_frames(&thread, ten, 3, &kept));
+    SAME(kept, 3);
+    OK(cq_set_newest_frames(&thread, ten, 0, &kept));
+    SAME(kept, 0);
+}
+
 /* There is room for one frame, and the buffer behind it is left alone. */
 static void room(void) {
     frames[1] = (cq_frame){ 77, 78 };
@@ -318,6 +340,7 @@ int main(void) {
     make();
     meet();
     steps();
+    deeper_than_the_depth();
     parts_of_a_trace();
     room();
     block();

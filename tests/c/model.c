@@ -172,6 +172,14 @@ uint32_t model_set_frames(cq_thread *thread, const cq_frame *frames, size_t coun
     return CQ_OK;
 }
 
+uint32_t model_set_newest_frames(cq_thread *thread, const cq_frame *frames, size_t count, uint64_t *kept) {
+    m_thread *t = thread_of(thread);
+    size_t most = t != NULL && count > t->service->depth ? t->service->depth : count;
+    uint32_t code = model_set_frames(thread, frames, most);
+    if (code == CQ_OK) *kept = most;
+    return code;
+}
+
 uint32_t model_frame_count(cq_thread *thread, uint64_t *count) {
     m_thread *t = thread_of(thread);
     if (t == NULL) return CQ_MISUSED;

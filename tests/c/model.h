@@ -21,6 +21,7 @@ uint32_t model_enter_native(cq_thread *thread, uint32_t method);
 uint32_t model_at(cq_thread *thread, uint32_t location);
 uint32_t model_leave(cq_thread *thread);
 uint32_t model_set_frames(cq_thread *thread, const cq_frame *frames, size_t count);
+uint32_t model_set_newest_frames(cq_thread *thread, const cq_frame *frames, size_t count, uint64_t *kept);
 uint32_t model_frame_count(cq_thread *thread, uint64_t *count);
 uint32_t model_take_pops(cq_thread *thread, uint64_t *count);
 bool model_poll_clear(cq_thread *thread);

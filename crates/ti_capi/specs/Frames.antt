@@ -1,5 +1,5 @@
 -- Frames that a runtime gives, and the end of a thread's handle.
-use Rattle.std.specs.Prelude.{ℕ, ◌≡◌, ◌⊎◌, true, false, List, map, Option, Some, None}
+use Rattle.std.specs.Prelude.{ℕ, ◌≡◌, ◌⊎◌, true, false, min, List, length, map, take, Option, Some, None}
 use Rattle.ti_types.specs.TiError.{number_of}
 use Rattle.ti_types.specs.declared.error.TiError.{TiError}
 use Rattle.ti_types.specs.declared.error.TiError.TheVariants.{Busy, IllegalArgument, NotRunning, OutOfMemory}
@@ -37,6 +37,27 @@ SetsBehind None n frames old new code = (new ≡ old) × (code ≡ misused)
 -- the thread behind a handle has other frames
 abbrev pub Sets : List CqFrame → ThreadHandle → ThreadHandle → ℕ → Type 0
 Sets frames old new code = SetsBehind old.place.thread new.place.thread frames old new code
+
+-- how many of these frames the thread of a box may have
+abbrev pub most_of : HeldThread → List CqFrame → ℕ
+most_of h frames = min (length frames) h.service.view.limits.depth
+
+-- a number is written only with the code 0
+abbrev pub IsTold : ℕ → ℕ → ℕ → ℕ → Type 0
+IsTold n n0 n1 code = (code ≡ 0 → n1 ≡ n) × ((code ≡ 0 → ⊥) → n1 ≡ n0)
+
+-- the newest of these are the frames of the thread of a box, and it is told how many
+abbrev pub SetsNewestIn : List CqFrame → HeldThread → HeldThread → ℕ → ℕ → ℕ → Type 0
+SetsNewestIn frames old new n0 n1 code = SetsIn (take (most_of old frames) frames) old new code × IsTold (most_of old frames) n0 n1 code
+
+abbrev pub SetsNewestBehind : Option HeldThread → Option HeldThread → List CqFrame → ThreadHandle → ThreadHandle → ℕ → ℕ → ℕ → Type 0
+SetsNewestBehind (Some h) (Some n) frames old new n0 n1 code = (new ≡ with_held old n) × SetsNewestIn frames h n n0 n1 code
+SetsNewestBehind (Some h) None frames old new n0 n1 code = ⊥
+SetsNewestBehind None n frames old new n0 n1 code = (new ≡ old) × (n1 ≡ n0) × (code ≡ misused)
+
+-- the same of the thread behind a handle
+abbrev pub SetsNewest : List CqFrame → ThreadHandle → ThreadHandle → ℕ → ℕ → ℕ → Type 0
+SetsNewest frames old new n0 n1 code = SetsNewestBehind old.place.thread new.place.thread frames old new n0 n1 code
 
 -- A thread is given back, if it has ended or never started (`ti_service`, `Service::end_thread_now`, `withdraw_thread_now`)
 pub data GivesBackFor (t : HostThread) (old new : HeldThread) (code : ℕ) : Type 0 where

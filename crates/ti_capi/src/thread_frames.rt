@@ -4,6 +4,7 @@ use crate::codes::{CQ_MISUSED, CQ_OK, told_code};
 use crate::held::HeldThread;
 use crate::thread_handle::CqThread;
 use crate::values::{CqFrame, frame_in};
+use crate::writes::smaller;
 use std::alloc::Global;
 use ti_thread::{AnyThread, HostThread};
 use ti_types::{Frame, TiError};
@@ -60,6 +61,33 @@ pub extern "C" fn cq_set_frames(thread: &mut CqThread, frames: &[CqFrame]) -> u3
     }
 }
 
+/// Replaces all frames of the thread of a box by the newest of these, as many as its service lets it have.
+fn set_newest(held: &mut HeldThread, frames: &[CqFrame], kept: &mut u64) -> u32
+    ensures { SetsNewestIn frames.now held.old held.new kept.old kept.new result }
+{
+    let most = smaller(frames.len(), held.service.limits().depth as usize);
+    let code = set_frames(held, &frames[..most]);
+    if code == CQ_OK {
+        *kept = most as u64;
+    }
+    code
+}
+
+/// Replaces all frames of the thread by the newest of these, which are listed newest first.
+#[unsafe(no_mangle)]
+pub extern "C" fn cq_set_newest_frames(
+    thread: &mut CqThread,
+    frames: &[CqFrame],
+    kept: &mut u64,
+) -> u32
+    ensures { SetsNewest frames.now thread.old thread.new kept.old kept.new result }
+{
+    match thread.held() {
+        Some(held) => set_newest(held, frames, kept),
+        None => CQ_MISUSED,
+    }
+}
+
 /// Gives the thread of a box back, if it has ended or never started. It stays if it is not given back.
 fn give_back(held: &mut HeldThread) -> u32
     ensures { GivesBack held.old held.new result }
@@ -111,5 +139,5 @@ pub extern "C" fn cq_detach_thread(alloc: Global, thread: &mut CqThread) -> u32
 ghost use Rattle.std.specs.Prelude.{◌≡◌, true, map, IfOk, IfErr};
 ghost use Rattle.ti_types.specs.declared.error.TiError.TheVariants.{OutOfMemory};
 ghost use Rattle.ti_thread.specs.AnyThread.{is_running};
-ghost use Rattle.ti_capi.specs.Frames.{Detaches, GivesBack, Sets, SetsIn};
+ghost use Rattle.ti_capi.specs.Frames.{Detaches, GivesBack, Sets, SetsIn, SetsNewest, SetsNewestIn};
 ghost use Rattle.ti_capi.specs.Values.{are_frames, frame_of};

@@ -226,6 +226,7 @@ extern "C" {
     pub fn cq_at(thread: *mut cq_thread, location: u32) -> u32;
     pub fn cq_leave(thread: *mut cq_thread) -> u32;
     pub fn cq_set_frames(thread: *mut cq_thread, frames: *const cq_frame, count: usize) -> u32;
+    pub fn cq_set_newest_frames(thread: *mut cq_thread, frames: *const cq_frame, count: usize, kept: *mut u64) -> u32;
     pub fn cq_frame_count(thread: *mut cq_thread, count: *mut u64) -> u32;
     pub fn cq_take_pops(thread: *mut cq_thread, count: *mut u64) -> u32;
     pub fn cq_poll_clear(thread: *mut cq_thread) -> bool;

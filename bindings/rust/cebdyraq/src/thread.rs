@@ -130,6 +130,13 @@ impl Running {
         checked(unsafe { sys::cq_set_frames(self.0.at(), frames.as_ptr(), frames.len()) })
     }
 
+    /// Replaces all frames by the newest of these, as many as the service shows. Gives how many were kept.
+    pub fn set_newest_frames(&mut self, frames: &[Frame]) -> Result<u64, Error> {
+        let mut kept = 0;
+        checked(unsafe { sys::cq_set_newest_frames(self.0.at(), frames.as_ptr(), frames.len(), &mut kept) })?;
+        Ok(kept)
+    }
+
     /// How many frames the thread has.
     pub fn frame_count(&mut self) -> u64 {
         let mut count = 0;
