@@ -20,14 +20,18 @@ import contextlib
 import dataclasses
 import os
 import pathlib
+import queue
 import re
 import shutil
 import subprocess
 import sys
 import tempfile
+from concurrent import futures
 
 CRATES = pathlib.Path("crates")
 LEFT_BEHIND = ("edits", "more-edits", "must-not-compile", "out")
+# How many crates are tried at once, each in a tree of its own. A check keeps one or two processors busy.
+AT_ONCE = max(1, (os.cpu_count() or 1) // 2)
 
 
 class Misfit(Exception):
@@ -218,10 +222,20 @@ def try_crate(tree, crate, edits, is_whole):
 
 
 def try_all(folder, names):
-    crates = [crate for crate in sorted(CRATES.iterdir()) if not names or crate.name in names]
-    with tempfile.TemporaryDirectory(prefix="edits-") as room:
-        tree = Tree(room)
-        counts = [try_crate(tree, crate, edits, folder == "more-edits") for crate in crates if (edits := edits_of(crate, folder))]
+    work = [(crate, edits) for crate in sorted(CRATES.iterdir()) if (not names or crate.name in names) and (edits := edits_of(crate, folder))]
+    trees = queue.SimpleQueue()
+
+    def tried(crate, edits):
+        tree = trees.get()
+        try:
+            return try_crate(tree, crate, edits, folder == "more-edits")
+        finally:
+            trees.put(tree)
+
+    with contextlib.ExitStack() as rooms, futures.ThreadPoolExecutor(AT_ONCE) as pool:
+        for _ in range(AT_ONCE):
+            trees.put(Tree(rooms.enter_context(tempfile.TemporaryDirectory(prefix="edits-"))))
+        counts = list(pool.map(tried, *zip(*work))) if work else []
     refused, missed = map(sum, zip(*counts)) if counts else (0, 0)
     print(f"{refused} refused, {missed} not")
     return 1 if missed or not refused else 0
