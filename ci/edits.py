@@ -64,17 +64,17 @@ class Edit:
             text = text.replace(old, new)
         if not functions:
             raise Misfit("it has no pair of an old and a new text")
-        return text, {function and self.module() + function for function in functions}
+        return text, {function and (function if "::" in function else f"{self.module()}::{function}") for function in functions}
 
     def module(self):
-        """The path of the file's module, as the prover prints it before a function's name."""
-        names = [self.crate, *self.file.removeprefix("src/").removesuffix(".rt").split("/")]
-        return "::".join(names[:-1] if names[-1] in ("lib", "main") else names) + "::"
+        """The name of the file's module."""
+        name = pathlib.Path(self.file).stem
+        return self.crate if name in ("lib", "main") else name
 
 
 def function_at(text, place):
-    """The function in whose body a place of a laid out text is: its name, with that of its type before it. None if it is in no
-    body."""
+    """The function in whose body a place of a laid out text is: its name, with that of its type before it, if it has one. None if
+    the place is in no body."""
     for head in reversed(list(re.finditer(r"^( *)(?:[\w()\"]+ )*fn (\w+)", text[:place], re.M))):
         end = re.compile(rf"^{head[1]}}}$", re.M).search(text, head.end())
         body = re.compile(rf"\{{$|^{head[1]}\{{", re.M).search(text, head.end())
@@ -84,7 +84,8 @@ def function_at(text, place):
 
 
 def of_type(text, head):
-    """The name of the type before a function's, as the prover prints it."""
+    """The name of the type before a function's, as the prover prints it. (Of a method it prints the type's module, wherever the
+    method stands.)"""
     if not head[1]:
         return ""
     impl = list(re.finditer(r"^impl(?:<[^{]*?>)? (?:(\w+)(?:<([^{]*?)>)? for )?(\w+)", text[: head.start()], re.M))[-1]
@@ -98,6 +99,11 @@ class Said:
 
     unproved: set
     callers: set
+
+    @staticmethod
+    def names(functions, paths):
+        """Whether one of the functions is named by one of the paths that the prover printed."""
+        return any(function and path.endswith(f"::{function}") or path == function for function in functions for path in paths)
 
     @classmethod
     def of(cls, folder, *flags):
@@ -185,8 +191,8 @@ class Copy:
         while waiting:
             chosen, texts = self.choose(waiting)
             said = self.said_of(chosen, texts, is_whole)
-            now = [edit for edit, functions in chosen if functions & said.unproved or None in functions and said.unproved]
-            again = [edit for edit, functions in chosen if edit not in now and functions & said.callers]
+            now = [edit for edit, functions in chosen if said.names(functions, said.unproved) or None in functions and said.unproved]
+            again = [edit for edit, functions in chosen if edit not in now and said.names(functions, said.callers)]
             done = [edit for edit, _ in chosen if not now or edit not in again]
             refused, waiting = refused + now, [edit for edit in waiting if done and edit not in done]
         return refused
