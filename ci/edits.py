@@ -10,8 +10,8 @@ when its turn comes. The gate tries those of edits/: one for each relation that 
 
 The crates have to be proved. An edit is refused if a function that it changes is not proved then. The others of its crate keep
 their contracts, so edits of different functions are made together, on a copy. Those of edits/ are checked function by function,
-and those of more-edits/ by one check of the crate. An edit that changes anything but bodies is tried alone, by a check of the
-crate. What does not compile is not refused.
+and those of more-edits/ by one check of the crate. An edit that changes more than bodies is tried alone, and one that changes no
+body by a check of the crate. What does not compile is not refused.
 
 The last line is 'N refused, M not', or 'N passed, M failed' of the last form.
 """
@@ -177,10 +177,10 @@ class Copy:
 
     def said_of(self, chosen, texts, is_whole):
         """What a check of the crate says of these edits, or a check of each of their functions."""
-        functions = set().union(*(functions for _, functions in chosen))
+        functions = set().union(*(functions for _, functions in chosen)) - {None}
         for file, text in texts.items():
             (self.folder / file).write_text(text)
-        said = Said.of(self.folder) if is_whole or None in functions else Said.of_each(self.folder, functions)
+        said = Said.of(self.folder) if is_whole or not functions else Said.of_each(self.folder, functions)
         for file in texts:
             shutil.copy(self.crate / file, self.folder / file)
         return said
@@ -191,7 +191,7 @@ class Copy:
         while waiting:
             chosen, texts = self.choose(waiting)
             said = self.said_of(chosen, texts, is_whole)
-            now = [edit for edit, functions in chosen if said.names(functions, said.unproved) or None in functions and said.unproved]
+            now = [edit for edit, functions in chosen if said.names(functions, said.unproved) or functions == {None} and said.unproved]
             again = [edit for edit, functions in chosen if edit not in now and said.names(functions, said.callers)]
             done = [edit for edit, _ in chosen if not now or edit not in again]
             refused, waiting = refused + now, [edit for edit in waiting if done and edit not in done]
