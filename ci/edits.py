@@ -85,12 +85,14 @@ def function_at(text, place):
 
 def of_type(text, head):
     """The name of the type before a function's, as the prover prints it. (Of a method it prints the type's module, wherever the
-    method stands.)"""
+    method stands. In front of a trait's method stand the type and the trait, with what they are given.)"""
     if not head[1]:
         return ""
-    impl = list(re.finditer(r"^impl(?:<[^{]*?>)? (?:(\w+)(?:<([^{]*?)>)? for )?(\w+)", text[: head.start()], re.M))[-1]
-    trait, argument, name = impl.groups("")
-    return f"{name}{trait}{argument}::"
+    impl = list(re.finditer(r"^impl(?:<([^{]*?)>)? (?:([^{]*) for )?([^{]*?) (?:where|\{)", text[: head.start()], re.M))[-1]
+    given, trait, name = impl.groups("")
+    unnamed = set(re.findall(r"(\w+)(?=:|,|$)", given))
+    named = [word for word in re.findall(r"\w+", f"{name} {trait}") if word not in unnamed]
+    return "".join(named if trait else named[:1]) + "::"
 
 
 @dataclasses.dataclass
