@@ -1,0 +1,20 @@
+//! The monitor of a service: it reads all threads' stacks for profilers, and counts what monitors ask for.
+//!
+//! A `Monitor` is an agent of the service. It reads all threads once, or over and over for some seconds, for as many readings
+//! at once as there are, and posts one call at a thread for all of them. A `Door` answers requests of HTTP with what it read:
+//! profiles for `go tool pprof`, texts, JSON, and counters for Prometheus. It has no socket and no clock: bytes and the time go
+//! in, bytes and what is to be done come out.
+//!
+//! This crate uses `ti_service` for the threads, `ti_pprof` for counts and profiles, and `ti_http` for each connection. No call
+//! waits.
+#![tactic(auto)]
+
+mod metrics;
+mod monitor;
+mod reading;
+mod state;
+
+pub use metrics::{BOUNDS, Histogram, Metrics};
+pub use monitor::{Monitor, ReadingNo};
+pub use reading::{Order, Reading, Seen};
+pub use state::{STATES, state_place};
