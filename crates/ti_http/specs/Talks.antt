@@ -112,17 +112,20 @@ refusal_text r manner = answer_text (status_of r) content.Text manner (text_of r
 abbrev pub closing : Manner
 closing = record { keeps = false; head_only = false }
 
+-- what came is refused in this manner, and this is what the connection reads next, if it goes on
+abbrev pub refused_with : Talk → ℕ → Manner → List ℕ → Refusal → Talk
+refused_with t now manner input r = answers (record t { asked = t.asked + 1 }) now manner input (refusal_text r manner)
+
 -- what is no request is refused, and the connection ends
 abbrev pub refuses : Talk → ℕ → Refusal → Talk
-refuses t now r = answers (record t { asked = t.asked + 1 }) now closing [] (refusal_text r closing)
+refuses t now r = refused_with t now closing [] r
 
 abbrev pub manner_after : Talk → Refusal → Whole → Manner
 manner_after t r w = record { keeps = (w.manner.keeps && not (closes r)) && nat_lt (t.asked + 1) 1000; head_only = w.manner.head_only }
 
 -- a whole request is refused
 abbrev pub refuses_whole : Talk → ℕ → Refusal → Whole → Talk
-refuses_whole t now r w =
-    answers (record t { asked = t.asked + 1 }) now (manner_after t r w) (drop w.len t.input) (refusal_text r (manner_after t r w))
+refuses_whole t now r w = refused_with t now (manner_after t r w) (drop w.len t.input) r
 
 abbrev pub starves : Talk → ℕ → Action × Talk
 starves t now =

@@ -112,19 +112,7 @@ impl Connection {
             keeps: false,
             head_only: false,
         };
-        self.output = answer(
-            self.alloc,
-            refusal.status(),
-            ContentType::Text,
-            refusal.text(),
-            manner,
-        )?;
-        self.sent = 0;
-        self.input.clear();
-        self.phase = Phase::Closing;
-        self.since = now;
-        self.asked += 1;
-        self.answered += 1;
+        self.put_refusal(refusal, manner, now)?;
         Ok(Action::Write)
     }
 
@@ -145,6 +133,21 @@ impl Connection {
             keeps: whole.manner.keeps && !refusal.closes() && self.asked + 1 < MAX_REQUESTS,
             head_only: whole.manner.head_only,
         };
+        self.put_refusal(refusal, manner, now)?;
+        if manner.keeps {
+            drop_front(&mut self.input, whole.len);
+        }
+        Ok(Action::Write)
+    }
+
+    /// Answers what is refused. The input stays only if the connection goes on.
+    fn put_refusal(&mut self, refusal: Refusal, manner: Manner, now: u64) -> Result<(), HttpError>
+        requires phase { self.old.phase ≡ Reading }
+        requires keeps { manner.keeps ≡ true → self.old.asked + 1 < 1000 }
+        ensures ok { OnOk result (self.new ≡ refused_with self.old now manner self.old.input refusal) }
+        ensures memory { IfErr result (λ e. e ≡ OutOfMemory) }
+        ensures err { OnErr result (self.new ≡ self.old) }
+    {
         self.output = answer(
             self.alloc,
             refusal.status(),
@@ -153,22 +156,19 @@ impl Connection {
             manner,
         )?;
         self.sent = 0;
-        if manner.keeps {
-            drop_front(&mut self.input, whole.len);
-            self.phase = Phase::Reading;
-        } else {
+        if !manner.keeps {
             self.input.clear();
             self.phase = Phase::Closing;
         }
         self.since = now;
         self.asked += 1;
         self.answered += 1;
-        Ok(Action::Write)
+        Ok(())
     }
 }
 
-ghost use Rattle.std.specs.Prelude.{◌≡◌, ◌≤◌, [], length, drop, IfOk, IfErr, OnErr};
-ghost use Rattle.ti_http.specs.Talks.{outstanding, Goes, Reads, closed, starves, asks, refuses, refuses_whole};
+ghost use Rattle.std.specs.Prelude.{◌≡◌, ◌≤◌, ◌<◌, ◌+◌, true, [], length, drop, IfOk, IfErr, OnOk, OnErr};
+ghost use Rattle.ti_http.specs.Talks.{outstanding, Goes, Reads, closed, starves, asks, refused_with, refuses, refuses_whole};
 ghost use Rattle.ti_http.specs.declared.connection.Action.TheVariants.{Write};
 ghost use Rattle.ti_http.specs.declared.connection.Phase.TheVariants.{Reading};
 ghost use Rattle.ti_http.specs.declared.error.HttpError.TheVariants.{OutOfMemory};

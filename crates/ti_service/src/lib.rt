@@ -27,6 +27,7 @@ mod laws;
 mod membership;
 mod service;
 mod service_classes;
+mod service_threads;
 mod service_tries;
 
 pub use agent::{Agent, Gathering};

@@ -1,0 +1,235 @@
+//! A handle of the service at its threads: they are attached and given back, and it is told which there are.
+
+use crate::service::Service;
+use std::alloc::Global;
+use std::sync::Wait;
+use std::time::Duration;
+use ti_cell::{OwnSeat, Pace};
+use ti_handshake::{Ended, Fresh};
+use ti_roster::{NextEvent, ThreadInfo};
+use ti_types::{ThreadNo, TiError};
+
+impl Service {
+    /// Attaches a thread. It has the next number, and has not started. Environments have a desk there once they meet it.
+    ///
+    /// The error is the first of these that fits. Then nothing changes but what the handle has seen:
+    ///
+    /// - 216 `Full` (this profile): there were 2^32 - 1 threads, or 2^62 - 1 comings and goings in all.
+    /// - 110 OUT_OF_MEMORY: there is no memory for the thread.
+    pub fn attach_thread<R: Wait>(
+        &mut self,
+        rt: &R,
+        alloc: Global,
+        info: ThreadInfo,
+    ) -> Result<Fresh, TiError>
+        ensures cell { self.new.cell ≡ self.old.cell }
+        ensures attached { IfOk result (λ f. Attaches self.old.view self.new.view info f) }
+        ensures refused { IfErr result (λ e. e ≡ coming_refusal (roster_seen self.new.view)) }
+        ensures unchanged { OnErr result (Looks self.old.view self.new.view) }
+    {
+        let mut info = info;
+        let pace = Pace::new();
+        for _ in rt.forever() {
+            match self.attach_once(alloc, info) {
+                Ok(result) => {
+                    self.wake_sleepers();
+                    return result;
+                }
+                Err(same) => {
+                    info = same;
+                    self.roster.await_free(rt, &pace);
+                }
+            }
+        }
+        unreachable!()
+    }
+
+    /// A thread of this number is there no more.
+    fn end<R: Wait>(&mut self, rt: &R, thread: ThreadNo) -> Result<(), TiError>
+        ensures cell { self.new.cell ≡ self.old.cell }
+        ensures gone { OnOk result (Ends self.old.view self.new.view thread) }
+        ensures refused { IfErr result (λ e. RefusesEnd self.old.view self.new.view thread e) }
+    {
+        let pace = Pace::new();
+        for _ in rt.forever() {
+            match self.end_now(thread) {
+                Err(TiError::Busy) => self.roster.await_free(rt, &pace),
+                result => {
+                    self.wake_sleepers();
+                    return result;
+                }
+            }
+        }
+        unreachable!()
+    }
+
+    /// Gives a thread back that has ended. It is there no more, and its number is never used again. Its memory is freed
+    /// once the environments that have a desk there have let go of it.
+    ///
+    /// The error is the first of these that fits. Then nothing changes but what the handle has seen, and the thread's seat
+    /// comes back:
+    ///
+    /// - 10 INVALID_THREAD: the service has had no thread of this number.
+    /// - 15 THREAD_NOT_ALIVE: it was given back before.
+    /// - 216 `Full` (this profile): there were 2^62 - 1 comings and goings in all.
+    pub fn end_thread<R: Wait>(&mut self, rt: &R, ended: Ended) -> Result<(), (TiError, OwnSeat)>
+        ensures cell { self.new.cell ≡ self.old.cell }
+        ensures gone { OnOk result (Ends self.old.view self.new.view ended.view.subject.thread) }
+        ensures refused { IfErr result (λ r. RefusesEnd self.old.view self.new.view ended.view.subject.thread r.0) }
+        ensures back { IfErr result (λ r. r.1 ≡ ended) }
+    {
+        let seat = ended.into_seat();
+        match self.end(rt, seat.thread()) {
+            Ok(()) => Ok(()),
+            Err(error) => Err((error, seat)),
+        }
+    }
+
+    /// Gives a thread back that never started. Everything else is as for `end_thread`.
+    pub fn withdraw_thread<R: Wait>(
+        &mut self,
+        rt: &R,
+        fresh: Fresh,
+    ) -> Result<(), (TiError, OwnSeat)>
+        ensures cell { self.new.cell ≡ self.old.cell }
+        ensures gone { OnOk result (Ends self.old.view self.new.view fresh.view.subject.thread) }
+        ensures refused { IfErr result (λ r. RefusesEnd self.old.view self.new.view fresh.view.subject.thread r.0) }
+        ensures back { IfErr result (λ r. r.1 ≡ fresh) }
+    {
+        let seat = fresh.into_seat();
+        match self.end(rt, seat.thread()) {
+            Ok(()) => Ok(()),
+            Err(error) => Err((error, seat)),
+        }
+    }
+
+    /// GetAllThreads (JVM TI 11): the numbers of the threads that are there, each above those before it. A thread that was
+    /// attached and has not started is among them, and so is one that has ended and was not given back.
+    ///
+    /// 110 OUT_OF_MEMORY if there is no memory for them.
+    pub fn get_all_threads<R: Wait>(
+        &mut self,
+        rt: &R,
+        alloc: Global,
+    ) -> Result<Vec<ThreadNo>, TiError>
+        ensures cell { self.new.cell ≡ self.old.cell }
+        ensures hold { Looks self.old.view self.new.view }
+        ensures threads { IfOk result (λ t. t.items ≡ map (λ n. n.thread) (live self.new.view.seen)) }
+        ensures memory { IfErr result (λ e. e ≡ OutOfMemory) }
+    {
+        let pace = Pace::new();
+        for _ in rt.forever() {
+            match self.get_all_threads_now(alloc) {
+                Err(TiError::Busy) => self.roster.await_free(rt, &pace),
+                result => {
+                    self.wake_sleepers();
+                    return result;
+                }
+            }
+        }
+        unreachable!()
+    }
+
+    /// GetThreadInfo (JVM TI 11): the name and the priority of a thread that is there, as they were when it was attached.
+    ///
+    /// Errors: 10 INVALID_THREAD, 15 THREAD_NOT_ALIVE if it was given back, 110 OUT_OF_MEMORY if there is no memory for the
+    /// name.
+    pub fn get_thread_info<R: Wait>(
+        &mut self,
+        rt: &R,
+        alloc: Global,
+        thread: ThreadNo,
+    ) -> Result<ThreadInfo, TiError>
+        ensures cell { self.new.cell ≡ self.old.cell }
+        ensures hold { Looks self.old.view self.new.view }
+        ensures told { IfOk result (λ i. IsToldOf (roster_seen self.new.view) thread i) }
+        ensures refused { IfErr result (λ e. e ≡ info_refusal (roster_seen self.new.view) thread) }
+    {
+        let pace = Pace::new();
+        for _ in rt.forever() {
+            match self.get_thread_info_now(alloc, thread) {
+                Err(TiError::Busy) => self.roster.await_free(rt, &pace),
+                result => {
+                    self.wake_sleepers();
+                    return result;
+                }
+            }
+        }
+        unreachable!()
+    }
+
+    /// How many starts and ends of threads have happened.
+    pub(crate) fn event_count<R: Wait>(&mut self, rt: &R) -> u64
+        ensures cell { self.new.cell ≡ self.old.cell }
+        ensures hold { Looks self.old.view self.new.view }
+        ensures count { result ≡ length (life_of self.new.view.seen) }
+    {
+        let pace = Pace::new();
+        for _ in rt.forever() {
+            match self.event_count_now() {
+                Ok(count) => {
+                    self.wake_sleepers();
+                    return count;
+                }
+                Err(_busy) => self.roster.await_free(rt, &pace),
+            }
+        }
+        unreachable!()
+    }
+
+    /// The first start or end of a thread from this index on that is kept, and how many were lost before it.
+    pub(crate) fn next_event<R: Wait>(&mut self, rt: &R, from: u64) -> Option<NextEvent>
+        ensures cell { self.new.cell ≡ self.old.cell }
+        ensures hold { Looks self.old.view self.new.view }
+        ensures next { result ≡ next_event (life_of self.new.view.seen) from }
+        ensures fits { IfSome result (λ n. from + n.lost < 2 ^ 62) }
+        ensures order { AreInOrder (life_of self.new.view.seen) }
+    {
+        let pace = Pace::new();
+        for _ in rt.forever() {
+            match self.next_event_now(from) {
+                Ok(next) => {
+                    self.wake_sleepers();
+                    return next;
+                }
+                Err(_busy) => self.roster.await_free(rt, &pace),
+            }
+        }
+        unreachable!()
+    }
+
+    /// Sleeps until somebody else has held the roster, if no more has happened than the handle has seen. It sleeps for at most
+    /// this time, and may return sooner.
+    pub(crate) fn sleep_without_news_for<R: Wait>(&self, rt: &R, time: Duration) {
+        let Some(seat) = &self.seat else {
+            unreachable!()
+        };
+        self.roster.sleep_without_news_for(rt, seat, time);
+    }
+
+    /// Whether a thread of this number is there: it was attached, and not given back (this profile).
+    pub fn is_live<R: Wait>(&mut self, rt: &R, thread: ThreadNo) -> bool
+        ensures cell { self.new.cell ≡ self.old.cell }
+        ensures hold { Looks self.old.view self.new.view }
+        ensures live { result ≡ is_live thread self.new.view.seen }
+    {
+        let pace = Pace::new();
+        for _ in rt.forever() {
+            match self.is_live_now(thread) {
+                Ok(there) => {
+                    self.wake_sleepers();
+                    return there;
+                }
+                Err(_busy) => self.roster.await_free(rt, &pace),
+            }
+        }
+        unreachable!()
+    }
+}
+
+ghost use Rattle.std.specs.Prelude.{◌≡◌, ◌<◌, ◌+◌, ◌^◌, length, map, IfOk, IfErr, IfSome, OnOk, OnErr};
+ghost use Rattle.ti_roster.specs.Events.{AreInOrder, life_of, next_event};
+ghost use Rattle.ti_types.specs.declared.error.TiError.TheVariants.{Full, OutOfMemory};
+ghost use Rattle.ti_roster.specs.Log.{is_live, live};
+ghost use Rattle.ti_roster.specs.Roster.{IsToldOf, coming_refusal, info_refusal};
+ghost use Rattle.ti_service.specs.Service.{Attaches, Ends, Looks, RefusesEnd, roster_seen};
