@@ -91,7 +91,7 @@ def build(archive, dist):
     shutil.copyfile(header.C / SUPPRESSIONS, share / SUPPRESSIONS)
     with tempfile.TemporaryDirectory() as name:
         room = pathlib.Path(name)
-        objects = [joined(archive, room), compiled("cebdyraq_wait", room)]
+        objects = [joined(archive, room), compiled("cebdyraq_wait", room), compiled("cebdyraq_serve", room)]
         run(*words("AR", "ar"), "rcs", lib / "libcebdyraq.a", *objects)
         os.chmod(lib / "libcebdyraq.a", 0o644)
         link_shared(objects, lib)

@@ -1,6 +1,7 @@
 /* host.c: the life of a script, its safepoint, and how it hands its frames over. */
 #include "host.h"
 
+#include <errno.h>
 #include <lauxlib.h>
 #include <lualib.h>
 #include <stdio.h>
@@ -176,7 +177,10 @@ static int refused(const char *what, uint32_t code) {
 int host_make(struct host *host, char **paths, size_t count, bool inspected) {
     host->scripts = calloc(count, sizeof *host->scripts);
     host->ended = eventfd(0, EFD_CLOEXEC);
-    if (!host->scripts || host->ended < 0 || sem_init(&host->alive, 0, 0) || methods_make()) {
+    uint32_t code = inspected ? cq_make(FRAMES, 3, 8, &host->service) : CQ_OK;
+    if (code != CQ_OK)
+        return refused("the service", code);
+    if (!host->scripts || host->ended < 0 || sem_init(&host->alive, 0, 0) || methods_make(inspected ? &host->service : NULL)) {
         perror("cqlua");
         return -1;
     }
@@ -184,9 +188,6 @@ int host_make(struct host *host, char **paths, size_t count, bool inspected) {
     host->count = count;
     host->inspected = inspected;
     atomic_init(&host->living, count);
-    uint32_t code = inspected ? cq_make(FRAMES, 2, 8, &host->service) : CQ_OK;
-    if (code != CQ_OK)
-        return refused("the service", code);
     for (size_t i = 0; i < count; i++) {
         struct script *script = &host->scripts[i];
         script->host = host;
@@ -222,7 +223,26 @@ bool host_join(struct host *host) {
     return failed;
 }
 
+int host_serve(struct host *host, const char *address) {
+    static const char *const hosts[] = { "http://127.0.0.1", "http://[::1]" };
+    uint32_t code = cq_serve(&host->server, &host->service, &host->signal, address, "cqlua");
+    if (code == CQ_SYSTEM) {
+        fprintf(stderr, "cqlua: %s: %s\n", address, strerror(errno));
+        return -1;
+    }
+    if (code != CQ_OK)
+        return refused(address, code);
+    if (host->server.port)
+        fprintf(stderr, "cqlua: serves %s:%u/\n", hosts[*address == '['], host->server.port);
+    else
+        fprintf(stderr, "cqlua: serves %s\n", address);
+    return 0;
+}
+
 void host_free(struct host *host) {
+    if (cq_serve_end(&host->server) != CQ_OK)
+        fputs("cqlua: the server's environment stays\n", stderr);
+    methods_end();
     if (host->inspected)
         cq_free(&host->service);
     close(host->ended);

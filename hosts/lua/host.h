@@ -11,6 +11,7 @@
 #include <stdint.h>
 
 #include "cebdyraq.h"
+#include "cebdyraq_serve.h"
 #include "cebdyraq_wait.h"
 #include "methods.h"
 
@@ -53,6 +54,7 @@ struct script {
 struct host {
     cq_service service;
     cq_signal signal;
+    cq_server server;           /* zeros if nothing is served */
     bool inspected;             /* there is a service */
     const char **statements;    /* what each script runs first */
     size_t statement_count;
@@ -66,6 +68,9 @@ struct host {
 
 /* Makes the scripts, and attaches them to a new service, if there is to be one. Returns 0, or -1 with a message. */
 int host_make(struct host *host, char **paths, size_t count, bool inspected);
+
+/* Serves profiles, stacks and counters at an address, until host_free. Returns 0, or -1 with a message. */
+int host_serve(struct host *host, const char *address);
 
 /* Starts all scripts, and waits until they are alive. Returns 0, or -1 with a message if some could not be started. */
 int host_start(struct host *host);

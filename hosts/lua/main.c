@@ -7,15 +7,18 @@
 #include "agent.h"
 
 static const char USAGE[] =
-    "usage: cqlua run [-e STATEMENT] [--no-service] SCRIPT..\n"
-    "       cqlua prof [-e STATEMENT] [--seconds N] [--rate N] [--svg] [-o FILE] SCRIPT..\n"
-    "       cqlua top [-e STATEMENT] SCRIPT..\n"
-    "       cqlua debug [-e STATEMENT] SCRIPT..\n";
+    "usage: cqlua run [-e STATEMENT] [--no-service] [--serve ADDRESS] SCRIPT..\n"
+    "       cqlua serve ADDRESS [-e STATEMENT] SCRIPT..\n"
+    "       cqlua prof [-e STATEMENT] [--serve ADDRESS] [--seconds N] [--rate N] [--svg] [-o FILE] SCRIPT..\n"
+    "       cqlua top [-e STATEMENT] [--serve ADDRESS] SCRIPT..\n"
+    "       cqlua debug [-e STATEMENT] [--serve ADDRESS] SCRIPT..\n"
+    "An ADDRESS is 127.0.0.1:PORT, [::1]:PORT, localhost:PORT or unix:PATH.\n";
 
 struct arguments {
     const char *command;
     struct prof_options prof;
     bool inspected;
+    const char *address;      /* at which is served, or NULL */
     const char **statements;
     size_t statement_count;
     char **scripts;
@@ -35,6 +38,10 @@ static size_t read_option(struct arguments *a, char **at) {
     bool run = !strcmp(a->command, "run"), prof = !strcmp(a->command, "prof");
     if (!strcmp(at[0], "-e") && at[1]) {
         a->statements[a->statement_count++] = at[1];
+        return 2;
+    }
+    if (!strcmp(at[0], "--serve") && at[1]) {
+        a->address = at[1];
         return 2;
     }
     if (run && !strcmp(at[0], "--no-service")) {
@@ -57,7 +64,7 @@ static size_t read_option(struct arguments *a, char **at) {
 }
 
 static bool read_command(struct arguments *a, const char *word) {
-    static const char *const commands[] = { "run", "prof", "top", "debug" };
+    static const char *const commands[] = { "run", "serve", "prof", "top", "debug" };
     for (size_t i = 0; word && i < sizeof commands / sizeof *commands; i++)
         if (!strcmp(word, commands[i]))
             a->command = commands[i];
@@ -68,6 +75,10 @@ static bool read_arguments(struct arguments *a, char **argv) {
     size_t at = 2;
     if (!argv[0] || !read_command(a, argv[1]))
         return false;
+    if (!strcmp(a->command, "serve")) {
+        a->address = argv[at];
+        at += argv[at] != NULL;
+    }
     while (argv[at] && argv[at][0] == '-') {
         size_t words = read_option(a, &argv[at]);
         if (!words)
@@ -77,7 +88,7 @@ static bool read_arguments(struct arguments *a, char **argv) {
     a->scripts = &argv[at];
     while (argv[at + a->script_count])
         a->script_count++;
-    return a->script_count > 0;
+    return a->script_count > 0 && (a->inspected || !a->address);
 }
 
 static int run_command(const struct arguments *a, struct host *host) {
@@ -95,6 +106,8 @@ static int run(const struct arguments *a) {
     host.statements = a->statements;
     host.statement_count = a->statement_count;
     if (host_make(&host, a->scripts, a->script_count, a->inspected))
+        return 1;
+    if (a->address && host_serve(&host, a->address))
         return 1;
     bool failed = run_command(a, &host);
     failed = host_join(&host) || failed;

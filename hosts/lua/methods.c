@@ -9,6 +9,7 @@
 #include "text.h"
 
 static pthread_mutex_t lock = PTHREAD_MUTEX_INITIALIZER;
+static cq_service service;       /* empty if there is none */
 static struct method **methods;  /* by number; there is room for half as many as places */
 static uint32_t count;
 static uint32_t *places;         /* a number and one, or 0 for an empty place */
@@ -56,16 +57,39 @@ static int grow(size_t size) {
     return 0;
 }
 
+static void free_method(struct method *m) {
+    free(m->source);
+    free(m->name);
+    free(m);
+}
+
+/* Defines a method in the service, as the one of a class. It has the next number there, as it has here. */
+static bool define(const struct method *m) {
+    bool native = m->line < 0;
+    char *file = strdup(m->source), *name = strdup(m->name);
+    uint32_t class_no, number, code = CQ_OUT_OF_MEMORY;
+    if (file && name) {
+        text_clean(file);
+        text_clean(name);
+        cq_method_strings own = { .name = name, .lines_kind = native ? CQ_LINES_NATIVE : CQ_LINES_LOCATIONS,
+                                  .first_line = m->line > 0 ? (uint32_t)m->line : 0 };
+        do
+            code = cq_define_class_strings(&service, file, native ? NULL : file, &own, 1, &class_no, &number);
+        while (code == CQ_BUSY);
+    }
+    free(file);
+    free(name);
+    return code == CQ_OK;
+}
+
 static struct method *make_method(const char *source, int line, const char *name) {
     struct method *m = malloc(sizeof *m);
     if (!m)
         return NULL;
     *m = (struct method){ strdup(source), line, strdup(name), count };
-    if (m->source && m->name)
+    if (m->source && m->name && (!service.kind || define(m)))
         return m;
-    free(m->source);
-    free(m->name);
-    free(m);
+    free_method(m);
     return NULL;
 }
 
@@ -100,14 +124,20 @@ const struct method *methods_get(uint32_t number) {
     return m;
 }
 
-int methods_make(void) {
+int methods_make(cq_service *of) {
     static const char *const own[] = { "(no memory for the method)", "(frames left out)", "late" };
-    if (grow(1024))
+    if ((of && cq_share(of, &service) != CQ_OK) || grow(1024))
         return -1;
     for (size_t i = 0; i <= METHOD_OWN; i++)
         if (!methods_find("[C]", -1, own[i]))
             return -1;
     return 0;
+}
+
+void methods_end(void) {
+    pthread_mutex_lock(&lock);
+    cq_free(&service);
+    pthread_mutex_unlock(&lock);
 }
 
 void method_text(uint32_t number, char *text, size_t size) {

@@ -1,9 +1,12 @@
-/* methods.h: the numbers of methods. One table serves all states of the process, and all agents. */
+/* methods.h: the numbers of methods. One table serves all states of the process, and all agents. Each method is also a class of
+ * its own in the service, so that every tool over the library has its name. */
 #ifndef METHODS_H
 #define METHODS_H
 
 #include <stddef.h>
 #include <stdint.h>
+
+#include "cebdyraq.h"
 
 /* A method. Once made it stays as it is, and where it is, until the process ends. */
 struct method {
@@ -20,8 +23,12 @@ enum {
     METHOD_OWN = METHOD_LATE
 };
 
-/* Makes the table, with the two methods above. Returns 0, or -1 when there is no memory. */
-int methods_make(void);
+/* Makes the table, with the methods above. Nobody else defines classes in the service, which may be NULL. Returns 0, or -1 when
+ * there is no memory. */
+int methods_make(cq_service *service);
+
+/* Lets go of the service. No method is made from then on. */
+void methods_end(void);
 
 /* The method of this source, line and name. It is made if it is new. NULL when there is no memory. */
 const struct method *methods_find(const char *source, int line, const char *name);
