@@ -22,6 +22,7 @@ WAIT = [C / "cebdyraq_wait.c"]
 HEAP = [C / "cebdyraq_heap.c"]
 COUNTED_HEAP = [HERE / "counted_heap.c"]
 STRINGS = [C / "cebdyraq_classes.c"]
+SERVE = [C / "cebdyraq_serve.c"]
 MODEL = [HERE / name for name in ("model.c", "model_calls.c", "model_envs.c", "model_traces.c")]
 
 PLAIN, ADDRESS, THREAD, VALGRIND = "plain", "address,undefined", "thread", "valgrind"
@@ -41,6 +42,7 @@ class Program:
 
 
 CLASSES = ["classes.c", "classes_wrong.c", "classes_threads.c"]
+SERVED = ["serve.c", "serve_wrong.c", "serve_many.c", "client.c"]
 CODES = ["codes.c", "codes_threads.c", "codes_envs.c", "codes_memory.c", "codes_gather.c"]
 PROGRAMS = [
     Program("two_threads", ["two_threads.c"], HEAP),
@@ -55,6 +57,8 @@ PROGRAMS = [
     Program("turns", ["turns.c"], HEAP, {VALGRIND: ["100"]}, wait=[HERE / "slow_wait.c"]),
     Program("green", ["green.c"], COUNTED_HEAP, {THREAD: ["512"], VALGRIND: ["128"]}),
     Program("cxx", ["cxx.cpp"], HEAP),
+    Program("door", ["door.c", "door_random.c"], COUNTED_HEAP, {ADDRESS: ["20000"], THREAD: ["5000"], VALGRIND: ["300"]}, wait=[]),
+    Program("serve", SERVED, HEAP + STRINGS + SERVE),
     Program("fuzz", ["fuzz.c", "fuzz_calls.c"], MODEL + COUNTED_HEAP,
             {ADDRESS: ["1", "20000"], THREAD: ["1", "10000"], VALGRIND: ["1", "500"]}),
     Program("stress", ["stress.c", "stress_agents.c"], COUNTED_HEAP,
@@ -141,14 +145,17 @@ def is_missing(mode):
         return None
 
 
+OF_THE_SYSTEM = ("cebdyraq_heap.o", "cebdyraq_wait.o", "cebdyraq_serve.o")
+
+
 def needed(archive):
-    """The functions that the library needs, but for those of cebdyraq_heap.c and of cebdyraq_wait.c."""
+    """The functions that the library needs, but for those of cebdyraq_heap.c, cebdyraq_wait.c and cebdyraq_serve.c."""
     defined, wanted = set(), set()
     for line in run(["nm", "-A", str(archive)]).stdout.splitlines():
         where, kind, name = (line.rsplit(None, 2) + ["", ""])[:3]
         if kind in ("T", "W", "D", "B", "R", "V"):
             defined.add(name)
-        elif kind == "U" and "cebdyraq_heap.o" not in where and "cebdyraq_wait.o" not in where:
+        elif kind == "U" and not any(part in where for part in OF_THE_SYSTEM):
             wanted.add(name)
     return wanted - defined - {"rattle_alloc", "rattle_realloc", "rattle_dealloc"} - set(COPIES)
 

@@ -1,0 +1,23 @@
+/* served.h: a runtime of two threads that is served: one computes in two functions, the other sleeps. */
+#ifndef SERVED_H
+#define SERVED_H
+
+#include "client.h"
+
+extern cq_server server;
+extern cq_service service;
+extern cq_signal all_signal;
+
+/* Begins to serve at an address, with both threads started. */
+void begin_served(const char *address);
+
+/* Ends both threads and the server. No block of memory is left. */
+void end_served(void);
+
+/* serve_wrong.c: each request that is refused. */
+void refuses_what_is_wrong(void);
+
+/* serve_many.c: connections and profiles at their bounds. */
+void keeps_its_bounds(void);
+
+#endif
