@@ -1,5 +1,5 @@
 #!/usr/bin/env python3
-"""Runs the tests of `ti_core_tests` and `ti_trace_tests` with the first allocation of each test refused, then with the second
+"""Runs the tests of `ti_driver_tests` and `ti_agent_tests` with the first allocation of each test refused, then with the second
 alone, and so on.
 
 The tests of `memory` have to pass each time: the call that wants the memory says 110, and all is as it was. (The other
@@ -43,7 +43,7 @@ def turn(folder, greater, numbers):
 def main():
     first, last = int(sys.argv[1]) if len(sys.argv) > 1 else 1, int(sys.argv[2]) if len(sys.argv) > 2 else 200
     with unproved.copy_of_crates() as root:
-        turns = (("ti_core_tests", "lists::"), ("ti_trace_tests", "traces::"))
+        turns = (("ti_driver_tests", "lists::"), ("ti_agent_tests", "traces::"))
         counts = [turn(unproved_tests.add(root, name), greater, range(first, last + 1)) for name, greater in turns]
     passed, failed = map(sum, zip(*counts))
     print(f"{passed} passed, {failed} failed")
