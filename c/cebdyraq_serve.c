@@ -8,6 +8,7 @@
 #include <netinet/in.h>
 #include <netinet/tcp.h>
 #include <poll.h>
+#include <pthread.h>
 #include <signal.h>
 #include <stdlib.h>
 #include <string.h>
@@ -22,6 +23,24 @@ enum { CHUNK = 16384, BACKLOG = 64, NO_PORT = 65536 };
 static const uint64_t LINGER_NS = 1000000000;  /* how long a peer may send after its answer */
 static const uint64_t NAP_NS = 50000;          /* between two tries of what another uses */
 static const uint64_t REFUSED_NS = 100000000;  /* before connections are taken in again after the system refused one */
+
+/* What lies in a cq_server. */
+typedef struct __attribute__((may_alias)) {
+    cq_door door;
+    cq_signal *signal;
+    pthread_t thread;
+    int listener;                                /* a socket */
+    int ending;                                  /* an eventfd */
+    int sockets[CQ_DOOR_CONNECTIONS];            /* by connection, or -1 */
+    int leaving[CQ_DOOR_CONNECTIONS];            /* sockets of connections that ended, whose peers may still send */
+    uint64_t leaving_since[CQ_DOOR_CONNECTIONS];
+    uint32_t actions[CQ_DOOR_CONNECTIONS];       /* what is to be done with each */
+    size_t rooms[CQ_DOOR_CONNECTIONS];
+    char path[108];                              /* of a Unix socket */
+    uint16_t port;
+    bool runs;
+} server;
+_Static_assert(sizeof(server) <= sizeof(cq_server), "it fits");
 
 /* An address to listen at. */
 typedef union {
@@ -58,7 +77,7 @@ static void close_socket(int *socket) {
 }
 
 /* Lets a peer that may still send leave: with unread bytes a close would cut off the answer that is on its way. */
-static void let_leave(cq_server *s, int socket, uint64_t now) {
+static void let_leave(server *s, int socket, uint64_t now) {
     size_t at = 0;
     shutdown(socket, SHUT_WR);
     for (size_t i = 0; i < CQ_DOOR_CONNECTIONS; i++) {
@@ -85,20 +104,20 @@ static void see_off(int *socket, uint64_t since, uint64_t now) {
     }
 }
 
-static void drop(cq_server *s, uint32_t connection) {
+static void drop(server *s, uint32_t connection) {
     cq_door_disconnect(&s->door, connection);
     close_socket(&s->sockets[connection]);
 }
 
 /* Ends a connection that the door has closed. */
-static void leave(cq_server *s, uint32_t connection, uint64_t now) {
+static void leave(server *s, uint32_t connection, uint64_t now) {
     cq_door_disconnect(&s->door, connection);
     let_leave(s, s->sockets[connection], now);
     s->sockets[connection] = -1;
 }
 
 /* Writes what is to be written. Returns whether the socket took some. */
-static bool write_some(cq_server *s, uint32_t connection) {
+static bool write_some(server *s, uint32_t connection) {
     uint8_t bytes[CHUNK];
     size_t count = 0;
     if (cq_door_output(&s->door, connection, bytes, sizeof bytes, &count) != CQ_OK) {
@@ -116,7 +135,7 @@ static bool write_some(cq_server *s, uint32_t connection) {
 }
 
 /* Does what the door wants of a connection, as far as the socket lets it. */
-static void go_on(cq_server *s, uint32_t connection) {
+static void go_on(server *s, uint32_t connection) {
     while (s->sockets[connection] >= 0) {
         uint32_t *action = &s->actions[connection];
         if (cq_door_next(&s->door, connection, now_ns(), clock_ns(CLOCK_REALTIME), action, &s->rooms[connection]) != CQ_OK) {
@@ -132,7 +151,7 @@ static void go_on(cq_server *s, uint32_t connection) {
 }
 
 /* Reads what a socket has, as far as the door has room. */
-static void read_some(cq_server *s, uint32_t connection) {
+static void read_some(server *s, uint32_t connection) {
     uint8_t bytes[CHUNK];
     size_t room = s->rooms[connection] < sizeof bytes ? s->rooms[connection] : sizeof bytes, taken = 0;
     ssize_t count = recv(s->sockets[connection], bytes, room, MSG_DONTWAIT);
@@ -147,7 +166,7 @@ static void read_some(cq_server *s, uint32_t connection) {
 }
 
 /* Takes in a connection that waits. Returns whether another may be taken in. */
-static bool take_in(cq_server *s) {
+static bool take_in(server *s) {
     uint32_t connection = 0;
     if (cq_door_connect(&s->door, now_ns(), &connection) != CQ_OK) {
         return false;
@@ -170,11 +189,11 @@ static bool take_in(cq_server *s) {
 
 enum { LISTENER = 0, ENDING = 1, FIRST = 2, LEAVING = FIRST + CQ_DOOR_CONNECTIONS, ALL = LEAVING + CQ_DOOR_CONNECTIONS };
 
-static short wanted(const cq_server *s, uint32_t connection) {
+static short wanted(const server *s, uint32_t connection) {
     return (short)((s->rooms[connection] > 0 ? POLLIN : 0) | (s->actions[connection] == CQ_DOOR_WRITE ? POLLOUT : 0));
 }
 
-static void list_sockets(const cq_server *s, bool takes, struct pollfd *all) {
+static void list_sockets(const server *s, bool takes, struct pollfd *all) {
     all[LISTENER] = (struct pollfd){ takes ? s->listener : -1, POLLIN, 0 };
     all[ENDING] = (struct pollfd){ s->ending, POLLIN, 0 };
     for (uint32_t i = 0; i < CQ_DOOR_CONNECTIONS; i++) {
@@ -184,7 +203,7 @@ static void list_sockets(const cq_server *s, bool takes, struct pollfd *all) {
 }
 
 /* When the next leaving peer is sent away, if that is before `until`. */
-static uint64_t before_leaving(const cq_server *s, uint64_t until) {
+static uint64_t before_leaving(const server *s, uint64_t until) {
     for (size_t i = 0; i < CQ_DOOR_CONNECTIONS; i++) {
         uint64_t end = s->leaving_since[i] + LINGER_NS;
         until = s->leaving[i] >= 0 && end < until ? end : until;
@@ -204,7 +223,7 @@ static void rest(struct pollfd *all, uint64_t until) {
 }
 
 /* Serves all whose sockets have something, and those who have waited long enough. Returns whether one has left its place. */
-static bool serve_all(cq_server *s, const struct pollfd *all) {
+static bool serve_all(server *s, const struct pollfd *all) {
     bool left = false;
     for (uint32_t i = 0; i < CQ_DOOR_CONNECTIONS; i++) {
         short come = s->sockets[i] >= 0 && all[FIRST + i].fd == s->sockets[i] ? all[FIRST + i].revents : 0;
@@ -224,7 +243,7 @@ static bool serve_all(cq_server *s, const struct pollfd *all) {
 }
 
 static void *run(void *arg) {
-    cq_server *s = arg;
+    server *s = arg;
     struct pollfd all[ALL];
     uint64_t deadline = 0, refused = 0;
     bool takes = true;
@@ -313,7 +332,7 @@ static bool bind_to(int socket, const address *at, socklen_t length) {
 }
 
 /* Listens at an address, and notes the port or the path. */
-static bool listen_at(cq_server *s, const address *at, socklen_t length) {
+static bool listen_at(server *s, const address *at, socklen_t length) {
     address bound;
     socklen_t size = sizeof bound;
     s->listener = socket(at->any.sa_family, SOCK_STREAM | SOCK_CLOEXEC | SOCK_NONBLOCK, 0);
@@ -331,7 +350,7 @@ static bool listen_at(cq_server *s, const address *at, socklen_t length) {
     return s->ending >= 0;
 }
 
-static void close_all(cq_server *s) {
+static void close_all(server *s) {
     int kept = errno;
     close_socket(&s->listener);
     close_socket(&s->ending);
@@ -346,18 +365,22 @@ static void close_all(cq_server *s) {
     errno = kept;
 }
 
-static uint32_t open_door(cq_server *s, cq_service *service, const char *program, bool has_port) {
+static uint32_t open_door(server *s, cq_service *service, const char *program, bool has_port) {
     uint32_t code = CQ_BUSY, port = has_port ? s->port : NO_PORT;
     for (;;) {
         code = cq_open_door(service, (const uint8_t *)program, strlen(program), port, now_ns(), &s->door);
         if (code != CQ_BUSY) {
-            return code;
+            break;
         }
         nap();
     }
+    if (s->signal) {
+        cq_wake(s->signal);
+    }
+    return code;
 }
 
-static uint32_t close_door(cq_server *s) {
+static uint32_t close_door(server *s) {
     uint32_t code = CQ_BUSY;
     while ((code = cq_close_door(&s->door)) == CQ_BUSY) {
         nap();
@@ -369,7 +392,7 @@ static uint32_t close_door(cq_server *s) {
 }
 
 /* Starts the thread, to which no signal of the program's comes. */
-static bool start(cq_server *s) {
+static bool start(server *s) {
     sigset_t all, kept;
     sigfillset(&all);
     pthread_sigmask(SIG_SETMASK, &all, &kept);
@@ -380,40 +403,57 @@ static bool start(cq_server *s) {
     return s->runs;
 }
 
-uint32_t cq_serve(cq_server *server, cq_service *service, cq_signal *signal, const char *where, const char *program) {
-    address at = { 0 };
-    if (server->runs || server->door.kind != 0) {
-        return CQ_MISUSED;
+/* Listens, opens the door and starts the thread. */
+static uint32_t begin(server *s, cq_service *service, const address *at, socklen_t length, const char *program) {
+    if (!listen_at(s, at, length)) {
+        return CQ_SYSTEM;
     }
-    socklen_t length = read_address(where, &at);
-    if (length == 0) {
-        return CQ_ILLEGAL_ARGUMENT;
-    }
-    *server = (cq_server){ .signal = signal, .listener = -1, .ending = -1 };
-    for (size_t i = 0; i < CQ_DOOR_CONNECTIONS; i++) {
-        server->sockets[i] = server->leaving[i] = -1;
-    }
-    uint32_t code = listen_at(server, &at, length) ? open_door(server, service, program, at.any.sa_family != AF_UNIX) : CQ_SYSTEM;
-    if (code == CQ_OK && signal) {
-        cq_wake(signal);
-    }
-    if (code == CQ_OK && !start(server)) {
-        close_door(server);
+    uint32_t code = open_door(s, service, program, at->any.sa_family != AF_UNIX);
+    if (code == CQ_OK && !start(s)) {
+        close_door(s);
         code = CQ_SYSTEM;
-    }
-    if (code != CQ_OK) {
-        close_all(server);
     }
     return code;
 }
 
-uint32_t cq_serve_end(cq_server *server) {
-    if (server->runs) {
-        while (eventfd_write(server->ending, 1) && errno == EINTR) {
-        }
-        pthread_join(server->thread, NULL);
-        server->runs = false;
-        close_all(server);
+uint32_t cq_serve(cq_server *in, cq_service *service, cq_signal *signal, const char *where, const char *program) {
+    server *s = (server *)in;
+    address at = { 0 };
+    socklen_t length = read_address(where, &at);
+    if (s->runs || s->door.kind != 0) {
+        return CQ_MISUSED;
     }
-    return server->door.kind != 0 ? close_door(server) : CQ_OK;
+    if (length == 0) {
+        return CQ_ILLEGAL_ARGUMENT;
+    }
+    *s = (server){ .signal = signal, .listener = -1, .ending = -1 };
+    for (size_t i = 0; i < CQ_DOOR_CONNECTIONS; i++) {
+        s->sockets[i] = s->leaving[i] = -1;
+    }
+    uint32_t code = begin(s, service, &at, length, program);
+    if (code != CQ_OK) {
+        close_all(s);
+    }
+    return code;
+}
+
+uint32_t cq_server_port(const cq_server *in, uint16_t *port) {
+    const server *s = (const server *)in;
+    if (!s->runs) {
+        return CQ_MISUSED;
+    }
+    *port = s->port;
+    return CQ_OK;
+}
+
+uint32_t cq_serve_end(cq_server *in) {
+    server *s = (server *)in;
+    if (s->runs) {
+        while (eventfd_write(s->ending, 1) && errno == EINTR) {
+        }
+        pthread_join(s->thread, NULL);
+        s->runs = false;
+        close_all(s);
+    }
+    return s->door.kind != 0 ? close_door(s) : CQ_OK;
 }

@@ -31,8 +31,6 @@
 #ifndef CEBDYRAQ_SERVE_H
 #define CEBDYRAQ_SERVE_H
 
-#include <pthread.h>
-
 #include "cebdyraq_wait.h"
 
 #ifdef __cplusplus
@@ -109,21 +107,7 @@ uint32_t cq_close_door(cq_door *door) CQ_MUST_USE;
  */
 
 /* Zeros at first, and then for these functions alone. It stays where it is until cq_serve_end. */
-typedef struct {
-    cq_door door;
-    cq_signal *signal;
-    pthread_t thread;
-    int listener;                                /* a socket */
-    int ending;                                  /* an eventfd */
-    int sockets[CQ_DOOR_CONNECTIONS];            /* by connection, or -1 */
-    int leaving[CQ_DOOR_CONNECTIONS];            /* sockets of connections that ended, whose peers may still send */
-    uint64_t leaving_since[CQ_DOOR_CONNECTIONS];
-    uint32_t actions[CQ_DOOR_CONNECTIONS];       /* what is to be done with each */
-    size_t rooms[CQ_DOOR_CONNECTIONS];
-    char path[108];                              /* of a Unix socket */
-    uint16_t port;                               /* at which it listens, also where port 0 was asked for */
-    bool runs;
-} cq_server;
+typedef struct { uint64_t opaque[96]; } cq_server;
 
 /* Serves an address: "127.0.0.1:PORT", "[::1]:PORT" or "localhost:PORT", where port 0 is any free one, or "unix:PATH". `signal` is
  * that of the service's other threads, or NULL if none uses cebdyraq_wait.h. `program` is what a profile calls the program.
@@ -136,6 +120,10 @@ typedef struct {
  *   CQ_SYSTEM 306            the operating system refused a socket, the address or the thread: errno says why */
 uint32_t cq_serve(cq_server *server, cq_service *service, cq_signal *signal, const char *address,
                   const char *program) CQ_MUST_USE;
+
+/* Writes the port at which it listens to `port`, also where port 0 was asked for. 0 at a Unix socket. CQ_MISUSED 304: it does not
+ * serve. */
+uint32_t cq_server_port(const cq_server *server, uint16_t *port) CQ_MUST_USE;
 
 /* Ends the thread, closes all sockets, and disposes of the environment. Threads of the service go on meanwhile. It is CQ_OK for a
  * server that does not serve. CQ_OUT_OF_MEMORY 110, CQ_FULL 216: the environment is not disposed of. Call again. */

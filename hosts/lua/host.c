@@ -225,15 +225,16 @@ bool host_join(struct host *host) {
 
 int host_serve(struct host *host, const char *address) {
     static const char *const hosts[] = { "http://127.0.0.1", "http://[::1]" };
+    uint16_t port = 0;
     uint32_t code = cq_serve(&host->server, &host->service, &host->signal, address, "cqlua");
     if (code == CQ_SYSTEM) {
         fprintf(stderr, "cqlua: %s: %s\n", address, strerror(errno));
         return -1;
     }
-    if (code != CQ_OK)
+    if (code != CQ_OK || (code = cq_server_port(&host->server, &port)) != CQ_OK)
         return refused(address, code);
-    if (host->server.port)
-        fprintf(stderr, "cqlua: serves %s:%u/\n", hosts[*address == '['], host->server.port);
+    if (port)
+        fprintf(stderr, "cqlua: serves %s:%u/\n", hosts[*address == '['], port);
     else
         fprintf(stderr, "cqlua: serves %s\n", address);
     return 0;

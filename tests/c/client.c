@@ -8,6 +8,8 @@
 #include <sys/un.h>
 #include <unistd.h>
 
+const char *server_path;
+
 static int dial_path(const char *path) {
     struct sockaddr_un at = { .sun_family = AF_UNIX };
     int made = socket(AF_UNIX, SOCK_STREAM, 0);
@@ -25,7 +27,9 @@ static int dial_port(uint16_t port) {
 
 int dial(const cq_server *server) {
     struct timeval patience = { 10, 0 };
-    int made = server->path[0] ? dial_path(server->path) : dial_port(server->port);
+    uint16_t port = 0;
+    OK(cq_server_port(server, &port));
+    int made = port == 0 ? dial_path(server_path) : dial_port(port);
     SAME(setsockopt(made, SOL_SOCKET, SO_RCVTIMEO, &patience, sizeof patience), 0);
     return made;
 }

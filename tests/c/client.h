@@ -14,8 +14,9 @@ typedef struct {
     uint8_t *body;       /* with a 0 behind it */
 } answer;
 
-/* A connection to a server, at its port or its path. */
+/* A connection to a server, at its port, or at this path. */
 int dial(const cq_server *server);
+extern const char *server_path;
 
 /* Sends all of a text. */
 void say(int socket, const char *text);

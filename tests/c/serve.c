@@ -280,30 +280,35 @@ static void serves_a_path(void) {
     struct stat file;
     answer got;
     snprintf(address, sizeof address, "unix:/tmp/cebdyraq-%d.sock", (int)getpid());
+    server_path = address + 5;
     for (int i = 0; i < 2; i++) {
         begin_served(address);
-        SAME(stat(server.path, &file), 0);
+        SAME(stat(server_path, &file), 0);
         SAME(file.st_mode & 0777, 0600);
         get(&server, "/", &got);
         SAME(got.status, 200);
         forget(&got);
         end_served();
-        SAME(stat(address + 5, &file) != 0 ? errno : 0, ENOENT);
+        SAME(stat(server_path, &file) != 0 ? errno : 0, ENOENT);
     }
 }
 
 static void refuses_addresses(void) {
     static const char *const wrong[] = { "", "6060", "127.0.0.1", "127.0.0.1:", "127.0.0.1:65536", "127.0.0.1:6060x", "0.0.0.0:0",
                                          "192.168.0.1:0", "localhost:-1", "[::1]", "unix:", "unix:/no/such/folder/at/all" };
-    char port[32];
+    char address[32];
+    uint16_t port = 7;
     cq_server other = { 0 };
     size_t count = sizeof wrong / sizeof *wrong;
     for (size_t i = 0; i < count; i++) {
         SAME(cq_serve(&other, &service, NULL, wrong[i], "x"), i + 1 < count ? CQ_ILLEGAL_ARGUMENT : CQ_SYSTEM);
         OK(cq_serve_end(&other));
     }
-    snprintf(port, sizeof port, "127.0.0.1:%u", server.port);
-    SAME(cq_serve(&other, &service, NULL, port, "x"), CQ_SYSTEM);
+    SAME(cq_server_port(&other, &port), CQ_MISUSED);
+    SAME(port, 7);
+    OK(cq_server_port(&server, &port));
+    snprintf(address, sizeof address, "127.0.0.1:%u", port);
+    SAME(cq_serve(&other, &service, NULL, address, "x"), CQ_SYSTEM);
     SAME(errno, EADDRINUSE);
     SAME(cq_serve(&server, &service, NULL, "127.0.0.1:0", "x"), CQ_MISUSED);
     SAME(cq_serve(&other, &service, NULL, "127.0.0.1:0", "\xff"), CQ_ILLEGAL_ARGUMENT);
