@@ -3,6 +3,7 @@
 #include "served.h"
 
 #include <errno.h>
+#include <pthread.h>
 #include <stdatomic.h>
 #include <sys/socket.h>
 #include <sys/stat.h>
@@ -276,7 +277,7 @@ static void ends_a_profile_early(void) {
 
 /* A Unix socket is for this user alone, and goes with the server. One that a killed program left is taken over. */
 static void serves_a_path(void) {
-    char address[80];
+    static char address[80];
     struct stat file;
     answer got;
     snprintf(address, sizeof address, "unix:/tmp/cebdyraq-%d.sock", (int)getpid());
