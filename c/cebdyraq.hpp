@@ -1,4 +1,4 @@
-/* cebdyraq.hpp: cebdyraq.h and cebdyraq_wait.h for C++17, as types that free what they hold.
+/* cebdyraq.hpp: cebdyraq.h, cebdyraq_wait.h and cebdyraq_serve.h for C++17, as types that free what they hold.
  *
  * A function does what that of its name does in C, and waits asleep. A code other than CQ_OK is thrown as an `error`. A `time`
  * is in nanoseconds, and `forever` is no deadline. Each object is used by one thread of the operating system at a time. It may
@@ -8,9 +8,10 @@
 #ifndef CEBDYRAQ_HPP
 #define CEBDYRAQ_HPP
 
-#include "cebdyraq_wait.h"
+#include "cebdyraq_serve.h"
 
 #include <algorithm>
+#include <cerrno>
 #include <chrono>
 #include <cstddef>
 #include <cstdint>
@@ -18,6 +19,7 @@
 #include <stdexcept>
 #include <string>
 #include <string_view>
+#include <system_error>
 #include <thread>
 #include <utility>
 #include <vector>
@@ -514,6 +516,27 @@ private:
     }
 };
 
+/* What serves a service over HTTP, until it is destroyed. */
+class server : public holder<cq_server> {
+public:
+    server(server &&) noexcept = default;
+    server &operator=(server &&) noexcept = default;
+    ~server() {
+        if (get() != nullptr) cq_serve_end(get());
+    }
+
+    /* The port at which it listens, or 0 at a Unix socket. */
+    std::uint16_t port() const {
+        std::uint16_t number = 0;
+        check(cq_server_port(get(), &number));
+        return number;
+    }
+
+private:
+    friend class service;
+    using holder::holder;
+};
+
 /* A handle of a service. The service lives as long as one of its handles, threads or environments. */
 class service : public holder<cq_service> {
 public:
@@ -548,6 +571,16 @@ public:
     environment attach_environment() {
         environment made(shared_signal());
         check(cq_wait_attach_environment(get(), signal(), made.get()));
+        return made;
+    }
+
+    /* Serves profiles, stacks and counters at an address, as cq_serve does. Throws std::system_error if the operating system
+     * refuses it. */
+    server serve(const std::string &address, const std::string &program) {
+        server made(shared_signal());
+        std::uint32_t got = cq_serve(made.get(), get(), signal(), address.c_str(), program.c_str());
+        if (got == CQ_SYSTEM) throw std::system_error(errno, std::generic_category(), address);
+        check(got);
         return made;
     }
 

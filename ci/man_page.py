@@ -92,15 +92,22 @@ def parts(name, folder):
     return [part._replace(code=FRAME.sub("", part.code).strip("\n")) for part in header.parts(text)]
 
 
+def heading(part):
+    """What a header's first comment says the header is, and the rest of it."""
+    title, _, about = part.comment.partition("\n\n")
+    return escaped(title.split(": ", 1)[1].rstrip(".")), about
+
+
 def page(folder=header.C):
     """The page's text."""
-    (first, *of_first), (second, *of_second) = (parts(name, folder) for name in header.HEADERS)
-    title, _, about = first.comment.partition("\n\n")
-    title_of_second, _, about_second = second.comment.partition("\n\n")
-    what, what_second = (escaped(text.split(": ", 1)[1].rstrip(".")) for text in (title, title_of_second))
+    (first, *of_first), *others = (parts(name, folder) for name in header.HEADERS)
+    what, about = heading(first)
     includes = "\n".join(f"#include <{name}>" for name in header.HEADERS)
     head = HEAD.format(version=".".join(map(str, header.version(folder))), what=what, includes=includes)
-    told = [head, prose(about, "SH"), *body(of_first), f".SH {what_second.upper()}", prose(about_second), *body(of_second)]
+    told = [head, prose(about, "SH"), *body(of_first)]
+    for other, *of_other in others:
+        what, about = heading(other)
+        told += [f".SH {what.upper()}", prose(about), *body(of_other)]
     return re.sub(r"^(\.S[HS] .*)\n\.PP$", r"\1", "\n".join(told), flags=re.M) + "\n"
 
 

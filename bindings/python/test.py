@@ -8,6 +8,8 @@ c/. CC names the C compiler, otherwise cc.
 """
 
 import ctypes
+import errno
+import json
 import os
 import pathlib
 import shlex
@@ -17,6 +19,7 @@ import tempfile
 import threading
 import time
 import unittest
+import urllib.request
 
 import cebdyraq
 from cebdyraq import Capability, Code, Environment, Error, EventKind, Frame, LineEntry, MethodName, StackInfo
@@ -237,6 +240,21 @@ class WithRuntime(unittest.TestCase):
         self.assertFalse(env.let_go(0))
         self.assert_code(Code.THREAD_NOT_ALIVE, env.get_thread_state, 0)
         self.assert_code(Code.THREAD_NOT_ALIVE, env.get_thread_info, 0)
+
+    def test_what_is_served(self):
+        service, signal = self.library.runtime_service(), self.library.runtime_signal()
+        with cebdyraq.Server(self.library, service, signal, "127.0.0.1:0", "a test") as server:
+            address = f"http://127.0.0.1:{server.port}"
+            with urllib.request.urlopen(address + "/threads.json", timeout=10) as answer:
+                [thread] = json.load(answer)["threads"]
+            self.assertEqual((thread["number"], thread["name"], thread["priority"]), (0, "m\u00e4in", 7))
+            self.assertEqual([frame["method"] for frame in thread["frames"]], ["", "m\u00e4in"])
+            with self.assertRaises(OSError) as caught:
+                cebdyraq.Server(self.library, service, signal, f"127.0.0.1:{server.port}", "a test")
+            self.assertEqual(caught.exception.errno, errno.EADDRINUSE)
+        with self.assertRaises(OSError):
+            urllib.request.urlopen(address, timeout=10)
+        self.assert_code(Code.ILLEGAL_ARGUMENT, cebdyraq.Server, self.library, service, signal, "0.0.0.0:0", "a test")
 
     def end_and_begin(self):
         """The environment keeps the first service alive. The runtime begins again with another."""

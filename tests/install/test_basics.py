@@ -10,7 +10,7 @@ import man_page
 from installed import CC, CXX, HERE, TOP, VERSION, WARNINGS, compiled, files, flags, make, new_folder, pkg_config, prefix, run, wants
 
 FILES = {
-    "include/cebdyraq.h", "include/cebdyraq.hpp", "include/cebdyraq_wait.h", "lib/libcebdyraq.a", "lib/libcebdyraq.so",
+    "include/cebdyraq.h", "include/cebdyraq.hpp", "include/cebdyraq_serve.h", "include/cebdyraq_wait.h", "lib/libcebdyraq.a", "lib/libcebdyraq.so",
     "lib/libcebdyraq.so.1", f"lib/libcebdyraq.so.{VERSION}", "lib/pkgconfig/cebdyraq.pc", "share/cebdyraq/tsan.supp", "share/man/man3/cebdyraq.3",
 }
 PROGRAMS = {
@@ -110,6 +110,9 @@ class Names(unittest.TestCase):
         linked = {source: names(run("nm", compiled(source, linked=flags(static=True)))) for source in ("heap.c", "program.c")}
         self.assertEqual(linked["heap.c"] & waiting, set())
         self.assertEqual(linked["program.c"] & waiting, waiting)
+
+    def test_sockets_are_linked_only_where_they_are_called(self):
+        self.assertNotIn("cq_serve", names(run("nm", compiled("program.c", linked=flags(static=True)))))
 
     def test_shared_library_calls_its_own_functions(self):
         run(compiled("bound.c"))

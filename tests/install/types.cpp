@@ -1,6 +1,10 @@
 // types.cpp: the types of cebdyraq.hpp, with a thread of the operating system for the runtime's thread.
 #include <cebdyraq.hpp>
 
+#include <netinet/in.h>
+#include <sys/socket.h>
+#include <unistd.h>
+
 #include <atomic>
 #include <cstdio>
 #include <thread>
@@ -220,6 +224,36 @@ void test_classes() {
     EXPECT(refused([&] { service.define_class("\xff", "", {}); }) == cebdyraq::code::illegal_argument);
 }
 
+std::string answer_of(std::uint16_t port, const std::string &target) {
+    sockaddr_in at{};
+    at.sin_family = AF_INET;
+    at.sin_port = htons(port);
+    at.sin_addr.s_addr = htonl(INADDR_LOOPBACK);
+    int made = socket(AF_INET, SOCK_STREAM, 0);
+    EXPECT(connect(made, reinterpret_cast<sockaddr *>(&at), sizeof at) == 0);
+    std::string text = "GET " + target + " HTTP/1.1\r\nHost: localhost\r\nConnection: close\r\n\r\n";
+    EXPECT(send(made, text.data(), text.size(), 0) == ssize_t(text.size()));
+    char some[4096];
+    text.clear();
+    for (ssize_t count; (count = recv(made, some, sizeof some, 0)) > 0;) text.append(some, std::size_t(count));
+    close(made);
+    return text;
+}
+
+void test_server() {
+    cebdyraq::service service(8, 1, 4);
+    auto thread = service.attach_thread("one", 5);
+    auto server = service.serve("127.0.0.1:0", "types");
+    EXPECT(answer_of(server.port(), "/threads").find("\"one\" #0 prio=5 new\n") != std::string::npos);
+    EXPECT(refused([&] { service.serve("nowhere", "types"); }) == cebdyraq::code::illegal_argument);
+    try {
+        service.serve("127.0.0.1:" + std::to_string(server.port()), "types");
+        EXPECT(false);
+    } catch (const std::system_error &error) {
+        EXPECT(error.code().value() == EADDRINUSE);
+    }
+}
+
 }  // namespace
 
 int main() {
@@ -230,5 +264,6 @@ int main() {
     test_words_and_events();
     test_lives();
     test_classes();
+    test_server();
     return failures;
 }

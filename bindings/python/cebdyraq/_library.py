@@ -4,7 +4,7 @@ import ctypes
 import os
 from typing import Any, Dict, List, Optional, Sequence, Union
 
-VERSION = (1, 2)
+VERSION = (1, 3)
 
 
 class Handle(ctypes.Structure):
@@ -33,6 +33,10 @@ class Event(ctypes.Structure):
 
 class StackInfo(ctypes.Structure):
     _fields_ = [("thread", ctypes.c_uint32), ("state", ctypes.c_uint32), ("frame_count", ctypes.c_uint64)]
+
+
+class Server(ctypes.Structure):
+    _fields_ = [("opaque", ctypes.c_uint64 * 96)]
 
 
 class MethodName(ctypes.Structure):
@@ -112,6 +116,9 @@ FUNCTIONS: Dict[str, List[Any]] = {
     "cq_wait_set_event_notification_mode": [AT, BOOL],
     "cq_wait_next_event": [AT, I64, AT],
     "cq_wait_dispose_environment": [AT],
+    "cq_serve": [AT, AT, ctypes.c_char_p, ctypes.c_char_p],
+    "cq_server_port": [AT],
+    "cq_serve_end": [],
     "cq_get_loaded_classes": [AT, SIZE, AT],
     "cq_get_class_signature": [NUMBER, AT, SIZE, AT],
     "cq_get_source_file_name": [NUMBER, AT, SIZE, AT],
@@ -126,10 +133,10 @@ WITHOUT_CODE: Dict[str, Any] = {"cq_has_news": BOOL}
 
 
 def load(path: Optional[Union[str, "os.PathLike[str]"]] = None) -> ctypes.CDLL:
-    """Loads a shared library that has the functions of cebdyraq.h and cebdyraq_wait.h. Without a path it is the installed one.
+    """Loads a shared library that has the functions of cebdyraq's headers. Without a path it is the installed one.
 
     An OSError says that there is none, and an ImportError that its version does not fit."""
-    library = ctypes.CDLL("libcebdyraq.so.1" if path is None else os.fspath(path))
+    library = ctypes.CDLL("libcebdyraq.so.1" if path is None else os.fspath(path), use_errno=True)
     library.cq_version.restype = U32
     major, minor = divmod(library.cq_version() // 1000, 1000)
     if major != VERSION[0] or minor < VERSION[1]:

@@ -5,7 +5,7 @@ from typing import List, NamedTuple
 
 
 class Code(enum.IntEnum):
-    """The codes of c/cebdyraq.h."""
+    """The codes of cebdyraq.h and cebdyraq_serve.h."""
 
     OK = 0
     INVALID_THREAD = 10
@@ -42,6 +42,7 @@ class Code(enum.IntEnum):
     NONE = 303
     MISUSED = 304
     POPPED = 305
+    SYSTEM = 306
 
 
 class Capability(enum.IntFlag):

@@ -1,4 +1,4 @@
-//! The functions of `cebdyraq.h` and `cebdyraq_wait.h`. Their rules are there.
+//! The functions of `cebdyraq.h`, `cebdyraq_wait.h` and `cebdyraq_serve.h`. Their rules are there.
 //!
 //! The build finds the shared library by pkg-config, or links `libcebdyraq.a` of the folder that `CEBDYRAQ_LIB_DIR` names.
 #![no_std]
@@ -9,7 +9,7 @@ use core::ptr::null_mut;
 
 /// The version whose functions are declared here.
 pub const CQ_VERSION_MAJOR: u32 = 1;
-pub const CQ_VERSION_MINOR: u32 = 2;
+pub const CQ_VERSION_MINOR: u32 = 3;
 
 /// Whether the library that the program runs with has all of them, as `cq_version_fits` of `cebdyraq.h` says.
 pub fn version_fits() -> bool {
@@ -37,7 +37,21 @@ macro_rules! handle {
     )* };
 }
 
-handle! { cq_service cq_thread cq_env }
+handle! { cq_service cq_thread cq_env cq_door }
+
+/// What a server needs. It starts empty, and stays where it is while it serves.
+#[repr(C)]
+#[derive(Debug)]
+pub struct cq_server {
+    opaque: [u64; 96],
+}
+
+impl cq_server {
+    /// An empty server.
+    pub const fn empty() -> Self {
+        Self { opaque: [0; 96] }
+    }
+}
 
 #[repr(C)]
 #[derive(Clone, Copy, Debug, Default, PartialEq, Eq, Hash)]
@@ -191,6 +205,7 @@ codes! {
     CQ_NONE = 303
     CQ_MISUSED = 304
     CQ_POPPED = 305
+    CQ_SYSTEM = 306
 }
 
 /// What is known of a method's lines.
@@ -505,4 +520,39 @@ extern "C" {
         frames: *mut cq_frame,
         room: usize,
     ) -> u32;
+
+    // cebdyraq_serve.h
+    pub fn cq_open_door(service: *mut cq_service, program: *const u8, length: usize, port: u32, now: u64, door: *mut cq_door) -> u32;
+    pub fn cq_door_connect(door: *mut cq_door, now: u64, connection: *mut u32) -> u32;
+    pub fn cq_door_next(
+        door: *mut cq_door,
+        connection: u32,
+        now: u64,
+        unix_time: u64,
+        action: *mut u32,
+        room: *mut usize,
+    ) -> u32;
+    pub fn cq_door_feed(
+        door: *mut cq_door,
+        connection: u32,
+        bytes: *const u8,
+        count: usize,
+        now: u64,
+        taken: *mut usize,
+    ) -> u32;
+    pub fn cq_door_end(door: *mut cq_door, connection: u32, now: u64) -> u32;
+    pub fn cq_door_output(door: *mut cq_door, connection: u32, bytes: *mut u8, room: usize, count: *mut usize) -> u32;
+    pub fn cq_door_written(door: *mut cq_door, connection: u32, count: usize, now: u64) -> u32;
+    pub fn cq_door_disconnect(door: *mut cq_door, connection: u32) -> u32;
+    pub fn cq_door_tick(door: *mut cq_door, now: u64, deadline: *mut u64) -> u32;
+    pub fn cq_close_door(door: *mut cq_door) -> u32;
+    pub fn cq_serve(
+        server: *mut cq_server,
+        service: *mut cq_service,
+        signal: *mut cq_signal,
+        address: *const c_char,
+        program: *const c_char,
+    ) -> u32;
+    pub fn cq_server_port(server: *const cq_server, port: *mut u16) -> u32;
+    pub fn cq_serve_end(server: *mut cq_server) -> u32;
 }

@@ -52,6 +52,7 @@ mod classes;
 mod environment;
 mod error;
 mod posts;
+mod server;
 mod service;
 mod thread;
 
@@ -59,5 +60,6 @@ pub use classes::{ClassInfo, Defined, LineEntry, Lines, MethodInfo, MethodName};
 pub use environment::{capabilities, Environment, Event, EventKind, StackInfo, ThreadInfo};
 pub use error::Error;
 pub use posts::{Answer, Any, Call, Posted, Ticket};
+pub use server::{ServeError, Server};
 pub use service::Service;
 pub use thread::{Ended, Frame, Fresh, Reason, Running, Safe};

@@ -30,7 +30,7 @@ pub(crate) type NotShared = PhantomData<Cell<()>>;
 pub struct Service {
     // Boxed, since a handle stays where it is.
     pub(crate) handle: Box<sys::cq_service>,
-    signal: Arc<Signal>,
+    pub(crate) signal: Arc<Signal>,
     _not_shared: NotShared,
 }
 

@@ -1,7 +1,9 @@
 //! A runtime and its agents, each on a thread of its own.
 
 use cebdyraq::{capabilities, Answer, Any, Call, Ended, Environment, Error, Event, EventKind, Frame, Fresh, Posted};
-use cebdyraq::{Reason, Running, Safe, Service, StackInfo, ThreadInfo, Ticket};
+use cebdyraq::{Reason, Running, Safe, ServeError, Service, StackInfo, ThreadInfo, Ticket};
+use std::io::{ErrorKind, Read, Write};
+use std::net::TcpStream;
 use std::sync::atomic::{AtomicBool, Ordering::SeqCst};
 use std::thread;
 use std::time::{Duration, Instant};
@@ -274,6 +276,33 @@ fn threads_come_and_go() {
     drop(running);
     assert_eq!(env.get_thread_state(0), Ok(0x2));
     assert_eq!(env.get_all_threads(), Ok(vec![]));
+}
+
+/// What a client is answered.
+fn answer_of(port: u16, target: &str) -> String {
+    let mut socket = TcpStream::connect(("127.0.0.1", port)).unwrap();
+    write!(socket, "GET {target} HTTP/1.1\r\nHost: localhost\r\nConnection: close\r\n\r\n").unwrap();
+    let mut text = String::new();
+    socket.read_to_string(&mut text).unwrap();
+    text
+}
+
+#[test]
+fn serves_over_http() {
+    let (mut service, running, _env) = with_thread();
+    assert!(matches!(service.serve("127.0.0.1", "test"), Err(ServeError::Refused(Error::IllegalArgument))));
+    let server = service.serve("127.0.0.1:0", "test").unwrap();
+    let port = server.port();
+    let ServeError::System(error) = service.serve(&format!("127.0.0.1:{port}"), "test").unwrap_err() else {
+        panic!("the system refuses an address that is in use")
+    };
+    assert_eq!(error.kind(), ErrorKind::AddrInUse);
+    let Ok(safe) = running.block(Reason::Sleep) else { panic!("nothing bars it") };
+    let text = answer_of(port, "/threads");
+    assert!(text.starts_with("HTTP/1.1 200 OK\r\n") && text.contains("\"main\" #0 prio=5 sleeping\n"), "{text}");
+    drop(server);
+    assert!(TcpStream::connect(("127.0.0.1", port)).is_err());
+    drop(safe);
 }
 
 #[test]

@@ -1,0 +1,46 @@
+"""A service that is served over HTTP, for pprof and Prometheus."""
+
+import ctypes
+import os
+from types import TracebackType
+from typing import Optional, Type
+
+from . import _library as lib
+from ._values import Code, Error
+
+
+class Server:
+    """Serves profiles, stacks and counters of a service (cebdyraq_serve.h), until `end`. `service` and `signal` are the addresses of
+    the runtime's cq_service and cq_signal; the cq_service is used by nobody else while the server is made.
+
+    `address` is 127.0.0.1:PORT, [::1]:PORT, localhost:PORT, where port 0 is any free one, or unix:PATH. `program` is what a profile
+    calls the program. What the operating system refuses is raised as an OSError."""
+
+    def __init__(self, library: ctypes.CDLL, service: int, signal: int, address: str, program: str) -> None:
+        self._library, self._memory = library, lib.Server()
+        code = library.cq_serve(ctypes.byref(self._memory), service, signal, address.encode(), program.encode())
+        if code == Code.SYSTEM:
+            raise OSError(ctypes.get_errno(), os.strerror(ctypes.get_errno()), address)
+        if code != Code.OK:
+            raise Error(code)
+
+    def __enter__(self) -> "Server":
+        return self
+
+    def __exit__(self, kind: Optional[Type[BaseException]], error: Optional[BaseException], trace: Optional[TracebackType]) -> None:
+        self.end()
+
+    @property
+    def port(self) -> int:
+        """The port at which it listens, or 0 at a Unix socket."""
+        found = ctypes.c_uint16()
+        code = self._library.cq_server_port(ctypes.byref(self._memory), ctypes.byref(found))
+        if code != Code.OK:
+            raise Error(code)
+        return found.value
+
+    def end(self) -> None:
+        """Ends it. It may be called again."""
+        code = self._library.cq_serve_end(ctypes.byref(self._memory))
+        if code != Code.OK:
+            raise Error(code)

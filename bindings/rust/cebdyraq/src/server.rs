@@ -1,0 +1,86 @@
+use crate::error::{checked, Error};
+use crate::service::{Service, Signal};
+use cebdyraq_sys as sys;
+use std::ffi::CString;
+use std::sync::Arc;
+use std::{fmt, io};
+
+/// Why nothing is served.
+#[derive(Debug)]
+#[non_exhaustive]
+pub enum ServeError {
+    /// [`Error::IllegalArgument`]: there is no such address, or it is not one of this machine's own. [`Error::OutOfMemory`],
+    /// [`Error::Full`]: the server needs an environment of its own.
+    Refused(Error),
+    /// The operating system refused a socket, the address or a thread.
+    System(io::Error),
+}
+
+impl fmt::Display for ServeError {
+    fn fmt(&self, f: &mut fmt::Formatter<'_>) -> fmt::Result {
+        match self {
+            ServeError::Refused(error) => error.fmt(f),
+            ServeError::System(error) => error.fmt(f),
+        }
+    }
+}
+
+impl std::error::Error for ServeError {}
+
+impl From<Error> for ServeError {
+    fn from(error: Error) -> ServeError {
+        ServeError::Refused(error)
+    }
+}
+
+/// Profiles, stacks and counters of a service over HTTP, for `go tool pprof` and Prometheus (`cebdyraq_serve.h`). It serves until it
+/// is dropped.
+#[derive(Debug)]
+pub struct Server {
+    // Boxed, since it stays where it is.
+    memory: Box<sys::cq_server>,
+    _signal: Arc<Signal>,
+}
+
+// SAFETY: only `port` and `drop` use it from here on, each by one call at a time.
+unsafe impl Send for Server {}
+
+impl Server {
+    /// The port at which it listens, or 0 at a Unix socket.
+    pub fn port(&self) -> u16 {
+        let mut port = 0;
+        // SAFETY: the server serves, and its memory is where it was.
+        let code = unsafe { sys::cq_server_port(&*self.memory, &mut port) };
+        debug_assert_eq!(code, sys::CQ_OK);
+        port
+    }
+}
+
+impl Drop for Server {
+    fn drop(&mut self) {
+        // SAFETY: this call alone uses it. If there is no memory to dispose of the environment, it stays attached.
+        unsafe { sys::cq_serve_end(&mut *self.memory) };
+    }
+}
+
+fn c_string(text: &str) -> Result<CString, Error> {
+    CString::new(text).map_err(|_| Error::IllegalArgument)
+}
+
+impl Service {
+    /// Serves at an address: `127.0.0.1:PORT`, `[::1]:PORT`, `localhost:PORT`, where port 0 is any free one, or `unix:PATH`.
+    /// `program` is what a profile calls the program. A thread of its own does it, which nothing has to wait for.
+    pub fn serve(&mut self, address: &str, program: &str) -> Result<Server, ServeError> {
+        let (address, program) = (c_string(address)?, c_string(program)?);
+        let (mut memory, signal) = (Box::new(sys::cq_server::empty()), self.signal.clone());
+        // SAFETY: the memory is empty and stays where it is, the texts end with a 0, and the signal lives as long as the server.
+        let code = unsafe {
+            sys::cq_serve(&mut *memory, &mut *self.handle, signal.at(), address.as_ptr(), program.as_ptr())
+        };
+        if code == sys::CQ_SYSTEM {
+            return Err(ServeError::System(io::Error::last_os_error()));
+        }
+        checked(code)?;
+        Ok(Server { memory, _signal: signal })
+    }
+}
