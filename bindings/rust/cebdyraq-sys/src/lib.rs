@@ -522,7 +522,14 @@ extern "C" {
     ) -> u32;
 
     // cebdyraq_serve.h
-    pub fn cq_open_door(service: *mut cq_service, program: *const u8, length: usize, port: u32, now: u64, door: *mut cq_door) -> u32;
+    pub fn cq_open_door(
+        service: *mut cq_service,
+        program: *const u8,
+        length: usize,
+        port: u32,
+        now: u64,
+        door: *mut cq_door,
+    ) -> u32;
     pub fn cq_door_connect(door: *mut cq_door, now: u64, connection: *mut u32) -> u32;
     pub fn cq_door_next(
         door: *mut cq_door,

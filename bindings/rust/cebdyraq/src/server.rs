@@ -74,9 +74,8 @@ impl Service {
         let (address, program) = (c_string(address)?, c_string(program)?);
         let (mut memory, signal) = (Box::new(sys::cq_server::empty()), self.signal.clone());
         // SAFETY: the memory is empty and stays where it is, the texts end with a 0, and the signal lives as long as the server.
-        let code = unsafe {
-            sys::cq_serve(&mut *memory, &mut *self.handle, signal.at(), address.as_ptr(), program.as_ptr())
-        };
+        let code =
+            unsafe { sys::cq_serve(&mut *memory, &mut *self.handle, signal.at(), address.as_ptr(), program.as_ptr()) };
         if code == sys::CQ_SYSTEM {
             return Err(ServeError::System(io::Error::last_os_error()));
         }
