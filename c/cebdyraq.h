@@ -137,7 +137,7 @@ enum {
     CQ_STILL_RUNNING = 213,           /* a thread of the trace has not come to its next poll: call again later */
     CQ_TIMED_OUT = 214,               /* cebdyraq_wait.h alone: the time is over */
     CQ_BUSY = 215,                    /* another thread uses it at this moment: call again */
-    CQ_FULL = 216,                    /* a bound other than memory leaves no place for it: the window, `envs`, the 65,536
+    CQ_FULL = 216,                    /* a bound other than memory leaves no room for it: the window, `envs`, the 65,536
                                          threads that an environment may have met, or a count that no process reaches */
     CQ_HELD = 301,                    /* the thread is held at its poll, and returns by cq_back */
     CQ_WAITING = 302,                 /* the call waits for the thread: collect its answer later */
@@ -541,7 +541,7 @@ uint32_t cq_set_thread_local_storage(cq_env *env, uint32_t thread, uint64_t word
 uint32_t cq_collect(cq_env *env, const cq_ticket *ticket, cq_answer *answer, cq_frame *frames, size_t room) CQ_MUST_USE;
 
 /* Cancels a call that is out: nobody gets its answer. It may still take place, so a thread may be suspended. It keeps its
- * place in the window until cq_discard. Nothing happens if no call with this ticket is out.
+ * room in the window until cq_discard. Nothing happens if no call with this ticket is out.
  *
  *   CQ_OUT_OF_MEMORY 110  there is no memory to note that the call was cancelled
  *   CQ_BUSY 215           the thread itself or another environment uses the thread */
@@ -672,7 +672,7 @@ uint32_t cq_set_event_notification_mode(cq_env *env, bool enabled) CQ_MUST_USE;
  *   CQ_BUSY 215  the list of threads is in use */
 uint32_t cq_next_event(cq_env *env, cq_event *event) CQ_MUST_USE;
 
-/* DisposeEnvironment. Calls that wait are cancelled, the environment's words are 0 again, its place is free, and its handle is
+/* DisposeEnvironment. Calls that wait are cancelled, the environment's words are 0 again, another may be attached, and its handle is
  * empty. What its traces have gathered is gone. A thread that it suspended stays suspended, and a cancelled suspension or pop
  * may still take place.
  *

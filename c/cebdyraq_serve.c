@@ -222,7 +222,7 @@ static void rest(struct pollfd *all, uint64_t until) {
     }
 }
 
-/* Serves all whose sockets have something, and those who have waited long enough. Returns whether one has left its place. */
+/* Serves all whose sockets have something, and those who have waited long enough. Returns whether one has left. */
 static bool serve_all(server *s, const struct pollfd *all) {
     bool left = false;
     for (uint32_t i = 0; i < CQ_DOOR_CONNECTIONS; i++) {

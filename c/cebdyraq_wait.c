@@ -426,20 +426,20 @@ static uint32_t post(cq_env *env, const thread_call *call, cq_answer *answer, cq
     return CQ_MISUSED;
 }
 
-/* Throws away the answers that are there to calls that were given up at the thread. */
+/* Discards the answers that are there to calls that were cancelled at the thread. */
 static void discard_all(cq_env *env, uint32_t thread) {
     bool thrown = true;
     while (thrown && cq_discard(env, thread, &thrown) == CQ_OK) {
     }
 }
 
-/* One try to post a call. Calls that were given up at the thread and are answered have no place in the window any more. */
+/* One try to post a call. Calls that were cancelled at the thread and are answered take no room in the window any more. */
 static uint32_t post_now(cq_env *env, const thread_call *call, cq_answer *answer, cq_frame *frames, size_t room) {
     discard_all(env, call->thread);
     return post(env, call, answer, frames, room);
 }
 
-/* Posts a call once its thread is free, and unless `not_yet` is CQ_BUSY, also once there is a place in the window. */
+/* Posts a call once its thread is free, and unless `not_yet` is CQ_BUSY, also once there is room in the window. */
 static waiter posted(cq_env *env, cq_signal *signal, const thread_call *call, int64_t timeout_ns, uint32_t not_yet,
                      cq_answer *answer, cq_frame *frames, size_t room) {
     if (call->what == RESUME) tell_before(&signal->threads);
@@ -450,7 +450,7 @@ static waiter posted(cq_env *env, cq_signal *signal, const thread_call *call, in
     return w;
 }
 
-/* The code of a call that was posted, once its answer is there. When the time is over, the call is given up. */
+/* The code of a call that was posted, once its answer is there. When the time is over, the call is cancelled. */
 static uint32_t collected(cq_env *env, waiter *w, const cq_ticket *ticket, cq_answer *answer, cq_frame *frames, size_t room) {
     w->not_yet = CQ_WAITING;
     while (again(w)) w->code = cq_collect(env, ticket, answer, frames, room);
@@ -632,7 +632,7 @@ static void collect_each(cq_env *env, cq_signal *signal, size_t count, int64_t t
     }
 }
 
-/* If a window is full, the answers to the earlier calls of the list are collected before a place is waited for. */
+/* If a window is full, the answers to the earlier calls of the list are collected before room is waited for. */
 static void post_each(cq_env *env, cq_signal *signal, thread_call call, const uint32_t *threads, size_t count,
                       int64_t timeout_ns, int64_t began, cq_ticket *tickets, uint32_t *codes) {
     cq_frame none;

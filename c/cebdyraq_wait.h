@@ -11,7 +11,7 @@
  *   CQ_HELD 301, CQ_WAITING 302, CQ_NONE 303, CQ_BARRED 206, CQ_ALREADY_STOPPED 211, CQ_STILL_RUNNING 213
  *                            are never given. The function waits for what they stand for. (CQ_NONE has a meaning of its own at
  *                            cq_wait_any)
- *   CQ_FULL 216              is never given by a call at a thread. The function waits for a place in the window
+ *   CQ_FULL 216              is never given by a call at a thread. The function waits for room in the window
  *   CQ_TIMED_OUT 214         the time is over. Only functions with a `timeout_ns` give it
  *
  * TIME
@@ -132,7 +132,7 @@ uint32_t cq_wait_next_event(cq_env *env, cq_signal *signal, int64_t timeout_ns, 
  * memory to give it up, it stays out (cq_out_at).
  *
  * Before it posts, each discards the answers to cancelled calls at the thread (cq_discard). At a full window it
- * waits for a place, which comes when the thread hands over. A place that a call of cebdyraq.h has is free once its answer is
+ * waits for room, which comes when the thread hands over. The room of a call of cebdyraq.h is free once its answer is
  * collected: the function does not do that, so a program collects before it fills the window.
  *
  * Who has an environment and is itself a thread of the service gets no answer from itself: it cannot poll while it waits. State,

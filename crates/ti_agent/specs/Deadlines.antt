@@ -1,4 +1,4 @@
--- Calls with a deadline, and calls that are given up.
+-- Calls with a deadline, and calls that are cancelled.
 use Rattle.std.specs.Prelude.{◌≡◌, ◌&&◌, Bool, true, false, if◌then◌else◌, [], ◌∷◌, ◌++◌, Option, Some, None, slice_get, slice_set}
 use Rattle.ti_types.specs.declared.answer.Answer.{Answer}
 use Rattle.ti_types.specs.declared.answer.Answer.TheVariants as answer
@@ -26,7 +26,7 @@ pub record Cancels (old new : Environment) (ticket : Ticket) : Type 0 where
   pub cancelled : after.cancelled ≡ (if is_out before ticket then before.cancelled ++ ticket ∷ [] else before.cancelled)
   pub new_is : new ≡ record { env = old.env; state = old.state; desks = slice_set old.desks (place_in old.desks ticket.thread) after }
 
--- the desk at a thread threw away the answer to the call that was given up first there, if the answer was there. Nothing
+-- the desk at a thread discarded the answer to the call that was cancelled first there, if the answer was there. Nothing
 -- else changed
 pub record DiscardsAt (old new : Environment) (thread : ThreadNo) (thrown : Bool) : Type 0 where
   pub before : DeskState
@@ -61,7 +61,7 @@ abbrev pub ComesWith : (full : Bool) → Environment → Environment → ThreadN
 ComesWith true old new thread c a = (new ≡ old) × (a ≡ answer.Refused Full)
 ComesWith false old new thread c a = ComesTo old new thread c a
 
--- first the answer to a call that was given up there is thrown away, if it is there. At a full window the call is refused then
+-- first the answer to a call that was cancelled there is discarded, if it is there. At a full window the call is refused then
 pub record Comes (old new : Environment) (thread : ThreadNo) (c : Call) (a : Answer) : Type 0 where
   pub thrown : Bool
   pub mid : Environment

@@ -6,7 +6,7 @@ use Rattle.ti_handshake.specs.Desk.{CancelsAll, DeskState}
 use Rattle.ti_agent.specs.Env.{Environment, place_in, place_of}
 use Rattle.ti_agent.specs.FreeDesk.{clearing, has_left, word_asked}
 
--- Nothing is left at a thread of what the environment did: the calls that are out there are given up, and the word is 0. To
+-- Nothing is left at a thread of what the environment did: the calls that are out there are cancelled, and the word is 0. To
 -- set it was one call, if one was left. Nothing else changed
 pub record IsEmptied (old new : Environment) (t : ThreadNo) : Type 0 where
   pub before : DeskState

@@ -36,7 +36,7 @@ word_asked env mine = fold (word_after env) 0 mine
 abbrev pub has_left : FreeState → Bool
 has_left f = nat_lt f.spent f.desk.view.subject.limits.calls
 
--- Nothing is left of what an environment did at the desk. All of its calls that are out are given up. The last word that was
+-- Nothing is left of what an environment did at the desk. All of its calls that are out are cancelled. The last word that was
 -- set is 0, if a call is left to read it
 pub record IsClean (f : FreeState) : Type 0 where
   pub none_out : (k : Ticket) → is_out f.desk k ≡ false

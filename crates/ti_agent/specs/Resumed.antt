@@ -16,7 +16,7 @@ use Rattle.ti_agent.specs.Deadlines.{DiscardsAt}
 use Rattle.ti_agent.specs.Env.{Environment, place_in, thread_refusal}
 use Rattle.ti_agent.specs.Posts.{Posts}
 
--- the calls at a desk that were given up and are still out. None where there is no desk
+-- the calls at a desk that were cancelled and are still out. None where there is no desk
 abbrev pub cancelled_of : Option DeskState → List Ticket
 cancelled_of (Some p) = p.cancelled
 cancelled_of None = []
@@ -34,7 +34,7 @@ is_resumed _ = false
 abbrev pub is_suspended : View → Bool
 is_suspended v = (view v.subject.limits v.seen).suspended
 
--- One answer was discarded at the thread, if it was there. Then no call that was given up there was out. A resumption was
+-- One answer was discarded at the thread, if it was there. Then no call that was cancelled there was out. A resumption was
 -- posted and answered, and the thread is not suspended after it
 pub record IsResumed (old new : Environment) (thread : ThreadNo) : Type 0 where
   pub thrown : Bool
@@ -46,7 +46,7 @@ pub record IsResumed (old new : Environment) (thread : ThreadNo) : Type 0 where
   pub resumed : is_resumed (said answer) ≡ true
   pub free : is_suspended posts.after.view ≡ false
 
--- One answer was discarded at the thread, if it was there. A call that was given up there is still out
+-- One answer was discarded at the thread, if it was there. A call that was cancelled there is still out
 pub record IsYetToCome (old new : Environment) (thread : ThreadNo) : Type 0 where
   pub thrown : Bool
   pub discards : DiscardsAt old new thread thrown

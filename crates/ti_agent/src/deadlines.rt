@@ -1,4 +1,4 @@
-//! Calls with a deadline, and calls that are given up.
+//! Calls with a deadline, and calls that are cancelled.
 
 use crate::env::Env;
 use crate::home::Home;
@@ -10,11 +10,11 @@ use ti_cell::Pace;
 use ti_types::{Answer, Call, ThreadNo, TiError, Ticket, TraceBuf};
 
 impl<H: Home> Env<H> {
-    /// Gives up a call that was posted and not collected, by one hold (this profile). The call still takes place when the
-    /// thread reaches it: a suspension suspends, a pop pops. It is out until `discard` throws its answer away.
+    /// Cancels a call that was posted and not collected, by one hold (this profile). The call still takes place when the
+    /// thread reaches it: a suspension suspends, a pop pops. It is out until `discard` discards its answer.
     ///
-    /// A ticket that is not out at this environment, or was given up before, is left as it is. 110 OUT_OF_MEMORY if there is
-    /// no memory to note that the call was given up. Then nothing changes.
+    /// A ticket that is not out at this environment, or was cancelled before, is left as it is. 110 OUT_OF_MEMORY if there is
+    /// no memory to note that the call was cancelled. Then nothing changes.
     pub fn cancel<R: Wait>(&mut self, rt: &R, alloc: Global, ticket: Ticket) -> Result<(), TiError>
         ensures cancels { OnOk result (place_in self.old.env.desks ticket.thread < length self.old.env.desks → Cancels self.old.env self.new.env ticket) }
         ensures nobody { OnOk result (length self.old.env.desks ≤ place_in self.old.env.desks ticket.thread → self.new ≡ self.old) }
@@ -35,10 +35,10 @@ impl<H: Home> Env<H> {
         unreachable!()
     }
 
-    /// Looks for the answer to the call that was given up first at a thread, by one hold (this profile). If the answer is
-    /// there, it is thrown away, and the call is no longer out.
+    /// Looks for the answer to the call that was cancelled first at a thread, by one hold (this profile). If the answer is
+    /// there, it is discarded, and the call is no longer out.
     ///
-    /// `true` if an answer was thrown away. `false` if there is none yet, if no call was given up there, or if there is no
+    /// `true` if an answer was discarded. `false` if there is none yet, if no call was cancelled there, or if there is no
     /// such thread.
     pub fn discard<R: Wait>(&mut self, rt: &R, thread: ThreadNo) -> bool
         ensures discards { place_in self.old.env.desks thread < length self.old.env.desks → DiscardsAt self.old.env self.new.env thread result }

@@ -164,11 +164,11 @@ impl<H: Home> Env<H> {
     }
 
     /// Takes the desk at a thread out of the environment, as `take_desk` does, and leaves nothing there of what the
-    /// environment did (JVM TI 11, DisposeEnvironment). Its calls that are out are given up, and each still takes place when
+    /// environment did (JVM TI 11, DisposeEnvironment). Its calls that are out are cancelled, and each still takes place when
     /// the thread reaches it. Its word is 0 again, if a call is left there: that costs one.
     ///
     /// `None` if there is no desk at a thread of this number. The error is 110 OUT_OF_MEMORY if there is no memory to note
-    /// the calls that are given up. Then nothing changes.
+    /// the calls that are cancelled. Then nothing changes.
     pub fn clear_desk<R: Wait>(
         &mut self,
         rt: &R,

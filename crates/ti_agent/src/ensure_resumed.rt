@@ -7,7 +7,7 @@ use ti_slot::Asked;
 use ti_types::{Answer, Call, ThreadNo, TiError, Ticket};
 
 impl<H: Home> Env<H> {
-    /// The ticket of the call at a thread that was given up first, and is still out (this profile). `None` if there is none, or no
+    /// The ticket of the call at a thread that was cancelled first, and is still out (this profile). `None` if there is none, or no
     /// desk at a thread of this number.
     pub fn first_cancelled_at(&self, thread: ThreadNo) -> Option<Ticket>
         ensures { result ≡ slice_get (cancelled_at self.now.env thread) 0 }
@@ -19,8 +19,8 @@ impl<H: Home> Env<H> {
         self.desks[at].first_cancelled()
     }
 
-    /// Takes back what the environment's suspensions did to a thread, and what those that were given up would still do to it (this
-    /// profile). It discards one answer there, as `discard_now` does. If no call that was given up at the thread is out then, it
+    /// Takes back what the environment's suspensions did to a thread, and what those that were cancelled would still do to it (this
+    /// profile). It discards one answer there, as `discard_now` does. If no call that was cancelled at the thread is out then, it
     /// resumes the thread.
     ///
     /// `true`: no such call is out, and the thread is not suspended, whether it was before or not. `false`: such a call is

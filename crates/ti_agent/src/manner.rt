@@ -53,7 +53,7 @@ impl<R: Wait> Manner for &R {
 }
 
 /// For at most this time. When the time is over, or if the clock cannot be read, the answer is 214 `TimedOut` (this
-/// profile). Then the call has spent its one call, and is given up as by `Env::cancel`: a suspension or a pop still takes
+/// profile). Then the call has spent its one call, and is cancelled as by `Env::cancel`: a suspension or a pop still takes
 /// place when the thread reaches it.
 ///
 /// Before it asks, a call discards one answer at the thread, as `Env::discard` does. The answer is 216 (this profile:
@@ -63,7 +63,7 @@ impl<R: Wait> Manner for &R {
 pub struct Within<'a, R> {
     /// The runtime, with its clock.
     pub rt: &'a R,
-    /// Where the memory to note a call that is given up comes from.
+    /// Where the memory to note a call that is cancelled comes from.
     pub alloc: Global,
     /// How long to wait.
     pub time: Duration,

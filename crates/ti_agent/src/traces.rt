@@ -1,4 +1,4 @@
-//! Stack traces of several threads at once, under one turn.
+//! Stack traces of several threads at once, under one lock.
 
 use crate::env::Env;
 use crate::home::Home;
@@ -231,7 +231,7 @@ impl<H: Home> Env<H> {
     /// GetAllStackTraces (JVM TI 11): the state and frames of each thread that is alive, in the order of their desks.
     /// There are at most `max_count` frames of each, the newest first. Also given is the round that was made.
     ///
-    /// It waits for the turn. Under it, all threads are stopped before the first is read. All are read before the first is
+    /// It waits for the lock. Under it, all threads are stopped before the first is read. All are read before the first is
     /// let go. It spends two calls at each thread: one for its stop and one for its read.
     ///
     /// The errors, in this order, all before any stop:
@@ -267,7 +267,7 @@ impl<H: Home> Env<H> {
     /// at most `max_count` frames of each, the newest first. Also given is the round that was made.
     ///
     /// A thread that is not alive has no frames. A thread that is in the list more than once is stopped once, and read for
-    /// each element. It waits for the turn. Under it, all threads are stopped before the first is read. All are read before
+    /// each element. It waits for the lock. Under it, all threads are stopped before the first is read. All are read before
     /// the first is let go. It spends one call at each thread for its stop, and one for each of its reads.
     ///
     /// The errors, in this order, all before any stop:

@@ -154,15 +154,15 @@ impl<H: Home> Env<H> {
         self.desks[at].collect_now(ticket)
     }
 
-    /// Gives up a call that was posted and not collected (this profile). It is the same as `cancel`, but tries to hold the
+    /// Cancels a call that was posted and not collected (this profile). It is the same as `cancel`, but tries to hold the
     /// thread's cell just once. The call still takes place when the thread reaches it. It is out until `discard_now` or
-    /// `discard` throws its answer away.
+    /// `discard` discards its answer.
     ///
-    /// A ticket that is not out at this environment, or was given up before, is left as it is.
+    /// A ticket that is not out at this environment, or was cancelled before, is left as it is.
     ///
     /// The error is one of these. Then nothing changes.
     ///
-    /// - 110 OUT_OF_MEMORY: there is no memory to note that the call was given up.
+    /// - 110 OUT_OF_MEMORY: there is no memory to note that the call was cancelled.
     /// - 215 (this profile: `Busy`): the thread's cell is in use.
     pub fn cancel_now(&mut self, alloc: Global, ticket: Ticket) -> Result<(), TiError>
         ensures cancels { OnOk result (place_in self.old.env.desks ticket.thread < length self.old.env.desks → Cancels self.old.env self.new.env ticket) }
@@ -178,10 +178,10 @@ impl<H: Home> Env<H> {
         self.desks[at].cancel_now(alloc, ticket)
     }
 
-    /// Looks for the answer to the call that was given up first at a thread (this profile). It is the same as `discard`, but
-    /// tries to hold the thread's cell just once. If the answer is there, it is thrown away, and the call is no longer out.
+    /// Looks for the answer to the call that was cancelled first at a thread (this profile). It is the same as `discard`, but
+    /// tries to hold the thread's cell just once. If the answer is there, it is discarded, and the call is no longer out.
     ///
-    /// `true` if an answer was thrown away. `false` if there is none yet, if no call was given up there, or if there is no
+    /// `true` if an answer was discarded. `false` if there is none yet, if no call was cancelled there, or if there is no
     /// such thread.
     ///
     /// The error is 215 (this profile: `Busy`) if the thread's cell is in use. Then nothing changes.
@@ -199,7 +199,7 @@ impl<H: Home> Env<H> {
         self.desks[at].discard_now()
     }
 
-    /// Gives up all calls that are out at a thread, and sets the environment's word there to 0, if a call is left. It tries to
+    /// Cancels all calls that are out at a thread, and sets the environment's word there to 0, if a call is left. It tries to
     /// hold the thread's cell just once, for both. The place is the thread's, and there is a desk.
     ///
     /// The error is 110 OUT_OF_MEMORY, or `Busy` (215) if the cell is in use. Then nothing changes.
@@ -227,14 +227,14 @@ impl<H: Home> Env<H> {
     /// Takes the desk at a thread out of the environment, and leaves nothing there of what the environment did (JVM TI 11,
     /// DisposeEnvironment). It is the same as `clear_desk`, but tries to hold the thread's cell just once, for all of it.
     ///
-    /// Its calls that are out are given up, and each still takes place when the thread reaches it. Its word is 0 again, if a
+    /// Its calls that are out are cancelled, and each still takes place when the thread reaches it. Its word is 0 again, if a
     /// call is left there: that costs one.
     ///
     /// `None` if there is no desk at a thread of this number. Then nothing changes.
     ///
     /// The error is one of these. Then nothing changes.
     ///
-    /// - 110 OUT_OF_MEMORY: there is no memory to note the calls that are given up.
+    /// - 110 OUT_OF_MEMORY: there is no memory to note the calls that are cancelled.
     /// - 215 (this profile: `Busy`): the thread's cell is in use.
     pub fn clear_desk_now(
         &mut self,

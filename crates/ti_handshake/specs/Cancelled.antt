@@ -1,4 +1,4 @@
--- Calls that were given up.
+-- Calls that were cancelled.
 use Rattle.std.specs.Prelude.{ℕ, ◌≡◌, ◌++◌, true, List, [], Option, Some, None, vec_capacity}
 use Rattle.std.specs.Global.{Vec}
 use Rattle.ti_types.specs.declared.event.Ticket.{Ticket}
@@ -13,12 +13,12 @@ abbrev pub given_in : Option (Vec Ticket) → Given
 given_in None = record { tickets = []; room = 0 }
 given_in (Some v) = record { tickets = v.items; room = vec_capacity v }
 
--- each call that was given up is out, and none is listed twice
+-- each call that was cancelled is out, and none is listed twice
 pub record AreGivenUp (cancelled posted : List Ticket) : Type 0 where
   pub once : AreOnce cancelled
   pub out : (k : Ticket) → has k cancelled ≡ true → has k posted ≡ true
 
--- all that are out were added, behind those that were given up before
+-- all that are out were added, behind those that were cancelled before
 pub record AddsAll (posted old new : List Ticket) : Type 0 where
   pub more : List Ticket
   pub behind : new ≡ old ++ more

@@ -23,7 +23,7 @@ use Rattle.ti_slot.specs.declared.asked.Asked.{Asked as AskedOf}
 use Rattle.ti_slot.specs.declared.asked.Asked.TheVariants.{Answered, Waiting}
 use Rattle.ti_handshake.specs.Call.{HoldsWith, IsAnswered, found, next_call, next_ticket}
 
--- an environment, its cell, its seat there, and its calls there that were given up and are still out
+-- an environment, its cell, its seat there, and its calls there that were cancelled and are still out
 pub record DeskState : Type 0 where
   pub cell : TableId
   pub env : EnvNo
@@ -45,7 +45,7 @@ abbrev pub IsTicketOut : DeskState → AskedOf → Type 0
 IsTicketOut p (Answered a) = Unit {0}
 IsTicketOut p (Waiting k) = is_out p k ≡ true
 
--- one hold looked for the answer to the call that was given up first, and threw it away if it was there
+-- one hold looked for the answer to the call that was cancelled first, and discarded it if it was there
 pub record LooksForFirst (old new : DeskState) (first : Ticket) (rest : List Ticket) (thrown : Bool) : Type 0 where
   pub cell : new.cell ≡ old.cell
   pub env : new.env ≡ old.env
@@ -57,15 +57,15 @@ abbrev pub DiscardsOf : List Ticket → DeskState → DeskState → Bool → Typ
 DiscardsOf [] old new thrown = (new ≡ old) × (thrown ≡ false)
 DiscardsOf (first ∷ rest) old new thrown = LooksForFirst old new first rest thrown
 
--- what discarding does: nothing, if no call was given up
+-- what discarding does: nothing, if no call was cancelled
 abbrev pub Discards : DeskState → DeskState → Bool → Type 0
 Discards old new thrown = DiscardsOf old.cancelled old new thrown
 
--- the desk with this list of calls that were given up
+-- the desk with this list of calls that were cancelled
 abbrev pub with_cancelled : DeskState → List Ticket → DeskState
 with_cancelled p tickets = record p { cancelled = tickets }
 
--- all calls that were out are given up, behind those that were given up before
+-- all calls that were out are cancelled, behind those that were cancelled before
 pub record CancelsAll (old new : DeskState) : Type 0 where
   pub more : List Ticket
   pub behind : new.cancelled ≡ old.cancelled ++ more
@@ -84,14 +84,14 @@ pub record IsLeft (old new : DeskState) (call : Call) (ticket : Ticket) : Type 0
   pub posted : new.view.posted ≡ old.view.posted ++ ticket ∷ []
   pub unanswered : reply_to old.view.subject.limits new.view.seen ticket ≡ None
 
--- a call that was left so is given up
+-- a call that was left so is cancelled
 pub record GivesUp (old new : DeskState) (call : Call) : Type 0 where
   pub cell : new.cell ≡ old.cell
   pub env : new.env ≡ old.env
   pub left : IsLeft old new call (next_ticket old.view old.env)
   pub cancelled : new.cancelled ≡ old.cancelled ++ next_ticket old.view old.env ∷ []
 
--- a call with a deadline was answered in time, or given up
+-- a call with a deadline was answered in time, or cancelled
 abbrev pub IsInTime : DeskState → DeskState → Call → Option Answer → Type 0
 IsInTime old new call (Some answer) = IsSame old new × IsAnsweredAt old new call answer
 IsInTime old new call None = GivesUp old new call

@@ -1,10 +1,10 @@
-//! The list of a desk's calls that were given up.
+//! The list of a desk's calls that were cancelled.
 
 use std::alloc::Global;
 use std::marker::Model;
 use ti_types::{TiError, Ticket};
 
-/// The tickets of calls that were given up and are still out, in the order in which they were given up.
+/// The tickets of calls that were cancelled and are still out, in the order in which they were cancelled.
 #[derive(Drop)]
 pub struct Cancelled {
     /// `None` until room is made for the first.
@@ -27,7 +27,7 @@ impl Cancelled {
         Cancelled { tickets: None }
     }
 
-    /// Whether this call was given up.
+    /// Whether this call was cancelled.
     pub fn has(&self, ticket: Ticket) -> bool
         ensures { result ≡ has ticket self.now.tickets }
     {
@@ -37,7 +37,7 @@ impl Cancelled {
         }
     }
 
-    /// The ticket of the call that was given up first. `None` if the list is empty.
+    /// The ticket of the call that was cancelled first. `None` if the list is empty.
     pub fn first(&self) -> Option<Ticket>
         ensures { result ≡ slice_get self.now.tickets 0 }
     {
@@ -74,7 +74,7 @@ impl Cancelled {
         }
     }
 
-    /// Removes the ticket of the call that was given up first. There has to be one.
+    /// Removes the ticket of the call that was cancelled first. There has to be one.
     pub fn remove_first(&mut self)
         requires { 0 < length self.old.tickets }
         ensures { self.new.tickets ≡ drop 1 self.old.tickets }

@@ -12,7 +12,7 @@ use ti_slot::{Asked, Slot};
 use ti_types::{Answer, Call, EnvNo, Limits, ThreadNo, Ticket, TraceBuf};
 
 /// One environment at one thread. Contracts see it as a `DeskState`: its cell, its environment, its seat's view, and its calls
-/// that were given up and are still out.
+/// that were cancelled and are still out.
 ///
 /// # Examples
 ///
@@ -79,7 +79,7 @@ impl Desk {
 
     /// What is always true of a desk. Its seat is its environment's, does not hold the cell, and has not come back. What was
     /// seen is a legal history. Its entries with the seat's number are exactly those made from this seat. No more of its
-    /// calls are out than it made entries. The calls that were given up are among those that are out.
+    /// calls are out than it made entries. The calls that were cancelled are among those that are out.
     pub fn facts(&self)
         ensures rests { (self.now.view.holds ≡ false) × (self.now.view.found ≡ []) }
         ensures there_still { self.now.view.gone ≡ false }
@@ -207,7 +207,7 @@ impl Desk {
     /// The answer to a call of this desk that waited, if it is there, in one hold. It is the reply of the history to the
     /// ticket. Afterwards the ticket is no longer out, so it is answered once. The others stay.
     ///
-    /// `None` while the answer is not there, for a ticket that is none of the desk's, and for one that was given up. Then
+    /// `None` while the answer is not there, for a ticket that is none of the desk's, and for one that was cancelled. Then
     /// all tickets stay as they are.
     pub fn try_collect<R: Wait>(&mut self, rt: &R, ticket: Ticket) -> Option<Answer>
         ensures same { IsSame self.old self.new }
@@ -233,7 +233,7 @@ impl Desk {
     /// waits between them by looks.
     ///
     /// `None` when the time is over, or the clock can't be read. Then the ticket is out as before. For a ticket that is none
-    /// of the desk's, or was given up, it waits in vain.
+    /// of the desk's, or was cancelled, it waits in vain.
     pub fn collect_within<R: Wait + Clock>(
         &mut self,
         rt: &R,

@@ -1,4 +1,4 @@
-//! Calls of a desk that are given up, and calls with a deadline.
+//! Calls of a desk that are cancelled, and calls with a deadline.
 
 use crate::cancelled::Cancelled;
 use crate::desk::Desk;
@@ -12,14 +12,14 @@ use ti_slot::{Asked, Slot};
 use ti_types::{Answer, Call, EnvNo, TiError, Ticket, TraceBuf};
 
 impl Desk {
-    /// The ticket of the call that was given up first, and is still out (this profile). `None` if there is none.
+    /// The ticket of the call that was cancelled first, and is still out (this profile). `None` if there is none.
     pub fn first_cancelled(&self) -> Option<Ticket>
         ensures { result ≡ slice_get self.now.cancelled 0 }
     {
         self.cancelled.first()
     }
 
-    /// Takes the list of calls that were given up out of the desk, until `put_cancelled` puts it back.
+    /// Takes the list of calls that were cancelled out of the desk, until `put_cancelled` puts it back.
     pub(crate) fn take_cancelled(&mut self) -> Cancelled
         ensures tickets { result.tickets ≡ self.old.cancelled }
         ensures given { AreGivenUp result.tickets self.old.view.posted }
@@ -28,7 +28,7 @@ impl Desk {
         mem::replace(&mut self.cancelled, Cancelled::none())
     }
 
-    /// Puts a list of calls that were given up in place of the desk's own. Each of them is out.
+    /// Puts a list of calls that were cancelled in place of the desk's own. Each of them is out.
     pub(crate) fn put_cancelled(&mut self, cancelled: Cancelled)
         requires { AreGivenUp cancelled.tickets self.old.view.posted }
         ensures { self.new ≡ with_cancelled self.old cancelled.tickets }
@@ -36,10 +36,10 @@ impl Desk {
         self.cancelled = cancelled;
     }
 
-    /// Gives up a posted call whose answer is not collected, in one hold. `discard` throws its answer away once it is there.
+    /// Cancels a posted call whose answer is not collected, in one hold. `discard` discards its answer once it is there.
     ///
     /// The call still takes place when the thread reaches it: a suspension suspends, and a pop pops. It is out until its
-    /// answer is thrown away (this profile). A ticket that is not out, or was given up before, is left as it is.
+    /// answer is discarded (this profile). A ticket that is not out, or was cancelled before, is left as it is.
     ///
     /// The error is 110 OUT_OF_MEMORY if there is no memory to note the ticket. Then nothing changes.
     pub fn cancel<R: Wait>(&mut self, rt: &R, alloc: Global, ticket: Ticket) -> Result<(), TiError>
@@ -63,8 +63,8 @@ impl Desk {
         unreachable!()
     }
 
-    /// Looks in one hold for the answer to the call that was given up first. If it is there, it is thrown away, and the call
-    /// is no longer out. Returns whether it was there. If no call was given up, nothing is done, and the result is `false`
+    /// Looks in one hold for the answer to the call that was cancelled first. If it is there, it is discarded, and the call
+    /// is no longer out. Returns whether it was there. If no call was cancelled, nothing is done, and the result is `false`
     /// (this profile).
     pub fn discard<R: Wait>(&mut self, rt: &R) -> bool
         ensures { Discards self.old self.new result }
@@ -113,9 +113,9 @@ impl Desk {
     /// Makes a call at the thread, and waits for its answer for at most this time. It costs one call. The answer may be a
     /// refusal by the thread, as for `post`.
     ///
-    /// `None` when the time is over, or the clock can't be read. Then the call was given up, as by `cancel`.
+    /// `None` when the time is over, or the clock can't be read. Then the call was cancelled, as by `cancel`.
     ///
-    /// The error is 110 OUT_OF_MEMORY if there is no memory to note that the call is given up. Then nothing was asked.
+    /// The error is 110 OUT_OF_MEMORY if there is no memory to note that the call is cancelled. Then nothing was asked.
     pub fn call_within<R: Wait + Clock>(
         &mut self,
         rt: &R,

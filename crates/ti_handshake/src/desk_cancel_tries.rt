@@ -1,4 +1,4 @@
-//! Calls of a desk that give up calls, and never wait.
+//! Calls of a desk that cancel calls, and never wait.
 //!
 //! Each is the twin of a call that holds the cell (`desk_cancel`), and tries to hold it just once. If another user holds the
 //! cell, or comes first, nothing changes. They wake nobody (`wake_sleepers`).
@@ -10,11 +10,11 @@ use std::alloc::Global;
 use ti_types::{Call, TiError, Ticket, TraceBuf};
 
 impl Desk {
-    /// Gives up a posted call whose answer is not collected. It is the same as `cancel`, but tries to hold the cell just
-    /// once. `discard_now` throws its answer away once it is there.
+    /// Cancels a posted call whose answer is not collected. It is the same as `cancel`, but tries to hold the cell just
+    /// once. `discard_now` discards its answer once it is there.
     ///
-    /// The call still takes place when the thread reaches it. It is out until its answer is thrown away (this profile). A
-    /// ticket that is not out, or was given up before, is left as it is.
+    /// The call still takes place when the thread reaches it. It is out until its answer is discarded (this profile). A
+    /// ticket that is not out, or was cancelled before, is left as it is.
     ///
     /// The error is one of these. Then nothing changes.
     ///
@@ -47,7 +47,7 @@ impl Desk {
         }
     }
 
-    /// Gives up all calls of the desk that are out. It is the same as `cancel_all`, but tries to hold the cell just once.
+    /// Cancels all calls of the desk that are out. It is the same as `cancel_all`, but tries to hold the cell just once.
     /// Each of them still takes place when the thread reaches it.
     ///
     /// The error is one of these. Then nothing changes.
@@ -107,7 +107,7 @@ impl Desk {
         }
     }
 
-    /// Gives up all calls of the desk that are out, and sets the environment's word at the thread to 0. It tries to hold the
+    /// Cancels all calls of the desk that are out, and sets the environment's word at the thread to 0. It tries to hold the
     /// cell just once, for both. It costs one call. Each of the calls still takes place when the thread reaches it.
     ///
     /// It is for an environment that leaves the thread (JVM TI 11, DisposeEnvironment). It has a call left at the thread.
@@ -174,10 +174,10 @@ impl Desk {
         }
     }
 
-    /// Looks for the answer to the call that was given up first. It is the same as `discard`, but tries to hold the cell
-    /// just once. If the answer is there, it is thrown away, and the call is no longer out.
+    /// Looks for the answer to the call that was cancelled first. It is the same as `discard`, but tries to hold the cell
+    /// just once. If the answer is there, it is discarded, and the call is no longer out.
     ///
-    /// Returns whether it was there. If no call was given up, nothing is done, and the result is `false` (this profile).
+    /// Returns whether it was there. If no call was cancelled, nothing is done, and the result is `false` (this profile).
     ///
     /// The error is `Busy` (215) if the cell is in use (this profile). Then nothing changes.
     pub fn discard_now(&mut self) -> Result<bool, TiError>

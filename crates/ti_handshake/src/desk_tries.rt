@@ -84,7 +84,7 @@ impl Desk {
     /// The answer to a call of this desk that waited, if it is there. It is the same as `try_collect`, but tries to hold the
     /// cell just once. Afterwards the ticket is no longer out, so it is answered once. The others stay.
     ///
-    /// `None` while the answer is not there, for a ticket that is none of the desk's, and for one that was given up. Then
+    /// `None` while the answer is not there, for a ticket that is none of the desk's, and for one that was cancelled. Then
     /// all tickets stay as they are.
     ///
     /// The error is `Busy` (215) if the cell is in use (this profile). Then nothing changes.

@@ -15,6 +15,6 @@ pub enum Coming {
     Met(EnvNo, u32),
     /// An environment that leaves has given its desk at a thread back.
     GaveBack(EnvNo, ThreadNo),
-    /// An environment is disposed of, and its place is free.
+    /// An environment is disposed of, and its number is free.
     Disposed(EnvNo),
 }

@@ -27,10 +27,10 @@ impl<'a> Model for RosterHold<'a> {
 
 impl<'a> RosterHold<'a> {
     /// Puts the roster back, clears the lock bit, and gives the seat back, which has now seen all that happened. The seat's
-    /// place is then the roster's `user`.
+    /// environment is then the roster's `user`.
     ///
-    /// The roster is the one that was held: what happened before is the beginning of what has happened now. A place is
-    /// claimed only if it was free, and what is noted of others' places stays as it is.
+    /// The roster is the one that was held: what happened before is the beginning of what has happened now. A number is
+    /// claimed only if it was free, and what is noted of others' numbers stays as it is.
     ///
     /// Whoever sleeps on the cell is woken.
     pub fn store(self) -> RosterSeat

@@ -9,7 +9,7 @@
 //! - A hold gives the roster with that list. What it adds is seen by every later hold.
 //! - A thread's number is how many threads came before it. So no two are equal, and none comes again.
 //! - The starts and ends of threads can be read one by one, in the order in which they happened. The last 4,096 are kept.
-//! - An environment that comes has a place that no other has. Nobody but its own seat takes its desks.
+//! - An environment that comes has a number that no other has. Nobody but its own seat takes its desks.
 //! - A hold is stored: one that is let go of is a compile error.
 //! - `hold_now` does not wait. `hold` sleeps after some looks, and `store` wakes it. `store_quietly` does not. No contract
 //!   says either.

@@ -26,7 +26,7 @@ pub struct Roster {
     user: Option<EnvNo>,
     /// The threads that are there, in the order of their numbers.
     rows: Vec<Row>,
-    /// What is noted of each environment's place. `None` while no environment has it. Otherwise the environment has taken its
+    /// What is noted of each environment's number. `None` while no environment has it. Otherwise the environment has taken its
     /// desks at the threads below this number.
     marks: Vec<Option<u32>>,
     /// The events of threads' lives.
@@ -47,7 +47,7 @@ impl Model for Roster {
 }
 
 impl Roster {
-    /// A roster of nobody, with as many places as the limits have environments. 110 OUT_OF_MEMORY if there is no memory for
+    /// A roster of nobody, with as many numbers as the limits have environments. 110 OUT_OF_MEMORY if there is no memory for
     /// it.
     pub fn new(alloc: Global, limits: Limits) -> Result<Roster, TiError>
         ensures new { IfOk result (λ r. r ≡ record { items = []; limits = limits; user = None }) }
@@ -248,7 +248,7 @@ impl Roster {
         Ok(())
     }
 
-    /// The first place that no environment has.
+    /// The first number that no environment has.
     fn free_place(&self) -> Option<u32>
         ensures place { IfSome result (λ p. (p < self.now.limits.envs) × (mark_of (record { 0 = p }) self.now.items ≡ None)) }
         ensures none { IfNone result (AreTaken self.now) }
@@ -261,10 +261,10 @@ impl Roster {
         None
     }
 
-    /// An environment comes, and has a place that no environment has. It has taken no desk. From now on the roster is in
+    /// An environment comes, and has a number that no environment has. It has taken no desk. From now on the roster is in
     /// its service.
     ///
-    /// 216 `Full` (this profile) if every place is taken, or if there were 2^62 - 1 comings and goings in all. Then nothing
+    /// 216 `Full` (this profile) if every number is taken, or if there were 2^62 - 1 comings and goings in all. Then nothing
     /// changes. It takes no memory.
     pub fn attach(&mut self) -> Result<EnvNo, TiError>
         ensures free { IfOk result (λ e. (e.0 < self.old.limits.envs) × (mark_of e self.old.items ≡ None)) }
@@ -297,7 +297,7 @@ impl Roster {
         }
     }
 
-    /// Whether an environment has taken its desks at all threads that came. It has one of the places.
+    /// Whether an environment has taken its desks at all threads that came. It has one of the numbers.
     fn has_met_all(&self, env: EnvNo) -> bool
         requires { env.0 < self.now.limits.envs }
         ensures { result ≡ has_met_all env self.now.items }
@@ -362,7 +362,7 @@ impl Roster {
         self.len += 1;
     }
 
-    /// The environment that the roster serves is disposed of. Its place is free, and the roster serves nobody. Each of its
+    /// The environment that the roster serves is disposed of. Its number is free, and the roster serves nobody. Each of its
     /// desks goes back into the row of its thread, unless the thread was given back: then the desk is let go of.
     ///
     /// The error is the first of these that fits, and then nothing changes, and the desks come back:
@@ -395,7 +395,7 @@ impl Roster {
     }
 }
 
-/// Takes the desks of an environment out of the rows from an index on, in which there is a place for it.
+/// Takes the desks of an environment out of the rows from an index on, in which there is room for it.
 fn take_desks(rows: &mut Vec<Row>, start: usize, env: EnvNo, desks: &mut Vec<FreeDesk>)
     requires places { (i : ℕ) (r : Row) → slice_get rows.old.items i ≡ Some r → env.0 < length r.desks.items }
     requires room { length desks.old.items + length rows.old.items ≤ vec_capacity desks.old + start }

@@ -11,7 +11,7 @@ use ti_types::{Limits, ThreadNo, TiError};
 #[derive(Drop)]
 pub(crate) struct Row {
     pub(crate) newcomer: Newcomer,
-    /// By the place of the environment.
+    /// By the number of the environment.
     pub(crate) desks: Vec<Option<FreeDesk>>,
 }
 
@@ -23,7 +23,7 @@ impl Row {
         self.newcomer.thread
     }
 
-    /// Takes the desk at a place, if it is here. There has to be such a place.
+    /// Takes the desk at an index, if it is here. There has to be such an index.
     pub(crate) fn take(&mut self, place: usize) -> Option<FreeDesk>
         requires { place < length self.old.desks.items }
         ensures desk { slice_get self.old.desks.items place ≡ Some result }
@@ -33,7 +33,7 @@ impl Row {
         self.desks[place].take()
     }
 
-    /// Whether the desk at a place is here. There has to be such a place.
+    /// Whether the desk at an index is here. There has to be such an index.
     pub(crate) fn has(&self, place: usize) -> bool
         requires { place < length self.now.desks.items }
         ensures { (slice_get self.now.desks.items place ≡ Some None) ↔ (result ≡ false) }
@@ -41,7 +41,7 @@ impl Row {
         self.desks[place].is_some()
     }
 
-    /// Puts a desk at a place. There has to be such a place.
+    /// Puts a desk at an index. There has to be such an index.
     pub(crate) fn put(&mut self, place: usize, desk: FreeDesk)
         requires { place < length self.old.desks.items }
         ensures newcomer { self.new.newcomer ≡ self.old.newcomer }

@@ -35,7 +35,7 @@ use ti_agent::Env;
 /// let mut first = service.attach_environment(&rt, alloc)?;
 /// first.meet(&rt, alloc)?;
 /// first.set_thread_local_storage(&rt, ThreadNo(0), 7)?;
-/// // There is one place for an environment. It is free once the first is disposed of, and nothing of it is left there.
+/// // There is room for one environment, again once the first is disposed of, and nothing of it is left.
 /// assert!(rt; service.attach_environment(&rt, alloc).is_err());
 /// let Ok(_handle) = first.dispose(&rt, alloc) else {
 ///     return Err("there is memory".into());

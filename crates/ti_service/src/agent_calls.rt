@@ -97,11 +97,11 @@ pub trait ServiceCalls {
     /// time is over, if the clock can't be read, or if events are disabled.
     fn next_event_within<R: Wait + Clock>(&mut self, rt: &R, time: Duration) -> Option<NextEvent>;
 
-    /// DisposeEnvironment (JVM TI 11): the agent leaves the service, and its place is free for another. At each thread its
-    /// word is 0 again, and its calls that were posted and not collected are given up. They still take place: a thread that is
+    /// DisposeEnvironment (JVM TI 11): the agent leaves the service, and its number is free for another. At each thread its
+    /// word is 0 again, and its calls that were posted and not collected are cancelled. They still take place: a thread that is
     /// to be suspended, or was, stays suspended. It has no stop to let go: whoever holds one borrows the environment.
     ///
-    /// What is left is a handle, which is no environment's. The next environment at this place is at each thread that is
+    /// What is left is a handle, which is no environment's. The next environment of this number is at each thread that is
     /// there, and finds nothing of what this one did but at the threads themselves: what it suspended and popped.
     ///
     /// The error is 110 OUT_OF_MEMORY if there is no memory to give calls up, or 216 `Full` if there were 2^62 - 1 comings and
@@ -109,7 +109,7 @@ pub trait ServiceCalls {
     fn dispose<R: Wait>(self, rt: &R, alloc: Global) -> Result<Service, (TiError, Agent)>;
 }
 
-/// Clears the environment's desks: its calls are given up, and its words are 0. They wait from then on, behind those that
+/// Clears the environment's desks: its calls are cancelled, and its words are 0. They wait from then on, behind those that
 /// waited.
 ///
 /// 110 OUT_OF_MEMORY if there is no memory for that. Then some of them are cleared, and the others are as they were.

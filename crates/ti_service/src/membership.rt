@@ -6,7 +6,7 @@ use ti_agent::{FreeDesk, Home};
 /// What an agent has beside its environment: its handle of the service, the desks that it has taken and not added, and which
 /// event it is to be told next.
 ///
-/// It may be the home of an environment in whose place the handle is, and of desks at the threads that came to the service.
+/// It may be the home of an environment whose number the handle has, and of desks at the threads that came to the service.
 #[derive(Drop)]
 pub struct Membership {
     pub(crate) service: Service,

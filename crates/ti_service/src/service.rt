@@ -136,7 +136,7 @@ impl Service {
         seat.limits()
     }
 
-    /// A place for an environment, which is this handle's from now on.
+    /// A number for an environment, which is this handle's from now on.
     fn claim<R: Wait>(&mut self, rt: &R) -> Result<EnvNo, TiError>
         requires { self.old.view.place ≡ None }
         ensures cell { self.new.cell ≡ self.old.cell }
@@ -163,7 +163,7 @@ impl Service {
     /// It takes no memory. Nothing changes of this handle but that it has made one more, which is the agent's.
     ///
     /// 216 `Full` (this profile) if there are as many environments as the limits allow, or 2^62 - 1 comings and goings in
-    /// all, or 2^63 handles. Then no environment came, and no place is taken. The handle that was made is let go of.
+    /// all, or 2^63 handles. Then no environment came, and no number is taken. The handle that was made is let go of.
     pub fn attach_environment<R: Wait>(&mut self, rt: &R, alloc: Global) -> Result<Agent, TiError>
         ensures made { OnOk result (self.new ≡ with_handle self.old) }
         ensures attached { IfOk result (λ a. IsNewAgent self.old (state_of a)) }

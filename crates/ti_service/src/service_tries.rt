@@ -20,7 +20,7 @@ impl Service {
         self.roster.wake_sleepers();
     }
 
-    /// A place for an environment, which is this handle's from now on.
+    /// A number for an environment, which is this handle's from now on.
     pub(crate) fn claim_now(&mut self) -> Result<EnvNo, TiError>
         requires { self.old.view.place ≡ None }
         ensures cell { self.new.cell ≡ self.old.cell }
@@ -45,7 +45,7 @@ impl Service {
 
     /// Attaches an environment, as `attach_environment` does.
     ///
-    /// The error is one of these. Then no environment came, and no place is taken.
+    /// The error is one of these. Then no environment came, and no number is taken.
     ///
     /// - 216 `Full` (this profile): as for `attach_environment`.
     /// - 215 `Busy` (this profile): the roster is in use. The handle that was made is let go of.

@@ -56,11 +56,11 @@ pub enum TiError {
     NotStopped,
     /// 213: a read of a thread that still runs.
     StillRunning,
-    /// 214: the time of a call with a deadline is over, and the call was given up. It may still take place.
+    /// 214: the time of a call with a deadline is over, and the call was cancelled. It may still take place.
     TimedOut,
     /// 215: a form that never waits found the cell in use. Nothing has changed: try again.
     Busy,
-    /// 216: a bound other than memory leaves no place: the window of calls that are out, the environments or the thread
+    /// 216: a bound other than memory leaves no room: the window of calls that are out, the environments or the thread
     /// numbers of a service, or the threads that an environment has met. It never comes under the limits of documents.
     Full,
 }

@@ -8,20 +8,20 @@ use ti_handshake::Desk;
 use ti_trail::GhostList;
 use ti_types::{Answer, EnvNo, ThreadNo, TiError, TraceBuf};
 
-/// The turn to make a global operation, kept in a `Mutex`. Whoever has it makes one, and has it until the threads are let
+/// The lock for global operations, kept in a `Mutex`. Whoever has it makes one, and has it until the threads are let
 /// go.
 #[derive(Drop)]
 pub struct VmTurn {}
 
 impl VmTurn {
-    /// A turn. There should be one for all environments.
+    /// A lock. There should be one for all environments.
     pub fn new() -> VmTurn {
         VmTurn {}
     }
 }
 
 /// Threads that are standing for an environment, each listed with the reads that were to come. It has to be spent: `go` lets
-/// them go. Until then it has the turn, so no other operation begins by that turn.
+/// them go. Until then it has the lock, so no other operation begins under it.
 pub struct Standing<'t, 'l> {
     pub(crate) turn: &'t mut VmTurn,
     pub(crate) env: EnvNo,

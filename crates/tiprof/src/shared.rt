@@ -7,7 +7,7 @@ use std::thread::Parker;
 use std::time::Duration;
 use ti_vmop::VmTurn;
 
-/// The turn, and who has ended.
+/// The lock for stops, and who has ended.
 #[derive(Drop)]
 pub struct Shared {
     turn: Mutex<VmTurn>,
@@ -33,7 +33,7 @@ impl Shared {
         }
     }
 
-    /// The turn for stops.
+    /// The lock for stops.
     pub fn turn(&self) -> &Mutex<VmTurn> {
         &self.turn
     }

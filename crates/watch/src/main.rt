@@ -1,6 +1,6 @@
 //! `watch`: two threads that compute, and an agent that suspends, reads and resumes each of them.
 //!
-//! Each thread adds up numbers in method 1, called by method 0, and polls at each turn. The agent has a thread of the
+//! Each thread adds up numbers in method 1, called by method 0, and polls in each iteration. The agent has a thread of the
 //! operating system for itself. It suspends one thread after the other, writes the thread's state, its methods, the newest
 //! first, and how many they are, and resumes it. Then it leaves the service, and the threads compute on until they have to end.
 //!
@@ -23,7 +23,7 @@ use ti_handshake::{Ended, Polled, Running};
 use ti_service::{Agent, Service, ServiceCalls, ThreadInfo};
 use ti_types::{Caps, Limits, MethodNo, Step, ThreadNo};
 
-/// Computes until `over` is set, and polls at each turn. A poll is one load if nobody calls for the thread. If the thread is
+/// Computes until `over` is set, and polls in each iteration. A poll is one load if nobody calls for the thread. If the thread is
 /// held, it waits until it may return.
 fn compute<R: Wait>(rt: &R, over: &AtomicBool, running: Running) -> (u64, Ended) {
     let mut running = running;

@@ -65,7 +65,7 @@ errors! {
     CallsSpent = CQ_CALLS_SPENT
     /// The time is over.
     TimedOut = CQ_TIMED_OUT
-    /// A bound other than memory leaves no place: for an environment, a class, or a call in the window.
+    /// A bound other than memory leaves no room: for an environment, a class, or a call in the window.
     Full = CQ_FULL
     /// All frames are to be set, and frames were popped that the runtime has not taken note of.
     Popped = CQ_POPPED
