@@ -15,9 +15,10 @@ import tests_end
 import tests_late
 import tests_prof
 import tests_run
+import tests_serve
 from checks import HERE, LUA, check, failed, passed
 
-MODULES = (tests_run, tests_prof, tests_late, tests_deep, tests_end, tests_debug, tests_build)
+MODULES = (tests_run, tests_prof, tests_late, tests_deep, tests_end, tests_debug, tests_serve, tests_build)
 
 
 def run_test(name, test):
