@@ -1,18 +1,22 @@
 -- What lies behind a handle that is full.
-use Rattle.std.proofs.Common.{◌≡◌, true, Option, Some, None, refl, sym}
-use Rattle.std.proofs.lemmas.Bool.{false≢true}
-use Rattle.std.specs.Prelude.{is_some}
+use Rattle.std.proofs.Common.{◌≡◌, Option, Some, None, sym, ap, subst}
+use Rattle.std.proofs.lemmas.Option.{none-some, same_Some}
+use Rattle.std.specs.Option.{IsSomeAnd}
+use Rattle.ti_capi.specs.declared.held.Held.{Held}
+use Rattle.ti_capi.specs.declared.held.Held.TheVariants as held
 use Rattle.ti_capi.specs.declared.held.HeldEnv.{HeldEnv}
-use Rattle.ti_capi.specs.declared.held.HeldThread.{HeldThread}
-use Rattle.ti_capi.specs.Handles.{EnvHandle, ThreadHandle, with_held, with_held_env}
+use Rattle.ti_capi.specs.Handles.{Handle, env_in, env_of, with_held_env}
 
-pub some_of : {X : Type 0} (o : Option X) → is_some o ≡ true → (x : X) × (o ≡ Some x)
-some_of None h = absurd (false≢true h)
-some_of (Some x) h = (x, refl)
+-- what is said of the thing in a box is said of it behind the handle that the box was put into
+pub put_there : {X : Type 0} (see : Option Held → Option X) (P : X → Type 0) (o : Option Held) (x : Held) → o ≡ Some x → IsSomeAnd (see (Some x)) P → IsSomeAnd (see o) P
+put_there see P o x is says = subst (λ (p : Option Held). IsSomeAnd (see p) P) (sym is) says
+
+env_is : (o : Option Held) (e : HeldEnv) → env_of o ≡ Some e → Some (held.Env e) ≡ o
+env_is (Some (held.Service m)) e is = absurd (none-some e is)
+env_is (Some (held.Thread t)) e is = absurd (none-some e is)
+env_is (Some (held.Env f)) e is = ap (λ (x : HeldEnv). Some (held.Env x)) (sym (same_Some f e is))
+env_is None e is = absurd (none-some e is)
 
 -- a handle with what it has is that handle
-pub same_env : (h : EnvHandle) (x : HeldEnv) → h.place.env ≡ Some x → with_held_env h x ≡ h
-same_env h x is = λ i. record { kind = h.kind; place = record { at = h.place.at; alloc = h.place.alloc; env = sym is i } }
-
-pub same_thread : (h : ThreadHandle) (x : HeldThread) → h.place.thread ≡ Some x → with_held h x ≡ h
-same_thread h x is = λ i. record { kind = h.kind; place = record { at = h.place.at; alloc = h.place.alloc; thread = sym is i } }
+pub same_env : (h : Handle) (e : HeldEnv) → env_in h ≡ Some e → with_held_env h e ≡ h
+same_env h e is = λ i. record { kind = h.kind; place = record { at = h.place.at; alloc = h.place.alloc; held = env_is h.place.held e is i } }

@@ -8,7 +8,7 @@ use Rattle.ti_capi.specs.declared.held.HeldEnv.{HeldEnv}
 use Rattle.ti_capi.specs.declared.held.HeldThread.{HeldThread}
 use Rattle.ti_capi.specs.Disposing.{DisposesBy, DisposesIn, NoEnvironment, DisposedIn, StaysIn, Disposed, StaysBehind}
 use Rattle.ti_capi.specs.Frames.{Detaches, Detached, GivesBack, StaysHeld}
-use Rattle.ti_capi.specs.Handles.{EnvHandle, ThreadHandle, agent_behind, agent_in, with_held, with_held_env}
+use Rattle.ti_capi.specs.Handles.{Handle, agent_behind, agent_in, env_in, thread_in, with_held_env, with_held_thread}
 use Rattle.ti_capi.proofs.Behind.{same_env}
 
 -- a refusal has no code 0
@@ -18,14 +18,14 @@ refused_not_0 s n e (NotCleared (inr is) same all) code c z = let f = c ∙ ap n
 refused_not_0 s n e (NotLeft is over cell looks all) code c z = let f = c ∙ ap number_of is in omega (arith, f, z)
 
 -- the environment was disposed of, and the handle is empty
-pub disposed : (old new : EnvHandle) (h n : HeldEnv) (code : ℕ) → old.place.env ≡ Some h → DisposesIn h n code → code ≡ 0 → new.kind ≡ 0 → DisposesBy (agent_in old) old new code
+pub disposed : (old new : Handle) (h n : HeldEnv) (code : ℕ) → env_in old ≡ Some h → DisposesIn h n code → code ≡ 0 → new.kind ≡ 0 → DisposesBy (agent_in old) old new code
 disposed old new h n code is (NoEnvironment c on nn) z k = absurd (omega (arith, c, z))
 disposed old new h n code is (DisposedIn s m c there gone d) z k =
     subst (λ (o : Option AgentValue). DisposesBy o old new code) (sym (ap agent_behind is ∙ there)) (Disposed m c k d)
 disposed old new h n code is (StaysIn s a e c there stays st ev) z k = absurd (refused_not_0 s a e st code c z)
 
 -- it was not
-pub remains : (old : EnvHandle) (h n : HeldEnv) (code : ℕ) → old.place.env ≡ Some h → DisposesIn h n code → (code ≡ 0 → ⊥) → DisposesBy (agent_in old) old (with_held_env old n) code
+pub remains : (old : Handle) (h n : HeldEnv) (code : ℕ) → env_in old ≡ Some h → DisposesIn h n code → (code ≡ 0 → ⊥) → DisposesBy (agent_in old) old (with_held_env old n) code
 remains old h n code is (NoEnvironment c on nn) nz =
     subst (λ (o : Option AgentValue). DisposesBy o old (with_held_env old n) code) (sym (ap agent_behind is ∙ on)) (same_env old n (is ∙ ap (λ (x : HeldEnv). Some x) (sym nn)), c)
 remains old h n code is (DisposedIn s m c there gone d) nz = absurd (nz c)
@@ -33,11 +33,11 @@ remains old h n code is (StaysIn s a e c there stays st ev) nz =
     subst (λ (o : Option AgentValue). DisposesBy o old (with_held_env old n) code) (sym (ap agent_behind is ∙ there)) (StaysBehind h a e c is (ap (with_held_env old) stays) st ev)
 
 -- the thread was given back, and the handle is empty
-pub detached : (old new : ThreadHandle) (h n : HeldThread) (code : ℕ) → old.place.thread ≡ Some h → GivesBack h n code → code ≡ 0 → new.kind ≡ 0 → Detaches old.place.thread old new code
+pub detached : (old new : Handle) (h n : HeldThread) (code : ℕ) → thread_in old ≡ Some h → GivesBack h n code → code ≡ 0 → new.kind ≡ 0 → Detaches (thread_in old) old new code
 detached old new h n code is back z k =
     subst (λ (o : Option HeldThread). Detaches o old new code) (sym is) (Detached n z k (subst (λ (c : ℕ). GivesBack h n c) z back))
 
 -- it was not
-pub stays_held : (old : ThreadHandle) (h n : HeldThread) (code : ℕ) → old.place.thread ≡ Some h → GivesBack h n code → (code ≡ 0 → ⊥) → Detaches old.place.thread old (with_held old n) code
+pub stays_held : (old : Handle) (h n : HeldThread) (code : ℕ) → thread_in old ≡ Some h → GivesBack h n code → (code ≡ 0 → ⊥) → Detaches (thread_in old) old (with_held_thread old n) code
 stays_held old h n code is back nz =
-    subst (λ (o : Option HeldThread). Detaches o old (with_held old n) code) (sym is) (StaysHeld n nz refl back)
+    subst (λ (o : Option HeldThread). Detaches o old (with_held_thread old n) code) (sym is) (StaysHeld n nz refl back)

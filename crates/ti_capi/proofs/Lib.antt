@@ -1,6 +1,4 @@
-mod AsService
-mod AsThread
-mod AsEnv
+mod AsHeld
 mod Over
 mod Behind
 mod Calling

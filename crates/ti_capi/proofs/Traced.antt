@@ -9,10 +9,10 @@ use Rattle.ti_agent.specs.Gathering.{Gathers, GivesUp, GoesOn, IsBarred, is_give
 use Rattle.ti_service.specs.Memberships.{AgentValue, TraceValue}
 use Rattle.ti_capi.specs.declared.held.HeldEnv.{HeldEnv}
 use Rattle.ti_capi.specs.Gathers.{AllDone, Begun, BeginsIn, BeginsTo, IsBegun, IsFinished, IsNotOver, IsOver, IsStepped, MoreToDo, NotBegun, PutsBack, StepMet, StepsIn, StepsTo, Works, WorksBehind}
-use Rattle.ti_capi.specs.Handles.{EnvHandle, env_held_tracing, env_held_with, with_held_env}
+use Rattle.ti_capi.specs.Handles.{Handle, env_held_tracing, env_held_with, env_in, with_held_env}
 
 -- something happened to what lies behind a handle
-pub worked : (R : HeldEnv → HeldEnv → ℕ → Type 0) (unwritten : Type 0) (old : EnvHandle) (h n : HeldEnv) (code : ℕ) → old.place.env ≡ Some h → R h n code → Works R unwritten old (with_held_env old n) code
+pub worked : (R : HeldEnv → HeldEnv → ℕ → Type 0) (unwritten : Type 0) (old : Handle) (h n : HeldEnv) (code : ℕ) → env_in old ≡ Some h → R h n code → Works R unwritten old (with_held_env old n) code
 worked R unwritten old h n code is says = subst (λ (e : Option HeldEnv). WorksBehind e (Some n) R unwritten old (with_held_env old n) code) (sym is) (refl, says)
 
 -- two clauses of what was done are one

@@ -21,7 +21,7 @@ use Rattle.ti_capi.specs.declared.values.CqFrame.{CqFrame}
 use Rattle.ti_capi.specs.Answers.{IsWritten, with_ticket}
 use Rattle.ti_capi.specs.Calls.{Calls}
 use Rattle.ti_capi.specs.Codes.{waiting}
-use Rattle.ti_capi.specs.Handles.{EnvHandle}
+use Rattle.ti_capi.specs.Handles.{Handle}
 use Rattle.ti_capi.specs.Values.{ticket_written}
 
 abbrev pub thread_no : ℕ → ThreadNo
@@ -47,11 +47,11 @@ pub record Asked (t : ThreadNo) (c : Call) (s n : AgentValue) (code : ℕ) (a b 
   pub is_written : IsPostWritten told code a b f g
 
 -- A call at a thread: the handle, the code, and the caller's answer and frames before and after
-abbrev pub Asks : ThreadNo → Call → EnvHandle → EnvHandle → ℕ → CqAnswer → CqAnswer → List CqFrame → List CqFrame → Type 0
+abbrev pub Asks : ThreadNo → Call → Handle → Handle → ℕ → CqAnswer → CqAnswer → List CqFrame → List CqFrame → Type 0
 Asks t c old new code a b f g = Calls (λ s n k. Asked t c s n k a b f g) ((b ≡ a) × (g ≡ f)) old new code
 
 -- the same with no room for frames
-abbrev pub AsksPlain : ThreadNo → Call → EnvHandle → EnvHandle → ℕ → CqAnswer → CqAnswer → Type 0
+abbrev pub AsksPlain : ThreadNo → Call → Handle → Handle → ℕ → CqAnswer → CqAnswer → Type 0
 AsksPlain t c old new code a b = (g : List CqFrame) × Asks t c old new code a b [] g
 
 -- what the environment says of a collection (`ti_service`, `Agent::collect_now`)
@@ -73,5 +73,5 @@ pub record Collected (k : Ticket) (s n : AgentValue) (code : ℕ) (a b : CqAnswe
   pub is_written : IsCollectionWritten told code a b f g
 
 -- an answer is collected: the handle, the code, and the caller's answer and frames before and after
-abbrev pub Collects : Ticket → EnvHandle → EnvHandle → ℕ → CqAnswer → CqAnswer → List CqFrame → List CqFrame → Type 0
+abbrev pub Collects : Ticket → Handle → Handle → ℕ → CqAnswer → CqAnswer → List CqFrame → List CqFrame → Type 0
 Collects k old new code a b f g = Calls (λ s n e. Collected k s n e a b f g) ((b ≡ a) × (g ≡ f)) old new code

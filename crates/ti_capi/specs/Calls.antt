@@ -23,7 +23,7 @@ use Rattle.ti_capi.specs.declared.values.CqEvent.{CqEvent}
 use Rattle.ti_capi.specs.declared.values.CqThreadInfo.{CqThreadInfo}
 use Rattle.ti_capi.specs.Codes.{misused, none_told}
 use Rattle.ti_capi.specs.declared.held.HeldEnv.{HeldEnv}
-use Rattle.ti_capi.specs.Handles.{EnvHandle, with_held_env}
+use Rattle.ti_capi.specs.Handles.{Handle, env_in, with_held_env}
 use Rattle.ti_capi.specs.Values.{event_written, over}
 
 -- A call of the environment of a box, with a code. If there is none, there is none afterwards, and nothing is written
@@ -37,13 +37,13 @@ abbrev pub IsSameBeside : HeldEnv → HeldEnv → Type 0
 IsSameBeside h n = (n.trace ≡ h.trace) × (n.stacks ≡ h.stacks)
 
 -- the same behind a handle: if it is empty or of another kind, nothing changes
-abbrev pub CallsBehind : Option HeldEnv → Option HeldEnv → (AgentValue → AgentValue → ℕ → Type 0) → (unwritten : Type 0) → EnvHandle → EnvHandle → ℕ → Type 0
+abbrev pub CallsBehind : Option HeldEnv → Option HeldEnv → (AgentValue → AgentValue → ℕ → Type 0) → (unwritten : Type 0) → Handle → Handle → ℕ → Type 0
 CallsBehind (Some h) (Some n) R unwritten old new code = (new ≡ with_held_env old n) × IsSameBeside h n × CallsTo h.agent n.agent R unwritten code
 CallsBehind (Some h) None R unwritten old new code = ⊥
 CallsBehind None n R unwritten old new code = (new ≡ old) × (code ≡ misused) × unwritten
 
-abbrev pub Calls : (AgentValue → AgentValue → ℕ → Type 0) → (unwritten : Type 0) → EnvHandle → EnvHandle → ℕ → Type 0
-Calls R unwritten old new code = CallsBehind old.place.env new.place.env R unwritten old new code
+abbrev pub Calls : (AgentValue → AgentValue → ℕ → Type 0) → (unwritten : Type 0) → Handle → Handle → ℕ → Type 0
+Calls R unwritten old new code = CallsBehind (env_in old) (env_in new) R unwritten old new code
 
 -- the environment with other things of its own
 abbrev pub env_with : Environment → EnvValue → Environment
@@ -72,13 +72,13 @@ TellsNewsOf (Some s) None news = ⊥
 TellsNewsOf None n news = (n ≡ None) × (news ≡ false)
 
 -- the same behind a handle: if it is empty or of another kind, nothing changes
-abbrev pub HasNewsBehind : Option HeldEnv → Option HeldEnv → EnvHandle → EnvHandle → Bool → Type 0
+abbrev pub HasNewsBehind : Option HeldEnv → Option HeldEnv → Handle → Handle → Bool → Type 0
 HasNewsBehind (Some h) (Some n) old new news = (new ≡ with_held_env old n) × IsSameBeside h n × TellsNewsOf h.agent n.agent news
 HasNewsBehind (Some h) None old new news = ⊥
 HasNewsBehind None n old new news = (new ≡ old) × (news ≡ false)
 
-abbrev pub HasNews : EnvHandle → EnvHandle → Bool → Type 0
-HasNews old new news = HasNewsBehind old.place.env new.place.env old new news
+abbrev pub HasNews : Handle → Handle → Bool → Type 0
+HasNews old new news = HasNewsBehind (env_in old) (env_in new) old new news
 
 -- a thread is let go of, or not (`ti_service`, `let_go_now`)
 pub data LetsGoBy (t : ThreadNo) (b0 b1 : Bool) (s n : AgentValue) (code : ℕ) : Type 0 where

@@ -22,7 +22,7 @@ use Rattle.ti_capi.specs.declared.class_values.CqMethodName.{CqMethodName}
 use Rattle.ti_capi.specs.Calls.{Calls}
 use Rattle.ti_capi.specs.Codes.{misused}
 use Rattle.ti_capi.specs.Defining.{Given, HasClass, IsClass, Lacks, line_written}
-use Rattle.ti_capi.specs.Handles.{EnvHandle, ServiceHandle, with_service}
+use Rattle.ti_capi.specs.Handles.{Handle, service_in, with_service}
 use Rattle.ti_capi.specs.Values.{over}
 
 abbrev pub class_no : ℕ → ClassNo
@@ -48,13 +48,13 @@ pub data DefinesFor (g : Given) (c0 c1 f0 f1 : ℕ) (m n : Member) (code : ℕ) 
   ClassRefused : (info : ClassInfo) → IsClass g info → SeesTable m n → RefusesBy n.cell.classes.seen info code → c1 ≡ c0 → f1 ≡ f0 → DefinesFor g c0 c1 f0 f1 m n code
 
 -- the same behind a handle: if it is empty or of another kind, nothing changes
-abbrev pub DefinesBehind : Option Member → Option Member → Given → ℕ → ℕ → ℕ → ℕ → ServiceHandle → ServiceHandle → ℕ → Type 0
+abbrev pub DefinesBehind : Option Member → Option Member → Given → ℕ → ℕ → ℕ → ℕ → Handle → Handle → ℕ → Type 0
 DefinesBehind (Some m) (Some n) g c0 c1 f0 f1 old new code = (new ≡ with_service old n) × DefinesFor g c0 c1 f0 f1 m n code
 DefinesBehind (Some m) None g c0 c1 f0 f1 old new code = ⊥
 DefinesBehind None n g c0 c1 f0 f1 old new code = (new ≡ old) × (c1 ≡ c0) × (f1 ≡ f0) × (code ≡ misused)
 
-abbrev pub Defines : Given → ℕ → ℕ → ℕ → ℕ → ServiceHandle → ServiceHandle → ℕ → Type 0
-Defines g c0 c1 f0 f1 old new code = DefinesBehind old.place.service new.place.service g c0 c1 f0 f1 old new code
+abbrev pub Defines : Given → ℕ → ℕ → ℕ → ℕ → Handle → Handle → ℕ → Type 0
+Defines g c0 c1 f0 f1 old new code = DefinesBehind (service_in old) (service_in new) g c0 c1 f0 f1 old new code
 
 -- An environment is told of the classes that it has seen then, or why it is not, and nothing is written (`ti_service`,
 -- `ClassCalls`)
@@ -62,7 +62,7 @@ pub data ToldOf (Told : List ClassInfo → Type 0) (Refuses : List ClassInfo →
   ClassTold : code ≡ 0 → SeesClasses s n → Told (classes_of n) → ToldOf Told Refuses unwritten s n code
   ClassUntold : (e : ClassError) → code ≡ class_number_of e → SeesClasses s n → Refuses (classes_of n) e → unwritten → ToldOf Told Refuses unwritten s n code
 
-abbrev pub Tells : (List ClassInfo → Type 0) → (List ClassInfo → ClassError → Type 0) → (unwritten : Type 0) → EnvHandle → EnvHandle → ℕ → Type 0
+abbrev pub Tells : (List ClassInfo → Type 0) → (List ClassInfo → ClassError → Type 0) → (unwritten : Type 0) → Handle → Handle → ℕ → Type 0
 Tells Told Refuses unwritten old new code = Calls (ToldOf Told Refuses unwritten) unwritten old new code
 
 -- a list is written as far as there is room, and how long it is

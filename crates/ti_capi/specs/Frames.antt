@@ -11,7 +11,7 @@ use Rattle.ti_thread.specs.declared.any_thread.TurnOutcome.{TurnOutcome}
 use Rattle.ti_capi.specs.declared.held.HeldThread.{HeldThread}
 use Rattle.ti_capi.specs.declared.values.CqFrame.{CqFrame}
 use Rattle.ti_capi.specs.Codes.{code_told, misused}
-use Rattle.ti_capi.specs.Handles.{ThreadHandle, with_held}
+use Rattle.ti_capi.specs.Handles.{Handle, thread_in, with_held_thread}
 use Rattle.ti_capi.specs.Values.{are_frames, frame_of}
 
 -- The thread of a box has other frames, or why it does not, and is as it was
@@ -29,14 +29,14 @@ SetsTo None n frames old new code = (new ≡ old) × (code ≡ misused)
 abbrev pub SetsIn : List CqFrame → HeldThread → HeldThread → ℕ → Type 0
 SetsIn frames old new code = SetsTo old.thread new.thread frames old new code
 
-abbrev pub SetsBehind : Option HeldThread → Option HeldThread → List CqFrame → ThreadHandle → ThreadHandle → ℕ → Type 0
-SetsBehind (Some h) (Some n) frames old new code = (new ≡ with_held old n) × SetsIn frames h n code
+abbrev pub SetsBehind : Option HeldThread → Option HeldThread → List CqFrame → Handle → Handle → ℕ → Type 0
+SetsBehind (Some h) (Some n) frames old new code = (new ≡ with_held_thread old n) × SetsIn frames h n code
 SetsBehind (Some h) None frames old new code = ⊥
 SetsBehind None n frames old new code = (new ≡ old) × (code ≡ misused)
 
 -- the thread behind a handle has other frames
-abbrev pub Sets : List CqFrame → ThreadHandle → ThreadHandle → ℕ → Type 0
-Sets frames old new code = SetsBehind old.place.thread new.place.thread frames old new code
+abbrev pub Sets : List CqFrame → Handle → Handle → ℕ → Type 0
+Sets frames old new code = SetsBehind (thread_in old) (thread_in new) frames old new code
 
 -- how many of these frames the thread of a box may have
 abbrev pub most_of : HeldThread → List CqFrame → ℕ
@@ -50,14 +50,14 @@ IsTold n n0 n1 code = (code ≡ 0 → n1 ≡ n) × ((code ≡ 0 → ⊥) → n1 
 abbrev pub SetsNewestIn : List CqFrame → HeldThread → HeldThread → ℕ → ℕ → ℕ → Type 0
 SetsNewestIn frames old new n0 n1 code = SetsIn (take (most_of old frames) frames) old new code × IsTold (most_of old frames) n0 n1 code
 
-abbrev pub SetsNewestBehind : Option HeldThread → Option HeldThread → List CqFrame → ThreadHandle → ThreadHandle → ℕ → ℕ → ℕ → Type 0
-SetsNewestBehind (Some h) (Some n) frames old new n0 n1 code = (new ≡ with_held old n) × SetsNewestIn frames h n n0 n1 code
+abbrev pub SetsNewestBehind : Option HeldThread → Option HeldThread → List CqFrame → Handle → Handle → ℕ → ℕ → ℕ → Type 0
+SetsNewestBehind (Some h) (Some n) frames old new n0 n1 code = (new ≡ with_held_thread old n) × SetsNewestIn frames h n n0 n1 code
 SetsNewestBehind (Some h) None frames old new n0 n1 code = ⊥
 SetsNewestBehind None n frames old new n0 n1 code = (new ≡ old) × (n1 ≡ n0) × (code ≡ misused)
 
 -- the same of the thread behind a handle
-abbrev pub SetsNewest : List CqFrame → ThreadHandle → ThreadHandle → ℕ → ℕ → ℕ → Type 0
-SetsNewest frames old new n0 n1 code = SetsNewestBehind old.place.thread new.place.thread frames old new n0 n1 code
+abbrev pub SetsNewest : List CqFrame → Handle → Handle → ℕ → ℕ → ℕ → Type 0
+SetsNewest frames old new n0 n1 code = SetsNewestBehind (thread_in old) (thread_in new) frames old new n0 n1 code
 
 -- A thread is given back, if it has ended or never started (`ti_service`, `Service::end_thread_now`, `withdraw_thread_now`)
 pub data GivesBackFor (t : HostThread) (old new : HeldThread) (code : ℕ) : Type 0 where
@@ -74,10 +74,10 @@ abbrev pub GivesBack : HeldThread → HeldThread → ℕ → Type 0
 GivesBack old new code = GivesBackTo old.thread old new code
 
 -- the same behind a handle, which is empty then
-pub data DetachesFor (h : HeldThread) (new : ThreadHandle) (code : ℕ) : Type 0 where
+pub data DetachesFor (h : HeldThread) (new : Handle) (code : ℕ) : Type 0 where
   Detached : (n : HeldThread) → code ≡ 0 → new.kind ≡ 0 → GivesBack h n 0 → DetachesFor h new code
-  StaysHeld : (n : HeldThread) → (code ≡ 0 → ⊥) → new.place.thread ≡ Some n → GivesBack h n code → DetachesFor h new code
+  StaysHeld : (n : HeldThread) → (code ≡ 0 → ⊥) → thread_in new ≡ Some n → GivesBack h n code → DetachesFor h new code
 
-abbrev pub Detaches : Option HeldThread → ThreadHandle → ThreadHandle → ℕ → Type 0
+abbrev pub Detaches : Option HeldThread → Handle → Handle → ℕ → Type 0
 Detaches (Some h) old new code = DetachesFor h new code
 Detaches None old new code = (new ≡ old) × (code ≡ misused)

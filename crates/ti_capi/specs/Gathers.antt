@@ -16,17 +16,17 @@ use Rattle.ti_capi.specs.declared.values.CqFrame.{CqFrame}
 use Rattle.ti_capi.specs.declared.values.CqStackInfo.{CqStackInfo}
 use Rattle.ti_capi.specs.Asking.{thread_no}
 use Rattle.ti_capi.specs.Codes.{misused, none_told}
-use Rattle.ti_capi.specs.Handles.{EnvHandle, env_held_tracing, env_held_with, with_held_env}
+use Rattle.ti_capi.specs.Handles.{Handle, env_held_tracing, env_held_with, env_in, with_held_env}
 use Rattle.ti_capi.specs.Values.{frame_written, over, stack_written}
 
 -- Something happens to what lies behind a handle. If it is empty or of another kind, nothing changes, and nothing is written
-abbrev pub WorksBehind : Option HeldEnv → Option HeldEnv → (HeldEnv → HeldEnv → ℕ → Type 0) → (unwritten : Type 0) → EnvHandle → EnvHandle → ℕ → Type 0
+abbrev pub WorksBehind : Option HeldEnv → Option HeldEnv → (HeldEnv → HeldEnv → ℕ → Type 0) → (unwritten : Type 0) → Handle → Handle → ℕ → Type 0
 WorksBehind (Some h) (Some n) R unwritten old new code = (new ≡ with_held_env old n) × R h n code
 WorksBehind (Some h) None R unwritten old new code = ⊥
 WorksBehind None n R unwritten old new code = (new ≡ old) × (code ≡ misused) × unwritten
 
-abbrev pub Works : (HeldEnv → HeldEnv → ℕ → Type 0) → (unwritten : Type 0) → EnvHandle → EnvHandle → ℕ → Type 0
-Works R unwritten old new code = WorksBehind old.place.env new.place.env R unwritten old new code
+abbrev pub Works : (HeldEnv → HeldEnv → ℕ → Type 0) → (unwritten : Type 0) → Handle → Handle → ℕ → Type 0
+Works R unwritten old new code = WorksBehind (env_in old) (env_in new) R unwritten old new code
 
 -- A trace has begun, and it has the environment. What the last one told is gone. Or it has not, and nothing changes
 pub data BeginsFor (B : AgentValue → TraceValue → Type 0) (W : AgentValue → TiError → Type 0) (s : AgentValue) (h n : HeldEnv) (code : ℕ) : Type 0 where
@@ -111,12 +111,12 @@ TellsOf (Some s) (Some infos) R unwritten code = R infos.items code
 TellsOf (Some s) None R unwritten code = (code ≡ none_told) × unwritten
 TellsOf None infos R unwritten code = (code ≡ misused) × unwritten
 
-abbrev pub TellsBehind : Option HeldEnv → (List StackInfo → ℕ → Type 0) → (unwritten : Type 0) → EnvHandle → EnvHandle → ℕ → Type 0
+abbrev pub TellsBehind : Option HeldEnv → (List StackInfo → ℕ → Type 0) → (unwritten : Type 0) → Handle → Handle → ℕ → Type 0
 TellsBehind (Some h) R unwritten old new code = (new ≡ with_held_env old h) × TellsOf h.agent h.stacks R unwritten code
 TellsBehind None R unwritten old new code = (new ≡ old) × (code ≡ misused) × unwritten
 
-abbrev pub Tells : (List StackInfo → ℕ → Type 0) → (unwritten : Type 0) → EnvHandle → EnvHandle → ℕ → Type 0
-Tells R unwritten old new code = TellsBehind old.place.env R unwritten old new code
+abbrev pub Tells : (List StackInfo → ℕ → Type 0) → (unwritten : Type 0) → Handle → Handle → ℕ → Type 0
+Tells R unwritten old new code = TellsBehind (env_in old) R unwritten old new code
 
 -- how many threads it tells of
 abbrev pub Counts : ℕ → List StackInfo → ℕ → Type 0

@@ -3,43 +3,69 @@ use Rattle.std.specs.Prelude.{ℕ, Option, Some, None}
 use Rattle.ti_service.specs.Memberships.{AgentValue, TraceValue}
 use Rattle.ti_service.specs.Service.{Member}
 use Rattle.ti_thread.specs.declared.host_thread.HostThread.{HostThread}
+use Rattle.ti_capi.specs.declared.held.Held.{Held}
+use Rattle.ti_capi.specs.declared.held.Held.TheVariants as held
 use Rattle.ti_capi.specs.declared.held.HeldThread.{HeldThread}
 use Rattle.ti_capi.specs.declared.held.HeldEnv.{HeldEnv}
-use Rattle.ti_capi.specs.declared.service_at.ServiceAt.{ServiceAt}
-use Rattle.ti_capi.specs.declared.thread_at.ThreadAt.{ThreadAt}
-use Rattle.ti_capi.specs.declared.env_at.EnvAt.{EnvAt}
-use Rattle.ti_capi.specs.ServiceAt.{with_service as at_with_service}
-use Rattle.ti_capi.specs.ThreadAt.{with_thread as at_with_thread}
-use Rattle.ti_capi.specs.EnvAt.{with_env as at_with_env}
+use Rattle.ti_capi.specs.declared.held_at.HeldAt.{HeldAt}
 
-pub record ServiceHandle : Type 0 where
+pub record Handle : Type 0 where
   pub kind : ℕ
-  pub place : ServiceAt
+  pub place : HeldAt
 
-pub record ThreadHandle : Type 0 where
-  pub kind : ℕ
-  pub place : ThreadAt
+-- a box with this in it
+abbrev pub holding : HeldAt → Held → HeldAt
+holding p x = record { at = p.at; alloc = p.alloc; held = Some x }
 
-pub record EnvHandle : Type 0 where
-  pub kind : ℕ
-  pub place : EnvAt
+abbrev with_held : Handle → Held → Handle
+with_held h x = record { kind = h.kind; place = holding h.place x }
 
-abbrev pub with_service : ServiceHandle → Member → ServiceHandle
-with_service h m = record { kind = h.kind; place = at_with_service h.place m }
+-- the handle of the service that is held, and a handle with another one
+abbrev pub service_of : Option Held → Option Member
+service_of (Some (held.Service m)) = Some m
+service_of (Some (held.Thread t)) = None
+service_of (Some (held.Env e)) = None
+service_of None = None
 
-abbrev pub with_held : ThreadHandle → HeldThread → ThreadHandle
-with_held h x = record { kind = h.kind; place = at_with_thread h.place x }
+abbrev pub service_in : Handle → Option Member
+service_in h = service_of h.place.held
 
-abbrev pub with_held_env : EnvHandle → HeldEnv → EnvHandle
-with_held_env h x = record { kind = h.kind; place = at_with_env h.place x }
+abbrev pub with_service : Handle → Member → Handle
+with_service h m = with_held h (held.Service m)
+
+-- the same of a thread
+abbrev pub thread_of : Option Held → Option HeldThread
+thread_of (Some (held.Service m)) = None
+thread_of (Some (held.Thread t)) = Some t
+thread_of (Some (held.Env e)) = None
+thread_of None = None
+
+abbrev pub thread_in : Handle → Option HeldThread
+thread_in h = thread_of h.place.held
+
+abbrev pub with_held_thread : Handle → HeldThread → Handle
+with_held_thread h t = with_held h (held.Thread t)
+
+-- the same of an environment
+abbrev pub env_of : Option Held → Option HeldEnv
+env_of (Some (held.Service m)) = None
+env_of (Some (held.Thread t)) = None
+env_of (Some (held.Env e)) = Some e
+env_of None = None
+
+abbrev pub env_in : Handle → Option HeldEnv
+env_in h = env_of h.place.held
+
+abbrev pub with_held_env : Handle → HeldEnv → Handle
+with_held_env h e = with_held h (held.Env e)
 
 -- the environment behind a handle
 abbrev pub agent_behind : Option HeldEnv → Option AgentValue
 agent_behind (Some h) = h.agent
 agent_behind None = None
 
-abbrev pub agent_in : EnvHandle → Option AgentValue
-agent_in h = agent_behind h.place.env
+abbrev pub agent_in : Handle → Option AgentValue
+agent_in h = agent_behind (env_in h)
 
 -- the same thing behind a handle, with this environment, or with none
 abbrev pub env_held_with : HeldEnv → Option AgentValue → HeldEnv

@@ -1,9 +1,5 @@
-pub mod HeldService
-pub mod HeldThread
-pub mod HeldEnv
-pub mod ServiceAt
-pub mod ThreadAt
-pub mod EnvAt
+pub mod Kinds
+pub mod Owning
 pub mod Handles
 pub mod Codes
 pub mod Values

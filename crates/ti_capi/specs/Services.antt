@@ -1,5 +1,5 @@
 -- Handles of the service, and what is attached by them.
-use Rattle.std.specs.Prelude.{IsUtf8, ℕ, ℤ, ◌≡◌, ◌⊎◌, ◌==◌, true, false, List, Option, Some, None}
+use Rattle.std.specs.Prelude.{IsSomeAnd, IsUtf8, ℕ, ℤ, ◌≡◌, ◌⊎◌, ◌==◌, true, false, List, Option, Some, None}
 use Rattle.std.specs.String.{string_bytes}
 use Rattle.ti_types.specs.Limits.{IsWithin, most_calls, most_depth, most_own, most_window}
 use Rattle.ti_types.specs.TiError.{number_of}
@@ -17,7 +17,7 @@ use Rattle.ti_thread.specs.Hosts.{new_host}
 use Rattle.ti_capi.specs.declared.held.HeldEnv.{HeldEnv}
 use Rattle.ti_capi.specs.declared.held.HeldThread.{HeldThread}
 use Rattle.ti_capi.specs.Codes.{misused}
-use Rattle.ti_capi.specs.Handles.{EnvHandle, ServiceHandle, ThreadHandle, with_service}
+use Rattle.ti_capi.specs.Handles.{Handle, env_in, service_in, thread_in, with_service}
 
 -- the numbers are within their ranges
 abbrev pub AreInRange : ℕ → ℕ → ℕ → Type 0
@@ -38,12 +38,12 @@ LimitsOf depth envs window (Some l) = AreInRange depth envs window × AreLimitsO
 LimitsOf depth envs window None = AreInRange depth envs window → ⊥
 
 -- a service is made behind an empty handle, or why it is not, and the handle is as it was
-pub data Makes (depth envs window : ℕ) (old new : ServiceHandle) (code : ℕ) : Type 0 where
+pub data Makes (depth envs window : ℕ) (old new : Handle) (code : ℕ) : Type 0 where
   MakeFull : code ≡ misused → (old.kind == 0) ≡ false → new ≡ old → Makes depth envs window old new code
   MakeOutOfRange : code ≡ number_of IllegalArgument → (old.kind == 0) ≡ true → (AreInRange depth envs window → ⊥) → new ≡ old → Makes depth envs window old new code
   MakeNoMemory : code ≡ number_of OutOfMemory → (old.kind == 0) ≡ true → AreInRange depth envs window → new ≡ old → Makes depth envs window old new code
-  Made : (l : Limits) → (m : Member) → code ≡ 0 → (old.kind == 0) ≡ true → AreInRange depth envs window → AreLimitsOf depth envs window l
-      → new.place.service ≡ Some m → m.view ≡ first_view l → Makes depth envs window old new code
+  Made : (l : Limits) → code ≡ 0 → (old.kind == 0) ≡ true → AreInRange depth envs window → AreLimitsOf depth envs window l
+      → IsSomeAnd (service_in new) (λ m. m.view ≡ first_view l) → Makes depth envs window old new code
 
 -- one more handle of the same service
 abbrev pub IsShareOf : Member → Member → Type 0
@@ -53,27 +53,27 @@ IsShareOf m s = (s.cell ≡ m.cell) × (s.view ≡ split_off m.view)
 abbrev pub RefusesHandle : Member → Member → TiError → Type 0
 RefusesHandle m n e = ((e ≡ Full) × (n ≡ m)) ⊎ ((e ≡ OutOfMemory) × (n ≡ with_handle m))
 
-pub data SharesFor (m n : Member) (old new : ServiceHandle) (code : ℕ) : Type 0 where
+pub data SharesFor (m n : Member) (old new : Handle) (code : ℕ) : Type 0 where
   ShareFull : code ≡ misused → (old.kind == 0) ≡ false → new ≡ old → n ≡ m → SharesFor m n old new code
   ShareRefused : (e : TiError) → code ≡ number_of e → (old.kind == 0) ≡ true → new ≡ old → RefusesHandle m n e → SharesFor m n old new code
-  Shared : (s : Member) → code ≡ 0 → (old.kind == 0) ≡ true → new.place.service ≡ Some s → IsShareOf m s → n ≡ with_handle m → SharesFor m n old new code
+  Shared : code ≡ 0 → (old.kind == 0) ≡ true → IsSomeAnd (service_in new) (IsShareOf m) → n ≡ with_handle m → SharesFor m n old new code
 
 -- the first handle knows what it knew, and has made one more at most
-abbrev pub SharesBehind : Option Member → Option Member → ServiceHandle → ServiceHandle → ServiceHandle → ServiceHandle → ℕ → Type 0
+abbrev pub SharesBehind : Option Member → Option Member → Handle → Handle → Handle → Handle → ℕ → Type 0
 SharesBehind (Some m) (Some n) old new other0 other1 code = (new ≡ with_service old n) × SharesFor m n other0 other1 code
 SharesBehind (Some m) None old new other0 other1 code = ⊥
 SharesBehind None n old new other0 other1 code = (new ≡ old) × (other1 ≡ other0) × (code ≡ misused)
 
-abbrev pub Shares : ServiceHandle → ServiceHandle → ServiceHandle → ServiceHandle → ℕ → Type 0
-Shares old new other0 other1 code = SharesBehind old.place.service new.place.service old new other0 other1 code
+abbrev pub Shares : Handle → Handle → Handle → Handle → ℕ → Type 0
+Shares old new other0 other1 code = SharesBehind (service_in old) (service_in new) old new other0 other1 code
 
 -- a handle is freed: it is empty
-abbrev pub FreesBehind : Option Member → ServiceHandle → ServiceHandle → ℕ → Type 0
+abbrev pub FreesBehind : Option Member → Handle → Handle → ℕ → Type 0
 FreesBehind (Some m) old new code = (new.kind ≡ 0) × (code ≡ 0)
 FreesBehind None old new code = (new ≡ old) × (code ≡ misused)
 
-abbrev pub Frees : ServiceHandle → ServiceHandle → ℕ → Type 0
-Frees old new code = FreesBehind old.place.service old new code
+abbrev pub Frees : Handle → Handle → ℕ → Type 0
+Frees old new code = FreesBehind (service_in old) old new code
 
 -- why a name is refused: it is not UTF-8, or there is no memory for it
 abbrev pub NamesWrongly : List ℕ → TiError → Type 0
@@ -101,18 +101,18 @@ RefusesThread name m n e =
     ((e ≡ IllegalArgument) × (IsUtf8 name → ⊥) × (n ≡ m))
     ⊎ (((e ≡ OutOfMemory) × (n ≡ m)) ⊎ (RefusesHandle m n e ⊎ ((n.cell ≡ m.cell) × RefusesComing (with_handle m) n e)))
 
-pub data AttachesFor (name : List ℕ) (priority : ℤ) (m n : Member) (old new : ThreadHandle) (code : ℕ) : Type 0 where
+pub data AttachesFor (name : List ℕ) (priority : ℤ) (m n : Member) (old new : Handle) (code : ℕ) : Type 0 where
   AttachFull : code ≡ misused → (old.kind == 0) ≡ false → new ≡ old → n ≡ m → AttachesFor name priority m n old new code
   AttachRefused : (e : TiError) → code ≡ number_of e → (old.kind == 0) ≡ true → new ≡ old → RefusesThread name m n e → AttachesFor name priority m n old new code
-  Attached : (held : HeldThread) → code ≡ 0 → (old.kind == 0) ≡ true → new.place.thread ≡ Some held → AttachesThread name priority m n held → AttachesFor name priority m n old new code
+  Attached : code ≡ 0 → (old.kind == 0) ≡ true → IsSomeAnd (thread_in new) (AttachesThread name priority m n) → AttachesFor name priority m n old new code
 
-abbrev pub AttachesBehind : Option Member → Option Member → List ℕ → ℤ → ServiceHandle → ServiceHandle → ThreadHandle → ThreadHandle → ℕ → Type 0
+abbrev pub AttachesBehind : Option Member → Option Member → List ℕ → ℤ → Handle → Handle → Handle → Handle → ℕ → Type 0
 AttachesBehind (Some m) (Some n) name priority s0 s1 old new code = (s1 ≡ with_service s0 n) × AttachesFor name priority m n old new code
 AttachesBehind (Some m) None name priority s0 s1 old new code = ⊥
 AttachesBehind None n name priority s0 s1 old new code = (s1 ≡ s0) × (new ≡ old) × (code ≡ misused)
 
-abbrev pub Attaches : List ℕ → ℤ → ServiceHandle → ServiceHandle → ThreadHandle → ThreadHandle → ℕ → Type 0
-Attaches name priority s0 s1 old new code = AttachesBehind s0.place.service s1.place.service name priority s0 s1 old new code
+abbrev pub Attaches : List ℕ → ℤ → Handle → Handle → Handle → Handle → ℕ → Type 0
+Attaches name priority s0 s1 old new code = AttachesBehind (service_in s0) (service_in s1) name priority s0 s1 old new code
 
 -- the box of an environment that was just attached
 abbrev pub HasNewAgent : Member → HeldEnv → Type 0
@@ -123,15 +123,15 @@ HasNewAgent m held = (a : AgentValue) × (held.agent ≡ Some a) × IsNewAgent m
 abbrev pub RefusesEnv : Member → Member → TiError → Type 0
 RefusesEnv m n e = ((e ≡ OutOfMemory) × (n ≡ m)) ⊎ (RefusesPlace m n e ⊎ ((e ≡ Busy) × (n ≡ with_handle m)))
 
-pub data AttachesEnvFor (m n : Member) (old new : EnvHandle) (code : ℕ) : Type 0 where
+pub data AttachesEnvFor (m n : Member) (old new : Handle) (code : ℕ) : Type 0 where
   EnvFull : code ≡ misused → (old.kind == 0) ≡ false → new ≡ old → n ≡ m → AttachesEnvFor m n old new code
   EnvRefused : (e : TiError) → code ≡ number_of e → (old.kind == 0) ≡ true → new ≡ old → RefusesEnv m n e → AttachesEnvFor m n old new code
-  EnvAttached : (held : HeldEnv) → code ≡ 0 → (old.kind == 0) ≡ true → new.place.env ≡ Some held → HasNewAgent m held → n ≡ with_handle m → AttachesEnvFor m n old new code
+  EnvAttached : code ≡ 0 → (old.kind == 0) ≡ true → IsSomeAnd (env_in new) (HasNewAgent m) → n ≡ with_handle m → AttachesEnvFor m n old new code
 
-abbrev pub AttachesEnvBehind : Option Member → Option Member → ServiceHandle → ServiceHandle → EnvHandle → EnvHandle → ℕ → Type 0
+abbrev pub AttachesEnvBehind : Option Member → Option Member → Handle → Handle → Handle → Handle → ℕ → Type 0
 AttachesEnvBehind (Some m) (Some n) s0 s1 old new code = (s1 ≡ with_service s0 n) × AttachesEnvFor m n old new code
 AttachesEnvBehind (Some m) None s0 s1 old new code = ⊥
 AttachesEnvBehind None n s0 s1 old new code = (s1 ≡ s0) × (new ≡ old) × (code ≡ misused)
 
-abbrev pub AttachesEnv : ServiceHandle → ServiceHandle → EnvHandle → EnvHandle → ℕ → Type 0
-AttachesEnv s0 s1 old new code = AttachesEnvBehind s0.place.service s1.place.service s0 s1 old new code
+abbrev pub AttachesEnv : Handle → Handle → Handle → Handle → ℕ → Type 0
+AttachesEnv s0 s1 old new code = AttachesEnvBehind (service_in s0) (service_in s1) s0 s1 old new code

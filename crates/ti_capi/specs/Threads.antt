@@ -8,7 +8,7 @@ use Rattle.ti_thread.specs.declared.host_thread.HostThread.{HostThread}
 use Rattle.ti_thread.specs.declared.any_thread.TurnOutcome.{TurnOutcome}
 use Rattle.ti_capi.specs.declared.held.HeldThread.{HeldThread}
 use Rattle.ti_capi.specs.Codes.{code_told, misused}
-use Rattle.ti_capi.specs.Handles.{ThreadHandle, held_with, with_held}
+use Rattle.ti_capi.specs.Handles.{Handle, held_with, thread_in, with_held_thread}
 
 abbrev pub method_no : ℕ → MethodNo
 method_no n = record { 0 = n }
@@ -29,13 +29,13 @@ abbrev pub ChangesIn : (HostThread → HostThread → TurnOutcome → Type 0) �
 ChangesIn R old new code = ChangesTo old.thread new.thread R old new code
 
 -- the same behind a handle: if it is empty or of another kind, nothing changes
-abbrev pub ChangesBehind : Option HeldThread → Option HeldThread → (HostThread → HostThread → TurnOutcome → Type 0) → ThreadHandle → ThreadHandle → ℕ → Type 0
-ChangesBehind (Some h) (Some n) R old new code = (new ≡ with_held old n) × ChangesIn R h n code
+abbrev pub ChangesBehind : Option HeldThread → Option HeldThread → (HostThread → HostThread → TurnOutcome → Type 0) → Handle → Handle → ℕ → Type 0
+ChangesBehind (Some h) (Some n) R old new code = (new ≡ with_held_thread old n) × ChangesIn R h n code
 ChangesBehind (Some h) None R old new code = ⊥
 ChangesBehind None n R old new code = (new ≡ old) × (code ≡ misused)
 
-abbrev pub Changes : (HostThread → HostThread → TurnOutcome → Type 0) → ThreadHandle → ThreadHandle → ℕ → Type 0
-Changes R old new code = ChangesBehind old.place.thread new.place.thread R old new code
+abbrev pub Changes : (HostThread → HostThread → TurnOutcome → Type 0) → Handle → Handle → ℕ → Type 0
+Changes R old new code = ChangesBehind (thread_in old) (thread_in new) R old new code
 
 -- one look at the word of the thread of a box
 abbrev pub LooksTo : Option HostThread → Option HostThread → HeldThread → HeldThread → Bool → Type 0
@@ -43,8 +43,8 @@ LooksTo (Some t) (Some n) old new clear = (new ≡ held_with old n) × (n ≡ wi
 LooksTo (Some t) None old new clear = ⊥
 LooksTo None n old new clear = (new ≡ old) × (clear ≡ true)
 
-abbrev pub LooksBehind : Option HeldThread → Option HeldThread → ThreadHandle → ThreadHandle → Bool → Type 0
-LooksBehind (Some h) (Some n) old new clear = (new ≡ with_held old n) × LooksTo h.thread n.thread h n clear
+abbrev pub LooksBehind : Option HeldThread → Option HeldThread → Handle → Handle → Bool → Type 0
+LooksBehind (Some h) (Some n) old new clear = (new ≡ with_held_thread old n) × LooksTo h.thread n.thread h n clear
 LooksBehind (Some h) None old new clear = ⊥
 LooksBehind None n old new clear = (new ≡ old) × (clear ≡ true)
 
@@ -53,6 +53,6 @@ abbrev pub NumberTo : Option HostThread → ℕ → ℕ → ℕ → Type 0
 NumberTo (Some t) n0 n1 code = (n1 ≡ (number_in t.thread).0) × (code ≡ 0)
 NumberTo None n0 n1 code = (n1 ≡ n0) × (code ≡ misused)
 
-abbrev pub NumberBehind : Option HeldThread → ThreadHandle → ThreadHandle → ℕ → ℕ → ℕ → Type 0
-NumberBehind (Some h) old new n0 n1 code = (new.place.thread ≡ Some h) × NumberTo h.thread n0 n1 code
+abbrev pub NumberBehind : Option HeldThread → Handle → Handle → ℕ → ℕ → ℕ → Type 0
+NumberBehind (Some h) old new n0 n1 code = (thread_in new ≡ Some h) × NumberTo h.thread n0 n1 code
 NumberBehind None old new n0 n1 code = (new ≡ old) × (n1 ≡ n0) × (code ≡ misused)

@@ -3,7 +3,7 @@
 use crate::class_parts::class_of;
 use crate::class_values::{CqClassRanges, CqLineEntry, CqMethodRanges};
 use crate::codes::{CQ_MISUSED, CQ_OK};
-use crate::service_handle::CqService;
+use crate::handle::CqService;
 use std::alloc::Global;
 use ti_service::{ClassInfo, Defined, Service};
 

@@ -8,30 +8,15 @@ use std::alloc::Global;
 use ti_service::{ClassInfo, LineEntry, Lines, MethodInfo};
 use ti_types::TiError;
 
-/// The bytes of a range. `None` if it does not lie within the text.
-fn bytes_at(text: &[u8], range: CqRange) -> Option<&[u8]>
-    ensures some { IfSome result (λ b. IsPart text.now range b.now) }
-    ensures none { IfNone result (IsWithin (length text.now) range → ⊥) }
+/// The items of a range. `None` if it does not lie within the list.
+fn part_at<T>(list: &[T], range: CqRange) -> Option<&[T]>
+    ensures some { IfSome result (λ p. IsPart list.now range p.now) }
+    ensures none { IfNone result (IsWithin (length list.now) range → ⊥) }
 {
-    if range.start > text.len() {
+    if range.start > list.len() {
         return None;
     }
-    let rest = &text[range.start..];
-    if range.length > rest.len() {
-        return None;
-    }
-    Some(&rest[..range.length])
-}
-
-/// The line entries of a range. `None` if it does not lie within the list.
-fn lines_at(lines: &[CqLineEntry], range: CqRange) -> Option<&[CqLineEntry]>
-    ensures some { IfSome result (λ l. IsPart lines.now range l.now) }
-    ensures none { IfNone result (IsWithin (length lines.now) range → ⊥) }
-{
-    if range.start > lines.len() {
-        return None;
-    }
-    let rest = &lines[range.start..];
+    let rest = &list[range.start..];
     if range.length > rest.len() {
         return None;
     }
@@ -43,7 +28,7 @@ fn text_at(alloc: Global, text: &[u8], range: CqRange) -> Result<String, TiError
     ensures same { IfOk result (λ s. IsPart text.now range (string_bytes s)) }
     ensures refused { IfErr result (λ e. Lacks (HasText text.now range) e) }
 {
-    let Some(bytes) = bytes_at(text, range) else {
+    let Some(bytes) = part_at(text, range) else {
         return Err(TiError::IllegalArgument);
     };
     match str::from_utf8(bytes) {
@@ -68,7 +53,7 @@ fn table_at(alloc: Global, lines: &[CqLineEntry], range: CqRange) -> Result<Vec<
     ensures same { IfOk result (λ t. IsTable lines.now range t.items) }
     ensures refused { IfErr result (λ e. Lacks (IsWithin (length lines.now) range) e) }
 {
-    let Some(given) = lines_at(lines, range) else {
+    let Some(given) = part_at(lines, range) else {
         return Err(TiError::IllegalArgument);
     };
     let mut table = Vec::with_capacity(alloc, given.len())?;

@@ -3,7 +3,7 @@
 use crate::class_values::{CqLineEntry, CqMethodName};
 use crate::class_writes::{write_classes, write_lines, write_methods, write_name, write_text};
 use crate::codes::{CQ_MISUSED, CQ_OK};
-use crate::env_handle::CqEnv;
+use crate::handle::CqEnv;
 use std::alloc::Global;
 use ti_service::{ClassCalls, ClassNo};
 use ti_types::MethodNo;
@@ -18,7 +18,7 @@ pub extern "C" fn cq_get_loaded_classes(
 ) -> u32
     ensures { Tells (AllWritten classes.old classes.new count.new) RefusesAll ((classes.new ≡ classes.old) × (count.new ≡ count.old)) env.old env.new result }
 {
-    let Some(held) = env.held() else {
+    let Some(held) = env.held_env() else {
         return CQ_MISUSED;
     };
     let Some(agent) = &mut held.agent else {
@@ -45,7 +45,7 @@ pub extern "C" fn cq_get_class_signature(
 ) -> u32
     ensures { Tells (SignatureWritten (class_no class) text.old text.new length.new) (λ log. RefusesClassCall log (class_no class)) ((text.new ≡ text.old) × (length.new ≡ length.old)) env.old env.new result }
 {
-    let Some(held) = env.held() else {
+    let Some(held) = env.held_env() else {
         return CQ_MISUSED;
     };
     let Some(agent) = &mut held.agent else {
@@ -71,7 +71,7 @@ pub extern "C" fn cq_get_source_file_name(
 ) -> u32
     ensures { Tells (SourceFileWritten (class_no class) text.old text.new length.new) (λ log. RefusesSourceFile log (class_no class)) ((text.new ≡ text.old) × (length.new ≡ length.old)) env.old env.new result }
 {
-    let Some(held) = env.held() else {
+    let Some(held) = env.held_env() else {
         return CQ_MISUSED;
     };
     let Some(agent) = &mut held.agent else {
@@ -97,7 +97,7 @@ pub extern "C" fn cq_get_class_methods(
 ) -> u32
     ensures { Tells (MethodsWritten (class_no class) methods.old methods.new count.new) (λ log. RefusesClassCall log (class_no class)) ((methods.new ≡ methods.old) × (count.new ≡ count.old)) env.old env.new result }
 {
-    let Some(held) = env.held() else {
+    let Some(held) = env.held_env() else {
         return CQ_MISUSED;
     };
     let Some(agent) = &mut held.agent else {
@@ -125,7 +125,7 @@ pub extern "C" fn cq_get_method_name(
 ) -> u32
     ensures { Tells (NameWritten (method_no method) info.new name.old name.new signature.old signature.new) (λ log. RefusesMethodCall log (method_no method)) ((info.new ≡ info.old) × (name.new ≡ name.old) × (signature.new ≡ signature.old)) env.old env.new result }
 {
-    let Some(held) = env.held() else {
+    let Some(held) = env.held_env() else {
         return CQ_MISUSED;
     };
     let Some(agent) = &mut held.agent else {
@@ -149,7 +149,7 @@ pub extern "C" fn cq_get_method_declaring_class(
 ) -> u32
     ensures { Tells (ClassWritten (method_no method) class.new) (λ log. RefusesMethod log (method_no method)) (class.new ≡ class.old) env.old env.new result }
 {
-    let Some(held) = env.held() else {
+    let Some(held) = env.held_env() else {
         return CQ_MISUSED;
     };
     let Some(agent) = &mut held.agent else {
@@ -169,7 +169,7 @@ pub extern "C" fn cq_get_method_declaring_class(
 pub extern "C" fn cq_is_method_native(env: &mut CqEnv, method: u32, native: &mut bool) -> u32
     ensures { Tells (NativeWritten (method_no method) native.new) (λ log. RefusesMethod log (method_no method)) (native.new ≡ native.old) env.old env.new result }
 {
-    let Some(held) = env.held() else {
+    let Some(held) = env.held_env() else {
         return CQ_MISUSED;
     };
     let Some(agent) = &mut held.agent else {
@@ -196,7 +196,7 @@ pub extern "C" fn cq_get_line_number_table(
 ) -> u32
     ensures { Tells (LinesWritten (method_no method) kind.new lines.old lines.new count.new) (λ log. RefusesLines log (method_no method)) ((kind.new ≡ kind.old) × (lines.new ≡ lines.old) × (count.new ≡ count.old)) env.old env.new result }
 {
-    let Some(held) = env.held() else {
+    let Some(held) = env.held_env() else {
         return CQ_MISUSED;
     };
     let Some(agent) = &mut held.agent else {

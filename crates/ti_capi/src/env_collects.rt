@@ -1,7 +1,7 @@
 //! Answers that an environment collects, and calls that it gives up.
 
 use crate::codes::{CQ_MISUSED, CQ_OK, CQ_WAITING};
-use crate::env_handle::CqEnv;
+use crate::handle::CqEnv;
 use crate::values::{CqAnswer, CqFrame, CqTicket, ticket_in};
 use crate::writes::write_answer;
 use std::alloc::Global;
@@ -17,7 +17,7 @@ pub extern "C" fn cq_collect(
 ) -> u32
     ensures { Collects (ticket_read ticket.now) env.old env.new result answer.old answer.new frames.old frames.new }
 {
-    let Some(held) = env.held() else {
+    let Some(held) = env.held_env() else {
         return CQ_MISUSED;
     };
     let Some(agent) = &mut held.agent else {
@@ -35,7 +35,7 @@ pub extern "C" fn cq_collect(
 pub extern "C" fn cq_cancel(alloc: Global, env: &mut CqEnv, ticket: &CqTicket) -> u32
     ensures { Calls (CancelsBy (ticket_read ticket.now)) ⊤ env.old env.new result }
 {
-    let Some(held) = env.held() else {
+    let Some(held) = env.held_env() else {
         return CQ_MISUSED;
     };
     let Some(agent) = &mut held.agent else {
@@ -52,7 +52,7 @@ pub extern "C" fn cq_cancel(alloc: Global, env: &mut CqEnv, ticket: &CqTicket) -
 pub extern "C" fn cq_discard(env: &mut CqEnv, thread: u32, thrown: &mut bool) -> u32
     ensures { Calls (DiscardsBy (thread_no thread) thrown.old thrown.new) (thrown.new ≡ thrown.old) env.old env.new result }
 {
-    let Some(held) = env.held() else {
+    let Some(held) = env.held_env() else {
         return CQ_MISUSED;
     };
     let Some(agent) = &mut held.agent else {
@@ -72,7 +72,7 @@ pub extern "C" fn cq_discard(env: &mut CqEnv, thread: u32, thrown: &mut bool) ->
 pub extern "C" fn cq_out_at(env: &mut CqEnv, thread: u32, count: &mut u32) -> u32
     ensures { Calls (λ s n code. (n ≡ s) × (code ≡ 0) × (count.new ≡ outstanding s.env (thread_no thread))) (count.new ≡ count.old) env.old env.new result }
 {
-    let Some(held) = env.held() else {
+    let Some(held) = env.held_env() else {
         return CQ_MISUSED;
     };
     let Some(agent) = &mut held.agent else {

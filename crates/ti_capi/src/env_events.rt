@@ -1,7 +1,7 @@
 //! Events that an environment is told, and its end.
 
 use crate::codes::{CQ_MISUSED, CQ_NONE, CQ_OK, done_code};
-use crate::env_handle::CqEnv;
+use crate::handle::CqEnv;
 use crate::held::HeldEnv;
 use crate::values::{CqEvent, event_out};
 use std::alloc::Global;
@@ -12,7 +12,7 @@ use ti_service::ServiceTries;
 pub extern "C" fn cq_set_event_notification_mode(env: &mut CqEnv, enabled: bool) -> u32
     ensures { Calls (EnablesBy enabled) ⊤ env.old env.new result }
 {
-    let Some(held) = env.held() else {
+    let Some(held) = env.held_env() else {
         return CQ_MISUSED;
     };
     let Some(agent) = &mut held.agent else {
@@ -26,7 +26,7 @@ pub extern "C" fn cq_set_event_notification_mode(env: &mut CqEnv, enabled: bool)
 pub extern "C" fn cq_next_event(env: &mut CqEnv, event: &mut CqEvent) -> u32
     ensures { Calls (TellsEventBy event.old event.new) (event.new ≡ event.old) env.old env.new result }
 {
-    let Some(held) = env.held() else {
+    let Some(held) = env.held_env() else {
         return CQ_MISUSED;
     };
     let Some(agent) = &mut held.agent else {
@@ -47,7 +47,7 @@ pub extern "C" fn cq_next_event(env: &mut CqEnv, event: &mut CqEvent) -> u32
 pub extern "C" fn cq_dispose_environment(alloc: Global, env: &mut CqEnv) -> u32
     ensures { DisposesBy (agent_in env.old) env.old env.new result }
 {
-    let Some(held) = env.held() else {
+    let Some(held) = env.held_env() else {
         return CQ_MISUSED;
     };
     let code = dispose(alloc, held);

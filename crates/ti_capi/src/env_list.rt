@@ -1,7 +1,7 @@
 //! An environment and the list of threads.
 
 use crate::codes::{CQ_MISUSED, CQ_OK};
-use crate::env_handle::CqEnv;
+use crate::handle::CqEnv;
 use crate::values::CqThreadInfo;
 use crate::writes::{write_bytes, write_numbers};
 use std::alloc::Global;
@@ -13,7 +13,7 @@ use ti_types::ThreadNo;
 pub extern "C" fn cq_meet(alloc: Global, env: &mut CqEnv) -> u32
     ensures { Calls MeetsBy ⊤ env.old env.new result }
 {
-    let Some(held) = env.held() else {
+    let Some(held) = env.held_env() else {
         return CQ_MISUSED;
     };
     let Some(agent) = &mut held.agent else {
@@ -31,7 +31,7 @@ pub extern "C" fn cq_meet(alloc: Global, env: &mut CqEnv) -> u32
 pub extern "C" fn cq_has_news(env: &mut CqEnv) -> bool
     ensures { HasNews env.old env.new result }
 {
-    let Some(held) = env.held() else {
+    let Some(held) = env.held_env() else {
         return false;
     };
     let Some(agent) = &mut held.agent else {
@@ -45,7 +45,7 @@ pub extern "C" fn cq_has_news(env: &mut CqEnv) -> bool
 pub extern "C" fn cq_let_go(env: &mut CqEnv, thread: u32, gone: &mut bool) -> u32
     ensures { Calls (LetsGoBy (thread_no thread) gone.old gone.new) (gone.new ≡ gone.old) env.old env.new result }
 {
-    let Some(held) = env.held() else {
+    let Some(held) = env.held_env() else {
         return CQ_MISUSED;
     };
     let Some(agent) = &mut held.agent else {
@@ -70,7 +70,7 @@ pub extern "C" fn cq_get_all_threads(
 ) -> u32
     ensures { Calls (ListsBy threads.old threads.new count.old count.new) ((threads.new ≡ threads.old) × (count.new ≡ count.old)) env.old env.new result }
 {
-    let Some(held) = env.held() else {
+    let Some(held) = env.held_env() else {
         return CQ_MISUSED;
     };
     let Some(agent) = &mut held.agent else {
@@ -97,7 +97,7 @@ pub extern "C" fn cq_get_thread_info(
 ) -> u32
     ensures { Calls (TellsInfoBy (thread_no thread) info.old info.new name.old name.new) ((info.new ≡ info.old) × (name.new ≡ name.old)) env.old env.new result }
 {
-    let Some(held) = env.held() else {
+    let Some(held) = env.held_env() else {
         return CQ_MISUSED;
     };
     let Some(agent) = &mut held.agent else {

@@ -1,7 +1,7 @@
 //! What an environment keeps for itself: its capabilities and its own word. No thread is asked.
 
 use crate::codes::{CQ_MISUSED, CQ_OK, done_code};
-use crate::env_handle::CqEnv;
+use crate::handle::CqEnv;
 use ti_types::{Caps, TiError};
 
 /// AddCapabilities (JVM TI 11): all or none.
@@ -9,7 +9,7 @@ use ti_types::{Caps, TiError};
 pub extern "C" fn cq_add_capabilities(env: &mut CqEnv, capabilities: u32) -> u32
     ensures { Calls (AddsBy capabilities) ⊤ env.old env.new result }
 {
-    let Some(held) = env.held() else {
+    let Some(held) = env.held_env() else {
         return CQ_MISUSED;
     };
     let Some(agent) = &mut held.agent else {
@@ -28,7 +28,7 @@ pub extern "C" fn cq_add_capabilities(env: &mut CqEnv, capabilities: u32) -> u32
 pub extern "C" fn cq_relinquish_capabilities(env: &mut CqEnv, capabilities: u32) -> u32
     ensures { Calls (RelinquishesBy capabilities) ⊤ env.old env.new result }
 {
-    let Some(held) = env.held() else {
+    let Some(held) = env.held_env() else {
         return CQ_MISUSED;
     };
     let Some(agent) = &mut held.agent else {
@@ -44,7 +44,7 @@ pub extern "C" fn cq_relinquish_capabilities(env: &mut CqEnv, capabilities: u32)
 pub extern "C" fn cq_get_capabilities(env: &mut CqEnv, capabilities: &mut u32) -> u32
     ensures { Calls (λ s n code. (n ≡ s) × (code ≡ 0) × (capabilities.new ≡ s.env.state.caps.bits)) (capabilities.new ≡ capabilities.old) env.old env.new result }
 {
-    let Some(held) = env.held() else {
+    let Some(held) = env.held_env() else {
         return CQ_MISUSED;
     };
     let Some(agent) = &mut held.agent else {
@@ -64,7 +64,7 @@ pub extern "C" fn cq_get_capabilities(env: &mut CqEnv, capabilities: &mut u32) -
 pub extern "C" fn cq_get_potential_capabilities(env: &mut CqEnv, capabilities: &mut u32) -> u32
     ensures { Calls (λ s n code. (n ≡ s) × (code ≡ 0) × (capabilities.new ≡ potential_caps.bits)) (capabilities.new ≡ capabilities.old) env.old env.new result }
 {
-    let Some(held) = env.held() else {
+    let Some(held) = env.held_env() else {
         return CQ_MISUSED;
     };
     let Some(_) = &mut held.agent else {
@@ -79,7 +79,7 @@ pub extern "C" fn cq_get_potential_capabilities(env: &mut CqEnv, capabilities: &
 pub extern "C" fn cq_get_environment_local_storage(env: &mut CqEnv, word: &mut u64) -> u32
     ensures { Calls (λ s n code. (n ≡ s) × (code ≡ 0) × (word.new ≡ s.env.state.word)) (word.new ≡ word.old) env.old env.new result }
 {
-    let Some(held) = env.held() else {
+    let Some(held) = env.held_env() else {
         return CQ_MISUSED;
     };
     let Some(agent) = &mut held.agent else {
@@ -99,7 +99,7 @@ pub extern "C" fn cq_get_environment_local_storage(env: &mut CqEnv, word: &mut u
 pub extern "C" fn cq_set_environment_local_storage(env: &mut CqEnv, word: u64) -> u32
     ensures { Calls (λ s n code. (n.home ≡ s.home) × (n.env ≡ env_with s.env (with_word s.env.state word)) × (code ≡ 0)) ⊤ env.old env.new result }
 {
-    let Some(held) = env.held() else {
+    let Some(held) = env.held_env() else {
         return CQ_MISUSED;
     };
     let Some(agent) = &mut held.agent else {

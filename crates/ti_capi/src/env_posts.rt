@@ -1,7 +1,7 @@
 //! Calls of an environment at a thread.
 
 use crate::codes::{CQ_MISUSED, CQ_WAITING};
-use crate::env_handle::CqEnv;
+use crate::handle::CqEnv;
 use crate::values::{CqAnswer, CqFrame, ticket_out};
 use crate::writes::write_answer;
 use std::alloc::Global;
@@ -19,7 +19,7 @@ fn post(
 ) -> u32
     ensures { Asks (thread_no thread) call env.old env.new result answer.old answer.new frames.old frames.new }
 {
-    let Some(held) = env.held() else {
+    let Some(held) = env.held_env() else {
         return CQ_MISUSED;
     };
     let Some(agent) = &mut held.agent else {

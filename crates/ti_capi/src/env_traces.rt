@@ -1,7 +1,7 @@
 //! Traces of several threads, which an environment makes step by step. While it does, it makes no other call.
 
 use crate::codes::{CQ_MISUSED, CQ_NONE, CQ_OK};
-use crate::env_handle::CqEnv;
+use crate::handle::CqEnv;
 use crate::held::HeldEnv;
 use crate::held_trace::HeldTrace;
 use crate::values::{CqFrame, CqStackInfo};
@@ -43,7 +43,7 @@ fn gather_all(alloc: Global, held: &mut HeldEnv, max_count: i32) -> u32
 pub extern "C" fn cq_gather_all_stack_traces(alloc: Global, env: &mut CqEnv, max_count: i32) -> u32
     ensures { Works (BeginsIn (BeginsAll max_count) (RefusesAll max_count)) ⊤ env.old env.new result }
 {
-    match env.held() {
+    match env.held_env() {
         Some(held) => gather_all(alloc, held, max_count),
         None => CQ_MISUSED,
     }
@@ -99,7 +99,7 @@ pub extern "C" fn cq_gather_thread_list_stack_traces(
 ) -> u32
     ensures { Works (BeginsIn (BeginsList (numbered threads.now) max_count) (RefusesThreads (numbered threads.now) max_count)) ⊤ env.old env.new result }
 {
-    match env.held() {
+    match env.held_env() {
         Some(held) => gather_list(alloc, held, threads, max_count),
         None => CQ_MISUSED,
     }
@@ -149,7 +149,7 @@ fn step(held: &mut HeldEnv, over: &mut bool) -> u32
 pub extern "C" fn cq_gather_step(env: &mut CqEnv, over: &mut bool) -> u32
     ensures { Works (StepsIn over.old over.new) (over.new ≡ over.old) env.old env.new result }
 {
-    match env.held() {
+    match env.held_env() {
         Some(held) => step(held, over),
         None => CQ_MISUSED,
     }
@@ -160,7 +160,7 @@ pub extern "C" fn cq_gather_step(env: &mut CqEnv, over: &mut bool) -> u32
 pub extern "C" fn cq_gather_give_up(env: &mut CqEnv) -> u32
     ensures { Works GivesUpIn ⊤ env.old env.new result }
 {
-    let Some(held) = env.held() else {
+    let Some(held) = env.held_env() else {
         return CQ_MISUSED;
     };
     let Some(kept) = held.trace.take() else {
@@ -177,7 +177,7 @@ pub extern "C" fn cq_gather_give_up(env: &mut CqEnv) -> u32
 pub extern "C" fn cq_gathered(env: &mut CqEnv, count: &mut u64) -> u32
     ensures { Tells (Counts count.new) (count.new ≡ count.old) env.old env.new result }
 {
-    let Some(held) = env.held() else {
+    let Some(held) = env.held_env() else {
         return CQ_MISUSED;
     };
     let Some(_) = &mut held.agent else {
@@ -200,7 +200,7 @@ pub extern "C" fn cq_gathered_stack(
 ) -> u32
     ensures { Tells (TellsStack index info.old info.new frames.old frames.new) ((info.new ≡ info.old) × (frames.new ≡ frames.old)) env.old env.new result }
 {
-    let Some(held) = env.held() else {
+    let Some(held) = env.held_env() else {
         return CQ_MISUSED;
     };
     let Some(_) = &mut held.agent else {

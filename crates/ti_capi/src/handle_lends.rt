@@ -1,57 +1,49 @@
-//! What a handle lends.
+//! What a handle lends. A handle of another kind lends nothing.
 ghost use Rattle.std.specs.Prelude.{◌≡◌};
 ghost use Rattle.std.specs.Option.{option_map};
 ghost use Rattle.std.specs.Borrow.{LendsIf, sem};
 ghost use Rattle.ti_service.specs.contracts.service.Service.{the_row as service_row};
-ghost use Rattle.ti_capi.specs.contracts.held.HeldEnv.{the_row as held_env_row};
-ghost use Rattle.ti_capi.specs.contracts.held.HeldThread.{the_row as held_thread_row};
-ghost use Rattle.ti_capi.specs.contracts.env_handle.CqEnv.{the_row as env_row};
-ghost use Rattle.ti_capi.specs.contracts.service_handle.CqService.{the_row as handle_row};
-ghost use Rattle.ti_capi.specs.contracts.thread_handle.CqThread.{the_row as thread_handle_row};
-ghost use Rattle.ti_capi.specs.Handles.{with_held, with_held_env, with_service};
+ghost use Rattle.ti_capi.specs.contracts.handle.CqHandle.{the_row};
+ghost use Rattle.ti_capi.specs.contracts.held.HeldEnv.{the_row as env_row};
+ghost use Rattle.ti_capi.specs.contracts.held.HeldThread.{the_row as thread_row};
+ghost use Rattle.ti_capi.specs.Handles.{env_in, service_in, thread_in, with_held_env, with_held_thread, with_service};
 
-use crate::env_handle::CqEnv;
-use crate::held::{HeldEnv, HeldThread};
-use crate::service_handle::CqService;
-use crate::thread_handle::CqThread;
+use crate::handle::CqHandle;
+use crate::held::{ENV, HeldEnv, HeldThread, SERVICE, THREAD};
 use ti_service::Service;
 
-impl CqService {
-    /// The handle of the service, if it is full.
+impl CqHandle {
+    /// The handle of the service.
     pub(crate) fn service(&mut self) -> Option<&mut Service>
-        ensures* writes_back { sem 𝓛 (LendsIf handle_row service_row self.entry result (with_service self.old) self.old) }
-        ensures value { option_map (λ r. r.now) result ≡ self.old.place.service }
+        ensures* writes_back { sem 𝓛 (LendsIf the_row service_row self.entry result (with_service self.old) self.old) }
+        ensures value { option_map (λ r. r.now) result ≡ service_in self.old }
     {
-        if self.kind == 1 {
-            Some(self.place.as_mut())
+        if self.kind == SERVICE {
+            self.place.as_mut().service()
         } else {
             None
         }
     }
-}
 
-impl CqThread {
-    /// The thread with its service, if the handle is full.
-    pub(crate) fn held(&mut self) -> Option<&mut HeldThread>
-        ensures* writes_back { sem 𝓛 (LendsIf thread_handle_row held_thread_row self.entry result (with_held self.old) self.old) }
-        ensures value { option_map (λ r. r.now) result ≡ self.old.place.thread }
+    /// The thread with its service.
+    pub(crate) fn held_thread(&mut self) -> Option<&mut HeldThread>
+        ensures* writes_back { sem 𝓛 (LendsIf the_row thread_row self.entry result (with_held_thread self.old) self.old) }
+        ensures value { option_map (λ r. r.now) result ≡ thread_in self.old }
     {
-        if self.kind == 2 {
-            Some(self.place.as_mut())
+        if self.kind == THREAD {
+            self.place.as_mut().thread()
         } else {
             None
         }
     }
-}
 
-impl CqEnv {
-    /// The environment with its box, if the handle is full.
-    pub(crate) fn held(&mut self) -> Option<&mut HeldEnv>
-        ensures* writes_back { sem 𝓛 (LendsIf env_row held_env_row self.entry result (with_held_env self.old) self.old) }
-        ensures value { option_map (λ r. r.now) result ≡ self.old.place.env }
+    /// The environment with its trace.
+    pub(crate) fn held_env(&mut self) -> Option<&mut HeldEnv>
+        ensures* writes_back { sem 𝓛 (LendsIf the_row env_row self.entry result (with_held_env self.old) self.old) }
+        ensures value { option_map (λ r. r.now) result ≡ env_in self.old }
     {
-        if self.kind == 3 {
-            Some(self.place.as_mut())
+        if self.kind == ENV {
+            self.place.as_mut().env()
         } else {
             None
         }

@@ -5,6 +5,21 @@ use ti_service::{Agent, Service};
 use ti_thread::HostThread;
 use ti_types::{Frame, StackInfo};
 
+/// The kind of a handle of the service.
+pub(crate) const SERVICE: u32 = 1;
+/// The kind of a handle of a thread.
+pub(crate) const THREAD: u32 = 2;
+/// The kind of a handle of an environment.
+pub(crate) const ENV: u32 = 3;
+
+/// What a handle holds. Each variant has a kind of its own.
+#[derive(Drop)]
+pub enum Held {
+    Service(Service),
+    Thread(HeldThread),
+    Env(HeldEnv),
+}
+
 /// A thread, and a handle of its service, by which it is given back.
 #[derive(Drop)]
 pub struct HeldThread {
@@ -25,3 +40,26 @@ pub struct HeldEnv {
     /// What the last trace tells. `None` if there was none, or it was given up.
     pub stacks: Option<Vec<StackInfo>>,
 }
+
+impl Held {
+    /// The number of its kind.
+    pub(crate) fn kind(&self) -> u32
+        ensures { result ≡ kind_of self.now }
+    {
+        match self {
+            Held::Service(_) => SERVICE,
+            Held::Thread(_) => THREAD,
+            Held::Env(_) => ENV,
+        }
+    }
+}
+
+/// Whether a number is that of a kind.
+pub(crate) fn is_kind(number: u32) -> bool
+    ensures { result ≡ is_kind number }
+{
+    number == SERVICE || number == THREAD || number == ENV
+}
+
+ghost use Rattle.std.specs.Prelude.{◌≡◌};
+ghost use Rattle.ti_capi.specs.Kinds.{is_kind, kind_of};

@@ -1,10 +1,8 @@
 //! Handles of the service, and what is attached by them.
 
 use crate::codes::{CQ_MISUSED, CQ_OK};
-use crate::env_handle::CqEnv;
-use crate::held::{HeldEnv, HeldThread};
-use crate::service_handle::CqService;
-use crate::thread_handle::CqThread;
+use crate::handle::{CqEnv, CqService, CqThread};
+use crate::held::{Held, HeldEnv, HeldThread};
 use std::alloc::Global;
 use ti_service::{Service, ThreadInfo};
 use ti_thread::HostThread;
@@ -17,15 +15,23 @@ fn limits(depth: u32, envs: u32, window: u32) -> Option<Limits>
     Limits::lasting(1, envs, depth)?.with_window(window)
 }
 
-/// Makes a service in a box.
-fn make(alloc: Global, limits: Limits) -> Result<Box<Service>, TiError>
-    ensures new { IfOk result (λ b. b.value.view ≡ first_view limits) }
+/// Puts what a handle is to hold into a box.
+fn boxed(alloc: Global, held: Held) -> Result<Box<Held>, TiError>
+    ensures same { IfOk result (λ b. b.value ≡ held) }
     ensures memory { IfErr result (λ e. e ≡ OutOfMemory) }
 {
-    match Box::new(alloc, Service::make(alloc, limits)?) {
-        Ok(service) => Ok(service),
+    match Box::new(alloc, held) {
+        Ok(held) => Ok(held),
         Err(_) => Err(TiError::OutOfMemory),
     }
+}
+
+/// Makes a service in a box.
+fn make(alloc: Global, limits: Limits) -> Result<Box<Held>, TiError>
+    ensures new { IfOk result (λ b. IsSomeAnd (service_of (Some b.value)) (λ m. m.view ≡ first_view limits)) }
+    ensures memory { IfErr result (λ e. e ≡ OutOfMemory) }
+{
+    boxed(alloc, Held::Service(Service::make(alloc, limits)?))
 }
 
 /// Makes a service.
@@ -55,15 +61,12 @@ pub extern "C" fn cq_make(
 }
 
 /// One more handle of the service, in a box.
-fn share(alloc: Global, service: &mut Service) -> Result<Box<Service>, TiError>
+fn share(alloc: Global, service: &mut Service) -> Result<Box<Held>, TiError>
     ensures made { OnOk result (service.new ≡ with_handle service.old) }
-    ensures other { IfOk result (λ b. IsShareOf service.old b.value) }
+    ensures other { IfOk result (λ b. IsSomeAnd (service_of (Some b.value)) (IsShareOf service.old)) }
     ensures refused { IfErr result (λ e. RefusesHandle service.old service.new e) }
 {
-    match Box::new(alloc, service.share()?) {
-        Ok(other) => Ok(other),
-        Err(_) => Err(TiError::OutOfMemory),
-    }
+    boxed(alloc, Held::Service(service.share()?))
 }
 
 /// One more handle of the service.
@@ -91,10 +94,11 @@ pub extern "C" fn cq_share(alloc: Global, service: &mut CqService, other: &mut C
 pub extern "C" fn cq_free(alloc: Global, service: &mut CqService) -> u32
     ensures { Frees service.old service.new result }
 {
-    match service.take(alloc) {
-        Some(_) => CQ_OK,
-        None => CQ_MISUSED,
+    if !service.is_service() {
+        return CQ_MISUSED;
     }
+    service.clear(alloc);
+    CQ_OK
 }
 
 /// The name of a thread. 103 if it is not UTF-8, and 110 if there is no memory for it.
@@ -114,21 +118,22 @@ fn attach_thread(
     service: &mut Service,
     name: &[u8],
     priority: i32,
-) -> Result<Box<HeldThread>, TiError>
-    ensures attached { IfOk result (λ b. AttachesThread name.now priority service.old service.new b.value) }
+) -> Result<Box<Held>, TiError>
+    ensures attached { IfOk result (λ b. IsSomeAnd (thread_of (Some b.value)) (AttachesThread name.now priority service.old service.new)) }
     ensures refused { IfErr result (λ e. RefusesThread name.now service.old service.new e) }
 {
     let name = name_of(alloc, name)?;
-    let held = HeldThread {
+    let empty = HeldThread {
         service: service.share()?,
         thread: None,
         frames: Vec::new(alloc),
     };
-    let Ok(mut held) = Box::new(alloc, held) else {
-        return Err(TiError::OutOfMemory);
-    };
+    let mut held = boxed(alloc, Held::Thread(empty))?;
     let fresh = service.attach_thread_now(alloc, ThreadInfo { name, priority })?;
-    held.thread = Some(HostThread::new(fresh));
+    match held.thread() {
+        Some(place) => place.thread = Some(HostThread::new(fresh)),
+        None => unreachable!(),
+    }
     Ok(held)
 }
 
@@ -159,20 +164,22 @@ pub extern "C" fn cq_attach_thread(
 }
 
 /// Attaches an environment in a box.
-fn attach_environment(alloc: Global, service: &mut Service) -> Result<Box<HeldEnv>, TiError>
+fn attach_environment(alloc: Global, service: &mut Service) -> Result<Box<Held>, TiError>
     ensures made { OnOk result (service.new ≡ with_handle service.old) }
-    ensures attached { IfOk result (λ b. HasNewAgent service.old b.value) }
+    ensures attached { IfOk result (λ b. IsSomeAnd (env_of (Some b.value)) (HasNewAgent service.old)) }
     ensures refused { IfErr result (λ e. RefusesEnv service.old service.new e) }
 {
-    let held = HeldEnv {
+    let empty = HeldEnv {
         agent: None,
         trace: None,
         stacks: None,
     };
-    let Ok(mut held) = Box::new(alloc, held) else {
-        return Err(TiError::OutOfMemory);
-    };
-    held.agent = Some(service.attach_environment_now(alloc)?);
+    let mut held = boxed(alloc, Held::Env(empty))?;
+    let agent = service.attach_environment_now(alloc)?;
+    match held.env() {
+        Some(place) => place.agent = Some(agent),
+        None => unreachable!(),
+    }
     Ok(held)
 }
 
@@ -200,9 +207,10 @@ pub extern "C" fn cq_attach_environment(
     }
 }
 
-ghost use Rattle.std.specs.Prelude.{◌≡◌, IfOk, IfErr, OnOk};
+ghost use Rattle.std.specs.Prelude.{◌≡◌, IfErr, IfOk, IsSomeAnd, OnOk, Some};
 ghost use Rattle.std.specs.String.{string_bytes};
 ghost use Rattle.ti_types.specs.declared.error.TiError.TheVariants.{OutOfMemory};
 ghost use Rattle.ti_roster.specs.View.{first_view};
+ghost use Rattle.ti_capi.specs.Handles.{env_of, service_of, thread_of};
 ghost use Rattle.ti_capi.specs.Services.{Attaches, AttachesEnv, AttachesThread, Frees, HasNewAgent, IsShareOf, LimitsOf, Makes, NamesWrongly, RefusesEnv, RefusesHandle, RefusesThread, Shares};
 ghost use Rattle.ti_service.specs.Service.{with_handle};

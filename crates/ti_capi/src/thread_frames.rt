@@ -1,8 +1,8 @@
 //! Frames that the runtime gives, and the end of a thread's handle.
 
 use crate::codes::{CQ_MISUSED, CQ_OK, told_code};
+use crate::handle::CqThread;
 use crate::held::HeldThread;
-use crate::thread_handle::CqThread;
 use crate::values::{CqFrame, frame_in};
 use crate::writes::smaller;
 use std::alloc::Global;
@@ -55,7 +55,7 @@ fn set_frames(held: &mut HeldThread, frames: &[CqFrame]) -> u32
 pub extern "C" fn cq_set_frames(thread: &mut CqThread, frames: &[CqFrame]) -> u32
     ensures { Sets frames.now thread.old thread.new result }
 {
-    match thread.held() {
+    match thread.held_thread() {
         Some(held) => set_frames(held, frames),
         None => CQ_MISUSED,
     }
@@ -82,7 +82,7 @@ pub extern "C" fn cq_set_newest_frames(
 ) -> u32
     ensures { SetsNewest frames.now thread.old thread.new kept.old kept.new result }
 {
-    match thread.held() {
+    match thread.held_thread() {
         Some(held) => set_newest(held, frames, kept),
         None => CQ_MISUSED,
     }
@@ -124,9 +124,9 @@ fn give_back(held: &mut HeldThread) -> u32
 /// Gives a thread back that has ended or never started.
 #[unsafe(no_mangle)]
 pub extern "C" fn cq_detach_thread(alloc: Global, thread: &mut CqThread) -> u32
-    ensures { Detaches thread.old.place.thread thread.old thread.new result }
+    ensures { Detaches (thread_in thread.old) thread.old thread.new result }
 {
-    let Some(held) = thread.held() else {
+    let Some(held) = thread.held_thread() else {
         return CQ_MISUSED;
     };
     let code = give_back(held);
@@ -141,3 +141,4 @@ ghost use Rattle.ti_types.specs.declared.error.TiError.TheVariants.{OutOfMemory}
 ghost use Rattle.ti_thread.specs.AnyThread.{is_running};
 ghost use Rattle.ti_capi.specs.Frames.{Detaches, GivesBack, Sets, SetsIn, SetsNewest, SetsNewestIn};
 ghost use Rattle.ti_capi.specs.Values.{are_frames, frame_of};
+ghost use Rattle.ti_capi.specs.Handles.{thread_in};

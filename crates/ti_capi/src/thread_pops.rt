@@ -1,14 +1,14 @@
 //! How many frames a thread has, and how many of them were popped.
 
 use crate::codes::{CQ_MISUSED, CQ_OK};
-use crate::thread_handle::CqThread;
+use crate::handle::CqThread;
 
 /// How many frames the thread has.
 #[unsafe(no_mangle)]
 pub extern "C" fn cq_frame_count(thread: &mut CqThread, count: &mut u64) -> u32
-    ensures { CountBehind thread.old.place.thread thread.old thread.new count.old count.new result }
+    ensures { CountBehind (thread_in thread.old) thread.old thread.new count.old count.new result }
 {
-    let Some(held) = thread.held() else {
+    let Some(held) = thread.held_thread() else {
         return CQ_MISUSED;
     };
     let Some(thread) = &mut held.thread else {
@@ -26,9 +26,9 @@ pub extern "C" fn cq_frame_count(thread: &mut CqThread, count: &mut u64) -> u32
 /// How many frames of the thread were popped since the runtime last took note. It takes note of these now.
 #[unsafe(no_mangle)]
 pub extern "C" fn cq_take_pops(thread: &mut CqThread, count: &mut u64) -> u32
-    ensures { NotesBehind thread.old.place.thread thread.new.place.thread thread.old thread.new count.old count.new result }
+    ensures { NotesBehind (thread_in thread.old) (thread_in thread.new) thread.old thread.new count.old count.new result }
 {
-    let Some(held) = thread.held() else {
+    let Some(held) = thread.held_thread() else {
         return CQ_MISUSED;
     };
     let Some(thread) = &mut held.thread else {
@@ -39,3 +39,4 @@ pub extern "C" fn cq_take_pops(thread: &mut CqThread, count: &mut u64) -> u32
 }
 
 ghost use Rattle.ti_capi.specs.Pops.{CountBehind, NotesBehind};
+ghost use Rattle.ti_capi.specs.Handles.{thread_in};

@@ -1,15 +1,15 @@
 //! Steps of a thread, and its looks.
 
 use crate::codes::{CQ_MISUSED, CQ_OK, told_code};
-use crate::thread_handle::CqThread;
+use crate::handle::CqThread;
 use ti_types::{MethodNo, Step};
 
 /// The number of the thread.
 #[unsafe(no_mangle)]
 pub extern "C" fn cq_thread_number(thread: &mut CqThread, number: &mut u32) -> u32
-    ensures { NumberBehind thread.old.place.thread thread.old thread.new number.old number.new result }
+    ensures { NumberBehind (thread_in thread.old) thread.old thread.new number.old number.new result }
 {
-    let Some(held) = thread.held() else {
+    let Some(held) = thread.held_thread() else {
         return CQ_MISUSED;
     };
     let Some(host) = &mut held.thread else {
@@ -24,7 +24,7 @@ pub extern "C" fn cq_thread_number(thread: &mut CqThread, number: &mut u32) -> u
 fn step(thread: &mut CqThread, step: Step) -> u32
     ensures { Changes (Keeps (Steps step)) thread.old thread.new result }
 {
-    let Some(held) = thread.held() else {
+    let Some(held) = thread.held_thread() else {
         return CQ_MISUSED;
     };
     let Some(thread) = &mut held.thread else {
@@ -68,9 +68,9 @@ pub extern "C" fn cq_leave(thread: &mut CqThread) -> u32
 /// Whether nobody calls for the thread (JEP 312).
 #[unsafe(no_mangle)]
 pub extern "C" fn cq_poll_clear(thread: &mut CqThread) -> bool
-    ensures { LooksBehind thread.old.place.thread thread.new.place.thread thread.old thread.new result }
+    ensures { LooksBehind (thread_in thread.old) (thread_in thread.new) thread.old thread.new result }
 {
-    let Some(held) = thread.held() else {
+    let Some(held) = thread.held_thread() else {
         return true;
     };
     let Some(thread) = &mut held.thread else {
@@ -83,3 +83,4 @@ ghost use Rattle.ti_types.specs.declared.step.Step.TheVariants as step;
 ghost use Rattle.ti_thread.specs.Changes.{Steps};
 ghost use Rattle.ti_thread.specs.Hosts.{Keeps};
 ghost use Rattle.ti_capi.specs.Threads.{Changes, LooksBehind, NumberBehind, method_no};
+ghost use Rattle.ti_capi.specs.Handles.{thread_in};

@@ -1,8 +1,8 @@
 //! Calls of a thread that lead it to another state.
 
 use crate::codes::{CQ_MISUSED, told_code};
+use crate::handle::CqThread;
 use crate::held::HeldThread;
-use crate::thread_handle::CqThread;
 use crate::values::reason_in;
 use ti_thread::Turn;
 use ti_types::{Kind, TiError};
@@ -25,7 +25,7 @@ fn take_turn_in(held: &mut HeldThread, turn: Turn) -> u32
 fn take_turn_of(thread: &mut CqThread, turn: Turn) -> u32
     ensures { Changes (TakesTurn turn) thread.old thread.new result }
 {
-    match thread.held() {
+    match thread.held_thread() {
         Some(held) => take_turn_in(held, turn),
         None => CQ_MISUSED,
     }
@@ -68,9 +68,9 @@ pub extern "C" fn cq_block(thread: &mut CqThread, reason: u32) -> u32
 
 /// The code of a block for no reason.
 fn unknown_reason(thread: &mut CqThread) -> u32
-    ensures { UnknownBehind thread.old.place.thread thread.old thread.new result }
+    ensures { UnknownBehind (thread_in thread.old) thread.old thread.new result }
 {
-    let Some(held) = thread.held() else {
+    let Some(held) = thread.held_thread() else {
         return CQ_MISUSED;
     };
     let Some(_) = &mut held.thread else {
@@ -100,3 +100,4 @@ ghost use Rattle.ti_thread.specs.declared.turn.Turn.TheVariants as turn;
 ghost use Rattle.ti_capi.specs.Threads.{Changes, ChangesIn};
 ghost use Rattle.ti_capi.specs.Turns.{Blocks, UnknownBehind};
 ghost use Rattle.ti_capi.specs.Values.{reason_read};
+ghost use Rattle.ti_capi.specs.Handles.{thread_in};

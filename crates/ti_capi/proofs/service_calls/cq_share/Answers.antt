@@ -1,7 +1,8 @@
 use Rattle.std.proofs.Common.{Option, Some, refl, sym, subst, ◌∙◌}
 use Rattle.ti_service.specs.Service.{Member}
-use Rattle.ti_capi.specs.Handles.{with_service}
+use Rattle.ti_capi.specs.Handles.{service_of, with_service}
 use Rattle.ti_capi.specs.Services.{Shared, ShareRefused, SharesBehind}
+use Rattle.ti_capi.proofs.Behind.{put_there}
 use Rattle.ti_capi.proofs.service_calls.cq_share.Goals as goal
 
 pub returns-in-Ok : goal.returns-in-Ok
@@ -9,7 +10,7 @@ returns-in-Ok c =
     let empty = sym c.is_empty.ensures ∙ c.if-not-is_empty.false in
     let n = c.share.new.service in
     subst (λ (o : Option Member). SharesBehind o (Some n) c.args.service.now (with_service c.args.service.now n) c.args.other.now c.put.new.self 0) c.in-Some.ensures.value
-    (refl, Shared c.in-Ok.made.value refl empty c.put.ensures c.in-Ok.ensures.other c.in-Ok.ensures.made)
+    (refl, Shared refl empty (put_there service_of _ _ _ c.put.ensures c.in-Ok.ensures.other) c.in-Ok.ensures.made)
 
 pub returns-in-Err : goal.returns-in-Err
 returns-in-Err c =

@@ -1,0 +1,62 @@
+//! What a box lends, and what is in it.
+ghost use Rattle.std.specs.Prelude.{◌≡◌, Some};
+ghost use Rattle.std.specs.Option.{option_map};
+ghost use Rattle.std.specs.Borrow.{Lends, LendsIf, sem};
+ghost use Rattle.ti_service.specs.contracts.service.Service.{the_row as service_row};
+ghost use Rattle.ti_capi.specs.contracts.held.Held.{the_row as held_row};
+ghost use Rattle.ti_capi.specs.contracts.held.HeldEnv.{the_row as env_row};
+ghost use Rattle.ti_capi.specs.contracts.held.HeldThread.{the_row as thread_row};
+ghost use Rattle.ti_capi.specs.contracts.held_at.HeldAt.{the_row as at_row};
+ghost use Rattle.ti_capi.specs.declared.held.Held.{Held as HeldValue};
+ghost use Rattle.ti_capi.specs.declared.held.Held.TheVariants.{Env, Service as OfService, Thread};
+ghost use Rattle.ti_capi.specs.Handles.{env_of, holding, service_of, thread_of};
+
+use crate::held::{Held, HeldEnv, HeldThread};
+use crate::held_at::HeldAt;
+use ti_service::Service;
+
+impl HeldAt {
+    /// What is in the box.
+    pub fn as_mut(&mut self) -> &mut Held
+        requires { (x : HeldValue) × (self.old.held ≡ Some x) }
+        ensures* writes_back { sem 𝓛 (Lends at_row held_row self.entry result (holding self.old)) }
+        ensures value { self.old.held ≡ Some result.now }
+    {
+        unsafe { &mut *(self.at as *mut Held) }
+    }
+}
+
+impl Held {
+    /// The handle of the service, if it is one.
+    pub(crate) fn service(&mut self) -> Option<&mut Service>
+        ensures* writes_back { sem 𝓛 (LendsIf held_row service_row self.entry result OfService self.old) }
+        ensures value { option_map (λ r. r.now) result ≡ service_of (Some self.old) }
+    {
+        match self {
+            Held::Service(service) => Some(service),
+            _ => None,
+        }
+    }
+
+    /// The thread with its service, if it is one.
+    pub(crate) fn thread(&mut self) -> Option<&mut HeldThread>
+        ensures* writes_back { sem 𝓛 (LendsIf held_row thread_row self.entry result Thread self.old) }
+        ensures value { option_map (λ r. r.now) result ≡ thread_of (Some self.old) }
+    {
+        match self {
+            Held::Thread(thread) => Some(thread),
+            _ => None,
+        }
+    }
+
+    /// The environment with its trace, if it is one.
+    pub(crate) fn env(&mut self) -> Option<&mut HeldEnv>
+        ensures* writes_back { sem 𝓛 (LendsIf held_row env_row self.entry result Env self.old) }
+        ensures value { option_map (λ r. r.now) result ≡ env_of (Some self.old) }
+    {
+        match self {
+            Held::Env(env) => Some(env),
+            _ => None,
+        }
+    }
+}
