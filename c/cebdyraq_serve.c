@@ -35,7 +35,7 @@ typedef struct __attribute__((may_alias)) {
     int leaving[CQ_DOOR_CONNECTIONS];            /* sockets of connections that ended, whose peers may still send */
     uint64_t leaving_since[CQ_DOOR_CONNECTIONS];
     uint32_t actions[CQ_DOOR_CONNECTIONS];       /* what is to be done with each */
-    size_t rooms[CQ_DOOR_CONNECTIONS];
+    uint64_t rooms[CQ_DOOR_CONNECTIONS];
     char path[108];                              /* of a Unix socket */
     uint16_t port;
     bool runs;
@@ -119,18 +119,18 @@ static void leave(server *s, uint32_t connection, uint64_t now) {
 /* Writes what is to be written. Returns whether the socket took some. */
 static bool write_some(server *s, uint32_t connection) {
     uint8_t bytes[CHUNK];
-    size_t count = 0;
+    uint64_t count = 0;
     if (cq_door_output(&s->door, connection, bytes, sizeof bytes, &count) != CQ_OK) {
         return false;
     }
-    ssize_t taken = send(s->sockets[connection], bytes, count, MSG_DONTWAIT | MSG_NOSIGNAL);
+    ssize_t taken = send(s->sockets[connection], bytes, (size_t)count, MSG_DONTWAIT | MSG_NOSIGNAL);
     if (taken < 0 && errno != EAGAIN && errno != EINTR) {
         drop(s, connection);
     }
     if (taken <= 0) {
         return false;
     }
-    cq_door_written(&s->door, connection, (size_t)taken, now_ns());
+    cq_door_written(&s->door, connection, (uint64_t)taken, now_ns());
     return true;
 }
 
@@ -153,14 +153,15 @@ static void go_on(server *s, uint32_t connection) {
 /* Reads what a socket has, as far as the door has room. */
 static void read_some(server *s, uint32_t connection) {
     uint8_t bytes[CHUNK];
-    size_t room = s->rooms[connection] < sizeof bytes ? s->rooms[connection] : sizeof bytes, taken = 0;
+    size_t room = s->rooms[connection] < sizeof bytes ? (size_t)s->rooms[connection] : sizeof bytes;
+    uint64_t taken = 0;
     ssize_t count = recv(s->sockets[connection], bytes, room, MSG_DONTWAIT);
     if (count == 0) {
         cq_door_end(&s->door, connection, now_ns());
     } else if (count < 0 && errno != EAGAIN && errno != EINTR) {
         drop(s, connection);
     } else if (count > 0 && (cq_door_feed(&s->door, connection, bytes, (size_t)count, now_ns(), &taken) != CQ_OK
-                             || taken < (size_t)count)) {
+                             || taken < (uint64_t)count)) {
         drop(s, connection);
     }
 }

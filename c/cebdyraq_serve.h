@@ -76,21 +76,21 @@ uint32_t cq_door_connect(cq_door *door, uint64_t now, uint32_t *connection) CQ_M
 /* What is to be done with a connection. Writes one of CQ_DOOR_.. to `action`, and to `room` how many bytes cq_door_feed takes.
  * `unix_time` is in nanoseconds since 1970, or 0. CQ_NONE 303: there is no such connection. CQ_OUT_OF_MEMORY 110: call again. */
 uint32_t cq_door_next(cq_door *door, uint32_t connection, uint64_t now, uint64_t unix_time, uint32_t *action,
-                      size_t *room) CQ_MUST_USE;
+                      uint64_t *room) CQ_MUST_USE;
 
 /* Takes bytes that a socket gave, as many as there is room for, and writes their number to `taken`. CQ_NONE 303,
  * CQ_OUT_OF_MEMORY 110: none was taken. */
 uint32_t cq_door_feed(cq_door *door, uint32_t connection, const uint8_t *bytes, size_t count, uint64_t now,
-                      size_t *taken) CQ_MUST_USE;
+                      uint64_t *taken) CQ_MUST_USE;
 
 /* The peer sends no more. What came whole is answered, and a profile that it waits for ends now. CQ_NONE 303. */
 uint32_t cq_door_end(cq_door *door, uint32_t connection, uint64_t now);
 
 /* Writes the first bytes of what is to be written, as far as there is `room`, and their number to `count`. CQ_NONE 303. */
-uint32_t cq_door_output(cq_door *door, uint32_t connection, uint8_t *bytes, size_t room, size_t *count) CQ_MUST_USE;
+uint32_t cq_door_output(cq_door *door, uint32_t connection, uint8_t *bytes, size_t room, uint64_t *count) CQ_MUST_USE;
 
 /* The socket took so many of these bytes. CQ_NONE 303. */
-uint32_t cq_door_written(cq_door *door, uint32_t connection, size_t count, uint64_t now);
+uint32_t cq_door_written(cq_door *door, uint32_t connection, uint64_t count, uint64_t now);
 
 /* The socket is gone. What the connection waits for is given up, and its number is free. CQ_NONE 303. */
 uint32_t cq_door_disconnect(cq_door *door, uint32_t connection);

@@ -34,7 +34,7 @@ static void tick_after(uint64_t time) {
 static uint32_t ask(const char *target) {
     char text[256];
     uint32_t connection = 0, action = 0;
-    size_t taken = 0, room = 0;
+    uint64_t taken = 0, room = 0;
     snprintf(text, sizeof text, "GET %s HTTP/1.1\r\nHost: localhost\r\n\r\n", target);
     OK(cq_door_connect(&door, now, &connection));
     OK(cq_door_feed(&door, connection, (const uint8_t *)text, strlen(text), now, &taken));
@@ -45,7 +45,7 @@ static uint32_t ask(const char *target) {
 /* Reads the answer whole, and closes the connection. */
 static void read_answer(uint32_t connection) {
     uint32_t action = CQ_DOOR_WAIT;
-    size_t room = 0, count = 0;
+    uint64_t room = 0, count = 0;
     written_count = 0;
     for (;;) {
         OK(cq_door_next(&door, connection, now, 0, &action, &room));

@@ -22,14 +22,14 @@ uint32_t connected(void) {
 
 uint32_t action_of(uint32_t connection) {
     uint32_t action = 77;
-    size_t room = 1 << 20;
+    uint64_t room = 1 << 20;
     OK(cq_door_next(&door, connection, now, 0, &action, &room));
     CHECK(action <= CQ_DOOR_CLOSE && room <= 8192);
     return action;
 }
 
 void feed(uint32_t connection, const char *text) {
-    size_t taken = 0;
+    uint64_t taken = 0;
     OK(cq_door_feed(&door, connection, (const uint8_t *)text, strlen(text), now, &taken));
     SAME(taken, strlen(text));
 }
@@ -45,7 +45,7 @@ void tick_after(uint64_t time) {
 int taken_status(uint32_t connection) {
     char head[64] = { 0 };
     uint8_t bytes[4096];
-    size_t count = 0;
+    uint64_t count = 0;
     int status = 0;
     SAME(action_of(connection), CQ_DOOR_WRITE);
     OK(cq_door_output(&door, connection, (uint8_t *)head, sizeof head - 1, &count));
@@ -113,8 +113,7 @@ static void waits_for_a_stack(void) {
 
 static void tells_misuse(void) {
     uint32_t number = 7, action = 0;
-    size_t count = 5;
-    uint64_t deadline = 9;
+    uint64_t count = 5, deadline = 9;
     uint8_t byte = 0;
     cq_door none = { 0 }, other = { 0 };
     SAME(cq_door_connect(&none, now, &number), CQ_MISUSED);

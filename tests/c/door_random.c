@@ -56,7 +56,7 @@ static void make_stream(void) {
 
 /* Takes some of what is to be written. */
 static void take_some(uint32_t connection) {
-    size_t count = 0, room = 1 + below(5000);
+    uint64_t count = 0, room = 1 + below(5000);
     CHECK(written_count + room <= WRITTEN);
     OK(cq_door_output(&door, connection, (uint8_t *)written + written_count, room, &count));
     CHECK(count > 0 && count <= room);
@@ -65,7 +65,8 @@ static void take_some(uint32_t connection) {
 }
 
 static size_t fed(uint32_t connection, size_t at) {
-    size_t count = 1 + below(below(4) == 0 ? 600 : 60), taken = 0;
+    size_t count = 1 + below(below(4) == 0 ? 600 : 60);
+    uint64_t taken = 0;
     count = count < length - at ? count : length - at;
     OK(cq_door_feed(&door, connection, (const uint8_t *)stream + at, count, now, &taken));
     CHECK(taken <= count);

@@ -537,7 +537,7 @@ extern "C" {
         now: u64,
         unix_time: u64,
         action: *mut u32,
-        room: *mut usize,
+        room: *mut u64,
     ) -> u32;
     pub fn cq_door_feed(
         door: *mut cq_door,
@@ -545,11 +545,11 @@ extern "C" {
         bytes: *const u8,
         count: usize,
         now: u64,
-        taken: *mut usize,
+        taken: *mut u64,
     ) -> u32;
     pub fn cq_door_end(door: *mut cq_door, connection: u32, now: u64) -> u32;
-    pub fn cq_door_output(door: *mut cq_door, connection: u32, bytes: *mut u8, room: usize, count: *mut usize) -> u32;
-    pub fn cq_door_written(door: *mut cq_door, connection: u32, count: usize, now: u64) -> u32;
+    pub fn cq_door_output(door: *mut cq_door, connection: u32, bytes: *mut u8, room: usize, count: *mut u64) -> u32;
+    pub fn cq_door_written(door: *mut cq_door, connection: u32, count: u64, now: u64) -> u32;
     pub fn cq_door_disconnect(door: *mut cq_door, connection: u32) -> u32;
     pub fn cq_door_tick(door: *mut cq_door, now: u64, deadline: *mut u64) -> u32;
     pub fn cq_close_door(door: *mut cq_door) -> u32;
