@@ -243,6 +243,7 @@ static bool serve_all(server *s, const struct pollfd *all) {
     return left;
 }
 
+/* After a refusal all are served at once, since one of them may have to leave. */
 static void *run(void *arg) {
     server *s = arg;
     struct pollfd all[ALL];
@@ -255,11 +256,12 @@ static void *run(void *arg) {
         }
         bool left = serve_all(s, all);
         takes = takes || left || now_ns() - refused >= REFUSED_NS;
+        uint64_t until = before_leaving(s, deadline);
         if (takes && all[LISTENER].revents && !take_in(s)) {
             takes = false;
             refused = now_ns();
+            until = 0;
         }
-        uint64_t until = before_leaving(s, deadline);
         until = takes || until < refused + REFUSED_NS ? until : refused + REFUSED_NS;
         list_sockets(s, takes, all);
         rest(all, until);
