@@ -134,8 +134,9 @@ static bool write_some(server *s, uint32_t connection) {
     return true;
 }
 
-/* Does what the door wants of a connection, as far as the socket lets it. */
-static void go_on(server *s, uint32_t connection) {
+/* Does what the door wants of a connection, as far as the socket lets it. Returns whether it has written or left. */
+static bool go_on(server *s, uint32_t connection) {
+    bool moved = false;
     while (s->sockets[connection] >= 0) {
         uint32_t *action = &s->actions[connection];
         if (cq_door_next(&s->door, connection, now_ns(), clock_ns(CLOCK_REALTIME), action, &s->rooms[connection]) != CQ_OK) {
@@ -143,11 +144,14 @@ static void go_on(server *s, uint32_t connection) {
         }
         if (*action == CQ_DOOR_CLOSE) {
             leave(s, connection, now_ns());
+            return true;
         }
         if (*action != CQ_DOOR_WRITE || !write_some(s, connection)) {
-            return;
+            break;
         }
+        moved = true;
     }
+    return moved;
 }
 
 /* Reads what a socket has, as far as the door has room. */
@@ -223,27 +227,33 @@ static void rest(struct pollfd *all, uint64_t until) {
     }
 }
 
-/* Serves all whose sockets have something, and those who have waited long enough. Returns whether one has left. */
-static bool serve_all(server *s, const struct pollfd *all) {
-    bool left = false;
+/* Reads from all sockets that have something, and goes on with each connection. */
+static void serve_all(server *s, const struct pollfd *all) {
     for (uint32_t i = 0; i < CQ_DOOR_CONNECTIONS; i++) {
         short come = s->sockets[i] >= 0 && all[FIRST + i].fd == s->sockets[i] ? all[FIRST + i].revents : 0;
-        bool was = s->sockets[i] >= 0;
         if (come & POLLIN) {
             read_some(s, i);
         } else if (come & (POLLERR | POLLHUP | POLLNVAL)) {
             drop(s, i);
         }
         go_on(s, i);
-        left = left || (was && s->sockets[i] < 0);
         if (s->leaving[i] >= 0) {
             see_off(&s->leaving[i], s->leaving_since[i], now_ns());
         }
     }
-    return left;
 }
 
-/* After a refusal all are served at once, since one of them may have to leave. */
+/* Writes the answers that a tick has given. Returns whether there were some: a request behind one of them may now have been taken
+ * up, and be due at once. */
+static bool write_all(server *s) {
+    bool moved = false;
+    for (uint32_t i = 0; i < CQ_DOOR_CONNECTIONS; i++) {
+        moved = go_on(s, i) || moved;
+    }
+    return moved;
+}
+
+/* After a connection could not be taken in, all are served once more, since one of them may have to leave. */
 static void *run(void *arg) {
     server *s = arg;
     struct pollfd all[ALL];
@@ -251,20 +261,21 @@ static void *run(void *arg) {
     bool takes = true;
     list_sockets(s, takes, all);
     while (!(all[ENDING].revents & POLLIN)) {
+        bool again = false;
+        serve_all(s, all);
+        if (takes && all[LISTENER].revents && !take_in(s)) {
+            refused = now_ns();
+            again = true;
+        }
         if (cq_door_tick(&s->door, now_ns(), &deadline) != CQ_OK) {
             deadline = now_ns() + NAP_NS;
         }
-        bool left = serve_all(s, all);
-        takes = takes || left || now_ns() - refused >= REFUSED_NS;
+        again = write_all(s) || again;
+        takes = again || now_ns() - refused >= REFUSED_NS;
         uint64_t until = before_leaving(s, deadline);
-        if (takes && all[LISTENER].revents && !take_in(s)) {
-            takes = false;
-            refused = now_ns();
-            until = 0;
-        }
         until = takes || until < refused + REFUSED_NS ? until : refused + REFUSED_NS;
         list_sockets(s, takes, all);
-        rest(all, until);
+        rest(all, again ? 0 : until);
     }
     return NULL;
 }
