@@ -227,8 +227,9 @@ static void rest(struct pollfd *all, uint64_t until) {
     }
 }
 
-/* Reads from all sockets that have something, and goes on with each connection. */
-static void serve_all(server *s, const struct pollfd *all) {
+/* Reads from all sockets that have something, and goes on with each connection. Returns whether one has written or left. */
+static bool serve_all(server *s, const struct pollfd *all) {
+    bool moved = false;
     for (uint32_t i = 0; i < CQ_DOOR_CONNECTIONS; i++) {
         short come = s->sockets[i] >= 0 && all[FIRST + i].fd == s->sockets[i] ? all[FIRST + i].revents : 0;
         if (come & POLLIN) {
@@ -236,11 +237,12 @@ static void serve_all(server *s, const struct pollfd *all) {
         } else if (come & (POLLERR | POLLHUP | POLLNVAL)) {
             drop(s, i);
         }
-        go_on(s, i);
+        moved = go_on(s, i) || moved;
         if (s->leaving[i] >= 0) {
             see_off(&s->leaving[i], s->leaving_since[i], now_ns());
         }
     }
+    return moved;
 }
 
 /* Writes the answers that a tick has given. Returns whether there were some: a request behind one of them may now have been taken
@@ -253,7 +255,14 @@ static bool write_all(server *s) {
     return moved;
 }
 
-/* After a connection could not be taken in, all are served once more, since one of them may have to leave. */
+/* When it has to go on, at the latest. */
+static uint64_t next_time(const server *s, uint64_t deadline, bool takes, uint64_t refused) {
+    uint64_t until = before_leaving(s, deadline), again = refused + REFUSED_NS;
+    return takes || until < again ? until : again;
+}
+
+/* If a connection cannot be taken in, all are served once more, since one of them may have to leave. Then it takes until one has,
+ * or for a while. */
 static void *run(void *arg) {
     server *s = arg;
     struct pollfd all[ALL];
@@ -261,21 +270,15 @@ static void *run(void *arg) {
     bool takes = true;
     list_sockets(s, takes, all);
     while (!(all[ENDING].revents & POLLIN)) {
-        bool again = false;
-        serve_all(s, all);
-        if (takes && all[LISTENER].revents && !take_in(s)) {
-            refused = now_ns();
-            again = true;
-        }
+        bool moved = serve_all(s, all), is_refused = takes && all[LISTENER].revents && !take_in(s);
         if (cq_door_tick(&s->door, now_ns(), &deadline) != CQ_OK) {
             deadline = now_ns() + NAP_NS;
         }
-        again = write_all(s) || again;
-        takes = again || now_ns() - refused >= REFUSED_NS;
-        uint64_t until = before_leaving(s, deadline);
-        until = takes || until < refused + REFUSED_NS ? until : refused + REFUSED_NS;
+        bool wrote = write_all(s);
+        refused = is_refused ? now_ns() : refused;
+        takes = (takes && !is_refused) || moved || wrote || now_ns() - refused >= REFUSED_NS;
         list_sockets(s, takes, all);
-        rest(all, again ? 0 : until);
+        rest(all, wrote || is_refused ? 0 : next_time(s, deadline, takes, refused));
     }
     return NULL;
 }
