@@ -9,11 +9,26 @@
 //! waits.
 #![tactic(auto)]
 
+mod account;
+mod asking;
+mod counting;
+mod label;
+mod law;
+mod lines;
+mod meeting;
+mod methods;
 mod metrics;
 mod monitor;
+mod naming;
 mod reading;
+mod running;
+mod sampling;
+mod schedule;
+mod stack;
 mod state;
+mod watched;
 
+pub use law::samples_are_ticks_at_threads;
 pub use metrics::{BOUNDS, Histogram, Metrics};
 pub use monitor::{Monitor, ReadingNo};
 pub use reading::{Order, Reading, Seen};

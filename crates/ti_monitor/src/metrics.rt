@@ -1,6 +1,7 @@
 //! What a monitor has counted.
 
 use crate::state::STATES;
+use crate::watched::Watched;
 
 /// The upper bounds of a histogram's buckets, in nanoseconds.
 pub const BOUNDS: [u64; 13] = [
@@ -28,6 +29,45 @@ pub struct Histogram {
     pub count: u64,
 }
 
+impl Histogram {
+    /// No time yet.
+    pub fn new() -> Histogram
+        ensures within { (k : ℕ) → k < 13 → get_or result.within k 0 ≡ 0 }
+        ensures sum { result.sum ≡ 0 }
+        ensures count { result.count ≡ 0 }
+    {
+        Histogram {
+            within: [0; 13],
+            sum: 0,
+            count: 0,
+        }
+    }
+
+    /// Counts a time of so many nanoseconds. Each number stays at 2^64 - 1 once it is there.
+    pub fn add(&mut self, nanos: u64)
+        ensures within { (k : ℕ) → k < 13 → get_or self.new.within k 0 ≡ bucket_with (get_or BOUNDS k 0) (get_or self.old.within k 0) nanos }
+        ensures sum { self.new.sum ≡ added self.old.sum nanos }
+        ensures count { self.new.count ≡ added self.old.count 1 }
+    {
+        for place in 0..BOUNDS.len() {
+            self.within[place] = with_time(BOUNDS[place], self.within[place], nanos);
+        }
+        self.sum = self.sum.saturating_add(nanos);
+        self.count = self.count.saturating_add(1);
+    }
+}
+
+/// A bucket with this bound and this count, after one more time.
+fn with_time(bound: u64, count: u64, nanos: u64) -> u64
+    ensures { result ≡ bucket_with bound count nanos }
+{
+    if nanos <= bound {
+        count.saturating_add(1)
+    } else {
+        count
+    }
+}
+
 /// What a monitor has counted since it began. A counter stays at 2^64 - 1 once it is there.
 #[derive(Clone, Copy, Debug, PartialEq, Eq)]
 pub struct Metrics {
@@ -35,7 +75,7 @@ pub struct Metrics {
     pub threads: [u64; STATES],
     /// How many of them are suspended.
     pub suspended: u64,
-    /// Threads that were attached and given back.
+    /// Threads that were attached, those that were there at first among them, and threads that were given back.
     pub attached: u64,
     pub detached: u64,
     /// Events of threads that were overwritten before the monitor was told.
@@ -58,3 +98,61 @@ pub struct Metrics {
     pub late: u64,
     pub unanswered: u64,
 }
+
+impl Metrics {
+    /// Nothing counted yet.
+    pub(crate) fn new() -> Metrics {
+        Metrics {
+            threads: [0; STATES],
+            suspended: 0,
+            attached: 0,
+            detached: 0,
+            events_lost: 0,
+            state_time: [0; STATES],
+            suspended_time: 0,
+            answers: Histogram::new(),
+            calls_out: 0,
+            profiles: 0,
+            ticks: 0,
+            missed: 0,
+            at_once: 0,
+            late: 0,
+            unanswered: 0,
+        }
+    }
+
+    /// Takes the states of the threads that are there, after so many nanoseconds.
+    pub(crate) fn take_states(&mut self, watched: &[Watched], passed: u64) {
+        self.threads = [0; STATES];
+        self.suspended = 0;
+        for one in watched {
+            if !one.gone {
+                self.take_state(one, passed);
+            }
+        }
+    }
+
+    /// Takes the state of one thread.
+    fn take_state(&mut self, watched: &Watched, passed: u64) {
+        let state = watched.state();
+        self.threads[state] = self.threads[state].saturating_add(1);
+        self.state_time[state] = self.state_time[state].saturating_add(passed);
+        if watched.is_suspended() {
+            self.suspended = self.suspended.saturating_add(1);
+            self.suspended_time = self.suspended_time.saturating_add(passed);
+        }
+    }
+
+    /// Takes how many calls are out.
+    pub(crate) fn take_calls(&mut self, watched: &[Watched]) {
+        self.calls_out = 0;
+        for one in watched {
+            if one.out.is_some() {
+                self.calls_out = self.calls_out.saturating_add(1);
+            }
+        }
+    }
+}
+
+ghost use Rattle.std.specs.Prelude.{◌≡◌, ◌<◌, ℕ, get_or};
+ghost use Rattle.ti_monitor.specs.Histograms.{added, bucket_with};

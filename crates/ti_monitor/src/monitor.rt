@@ -1,10 +1,22 @@
 //! The agent that reads the threads.
 
+use crate::asking::probe;
+use crate::meeting::{count_earlier, count_events, let_go_of_ended, watch_new};
 use crate::metrics::Metrics;
+use crate::naming::{about_of, names_of, seen_of};
 use crate::reading::{Order, Reading};
+use crate::running::is_profile;
+use crate::sampling::{Readings, end};
+use crate::watched::Watched;
 use std::alloc::Global;
-use ti_service::{Agent, Service};
+use ti_service::{Agent, Service, ServiceTries};
 use ti_types::TiError;
+
+/// How often the monitor meets threads and probes their states, in nanoseconds.
+const LOOK: u64 = 100_000_000;
+
+/// How long it waits before it looks again for an answer, in nanoseconds.
+const SOON: u64 = 1_000_000;
 
 /// A reading, by its number. Numbers count from 0 and are never used again.
 #[derive(Clone, Copy, Debug, PartialEq, Eq)]
@@ -13,42 +25,238 @@ pub struct ReadingNo(pub u64);
 /// An agent that reads the threads of its service. Times are nanoseconds of a clock that never goes back.
 #[derive(Drop)]
 pub struct Monitor {
+    alloc: Global,
     agent: Agent,
+    program: String,
     metrics: Metrics,
+    watched: Vec<Watched>,
+    readings: Readings,
+    /// How many readings were begun.
+    begun: u64,
+    /// When it meets threads next, and when it probes them.
+    next_meeting: u64,
+    next_probe: u64,
+    /// When it probed them, and when it did what was due.
+    last_probe: u64,
+    last_tick: u64,
+    /// Whether it has met threads.
+    has_met: bool,
 }
 
-// SKELETON: the interface that the door may rely on. Bodies to come.
 impl Monitor {
-    /// A monitor over this agent. `program` is the name that profiles have.
-    pub fn new(alloc: Global, agent: Agent, program: String, now: u64) -> Result<Monitor, TiError>;
+    /// A monitor over this agent. `program` is the name that profiles have. It takes no memory.
+    pub fn new(alloc: Global, agent: Agent, program: String, now: u64) -> Monitor {
+        let mut agent = agent;
+        let _later_if_busy = agent.set_event_notification_mode_now(true);
+        Monitor {
+            alloc,
+            agent,
+            program,
+            metrics: Metrics::new(),
+            watched: Vec::new(alloc),
+            readings: Readings::new(alloc),
+            begun: 0,
+            next_meeting: now,
+            next_probe: now,
+            last_probe: now,
+            last_tick: now,
+            has_met: false,
+        }
+    }
 
-    /// Begins a reading. `unix` is the time in nanoseconds since 1970.
+    /// Begins a reading. `unix` is the time in nanoseconds since 1970. A number in the order that is out of its range counts as the
+    /// nearest one within it.
     ///
-    /// - 216 `Full` (this profile): two profiles (`Order::Over`) run, or sixteen readings in all.
+    /// - 216 `Full` (this profile): two profiles (`Order::Over`) are there that run or were not taken, or sixteen readings in all.
     /// - 110 OUT_OF_MEMORY.
-    pub fn begin(&mut self, order: Order, now: u64, unix: u64) -> Result<ReadingNo, TiError>;
+    ///
+    /// Then no reading changes.
+    pub fn begin(&mut self, order: Order, now: u64, unix: u64) -> Result<ReadingNo, TiError>
+        ensures begun { IfOk result (λ no. Begins self.old.readings.running.items self.new.readings.running.items no order) }
+        ensures number { IfOk result (λ no. (no.0 ≡ self.old.begun) × (self.new.begun ≡ no.0 + 1)) }
+        ensures refused { IfErr result (λ e. ((e ≡ Full) × HasNoRoom self.old.readings.running.items self.old.begun order) ⊎ (e ≡ OutOfMemory)) }
+        ensures kept { OnErr result (self.new.readings.running.items ≡ self.old.readings.running.items) }
+    {
+        if self.begun == u64::MAX || !self.readings.have_room(order) {
+            return Err(TiError::Full);
+        }
+        let no = ReadingNo(self.begun);
+        self.readings.add(self.alloc, no, order, now, unix)?;
+        self.begun += 1;
+        if is_profile(order) {
+            self.metrics.profiles = self.metrics.profiles.saturating_add(1);
+        }
+        Ok(no)
+    }
 
     /// Does what is due: it meets threads and lets them go, probes states, collects answers, and takes the ticks of readings.
-    pub fn tick(&mut self, now: u64);
+    pub fn tick(&mut self, now: u64) {
+        self.last_tick = now;
+        self.readings.collect_all(
+            self.alloc,
+            &mut self.agent,
+            &mut self.watched,
+            &mut self.metrics,
+            now,
+        );
+        let is_met = self.meet_if_due(now);
+        self.probe_if_due(now);
+        if is_met {
+            self.readings
+                .tick_all(&self.watched, &mut self.metrics, now);
+        }
+        self.readings.ask_all(
+            self.alloc,
+            &mut self.agent,
+            &mut self.watched,
+            &mut self.metrics,
+            now,
+        );
+        self.readings.end_all(&self.watched, &mut self.metrics, now);
+        self.metrics.take_calls(&self.watched);
+    }
+
+    /// Meets threads, if that is due or there is news. False if it could not, since the roster is in use.
+    fn meet_if_due(&mut self, now: u64) -> bool {
+        let is_due = now >= self.next_meeting;
+        if !self.agent.has_news() && !is_due {
+            return true;
+        }
+        let is_met = self.meet();
+        self.next_meeting = now.saturating_add(if is_met { LOOK } else { SOON });
+        is_met
+    }
+
+    /// Meets the threads that came, counts the events, and lets go of threads that were given back. False if the roster is in use.
+    fn meet(&mut self) -> bool {
+        let enabled = self.agent.set_event_notification_mode_now(true);
+        let met = self.agent.meet_now(self.alloc);
+        let first = count_events(&mut self.agent, &mut self.metrics);
+        let watched = watch_new(self.alloc, &mut self.agent, &mut self.watched);
+        if met.is_ok() && !self.has_met {
+            count_earlier(&self.watched, first, &mut self.metrics);
+            self.has_met = true;
+        }
+        let_go_of_ended(&mut self.agent, &mut self.watched);
+        if self.readings.running.is_empty() {
+            self.watched.retain(|one: &Watched| !one.gone);
+        }
+        enabled.is_ok() && met != Err(TiError::Busy) && watched
+    }
+
+    /// Probes the states of all threads, if that is due.
+    fn probe_if_due(&mut self, now: u64) {
+        if now < self.next_probe {
+            return;
+        }
+        for one in self.watched.iter_mut() {
+            if !one.gone {
+                let _as_before = probe(self.alloc, &mut self.agent, one);
+            }
+        }
+        let passed = now.saturating_sub(self.last_probe);
+        self.metrics.take_states(&self.watched, passed);
+        self.last_probe = now;
+        self.next_probe = now.saturating_add(LOOK);
+    }
 
     /// When `tick` has something to do next.
-    pub fn deadline(&self) -> u64;
+    pub fn deadline(&self) -> u64 {
+        let look = self.next_meeting.min(self.next_probe);
+        let due = look.min(self.readings.due());
+        if self.readings.wait() {
+            due.min(self.last_tick.saturating_add(SOON))
+        } else {
+            due
+        }
+    }
 
     /// Whether a reading has ended, so that `take` gives it.
-    pub fn has_ended(&self, reading: ReadingNo) -> bool;
+    pub fn has_ended(&self, reading: ReadingNo) -> bool
+        ensures { result ≡ has_ended (reading_in self.now.readings.running.items reading) }
+    {
+        match self.readings.place_of(reading) {
+            Some(place) => self.readings.running[place].has_ended(),
+            None => false,
+        }
+    }
 
-    /// Ends a reading now, with what is there.
-    pub fn hurry(&mut self, reading: ReadingNo, now: u64);
+    /// Ends a reading now, with what is there. Nothing happens if it has ended, or if there is no such reading.
+    pub fn hurry(&mut self, reading: ReadingNo, now: u64) {
+        if let Some(place) = self.readings.place_of(reading) {
+            end(
+                &mut self.readings.running[place],
+                &self.watched,
+                &mut self.metrics,
+                now,
+            );
+        }
+    }
 
     /// What was read, if the reading has ended. `None` while it goes on, and if there is no such reading. The error is lack of memory
     /// for the names; then the reading stays.
-    pub fn take(&mut self, reading: ReadingNo) -> Result<Option<Reading>, TiError>;
+    pub fn take(&mut self, reading: ReadingNo) -> Result<Option<Reading>, TiError>
+        ensures counts { IfOk result (λ t. IfSome t (λ r. AreCountsOf (reading_in self.old.readings.running.items reading) r.counts)) }
+        ensures none { IfOk result (λ t. IfNone t (has_ended (reading_in self.old.readings.running.items reading) ≡ false)) }
+        ensures memory { IfErr result (λ e. e ≡ OutOfMemory) }
+        ensures kept { OnErr result (self.new.readings.running.items ≡ self.old.readings.running.items) }
+    {
+        let Some(place) = self.readings.place_of(reading) else {
+            return Ok(None);
+        };
+        if !self.readings.running[place].has_ended() {
+            return Ok(None);
+        }
+        let names = names_of(
+            self.alloc,
+            &mut self.agent,
+            &self.readings.methods,
+            &self.watched,
+        )?;
+        let seen = seen_of(self.alloc, &self.watched)?;
+        let about = about_of(
+            self.alloc,
+            self.program.as_str(),
+            &self.readings.running[place],
+        )?;
+        let counts = self.readings.running.remove(place).into_counts();
+        Ok(Some(Reading {
+            counts,
+            names,
+            about,
+            seen,
+        }))
+    }
 
-    /// Gives a reading up.
-    pub fn forget(&mut self, reading: ReadingNo);
+    /// Gives a reading up. Nothing happens if there is no such reading.
+    pub fn forget(&mut self, reading: ReadingNo) {
+        if let Some(place) = self.readings.place_of(reading) {
+            self.readings.running.remove(place);
+        }
+    }
 
-    pub fn metrics(&self) -> &Metrics;
+    /// What it has counted since it began.
+    pub fn metrics(&self) -> &Metrics
+        ensures { result.now ≡ self.now.metrics }
+    {
+        &self.metrics
+    }
 
-    /// Disposes of the agent: 215 `Busy` and 110 as `ServiceTries::dispose_now`, then the monitor comes back.
-    pub fn end(self) -> Result<Service, (TiError, Monitor)>;
+    /// Disposes of the agent: 215 `Busy` and 110 as `ServiceTries::dispose_now`, then the monitor comes back. Calls that are out are
+    /// given up.
+    pub fn end(self) -> Result<Service, (TiError, Monitor)> {
+        let mut rest = self;
+        let alloc = rest.alloc;
+        match rest.agent.dispose_now(alloc) {
+            Ok(service) => Ok(service),
+            Err((error, agent)) => {
+                rest.agent = agent;
+                Err((error, rest))
+            }
+        }
+    }
 }
+
+ghost use Rattle.std.specs.Prelude.{◌≡◌, ◌+◌, ◌⊎◌, false, IfOk, IfErr, IfSome, IfNone, OnErr};
+ghost use Rattle.ti_types.specs.declared.error.TiError.TheVariants.{Full, OutOfMemory};
+ghost use Rattle.ti_monitor.specs.Monitors.{AreCountsOf, Begins, HasNoRoom, has_ended, reading_in};

@@ -1,0 +1,53 @@
+-- Accounts of the stacks that are counted and owed.
+use Rattle.std.specs.Prelude.{ℕ, zero, suc, ◌≡◌, ◌+◌, ◌-◌, List, [], ◌∷◌, ◌++◌, get_or, min, slice_set}
+use Rattle.ti_pprof.specs.declared.stacks.Frame.{Frame}
+use Rattle.ti_monitor.specs.declared.account.Account.{Account}
+use Rattle.ti_monitor.specs.declared.label.Label.{Label}
+use Rattle.ti_monitor.specs.Counting.{PutsFrame, PutsStack}
+
+-- how many stacks are owed at a place
+abbrev pub owed_at : Account → ℕ → ℕ
+owed_at a place = get_or a.owed.items place 0
+
+-- one more stack is owed at a place
+abbrev pub TicksAt : Account → Account → ℕ → Type 0
+TicksAt old new place =
+    (new.owed.items ≡ slice_set old.owed.items place (owed_at old place + 1))
+    × (new.thread_ticks ≡ old.thread_ticks + 1)
+    × (new.counts ≡ old.counts) × (new.at_once ≡ old.at_once) × (new.late ≡ old.late) × (new.unanswered ≡ old.unanswered)
+
+-- nothing is owed at a place any more
+abbrev pub Pays : Account → Account → ℕ → Type 0
+Pays old new place = (new.owed.items ≡ slice_set old.owed.items place 0) × (new.thread_ticks ≡ old.thread_ticks)
+
+-- the stack of a place is there: it is counted once for the newest tick, and with the frame `(late)` for each before it
+abbrev pub Answers : Account → Account → ℕ → List Frame → List Frame → Label → Type 0
+Answers old new place frames late l =
+    PutsStack old.counts new.counts frames late l (owed_at old place)
+    × Pays old new place
+    × (new.at_once ≡ old.at_once + min (owed_at old place) 1) × (new.late ≡ old.late + (owed_at old place - 1)) × (new.unanswered ≡ old.unanswered)
+
+-- what is owed at a place is counted under one frame
+abbrev pub Loses : Account → Account → ℕ → Frame → Label → Type 0
+Loses old new place f l =
+    PutsFrame old.counts new.counts f l (owed_at old place)
+    × Pays old new place
+    × (new.at_once ≡ old.at_once) × (new.late ≡ old.late) × (new.unanswered ≡ old.unanswered + owed_at old place)
+
+-- what is owed at the first places is counted under one frame, one place after the other; `labels` gives each place its label
+abbrev pub LosesUpTo : Account → Account → ℕ → Frame → (ℕ → Label) → Type 0
+LosesUpTo old new zero f labels = new ≡ old
+LosesUpTo old new (suc place) f labels =
+    (between : Account) × LosesUpTo old between place f labels × Loses between new place f (labels place)
+
+-- one more place, at which nothing is owed
+abbrev pub Widens : Account → Account → Type 0
+Widens old new =
+    (new.owed.items ≡ old.owed.items ++ 0 ∷ []) × (new.thread_ticks ≡ old.thread_ticks)
+    × (new.counts ≡ old.counts) × (new.at_once ≡ old.at_once) × (new.late ≡ old.late) × (new.unanswered ≡ old.unanswered)
+
+-- nothing has changed but the room for places
+abbrev pub IsSame : Account → Account → Type 0
+IsSame old new =
+    (new.owed.items ≡ old.owed.items) × (new.thread_ticks ≡ old.thread_ticks)
+    × (new.counts ≡ old.counts) × (new.at_once ≡ old.at_once) × (new.late ≡ old.late) × (new.unanswered ≡ old.unanswered)

@@ -1,0 +1,11 @@
+pub mod States
+pub mod Histograms
+pub mod Schedules
+pub mod Labels
+pub mod Watching
+pub mod Lines
+pub mod Counting
+pub mod Accounts
+pub mod Runs
+pub mod Orders
+pub mod Monitors

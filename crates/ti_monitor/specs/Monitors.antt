@@ -1,0 +1,39 @@
+-- The readings of a monitor.
+use Rattle.std.specs.Prelude.{ℕ, ◌≡◌, ◌≤◌, ◌⊎◌, ◌==◌, Bool, true, false, List, [], ◌∷◌, ◌++◌, Option, Some, None, is_some, length, if◌then◌else◌}
+use Rattle.std.specs.List.{sum_by}
+use Rattle.ti_pprof.specs.declared.counting.Counts.{Counts}
+use Rattle.ti_monitor.specs.declared.monitor.ReadingNo.{ReadingNo}
+use Rattle.ti_monitor.specs.declared.reading.Order.{Order}
+use Rattle.ti_monitor.specs.declared.running.Running.{Running}
+use Rattle.ti_monitor.specs.Orders.{profile_count}
+
+-- the reading of a number, if there is one
+abbrev pub reading_in : List Running → ReadingNo → Option Running
+reading_in [] number = None
+reading_in (r ∷ readings) number = if r.no.0 == number.0 then Some r else reading_in readings number
+
+-- whether a reading is there and has ended
+abbrev pub has_ended : Option Running → Bool
+has_ended None = false
+has_ended (Some r) = is_some r.ended
+
+-- these are the counts of a reading that has ended: all that was owed is counted
+abbrev pub AreCountsOf : Option Running → Counts → Type 0
+AreCountsOf None counts = has_ended None ≡ true
+AreCountsOf (Some r) counts = (is_some r.ended ≡ true) × (counts ≡ r.account.counts) × (counts.total ≡ r.account.thread_ticks)
+
+-- how many of the readings are profiles
+abbrev pub profiles_in : List Running → ℕ
+profiles_in readings = sum_by (λ (r : Running). profile_count r.order) readings
+
+-- there is no room for one more reading: sixteen are there, or it is a profile and two of them are there
+abbrev pub IsFull : List Running → Order → Type 0
+IsFull readings order = (16 ≤ length readings) ⊎ ((profile_count order ≡ 1) × (2 ≤ profiles_in readings))
+
+-- there is no room, or no number is left
+abbrev pub HasNoRoom : List Running → ℕ → Order → Type 0
+HasNoRoom readings begun order = IsFull readings order ⊎ (begun ≡ 18446744073709551615)
+
+-- one more reading was begun, behind the others
+abbrev pub Begins : List Running → List Running → ReadingNo → Order → Type 0
+Begins old new number order = (r : Running) × (new ≡ old ++ r ∷ []) × (r.no ≡ number) × (r.order ≡ order)

@@ -1,0 +1,18 @@
+-- The threads that were met.
+use Rattle.std.specs.Prelude.{ℕ, ◌+◌, List, Option, Some, None, min, slice_get, if◌then◌else◌}
+use Rattle.ti_http.specs.declared.target.Labels.{Labels}
+use Rattle.ti_monitor.specs.declared.label.Label.{Label}
+use Rattle.ti_monitor.specs.declared.watched.Watched.{Watched}
+use Rattle.ti_monitor.specs.Labels.{label, label_only}
+
+-- the place of a thread's state among the names of states
+abbrev pub named_state : Watched → ℕ
+named_state w = w.state + (if w.suspended then 9 else 0)
+
+-- what the samples of the thread at a place are counted under
+abbrev pub label_for : Option Watched → Labels → ℕ → Label
+label_for None kept place = label 4294967295 4294967295
+label_for (Some w) kept place = label_only kept (label (min place 4294967295) (named_state w))
+
+abbrev pub label_at : List Watched → Labels → ℕ → Label
+label_at watched kept place = label_for (slice_get watched place) kept place

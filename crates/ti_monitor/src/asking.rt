@@ -1,0 +1,108 @@
+//! What a thread is asked.
+
+use crate::metrics::Histogram;
+use crate::watched::{Out, Watched};
+use std::alloc::Global;
+use ti_service::Agent;
+use ti_slot::Asked;
+use ti_types::{Answer, Call, TiError, TraceBuf};
+
+/// How many frames of a stack are read at most.
+pub(crate) const DEPTH: usize = 512;
+
+/// The trace that is asked for: the newest frames.
+const TRACE: Call = Call::Trace {
+    start: 0,
+    max_count: 512,
+};
+
+/// What a thread told of its stack.
+#[derive(Drop)]
+pub(crate) enum Told {
+    Stack(TraceBuf),
+    /// It has ended.
+    Ended,
+    /// It was refused for another reason.
+    Unanswered,
+    /// It has not answered yet, or could not be asked yet.
+    NotYet,
+}
+
+/// What an answer to a trace tells.
+fn told_by(answer: Answer) -> Told {
+    match answer {
+        Answer::Trace(trace) => Told::Stack(trace),
+        Answer::Refused(error) => refused_by(error),
+        _ => Told::Unanswered,
+    }
+}
+
+/// What a refusal of a trace tells.
+fn refused_by(error: TiError) -> Told {
+    match error {
+        TiError::ThreadNotAlive => Told::Ended,
+        TiError::Busy => Told::NotYet,
+        _ => Told::Unanswered,
+    }
+}
+
+/// Asks a thread for its state. The errors are those of `Agent::post_now`, and the thread's own. Then nothing is known that was not
+/// known before.
+pub(crate) fn probe(
+    alloc: Global,
+    agent: &mut Agent,
+    watched: &mut Watched,
+) -> Result<(), TiError> {
+    match agent.post_now(alloc, watched.thread, Call::State)? {
+        Asked::Answered(Answer::State(bits)) => {
+            watched.see(bits);
+            Ok(())
+        }
+        Asked::Answered(Answer::Refused(error)) => Err(error),
+        _ => Err(TiError::Busy),
+    }
+}
+
+/// Asks a thread at which no call is out for its state and its stack. One that has not started has no frames.
+pub(crate) fn ask(alloc: Global, agent: &mut Agent, watched: &mut Watched, now: u64) -> Told {
+    if watched.gone {
+        return Told::Ended;
+    }
+    if let Err(error) = probe(alloc, agent, watched) {
+        return refused_by(error);
+    }
+    if watched.has_ended() {
+        return Told::Ended;
+    }
+    if watched.is_new() {
+        return Told::Stack(TraceBuf::none());
+    }
+    match agent.post_now(alloc, watched.thread, TRACE) {
+        Ok(Asked::Answered(answer)) => told_by(answer),
+        Ok(Asked::Waiting(ticket)) => {
+            watched.out = Some(Out { ticket, since: now });
+            Told::NotYet
+        }
+        Err(error) => refused_by(error),
+    }
+}
+
+/// Collects the answer to the call that is out at a thread.
+pub(crate) fn collect(
+    agent: &mut Agent,
+    watched: &mut Watched,
+    answers: &mut Histogram,
+    now: u64,
+) -> Told {
+    let Some(out) = watched.out else {
+        return Told::NotYet;
+    };
+    match agent.collect_now(out.ticket) {
+        Ok(Some(answer)) => {
+            watched.out = None;
+            answers.add(now.saturating_sub(out.since));
+            told_by(answer)
+        }
+        Ok(None) | Err(_) => Told::NotYet,
+    }
+}

@@ -1,0 +1,222 @@
+//! A reading that goes on, or has ended and was not taken yet.
+
+use crate::account::Account;
+use crate::label::label_at;
+use crate::monitor::ReadingNo;
+use crate::reading::Order;
+use crate::schedule::Schedule;
+use crate::stack::{Stack, bare};
+use crate::watched::Watched;
+use std::alloc::{AllocError, Global};
+use ti_http::Labels;
+use ti_pprof::Counts;
+
+/// How long the stacks of the last tick may take, in nanoseconds.
+const PATIENCE: u64 = 50_000_000;
+
+/// The nanoseconds of a second.
+const SECOND: u64 = 1_000_000_000;
+
+/// A reading that goes on, or has ended.
+#[derive(Drop)]
+pub(crate) struct Running {
+    pub(crate) no: ReadingNo,
+    pub(crate) order: Order,
+    /// When it began, in nanoseconds, and in nanoseconds since 1970.
+    pub(crate) began: u64,
+    pub(crate) unix: u64,
+    /// When its last tick has come.
+    over: u64,
+    /// When it ended.
+    ended: Option<u64>,
+    schedule: Schedule,
+    account: Account,
+    ghost period: { 0 < schedule.period },
+    ghost bounded: { schedule.ticks + (schedule.missed + schedule.left) < 2 ^ 32 },
+    ghost settled: { is_some ended ≡ true → account.counts.total ≡ account.thread_ticks },
+}
+
+/// The nanoseconds between two ticks, how many ticks there are, and the nanoseconds that they take.
+#[tactic(auto, using(crate::proofs::Sums::count_within))]
+fn plan(order: Order) -> (u64, u32, u64)
+    ensures { result.1 ≤ 300000 }
+{
+    match order {
+        Order::Once => (1, 1, 0),
+        Order::Over { seconds, rate, .. } => {
+            let seconds = seconds.clamp(1, 300);
+            let rate = rate.clamp(1, 1_000);
+            let count = u32::from(seconds) * u32::from(rate);
+            (SECOND / u64::from(rate), count, u64::from(seconds) * SECOND)
+        }
+    }
+}
+
+/// Whether a reading over some seconds is asked for.
+pub(crate) fn is_profile(order: Order) -> bool
+    ensures { OnTrue result (profile_count order ≡ 1) × OnFalse result (profile_count order ≡ 0) }
+{
+    match order {
+        Order::Once => false,
+        Order::Over { .. } => true,
+    }
+}
+
+impl Running {
+    /// A reading that begins now. The error is lack of memory.
+    pub(crate) fn new(
+        alloc: Global,
+        no: ReadingNo,
+        order: Order,
+        now: u64,
+        unix: u64,
+    ) -> Result<Running, AllocError>
+        ensures no { IfOk result (λ r. r.no ≡ no) }
+        ensures order { IfOk result (λ r. r.order ≡ order) }
+    {
+        let (period, count, length) = plan(order);
+        Ok(Running {
+            no,
+            order,
+            began: now,
+            unix,
+            over: now.saturating_add(length),
+            ended: None,
+            schedule: Schedule::new(now, period, count),
+            account: Account::new(alloc)?,
+        })
+    }
+
+    /// Which labels its samples have.
+    fn labels(&self) -> Labels {
+        match self.order {
+            Order::Once => Labels::ThreadAndState,
+            Order::Over { labels, .. } => labels,
+        }
+    }
+
+    /// The nanoseconds between two samples, for the reader. A single one takes one.
+    pub(crate) fn period(&self) -> u64 {
+        self.schedule.period
+    }
+
+    /// Whether it has ended.
+    pub(crate) fn has_ended(&self) -> bool
+        ensures { result ≡ is_some self.now.ended }
+    {
+        self.ended.is_some()
+    }
+
+    /// How long it took, in nanoseconds.
+    pub(crate) fn duration(&self) -> u64 {
+        self.ended.unwrap_or(self.began).saturating_sub(self.began)
+    }
+
+    /// What it counted.
+    pub(crate) fn account(&self) -> &Account {
+        &self.account
+    }
+
+    /// How many ticks were taken.
+    pub(crate) fn ticks(&self) -> u32 {
+        self.schedule.ticks
+    }
+
+    /// How many ticks came too late.
+    pub(crate) fn missed(&self) -> u32 {
+        self.schedule.missed
+    }
+
+    /// When it has something to do next.
+    pub(crate) fn due(&self) -> u64 {
+        if self.has_ended() {
+            u64::MAX
+        } else if self.schedule.left > 0 {
+            self.schedule.next
+        } else if self.account.outstanding() == 0 {
+            self.over
+        } else {
+            self.over.saturating_add(PATIENCE)
+        }
+    }
+
+    /// Whether stacks are owed.
+    pub(crate) fn waits(&self) -> bool {
+        !self.has_ended() && self.account.outstanding() > 0
+    }
+
+    /// Whether a stack of the thread at a place is owed.
+    pub(crate) fn waits_for(&self, place: usize) -> bool {
+        !self.has_ended() && self.account.owed_at(place) > 0
+    }
+
+    /// Ticks, if that is due. It gives whether it does.
+    pub(crate) fn tick(&mut self, watched: &[Watched], now: u64) -> bool {
+        if self.has_ended() || !self.schedule.take(now) {
+            return false;
+        }
+        tick_at_all(&mut self.account, watched);
+        true
+    }
+
+    /// Counts the stack of a place as often as it is owed. It gives how often that was.
+    pub(crate) fn answer(&mut self, place: usize, stack: &Stack, watched: &[Watched]) -> u64 {
+        if self.has_ended() {
+            return 0;
+        }
+        let label = label_at(watched, place, self.labels());
+        self.account.answer(place, stack, label)
+    }
+
+    /// Counts the frame of a function as often as stacks are owed at a place. It gives how often that was.
+    pub(crate) fn lose(&mut self, place: usize, function: u32, watched: &[Watched]) -> u64 {
+        if self.has_ended() {
+            return 0;
+        }
+        let label = label_at(watched, place, self.labels());
+        self.account.lose(place, bare(function), label)
+    }
+
+    /// Whether it is to end: its time has passed, and no stack is owed, or the patience is over.
+    pub(crate) fn is_over(&self, now: u64) -> bool {
+        let is_done = self.schedule.left == 0 && self.account.outstanding() == 0;
+        let is_late = now >= self.over.saturating_add(PATIENCE);
+        !self.has_ended() && now >= self.over && (is_done || is_late)
+    }
+
+    /// Ends it with what is there. It gives how many stacks were owed.
+    pub(crate) fn end(&mut self, watched: &[Watched], now: u64) -> u64 {
+        if self.has_ended() {
+            return 0;
+        }
+        self.schedule.close();
+        let kept = self.labels();
+        let owed = self.account.settle(watched, kept);
+        self.ended = Some(now);
+        owed
+    }
+
+    /// What was counted.
+    pub(crate) fn into_counts(self) -> Counts
+        ensures counts { result ≡ self.account.counts }
+        ensures all { is_some self.ended ≡ true → result.total ≡ self.account.thread_ticks }
+    {
+        self.account.into_counts()
+    }
+}
+
+/// One more stack is owed of each thread that is there.
+fn tick_at_all(account: &mut Account, watched: &[Watched]) {
+    for place in 0..watched.len() {
+        if place >= account.places() && account.widen().is_err() {
+            return;
+        }
+        if !watched[place].has_ended() {
+            account.tick_at(place);
+        }
+    }
+}
+
+ghost use Rattle.std.specs.Prelude.{◌≡◌, ◌<◌, ◌≤◌, ◌+◌, ◌^◌, true, is_some, IfOk};
+ghost use Rattle.std.specs.Bool.{OnTrue, OnFalse};
+ghost use Rattle.ti_monitor.specs.Orders.{profile_count};

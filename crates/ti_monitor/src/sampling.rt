@@ -1,0 +1,250 @@
+//! What the readings are told of a thread.
+
+use crate::asking::{DEPTH, Told, ask, collect};
+use crate::methods::Methods;
+use crate::metrics::Metrics;
+use crate::monitor::ReadingNo;
+use crate::reading::Order;
+use crate::running::{Running, is_profile};
+use crate::stack::{ENDED, Stack, UNANSWERED};
+use crate::watched::Watched;
+use std::alloc::{AllocError, Global};
+use ti_service::Agent;
+use ti_types::Frame;
+
+/// How many profiles and readings there are at most.
+const MOST_PROFILES: usize = 2;
+
+const MOST_READINGS: usize = 16;
+
+/// The readings with all that they share.
+#[derive(Drop)]
+pub(crate) struct Readings {
+    pub(crate) running: Vec<Running>,
+    pub(crate) methods: Methods,
+    pub(crate) stack: Stack,
+}
+
+impl Readings {
+    /// None.
+    pub(crate) fn new(alloc: Global) -> Readings {
+        Readings {
+            running: Vec::new(alloc),
+            methods: Methods::new(alloc),
+            stack: Stack::new(alloc),
+        }
+    }
+
+    /// Whether one of them is owed a stack of the thread at a place.
+    fn wait_for(&self, place: usize) -> bool {
+        for reading in &self.running {
+            if reading.waits_for(place) {
+                return true;
+            }
+        }
+        false
+    }
+
+    /// Whether one of them is owed a stack.
+    pub(crate) fn wait(&self) -> bool {
+        for reading in &self.running {
+            if reading.waits() {
+                return true;
+            }
+        }
+        false
+    }
+
+    /// Takes the frames of a stack. The error is lack of memory.
+    fn take(
+        &mut self,
+        alloc: Global,
+        agent: &mut Agent,
+        frames: &[Frame],
+    ) -> Result<(), AllocError> {
+        self.stack.begin()?;
+        for frame in frames {
+            self.stack
+                .push(self.methods.frame_of(alloc, agent, *frame))?;
+        }
+        Ok(())
+    }
+
+    /// The stack that was taken is that of the thread at a place.
+    fn answer(&mut self, place: usize, watched: &[Watched], metrics: &mut Metrics) {
+        for reading in self.running.iter_mut() {
+            let owed = reading.answer(place, &self.stack, watched);
+            metrics.at_once = metrics.at_once.saturating_add(owed.min(1));
+            metrics.late = metrics.late.saturating_add(owed.saturating_sub(1));
+        }
+    }
+
+    /// No stack of the thread at a place comes.
+    fn lose(&mut self, place: usize, function: u32, watched: &[Watched], metrics: &mut Metrics) {
+        for reading in self.running.iter_mut() {
+            let owed = reading.lose(place, function, watched);
+            metrics.unanswered = metrics.unanswered.saturating_add(owed);
+        }
+    }
+
+    /// The thread at a place has told something of its stack.
+    fn tell(
+        &mut self,
+        alloc: Global,
+        agent: &mut Agent,
+        place: usize,
+        told: Told,
+        watched: &[Watched],
+        metrics: &mut Metrics,
+    ) {
+        match told {
+            Told::NotYet => (),
+            Told::Ended => self.lose(place, ENDED, watched, metrics),
+            Told::Unanswered => self.lose(place, UNANSWERED, watched, metrics),
+            Told::Stack(trace) => match self.take(alloc, agent, trace.frames()) {
+                Ok(()) => self.answer(place, watched, metrics),
+                Err(_) => self.lose(place, UNANSWERED, watched, metrics),
+            },
+        }
+    }
+
+    /// Collects the answers to calls that are out.
+    pub(crate) fn collect_all(
+        &mut self,
+        alloc: Global,
+        agent: &mut Agent,
+        watched: &mut [Watched],
+        metrics: &mut Metrics,
+        now: u64,
+    ) {
+        for place in 0..watched.len() {
+            let told = collect(agent, &mut watched[place], &mut metrics.answers, now);
+            self.tell(alloc, agent, place, told, watched, metrics);
+        }
+    }
+
+    /// Ticks each reading whose tick is due.
+    pub(crate) fn tick_all(&mut self, watched: &[Watched], metrics: &mut Metrics, now: u64) {
+        for reading in self.running.iter_mut() {
+            let missed = reading.missed();
+            if reading.tick(watched, now) {
+                let more = reading.missed().saturating_sub(missed);
+                metrics.ticks = metrics.ticks.saturating_add(1);
+                metrics.missed = metrics.missed.saturating_add(u64::from(more));
+            }
+        }
+    }
+
+    /// Asks each thread of which a stack is owed, and at which no call is out.
+    pub(crate) fn ask_all(
+        &mut self,
+        alloc: Global,
+        agent: &mut Agent,
+        watched: &mut [Watched],
+        metrics: &mut Metrics,
+        now: u64,
+    ) {
+        for place in 0..watched.len() {
+            if is_free(watched, place) && self.wait_for(place) {
+                let told = ask(alloc, agent, &mut watched[place], now);
+                self.tell(alloc, agent, place, told, watched, metrics);
+            }
+        }
+    }
+
+    /// Ends each reading that is over.
+    pub(crate) fn end_all(&mut self, watched: &[Watched], metrics: &mut Metrics, now: u64) {
+        for reading in self.running.iter_mut() {
+            if reading.is_over(now) {
+                end(reading, watched, metrics, now);
+            }
+        }
+    }
+
+    /// The place of a reading. `None` if there is none of this number.
+    pub(crate) fn place_of(&self, no: ReadingNo) -> Option<usize>
+        ensures found { IfSome result (λ place. slice_get self.now.running.items place ≡ reading_in self.now.running.items no) }
+        ensures within { IfSome result (λ place. place < length self.now.running.items) }
+        ensures none { IfNone result (reading_in self.now.running.items no ≡ None) }
+    {
+        for place in 0..self.running.len() {
+            if self.running[place].no.0 == no.0 {
+                return Some(place);
+            }
+        }
+        None
+    }
+
+    /// How many of them are profiles.
+    fn profiles(&self) -> usize
+        ensures { result ≡ profiles_in self.now.running.items }
+    {
+        let mut profiles: usize = 0;
+        for reading in &self.running {
+            if is_profile(reading.order) {
+                profiles += 1;
+            }
+        }
+        profiles
+    }
+
+    /// Whether there is room for one more.
+    pub(crate) fn have_room(&self, order: Order) -> bool
+        ensures { OnFalse result (IsFull self.now.running.items order) }
+    {
+        if self.running.len() >= MOST_READINGS {
+            return false;
+        }
+        !is_profile(order) || self.profiles() < MOST_PROFILES
+    }
+
+    /// Adds one that begins now. The error is lack of memory. Then the others stay.
+    pub(crate) fn add(
+        &mut self,
+        alloc: Global,
+        no: ReadingNo,
+        order: Order,
+        now: u64,
+        unix: u64,
+    ) -> Result<(), AllocError>
+        ensures begun { OnOk result (Begins self.old.running.items self.new.running.items no order) }
+        ensures kept { OnErr result (self.new.running.items ≡ self.old.running.items) }
+    {
+        self.methods.begin(self.running.is_empty());
+        self.stack.reserve(DEPTH + 1)?;
+        self.running.reserve(1)?;
+        let reading = Running::new(alloc, no, order, now, unix)?;
+        self.running.push_reserved(reading);
+        Ok(())
+    }
+
+    /// When one of them has something to do next.
+    pub(crate) fn due(&self) -> u64 {
+        let mut due = u64::MAX;
+        for reading in &self.running {
+            due = due.min(reading.due());
+        }
+        due
+    }
+}
+
+/// Whether no call is out at the thread at a place.
+fn is_free(watched: &[Watched], place: usize) -> bool {
+    match watched.get(place) {
+        Some(one) => one.out.is_none(),
+        None => false,
+    }
+}
+
+/// Ends a reading with what is there.
+pub(crate) fn end(reading: &mut Running, watched: &[Watched], metrics: &mut Metrics, now: u64) {
+    let missed = reading.missed();
+    let owed = reading.end(watched, now);
+    let more = reading.missed().saturating_sub(missed);
+    metrics.missed = metrics.missed.saturating_add(u64::from(more));
+    metrics.unanswered = metrics.unanswered.saturating_add(owed);
+}
+
+ghost use Rattle.std.specs.Prelude.{◌≡◌, ◌<◌, None, length, slice_get, IfSome, IfNone, OnOk, OnErr};
+ghost use Rattle.std.specs.Bool.{OnFalse};
+ghost use Rattle.ti_monitor.specs.Monitors.{Begins, IsFull, profiles_in, reading_in};

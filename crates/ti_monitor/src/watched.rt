@@ -1,0 +1,83 @@
+//! The threads that were met.
+
+use crate::state::{STATES, is_suspended, state_place};
+use ti_types::{ThreadNo, Ticket};
+
+/// A call that was posted and not collected.
+#[derive(Clone, Copy, Debug, PartialEq, Eq)]
+pub(crate) struct Out {
+    pub(crate) ticket: Ticket,
+    /// When it was posted.
+    pub(crate) since: u64,
+}
+
+/// A thread that was met.
+#[derive(Drop)]
+pub(crate) struct Watched {
+    pub(crate) thread: ThreadNo,
+    pub(crate) name: String,
+    pub(crate) priority: i32,
+    /// The call that is out there, if there is one.
+    pub(crate) out: Option<Out>,
+    /// Whether it was let go of. Then it is asked nothing more.
+    pub(crate) gone: bool,
+    /// The place of its state when it was last seen, below 9.
+    state: usize,
+    suspended: bool,
+    ghost within: { state < 9 },
+}
+
+impl Watched {
+    ghost use Rattle.std.specs.Prelude.{◌≡◌};
+    ghost use Rattle.ti_monitor.specs.Watching.{named_state};
+
+    /// A thread that was just met.
+    pub(crate) fn new(thread: ThreadNo, name: String, priority: i32) -> Watched {
+        Watched {
+            thread,
+            name,
+            priority,
+            out: None,
+            gone: false,
+            state: 0,
+            suspended: false,
+        }
+    }
+
+    /// Takes the bits of its state.
+    pub(crate) fn see(&mut self, bits: u32) {
+        self.state = state_place(bits);
+        self.suspended = is_suspended(bits);
+    }
+
+    /// The place of its state.
+    pub(crate) fn state(&self) -> usize
+        ensures { result < 9 }
+    {
+        self.state
+    }
+
+    pub(crate) fn is_suspended(&self) -> bool {
+        self.suspended
+    }
+
+    /// Whether it has not started.
+    pub(crate) fn is_new(&self) -> bool {
+        self.state == 0
+    }
+
+    /// Whether it has ended.
+    pub(crate) fn has_ended(&self) -> bool {
+        self.state == STATES - 1 || self.gone
+    }
+
+    /// The place of its state among the names of states, where those of suspended threads come last.
+    pub(crate) fn named_state(&self) -> u32
+        ensures { result ≡ named_state self.now }
+    {
+        let suspended = if self.suspended { STATES as u32 } else { 0 };
+        self.state as u32 + suspended
+    }
+}
+
+ghost use Rattle.std.specs.Prelude.{◌<◌};
