@@ -1,15 +1,10 @@
 -- What lies behind a handle that is full.
-use Rattle.std.proofs.Common.{◌≡◌, Option, Some, None, sym, ap, subst}
+use Rattle.std.proofs.Common.{◌≡◌, Option, Some, None, sym, ap}
 use Rattle.std.proofs.lemmas.Option.{none-some, same_Some}
-use Rattle.std.specs.Option.{IsSomeAnd}
 use Rattle.ti_capi.specs.declared.held.Held.{Held}
 use Rattle.ti_capi.specs.declared.held.Held.TheVariants as held
 use Rattle.ti_capi.specs.declared.held.HeldEnv.{HeldEnv}
 use Rattle.ti_capi.specs.Handles.{Handle, env_in, env_of, with_held_env}
-
--- what is said of the thing in a box is said of it behind the handle that the box was put into
-pub put_there : {X : Type 0} (see : Option Held → Option X) (P : X → Type 0) (o : Option Held) (x : Held) → o ≡ Some x → IsSomeAnd (see (Some x)) P → IsSomeAnd (see o) P
-put_there see P o x is says = subst (λ (p : Option Held). IsSomeAnd (see p) P) (sym is) says
 
 env_is : (o : Option Held) (e : HeldEnv) → env_of o ≡ Some e → Some (held.Env e) ≡ o
 env_is (Some (held.Service m)) e is = absurd (none-some e is)

@@ -2,6 +2,7 @@ mod AsHeld
 mod Over
 mod Behind
 mod Calling
+mod Filling
 mod Ending
 mod Traced
 mod ClassParts

@@ -1,6 +1,6 @@
 -- Traces that are made step by step, behind handles that are full.
 use Rattle.std.proofs.Common.{◌≡◌, ℕ, Bool, true, false, Option, Some, None, Result, Ok, Err, refl, sym, ap, subst, ◌∙◌}
-use Rattle.std.specs.Prelude.{IfErr, IfNone, IfOk, IfSome, OnOk, is_some, not}
+use Rattle.std.specs.Prelude.{IfErr, IfNone, IfOk, IfSome, is_some, not}
 use Rattle.std.specs.Global.{Vec}
 use Rattle.ti_types.specs.TiError.{number_of}
 use Rattle.ti_types.specs.declared.error.TiError.{TiError}
@@ -14,11 +14,6 @@ use Rattle.ti_capi.specs.Handles.{Handle, env_held_tracing, env_held_with, env_i
 -- something happened to what lies behind a handle
 pub worked : (R : HeldEnv → HeldEnv → ℕ → Type 0) (unwritten : Type 0) (old : Handle) (h n : HeldEnv) (code : ℕ) → env_in old ≡ Some h → R h n code → Works R unwritten old (with_held_env old n) code
 worked R unwritten old h n code is says = subst (λ (e : Option HeldEnv). WorksBehind e (Some n) R unwritten old (with_held_env old n) code) (sym is) (refl, says)
-
--- two clauses of what was done are one
-pub both_ok : {V E : Type 0} (P : Type 0) (Q : V → Type 0) (r : Result V E) → OnOk r P → IfOk r Q → IfOk r (λ v. P × Q v)
-both_ok P Q (Ok v) p q = (p, q)
-both_ok P Q (Err e) p q = tt
 
 -- what the agent says of a trace that begins, or does not, is what is said of the box
 pub begun : (B : AgentValue → TraceValue → Type 0) (W : AgentValue → TiError → Type 0) (s : AgentValue) (o : Option AgentValue) (h n : HeldEnv) (code : ℕ) (r : Result TraceValue (TiError × AgentValue)) → h.agent ≡ Some s → o ≡ None → IfOk r (λ t. B s t)

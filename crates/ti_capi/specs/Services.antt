@@ -1,5 +1,5 @@
 -- Handles of the service, and what is attached by them.
-use Rattle.std.specs.Prelude.{IsSomeAnd, IsUtf8, ℕ, ℤ, ◌≡◌, ◌⊎◌, ◌==◌, true, false, List, Option, Some, None}
+use Rattle.std.specs.Prelude.{IsSomeAnd, IsUtf8, ℕ, ℤ, ◌≡◌, ◌⊎◌, ◌==◌, ⊤, true, false, List, Option, Some, None}
 use Rattle.std.specs.String.{string_bytes}
 use Rattle.ti_types.specs.Limits.{IsWithin, most_calls, most_depth, most_own, most_window}
 use Rattle.ti_types.specs.TiError.{number_of}
@@ -14,10 +14,11 @@ use Rattle.ti_service.specs.Agent.{IsNewAgent}
 use Rattle.ti_service.specs.Memberships.{AgentValue, state_of}
 use Rattle.ti_service.specs.Service.{Attaches as AttachesTo, Looks, Member, RefusesPlace, roster_seen, with_handle}
 use Rattle.ti_thread.specs.Hosts.{new_host}
+use Rattle.ti_capi.specs.declared.held.Held.{Held}
 use Rattle.ti_capi.specs.declared.held.HeldEnv.{HeldEnv}
 use Rattle.ti_capi.specs.declared.held.HeldThread.{HeldThread}
 use Rattle.ti_capi.specs.Codes.{misused}
-use Rattle.ti_capi.specs.Handles.{Handle, env_in, service_in, thread_in, with_service}
+use Rattle.ti_capi.specs.Handles.{Handle, env_of, service_in, service_of, thread_of, with_service}
 
 -- the numbers are within their ranges
 abbrev pub AreInRange : ℕ → ℕ → ℕ → Type 0
@@ -37,13 +38,23 @@ abbrev pub LimitsOf : ℕ → ℕ → ℕ → Option Limits → Type 0
 LimitsOf depth envs window (Some l) = AreInRange depth envs window × AreLimitsOf depth envs window l
 LimitsOf depth envs window None = AreInRange depth envs window → ⊥
 
--- a service is made behind an empty handle, or why it is not, and the handle is as it was
-pub data Makes (depth envs window : ℕ) (old new : Handle) (code : ℕ) : Type 0 where
-  MakeFull : code ≡ misused → (old.kind == 0) ≡ false → new ≡ old → Makes depth envs window old new code
-  MakeOutOfRange : code ≡ number_of IllegalArgument → (old.kind == 0) ≡ true → (AreInRange depth envs window → ⊥) → new ≡ old → Makes depth envs window old new code
-  MakeNoMemory : code ≡ number_of OutOfMemory → (old.kind == 0) ≡ true → AreInRange depth envs window → new ≡ old → Makes depth envs window old new code
-  Made : (l : Limits) → code ≡ 0 → (old.kind == 0) ≡ true → AreInRange depth envs window → AreLimitsOf depth envs window l
-      → IsSomeAnd (service_in new) (λ m. m.view ≡ first_view l) → Makes depth envs window old new code
+-- What becomes of a handle that is to be filled. If it is full, nothing changes at all. If nothing is made, it is as it was, and
+-- the code tells why. Else this is behind it
+pub data Fills (Same : Type 0) (Made : Option Held → Type 0) (Refused : TiError → Type 0) (old new : Handle) (code : ℕ) : Type 0 where
+  FillFull : code ≡ misused → (old.kind == 0) ≡ false → new ≡ old → Same → Fills Same Made Refused old new code
+  FillRefused : (e : TiError) → code ≡ number_of e → (old.kind == 0) ≡ true → new ≡ old → Refused e → Fills Same Made Refused old new code
+  Filled : code ≡ 0 → (old.kind == 0) ≡ true → Made new.place.held → Fills Same Made Refused old new code
+
+-- a service with these limits
+abbrev pub HasService : ℕ → ℕ → ℕ → Option Held → Type 0
+HasService depth envs window held = AreInRange depth envs window × IsSomeAnd (service_of held) (λ m. AreLimitsOf depth envs window m.view.limits × (m.view ≡ first_view m.view.limits))
+
+-- why no service is made: a number is not within its range, or there is no memory
+abbrev pub RefusesService : ℕ → ℕ → ℕ → TiError → Type 0
+RefusesService depth envs window e = ((e ≡ IllegalArgument) × (AreInRange depth envs window → ⊥)) ⊎ ((e ≡ OutOfMemory) × AreInRange depth envs window)
+
+abbrev pub Makes : ℕ → ℕ → ℕ → Handle → Handle → ℕ → Type 0
+Makes depth envs window old new code = Fills ⊤ (HasService depth envs window) (RefusesService depth envs window) old new code
 
 -- one more handle of the same service
 abbrev pub IsShareOf : Member → Member → Type 0
@@ -53,19 +64,21 @@ IsShareOf m s = (s.cell ≡ m.cell) × (s.view ≡ split_off m.view)
 abbrev pub RefusesHandle : Member → Member → TiError → Type 0
 RefusesHandle m n e = ((e ≡ Full) × (n ≡ m)) ⊎ ((e ≡ OutOfMemory) × (n ≡ with_handle m))
 
-pub data SharesFor (m n : Member) (old new : Handle) (code : ℕ) : Type 0 where
-  ShareFull : code ≡ misused → (old.kind == 0) ≡ false → new ≡ old → n ≡ m → SharesFor m n old new code
-  ShareRefused : (e : TiError) → code ≡ number_of e → (old.kind == 0) ≡ true → new ≡ old → RefusesHandle m n e → SharesFor m n old new code
-  Shared : code ≡ 0 → (old.kind == 0) ≡ true → IsSomeAnd (service_in new) (IsShareOf m) → n ≡ with_handle m → SharesFor m n old new code
+-- the other handle
+abbrev pub HasShare : Member → Member → Option Held → Type 0
+HasShare m n held = (n ≡ with_handle m) × IsSomeAnd (service_of held) (IsShareOf m)
 
--- the first handle knows what it knew, and has made one more at most
-abbrev pub SharesBehind : Option Member → Option Member → Handle → Handle → Handle → Handle → ℕ → Type 0
-SharesBehind (Some m) (Some n) old new other0 other1 code = (new ≡ with_service old n) × SharesFor m n other0 other1 code
-SharesBehind (Some m) None old new other0 other1 code = ⊥
-SharesBehind None n old new other0 other1 code = (new ≡ old) × (other1 ≡ other0) × (code ≡ misused)
+abbrev pub SharesFor : Member → Member → Handle → Handle → ℕ → Type 0
+SharesFor m n old new code = Fills (n ≡ m) (HasShare m n) (RefusesHandle m n) old new code
+
+-- A handle of the service is used to fill another. It is still of the same service. If it is none, nothing changes
+abbrev pub FillsBy : (Member → Member → Handle → Handle → ℕ → Type 0) → Option Member → Option Member → Handle → Handle → Handle → Handle → ℕ → Type 0
+FillsBy R (Some m) (Some n) s0 s1 old new code = (s1 ≡ with_service s0 n) × R m n old new code
+FillsBy R (Some m) None s0 s1 old new code = ⊥
+FillsBy R None n s0 s1 old new code = (s1 ≡ s0) × (new ≡ old) × (code ≡ misused)
 
 abbrev pub Shares : Handle → Handle → Handle → Handle → ℕ → Type 0
-Shares old new other0 other1 code = SharesBehind (service_in old) (service_in new) old new other0 other1 code
+Shares s0 s1 old new code = FillsBy SharesFor (service_in s0) (service_in s1) s0 s1 old new code
 
 -- a handle is freed: it is empty
 abbrev pub FreesBehind : Option Member → Handle → Handle → ℕ → Type 0
@@ -101,37 +114,26 @@ RefusesThread name m n e =
     ((e ≡ IllegalArgument) × (IsUtf8 name → ⊥) × (n ≡ m))
     ⊎ (((e ≡ OutOfMemory) × (n ≡ m)) ⊎ (RefusesHandle m n e ⊎ ((n.cell ≡ m.cell) × RefusesComing (with_handle m) n e)))
 
-pub data AttachesFor (name : List ℕ) (priority : ℤ) (m n : Member) (old new : Handle) (code : ℕ) : Type 0 where
-  AttachFull : code ≡ misused → (old.kind == 0) ≡ false → new ≡ old → n ≡ m → AttachesFor name priority m n old new code
-  AttachRefused : (e : TiError) → code ≡ number_of e → (old.kind == 0) ≡ true → new ≡ old → RefusesThread name m n e → AttachesFor name priority m n old new code
-  Attached : code ≡ 0 → (old.kind == 0) ≡ true → IsSomeAnd (thread_in new) (AttachesThread name priority m n) → AttachesFor name priority m n old new code
-
-abbrev pub AttachesBehind : Option Member → Option Member → List ℕ → ℤ → Handle → Handle → Handle → Handle → ℕ → Type 0
-AttachesBehind (Some m) (Some n) name priority s0 s1 old new code = (s1 ≡ with_service s0 n) × AttachesFor name priority m n old new code
-AttachesBehind (Some m) None name priority s0 s1 old new code = ⊥
-AttachesBehind None n name priority s0 s1 old new code = (s1 ≡ s0) × (new ≡ old) × (code ≡ misused)
+abbrev pub AttachesFor : List ℕ → ℤ → Member → Member → Handle → Handle → ℕ → Type 0
+AttachesFor name priority m n old new code = Fills (n ≡ m) (λ held. IsSomeAnd (thread_of held) (AttachesThread name priority m n)) (RefusesThread name m n) old new code
 
 abbrev pub Attaches : List ℕ → ℤ → Handle → Handle → Handle → Handle → ℕ → Type 0
-Attaches name priority s0 s1 old new code = AttachesBehind (service_in s0) (service_in s1) name priority s0 s1 old new code
+Attaches name priority s0 s1 old new code = FillsBy (AttachesFor name priority) (service_in s0) (service_in s1) s0 s1 old new code
 
 -- the box of an environment that was just attached
 abbrev pub HasNewAgent : Member → HeldEnv → Type 0
 HasNewAgent m held = (a : AgentValue) × (held.agent ≡ Some a) × IsNewAgent m (state_of a) × (held.trace ≡ None) × (held.stacks ≡ None)
+
+abbrev pub HasEnv : Member → Member → Option Held → Type 0
+HasEnv m n held = (n ≡ with_handle m) × IsSomeAnd (env_of held) (HasNewAgent m)
 
 -- Why no environment came: there was no memory for its box, the service had no place for it, or the service was in use. No
 -- place is taken then
 abbrev pub RefusesEnv : Member → Member → TiError → Type 0
 RefusesEnv m n e = ((e ≡ OutOfMemory) × (n ≡ m)) ⊎ (RefusesPlace m n e ⊎ ((e ≡ Busy) × (n ≡ with_handle m)))
 
-pub data AttachesEnvFor (m n : Member) (old new : Handle) (code : ℕ) : Type 0 where
-  EnvFull : code ≡ misused → (old.kind == 0) ≡ false → new ≡ old → n ≡ m → AttachesEnvFor m n old new code
-  EnvRefused : (e : TiError) → code ≡ number_of e → (old.kind == 0) ≡ true → new ≡ old → RefusesEnv m n e → AttachesEnvFor m n old new code
-  EnvAttached : code ≡ 0 → (old.kind == 0) ≡ true → IsSomeAnd (env_in new) (HasNewAgent m) → n ≡ with_handle m → AttachesEnvFor m n old new code
-
-abbrev pub AttachesEnvBehind : Option Member → Option Member → Handle → Handle → Handle → Handle → ℕ → Type 0
-AttachesEnvBehind (Some m) (Some n) s0 s1 old new code = (s1 ≡ with_service s0 n) × AttachesEnvFor m n old new code
-AttachesEnvBehind (Some m) None s0 s1 old new code = ⊥
-AttachesEnvBehind None n s0 s1 old new code = (s1 ≡ s0) × (new ≡ old) × (code ≡ misused)
+abbrev pub AttachesEnvFor : Member → Member → Handle → Handle → ℕ → Type 0
+AttachesEnvFor m n old new code = Fills (n ≡ m) (HasEnv m n) (RefusesEnv m n) old new code
 
 abbrev pub AttachesEnv : Handle → Handle → Handle → Handle → ℕ → Type 0
-AttachesEnv s0 s1 old new code = AttachesEnvBehind (service_in s0) (service_in s1) s0 s1 old new code
+AttachesEnv s0 s1 old new code = FillsBy AttachesEnvFor (service_in s0) (service_in s1) s0 s1 old new code

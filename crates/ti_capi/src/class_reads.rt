@@ -1,9 +1,10 @@
 //! What an environment is told of classes and methods.
 
 use crate::class_values::{CqLineEntry, CqMethodName};
-use crate::class_writes::{write_classes, write_lines, write_methods, write_name, write_text};
+use crate::class_writes::{tell_text, write_lines, write_name};
 use crate::codes::{CQ_MISUSED, CQ_OK};
 use crate::handle::CqEnv;
+use crate::writes::write_each;
 use std::alloc::Global;
 use ti_service::{ClassCalls, ClassNo};
 use ti_types::MethodNo;
@@ -27,7 +28,7 @@ pub extern "C" fn cq_get_loaded_classes(
     match agent.get_loaded_classes(alloc) {
         Ok(all) => {
             *count = all.len() as u64;
-            write_classes(&all, classes);
+            write_each(&all, classes);
             CQ_OK
         }
         Err(error) => error.number(),
@@ -51,13 +52,11 @@ pub extern "C" fn cq_get_class_signature(
     let Some(agent) = &mut held.agent else {
         return CQ_MISUSED;
     };
-    match agent.get_class_signature(alloc, ClassNo(class)) {
-        Ok(told) => {
-            write_text(told.as_str(), text, length);
-            CQ_OK
-        }
-        Err(error) => error.number(),
-    }
+    tell_text(
+        agent.get_class_signature(alloc, ClassNo(class)),
+        text,
+        length,
+    )
 }
 
 /// GetSourceFileName (JVM TI 11).
@@ -77,13 +76,11 @@ pub extern "C" fn cq_get_source_file_name(
     let Some(agent) = &mut held.agent else {
         return CQ_MISUSED;
     };
-    match agent.get_source_file_name(alloc, ClassNo(class)) {
-        Ok(told) => {
-            write_text(told.as_str(), text, length);
-            CQ_OK
-        }
-        Err(error) => error.number(),
-    }
+    tell_text(
+        agent.get_source_file_name(alloc, ClassNo(class)),
+        text,
+        length,
+    )
 }
 
 /// GetClassMethods (JVM TI 11).
@@ -106,7 +103,7 @@ pub extern "C" fn cq_get_class_methods(
     match agent.get_class_methods(alloc, ClassNo(class)) {
         Ok(told) => {
             *count = told.len() as u64;
-            write_methods(&told, methods);
+            write_each(&told, methods);
             CQ_OK
         }
         Err(error) => error.number(),

@@ -1,38 +1,9 @@
 //! What is written to memory of the caller's of classes and methods: as much as there is room for, and how much there is.
 
-use crate::class_values::{
-    CqLineEntry, CqMethodName, LINES_ABSENT, LINES_LOCATIONS, LINES_TABLE, line_out,
-};
-use crate::writes::{smaller, write_bytes};
-use ti_service::{ClassNo, LineEntry, Lines, MethodName};
-use ti_types::MethodNo;
-
-/// Writes as many of the classes' numbers as there is room for.
-pub(crate) fn write_classes(classes: &[ClassNo], room: &mut [u32])
-    ensures { room.new ≡ over (map (λ c. c.0) classes.now) room.old }
-{
-    for i in 0..smaller(classes.len(), room.len()) {
-        room[i] = classes[i].0;
-    }
-}
-
-/// Writes as many of the methods' numbers as there is room for.
-pub(crate) fn write_methods(methods: &[MethodNo], room: &mut [u32])
-    ensures { room.new ≡ over (map (λ m. m.0) methods.now) room.old }
-{
-    for i in 0..smaller(methods.len(), room.len()) {
-        room[i] = methods[i].0;
-    }
-}
-
-/// Writes as many of the entries as there is room for.
-fn write_entries(entries: &[LineEntry], room: &mut [CqLineEntry])
-    ensures { room.new ≡ over (map line_written entries.now) room.old }
-{
-    for i in 0..smaller(entries.len(), room.len()) {
-        room[i] = line_out(entries[i]);
-    }
-}
+use crate::class_values::{CqLineEntry, CqMethodName, LINES_ABSENT, LINES_LOCATIONS, LINES_TABLE};
+use crate::codes::CQ_OK;
+use crate::writes::{write_bytes, write_each};
+use ti_service::{ClassError, Lines, MethodName};
 
 /// Writes a text as far as there is room, and its length in bytes.
 pub(crate) fn write_text(text: &str, room: &mut [u8], length: &mut u64)
@@ -41,6 +12,20 @@ pub(crate) fn write_text(text: &str, room: &mut [u8], length: &mut u64)
     let bytes = text.as_bytes();
     *length = bytes.len() as u64;
     write_bytes(bytes, room);
+}
+
+/// Writes what is told of a text, or gives the code that tells why nothing is.
+pub(crate) fn tell_text(told: Result<String, ClassError>, room: &mut [u8], length: &mut u64) -> u32
+    ensures written { IfOk told (λ s. (result ≡ 0) × IsListWritten (string_bytes s) room.old room.new length.new) }
+    ensures refused { IfErr told (λ e. (result ≡ class_number_of e) × (room.new ≡ room.old) × (length.new ≡ length.old)) }
+{
+    match told {
+        Ok(text) => {
+            write_text(text.as_str(), room, length);
+            CQ_OK
+        }
+        Err(error) => error.number(),
+    }
 }
 
 /// Writes the kind of lines, and the entries of a table.
@@ -54,7 +39,7 @@ pub(crate) fn write_lines(lines: &Lines, kind: &mut u32, room: &mut [CqLineEntry
         Lines::Table(table) => {
             *kind = LINES_TABLE;
             *count = table.len() as u64;
-            write_entries(table, room);
+            write_each(table, room);
         }
     }
 }
@@ -79,7 +64,8 @@ pub(crate) fn write_name(
     );
 }
 
-ghost use Rattle.std.specs.Prelude.{◌≡◌, map, string_bytes};
+ghost use Rattle.std.specs.Prelude.{◌≡◌, IfErr, IfOk, string_bytes};
+ghost use Rattle.ti_methods.specs.Errors.{number_of as class_number_of};
 ghost use Rattle.ti_capi.specs.Classes.{AreWritten, IsListWritten, name_written};
 ghost use Rattle.ti_capi.specs.Defining.{line_written};
 ghost use Rattle.ti_capi.specs.Values.{over};

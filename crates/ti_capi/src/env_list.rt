@@ -3,7 +3,7 @@
 use crate::codes::{CQ_MISUSED, CQ_OK};
 use crate::handle::CqEnv;
 use crate::values::CqThreadInfo;
-use crate::writes::{write_bytes, write_numbers};
+use crate::writes::{write_bytes, write_each};
 use std::alloc::Global;
 use ti_service::ServiceTries;
 use ti_types::ThreadNo;
@@ -79,7 +79,7 @@ pub extern "C" fn cq_get_all_threads(
     match agent.get_all_threads_now(alloc) {
         Ok(all) => {
             *count = all.len() as u64;
-            write_numbers(&all, threads);
+            write_each(&all, threads);
             CQ_OK
         }
         Err(error) => error.number(),

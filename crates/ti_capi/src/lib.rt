@@ -23,6 +23,7 @@ mod env_own;
 mod env_posts;
 mod env_resumed;
 mod env_traces;
+mod for_c;
 mod handle;
 mod handle_lends;
 mod held;

@@ -1,7 +1,7 @@
 //! Handles of the service, and what is attached by them.
 
 use crate::codes::{CQ_MISUSED, CQ_OK};
-use crate::handle::{CqEnv, CqService, CqThread};
+use crate::handle::{CqEnv, CqHandle, CqService, CqThread};
 use crate::held::{Held, HeldEnv, HeldThread};
 use std::alloc::Global;
 use ti_service::{Service, ThreadInfo};
@@ -26,11 +26,28 @@ fn boxed(alloc: Global, held: Held) -> Result<Box<Held>, TiError>
     }
 }
 
-/// Makes a service in a box.
-fn make(alloc: Global, limits: Limits) -> Result<Box<Held>, TiError>
-    ensures new { IfOk result (λ b. IsSomeAnd (service_of (Some b.value)) (λ m. m.view ≡ first_view limits)) }
-    ensures memory { IfErr result (λ e. e ≡ OutOfMemory) }
+/// Puts what was made into an empty handle, or gives the code that tells why nothing was.
+fn fill(handle: &mut CqHandle, made: Result<Box<Held>, TiError>) -> u32
+    ensures put { IfOk made (λ b. (handle.new.place.held ≡ Some b.value) × (result ≡ 0)) }
+    ensures refused { IfErr made (λ e. (handle.new ≡ handle.old) × (result ≡ number_of e)) }
 {
+    match made {
+        Ok(held) => {
+            handle.put(held);
+            CQ_OK
+        }
+        Err(error) => error.number(),
+    }
+}
+
+/// Makes a service in a box. 103 if a number is not within its range.
+fn make(alloc: Global, depth: u32, envs: u32, window: u32) -> Result<Box<Held>, TiError>
+    ensures new { IfOk result (λ b. HasService depth envs window (Some b.value)) }
+    ensures refused { IfErr result (RefusesService depth envs window) }
+{
+    let Some(limits) = limits(depth, envs, window) else {
+        return Err(TiError::IllegalArgument);
+    };
     boxed(alloc, Held::Service(Service::make(alloc, limits)?))
 }
 
@@ -48,16 +65,7 @@ pub extern "C" fn cq_make(
     if !service.is_empty() {
         return CQ_MISUSED;
     }
-    let Some(limits) = limits(depth, envs, window) else {
-        return TiError::IllegalArgument.number();
-    };
-    match make(alloc, limits) {
-        Ok(made) => {
-            service.put(made);
-            CQ_OK
-        }
-        Err(error) => error.number(),
-    }
+    fill(service, make(alloc, depth, envs, window))
 }
 
 /// One more handle of the service, in a box.
@@ -80,13 +88,7 @@ pub extern "C" fn cq_share(alloc: Global, service: &mut CqService, other: &mut C
     if !other.is_empty() {
         return CQ_MISUSED;
     }
-    match share(alloc, service) {
-        Ok(made) => {
-            other.put(made);
-            CQ_OK
-        }
-        Err(error) => error.number(),
-    }
+    fill(other, share(alloc, service))
 }
 
 /// Frees a handle of the service.
@@ -154,13 +156,7 @@ pub extern "C" fn cq_attach_thread(
     if !thread.is_empty() {
         return CQ_MISUSED;
     }
-    match attach_thread(alloc, service, name, priority) {
-        Ok(held) => {
-            thread.put(held);
-            CQ_OK
-        }
-        Err(error) => error.number(),
-    }
+    fill(thread, attach_thread(alloc, service, name, priority))
 }
 
 /// Attaches an environment in a box.
@@ -198,19 +194,13 @@ pub extern "C" fn cq_attach_environment(
     if !env.is_empty() {
         return CQ_MISUSED;
     }
-    match attach_environment(alloc, service) {
-        Ok(held) => {
-            env.put(held);
-            CQ_OK
-        }
-        Err(error) => error.number(),
-    }
+    fill(env, attach_environment(alloc, service))
 }
 
 ghost use Rattle.std.specs.Prelude.{◌≡◌, IfErr, IfOk, IsSomeAnd, OnOk, Some};
 ghost use Rattle.std.specs.String.{string_bytes};
+ghost use Rattle.ti_types.specs.TiError.{number_of};
 ghost use Rattle.ti_types.specs.declared.error.TiError.TheVariants.{OutOfMemory};
-ghost use Rattle.ti_roster.specs.View.{first_view};
 ghost use Rattle.ti_capi.specs.Handles.{env_of, service_of, thread_of};
-ghost use Rattle.ti_capi.specs.Services.{Attaches, AttachesEnv, AttachesThread, Frees, HasNewAgent, IsShareOf, LimitsOf, Makes, NamesWrongly, RefusesEnv, RefusesHandle, RefusesThread, Shares};
+ghost use Rattle.ti_capi.specs.Services.{Attaches, AttachesEnv, AttachesThread, Frees, HasNewAgent, HasService, IsShareOf, LimitsOf, Makes, NamesWrongly, RefusesEnv, RefusesHandle, RefusesService, RefusesThread, Shares};
 ghost use Rattle.ti_service.specs.Service.{with_handle};

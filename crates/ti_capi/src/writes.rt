@@ -1,8 +1,9 @@
 //! What is written to memory of the caller's: as much as there is room for.
 
 use crate::codes::CQ_OK;
+use crate::for_c::ForC;
 use crate::values::{CqAnswer, CqFrame, CqStackInfo, frame_out};
-use ti_types::{Answer, Frame, StackInfo, ThreadNo};
+use ti_types::{Answer, StackInfo};
 
 /// How many of these items there is room for.
 pub(crate) fn smaller(items: usize, room: usize) -> usize
@@ -11,21 +12,12 @@ pub(crate) fn smaller(items: usize, room: usize) -> usize
     if items < room { items } else { room }
 }
 
-/// Writes as many of the frames as there is room for.
-fn write_frames(frames: &[Frame], room: &mut [CqFrame])
-    ensures { room.new ≡ over (map frame_written frames.now) room.old }
+/// Writes as many of the items as there is room for.
+pub(crate) fn write_each<T: ForC<U>, U: Copy>(items: &[T], room: &mut [U])
+    ensures { room.new ≡ over (map T.written items.now) room.old }
 {
-    for i in 0..smaller(frames.len(), room.len()) {
-        room[i] = frame_out(frames[i]);
-    }
-}
-
-/// Writes as many of the numbers as there is room for.
-pub(crate) fn write_numbers(threads: &[ThreadNo], room: &mut [u32])
-    ensures { room.new ≡ over (map (λ t. t.0) threads.now) room.old }
-{
-    for i in 0..smaller(threads.len(), room.len()) {
-        room[i] = threads[i].0;
+    for i in 0..smaller(items.len(), room.len()) {
+        room[i] = items[i].for_c();
     }
 }
 
@@ -49,7 +41,7 @@ pub(crate) fn write_stack(stack: &StackInfo, out: &mut CqStackInfo, room: &mut [
         state: stack.state,
         frame_count: frames.len() as u64,
     };
-    write_frames(frames, room);
+    write_each(frames, room);
 }
 
 /// Writes an answer, and gives its code.
@@ -63,7 +55,7 @@ pub(crate) fn write_answer(answer: Answer, out: &mut CqAnswer, room: &mut [CqFra
         Answer::Trace(trace) => {
             let frames = trace.frames();
             out.number = frames.len() as u64;
-            write_frames(frames, room);
+            write_each(frames, room);
         }
         Answer::Location(frame) => out.frame = frame_out(frame),
         Answer::Word(word) => out.number = word,
@@ -71,7 +63,7 @@ pub(crate) fn write_answer(answer: Answer, out: &mut CqAnswer, room: &mut [CqFra
         Answer::Stack { frames, .. } => {
             let frames = frames.frames();
             out.number = frames.len() as u64;
-            write_frames(frames, room);
+            write_each(frames, room);
         }
         Answer::Refused(error) => return error.number(),
     }

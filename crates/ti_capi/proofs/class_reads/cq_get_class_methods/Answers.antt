@@ -10,7 +10,7 @@ returns-in-Ok c =
     let e = c.in-Ok.ensures in
     let items = c.deref.ensures in
     let all = ap (λ (l : List MethodNo). map (λ (m : MethodNo). m.0) l) items.value in
-    let written = numbers_written (λ (m : MethodNo). m.0) c.deref.result.now _ _ _ _ c.write_methods.ensures (c.len.ensures ∙ sym items.len) all in
+    let written = numbers_written (λ (m : MethodNo). m.0) c.deref.result.now _ _ _ _ c.write_each.ensures (c.len.ensures ∙ sym items.len) all in
     called _ _ _ _ _ _ _ (sym c.in-Some.ensures.value) c.in-Some-agent.is (ClassTold refl e.rest (c.in-Ok.told.items, e.told, written))
 
 pub returns-in-Err : goal.returns-in-Err

@@ -1,15 +1,10 @@
-use Rattle.std.proofs.Common.{ℕ, List, refl, sym, subst, string_bytes}
-use Rattle.ti_capi.specs.Classes.{ClassTold, ClassUntold, IsListWritten}
+use Rattle.std.proofs.Common.{sym}
 use Rattle.ti_capi.proofs.Calling.{called}
+use Rattle.ti_capi.proofs.ClassTelling.{text_told}
 use Rattle.ti_capi.proofs.class_reads.cq_get_class_signature.Goals as goal
 
-pub returns-in-Ok : goal.returns-in-Ok
-returns-in-Ok c =
-    let e = c.in-Ok.ensures in
-    let written = subst (λ (l : List ℕ). IsListWritten l c.args.text.now c.write_text.new.room c.write_text.new.length) c.as_str.ensures.value c.write_text.ensures in
-    called _ _ _ _ _ _ _ (sym c.in-Some.ensures.value) c.in-Some-agent.is (ClassTold refl e.rest (string_bytes c.in-Ok.told, e.told, written))
-
-pub returns-in-Err : goal.returns-in-Err
-returns-in-Err c =
-    let e = c.in-Err.ensures in
-    called _ _ _ _ _ _ _ (sym c.in-Some.ensures.value) c.in-Some-agent.is (ClassUntold c.in-Err.error c.number.ensures e.rest e.refused (refl, refl))
+pub returns : goal.returns
+returns c =
+    let e = c.get_class_signature.ensures in
+    let w = c.tell_text.ensures in
+    called _ _ _ _ _ _ _ (sym c.in-Some.ensures.value) c.in-Some-agent.is (text_told _ _ _ _ _ _ _ _ _ c.get_class_signature.result e.rest e.told e.refused w.written w.refused)

@@ -10,7 +10,7 @@ returns-in-Ok c =
     let e = c.in-Ok.ensures in
     let items = c.deref.ensures in
     let all = ap (λ (l : List ClassNo). map (λ (n : ClassNo). n.0) l) items.value ∙ e.told in
-    let written = numbers_written (λ (n : ClassNo). n.0) c.deref.result.now _ _ _ _ c.write_classes.ensures (c.len.ensures ∙ sym items.len) all in
+    let written = numbers_written (λ (n : ClassNo). n.0) c.deref.result.now _ _ _ _ c.write_each.ensures (c.len.ensures ∙ sym items.len) all in
     called _ _ _ _ _ _ _ (sym c.in-Some.ensures.value) c.in-Some-agent.is (ClassTold refl e.rest written)
 
 pub returns-in-Err : goal.returns-in-Err

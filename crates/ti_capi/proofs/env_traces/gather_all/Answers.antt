@@ -1,7 +1,8 @@
 use Rattle.std.proofs.Common.{ℤ, w32, sym, subst, ◌∙◌}
 use Rattle.std.proofs.lemmas.Int.{to_z-of_z}
 use Rattle.ti_capi.specs.Gathers.{BeginsAll, BeginsIn, RefusesAll}
-use Rattle.ti_capi.proofs.Traced.{begun, both_ok}
+use Rattle.ti_capi.proofs.Filling.{both_ok}
+use Rattle.ti_capi.proofs.Traced.{begun}
 use Rattle.ti_capi.proofs.env_traces.gather_all.Goals as goal
 
 pub returns : goal.returns
