@@ -6,6 +6,7 @@ use Rattle.ti_thread.specs.declared.host_thread.HostThread.{HostThread}
 use Rattle.ti_capi.specs.declared.held.Held.{Held}
 use Rattle.ti_capi.specs.declared.held.Held.TheVariants as held
 use Rattle.ti_capi.specs.declared.held.HeldThread.{HeldThread}
+use Rattle.ti_capi.specs.declared.held.HeldDoor.{HeldDoor}
 use Rattle.ti_capi.specs.declared.held.HeldEnv.{HeldEnv}
 use Rattle.ti_capi.specs.declared.held_at.HeldAt.{HeldAt}
 
@@ -25,6 +26,7 @@ abbrev pub service_of : Option Held → Option Member
 service_of (Some (held.Service m)) = Some m
 service_of (Some (held.Thread t)) = None
 service_of (Some (held.Env e)) = None
+service_of (Some (held.Door d)) = None
 service_of None = None
 
 abbrev pub service_in : Handle → Option Member
@@ -38,6 +40,7 @@ abbrev pub thread_of : Option Held → Option HeldThread
 thread_of (Some (held.Service m)) = None
 thread_of (Some (held.Thread t)) = Some t
 thread_of (Some (held.Env e)) = None
+thread_of (Some (held.Door d)) = None
 thread_of None = None
 
 abbrev pub thread_in : Handle → Option HeldThread
@@ -51,6 +54,7 @@ abbrev pub env_of : Option Held → Option HeldEnv
 env_of (Some (held.Service m)) = None
 env_of (Some (held.Thread t)) = None
 env_of (Some (held.Env e)) = Some e
+env_of (Some (held.Door d)) = None
 env_of None = None
 
 abbrev pub env_in : Handle → Option HeldEnv
@@ -58,6 +62,20 @@ env_in h = env_of h.place.held
 
 abbrev pub with_held_env : Handle → HeldEnv → Handle
 with_held_env h e = with_held h (held.Env e)
+
+-- the same of a door
+abbrev pub door_of : Option Held → Option HeldDoor
+door_of (Some (held.Service m)) = None
+door_of (Some (held.Thread t)) = None
+door_of (Some (held.Env e)) = None
+door_of (Some (held.Door d)) = Some d
+door_of None = None
+
+abbrev pub door_in : Handle → Option HeldDoor
+door_in h = door_of h.place.held
+
+abbrev pub with_held_door : Handle → HeldDoor → Handle
+with_held_door h d = with_held h (held.Door d)
 
 -- the environment behind a handle
 abbrev pub agent_behind : Option HeldEnv → Option AgentValue

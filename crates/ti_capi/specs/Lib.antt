@@ -16,3 +16,4 @@ pub mod Services
 pub mod Resuming
 pub mod Defining
 pub mod Classes
+pub mod Doors

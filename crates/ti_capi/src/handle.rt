@@ -24,6 +24,8 @@ pub type CqService = CqHandle;
 pub type CqThread = CqHandle;
 /// A handle of an environment.
 pub type CqEnv = CqHandle;
+/// A handle of a door.
+pub type CqDoor = CqHandle;
 
 impl Model for CqHandle {
     ghost use Rattle.ti_capi.specs.Handles.{Handle};

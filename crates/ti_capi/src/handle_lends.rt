@@ -4,12 +4,13 @@ ghost use Rattle.std.specs.Option.{option_map};
 ghost use Rattle.std.specs.Borrow.{LendsIf, sem};
 ghost use Rattle.ti_service.specs.contracts.service.Service.{the_row as service_row};
 ghost use Rattle.ti_capi.specs.contracts.handle.CqHandle.{the_row};
+ghost use Rattle.ti_capi.specs.contracts.held.HeldDoor.{the_row as door_row};
 ghost use Rattle.ti_capi.specs.contracts.held.HeldEnv.{the_row as env_row};
 ghost use Rattle.ti_capi.specs.contracts.held.HeldThread.{the_row as thread_row};
-ghost use Rattle.ti_capi.specs.Handles.{env_in, service_in, thread_in, with_held_env, with_held_thread, with_service};
+ghost use Rattle.ti_capi.specs.Handles.{door_in, env_in, service_in, thread_in, with_held_door, with_held_env, with_held_thread, with_service};
 
 use crate::handle::CqHandle;
-use crate::held::{ENV, HeldEnv, HeldThread, SERVICE, THREAD};
+use crate::held::{DOOR, ENV, HeldDoor, HeldEnv, HeldThread, SERVICE, THREAD};
 use ti_service::Service;
 
 impl CqHandle {
@@ -44,6 +45,18 @@ impl CqHandle {
     {
         if self.kind == ENV {
             self.place.as_mut().env()
+        } else {
+            None
+        }
+    }
+
+    /// The door.
+    pub(crate) fn held_door(&mut self) -> Option<&mut HeldDoor>
+        ensures* writes_back { sem 𝓛 (LendsIf the_row door_row self.entry result (with_held_door self.old) self.old) }
+        ensures value { option_map (λ r. r.now) result ≡ door_in self.old }
+    {
+        if self.kind == DOOR {
+            self.place.as_mut().door()
         } else {
             None
         }

@@ -1,6 +1,7 @@
 //! What lies behind a handle.
 
 use crate::held_trace::HeldTrace;
+use ti_monitor::Door;
 use ti_service::{Agent, Service};
 use ti_thread::HostThread;
 use ti_types::{Frame, StackInfo};
@@ -11,6 +12,8 @@ pub(crate) const SERVICE: u32 = 1;
 pub(crate) const THREAD: u32 = 2;
 /// The kind of a handle of an environment.
 pub(crate) const ENV: u32 = 3;
+/// The kind of a handle of a door.
+pub(crate) const DOOR: u32 = 4;
 
 /// What a handle holds. Each variant has a kind of its own.
 #[derive(Drop)]
@@ -18,6 +21,7 @@ pub enum Held {
     Service(Service),
     Thread(HeldThread),
     Env(HeldEnv),
+    Door(HeldDoor),
 }
 
 /// A thread, and a handle of its service, by which it is given back.
@@ -41,6 +45,13 @@ pub struct HeldEnv {
     pub stacks: Option<Vec<StackInfo>>,
 }
 
+/// A door.
+#[derive(Drop)]
+pub struct HeldDoor {
+    /// `None` only while a call works on it.
+    pub door: Option<Door>,
+}
+
 impl Held {
     /// The number of its kind.
     pub(crate) fn kind(&self) -> u32
@@ -50,6 +61,7 @@ impl Held {
             Held::Service(_) => SERVICE,
             Held::Thread(_) => THREAD,
             Held::Env(_) => ENV,
+            Held::Door(_) => DOOR,
         }
     }
 }
@@ -58,7 +70,7 @@ impl Held {
 pub(crate) fn is_kind(number: u32) -> bool
     ensures { result ≡ is_kind number }
 {
-    number == SERVICE || number == THREAD || number == ENV
+    number == SERVICE || number == THREAD || number == ENV || number == DOOR
 }
 
 ghost use Rattle.std.specs.Prelude.{◌≡◌};

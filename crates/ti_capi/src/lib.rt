@@ -16,6 +16,7 @@ mod class_reads;
 mod class_values;
 mod class_writes;
 mod codes;
+mod doors;
 mod env_collects;
 mod env_events;
 mod env_list;
@@ -40,8 +41,8 @@ mod values;
 mod writes;
 
 pub use class_values::{CqClassRanges, CqLineEntry, CqMethodName, CqMethodRanges, CqRange};
-pub use handle::{CqEnv, CqHandle, CqService, CqThread};
-pub use held::{Held, HeldEnv, HeldThread};
+pub use handle::{CqDoor, CqEnv, CqHandle, CqService, CqThread};
+pub use held::{Held, HeldDoor, HeldEnv, HeldThread};
 pub use held_at::HeldAt;
 pub use parts::Parts;
 pub use values::{CqAnswer, CqEvent, CqFrame, CqStackInfo, CqThreadInfo, CqTicket};

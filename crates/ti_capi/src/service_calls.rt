@@ -16,7 +16,7 @@ fn limits(depth: u32, envs: u32, window: u32) -> Option<Limits>
 }
 
 /// Puts what a handle is to hold into a box.
-fn boxed(alloc: Global, held: Held) -> Result<Box<Held>, TiError>
+pub(crate) fn boxed(alloc: Global, held: Held) -> Result<Box<Held>, TiError>
     ensures same { IfOk result (λ b. b.value ≡ held) }
     ensures memory { IfErr result (λ e. e ≡ OutOfMemory) }
 {
@@ -27,7 +27,7 @@ fn boxed(alloc: Global, held: Held) -> Result<Box<Held>, TiError>
 }
 
 /// Puts what was made into an empty handle, or gives the code that tells why nothing was.
-fn fill(handle: &mut CqHandle, made: Result<Box<Held>, TiError>) -> u32
+pub(crate) fn fill(handle: &mut CqHandle, made: Result<Box<Held>, TiError>) -> u32
     ensures put { IfOk made (λ b. (handle.new.place.held ≡ Some b.value) × (result ≡ 0)) }
     ensures refused { IfErr made (λ e. (handle.new ≡ handle.old) × (result ≡ number_of e)) }
 {
@@ -103,8 +103,8 @@ pub extern "C" fn cq_free(alloc: Global, service: &mut CqService) -> u32
     CQ_OK
 }
 
-/// The name of a thread. 103 if it is not UTF-8, and 110 if there is no memory for it.
-fn name_of(alloc: Global, name: &[u8]) -> Result<String, TiError>
+/// The name of a thread or a program. 103 if it is not UTF-8, and 110 if there is no memory for it.
+pub(crate) fn name_of(alloc: Global, name: &[u8]) -> Result<String, TiError>
     ensures same { IfOk result (λ s. string_bytes s ≡ name.now) }
     ensures refused { IfErr result (λ e. NamesWrongly name.now e) }
 {

@@ -4,3 +4,9 @@ pub mod LineLaws
 pub mod ReadingLaws
 pub mod AccountLaws
 pub mod BucketLaws
+pub mod GroupLaws
+pub mod JsonLaws
+pub mod SeatLaws
+pub mod DoorLaws
+pub mod OpenLaws
+pub mod TextLaws

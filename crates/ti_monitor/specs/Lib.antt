@@ -9,3 +9,11 @@ pub mod Accounts
 pub mod Runs
 pub mod Orders
 pub mod Monitors
+pub mod Texts
+pub mod Stacks
+pub mod Exposition
+pub mod Threads
+pub mod Json
+pub mod Door
+pub mod Seats
+pub mod Doors

@@ -98,7 +98,7 @@ impl Counts {
     }
 
     /// The stacks.
-    pub(crate) fn trie(&self) -> &Trie
+    pub fn trie(&self) -> &Trie
         ensures trie { result.now ≡ self.now.trie }
         ensures numbered { AreNumbered self.now.table.rows.keys (length result.now.nodes.keys) }
     {
@@ -106,7 +106,7 @@ impl Counts {
     }
 
     /// How often each of them was seen.
-    pub(crate) fn table(&self) -> &Table
+    pub fn table(&self) -> &Table
         ensures { result.now ≡ self.now.table }
     {
         &self.table

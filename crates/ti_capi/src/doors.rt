@@ -1,0 +1,297 @@
+//! A door: requests of HTTP about the threads of a service.
+
+use crate::codes::{CQ_MISUSED, CQ_NONE, CQ_OK};
+use crate::handle::{CqDoor, CqService};
+use crate::held::{Held, HeldDoor};
+use crate::service_calls::{boxed, fill, name_of};
+use crate::writes::write_bytes;
+use std::alloc::Global;
+use ti_http::Hosts;
+use ti_monitor::{ConnNo, Door, DoorError, Monitor, Todo};
+use ti_service::Service;
+use ti_types::TiError;
+
+/// The version that `/metrics` tells, which is that of `cebdyraq.h`.
+const VERSION: &str = "1.3.0";
+
+/// The hosts that are served at a port. Above 65,535 there is no port, and every host is served.
+fn hosts_at(port: u32) -> Hosts
+    ensures { result ≡ hosts_at port }
+{
+    if port <= 65_535 {
+        Hosts::Local { port: port as u16 }
+    } else {
+        Hosts::Any
+    }
+}
+
+/// The code of what a door refuses.
+fn refusal_code(error: DoorError) -> u32
+    ensures { result ≡ code_refused error }
+{
+    match error {
+        DoorError::NoConnection => CQ_NONE,
+        DoorError::OutOfMemory => TiError::OutOfMemory.number(),
+    }
+}
+
+/// The code of what is done at a door, or refused.
+fn code_of(done: Result<(), DoorError>) -> u32
+    ensures { result ≡ code_of done }
+{
+    match done {
+        Ok(()) => CQ_OK,
+        Err(error) => refusal_code(error),
+    }
+}
+
+/// The number of what is to be done with a connection.
+fn action_of(todo: Todo) -> u32
+    ensures { result ≡ action_of todo }
+{
+    match todo {
+        Todo::Wait => 0,
+        Todo::Write => 1,
+        Todo::Close => 2,
+    }
+}
+
+/// A door in a box, with an environment of its own.
+fn open(
+    alloc: Global,
+    service: &mut Service,
+    program: &[u8],
+    hosts: Hosts,
+    now: u64,
+) -> Result<Box<Held>, TiError>
+    ensures made { OnOk result (service.new ≡ with_handle service.old) }
+    ensures opened { IfOk result (λ b. IsSomeAnd (door_of (Some b.value)) (HasNewDoor hosts)) }
+    ensures refused { IfErr result (λ e. RefusesDoor program.now service.old service.new e) }
+{
+    let program = name_of(alloc, program)?;
+    let version = String::from_str(alloc, VERSION)?;
+    let mut held = boxed(alloc, Held::Door(HeldDoor { door: None }))?;
+    let agent = service.attach_environment_now(alloc)?;
+    let monitor = Monitor::new(alloc, agent, program, now);
+    match held.door() {
+        Some(place) => place.door = Some(Door::new(alloc, monitor, hosts, version)),
+        None => unreachable!(),
+    }
+    Ok(held)
+}
+
+/// Opens a door of the service.
+#[unsafe(no_mangle)]
+pub extern "C" fn cq_open_door(
+    alloc: Global,
+    service: &mut CqService,
+    program: &[u8],
+    port: u32,
+    now: u64,
+    door: &mut CqDoor,
+) -> u32
+    ensures { OpensDoor program.now (hosts_at port) service.old service.new door.old door.new result }
+{
+    let Some(service) = service.service() else {
+        return CQ_MISUSED;
+    };
+    if !door.is_empty() {
+        return CQ_MISUSED;
+    }
+    fill(door, open(alloc, service, program, hosts_at(port), now))
+}
+
+/// Takes a new connection in.
+#[unsafe(no_mangle)]
+pub extern "C" fn cq_door_connect(door: &mut CqDoor, now: u64, connection: &mut u32) -> u32
+    ensures { AtDoor (Connects now connection.old connection.new) (connection.new ≡ connection.old) door.old door.new result }
+{
+    let Some(held) = door.held_door() else {
+        return CQ_MISUSED;
+    };
+    let Some(door) = &mut held.door else {
+        return CQ_MISUSED;
+    };
+    match door.open(now) {
+        Some(number) => {
+            *connection = number.0;
+            CQ_OK
+        }
+        None => TiError::Full.number(),
+    }
+}
+
+/// What is to be done with a connection, and how many bytes it takes.
+#[unsafe(no_mangle)]
+pub extern "C" fn cq_door_next(
+    door: &mut CqDoor,
+    connection: u32,
+    now: u64,
+    unix_time: u64,
+    action: &mut u32,
+    room: &mut u64,
+) -> u32
+    ensures { AtDoor (IsDone (GoesOn connection action.new room.new) ((action.new ≡ action.old) × (room.new ≡ room.old))) ((action.new ≡ action.old) × (room.new ≡ room.old)) door.old door.new result }
+{
+    let Some(held) = door.held_door() else {
+        return CQ_MISUSED;
+    };
+    let Some(door) = &mut held.door else {
+        return CQ_MISUSED;
+    };
+    match door.next(ConnNo(connection), now, unix_time) {
+        Ok(todo) => {
+            *action = action_of(todo);
+            *room = door.room(ConnNo(connection)) as u64;
+            CQ_OK
+        }
+        Err(error) => refusal_code(error),
+    }
+}
+
+/// Takes bytes that a socket gave.
+#[unsafe(no_mangle)]
+pub extern "C" fn cq_door_feed(
+    door: &mut CqDoor,
+    connection: u32,
+    bytes: &[u8],
+    now: u64,
+    taken: &mut u64,
+) -> u32
+    ensures { AtDoor (IsDone (TakesIn connection bytes.now now taken.new) (taken.new ≡ taken.old)) (taken.new ≡ taken.old) door.old door.new result }
+{
+    let Some(held) = door.held_door() else {
+        return CQ_MISUSED;
+    };
+    let Some(door) = &mut held.door else {
+        return CQ_MISUSED;
+    };
+    match door.feed(ConnNo(connection), bytes, now) {
+        Ok(count) => {
+            *taken = count as u64;
+            CQ_OK
+        }
+        Err(error) => refusal_code(error),
+    }
+}
+
+/// The peer sends no more.
+#[unsafe(no_mangle)]
+pub extern "C" fn cq_door_end(door: &mut CqDoor, connection: u32, now: u64) -> u32
+    ensures { AtDoor (IsDone (Ends connection) ⊤) ⊤ door.old door.new result }
+{
+    let Some(held) = door.held_door() else {
+        return CQ_MISUSED;
+    };
+    let Some(door) = &mut held.door else {
+        return CQ_MISUSED;
+    };
+    code_of(door.end(ConnNo(connection), now))
+}
+
+/// The first bytes of what is to be written.
+#[unsafe(no_mangle)]
+pub extern "C" fn cq_door_output(
+    door: &mut CqDoor,
+    connection: u32,
+    bytes: &mut [u8],
+    count: &mut u64,
+) -> u32
+    ensures { AtDoor (IsDone (Shows connection bytes.old bytes.new count.new) ((bytes.new ≡ bytes.old) × (count.new ≡ count.old))) ((bytes.new ≡ bytes.old) × (count.new ≡ count.old)) door.old door.new result }
+{
+    let Some(held) = door.held_door() else {
+        return CQ_MISUSED;
+    };
+    let Some(door) = &mut held.door else {
+        return CQ_MISUSED;
+    };
+    if !door.is_open(ConnNo(connection)) {
+        return CQ_NONE;
+    }
+    let output = door.output(ConnNo(connection));
+    *count = output.len().min(bytes.len()) as u64;
+    write_bytes(output, bytes);
+    CQ_OK
+}
+
+/// The socket took so many bytes.
+#[unsafe(no_mangle)]
+pub extern "C" fn cq_door_written(door: &mut CqDoor, connection: u32, count: u64, now: u64) -> u32
+    ensures { AtDoor (IsDone (Writes connection count now) ⊤) ⊤ door.old door.new result }
+{
+    let Some(held) = door.held_door() else {
+        return CQ_MISUSED;
+    };
+    let Some(door) = &mut held.door else {
+        return CQ_MISUSED;
+    };
+    code_of(door.written(ConnNo(connection), count as usize, now))
+}
+
+/// The socket is gone.
+#[unsafe(no_mangle)]
+pub extern "C" fn cq_door_disconnect(door: &mut CqDoor, connection: u32) -> u32
+    ensures { AtDoor (IsDone (Closes connection) ⊤) ⊤ door.old door.new result }
+{
+    let Some(held) = door.held_door() else {
+        return CQ_MISUSED;
+    };
+    let Some(door) = &mut held.door else {
+        return CQ_MISUSED;
+    };
+    code_of(door.closed(ConnNo(connection)))
+}
+
+/// Does what is due.
+#[unsafe(no_mangle)]
+pub extern "C" fn cq_door_tick(door: &mut CqDoor, now: u64, deadline: &mut u64) -> u32
+    ensures { AtDoor Ticks (deadline.new ≡ deadline.old) door.old door.new result }
+{
+    let Some(held) = door.held_door() else {
+        return CQ_MISUSED;
+    };
+    let Some(door) = &mut held.door else {
+        return CQ_MISUSED;
+    };
+    door.tick(now);
+    *deadline = door.deadline();
+    CQ_OK
+}
+
+/// Closes the door.
+#[unsafe(no_mangle)]
+pub extern "C" fn cq_close_door(alloc: Global, door: &mut CqDoor) -> u32
+    ensures empty { result ≡ 0 → door.new.kind ≡ 0 }
+    ensures misused { door_behind (door_in door.old) ≡ None → result ≡ misused }
+{
+    let Some(held) = door.held_door() else {
+        return CQ_MISUSED;
+    };
+    let code = close(held);
+    if code == CQ_OK {
+        door.clear(alloc);
+    }
+    code
+}
+
+/// Closes the door in a box. It stays there if its environment is not disposed of.
+fn close(held: &mut HeldDoor) -> u32
+    ensures misused { held.old.door ≡ None → (result ≡ misused) × (held.new ≡ held.old) }
+{
+    let Some(door) = held.door.take() else {
+        return CQ_MISUSED;
+    };
+    match door.finish() {
+        Ok(_service) => CQ_OK,
+        Err((error, door)) => {
+            held.door = Some(door);
+            error.number()
+        }
+    }
+}
+
+ghost use Rattle.std.specs.Prelude.{◌≡◌, ◌×◌, ⊤, IfErr, IfOk, IsSomeAnd, None, OnOk, Some};
+ghost use Rattle.ti_capi.specs.Codes.{misused};
+ghost use Rattle.ti_capi.specs.Doors.{AtDoor, Closes, Connects, Ends, GoesOn, HasNewDoor, IsDone, OpensDoor, RefusesDoor, Shows, TakesIn, Ticks, Writes, action_of, code_of, code_refused, door_behind, hosts_at};
+ghost use Rattle.ti_capi.specs.Handles.{door_in, door_of};
+ghost use Rattle.ti_service.specs.Service.{with_handle};

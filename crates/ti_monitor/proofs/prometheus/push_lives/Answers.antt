@@ -1,0 +1,14 @@
+use Rattle.std.proofs.Common.{codes, decimal, map, [], ◌∷◌, ◌++◌}
+use Rattle.ti_monitor.specs.declared.prometheus_lines.Unit.TheVariants as unit
+use Rattle.ti_monitor.specs.Exposition.{counter, single}
+use Rattle.ti_monitor.specs.Texts.{seconds}
+use Rattle.ti_monitor.proofs.TextLaws.{cons_line, join, last_line}
+use Rattle.ti_monitor.proofs.prometheus.push_lives.Goals as goal
+
+pub returns : goal.returns
+returns c =
+    let m = c.args.metrics.now in
+    let one = single (codes "threads_attached_total") counter (codes "Threads that were attached.") (decimal m.attached) in
+    let two = single (codes "threads_detached_total") counter (codes "Threads that were given back.") (decimal m.detached) in
+    let three = single (codes "thread_events_lost_total") counter (codes "Thread events that were overwritten before they were read.") (decimal m.events_lost) in
+    join _ _ _ _ one (two ++ three) c.in_ok-push_single.ensures (join _ _ _ _ two three c.in_ok-push_single-2.ensures c.push_single-3.ensures)

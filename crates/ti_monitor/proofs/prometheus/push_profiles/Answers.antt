@@ -1,0 +1,16 @@
+use Rattle.std.proofs.Common.{codes, decimal, map, [], ◌∷◌, ◌++◌}
+use Rattle.ti_monitor.specs.declared.prometheus_lines.Unit.TheVariants as unit
+use Rattle.ti_monitor.specs.Exposition.{counter, gauge, single}
+use Rattle.ti_monitor.specs.Texts.{seconds}
+use Rattle.ti_monitor.proofs.TextLaws.{cons_line, join, last_line}
+use Rattle.ti_monitor.proofs.prometheus.push_profiles.Goals as goal
+
+pub returns : goal.returns
+returns c =
+    let m = c.args.metrics.now in
+    let one = single (codes "calls_out") gauge (codes "Calls that were posted and not collected.") (decimal m.calls_out) in
+    let two = single (codes "profiles_total") counter (codes "Profiles that were begun.") (decimal m.profiles) in
+    let three = single (codes "profile_ticks_total") counter (codes "Ticks of all profiles.") (decimal m.ticks) in
+    let four = single (codes "profile_ticks_missed_total") counter (codes "Ticks that came too late to be taken.") (decimal m.missed) in
+    join _ _ _ _ one (two ++ (three ++ four)) c.in_ok-push_single.ensures
+    (join _ _ _ _ two (three ++ four) c.in_ok-push_single-2.ensures (join _ _ _ _ three four c.in_ok-push_single-3.ensures c.push_single-4.ensures))

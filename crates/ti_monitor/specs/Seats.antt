@@ -1,0 +1,61 @@
+-- The connections of a door.
+use Rattle.std.specs.Prelude.{◌≡◌, ℕ, ◌-◌, ◌*◌, ◌^◌, ◌==◌, ◌&&◌, ◌<◌, Bool, true, false, List, [], length, min, Option, Some, None, if◌then◌else◌}
+use Rattle.ti_http.specs.declared.connection.Action.{Action}
+use Rattle.ti_http.specs.declared.connection.Action.TheVariants as action
+use Rattle.ti_http.specs.declared.connection.Phase.{Phase}
+use Rattle.ti_http.specs.Runs.{Call, Runs, is_shut, is_waiting, state_of}
+use Rattle.ti_http.specs.Talks.{Talk, deadline_of, room_in}
+use Rattle.ti_monitor.specs.declared.door_desk.Due.{Due}
+use Rattle.ti_monitor.specs.declared.door_desk.Due.TheVariants as due
+use Rattle.ti_monitor.specs.declared.door_seat.Todo.{Todo}
+use Rattle.ti_monitor.specs.declared.door_seat.Todo.TheVariants as todo
+use Rattle.ti_monitor.specs.declared.monitor.ReadingNo.{ReadingNo}
+
+-- a request waits for its answer
+abbrev pub waits : Talk → Bool
+waits t = is_waiting (state_of t.phase)
+
+-- something is due
+abbrev pub is_due : Option Due → Bool
+is_due None = false
+is_due (Some d) = true
+
+-- nothing is to be written while a request waits, nor after a close
+abbrev pub QuietIn : Phase → List ℕ → Type 0
+QuietIn p output = (is_waiting (state_of p) ≡ true → output ≡ []) × (is_shut (state_of p) ≡ true → output ≡ [])
+
+-- Calls at a connection lead from one state to the other. `runs_follow_the_protocol` and `runs_send_answers` of `ti_http` say
+-- what such calls are.
+abbrev pub RunsTo : Talk → Talk → Type 0
+RunsTo old new = (calls : List Call) × Runs old calls new
+
+-- the reading that a request waits for
+abbrev pub reading_of : Option Due → Option ReadingNo
+reading_of None = None
+reading_of (Some (due.Reading reading target)) = Some reading
+reading_of (Some (due.Later seconds)) = None
+
+-- no request waits, no part of one came, and nothing is to be written
+abbrev pub is_idle : Talk → Bool
+is_idle t = ((t.asked == t.answered) && (room_in t == 8192)) && (length t.output == 0)
+
+abbrev pub idle_until : Talk → Option ℕ
+idle_until t = if is_idle t then deadline_of t else None
+
+-- milliseconds as nanoseconds, 2^64 - 1 at most
+abbrev pub in_nanos : Option ℕ → Option ℕ
+in_nanos None = None
+in_nanos (Some millis) = Some (min (millis * 1000000) (2 ^ 64 - 1))
+
+-- a request is handed out
+abbrev pub asks_one : Action → Bool
+asks_one (action.Ask request) = true
+asks_one action.Write = false
+asks_one action.Close = false
+asks_one action.Wait = false
+
+-- what a caller is told to do
+abbrev pub Says : Talk → Todo → Type 0
+Says t todo.Write = 0 < length t.output
+Says t todo.Close = (t.output ≡ []) × (is_shut (state_of t.phase) ≡ true)
+Says t todo.Wait = t.output ≡ []
