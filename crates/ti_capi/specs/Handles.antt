@@ -6,7 +6,7 @@ use Rattle.ti_thread.specs.declared.host_thread.HostThread.{HostThread}
 use Rattle.ti_capi.specs.declared.held.Held.{Held}
 use Rattle.ti_capi.specs.declared.held.Held.TheVariants as held
 use Rattle.ti_capi.specs.declared.held.HeldThread.{HeldThread}
-use Rattle.ti_capi.specs.declared.held.HeldDoor.{HeldDoor}
+use Rattle.ti_capi.specs.Held.{DoorBox}
 use Rattle.ti_capi.specs.declared.held.HeldEnv.{HeldEnv}
 use Rattle.ti_capi.specs.declared.held_at.HeldAt.{HeldAt}
 
@@ -64,17 +64,17 @@ abbrev pub with_held_env : Handle → HeldEnv → Handle
 with_held_env h e = with_held h (held.Env e)
 
 -- the same of a door
-abbrev pub door_of : Option Held → Option HeldDoor
+abbrev pub door_of : Option Held → Option DoorBox
 door_of (Some (held.Service m)) = None
 door_of (Some (held.Thread t)) = None
 door_of (Some (held.Env e)) = None
 door_of (Some (held.Door d)) = Some d
 door_of None = None
 
-abbrev pub door_in : Handle → Option HeldDoor
+abbrev pub door_in : Handle → Option DoorBox
 door_in h = door_of h.place.held
 
-abbrev pub with_held_door : Handle → HeldDoor → Handle
+abbrev pub with_held_door : Handle → DoorBox → Handle
 with_held_door h d = with_held h (held.Door d)
 
 -- the environment behind a handle

@@ -1,3 +1,4 @@
+pub mod Held
 pub mod Kinds
 pub mod Owning
 pub mod Handles

@@ -37,7 +37,7 @@ fn refusal_code(error: DoorError) -> u32
 
 /// The code of what is done at a door, or refused.
 fn code_of(done: Result<(), DoorError>) -> u32
-    ensures { result ≡ code_of done }
+    ensures { (result ≡ 0) ⊎ IsRefused result }
 {
     match done {
         Ok(()) => CQ_OK,
@@ -65,7 +65,7 @@ fn open(
     now: u64,
 ) -> Result<Box<Held>, TiError>
     ensures made { OnOk result (service.new ≡ with_handle service.old) }
-    ensures opened { IfOk result (λ b. IsSomeAnd (door_of (Some b.value)) (HasNewDoor hosts)) }
+    ensures opened { IfOk result (λ b. IsSomeAnd (door_of (Some b.value)) HasDoor) }
     ensures refused { IfErr result (λ e. RefusesDoor program.now service.old service.new e) }
 {
     let program = name_of(alloc, program)?;
@@ -90,7 +90,7 @@ pub extern "C" fn cq_open_door(
     now: u64,
     door: &mut CqDoor,
 ) -> u32
-    ensures { OpensDoor program.now (hosts_at port) service.old service.new door.old door.new result }
+    ensures { OpensDoor program.now service.old service.new door.old door.new result }
 {
     let Some(service) = service.service() else {
         return CQ_MISUSED;
@@ -104,7 +104,7 @@ pub extern "C" fn cq_open_door(
 /// Takes a new connection in.
 #[unsafe(no_mangle)]
 pub extern "C" fn cq_door_connect(door: &mut CqDoor, now: u64, connection: &mut u32) -> u32
-    ensures { AtDoor (Connects now connection.old connection.new) (connection.new ≡ connection.old) door.old door.new result }
+    ensures { AtDoor (IsTaken (connection.new ≡ connection.old)) (connection.new ≡ connection.old) door.old door.new result }
 {
     let Some(held) = door.held_door() else {
         return CQ_MISUSED;
@@ -131,7 +131,7 @@ pub extern "C" fn cq_door_next(
     action: &mut u32,
     room: &mut u64,
 ) -> u32
-    ensures { AtDoor (IsDone (GoesOn connection action.new room.new) ((action.new ≡ action.old) × (room.new ≡ room.old))) ((action.new ≡ action.old) × (room.new ≡ room.old)) door.old door.new result }
+    ensures { AtDoor (IsDone ((action.new ≡ action.old) × (room.new ≡ room.old))) ((action.new ≡ action.old) × (room.new ≡ room.old)) door.old door.new result }
 {
     let Some(held) = door.held_door() else {
         return CQ_MISUSED;
@@ -158,7 +158,7 @@ pub extern "C" fn cq_door_feed(
     now: u64,
     taken: &mut u64,
 ) -> u32
-    ensures { AtDoor (IsDone (TakesIn connection bytes.now now taken.new) (taken.new ≡ taken.old)) (taken.new ≡ taken.old) door.old door.new result }
+    ensures { AtDoor (IsDone (taken.new ≡ taken.old)) (taken.new ≡ taken.old) door.old door.new result }
 {
     let Some(held) = door.held_door() else {
         return CQ_MISUSED;
@@ -178,7 +178,7 @@ pub extern "C" fn cq_door_feed(
 /// The peer sends no more.
 #[unsafe(no_mangle)]
 pub extern "C" fn cq_door_end(door: &mut CqDoor, connection: u32, now: u64) -> u32
-    ensures { AtDoor (IsDone (Ends connection) ⊤) ⊤ door.old door.new result }
+    ensures { AtDoor (IsDone ⊤) ⊤ door.old door.new result }
 {
     let Some(held) = door.held_door() else {
         return CQ_MISUSED;
@@ -197,7 +197,7 @@ pub extern "C" fn cq_door_output(
     bytes: &mut [u8],
     count: &mut u64,
 ) -> u32
-    ensures { AtDoor (IsDone (Shows connection bytes.old bytes.new count.new) ((bytes.new ≡ bytes.old) × (count.new ≡ count.old))) ((bytes.new ≡ bytes.old) × (count.new ≡ count.old)) door.old door.new result }
+    ensures { AtDoor (IsDone ((bytes.new ≡ bytes.old) × (count.new ≡ count.old))) ((bytes.new ≡ bytes.old) × (count.new ≡ count.old)) door.old door.new result }
 {
     let Some(held) = door.held_door() else {
         return CQ_MISUSED;
@@ -217,7 +217,7 @@ pub extern "C" fn cq_door_output(
 /// The socket took so many bytes.
 #[unsafe(no_mangle)]
 pub extern "C" fn cq_door_written(door: &mut CqDoor, connection: u32, count: u64, now: u64) -> u32
-    ensures { AtDoor (IsDone (Writes connection count now) ⊤) ⊤ door.old door.new result }
+    ensures { AtDoor (IsDone ⊤) ⊤ door.old door.new result }
 {
     let Some(held) = door.held_door() else {
         return CQ_MISUSED;
@@ -231,7 +231,7 @@ pub extern "C" fn cq_door_written(door: &mut CqDoor, connection: u32, count: u64
 /// The socket is gone.
 #[unsafe(no_mangle)]
 pub extern "C" fn cq_door_disconnect(door: &mut CqDoor, connection: u32) -> u32
-    ensures { AtDoor (IsDone (Closes connection) ⊤) ⊤ door.old door.new result }
+    ensures { AtDoor (IsDone ⊤) ⊤ door.old door.new result }
 {
     let Some(held) = door.held_door() else {
         return CQ_MISUSED;
@@ -245,7 +245,7 @@ pub extern "C" fn cq_door_disconnect(door: &mut CqDoor, connection: u32) -> u32
 /// Does what is due.
 #[unsafe(no_mangle)]
 pub extern "C" fn cq_door_tick(door: &mut CqDoor, now: u64, deadline: &mut u64) -> u32
-    ensures { AtDoor Ticks (deadline.new ≡ deadline.old) door.old door.new result }
+    ensures { AtDoor (λ code. code ≡ 0) (deadline.new ≡ deadline.old) door.old door.new result }
 {
     let Some(held) = door.held_door() else {
         return CQ_MISUSED;
@@ -261,8 +261,7 @@ pub extern "C" fn cq_door_tick(door: &mut CqDoor, now: u64, deadline: &mut u64) 
 /// Closes the door.
 #[unsafe(no_mangle)]
 pub extern "C" fn cq_close_door(alloc: Global, door: &mut CqDoor) -> u32
-    ensures empty { result ≡ 0 → door.new.kind ≡ 0 }
-    ensures misused { door_behind (door_in door.old) ≡ None → result ≡ misused }
+    ensures { ClosesBehind (door_in door.old) door.old door.new result }
 {
     let Some(held) = door.held_door() else {
         return CQ_MISUSED;
@@ -276,7 +275,8 @@ pub extern "C" fn cq_close_door(alloc: Global, door: &mut CqDoor) -> u32
 
 /// Closes the door in a box. It stays there if its environment is not disposed of.
 fn close(held: &mut HeldDoor) -> u32
-    ensures misused { held.old.door ≡ None → (result ≡ misused) × (held.new ≡ held.old) }
+    ensures there { held.old.has ≡ true → (result ≡ 0) ⊎ (held.new ≡ held.old) }
+    ensures misused { held.old.has ≡ false → (result ≡ misused) × (held.new ≡ held.old) }
 {
     let Some(door) = held.door.take() else {
         return CQ_MISUSED;
@@ -290,8 +290,8 @@ fn close(held: &mut HeldDoor) -> u32
     }
 }
 
-ghost use Rattle.std.specs.Prelude.{◌≡◌, ◌×◌, ⊤, IfErr, IfOk, IsSomeAnd, None, OnOk, Some};
+ghost use Rattle.std.specs.Prelude.{◌≡◌, ◌⊎◌, ⊤, true, false, IfErr, IfOk, IsSomeAnd, OnOk, Some};
 ghost use Rattle.ti_capi.specs.Codes.{misused};
-ghost use Rattle.ti_capi.specs.Doors.{AtDoor, Closes, Connects, Ends, GoesOn, HasNewDoor, IsDone, OpensDoor, RefusesDoor, Shows, TakesIn, Ticks, Writes, action_of, code_of, code_refused, door_behind, hosts_at};
+ghost use Rattle.ti_capi.specs.Doors.{AtDoor, ClosesBehind, HasDoor, IsDone, IsRefused, IsTaken, OpensDoor, RefusesDoor, action_of, code_refused, hosts_at};
 ghost use Rattle.ti_capi.specs.Handles.{door_in, door_of};
 ghost use Rattle.ti_service.specs.Service.{with_handle};
