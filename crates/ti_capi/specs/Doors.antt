@@ -1,5 +1,5 @@
 -- Doors, as C uses them.
-use Rattle.std.specs.Prelude.{IsSomeAnd, Bool, ℕ, ◌≡◌, ◌⊎◌, true, false, List, nat_lt, Option, Some, None, if◌then◌else◌}
+use Rattle.std.specs.Prelude.{IsSomeAnd, ℕ, ◌≡◌, ◌⊎◌, true, List, nat_lt, if◌then◌else◌}
 use Rattle.ti_types.specs.TiError.{number_of}
 use Rattle.ti_types.specs.declared.error.TiError.{TiError}
 use Rattle.ti_types.specs.declared.error.TiError.TheVariants.{Full, OutOfMemory}
@@ -11,7 +11,7 @@ use Rattle.ti_monitor.specs.declared.door_seat.Todo.{Todo}
 use Rattle.ti_monitor.specs.declared.door_seat.Todo.TheVariants as todo
 use Rattle.ti_service.specs.Service.{Member, with_handle}
 use Rattle.ti_capi.specs.Codes.{misused, none_told}
-use Rattle.ti_capi.specs.Handles.{Handle, door_in, door_of, service_in}
+use Rattle.ti_capi.specs.Handles.{Handle, door_of, service_in}
 use Rattle.ti_capi.specs.Held.{DoorBox}
 use Rattle.ti_capi.specs.Services.{Fills, FillsBy, NamesWrongly, RefusesEnv}
 
@@ -39,27 +39,9 @@ IsDone unwritten code = (code ≡ 0) ⊎ (IsRefused code × unwritten)
 abbrev pub IsTaken : (unwritten : Type 0) → ℕ → Type 0
 IsTaken unwritten code = (code ≡ 0) ⊎ ((code ≡ number_of Full) × unwritten)
 
--- A call at a box with a door, or without one
-abbrev pub DoorThere : Bool → (codes : ℕ → Type 0) → (unwritten : Type 0) → ℕ → Type 0
-DoorThere true codes unwritten code = codes code
-DoorThere false codes unwritten code = (code ≡ misused) × unwritten
-
--- A call at the door behind a handle. The handle stays as it is. If it is empty or of another kind, nothing is written
-abbrev pub DoorBehind : Option DoorBox → (codes : ℕ → Type 0) → (unwritten : Type 0) → ℕ → Type 0
-DoorBehind (Some d) codes unwritten code = DoorThere d.has codes unwritten code
-DoorBehind None codes unwritten code = (code ≡ misused) × unwritten
-
-abbrev pub AtDoor : (codes : ℕ → Type 0) → (unwritten : Type 0) → Handle → Handle → ℕ → Type 0
-AtDoor codes unwritten old new code = (new ≡ old) × DoorBehind (door_in old) codes unwritten code
-
--- the door is closed, and the handle empty; or it is as it was
-abbrev pub ClosesThere : Bool → Handle → Handle → ℕ → Type 0
-ClosesThere true old new code = ((code ≡ 0) × (new.kind ≡ 0)) ⊎ (new ≡ old)
-ClosesThere false old new code = (code ≡ misused) × (new ≡ old)
-
-abbrev pub ClosesBehind : Option DoorBox → Handle → Handle → ℕ → Type 0
-ClosesBehind (Some d) old new code = ClosesThere d.has old new code
-ClosesBehind None old new code = (code ≡ misused) × (new ≡ old)
+-- the code of a call at the door behind a handle. It is 304 if there is none, and then nothing is written
+abbrev pub IsCode : (codes : ℕ → Type 0) → (unwritten : Type 0) → ℕ → Type 0
+IsCode codes unwritten code = codes code ⊎ ((code ≡ misused) × unwritten)
 
 -- the box of a door that is there
 abbrev pub HasDoor : DoorBox → Type 0

@@ -104,7 +104,8 @@ pub extern "C" fn cq_open_door(
 /// Takes a new connection in.
 #[unsafe(no_mangle)]
 pub extern "C" fn cq_door_connect(door: &mut CqDoor, now: u64, connection: &mut u32) -> u32
-    ensures { AtDoor (IsTaken (connection.new ≡ connection.old)) (connection.new ≡ connection.old) door.old door.new result }
+    ensures code { IsCode (IsTaken (connection.new ≡ connection.old)) (connection.new ≡ connection.old) result }
+    ensures none { door_in door.old ≡ None → (result ≡ misused) × (door.new ≡ door.old) }
 {
     let Some(held) = door.held_door() else {
         return CQ_MISUSED;
@@ -131,7 +132,8 @@ pub extern "C" fn cq_door_next(
     action: &mut u32,
     room: &mut u64,
 ) -> u32
-    ensures { AtDoor (IsDone ((action.new ≡ action.old) × (room.new ≡ room.old))) ((action.new ≡ action.old) × (room.new ≡ room.old)) door.old door.new result }
+    ensures code { IsCode (IsDone ((action.new ≡ action.old) × (room.new ≡ room.old))) ((action.new ≡ action.old) × (room.new ≡ room.old)) result }
+    ensures none { door_in door.old ≡ None → (result ≡ misused) × (door.new ≡ door.old) }
 {
     let Some(held) = door.held_door() else {
         return CQ_MISUSED;
@@ -158,7 +160,8 @@ pub extern "C" fn cq_door_feed(
     now: u64,
     taken: &mut u64,
 ) -> u32
-    ensures { AtDoor (IsDone (taken.new ≡ taken.old)) (taken.new ≡ taken.old) door.old door.new result }
+    ensures code { IsCode (IsDone (taken.new ≡ taken.old)) (taken.new ≡ taken.old) result }
+    ensures none { door_in door.old ≡ None → (result ≡ misused) × (door.new ≡ door.old) }
 {
     let Some(held) = door.held_door() else {
         return CQ_MISUSED;
@@ -178,7 +181,8 @@ pub extern "C" fn cq_door_feed(
 /// The peer sends no more.
 #[unsafe(no_mangle)]
 pub extern "C" fn cq_door_end(door: &mut CqDoor, connection: u32, now: u64) -> u32
-    ensures { AtDoor (IsDone ⊤) ⊤ door.old door.new result }
+    ensures code { IsCode (IsDone ⊤) (⊤) result }
+    ensures none { door_in door.old ≡ None → (result ≡ misused) × (door.new ≡ door.old) }
 {
     let Some(held) = door.held_door() else {
         return CQ_MISUSED;
@@ -197,7 +201,8 @@ pub extern "C" fn cq_door_output(
     bytes: &mut [u8],
     count: &mut u64,
 ) -> u32
-    ensures { AtDoor (IsDone ((bytes.new ≡ bytes.old) × (count.new ≡ count.old))) ((bytes.new ≡ bytes.old) × (count.new ≡ count.old)) door.old door.new result }
+    ensures code { IsCode (IsDone ((bytes.new ≡ bytes.old) × (count.new ≡ count.old))) ((bytes.new ≡ bytes.old) × (count.new ≡ count.old)) result }
+    ensures none { door_in door.old ≡ None → (result ≡ misused) × (door.new ≡ door.old) }
 {
     let Some(held) = door.held_door() else {
         return CQ_MISUSED;
@@ -217,7 +222,8 @@ pub extern "C" fn cq_door_output(
 /// The socket took so many bytes.
 #[unsafe(no_mangle)]
 pub extern "C" fn cq_door_written(door: &mut CqDoor, connection: u32, count: u64, now: u64) -> u32
-    ensures { AtDoor (IsDone ⊤) ⊤ door.old door.new result }
+    ensures code { IsCode (IsDone ⊤) (⊤) result }
+    ensures none { door_in door.old ≡ None → (result ≡ misused) × (door.new ≡ door.old) }
 {
     let Some(held) = door.held_door() else {
         return CQ_MISUSED;
@@ -231,7 +237,8 @@ pub extern "C" fn cq_door_written(door: &mut CqDoor, connection: u32, count: u64
 /// The socket is gone.
 #[unsafe(no_mangle)]
 pub extern "C" fn cq_door_disconnect(door: &mut CqDoor, connection: u32) -> u32
-    ensures { AtDoor (IsDone ⊤) ⊤ door.old door.new result }
+    ensures code { IsCode (IsDone ⊤) (⊤) result }
+    ensures none { door_in door.old ≡ None → (result ≡ misused) × (door.new ≡ door.old) }
 {
     let Some(held) = door.held_door() else {
         return CQ_MISUSED;
@@ -245,7 +252,8 @@ pub extern "C" fn cq_door_disconnect(door: &mut CqDoor, connection: u32) -> u32
 /// Does what is due.
 #[unsafe(no_mangle)]
 pub extern "C" fn cq_door_tick(door: &mut CqDoor, now: u64, deadline: &mut u64) -> u32
-    ensures { AtDoor (λ code. code ≡ 0) (deadline.new ≡ deadline.old) door.old door.new result }
+    ensures code { IsCode (λ code. code ≡ 0) (deadline.new ≡ deadline.old) result }
+    ensures none { door_in door.old ≡ None → (result ≡ misused) × (door.new ≡ door.old) }
 {
     let Some(held) = door.held_door() else {
         return CQ_MISUSED;
@@ -261,7 +269,8 @@ pub extern "C" fn cq_door_tick(door: &mut CqDoor, now: u64, deadline: &mut u64) 
 /// Closes the door.
 #[unsafe(no_mangle)]
 pub extern "C" fn cq_close_door(alloc: Global, door: &mut CqDoor) -> u32
-    ensures { ClosesBehind (door_in door.old) door.old door.new result }
+    ensures closed { result ≡ 0 → door.new.kind ≡ 0 }
+    ensures none { door_in door.old ≡ None → (result ≡ misused) × (door.new ≡ door.old) }
 {
     let Some(held) = door.held_door() else {
         return CQ_MISUSED;
@@ -275,8 +284,7 @@ pub extern "C" fn cq_close_door(alloc: Global, door: &mut CqDoor) -> u32
 
 /// Closes the door in a box. It stays there if its environment is not disposed of.
 fn close(held: &mut HeldDoor) -> u32
-    ensures there { held.old.has ≡ true → (result ≡ 0) ⊎ (held.new ≡ held.old) }
-    ensures misused { held.old.has ≡ false → (result ≡ misused) × (held.new ≡ held.old) }
+    ensures misused { held.old.has ≡ false → result ≡ misused }
 {
     let Some(door) = held.door.take() else {
         return CQ_MISUSED;
@@ -290,8 +298,8 @@ fn close(held: &mut HeldDoor) -> u32
     }
 }
 
-ghost use Rattle.std.specs.Prelude.{◌≡◌, ◌⊎◌, ⊤, true, false, IfErr, IfOk, IsSomeAnd, OnOk, Some};
+ghost use Rattle.std.specs.Prelude.{◌≡◌, ◌⊎◌, ⊤, true, false, IfErr, IfOk, IsSomeAnd, None, OnOk, Some};
 ghost use Rattle.ti_capi.specs.Codes.{misused};
-ghost use Rattle.ti_capi.specs.Doors.{AtDoor, ClosesBehind, HasDoor, IsDone, IsRefused, IsTaken, OpensDoor, RefusesDoor, action_of, code_refused, hosts_at};
+ghost use Rattle.ti_capi.specs.Doors.{HasDoor, IsCode, IsDone, IsRefused, IsTaken, OpensDoor, RefusesDoor, action_of, code_refused, hosts_at};
 ghost use Rattle.ti_capi.specs.Handles.{door_in, door_of};
 ghost use Rattle.ti_service.specs.Service.{with_handle};
