@@ -20,14 +20,19 @@ static uint32_t below(uint32_t bound) {
     return (uint32_t)(((chance * 0x2545F4914F6CDD1DULL >> 32) * bound) >> 32);
 }
 
-/* Pieces of requests, right and wrong. */
-static const char *const PIECES[] = {
-    "GET ", "HEAD ", "POST ", "BREW ", "/", "/metrics", "/threads", "/threads.json", "/debug/pprof/threads?debug=2", "/nothing",
-    "/debug/pprof/profile?seconds=1&rate=1000", "?", "&", "%", " ", " HTTP/1.1\r\n", " HTTP/1.0\r\n", " HTTP/2.0\r\n", "Host: localhost\r\n",
-    "Host: [::1]:6060\r\n", "Host: example.org\r\n", "Content-Length: 0\r\n", "Content-Length: 7\r\n", "Transfer-Encoding: chunked\r\n",
-    "Sec-Fetch-Site: cross-site\r\n", "Connection: close\r\n", "A: b\r\n", ":", "\r", "\n", "\r\n", "\r\n\r\n", "GET / HTTP/1.1\r\nHost: localhost\r\n\r\n",
-    "GET /threads HTTP/1.1\r\nHost: localhost\r\n\r\n", "HEAD /metrics HTTP/1.1\r\nHost: localhost:6060\r\n\r\n",
+/* Parts of requests, by where they stand in one. Those at the front of each list are right. */
+static const char *const METHODS[] = { "GET ", "GET ", "HEAD ", "POST ", "BREW ", "get " };
+static const char *const TARGETS[] = {
+    "/", "/metrics", "/threads", "/threads.json", "/debug/pprof/threads?debug=2", "/debug/pprof/profile?seconds=1&rate=1000",
+    "/debug/pprof/profile?seconds=0", "/threads?x", "/nothing", "http://localhost/", "/%2e", "*",
 };
+static const char *const VERSIONS[] = { " HTTP/1.1\r\n", " HTTP/1.1\r\n", " HTTP/1.0\r\n", " HTTP/2.0\r\n", "\r\n", " HTTP/1.1\n" };
+static const char *const HOSTS[] = { "Host: localhost\r\n", "Host: [::1]:6060\r\n", "Host: example.org\r\n", "", "Host: localhost\r\nHost: localhost\r\n" };
+static const char *const FIELDS[] = {
+    "", "", "A: b\r\n", "Connection: close\r\n", "Connection: keep-alive\r\n", "Content-Length: 0\r\n", "Content-Length: 7\r\n",
+    "Transfer-Encoding: chunked\r\n", "Sec-Fetch-Site: cross-site\r\n", ": c\r\n", "Content-Length: x\r\n",
+};
+static const char *const ENDS[] = { "\r\n", "\r\n", "\r\n", "\n", "" };
 
 static void add(const char *text) {
     size_t count = strlen(text);
@@ -35,22 +40,47 @@ static void add(const char *text) {
     length += count;
 }
 
+/* Adds one of a list, most often one of the first two. */
+static void add_one(const char *const *list, uint32_t count) {
+    add(list[below(5) == 0 ? below(count) : below(2)]);
+}
+
+#define ADD_ONE(list) add_one(list, sizeof list / sizeof *list)
+
+static void add_request(void) {
+    ADD_ONE(METHODS);
+    add(TARGETS[below(sizeof TARGETS / sizeof *TARGETS)]);
+    ADD_ONE(VERSIONS);
+    ADD_ONE(HOSTS);
+    for (uint32_t count = below(3); count > 0; count--) {
+        ADD_ONE(FIELDS);
+    }
+    ADD_ONE(ENDS);
+}
+
+static void add_bytes(uint32_t count, uint32_t least, uint32_t kinds) {
+    for (; count > 0; count--) {
+        stream[length++] = (char)(least + below(kinds));
+    }
+}
+
+/* Some requests. In one of four streams bytes are changed or put in. */
 static void make_stream(void) {
-    uint32_t pieces = 1 + below(24);
+    uint32_t requests = 1 + below(6);
     length = 0;
-    for (uint32_t i = 0; i < pieces && length < LONGEST - 256; i++) {
-        switch (below(12)) {
-        case 0:
-            stream[length++] = (char)below(256);
-            break;
-        case 1:
-            for (uint32_t count = below(200); count > 0; count--) {
-                stream[length++] = (char)('a' + below(26));
-            }
-            break;
-        default:
-            add(PIECES[below(sizeof PIECES / sizeof *PIECES)]);
-        }
+    for (uint32_t i = 0; i < requests && length < LONGEST - 1000; i++) {
+        add_request();
+    }
+    switch (below(12)) {
+    case 0:
+        stream[below((uint32_t)length)] = (char)below(256);
+        break;
+    case 1:
+        add_bytes(below(300), 0, 256);
+        break;
+    case 2:
+        add_bytes(below(300), 'a', 26);
+        break;
     }
 }
 
@@ -77,7 +107,7 @@ static size_t fed(uint32_t connection, size_t at) {
 static void run_stream(uint32_t connection) {
     size_t at = 0;
     bool ended = false;
-    for (int idle = 0; idle < 30;) {
+    for (int idle = 0; idle < 150;) {
         uint32_t action = action_of(connection);
         if (action == CQ_DOOR_CLOSE) {
             return;
