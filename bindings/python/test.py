@@ -248,7 +248,7 @@ class WithRuntime(unittest.TestCase):
             with urllib.request.urlopen(address + "/threads.json", timeout=10) as answer:
                 [thread] = json.load(answer)["threads"]
             self.assertEqual((thread["number"], thread["name"], thread["priority"]), (0, "m\u00e4in", 7))
-            self.assertEqual([frame["method"] for frame in thread["frames"]], ["", "m\u00e4in"])
+            self.assertEqual([frame["method"] for frame in thread["frames"]], ["sleep", "m\u00e4in"])
             with self.assertRaises(OSError) as caught:
                 cebdyraq.Server(self.library, service, signal, f"127.0.0.1:{server.port}", "a test")
             self.assertEqual(caught.exception.errno, errno.EADDRINUSE)

@@ -96,7 +96,7 @@ class Pprof(unittest.TestCase):
     def test_top_has_the_shares_of_the_script(self):
         """The script spends three times as long in `heavy` as in `light`."""
         text = self.pprof("-top", "-sample_index=samples", "-tagfocus=shares.lua", self.url("profile?seconds=3&rate=200"))
-        share = {name: int(count) for count, name in re.findall(r"^\s*(\d+)\s+[\d.]+%\s+[\d.]+%\s+\d+\s+[\d.]+%\s+(\w+)", text, re.M)}
+        share = {name: int(count) for count, name in re.findall(r"^\s*\d+\s+[\d.]+%\s+[\d.]+%\s+(\d+)\s+[\d.]+%\s+(\w+)", text, re.M)}
         self.assertGreater(share["heavy"], 0, text)
         self.assertAlmostEqual(share["heavy"] / (share["heavy"] + share["light"]), 0.75, delta=0.08, msg=text)
 
@@ -170,7 +170,11 @@ class Told(unittest.TestCase):
 
     def test_json_tells_what_the_text_tells(self):
         with served("shares.lua", "sleeps.lua") as address:
-            told = json.loads(get(address, "/threads.json"))
+            for _ in range(100):
+                told = json.loads(get(address, "/threads.json"))
+                if any(thread["state"] == "sleeping" for thread in told["threads"]):
+                    break
+                time.sleep(0.05)
             text = get(address, "/threads").decode()
         self.assertEqual(told["count"], 2)
         self.assertEqual({thread["name"] for thread in told["threads"]}, {"shares.lua", "sleeps.lua"})
