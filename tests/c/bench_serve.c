@@ -91,8 +91,8 @@ static void time_profile(uint32_t stacks) {
         OK(cq_set_frames(&thread, frames, FRAMES));
         OK(cq_poll(&thread));
     }
-    OK(cq_door_end(&door, connection, now));
     began = seconds();
+    OK(cq_door_end(&door, connection, now));
     read_answer(connection);
     printf("a tick of one thread with a stack of %d frames   %8.2f us\n", FRAMES, counting * 1e6 / stacks);
     printf("a profile of %u different stacks             %8.2f ms, %zu bytes\n", stacks, (seconds() - began) * 1e3, written_count);
