@@ -1,0 +1,33 @@
+//! What is made of many pushes and removals.
+
+use crate::Chunked;
+use std::alloc::Global;
+use std::process::Abort;
+
+/// A list of the numbers below 1,000.
+fn thousand(rt: &impl Abort, alloc: Global) -> Chunked<u32> {
+    let mut list = Chunked::new(alloc);
+    for number in 0..1000 {
+        assert!(rt; list.push(number).is_ok());
+    }
+    list
+}
+
+/// Takes each third element out until there is none, and looks what is left after each time.
+#[test]
+fn takes_out_as_a_vec_does(rt: HostRuntime) {
+    let mut list = thousand(&rt, rt.alloc());
+    let mut items = thousand(&rt, rt.alloc()).into_vec();
+    let mut at = 0;
+    while items.len() > 0 {
+        at = (at + 333) % items.len();
+        assert!(rt; at < list.len());
+        assert!(rt; list.remove(at) == items.remove(at));
+        assert!(rt; list.len() == items.len());
+        for i in 0..items.len() {
+            assert!(rt; i < list.len());
+            assert!(rt; list[i] == items[i]);
+        }
+    }
+    assert!(rt; list.into_vec().is_empty());
+}
