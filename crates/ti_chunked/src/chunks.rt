@@ -6,7 +6,39 @@ use std::alloc::{AllocError, Global};
 pub(crate) const MOST: usize = 128;
 
 /// The place of the last chunk that starts at this index or before it. The first one does.
+///
+/// It looks first where the chunk is if all before it are full.
 pub(crate) fn chunk_of(starts: &Vec<usize>, index: usize) -> usize
+    requires some { 0 < length starts.now.items }
+    requires from { slice_index starts.now.items 0 ≤ index }
+    ensures there { result < length starts.now.items }
+    ensures from { slice_index starts.now.items result ≤ index }
+    ensures below { result + 1 < length starts.now.items → index < slice_index starts.now.items (result + 1) }
+{
+    let guess = (index - starts[0]) / MOST;
+    if is_at(starts, guess, index) {
+        return guess;
+    }
+    if is_at(starts, guess + 1, index) {
+        return guess + 1;
+    }
+    search(starts, index)
+}
+
+/// Whether this is the last chunk that starts at this index or before it.
+fn is_at(starts: &Vec<usize>, chunk: usize, index: usize) -> bool
+    ensures there { result ≡ true → chunk < length starts.now.items }
+    ensures from { result ≡ true → slice_index starts.now.items chunk ≤ index }
+    ensures below { result ≡ true → chunk + 1 < length starts.now.items → index < slice_index starts.now.items (chunk + 1) }
+{
+    if chunk >= starts.len() || starts[chunk] > index {
+        return false;
+    }
+    starts.len() - chunk < 2 || index < starts[chunk + 1]
+}
+
+/// The same as `chunk_of`, by binary search.
+fn search(starts: &Vec<usize>, index: usize) -> usize
     requires some { 0 < length starts.now.items }
     requires from { slice_index starts.now.items 0 ≤ index }
     ensures there { result < length starts.now.items }
@@ -128,5 +160,5 @@ fn join<T: Drop>(chunks: &mut Vec<Vec<T>>, starts: &mut Vec<usize>, chunk: usize
     };
 }
 
-ghost use Rattle.std.specs.Prelude.{◌≡◌, ℕ, ◌+◌, ◌<◌, ◌≤◌, ◌++◌, ◌∷◌, [], false, length, map, slice_index, IfErr, OnOk, OnErr};
+ghost use Rattle.std.specs.Prelude.{◌≡◌, ℕ, ◌+◌, ◌<◌, ◌≤◌, ◌++◌, ◌∷◌, [], true, false, length, map, slice_index, IfErr, OnOk, OnErr};
 ghost use Rattle.ti_chunked.specs.Chunks.{ArePositive, joined, lowered, starts_from};

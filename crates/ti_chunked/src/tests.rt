@@ -13,17 +13,16 @@ fn thousand(rt: &impl Abort, alloc: Global) -> Chunked<u32> {
     list
 }
 
-/// Takes each third element out until there is none, and looks what is left after each time.
+/// Takes elements out here and there until there is none, and looks what is left after each time.
 #[test]
 fn takes_out_as_a_vec_does(rt: HostRuntime) {
     let mut list = thousand(&rt, rt.alloc());
     let mut items = thousand(&rt, rt.alloc()).into_vec();
-    let mut at = 0;
-    while items.len() > 0 {
-        at = (at + 333) % items.len();
-        assert!(rt; at < list.len());
+    for step in 0..1000 {
+        let count = items.len();
+        assert!(rt; count > 0 && list.len() == count);
+        let at = step * 333 % count;
         assert!(rt; list.remove(at) == items.remove(at));
-        assert!(rt; list.len() == items.len());
         for i in 0..items.len() {
             assert!(rt; i < list.len());
             assert!(rt; list[i] == items[i]);

@@ -16,9 +16,9 @@ use Rattle.ti_service.proofs.agent_calls.clear.Goals.{After-push_reserved}
 use Rattle.ti_service.proofs.agent_calls.clear.Goals as goal
 
 -- the desk that was cleared
-cleared : (g : Over) (c : After-push_reserved g) → IsCleared (record { env = c.agent.inside.env; state = c.agent.inside.state; desks = c.agent.inside.desks.items }) c.clear_desk.new.self.env c.in-Some.thread c.in-Some-2.desk
+cleared : (g : Over) (c : After-push_reserved g) → IsCleared (record { env = c.agent.inside.env; state = c.agent.inside.state; desks = c.agent.inside.desks }) c.clear_desk.new.self.env c.in-Some.thread c.in-Some-2.desk
 cleared g c =
-    subst (λ (o : Option FreeState). IfSome o (λ f. IsCleared (record { env = c.agent.inside.env; state = c.agent.inside.state; desks = c.agent.inside.desks.items }) c.clear_desk.new.self.env c.in-Some.thread f)) c.in-Some-2.is
+    subst (λ (o : Option FreeState). IfSome o (λ f. IsCleared (record { env = c.agent.inside.env; state = c.agent.inside.state; desks = c.agent.inside.desks }) c.clear_desk.new.self.env c.in-Some.thread f)) c.in-Some-2.is
     c.in_ok-desk.ensures.cleared
 
 -- it waits behind the others

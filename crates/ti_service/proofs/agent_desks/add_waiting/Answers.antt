@@ -15,8 +15,8 @@ use Rattle.ti_service.proofs.agent_desks.add_waiting.Goals.{After-pop}
 use Rattle.ti_service.proofs.agent_desks.add_waiting.Goals as goal
 
 -- all desks that wait are the agent's own
-ours : (c : After-pop) → AreOursOf c.agent.inside.home.service (record { env = c.agent.inside.env; state = c.agent.inside.state; desks = c.agent.inside.desks.items }) c.agent.inside.home.waiting.items
-ours c = ours_of c.agent.inside.home.service (record { env = c.agent.inside.env; state = c.agent.inside.state; desks = c.agent.inside.desks.items }) c.agent.inside.home.waiting.items c.agent.invariant.1.0 c.agent.invariant.1.1
+ours : (c : After-pop) → AreOursOf c.agent.inside.home.service (record { env = c.agent.inside.env; state = c.agent.inside.state; desks = c.agent.inside.desks }) c.agent.inside.home.waiting.items
+ours c = ours_of c.agent.inside.home.service (record { env = c.agent.inside.env; state = c.agent.inside.state; desks = c.agent.inside.desks }) c.agent.inside.home.waiting.items c.agent.invariant.1.0 c.agent.invariant.1.1
 
 pub add_desk-requires : goal.add_desk-requires
 add_desk-requires c =

@@ -1,5 +1,5 @@
 use Rattle.std.proofs.Common.{◌-◌, ◌<◌, ◌≤◌, length, slice_index}
-use Rattle.ti_chunked.proofs.chunks.chunk_of.Given as goal
+use Rattle.ti_chunked.proofs.chunks.search.Given as goal
 
 -- the chunk at `low` starts at the index or before it, and the one at `high` behind it
 abbrev pub invariant-loop-high : goal.invariant-loop-high
