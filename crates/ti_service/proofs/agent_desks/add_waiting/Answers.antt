@@ -21,7 +21,7 @@ ours c = ours_of c.agent.inside.home.service (record { env = c.agent.inside.env;
 pub add_desk-requires : goal.add_desk-requires
 add_desk-requires c =
     let at = c.agent.inside in
-    let s : Environment = record { env = at.env; state = at.state; desks = at.desks.items } in
+    let s : Environment = record { env = at.env; state = at.state; desks = at.desks } in
     let f : FreeState = c.in-Some.desk in
     let rest : List FreeState = c.pop.new.self.items in
     let left : at.home.waiting.items ≡ rest ++ f ∷ [] = c.pop.ensures.items ∙ ap (λ (o : Option FreeState). rest ++ option_to_list o) c.in-Some.is in
@@ -45,7 +45,7 @@ loop-desk-preserved c =
 pub returns-in-Err-clause-refused : goal.returns-in-Err-clause-refused
 returns-in-Err-clause-refused c =
     let at = c.agent.inside in
-    let s : Environment = record { env = at.env; state = at.state; desks = at.desks.items } in
+    let s : Environment = record { env = at.env; state = at.state; desks = at.desks } in
     let f : FreeState = c.in-Some.desk in
     let rest : List FreeState = c.pop.new.self.items in
     let left : at.home.waiting.items ≡ rest ++ f ∷ [] = c.pop.ensures.items ∙ ap (λ (o : Option FreeState). rest ++ option_to_list o) c.in-Some.is in
