@@ -58,6 +58,10 @@ values period count = packed_field 2 (count ∷ wall_of period count ∷ [])
 abbrev pub location_of : List Frame → Frame → ℕ
 location_of locations frame = position_or_len (is_same_frame frame) locations + 3
 
+-- the location of a node's frame
+abbrev pub node_location : List Frame → Node → ℕ
+node_location locations node = location_of locations node.frame
+
 abbrev pub locations_of_stack : List Frame → List Frame → List ℕ
 locations_of_stack locations [] = 1 ∷ []
 locations_of_stack locations (frame ∷ frames) = map (location_of locations) (frame ∷ frames)

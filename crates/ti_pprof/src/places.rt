@@ -5,8 +5,69 @@ use crate::stacks::{Frame, Node};
 use indexmap::IndexSet;
 use std::alloc::{AllocError, Global};
 
+/// What the samples say of frames: the nodes of the stacks, the different frames of these nodes, and for each node the id of
+/// its frame's location.
+#[derive(Drop)]
+pub(crate) struct Places<'n> {
+    nodes: &'n [Node],
+    frames: IndexSet<Frame>,
+    ids: Vec<u64>,
+    ghost earlier: { AreOnEarlier nodes.now },
+    ghost each: { ids.items ≡ map (node_location frames.keys) nodes.now },
+}
+
+impl<'n> Places<'n> {
+    /// The places of these nodes. Each frame is looked up once a node, not once a sample. The error is lack of memory.
+    pub(crate) fn new(alloc: Global, nodes: &'n [Node]) -> Result<Self, AllocError>
+        requires earlier { AreOnEarlier nodes.now }
+        ensures nodes { IfOk result (λ p. p.nodes.now ≡ nodes.now) }
+        ensures frames { IfOk result (λ p. p.frames.keys ≡ frames_of nodes.now) }
+    {
+        let frames = frames_of(alloc, nodes)?;
+        let ids = ids_of(alloc, nodes, &frames)?;
+        Ok(Places { nodes, frames, ids })
+    }
+
+    /// The different frames.
+    pub(crate) fn frames(&self) -> &IndexSet<Frame>
+        ensures { result.now ≡ self.now.frames }
+    {
+        &self.frames
+    }
+
+    /// The ids of the locations of a stack, the newest frame first. A stack without frames has location 1. The error is lack
+    /// of memory.
+    pub(crate) fn locations_of(&self, alloc: Global, stack: u32) -> Result<Vec<u64>, AllocError>
+        requires there { stack ≤ length self.now.nodes.now }
+        ensures { IfOk result (λ ids. ids.items ≡ locations_of_stack self.now.frames.keys (stack_at (stacks_of self.now.nodes.now) stack)) }
+    {
+        if stack == 0 {
+            let mut ids = Vec::new(alloc);
+            ids.push(1)?;
+            return Ok(ids);
+        }
+        let ids = self.locations_of_frames(alloc, stack)?;
+        Ok(ids)
+    }
+
+    /// The ids of the locations of a stack's frames, the newest first. The error is lack of memory.
+    fn locations_of_frames(&self, alloc: Global, stack: u32) -> Result<Vec<u64>, AllocError>
+        requires there { stack ≤ length self.now.nodes.now }
+        ensures { IfOk result (λ ids. ids.items ≡ map (location_of self.now.frames.keys) (stack_at (stacks_of self.now.nodes.now) stack)) }
+    {
+        let mut ids = Vec::new(alloc);
+        let mut number = stack;
+        while number > 0 {
+            let place = number as usize - 1;
+            ids.push(self.ids[place])?;
+            number = self.nodes[place].rest;
+        }
+        Ok(ids)
+    }
+}
+
 /// The frames of these nodes, each once. The error is lack of memory.
-pub(crate) fn frames_of(alloc: Global, nodes: &[Node]) -> Result<IndexSet<Frame>, AllocError>
+fn frames_of(alloc: Global, nodes: &[Node]) -> Result<IndexSet<Frame>, AllocError>
     ensures { IfOk result (λ f. f.keys ≡ frames_of nodes.now) }
 {
     let mut frames = IndexSet::new(alloc);
@@ -14,6 +75,17 @@ pub(crate) fn frames_of(alloc: Global, nodes: &[Node]) -> Result<IndexSet<Frame>
         frames.insert_full(node.frame)?;
     }
     Ok(frames)
+}
+
+/// The ids of the locations of the frames of these nodes. The error is lack of memory.
+fn ids_of(alloc: Global, nodes: &[Node], frames: &IndexSet<Frame>) -> Result<Vec<u64>, AllocError>
+    ensures { IfOk result (λ ids. ids.items ≡ map (node_location frames.now.keys) nodes.now) }
+{
+    let mut ids = Vec::new(alloc);
+    for node in nodes {
+        ids.push(location_of(frames, node.frame))?;
+    }
+    Ok(ids)
 }
 
 /// The id of the location of a frame. The first one is 3: two are for stacks that have no frames to tell.
@@ -25,48 +97,6 @@ fn location_of(frames: &IndexSet<Frame>, frame: Frame) -> u64
         Some(place) => place as u64 + 3,
         None => count as u64 + 3,
     }
-}
-
-/// The ids of the locations of a stack's frames, the newest first. The error is lack of memory.
-fn locations_of_frames(
-    alloc: Global,
-    nodes: &[Node],
-    frames: &IndexSet<Frame>,
-    stack: u32,
-) -> Result<Vec<u64>, AllocError>
-    requires there { stack ≤ length nodes.now }
-    requires earlier { AreOnEarlier nodes.now }
-    ensures { IfOk result (λ ids. ids.items ≡ map (location_of frames.now.keys) (stack_at (stacks_of nodes.now) stack)) }
-{
-    let mut ids = Vec::new(alloc);
-    let mut number = stack;
-    while number > 0 {
-        let node = nodes[number as usize - 1];
-        ids.push(location_of(frames, node.frame))?;
-        number = node.rest;
-    }
-    Ok(ids)
-}
-
-/// The ids of the locations of a stack, the newest frame first. A stack without frames has location 1. The error is lack of
-/// memory.
-pub(crate) fn locations_of(
-    alloc: Global,
-    nodes: &[Node],
-    frames: &IndexSet<Frame>,
-    stack: u32,
-) -> Result<Vec<u64>, AllocError>
-    requires there { stack ≤ length nodes.now }
-    requires earlier { AreOnEarlier nodes.now }
-    ensures { IfOk result (λ ids. ids.items ≡ locations_of_stack frames.now.keys (stack_at (stacks_of nodes.now) stack)) }
-{
-    if stack == 0 {
-        let mut ids = Vec::new(alloc);
-        ids.push(1)?;
-        return Ok(ids);
-    }
-    let ids = locations_of_frames(alloc, nodes, frames, stack)?;
-    Ok(ids)
 }
 
 /// The id of the function of a frame, if so many functions have names. Three functions come before these.
@@ -108,5 +138,5 @@ pub(crate) fn push_locations(
 }
 
 ghost use Rattle.std.specs.Prelude.{◌≡◌, ◌≤◌, ◌<◌, ◌^◌, ◌++◌, length, map, OnOk, IfOk};
-ghost use Rattle.ti_pprof.specs.Profile.{frames_of, function_of, location_fields, location_of, locations_from, locations_of_stack};
+ghost use Rattle.ti_pprof.specs.Profile.{frames_of, function_of, location_fields, location_of, locations_from, locations_of_stack, node_location};
 ghost use Rattle.ti_pprof.specs.Stacks.{AreOnEarlier, stack_at, stacks_of};

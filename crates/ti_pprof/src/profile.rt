@@ -4,7 +4,7 @@ use crate::counting::Counts;
 use crate::messages::{push_mapping, push_no_room, push_packed, push_value_type_field};
 use crate::named::{numbers_of, push_functions, push_strings, texts_of};
 use crate::names::{About, Names};
-use crate::places::{frames_of, push_locations};
+use crate::places::{Places, push_locations};
 use crate::samples::{Tables, push_samples};
 use crate::stacks::Frame;
 use crate::texts::Texts;
@@ -36,14 +36,14 @@ fn push_about(out: &mut Vec<u8>, texts: &Texts<'_>, about: &About) -> Result<(),
 /// Appends what was counted. The error is lack of memory.
 fn push_counts(
     out: &mut Vec<u8>,
-    tables: &Tables<'_, '_>,
+    tables: &Tables<'_, '_, '_>,
     counts: &Counts,
 ) -> Result<(), AllocError>
-    ensures { OnOk result (out.new.items ≡ out.old.items ++ counted_fields (strings_in tables.now.texts.now) tables.now.names.now tables.now.period tables.now.frames.now.keys (samples_of counts.now.trie counts.now.table) counts.now.no_room) }
+    requires there { tables.now.places.now.nodes.now ≡ counts.now.trie.nodes.keys }
+    ensures { OnOk result (out.new.items ≡ out.old.items ++ counted_fields (strings_in tables.now.texts.now) tables.now.names.now tables.now.period tables.now.places.now.frames.keys (samples_of counts.now.trie counts.now.table) counts.now.no_room) }
 {
-    let nodes = counts.trie().nodes();
     let table = counts.table();
-    push_samples(out, tables, nodes, table.rows(), table.counts())?;
+    push_samples(out, tables, table.rows(), table.counts())?;
     push_no_room(out, tables.period, counts.no_room())
 }
 
@@ -60,17 +60,17 @@ pub fn encode(
     ensures { IfOk result (λ b. b.items ≡ profile about.now names.now counts.now.trie.nodes.keys (samples_of counts.now.trie counts.now.table) counts.now.no_room) }
 {
     let texts = texts_of(alloc, about, names)?;
-    let frames = frames_of(alloc, counts.trie().nodes())?;
+    let places = Places::new(alloc, counts.trie().nodes())?;
     let mut out = Vec::new(alloc);
     push_sample_types(&mut out, &texts)?;
     let tables = Tables {
         texts: &texts,
         names,
-        frames: &frames,
+        places: &places,
         period: about.period,
     };
     push_counts(&mut out, &tables, counts)?;
-    push_tables(&mut out, &texts, about, names, &frames)?;
+    push_tables(&mut out, &texts, about, names, places.frames())?;
     push_about(&mut out, &texts, about)?;
     Ok(out)
 }

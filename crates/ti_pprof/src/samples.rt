@@ -2,20 +2,18 @@
 
 use crate::messages::{push_label, push_packed, push_values};
 use crate::names::Names;
-use crate::places::locations_of;
-use crate::stacks::{Frame, Node};
+use crate::places::Places;
 use crate::table::Row;
 use crate::texts::Texts;
 use crate::wire::push_block;
-use indexmap::IndexSet;
 use std::alloc::AllocError;
 
 /// What the samples of a profile refer to.
 #[derive(Clone, Copy)]
-pub(crate) struct Tables<'a, 't> {
+pub(crate) struct Tables<'a, 't, 'n> {
     pub(crate) texts: &'a Texts<'t>,
     pub(crate) names: &'a Names,
-    pub(crate) frames: &'a IndexSet<Frame>,
+    pub(crate) places: &'a Places<'n>,
     /// The nanoseconds from one sample to the next.
     pub(crate) period: u64,
 }
@@ -32,7 +30,7 @@ fn text_at(texts: &[String], place: u32) -> Option<&String>
 }
 
 /// Appends the labels of a sample. The error is lack of memory.
-fn push_labels(out: &mut Vec<u8>, tables: &Tables<'_, '_>, row: Row) -> Result<(), AllocError>
+fn push_labels(out: &mut Vec<u8>, tables: &Tables<'_, '_, '_>, row: Row) -> Result<(), AllocError>
     ensures { OnOk result (out.new.items ≡ out.old.items ++ labels (strings_in tables.now.texts.now) tables.now.names.now row.thread row.state) }
 {
     let thread = text_at(&tables.names.threads, row.thread);
@@ -45,17 +43,15 @@ fn push_labels(out: &mut Vec<u8>, tables: &Tables<'_, '_>, row: Row) -> Result<(
 /// Appends a sample. The error is lack of memory.
 fn push_sample(
     out: &mut Vec<u8>,
-    tables: &Tables<'_, '_>,
-    nodes: &[Node],
+    tables: &Tables<'_, '_, '_>,
     row: Row,
     count: u64,
 ) -> Result<(), AllocError>
-    requires there { row.stack ≤ length nodes.now }
-    requires earlier { AreOnEarlier nodes.now }
-    ensures { OnOk result (out.new.items ≡ out.old.items ++ sample_field (strings_in tables.now.texts.now) tables.now.names.now tables.now.period tables.now.frames.now.keys (sample_of (stacks_of nodes.now) row count)) }
+    requires there { row.stack ≤ length tables.now.places.now.nodes.now }
+    ensures { OnOk result (out.new.items ≡ out.old.items ++ sample_field (strings_in tables.now.texts.now) tables.now.names.now tables.now.period tables.now.places.now.frames.keys (sample_of (stacks_of tables.now.places.now.nodes.now) row count)) }
 {
     let alloc = *out.allocator();
-    let ids = locations_of(alloc, nodes, tables.frames, row.stack)?;
+    let ids = tables.places.locations_of(alloc, row.stack)?;
     let mut inner = Vec::new(alloc);
     push_packed(&mut inner, 1, &ids)?;
     push_values(&mut inner, tables.period, count)?;
@@ -66,18 +62,16 @@ fn push_sample(
 /// Appends the samples of these rows and their counts. The error is lack of memory.
 pub(crate) fn push_samples(
     out: &mut Vec<u8>,
-    tables: &Tables<'_, '_>,
-    nodes: &[Node],
+    tables: &Tables<'_, '_, '_>,
     rows: &[Row],
     counts: &[u64],
 ) -> Result<(), AllocError>
-    requires there { AreNumbered rows.now (length nodes.now) }
-    requires earlier { AreOnEarlier nodes.now }
+    requires there { AreNumbered rows.now (length tables.now.places.now.nodes.now) }
     requires counted { length counts.now ≡ length rows.now }
-    ensures { OnOk result (out.new.items ≡ out.old.items ++ sample_fields (strings_in tables.now.texts.now) tables.now.names.now tables.now.period tables.now.frames.now.keys (samples_in (stacks_of nodes.now) rows.now counts.now)) }
+    ensures { OnOk result (out.new.items ≡ out.old.items ++ sample_fields (strings_in tables.now.texts.now) tables.now.names.now tables.now.period tables.now.places.now.frames.keys (samples_in (stacks_of tables.now.places.now.nodes.now) rows.now counts.now)) }
 {
     for place in 0..rows.len() {
-        push_sample(out, tables, nodes, rows[place], counts[place])?;
+        push_sample(out, tables, rows[place], counts[place])?;
     }
     Ok(())
 }
@@ -86,5 +80,5 @@ ghost use Rattle.std.specs.Prelude.{◌≡◌, ◌≤◌, ◌++◌, length, slic
 ghost use Rattle.std.specs.Option.{option_copied};
 ghost use Rattle.ti_pprof.specs.Profile.{labels, sample_field, sample_fields};
 ghost use Rattle.ti_pprof.specs.Samples.{AreNumbered, sample_of, samples_in};
-ghost use Rattle.ti_pprof.specs.Stacks.{AreOnEarlier, stacks_of};
+ghost use Rattle.ti_pprof.specs.Stacks.{stacks_of};
 ghost use Rattle.ti_pprof.specs.Strings.{strings_in};
