@@ -6,7 +6,8 @@ use Rattle.ti_thread.specs.declared.host_thread.HostThread.{HostThread}
 use Rattle.ti_capi.specs.declared.held.Held.{Held}
 use Rattle.ti_capi.specs.declared.held.Held.TheVariants as held
 use Rattle.ti_capi.specs.declared.held.HeldThread.{HeldThread}
-use Rattle.ti_capi.specs.Held.{DoorBox}
+use Rattle.ti_monitor.specs.Doors.{DoorValue}
+use Rattle.ti_capi.specs.declared.held.HeldDoor.{HeldDoor}
 use Rattle.ti_capi.specs.declared.held.HeldEnv.{HeldEnv}
 use Rattle.ti_capi.specs.declared.held_at.HeldAt.{HeldAt}
 
@@ -63,19 +64,27 @@ env_in h = env_of h.place.held
 abbrev pub with_held_env : Handle → HeldEnv → Handle
 with_held_env h e = with_held h (held.Env e)
 
--- the same of a door
-abbrev pub door_of : Option Held → Option DoorBox
-door_of (Some (held.Service m)) = None
-door_of (Some (held.Thread t)) = None
-door_of (Some (held.Env e)) = None
-door_of (Some (held.Door d)) = Some d
-door_of None = None
+-- the same of a door with its box, which is empty only while a call works on the door
+abbrev pub door_box_of : Option Held → Option HeldDoor
+door_box_of (Some (held.Service m)) = None
+door_box_of (Some (held.Thread t)) = None
+door_box_of (Some (held.Env e)) = None
+door_box_of (Some (held.Door d)) = Some d
+door_box_of None = None
 
-abbrev pub door_in : Handle → Option DoorBox
-door_in h = door_of h.place.held
+abbrev pub door_box_in : Handle → Option HeldDoor
+door_box_in h = door_box_of h.place.held
 
-abbrev pub with_held_door : Handle → DoorBox → Handle
-with_held_door h d = with_held h (held.Door d)
+abbrev pub with_door_box : Handle → HeldDoor → Handle
+with_door_box h d = with_held h (held.Door d)
+
+-- the door behind a handle
+abbrev pub door_in_box : Option HeldDoor → Option DoorValue
+door_in_box (Some h) = h.door
+door_in_box None = None
+
+abbrev pub door_of : Option Held → Option DoorValue
+door_of held = door_in_box (door_box_of held)
 
 -- the environment behind a handle
 abbrev pub agent_behind : Option HeldEnv → Option AgentValue

@@ -1,4 +1,3 @@
-pub mod Held
 pub mod Kinds
 pub mod Owning
 pub mod Handles

@@ -12,7 +12,7 @@ use ti_service::Service;
 use ti_types::TiError;
 
 /// The version that `/metrics` tells, which is that of `cebdyraq.h`.
-const VERSION: &str = "1.3.0";
+const VERSION: &str = "1.3.1";
 
 /// The hosts that are served at a port. Above 65,535 there is no port, and every host is served.
 fn hosts_at(port: u32) -> Hosts
@@ -37,7 +37,7 @@ fn refusal_code(error: DoorError) -> u32
 
 /// The code of what is done at a door, or refused.
 fn code_of(done: Result<(), DoorError>) -> u32
-    ensures { (result ≡ 0) ⊎ IsRefused result }
+    ensures { result ≡ code_done done }
 {
     match done {
         Ok(()) => CQ_OK,
@@ -65,7 +65,7 @@ fn open(
     now: u64,
 ) -> Result<Box<Held>, TiError>
     ensures made { OnOk result (service.new ≡ with_handle service.old) }
-    ensures opened { IfOk result (λ b. IsSomeAnd (door_of (Some b.value)) HasDoor) }
+    ensures opened { IfOk result (λ b. door_of (Some b.value) ≡ Some (door_with hosts [])) }
     ensures refused { IfErr result (λ e. RefusesDoor program.now service.old service.new e) }
 {
     let program = name_of(alloc, program)?;
@@ -73,10 +73,9 @@ fn open(
     let mut held = boxed(alloc, Held::Door(HeldDoor { door: None }))?;
     let agent = service.attach_environment_now(alloc)?;
     let monitor = Monitor::new(alloc, agent, program, now);
-    match held.door() {
-        Some(place) => place.door = Some(Door::new(alloc, monitor, hosts, version)),
-        None => unreachable!(),
-    }
+    *held = Held::Door(HeldDoor {
+        door: Some(Door::new(alloc, monitor, hosts, version)),
+    });
     Ok(held)
 }
 
@@ -90,7 +89,7 @@ pub extern "C" fn cq_open_door(
     now: u64,
     door: &mut CqDoor,
 ) -> u32
-    ensures { OpensDoor program.now service.old service.new door.old door.new result }
+    ensures { OpensDoor program.now port service.old service.new door.old door.new result }
 {
     let Some(service) = service.service() else {
         return CQ_MISUSED;
@@ -104,8 +103,7 @@ pub extern "C" fn cq_open_door(
 /// Takes a new connection in.
 #[unsafe(no_mangle)]
 pub extern "C" fn cq_door_connect(door: &mut CqDoor, now: u64, connection: &mut u32) -> u32
-    ensures code { IsCode (IsTaken (connection.new ≡ connection.old)) (connection.new ≡ connection.old) result }
-    ensures none { door_in door.old ≡ None → (result ≡ misused) × (door.new ≡ door.old) }
+    ensures { CallsDoor (Connects now connection.old connection.new) (connection.new ≡ connection.old) door.old door.new result }
 {
     let Some(held) = door.held_door() else {
         return CQ_MISUSED;
@@ -132,8 +130,7 @@ pub extern "C" fn cq_door_next(
     action: &mut u32,
     room: &mut u64,
 ) -> u32
-    ensures code { IsCode (IsDone ((action.new ≡ action.old) × (room.new ≡ room.old))) ((action.new ≡ action.old) × (room.new ≡ room.old)) result }
-    ensures none { door_in door.old ≡ None → (result ≡ misused) × (door.new ≡ door.old) }
+    ensures { CallsDoor (Tells connection action.new room.new ((action.new ≡ action.old) × (room.new ≡ room.old))) ((action.new ≡ action.old) × (room.new ≡ room.old)) door.old door.new result }
 {
     let Some(held) = door.held_door() else {
         return CQ_MISUSED;
@@ -160,8 +157,7 @@ pub extern "C" fn cq_door_feed(
     now: u64,
     taken: &mut u64,
 ) -> u32
-    ensures code { IsCode (IsDone (taken.new ≡ taken.old)) (taken.new ≡ taken.old) result }
-    ensures none { door_in door.old ≡ None → (result ≡ misused) × (door.new ≡ door.old) }
+    ensures { CallsDoor (Takes connection bytes.now now taken.old taken.new) (taken.new ≡ taken.old) door.old door.new result }
 {
     let Some(held) = door.held_door() else {
         return CQ_MISUSED;
@@ -181,8 +177,7 @@ pub extern "C" fn cq_door_feed(
 /// The peer sends no more.
 #[unsafe(no_mangle)]
 pub extern "C" fn cq_door_end(door: &mut CqDoor, connection: u32, now: u64) -> u32
-    ensures code { IsCode (IsDone ⊤) (⊤) result }
-    ensures none { door_in door.old ≡ None → (result ≡ misused) × (door.new ≡ door.old) }
+    ensures { CallsDoor (ChangesOne connection (λ t t'. RunsTo t t' × (t'.ended ≡ true))) ⊤ door.old door.new result }
 {
     let Some(held) = door.held_door() else {
         return CQ_MISUSED;
@@ -201,8 +196,7 @@ pub extern "C" fn cq_door_output(
     bytes: &mut [u8],
     count: &mut u64,
 ) -> u32
-    ensures code { IsCode (IsDone ((bytes.new ≡ bytes.old) × (count.new ≡ count.old))) ((bytes.new ≡ bytes.old) × (count.new ≡ count.old)) result }
-    ensures none { door_in door.old ≡ None → (result ≡ misused) × (door.new ≡ door.old) }
+    ensures { CallsDoor (GivesOutput connection bytes.old bytes.new count.old count.new) ((bytes.new ≡ bytes.old) × (count.new ≡ count.old)) door.old door.new result }
 {
     let Some(held) = door.held_door() else {
         return CQ_MISUSED;
@@ -222,8 +216,7 @@ pub extern "C" fn cq_door_output(
 /// The socket took so many bytes.
 #[unsafe(no_mangle)]
 pub extern "C" fn cq_door_written(door: &mut CqDoor, connection: u32, count: u64, now: u64) -> u32
-    ensures code { IsCode (IsDone ⊤) (⊤) result }
-    ensures none { door_in door.old ≡ None → (result ≡ misused) × (door.new ≡ door.old) }
+    ensures { CallsDoor (ChangesOne connection (λ t t'. t' ≡ written_from t count (millis now))) ⊤ door.old door.new result }
 {
     let Some(held) = door.held_door() else {
         return CQ_MISUSED;
@@ -237,8 +230,7 @@ pub extern "C" fn cq_door_written(door: &mut CqDoor, connection: u32, count: u64
 /// The socket is gone.
 #[unsafe(no_mangle)]
 pub extern "C" fn cq_door_disconnect(door: &mut CqDoor, connection: u32) -> u32
-    ensures code { IsCode (IsDone ⊤) (⊤) result }
-    ensures none { door_in door.old ≡ None → (result ≡ misused) × (door.new ≡ door.old) }
+    ensures { CallsDoor (Disconnects connection) ⊤ door.old door.new result }
 {
     let Some(held) = door.held_door() else {
         return CQ_MISUSED;
@@ -252,8 +244,7 @@ pub extern "C" fn cq_door_disconnect(door: &mut CqDoor, connection: u32) -> u32
 /// Does what is due.
 #[unsafe(no_mangle)]
 pub extern "C" fn cq_door_tick(door: &mut CqDoor, now: u64, deadline: &mut u64) -> u32
-    ensures code { IsCode (λ code. code ≡ 0) (deadline.new ≡ deadline.old) result }
-    ensures none { door_in door.old ≡ None → (result ≡ misused) × (door.new ≡ door.old) }
+    ensures { CallsDoor Ticks (deadline.new ≡ deadline.old) door.old door.new result }
 {
     let Some(held) = door.held_door() else {
         return CQ_MISUSED;
@@ -269,8 +260,7 @@ pub extern "C" fn cq_door_tick(door: &mut CqDoor, now: u64, deadline: &mut u64) 
 /// Closes the door.
 #[unsafe(no_mangle)]
 pub extern "C" fn cq_close_door(alloc: Global, door: &mut CqDoor) -> u32
-    ensures closed { result ≡ 0 → door.new.kind ≡ 0 }
-    ensures none { door_in door.old ≡ None → (result ≡ misused) × (door.new ≡ door.old) }
+    ensures { ClosesDoor door.old door.new result }
 {
     let Some(held) = door.held_door() else {
         return CQ_MISUSED;
@@ -284,7 +274,7 @@ pub extern "C" fn cq_close_door(alloc: Global, door: &mut CqDoor) -> u32
 
 /// Closes the door in a box. It stays there if its environment is not disposed of.
 fn close(held: &mut HeldDoor) -> u32
-    ensures misused { held.old.has ≡ false → result ≡ misused }
+    ensures { Closes held.old.door held.new.door result }
 {
     let Some(door) = held.door.take() else {
         return CQ_MISUSED;
@@ -298,8 +288,10 @@ fn close(held: &mut HeldDoor) -> u32
     }
 }
 
-ghost use Rattle.std.specs.Prelude.{◌≡◌, ◌⊎◌, ⊤, true, false, IfErr, IfOk, IsSomeAnd, None, OnOk, Some};
-ghost use Rattle.ti_capi.specs.Codes.{misused};
-ghost use Rattle.ti_capi.specs.Doors.{HasDoor, IsCode, IsDone, IsRefused, IsTaken, OpensDoor, RefusesDoor, action_of, code_refused, hosts_at};
-ghost use Rattle.ti_capi.specs.Handles.{door_in, door_of};
+ghost use Rattle.std.specs.Prelude.{◌≡◌, [], ⊤, true, IfErr, IfOk, OnOk, Some};
+ghost use Rattle.ti_http.specs.Talks.{written_from};
+ghost use Rattle.ti_monitor.specs.Doors.{door_with};
+ghost use Rattle.ti_monitor.specs.Seats.{RunsTo};
+ghost use Rattle.ti_capi.specs.Doors.{CallsDoor, ChangesOne, Closes, ClosesDoor, Connects, Disconnects, GivesOutput, OpensDoor, RefusesDoor, Takes, Tells, Ticks, action_of, code_done, code_refused, hosts_at, millis};
+ghost use Rattle.ti_capi.specs.Handles.{door_of};
 ghost use Rattle.ti_service.specs.Service.{with_handle};

@@ -1,5 +1,5 @@
 //! The handle.
-ghost use Rattle.std.specs.Prelude.{◌≡◌, ◌==◌, is_some, Some};
+ghost use Rattle.std.specs.Prelude.{◌≡◌, ◌==◌, is_some, None, Some};
 ghost use Rattle.ti_capi.specs.Handles.{service_in};
 
 use crate::held::{Held, SERVICE, is_kind};
@@ -42,7 +42,8 @@ impl Model for CqHandle {
 
 impl CqHandle {
     fn none(alloc: Global) -> CqHandle
-        ensures { result.kind ≡ 0 }
+        ensures kind { result.kind ≡ 0 }
+        ensures held { result.place.held ≡ None }
     {
         CqHandle {
             kind: 0,
@@ -75,7 +76,8 @@ impl CqHandle {
 
     /// Frees the box, if there is one. It is empty then.
     pub(crate) fn clear(&mut self, alloc: Global)
-        ensures { self.new.kind ≡ 0 }
+        ensures kind { self.new.kind ≡ 0 }
+        ensures held { self.new.place.held ≡ None }
     {
         let CqHandle { kind, place } = replace(self, CqHandle::none(alloc));
         if is_kind(kind) {

@@ -4,10 +4,10 @@ ghost use Rattle.std.specs.Option.{option_map};
 ghost use Rattle.std.specs.Borrow.{LendsIf, sem};
 ghost use Rattle.ti_service.specs.contracts.service.Service.{the_row as service_row};
 ghost use Rattle.ti_capi.specs.contracts.handle.CqHandle.{the_row};
-ghost use Rattle.ti_capi.specs.contracts.held.HeldDoor.{the_row as door_row};
+ghost use Rattle.ti_capi.specs.contracts.held.HeldDoor.{the_row as box_row};
 ghost use Rattle.ti_capi.specs.contracts.held.HeldEnv.{the_row as env_row};
 ghost use Rattle.ti_capi.specs.contracts.held.HeldThread.{the_row as thread_row};
-ghost use Rattle.ti_capi.specs.Handles.{door_in, env_in, service_in, thread_in, with_held_door, with_held_env, with_held_thread, with_service};
+ghost use Rattle.ti_capi.specs.Handles.{door_box_in, env_in, service_in, thread_in, with_door_box, with_held_env, with_held_thread, with_service};
 
 use crate::handle::CqHandle;
 use crate::held::{DOOR, ENV, HeldDoor, HeldEnv, HeldThread, SERVICE, THREAD};
@@ -50,10 +50,10 @@ impl CqHandle {
         }
     }
 
-    /// The door.
+    /// The door with its box.
     pub(crate) fn held_door(&mut self) -> Option<&mut HeldDoor>
-        ensures* writes_back { sem 𝓛 (LendsIf the_row door_row self.entry result (with_held_door self.old) self.old) }
-        ensures value { option_map (λ r. r.now) result ≡ door_in self.old }
+        ensures* writes_back { sem 𝓛 (LendsIf the_row box_row self.entry result (with_door_box self.old) self.old) }
+        ensures value { option_map (λ r. r.now) result ≡ door_box_in self.old }
     {
         if self.kind == DOOR {
             self.place.as_mut().door()

@@ -1,7 +1,6 @@
 //! What lies behind a handle.
 
 use crate::held_trace::HeldTrace;
-use std::marker::Model;
 use ti_monitor::Door;
 use ti_service::{Agent, Service};
 use ti_thread::HostThread;
@@ -46,20 +45,11 @@ pub struct HeldEnv {
     pub stacks: Option<Vec<StackInfo>>,
 }
 
-/// A door. Contracts see whether it is there.
+/// A door.
 #[derive(Drop)]
 pub struct HeldDoor {
     /// `None` only while a call works on it.
     pub door: Option<Door>,
-}
-
-impl Model for HeldDoor {
-    ghost use Rattle.std.specs.Prelude.{is_some};
-    ghost use Rattle.ti_capi.specs.Held.{DoorBox};
-
-    ghost Value = { DoorBox };
-
-    ghost view = { λ h. record { has = is_some h.door } };
 }
 
 impl Held {

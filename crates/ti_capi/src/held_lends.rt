@@ -4,13 +4,13 @@ ghost use Rattle.std.specs.Option.{option_map};
 ghost use Rattle.std.specs.Borrow.{Lends, LendsIf, sem};
 ghost use Rattle.ti_service.specs.contracts.service.Service.{the_row as service_row};
 ghost use Rattle.ti_capi.specs.contracts.held.Held.{the_row as held_row};
-ghost use Rattle.ti_capi.specs.contracts.held.HeldDoor.{the_row as door_row};
+ghost use Rattle.ti_capi.specs.contracts.held.HeldDoor.{the_row as box_row};
 ghost use Rattle.ti_capi.specs.contracts.held.HeldEnv.{the_row as env_row};
 ghost use Rattle.ti_capi.specs.contracts.held.HeldThread.{the_row as thread_row};
 ghost use Rattle.ti_capi.specs.contracts.held_at.HeldAt.{the_row as at_row};
 ghost use Rattle.ti_capi.specs.declared.held.Held.{Held as HeldValue};
-ghost use Rattle.ti_capi.specs.declared.held.Held.TheVariants.{Door, Env, Service as OfService, Thread};
-ghost use Rattle.ti_capi.specs.Handles.{door_of, env_of, holding, service_of, thread_of};
+ghost use Rattle.ti_capi.specs.declared.held.Held.TheVariants.{Door as OfDoor, Env, Service as OfService, Thread};
+ghost use Rattle.ti_capi.specs.Handles.{door_box_of, env_of, holding, service_of, thread_of};
 
 use crate::held::{Held, HeldDoor, HeldEnv, HeldThread};
 use crate::held_at::HeldAt;
@@ -61,13 +61,13 @@ impl Held {
         }
     }
 
-    /// The door, if it is one.
+    /// The door with its box, if it is one.
     pub(crate) fn door(&mut self) -> Option<&mut HeldDoor>
-        ensures* writes_back { sem 𝓛 (LendsIf held_row door_row self.entry result Door self.old) }
-        ensures value { option_map (λ r. r.now) result ≡ door_of (Some self.old) }
+        ensures* writes_back { sem 𝓛 (LendsIf held_row box_row self.entry result OfDoor self.old) }
+        ensures value { option_map (λ r. r.now) result ≡ door_box_of (Some self.old) }
     {
         match self {
-            Held::Door(door) => Some(door),
+            Held::Door(held) => Some(held),
             _ => None,
         }
     }

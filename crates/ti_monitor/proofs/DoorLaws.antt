@@ -1,37 +1,36 @@
 -- Connections that go on by calls.
-use Rattle.std.proofs.Common.{◌≡◌, ℕ, zero, suc, ◌<◌, Bool, true, false, cond, List, [], ◌∷◌, ◌++◌, length, Option, Some, None, refl, sym, ap, subst, ◌∙◌, arith}
-use Rattle.std.specs.Prelude.{nat_lt, slice_get, slice_set, unwrap_or, if◌then◌else◌}
+use Rattle.std.proofs.Common.{◌≡◌, ℕ, zero, suc, ◌≤◌, Bool, true, false, List, [], ◌∷◌, length, map, Option, Some, None, refl, sym, ap, subst, ◌∙◌, arith}
+use Rattle.std.specs.Prelude.{nat_lt, slice_get, slice_set, if◌then◌else◌, Result, Ok, Err, IfErr, OnErr}
+use Rattle.std.specs.Result.{IsErrAnd}
+use Rattle.std.proofs.lemmas.Bool.Decides.{nat_tests}
+use Rattle.ti_http.specs.declared.hosts.Hosts.{Hosts}
+use Rattle.ti_http.specs.Talks.{Talk}
+use Rattle.ti_monitor.specs.declared.door_error.DoorError.{DoorError}
+use Rattle.ti_monitor.specs.declared.door_error.DoorError.TheVariants.{OutOfMemory}
 use Rattle.ti_monitor.specs.declared.door_seat.Seat.{Seat}
-use Rattle.ti_monitor.specs.Doors.{AllRun, Changes, OneRuns, Opens, opened_in, seat_at, without}
+use Rattle.ti_monitor.specs.Doors.{AllRun, Changes, DoorValue, OneRuns, Refuses, TalksRun, door_with, opened_in, talk_at, with_talk}
+use Rattle.ti_monitor.specs.SeatLists.{door_of, seat_at, seat_in, talk_of, without}
 use Rattle.ti_monitor.specs.Seats.{RunsTo}
 use Rattle.ti_monitor.proofs.SeatLaws.{runs_more, runs_none}
 
-one_same : (o : Option Seat) → OneRuns o o
-one_same None = tt
-one_same (Some s) = runs_none s.connection s.connection refl
+-- ---- what contracts see of the connections
 
-pub all_same : (seats : List (Option Seat)) → AllRun seats seats
-all_same [] = tt
-all_same (o ∷ seats) = (one_same o, all_same seats)
+pub talk_at_of : (hosts : Hosts) (seats : List (Option Seat)) (i : ℕ) → talk_at (door_of hosts seats) i ≡ talk_of (seat_at seats i)
+talk_at_of hosts [] i = refl
+talk_at_of hosts (o ∷ seats) zero = refl
+talk_at_of hosts (o ∷ seats) (suc i) = talk_at_of hosts seats i
 
-some_is : (c s : Seat) → Some (Some c) ≡ Some (Some s) → c ≡ s
-some_is c s h = ap (λ (o : Option (Option Seat)). unwrap_or (unwrap_or o None) c) h
+pub map_set : (seats : List (Option Seat)) (i : ℕ) (o : Option Seat) → map talk_of (slice_set seats i o) ≡ slice_set (map talk_of seats) i (talk_of o)
+map_set [] i o = refl
+map_set (x ∷ seats) zero o = refl
+map_set (x ∷ seats) (suc i) o = ap (λ ts. talk_of x ∷ ts) (map_set seats i o)
 
-one_more : (a b : Option Seat) (s s' : Seat) → OneRuns a b → Some b ≡ Some (Some s) → RunsTo s.connection s'.connection → OneRuns a (Some s')
-one_more None None s s' h at run = absurd (cc)
-one_more None (Some c) s s' h at run = absurd h
-one_more (Some o) None s s' h at run = absurd h
-one_more (Some o) (Some c) s s' h at run =
-    runs_more o.connection c.connection s'.connection h (subst (λ (x : Seat). RunsTo x.connection s'.connection) (sym (some_is c s at)) run)
+set_same : (seats : List (Option Seat)) (i : ℕ) (o : Option Seat) → talk_of (seat_at seats i) ≡ talk_of o → slice_set (map talk_of seats) i (talk_of o) ≡ map talk_of seats
+set_same [] i o h = refl
+set_same (x ∷ seats) zero o h = ap (λ t. t ∷ map talk_of seats) (sym h)
+set_same (x ∷ seats) (suc i) o h = ap (λ ts. talk_of x ∷ ts) (set_same seats i o h)
 
--- one more connection goes on
-pub all_more : (old new : List (Option Seat)) (i : ℕ) (s s' : Seat) → AllRun old new → slice_get new i ≡ Some (Some s) → RunsTo s.connection s'.connection
-    → AllRun old (slice_set new i (Some s'))
-all_more [] [] i s s' h at run = absurd (cc)
-all_more [] (b ∷ new) i s s' h at run = absurd h
-all_more (a ∷ old) [] i s s' h at run = absurd h
-all_more (a ∷ old) (b ∷ new) zero s s' h at run = (one_more a b s s' h.0 at run, h.1)
-all_more (a ∷ old) (b ∷ new) (suc i) s s' h at run = (h.0, all_more old new i s s' h.1 at run)
+-- ---- a connection that is taken out and put back
 
 set_twice : (seats : List (Option Seat)) (i : ℕ) (a b : Option Seat) → slice_set (slice_set seats i a) i b ≡ slice_set seats i b
 set_twice [] i a b = refl
@@ -42,39 +41,32 @@ set_without : (within : Bool) (seats : List (Option Seat)) (i : ℕ) (b : Option
 set_without true seats i b = set_twice seats i None b
 set_without false seats i b = refl
 
--- a connection that is put back where it was taken from
-pub put_back : (old taken new : List (Option Seat)) (conn : ℕ) (o : Option Seat) → taken ≡ without old conn → new ≡ slice_set taken conn o → new ≡ slice_set old conn o
+put_back : (old taken new : List (Option Seat)) (conn : ℕ) (o : Option Seat) → taken ≡ without old conn → new ≡ slice_set taken conn o → new ≡ slice_set old conn o
 put_back old taken new conn o t n = n ∙ ap (λ xs. slice_set xs conn o) t ∙ set_without (nat_lt conn (length old)) old conn o
 
-pub changed : (P : Seat → Seat → Type 0) (old taken new : List (Option Seat)) (conn : ℕ) (s s' : Seat) → seat_at old conn ≡ Some s → taken ≡ without old conn
-    → new ≡ slice_set taken conn (Some s') → P s s' → Changes old new conn P
-changed P old taken new conn s s' was t n p = (s, s', was, put_back old taken new conn (Some s') t n, p)
+-- the door behind it
+pub put_talk : (hosts : Hosts) (old taken new : List (Option Seat)) (conn : ℕ) (o : Option Seat) → taken ≡ without old conn → new ≡ slice_set taken conn o
+    → door_of hosts new ≡ with_talk (door_of hosts old) conn (talk_of o)
+put_talk hosts old taken new conn o t n = ap (door_of hosts) (put_back old taken new conn o t n) ∙ ap (door_with hosts) (map_set old conn o)
 
-open_is : (o : Option (Option Seat)) (s : Seat) → opened_in o ≡ Some s → o ≡ Some (Some s)
-open_is None s h = absurd (cc)
-open_is (Some o) s h = ap (λ (x : Option Seat). Some x) h
+pub changed : (P : Talk → Talk → Type 0) (hosts : Hosts) (old taken new : List (Option Seat)) (d : DoorValue) (conn : ℕ) (s s' : Seat) → door_of hosts old ≡ d
+    → seat_at old conn ≡ Some s → taken ≡ without old conn → new ≡ slice_set taken conn (Some s') → P s.connection s'.connection → Changes d (door_of hosts new) conn P
+changed P hosts old taken new d conn s s' is was t n p =
+    subst (λ (x : DoorValue). Changes x (door_of hosts new) conn P) is
+    (s.connection, s'.connection, talk_at_of hosts old conn ∙ ap talk_of was, put_talk hosts old taken new conn (Some s') t n, p)
 
--- one connection goes on, and is put back
-pub one_ran : (old taken new : List (Option Seat)) (conn : ℕ) (s s' : Seat) → seat_at old conn ≡ Some s → taken ≡ without old conn
-    → new ≡ slice_set taken conn (Some s') → RunsTo s.connection s'.connection → AllRun old new
-one_ran old taken new conn s s' was t n run =
-    subst (AllRun old) (sym (put_back old taken new conn (Some s') t n)) (all_more old old conn s s' (all_same old) (open_is (slice_get old conn) s was) run)
+-- one that is as it was leaves the door as it was
+pub unchanged : (hosts : Hosts) (old taken new : List (Option Seat)) (d : DoorValue) (conn : ℕ) (s s' : Seat) → door_of hosts old ≡ d → seat_at old conn ≡ Some s
+    → taken ≡ without old conn → new ≡ slice_set taken conn (Some s') → s'.connection ≡ s.connection → door_of hosts new ≡ d
+unchanged hosts old taken new d conn s s' is was t n same =
+    put_talk hosts old taken new conn (Some s') t n
+    ∙ ap (door_with hosts) (set_same old conn (Some s') (ap talk_of was ∙ ap (λ (x : Talk). Some x) (sym same)))
+    ∙ is
 
-one_trans : (a b c : Option Seat) → OneRuns a b → OneRuns b c → OneRuns a c
-one_trans None None None h k = tt
-one_trans None None (Some z) h k = absurd k
-one_trans None (Some y) c h k = absurd h
-one_trans (Some x) None c h k = absurd h
-one_trans (Some x) (Some y) None h k = absurd k
-one_trans (Some x) (Some y) (Some z) h k = runs_more x.connection y.connection z.connection h k
-
-pub all_trans : (a b c : List (Option Seat)) → AllRun a b → AllRun b c → AllRun a c
-all_trans [] [] [] h k = tt
-all_trans [] [] (z ∷ c) h k = absurd k
-all_trans [] (y ∷ b) c h k = absurd h
-all_trans (x ∷ a) [] c h k = absurd h
-all_trans (x ∷ a) (y ∷ b) [] h k = absurd k
-all_trans (x ∷ a) (y ∷ b) (z ∷ c) h k = (one_trans x y z h.0 k.0, all_trans a b c h.1 k.1)
+-- the connection of a number
+pub talk_is : (hosts : Hosts) (seats : List (Option Seat)) (d : DoorValue) (conn : ℕ) (o : Option Seat) → door_of hosts seats ≡ d → seat_at seats conn ≡ o
+    → talk_at d conn ≡ talk_of o
+talk_is hosts seats d conn o is at = subst (λ (x : DoorValue). talk_at x conn ≡ talk_of o) is (talk_at_of hosts seats conn ∙ ap talk_of at)
 
 set_none : (seats : List (Option Seat)) (i : ℕ) → seat_at seats i ≡ None → slice_set seats i None ≡ seats
 set_none [] i h = refl
@@ -92,3 +84,76 @@ without_none seats i h = cond_none (nat_lt i (length seats)) seats i h
 pub none_of : (o : Option Seat) → ((s : Seat) → o ≡ Some s → ⊥) → o ≡ None
 none_of None h = refl
 none_of (Some s) h = absurd (h s refl)
+
+-- a connection that is taken out is gone
+set_beyond : (seats : List (Option Seat)) (i : ℕ) → length seats ≤ i → slice_set seats i None ≡ seats
+set_beyond [] i h = refl
+set_beyond (o ∷ seats) zero h = absurd (omega arith)
+set_beyond (o ∷ seats) (suc i) h = ap (λ xs. o ∷ xs) (set_beyond seats i (omega arith))
+
+cond_set : (within : Bool) (seats : List (Option Seat)) (i : ℕ) → nat_lt i (length seats) ≡ within → (if within then slice_set seats i None else seats) ≡ slice_set seats i None
+cond_set true seats i h = refl
+cond_set false seats i h = sym (set_beyond seats i (grind (arith, nat_tests, h)))
+
+pub gone : (hosts : Hosts) (old taken : List (Option Seat)) (d : DoorValue) (conn : ℕ) → door_of hosts old ≡ d → taken ≡ without old conn
+    → door_of hosts taken ≡ with_talk d conn None
+gone hosts old taken d conn is t =
+    ap (door_of hosts) (t ∙ cond_set (nat_lt conn (length old)) old conn refl) ∙ ap (door_with hosts) (map_set old conn None)
+    ∙ ap (λ (x : DoorValue). with_talk x conn None) is
+
+-- nothing was there to be taken
+pub kept : (hosts : Hosts) (old taken : List (Option Seat)) (d : DoorValue) (conn : ℕ) → door_of hosts old ≡ d → taken ≡ without old conn → seat_at old conn ≡ None
+    → door_of hosts taken ≡ d
+kept hosts old taken d conn is t none = ap (door_of hosts) (t ∙ without_none old conn none) ∙ is
+
+-- ---- what is told where a call fails
+
+pub on_err : {X E A : Type 0} (r : Result X E) → A → OnErr r A
+on_err (Ok x) a = tt
+on_err (Err e) a = a
+
+pub no_memory : {X : Type 0} (r : Result X DoorError) (o : Option Talk) (t : Talk) → o ≡ Some t → IsErrAnd r (λ e. e ≡ OutOfMemory) → IfErr r (Refuses o)
+no_memory (Ok x) o t is h = tt
+no_memory (Err e) o t is h = subst (λ (x : Option Talk). Refuses x e) (sym is) h
+
+-- ---- connections that go on
+
+one_same : (o : Option Talk) → OneRuns o o
+one_same None = tt
+one_same (Some t) = runs_none t t refl
+
+talks_same : (talks : List (Option Talk)) → TalksRun talks talks
+talks_same [] = tt
+talks_same (o ∷ talks) = (one_same o, talks_same talks)
+
+pub all_same : (d : DoorValue) → AllRun d d
+all_same d = (refl, talks_same d.talks)
+
+-- one of them goes on
+one_set : (talks : List (Option Talk)) (i : ℕ) (t t' : Talk) → opened_in (slice_get talks i) ≡ Some t → RunsTo t t' → TalksRun talks (slice_set talks i (Some t'))
+one_set [] i t t' h run = tt
+one_set (o ∷ talks) zero t t' h run = (subst (λ (x : Option Talk). OneRuns x (Some t')) (sym h) run, talks_same talks)
+one_set (o ∷ talks) (suc i) t t' h run = (one_same o, one_set talks i t t' h run)
+
+pub one_ran : (old new : DoorValue) (conn : ℕ) (P : Talk → Talk → Type 0) → ((t t' : Talk) → P t t' → RunsTo t t') → Changes old new conn P → AllRun old new
+one_ran old new conn P runs c =
+    subst (AllRun old) (sym c.3) (refl, one_set old.talks conn c.0 c.1 c.2 (runs c.0 c.1 c.4))
+
+one_trans : (a b c : Option Talk) → OneRuns a b → OneRuns b c → OneRuns a c
+one_trans None None None h k = tt
+one_trans None None (Some z) h k = absurd k
+one_trans None (Some y) c h k = absurd h
+one_trans (Some x) None c h k = absurd h
+one_trans (Some x) (Some y) None h k = absurd k
+one_trans (Some x) (Some y) (Some z) h k = runs_more x y z h k
+
+talks_trans : (a b c : List (Option Talk)) → TalksRun a b → TalksRun b c → TalksRun a c
+talks_trans [] [] [] h k = tt
+talks_trans [] [] (z ∷ c) h k = absurd k
+talks_trans [] (y ∷ b) c h k = absurd h
+talks_trans (x ∷ a) [] c h k = absurd h
+talks_trans (x ∷ a) (y ∷ b) [] h k = absurd k
+talks_trans (x ∷ a) (y ∷ b) (z ∷ c) h k = (one_trans x y z h.0 k.0, talks_trans a b c h.1 k.1)
+
+pub all_trans : (a b c : DoorValue) → AllRun a b → AllRun b c → AllRun a c
+all_trans a b c h k = (k.0 ∙ h.0, talks_trans a.talks b.talks c.talks h.1 k.1)

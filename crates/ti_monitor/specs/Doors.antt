@@ -1,53 +1,78 @@
 -- The connections of a door, by number.
-use Rattle.std.specs.Prelude.{⊤, ◌≡◌, ℕ, ◌+◌, ◌<◌, List, [], ◌∷◌, ◌++◌, length, min, nat_lt, slice_get, slice_set, take, Option, Some, None, if◌then◌else◌}
-use Rattle.ti_http.specs.Talks.{Talk, fed, room_in}
-use Rattle.ti_monitor.specs.declared.door_seat.Seat.{Seat}
+use Rattle.std.specs.Prelude.{⊤, ◌≡◌, ℕ, ◌+◌, ◌<◌, ◌≤◌, List, [], ◌∷◌, ◌++◌, length, min, nat_lt, slice_get, slice_set, take, Option, Some, None, if◌then◌else◌}
+use Rattle.ti_http.specs.declared.hosts.Hosts.{Hosts}
+use Rattle.ti_http.specs.Talks.{Talk, fed, opened, room_in}
+use Rattle.ti_monitor.specs.declared.door_error.DoorError.{DoorError}
+use Rattle.ti_monitor.specs.declared.door_error.DoorError.TheVariants as error
 use Rattle.ti_monitor.specs.Seats.{RunsTo}
 
+-- a door, as contracts see it: the hosts that it serves, and its connections
+pub record DoorValue : Type 0 where
+  pub hosts : Hosts
+  pub talks : List (Option Talk)
+
+abbrev pub door_with : Hosts → List (Option Talk) → DoorValue
+door_with hosts talks = record { hosts = hosts; talks = talks }
+
 -- the connection of this number, if it is open
-abbrev pub opened_in : Option (Option Seat) → Option Seat
+abbrev pub opened_in : Option (Option Talk) → Option Talk
 opened_in None = None
-opened_in (Some s) = s
+opened_in (Some t) = t
 
-abbrev pub seat_at : List (Option Seat) → ℕ → Option Seat
-seat_at seats conn = opened_in (slice_get seats conn)
+abbrev pub talk_at : DoorValue → ℕ → Option Talk
+talk_at d conn = opened_in (slice_get d.talks conn)
 
--- the connections without the one of this number
-abbrev pub without : List (Option Seat) → ℕ → List (Option Seat)
-without seats conn = if nat_lt conn (length seats) then slice_set seats conn None else seats
+-- the door with this at a number
+abbrev pub with_talk : DoorValue → ℕ → Option Talk → DoorValue
+with_talk d conn t = door_with d.hosts (slice_set d.talks conn t)
 
--- the connection of this number became another, and no other connection changed
-abbrev pub Changes : List (Option Seat) → List (Option Seat) → ℕ → (Seat → Seat → Type 0) → Type 0
-Changes old new conn P = (s : Seat) × (s' : Seat) × (seat_at old conn ≡ Some s) × (new ≡ slice_set old conn (Some s')) × P s s'
+-- the connection of this number became another, and nothing else changed
+abbrev pub Changes : DoorValue → DoorValue → ℕ → (Talk → Talk → Type 0) → Type 0
+Changes old new conn P = (t : Talk) × (t' : Talk) × (talk_at old conn ≡ Some t) × (new ≡ with_talk old conn (Some t')) × P t t'
 
 -- the connection takes bytes, as many as it has room for
-abbrev pub Feeds : Seat → Seat → List ℕ → ℕ → ℕ → Type 0
-Feeds s s' bytes n now = (n ≡ min (length bytes) (room_in s.connection)) × (s'.connection ≡ fed s.connection (take n bytes) now)
+abbrev pub Feeds : List ℕ → ℕ → ℕ → Talk → Talk → Type 0
+Feeds bytes n now t t' = (n ≡ min (length bytes) (room_in t)) × (t' ≡ fed t (take n bytes) now)
 
--- a place that was free has a new connection
-abbrev pub Opens : List (Option Seat) → List (Option Seat) → ℕ → Talk → Type 0
-Opens old new place t =
-    (s : Seat) × (s.connection ≡ t) × (place < 16) × (seat_at old place ≡ None)
-    × (new ≡ (if nat_lt place (length old) then slice_set old place (Some s) else old ++ Some s ∷ []))
+-- the talks with one more at a number that is free
+abbrev pub with_new : List (Option Talk) → ℕ → Talk → List (Option Talk)
+with_new talks conn t = if nat_lt conn (length talks) then slice_set talks conn (Some t) else talks ++ Some t ∷ []
 
-abbrev pub room_of : Option Seat → ℕ
+-- a number that was free has a new connection
+abbrev pub Opens : DoorValue → DoorValue → ℕ → ℕ → Type 0
+Opens old new conn now =
+    (conn < 16) × (conn ≤ length old.talks) × (talk_at old conn ≡ None) × (new ≡ door_with old.hosts (with_new old.talks conn (opened old.hosts now)))
+
+-- there is no connection of this number
+abbrev pub IsUnknown : DoorValue → ℕ → DoorError → Type 0
+IsUnknown d conn e = (e ≡ error.NoConnection) × (talk_at d conn ≡ None)
+
+-- there is no connection of this number, or no memory
+abbrev pub Refuses : Option Talk → DoorError → Type 0
+Refuses None e = e ≡ error.NoConnection
+Refuses (Some t) e = e ≡ error.OutOfMemory
+
+abbrev pub room_of : Option Talk → ℕ
 room_of None = 0
-room_of (Some s) = room_in s.connection
+room_of (Some t) = room_in t
 
-abbrev pub output_of : Option Seat → List ℕ
+abbrev pub output_of : Option Talk → List ℕ
 output_of None = []
-output_of (Some s) = s.connection.output
+output_of (Some t) = t.output
 
 -- a connection went on by calls, and stayed open
-abbrev pub OneRuns : Option Seat → Option Seat → Type 0
+abbrev pub OneRuns : Option Talk → Option Talk → Type 0
 OneRuns None None = ⊤
-OneRuns None (Some s) = ⊥
-OneRuns (Some s) None = ⊥
-OneRuns (Some s) (Some s') = RunsTo s.connection s'.connection
+OneRuns None (Some t) = ⊥
+OneRuns (Some t) None = ⊥
+OneRuns (Some t) (Some t') = RunsTo t t'
 
--- each connection went on by calls, and none opened or closed
-abbrev pub AllRun : List (Option Seat) → List (Option Seat) → Type 0
-AllRun [] [] = ⊤
-AllRun [] (b ∷ new) = ⊥
-AllRun (a ∷ old) [] = ⊥
-AllRun (a ∷ old) (b ∷ new) = OneRuns a b × AllRun old new
+-- each of them went on by calls, and none opened or closed
+abbrev pub TalksRun : List (Option Talk) → List (Option Talk) → Type 0
+TalksRun [] [] = ⊤
+TalksRun [] (b ∷ new) = ⊥
+TalksRun (a ∷ old) [] = ⊥
+TalksRun (a ∷ old) (b ∷ new) = OneRuns a b × TalksRun old new
+
+abbrev pub AllRun : DoorValue → DoorValue → Type 0
+AllRun old new = (new.hosts ≡ old.hosts) × TalksRun old.talks new.talks

@@ -4,6 +4,7 @@ pub mod Schedules
 pub mod Labels
 pub mod Watching
 pub mod Lines
+pub mod Counters
 pub mod Counting
 pub mod Accounts
 pub mod Runs
@@ -15,5 +16,6 @@ pub mod Exposition
 pub mod Threads
 pub mod Json
 pub mod Door
+pub mod SeatLists
 pub mod Seats
 pub mod Doors

@@ -1,8 +1,10 @@
--- The connections of a door.
+-- One connection of a door.
 use Rattle.std.specs.Prelude.{◌≡◌, ℕ, ◌-◌, ◌*◌, ◌^◌, ◌==◌, ◌&&◌, ◌<◌, Bool, true, false, List, [], length, min, Option, Some, None, if◌then◌else◌}
 use Rattle.ti_http.specs.declared.connection.Action.{Action}
 use Rattle.ti_http.specs.declared.connection.Action.TheVariants as action
 use Rattle.ti_http.specs.declared.connection.Phase.{Phase}
+use Rattle.ti_http.specs.declared.target.Target.{Target}
+use Rattle.ti_http.specs.declared.target.Target.TheVariants as target
 use Rattle.ti_http.specs.Runs.{Call, Runs, is_shut, is_waiting, state_of}
 use Rattle.ti_http.specs.Talks.{Talk, deadline_of, room_in}
 use Rattle.ti_monitor.specs.declared.door_desk.Due.{Due}
@@ -34,6 +36,20 @@ abbrev pub reading_of : Option Due → Option ReadingNo
 reading_of None = None
 reading_of (Some (due.Reading reading target)) = Some reading
 reading_of (Some (due.Later seconds)) = None
+
+-- the same if the reading goes on for some seconds
+abbrev pub profile_in : ReadingNo → Target → Option ReadingNo
+profile_in reading target.Index = None
+profile_in reading target.Metrics = None
+profile_in reading target.Threads = None
+profile_in reading target.ThreadsJson = None
+profile_in reading (target.ThreadsProfile d) = None
+profile_in reading (target.Profile seconds rate labels) = Some reading
+
+abbrev pub profile_of : Option Due → Option ReadingNo
+profile_of None = None
+profile_of (Some (due.Reading reading target)) = profile_in reading target
+profile_of (Some (due.Later seconds)) = None
 
 -- no request waits, no part of one came, and nothing is to be written
 abbrev pub is_idle : Talk → Bool

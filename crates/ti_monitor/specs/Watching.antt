@@ -1,5 +1,5 @@
 -- The threads that were met.
-use Rattle.std.specs.Prelude.{ℕ, ◌+◌, List, Option, Some, None, min, slice_get, if◌then◌else◌}
+use Rattle.std.specs.Prelude.{ℕ, ◌+◌, ◌&&◌, ◌==◌, Bool, not, is_some, List, Option, Some, None, min, slice_get, if◌then◌else◌}
 use Rattle.ti_http.specs.declared.target.Labels.{Labels}
 use Rattle.ti_monitor.specs.declared.label.Label.{Label}
 use Rattle.ti_monitor.specs.declared.watched.Watched.{Watched}
@@ -16,3 +16,15 @@ label_for (Some w) kept place = label_only kept (label (min place 4294967295) (n
 
 abbrev pub label_at : List Watched → Labels → ℕ → Label
 label_at watched kept place = label_for (slice_get watched place) kept place
+
+-- the thread is there, and was last seen in the state of this place
+abbrev pub is_in_state : ℕ → Watched → Bool
+is_in_state place w = not w.gone && (w.state == place)
+
+-- the thread is there, and was last seen suspended
+abbrev pub is_held : Watched → Bool
+is_held w = not w.gone && w.suspended
+
+-- a call of the monitor is out at it
+abbrev pub has_call : Watched → Bool
+has_call w = is_some w.out

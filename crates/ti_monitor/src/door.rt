@@ -7,11 +7,13 @@ use crate::door_seats::{ConnNo, Seats};
 use crate::door_tally::Tally;
 use crate::monitor::Monitor;
 use std::alloc::Global;
+use std::marker::Model;
 use ti_http::Hosts;
 use ti_service::Service;
 use ti_types::TiError;
 
-/// Connections that ask a monitor. Times are nanoseconds of a clock that never goes back.
+/// Connections that ask a monitor. Times are nanoseconds of a clock that never goes back. Contracts see a door as a `DoorValue`: the
+/// hosts that it serves, and each connection as `ti_http` sees it.
 #[derive(Drop)]
 pub struct Door {
     alloc: Global,
@@ -20,11 +22,19 @@ pub struct Door {
     desk: Desk,
 }
 
+impl Model for Door {
+    ghost use Rattle.ti_monitor.specs.Doors.{DoorValue};
+    ghost use Rattle.ti_monitor.specs.SeatLists.{door_of};
+
+    ghost Value = { DoorValue };
+
+    ghost view = { λ d. door_of d.hosts d.seats.list.items };
+}
+
 impl Door {
     /// A door without connections. `version` is what `/metrics` names.
     pub fn new(alloc: Global, monitor: Monitor, hosts: Hosts, version: String) -> Door
-        ensures none { result.seats.list.items ≡ [] }
-        ensures hosts { result.hosts ≡ hosts }
+        ensures { result ≡ door_with hosts [] }
     {
         Door {
             alloc,
@@ -42,8 +52,9 @@ impl Door {
     /// Opens a connection. `None` if there are 16, or if there is no memory. If there are 16, the one that has been idle for
     /// longest closes: its `next` gives `Close`, and after `closed` there is room.
     pub fn open(&mut self, now: u64) -> Option<ConnNo>
-        ensures opened { IfSome result (λ c. Opens self.old.seats.list.items self.new.seats.list.items c.0 (opened self.old.hosts (now / 1000000))) }
-        ensures few { length self.new.seats.list.items ≤ 16 }
+        ensures opened { IfSome result (λ c. Opens self.old self.new c.0 (now / 1000000)) }
+        ensures full { IfNone result (AllRun self.old self.new) }
+        ensures few { length self.new.talks ≤ 16 }
     {
         let seat = Seat::new(self.alloc, self.hosts, now);
         if let Some(conn) = self.seats.free() {
@@ -58,7 +69,10 @@ impl Door {
     }
 
     /// Closes the connection that has been idle for longest, unless one closes already.
-    fn make_room(&mut self) {
+    fn make_room(&mut self)
+        ensures run { AllRun self.old self.new }
+        ensures few { length self.new.talks ≡ length self.old.talks }
+    {
         if self.seats.is_any_leaving() {
             return;
         }
@@ -74,14 +88,14 @@ impl Door {
 
     /// Whether a connection of this number is open.
     pub fn is_open(&self, conn: ConnNo) -> bool
-        ensures { result ≡ is_some (seat_at self.now.seats.list.items conn.0) }
+        ensures { result ≡ is_some (talk_at self.now conn.0) }
     {
         self.seats.get(conn).is_some()
     }
 
     /// How many bytes `feed` takes now, at most 8192. 0 if there is no such connection.
     pub fn room(&self, conn: ConnNo) -> usize
-        ensures room { result ≡ room_of (seat_at self.now.seats.list.items conn.0) }
+        ensures room { result ≡ room_of (talk_at self.now conn.0) }
         ensures bound { result ≤ 8192 }
     {
         match self.seats.get(conn) {
@@ -92,7 +106,7 @@ impl Door {
 
     /// The bytes that are to be written. None if there is no such connection.
     pub fn output(&self, conn: ConnNo) -> &[u8]
-        ensures { result.now ≡ output_of (seat_at self.now.seats.list.items conn.0) }
+        ensures { result.now ≡ output_of (talk_at self.now conn.0) }
     {
         match self.seats.get(conn) {
             Some(seat) => seat.output(),
@@ -105,8 +119,9 @@ impl Door {
     /// - 103 ILLEGAL_ARGUMENT: there is no such connection. Nothing changes.
     /// - 110 OUT_OF_MEMORY: there is no memory for them. Nothing changes.
     pub fn feed(&mut self, conn: ConnNo, bytes: &[u8], now: u64) -> Result<usize, DoorError>
-        ensures fed { IfOk result (λ n. Changes self.old.seats.list.items self.new.seats.list.items conn.0 (λ s s'. Feeds s s' bytes.now n (now / 1000000))) }
-        ensures unknown { seat_at self.old.seats.list.items conn.0 ≡ None → result ≡ Err NoConnection }
+        ensures fed { IfOk result (λ n. Changes self.old self.new conn.0 (Feeds bytes.now n (now / 1000000))) }
+        ensures refused { IfErr result (Refuses (talk_at self.old conn.0)) }
+        ensures kept { OnErr result (self.new ≡ self.old) }
     {
         let Some(mut seat) = self.seats.take(conn) else {
             return Err(DoorError::NoConnection);
@@ -116,12 +131,13 @@ impl Door {
         Ok(taken?)
     }
 
-    /// Says that the socket gives no more. A reading that the connection waits for ends now, with what is there.
+    /// Says that the socket gives no more. A profile that the connection waits for ends now, with what is there.
     ///
     /// - 103 ILLEGAL_ARGUMENT: there is no such connection. Nothing changes.
     pub fn end(&mut self, conn: ConnNo, now: u64) -> Result<(), DoorError>
-        ensures ended { OnOk result (Changes self.old.seats.list.items self.new.seats.list.items conn.0 (λ s s'. RunsTo s.connection s'.connection × (s'.connection.ended ≡ true))) }
-        ensures unknown { seat_at self.old.seats.list.items conn.0 ≡ None → result ≡ Err NoConnection }
+        ensures ended { OnOk result (Changes self.old self.new conn.0 (λ t t'. RunsTo t t' × (t'.ended ≡ true))) }
+        ensures unknown { IfErr result (IsUnknown self.old conn.0) }
+        ensures kept { OnErr result (self.new ≡ self.old) }
     {
         let Some(mut seat) = self.seats.take(conn) else {
             return Err(DoorError::NoConnection);
@@ -136,8 +152,9 @@ impl Door {
     /// - 103 ILLEGAL_ARGUMENT: there is no such connection. Nothing changes.
     /// - 110 OUT_OF_MEMORY: there is no memory for the answer to a request that is refused. It waits for the next call.
     pub fn next(&mut self, conn: ConnNo, now: u64, unix: u64) -> Result<Todo, DoorError>
-        ensures told { IfOk result (λ t. Changes self.old.seats.list.items self.new.seats.list.items conn.0 (λ s s'. RunsTo s.connection s'.connection × Says s'.connection t)) }
-        ensures unknown { seat_at self.old.seats.list.items conn.0 ≡ None → result ≡ Err NoConnection }
+        ensures told { IfOk result (λ todo. Changes self.old self.new conn.0 (λ t t'. RunsTo t t' × Says t' todo)) }
+        ensures refused { IfErr result (Refuses (talk_at self.old conn.0)) }
+        ensures run { OnErr result (AllRun self.old self.new) }
     {
         let moment = Moment {
             now,
@@ -156,8 +173,9 @@ impl Door {
     ///
     /// - 103 ILLEGAL_ARGUMENT: there is no such connection. Nothing changes.
     pub fn written(&mut self, conn: ConnNo, count: usize, now: u64) -> Result<(), DoorError>
-        ensures written { OnOk result (Changes self.old.seats.list.items self.new.seats.list.items conn.0 (λ s s'. s'.connection ≡ written_from s.connection count (now / 1000000))) }
-        ensures unknown { seat_at self.old.seats.list.items conn.0 ≡ None → result ≡ Err NoConnection }
+        ensures written { OnOk result (Changes self.old self.new conn.0 (λ t t'. t' ≡ written_from t count (now / 1000000))) }
+        ensures unknown { IfErr result (IsUnknown self.old conn.0) }
+        ensures kept { OnErr result (self.new ≡ self.old) }
     {
         let Some(mut seat) = self.seats.take(conn) else {
             return Err(DoorError::NoConnection);
@@ -171,22 +189,20 @@ impl Door {
     ///
     /// - 103 ILLEGAL_ARGUMENT: there is no such connection. Nothing changes.
     pub fn closed(&mut self, conn: ConnNo) -> Result<(), DoorError>
-        ensures gone { OnOk result (self.new.seats.list.items ≡ without self.old.seats.list.items conn.0) }
-        ensures unknown { seat_at self.old.seats.list.items conn.0 ≡ None → result ≡ Err NoConnection }
-        ensures err { OnErr result (self.new.seats.list.items ≡ self.old.seats.list.items) }
+        ensures gone { OnOk result (self.new ≡ with_talk self.old conn.0 None) }
+        ensures unknown { IfErr result (IsUnknown self.old conn.0) }
+        ensures kept { OnErr result (self.new ≡ self.old) }
     {
         let Some(seat) = self.seats.take(conn) else {
             return Err(DoorError::NoConnection);
         };
-        if let Some(reading) = seat.reading() {
-            self.desk.monitor.forget(reading);
-        }
+        self.desk.forget(seat.reading());
         Ok(())
     }
 
     /// Does what is due: the monitor's part, answers that are there, and connections whose peers take too long.
     pub fn tick(&mut self, now: u64)
-        ensures run { AllRun self.old.seats.list.items self.new.seats.list.items }
+        ensures run { AllRun self.old self.new }
     {
         self.desk.monitor.tick(now);
         for place in 0..16 {
@@ -196,7 +212,7 @@ impl Door {
 
     /// Does what is due at one connection, if it is open.
     fn tick_one(&mut self, conn: ConnNo, now: u64)
-        ensures run { AllRun self.old.seats.list.items self.new.seats.list.items }
+        ensures run { AllRun self.old self.new }
     {
         if let Some(mut seat) = self.seats.take(conn) {
             seat.tick(&mut self.desk, now);
@@ -210,7 +226,9 @@ impl Door {
     }
 
     /// Disposes of the monitor. Its connections are gone. The errors are those of `Monitor::end`; then the door comes back.
-    pub fn finish(self) -> Result<Service, (TiError, Door)> {
+    pub fn finish(self) -> Result<Service, (TiError, Door)>
+        ensures { IfErr result (λ p. p.1 ≡ self) }
+    {
         let Door {
             alloc,
             hosts,
@@ -246,8 +264,7 @@ impl Door {
     }
 }
 
-ghost use Rattle.std.specs.Prelude.{◌≡◌, ◌≤◌, ◌<◌, ◌/◌, [], is_some, None, Err, length, true, IfOk, IfSome, OnErr, OnOk};
-ghost use Rattle.ti_http.specs.Talks.{opened, written_from};
-ghost use Rattle.ti_monitor.specs.declared.door_error.DoorError.TheVariants.{NoConnection};
-ghost use Rattle.ti_monitor.specs.Doors.{AllRun, Changes, Feeds, Opens, output_of, room_of, seat_at, without};
+ghost use Rattle.std.specs.Prelude.{◌≡◌, ◌≤◌, ◌/◌, [], is_some, length, true, IfErr, IfNone, IfOk, IfSome, None, OnErr, OnOk};
+ghost use Rattle.ti_http.specs.Talks.{written_from};
+ghost use Rattle.ti_monitor.specs.Doors.{AllRun, Changes, Feeds, IsUnknown, Opens, Refuses, door_with, output_of, room_of, talk_at, with_talk};
 ghost use Rattle.ti_monitor.specs.Seats.{RunsTo, Says};

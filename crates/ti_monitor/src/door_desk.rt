@@ -38,7 +38,9 @@ pub(crate) struct Moment {
 
 impl Desk {
     /// The body of `/metrics`. The error is lack of memory.
-    pub(crate) fn metrics(&self, connections: u64) -> Result<Vec<u8>, AllocError> {
+    pub(crate) fn metrics(&self, connections: u64) -> Result<Vec<u8>, AllocError>
+        ensures { IfOk result (λ b. b.items ≡ text_of (metrics_lines (string_bytes self.now.version) self.now.monitor.metrics self.now.tally.rows connections)) }
+    {
         let mut out = Vec::new(self.alloc);
         metrics_text(
             &mut out,
@@ -64,6 +66,13 @@ impl Desk {
         }
     }
 
+    /// Gives a reading up, if there is one.
+    pub(crate) fn forget(&mut self, reading: Option<ReadingNo>) {
+        if let Some(reading) = reading {
+            self.monitor.forget(reading);
+        }
+    }
+
     /// The body that a reading gives, which has ended. `None` if there is no such reading. With an error, which is lack of
     /// memory, the reading is forgotten.
     pub(crate) fn take(
@@ -81,3 +90,8 @@ impl Desk {
         }
     }
 }
+
+ghost use Rattle.std.specs.Prelude.{◌≡◌, IfOk};
+ghost use Rattle.std.specs.String.{string_bytes};
+ghost use Rattle.ti_monitor.specs.Exposition.{metrics_lines};
+ghost use Rattle.ti_monitor.specs.Texts.{text_of};

@@ -65,6 +65,7 @@ impl Seat {
 
     /// Takes bytes that the socket gave, as many as there is room for. The error is lack of memory.
     pub(crate) fn feed(&mut self, bytes: &[u8], now: u64) -> Result<usize, HttpError>
+        ensures memory { IfErr result (λ e. e ≡ OutOfMemory) }
         ensures taken { IfOk result (λ n. n ≡ min (length bytes.now) (room_in self.old.connection)) }
         ensures fed { IfOk result (λ n. self.new.connection ≡ fed self.old.connection (take n bytes.now) (now / 1000000)) }
         ensures kept { OnErr result (self.new.connection ≡ self.old.connection) }
@@ -132,14 +133,29 @@ impl Seat {
         }
     }
 
-    /// The peer sends no more. A reading ends now, with what is there.
+    /// The reading that its request waits for, if it goes on for some seconds.
+    fn profile(&self) -> Option<ReadingNo>
+        ensures { result ≡ profile_of self.now.due }
+    {
+        match self.due {
+            Some(
+                Due::Reading {
+                    reading,
+                    target: Target::Profile { .. },
+                },
+            ) => Some(reading),
+            _ => None,
+        }
+    }
+
+    /// The peer sends no more. A profile that it waits for ends now, with what is there. What takes a moment goes on.
     pub(crate) fn end(&mut self, desk: &mut Desk, now: u64)
         ensures run { RunsTo self.old.connection self.new.connection }
         ensures ended { self.new.connection.ended ≡ true }
         ensures stays { self.new.leaving ≡ self.old.leaving }
     {
         self.connection.end();
-        if let Some(reading) = self.reading() {
+        if let Some(reading) = self.profile() {
             desk.monitor.hurry(reading, now);
             self.settle(desk, now);
         }
@@ -336,8 +352,9 @@ impl Seat {
     }
 }
 
-ghost use Rattle.std.specs.Prelude.{◌≡◌, ◌≤◌, ◌/◌, false, length, min, take, true, IfOk, OnErr};
+ghost use Rattle.std.specs.Prelude.{◌≡◌, ◌≤◌, ◌/◌, false, length, min, take, true, IfErr, IfOk, OnErr};
 ghost use Rattle.ti_http.specs.declared.connection.Action.TheVariants.{Close};
+ghost use Rattle.ti_http.specs.declared.error.HttpError.TheVariants.{OutOfMemory};
 ghost use Rattle.ti_http.specs.Runs.{is_shut, state_of};
 ghost use Rattle.ti_http.specs.Talks.{deadline_of, ended_by_peer, fed, opened, room_in, written_from};
-ghost use Rattle.ti_monitor.specs.Seats.{QuietIn, RunsTo, Says, asks_one, idle_until, in_nanos, is_due, reading_of, waits};
+ghost use Rattle.ti_monitor.specs.Seats.{QuietIn, RunsTo, Says, asks_one, idle_until, in_nanos, is_due, profile_of, reading_of, waits};

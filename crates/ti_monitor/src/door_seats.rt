@@ -148,4 +148,4 @@ impl Seats {
 ghost use Rattle.std.specs.Prelude.{◌≡◌, ◌≤◌, ◌<◌, ◌++◌, [], ◌∷◌, None, Some, is_some, length, slice_set, IfNone, IfSome};
 ghost use Rattle.std.specs.List.{count_by};
 ghost use Rattle.std.specs.Option.{option_copied};
-ghost use Rattle.ti_monitor.specs.Doors.{seat_at, without};
+ghost use Rattle.ti_monitor.specs.SeatLists.{seat_at, without};

@@ -68,6 +68,32 @@ fn with_time(bound: u64, count: u64, nanos: u64) -> u64
     }
 }
 
+/// How many threads are there, in the state of this place.
+fn count_in(watched: &[Watched], place: usize) -> u64
+    ensures { result ≡ count_by (is_in_state place) watched.now }
+{
+    let mut count = 0;
+    for one in watched {
+        if !one.gone && one.state() == place {
+            count += 1;
+        }
+    }
+    count
+}
+
+/// How many threads are there, and suspended.
+fn count_held(watched: &[Watched]) -> u64
+    ensures { result ≡ count_by is_held watched.now }
+{
+    let mut count = 0;
+    for one in watched {
+        if !one.gone && one.is_suspended() {
+            count += 1;
+        }
+    }
+    count
+}
+
 /// What a monitor has counted since it began. A counter stays at 2^64 - 1 once it is there.
 #[derive(Clone, Copy, Debug, PartialEq, Eq)]
 pub struct Metrics {
@@ -122,37 +148,38 @@ impl Metrics {
     }
 
     /// Takes the states of the threads that are there, after so many nanoseconds.
-    pub(crate) fn take_states(&mut self, watched: &[Watched], passed: u64) {
-        self.threads = [0; STATES];
-        self.suspended = 0;
-        for one in watched {
-            if !one.gone {
-                self.take_state(one, passed);
-            }
+    pub(crate) fn take_states(&mut self, watched: &[Watched], passed: u64)
+        ensures states { CountsStates self.old self.new watched.now passed }
+        ensures others { KeepsOthers self.old self.new }
+    {
+        for place in 0..STATES {
+            let count = count_in(watched, place);
+            self.threads[place] = count;
+            self.state_time[place] = self.state_time[place].saturating_add(count.saturating_mul(
+                passed,
+            ));
         }
-    }
-
-    /// Takes the state of one thread.
-    fn take_state(&mut self, watched: &Watched, passed: u64) {
-        let state = watched.state();
-        self.threads[state] = self.threads[state].saturating_add(1);
-        self.state_time[state] = self.state_time[state].saturating_add(passed);
-        if watched.is_suspended() {
-            self.suspended = self.suspended.saturating_add(1);
-            self.suspended_time = self.suspended_time.saturating_add(passed);
-        }
+        self.suspended = count_held(watched);
+        self.suspended_time = self
+            .suspended_time
+            .saturating_add(self.suspended.saturating_mul(passed));
     }
 
     /// Takes how many calls are out.
-    pub(crate) fn take_calls(&mut self, watched: &[Watched]) {
-        self.calls_out = 0;
+    pub(crate) fn take_calls(&mut self, watched: &[Watched])
+        ensures { self.new ≡ with_calls self.old (count_by has_call watched.now) }
+    {
+        let mut count = 0;
         for one in watched {
             if one.out.is_some() {
-                self.calls_out = self.calls_out.saturating_add(1);
+                count += 1;
             }
         }
+        self.calls_out = count;
     }
 }
 
-ghost use Rattle.std.specs.Prelude.{◌≡◌, ◌<◌, ℕ, get_or};
+ghost use Rattle.std.specs.Prelude.{◌≡◌, ◌<◌, ℕ, count_by, get_or};
+ghost use Rattle.ti_monitor.specs.Counters.{CountsStates, KeepsOthers, with_calls};
+ghost use Rattle.ti_monitor.specs.Watching.{has_call, is_held, is_in_state};
 ghost use Rattle.ti_monitor.specs.Histograms.{added, bucket_with};

@@ -28,11 +28,20 @@ pub(crate) struct Watched {
 }
 
 impl Watched {
-    ghost use Rattle.std.specs.Prelude.{◌≡◌};
+    ghost use Rattle.std.specs.Prelude.{◌≡◌, ◌==◌, ◌||◌, None, false};
+    ghost use Rattle.ti_monitor.specs.States.{is_suspended, place_of};
     ghost use Rattle.ti_monitor.specs.Watching.{named_state};
 
     /// A thread that was just met.
-    pub(crate) fn new(thread: ThreadNo, name: String, priority: i32) -> Watched {
+    pub(crate) fn new(thread: ThreadNo, name: String, priority: i32) -> Watched
+        ensures thread { result.thread ≡ thread }
+        ensures name { result.name ≡ name }
+        ensures priority { result.priority ≡ priority }
+        ensures out { result.out ≡ None }
+        ensures gone { result.gone ≡ false }
+        ensures state { result.state ≡ 0 }
+        ensures suspended { result.suspended ≡ false }
+    {
         Watched {
             thread,
             name,
@@ -45,29 +54,44 @@ impl Watched {
     }
 
     /// Takes the bits of its state.
-    pub(crate) fn see(&mut self, bits: u32) {
+    pub(crate) fn see(&mut self, bits: u32)
+        ensures state { self.new.state ≡ place_of bits }
+        ensures suspended { self.new.suspended ≡ is_suspended bits }
+        ensures thread { self.new.thread ≡ self.old.thread }
+        ensures name { self.new.name ≡ self.old.name }
+        ensures priority { self.new.priority ≡ self.old.priority }
+        ensures out { self.new.out ≡ self.old.out }
+        ensures gone { self.new.gone ≡ self.old.gone }
+    {
         self.state = state_place(bits);
         self.suspended = is_suspended(bits);
     }
 
     /// The place of its state.
     pub(crate) fn state(&self) -> usize
-        ensures { result < 9 }
+        ensures state { result ≡ self.now.state }
+        ensures within { result < 9 }
     {
         self.state
     }
 
-    pub(crate) fn is_suspended(&self) -> bool {
+    pub(crate) fn is_suspended(&self) -> bool
+        ensures { result ≡ self.now.suspended }
+    {
         self.suspended
     }
 
     /// Whether it has not started.
-    pub(crate) fn is_new(&self) -> bool {
+    pub(crate) fn is_new(&self) -> bool
+        ensures { result ≡ (self.now.state == 0) }
+    {
         self.state == 0
     }
 
     /// Whether it has ended.
-    pub(crate) fn has_ended(&self) -> bool {
+    pub(crate) fn has_ended(&self) -> bool
+        ensures { result ≡ ((self.now.state == 8) || self.now.gone) }
+    {
         self.state == STATES - 1 || self.gone
     }
 

@@ -1,8 +1,6 @@
-use Rattle.std.proofs.Common.{codes, decimal, map, [], ◌∷◌, ◌++◌}
-use Rattle.ti_monitor.specs.declared.prometheus_lines.Unit.TheVariants as unit
+use Rattle.std.proofs.Common.{◌++◌}
 use Rattle.ti_monitor.specs.Exposition.{answer_lines, build_lines, door_lines, life_lines, profile_lines, sample_lines, thread_lines, time_lines}
-use Rattle.ti_monitor.specs.Texts.{seconds}
-use Rattle.ti_monitor.proofs.TextLaws.{cons_line, join, last_line}
+use Rattle.ti_monitor.proofs.TextLaws.{join}
 use Rattle.ti_monitor.proofs.prometheus.metrics_text.Goals as goal
 
 pub returns : goal.returns

@@ -1,5 +1,4 @@
-use Rattle.std.proofs.Common.{codes, decimal, map, [], ◌∷◌, ◌++◌}
-use Rattle.ti_monitor.specs.declared.prometheus_lines.Unit.TheVariants as unit
+use Rattle.std.proofs.Common.{codes, decimal, [], ◌∷◌, ◌++◌}
 use Rattle.ti_monitor.specs.Exposition.{bound_texts, bucket_of, head_lines, labelled_line, labelled_lines, plain_line}
 use Rattle.ti_monitor.specs.Texts.{seconds}
 use Rattle.ti_monitor.proofs.TextLaws.{cons_line, join, last_line}

@@ -1,8 +1,6 @@
-use Rattle.std.proofs.Common.{codes, decimal, map, [], ◌∷◌, ◌++◌}
-use Rattle.ti_monitor.specs.declared.prometheus_lines.Unit.TheVariants as unit
+use Rattle.std.proofs.Common.{codes, decimal, ◌++◌}
 use Rattle.ti_monitor.specs.Exposition.{counter, gauge, single}
-use Rattle.ti_monitor.specs.Texts.{seconds}
-use Rattle.ti_monitor.proofs.TextLaws.{cons_line, join, last_line}
+use Rattle.ti_monitor.proofs.TextLaws.{join}
 use Rattle.ti_monitor.proofs.prometheus.push_profiles.Goals as goal
 
 pub returns : goal.returns

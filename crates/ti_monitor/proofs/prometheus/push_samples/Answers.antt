@@ -1,7 +1,5 @@
-use Rattle.std.proofs.Common.{codes, decimal, map, [], ◌∷◌, ◌++◌}
-use Rattle.ti_monitor.specs.declared.prometheus_lines.Unit.TheVariants as unit
+use Rattle.std.proofs.Common.{codes, [], ◌∷◌}
 use Rattle.ti_monitor.specs.Exposition.{counter, head_lines, labelled_line, outcomes}
-use Rattle.ti_monitor.specs.Texts.{seconds}
 use Rattle.ti_monitor.proofs.TextLaws.{cons_line, join, last_line}
 use Rattle.ti_monitor.proofs.prometheus.push_samples.Goals as goal
 

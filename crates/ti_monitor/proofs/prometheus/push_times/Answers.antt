@@ -1,8 +1,8 @@
-use Rattle.std.proofs.Common.{codes, decimal, map, [], ◌∷◌, ◌++◌}
+use Rattle.std.proofs.Common.{codes, ◌++◌}
 use Rattle.ti_monitor.specs.declared.prometheus_lines.Unit.TheVariants as unit
 use Rattle.ti_monitor.specs.Exposition.{counter, head_lines, single, state_lines}
 use Rattle.ti_monitor.specs.Texts.{seconds}
-use Rattle.ti_monitor.proofs.TextLaws.{cons_line, join, last_line}
+use Rattle.ti_monitor.proofs.TextLaws.{join}
 use Rattle.ti_monitor.proofs.prometheus.push_times.Goals as goal
 
 pub returns : goal.returns

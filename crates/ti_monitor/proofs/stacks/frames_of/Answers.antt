@@ -1,4 +1,4 @@
-use Rattle.std.proofs.Common.{◌≡◌, ◌<◌, ◌+◌, ◌-◌, ◌∙◌, ◌∷◌, [], ◌++◌, get_or, arith, ap, sym}
+use Rattle.std.proofs.Common.{◌≡◌, ◌+◌, ◌-◌, ◌∙◌, ◌∷◌, [], ◌++◌, get_or, arith, ap, sym}
 use Rattle.std.proofs.lemmas.List.{append-nil, append_assoc, get_or_default}
 use Rattle.ti_pprof.specs.Stacks.{stack_at, stacks_of}
 use Rattle.ti_pprof.specs.declared.stacks.Node.{Node}

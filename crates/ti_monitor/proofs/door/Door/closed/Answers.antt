@@ -1,7 +1,10 @@
 use Rattle.std.proofs.Common.{◌∙◌}
-use Rattle.ti_monitor.proofs.DoorLaws.{none_of, without_none}
+use Rattle.ti_monitor.proofs.DoorLaws.{gone, kept}
 use Rattle.ti_monitor.proofs.door.Door.closed.Goals as goal
 
-pub returns-in_default-clause-err : goal.returns-in_default-clause-err
-returns-in_default-clause-err c =
-    c.take.ensures.taken ∙ without_none c.args.self.now.seats.list.items c.args.conn.0 (c.take.ensures.was ∙ none_of c.take.result c.in_default.not-Some)
+pub returns-clause-gone : goal.returns-clause-gone
+returns-clause-gone c = gone c.self.inside.hosts c.self.inside.seats.list.items c.take.new.self.list.items c.args.self.now c.args.conn.0 c.self.view_is c.take.ensures.taken
+
+pub returns-in_default-clause-kept : goal.returns-in_default-clause-kept
+returns-in_default-clause-kept c =
+    kept c.self.inside.hosts c.self.inside.seats.list.items c.take.new.self.list.items c.args.self.now c.args.conn.0 c.self.view_is c.take.ensures.taken (c.take.ensures.was ∙ c.in_default.is)

@@ -1,10 +1,13 @@
-use Rattle.std.proofs.Common.{◌≡◌, true}
+use Rattle.std.proofs.Common.{◌≡◌, ◌∙◌, true}
 use Rattle.ti_monitor.specs.Seats.{RunsTo}
-use Rattle.ti_monitor.proofs.DoorLaws.{changed}
+use Rattle.ti_monitor.proofs.DoorLaws.{changed, kept}
 use Rattle.ti_monitor.proofs.door.Door.end.Goals as goal
 
 pub returns-clause-ended : goal.returns-clause-ended
 returns-clause-ended c =
-    changed (λ s s'. RunsTo s.connection s'.connection × (s'.connection.ended ≡ true))
-    c.args.self.now.seats.list.items c.take.new.self.list.items c.put.new.self.list.items c.args.conn.0 c.in-Some.seat c.end.new.self
+    changed (λ t t'. RunsTo t t' × (t'.ended ≡ true)) c.self.inside.hosts c.self.inside.seats.list.items c.take.new.self.list.items c.put.new.self.list.items c.args.self.now c.args.conn.0 c.in-Some.seat c.end.new.self c.self.view_is
     c.in-Some.ensures.was c.in-Some.ensures.taken c.put.ensures (c.end.ensures.run, c.end.ensures.ended)
+
+pub returns-in_default-clause-kept : goal.returns-in_default-clause-kept
+returns-in_default-clause-kept c =
+    kept c.self.inside.hosts c.self.inside.seats.list.items c.take.new.self.list.items c.args.self.now c.args.conn.0 c.self.view_is c.take.ensures.taken (c.take.ensures.was ∙ c.in_default.is)

@@ -2,4 +2,4 @@ use Rattle.ti_monitor.specs.Doors.{AllRun}
 use Rattle.ti_monitor.proofs.door.Door.tick.Given as goal
 
 abbrev pub invariant-loop-place : goal.invariant-loop-place
-invariant-loop-place l = AllRun l.fn.self.seats.list.items l.self.seats.list.items
+invariant-loop-place l = AllRun l.fn.self l.self

@@ -1,16 +1,18 @@
 use Rattle.std.proofs.Common.{◌∙◌, sym, subst}
 use Rattle.ti_monitor.specs.Doors.{AllRun}
-use Rattle.ti_monitor.proofs.DoorLaws.{all_same, none_of, one_ran, without_none}
+use Rattle.ti_monitor.specs.Seats.{RunsTo}
+use Rattle.ti_monitor.proofs.DoorLaws.{all_same, changed, kept, one_ran}
 use Rattle.ti_monitor.proofs.door.Door.tick_one.Goals as goal
 
 pub returns-in-Some : goal.returns-in-Some
-returns-in-Some c = record {
-  run = one_ran c.args.self.now.seats.list.items c.take.new.self.list.items c.put.new.self.list.items c.args.conn.0 c.in-Some.seat c.tick.new.self
-      c.in-Some.ensures.was c.in-Some.ensures.taken c.put.ensures c.tick.ensures.run;
-}
+returns-in-Some c =
+    record {
+      run = one_ran c.args.self.now _ c.args.conn.0 RunsTo (λ t t' run. run)
+          (changed RunsTo c.self.inside.hosts c.self.inside.seats.list.items c.take.new.self.list.items c.put.new.self.list.items c.args.self.now c.args.conn.0 c.in-Some.seat c.tick.new.self c.self.view_is
+          c.in-Some.ensures.was c.in-Some.ensures.taken c.put.ensures c.tick.ensures.run);
+    }
 
 pub returns-in_default : goal.returns-in_default
 returns-in_default c =
-    let old = c.args.self.now.seats.list.items in
-    let same = c.take.ensures.taken ∙ without_none old c.args.conn.0 (c.take.ensures.was ∙ none_of c.take.result c.in_default.not-Some) in
-    record { run = subst (AllRun old) (sym same) (all_same old) }
+    let same = kept c.self.inside.hosts c.self.inside.seats.list.items c.take.new.self.list.items c.args.self.now c.args.conn.0 c.self.view_is c.take.ensures.taken (c.take.ensures.was ∙ c.in_default.is) in
+    record { run = subst (AllRun c.args.self.now) (sym same) (all_same c.args.self.now) }

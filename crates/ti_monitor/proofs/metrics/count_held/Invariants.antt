@@ -1,0 +1,6 @@
+use Rattle.std.specs.Prelude.{◌≡◌, count_by, take}
+use Rattle.ti_monitor.specs.Watching.{is_held}
+use Rattle.ti_monitor.proofs.metrics.count_held.Given as goal
+
+abbrev pub invariant-loop-one : goal.invariant-loop-one
+invariant-loop-one l = l.count ≡ count_by is_held (take l.one-index l.watched)

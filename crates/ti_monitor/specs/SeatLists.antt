@@ -1,0 +1,26 @@
+-- The connections that a door keeps, and what contracts see of them.
+use Rattle.std.specs.Prelude.{ℕ, List, length, map, nat_lt, slice_get, slice_set, Option, Some, None, if◌then◌else◌}
+use Rattle.ti_http.specs.declared.hosts.Hosts.{Hosts}
+use Rattle.ti_http.specs.Talks.{Talk}
+use Rattle.ti_monitor.specs.declared.door_seat.Seat.{Seat}
+use Rattle.ti_monitor.specs.Doors.{DoorValue, door_with}
+
+-- the connection of this number, if it is open
+abbrev pub seat_in : Option (Option Seat) → Option Seat
+seat_in None = None
+seat_in (Some s) = s
+
+abbrev pub seat_at : List (Option Seat) → ℕ → Option Seat
+seat_at seats conn = seat_in (slice_get seats conn)
+
+-- the connections without the one of this number
+abbrev pub without : List (Option Seat) → ℕ → List (Option Seat)
+without seats conn = if nat_lt conn (length seats) then slice_set seats conn None else seats
+
+-- what contracts see of a connection
+abbrev pub talk_of : Option Seat → Option Talk
+talk_of None = None
+talk_of (Some s) = Some s.connection
+
+abbrev pub door_of : Hosts → List (Option Seat) → DoorValue
+door_of hosts seats = door_with hosts (map talk_of seats)
