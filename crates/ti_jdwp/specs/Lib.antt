@@ -1,0 +1,5 @@
+pub mod Errors
+pub mod Fields
+pub mod Events
+pub mod Ids
+pub mod Packets
