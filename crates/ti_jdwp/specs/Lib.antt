@@ -3,3 +3,4 @@ pub mod Fields
 pub mod Events
 pub mod Ids
 pub mod Packets
+pub mod Modifiers

@@ -4,7 +4,9 @@
 #![tactic(auto)]
 
 mod error;
+mod fields;
 mod ids;
+mod modifiers;
 mod packet;
 mod request;
 
@@ -13,5 +15,6 @@ pub use ids::{
     THREAD_CLASS, THREAD_GROUP, class_id, class_of, frame_id, frame_of, ids_are_undone,
     kinds_are_apart, method_id, method_of, thread_id, thread_of,
 };
+pub use modifiers::{MAX_MODIFIERS, Modifier, read_modifier};
 pub use packet::{HANDSHAKE, HEAD_LEN, Head, MAX_PACKET, read_head};
 pub use request::{EventKind, Policy, Range, Request};
