@@ -4,3 +4,5 @@ pub mod Events
 pub mod Ids
 pub mod Packets
 pub mod Modifiers
+pub mod Commands
+pub mod Requests

@@ -8,6 +8,7 @@ mod fields;
 mod ids;
 mod modifiers;
 mod packet;
+mod reading;
 mod request;
 
 pub use error::JdwpError;
@@ -17,4 +18,5 @@ pub use ids::{
 };
 pub use modifiers::{MAX_MODIFIERS, Modifier, read_modifier};
 pub use packet::{HANDSHAKE, HEAD_LEN, Head, MAX_PACKET, read_head};
+pub use reading::read_request;
 pub use request::{EventKind, Policy, Range, Request};
