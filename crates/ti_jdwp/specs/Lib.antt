@@ -6,3 +6,9 @@ pub mod Packets
 pub mod Modifiers
 pub mod Commands
 pub mod Requests
+pub mod Filters
+pub mod InForce
+pub mod Queues
+pub mod QueueRuns
+pub mod Holds
+pub mod HoldRuns
