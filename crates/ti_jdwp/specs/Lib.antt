@@ -6,3 +6,6 @@ pub mod Packets
 pub mod Modifiers
 pub mod Commands
 pub mod Requests
+pub mod Sent
+pub mod Bodies
+pub mod Composites
