@@ -54,6 +54,13 @@ line_row r = long r.index ++ int r.line
 abbrev pub line_list : List LineRow → List ℕ
 line_list rs = list line_row rs
 
+-- a line whose location is its number
+abbrev pub identity_line : ℕ → List ℕ
+identity_line n = long n ++ int n
+
+abbrev pub identity_list : List ℕ → List ℕ
+identity_list lines = list identity_line lines
+
 -- its id, and its location: a tag for a class, the class, the method, and the index
 abbrev pub frame_row : ℕ → FrameRow → List ℕ
 frame_row thread r = long (frame_id thread r.depth) ++ 1 ∷ long (id_from first_class r.class) ++ long (id_from first_method r.method) ++ long r.index

@@ -9,3 +9,4 @@ pub mod Requests
 pub mod Sent
 pub mod Bodies
 pub mod Composites
+pub mod Spelled

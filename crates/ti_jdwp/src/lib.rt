@@ -24,12 +24,12 @@ pub use bodies::{
 pub use error::JdwpError;
 pub use event_text::{EventRow, Occurrence, composite_body};
 pub use ids::{
-    THREAD_CLASS, THREAD_GROUP, class_id, class_of, frame_id, frame_of, ids_are_undone,
+    IdKind, THREAD_CLASS, THREAD_GROUP, class_id, class_of, frame_id, frame_of, ids_are_undone,
     kinds_are_apart, method_id, method_of, thread_id, thread_of,
 };
 pub use lists::{
     ClassRow, FrameRow, LineRow, MethodRow, classes_body, classes_found_body, frames_body,
-    group_children_body, line_table_body, methods_body, threads_body,
+    group_children_body, identity_lines_body, line_table_body, methods_body, threads_body,
 };
 pub use modifiers::{MAX_MODIFIERS, Modifier, read_modifier};
 pub use packet::{HANDSHAKE, HEAD_LEN, Head, MAX_PACKET, read_head};

@@ -200,6 +200,39 @@ fn put_lines(out: &mut Vec<u8>, lines: &[LineRow]) -> Result<(), JdwpError>
     Ok(())
 }
 
+/// The lines of a method whose locations are its lines (6/1): those that are known, each at the location of its number. Every
+/// location from 0 to 2^32 - 1 is in the range of the table.
+pub fn identity_lines_body(alloc: Global, lines: &[u32]) -> Result<Vec<u8>, JdwpError>
+    ensures ok { IfOk result (λ v. v.items ≡ long 0 ++ long 4294967295 ++ identity_list lines.now) }
+    ensures memory { IfErr result (λ e. e ≡ OutOfMemory) }
+{
+    let mut out = Vec::new(alloc);
+    put_long(&mut out, 0)?;
+    put_long(&mut out, u64::from(u32::MAX))?;
+    put_identity(&mut out, lines)?;
+    Ok(out)
+}
+
+fn put_identity(out: &mut Vec<u8>, lines: &[u32]) -> Result<(), JdwpError>
+    ensures ok { OnOk result (out.new.items ≡ out.old.items ++ identity_list lines.now) }
+    ensures memory { IfErr result (λ e. e ≡ OutOfMemory) }
+{
+    put_count(out, lines.len())?;
+    for line in lines {
+        put_identity_line(out, *line)?;
+    }
+    Ok(())
+}
+
+fn put_identity_line(out: &mut Vec<u8>, line: u32) -> Result<(), JdwpError>
+    ensures ok { OnOk result (out.new.items ≡ out.old.items ++ identity_line line) }
+    ensures memory { IfErr result (λ e. e ≡ OutOfMemory) }
+{
+    put_long(out, u64::from(line))?;
+    put_int(out, line)?;
+    Ok(())
+}
+
 fn put_frame(out: &mut Vec<u8>, thread: u32, row: FrameRow) -> Result<(), JdwpError>
     ensures ok { OnOk result (out.new.items ≡ out.old.items ++ frame_row thread row) }
     ensures memory { IfErr result (λ e. e ≡ OutOfMemory) }
@@ -227,5 +260,5 @@ pub fn frames_body(alloc: Global, thread: u32, frames: &[FrameRow]) -> Result<Ve
 
 ghost use Rattle.std.specs.Prelude.{◌≡◌, ◌++◌, OnOk, IfOk, IfErr};
 ghost use Rattle.ti_jdwp.specs.Fields.{int, long};
-ghost use Rattle.ti_jdwp.specs.Bodies.{thread_list, class_row, class_list, found_class, found_list, method_flags, method_row, method_list, line_row, line_list, frame_row, frame_list};
+ghost use Rattle.ti_jdwp.specs.Bodies.{thread_list, class_row, class_list, found_class, found_list, method_flags, method_row, method_list, line_row, line_list, identity_line, identity_list, frame_row, frame_list};
 ghost use Rattle.ti_jdwp.specs.declared.error.JdwpError.TheVariants.{OutOfMemory};
