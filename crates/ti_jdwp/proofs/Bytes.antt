@@ -1,9 +1,9 @@
 -- Numbers that stand at the front of bytes.
-use Rattle.std.proofs.Common.{◌≡◌, ℕ, ◌+◌, ◌<◌, ◌≤◌, List, [], ◌∷◌, ◌++◌, length, get_or, take, drop, refl, sym, ap, ◌∙◌, append_assoc, arith, inl, inr}
-use Rattle.std.specs.Int.{w32, w64, to_be_bytes, from_be_bytes}
+use Rattle.std.proofs.Common.{◌≡◌, ℕ, ◌+◌, ◌<◌, ◌≤◌, List, [], ◌∷◌, ◌++◌, length, get_or, take, drop, refl, sym, ap, ◌∙◌, arith, inl, inr}
+use Rattle.std.specs.Int.{w32, to_be_bytes, from_be_bytes}
 use Rattle.std.proofs.lemmas.Bool.{cases_lt}
 use Rattle.std.proofs.lemmas.List.{length-take, get_or-drop, get_or-take, get_or_past}
-use Rattle.std.proofs.lemmas.Nat.{be_bytes_4, be_bytes_8}
+use Rattle.std.proofs.lemmas.Nat.{be_bytes_4}
 use Rattle.ti_jdwp.specs.Fields.{int}
 use Rattle.ti_jdwp.specs.Packets.{BeginsWithLength, BeginsWithHead}
 
@@ -25,12 +25,14 @@ abbrev pub int_at : ℕ → List ℕ → ℕ
 int_at at bytes = from_be_bytes w32 (get_or bytes at 0 ∷ get_or bytes (at + 1) 0 ∷ get_or bytes (at + 2) 0 ∷ get_or bytes (at + 3) 0 ∷ [])
 
 pub length_first : (input : List ℕ) (n : ℕ) → 4 ≤ length input → IsBytes input → n ≡ int_at 0 input → BeginsWithLength input n
+unfolding int
 length_first (a ∷ b ∷ c ∷ d ∷ rest) n long fits is =
     (rest, ap (λ (t : List ℕ). t ++ rest) (sym (be_bytes_4 (a ∷ b ∷ c ∷ d ∷ []) n refl (IsBytes-take 4 (a ∷ b ∷ c ∷ d ∷ rest) fits) is)))
 length_first xs n long fits is = absurd (omega arith)
 
 pub head_first : (input : List ℕ) (len id : ℕ) → 11 ≤ length input → IsBytes input → len ≡ int_at 0 input → id ≡ int_at 4 input
     → BeginsWithHead input len id (get_or input 8 0) (get_or input 9 0) (get_or input 10 0)
+unfolding int
 head_first (a ∷ b ∷ c ∷ d ∷ e ∷ f ∷ g ∷ h ∷ i ∷ j ∷ k ∷ rest) len id long fits is_len is_id =
     let all : List ℕ = a ∷ b ∷ c ∷ d ∷ e ∷ f ∷ g ∷ h ∷ i ∷ j ∷ k ∷ rest in
     let first : to_be_bytes w32 len ≡ a ∷ b ∷ c ∷ d ∷ [] = be_bytes_4 (a ∷ b ∷ c ∷ d ∷ []) len refl (IsBytes-take 4 all fits) is_len in

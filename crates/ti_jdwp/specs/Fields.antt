@@ -1,5 +1,5 @@
 -- Fields of packets: numbers are big-endian, and a text is its length in four bytes and its bytes.
-use Rattle.std.specs.Prelude.{ℕ, ◌-◌, ◌+◌, ◌<◌, ◌^◌, List, [], ◌∷◌, ◌++◌, length, take, drop, nat_le, ◌&&◌, Result, Ok, Err, if◌then◌else◌}
+use Rattle.std.specs.Prelude.{ℕ, ◌-◌, List, [], ◌++◌, length, take, drop, nat_le, ◌&&◌, Result, Ok, Err, if◌then◌else◌}
 use Rattle.std.specs.Int.{w32, w64, to_be_bytes, from_be_bytes}
 use Rattle.ti_jdwp.specs.declared.error.JdwpError.{JdwpError}
 use Rattle.ti_jdwp.specs.declared.request.Range.{Range}
@@ -9,10 +9,10 @@ abbrev pub bytes_at : Range → List ℕ → List ℕ
 bytes_at r bytes = if nat_le r.start r.end && nat_le r.end (length bytes) then take (r.end - r.start) (drop r.start bytes) else []
 
 -- how a number of four bytes is written, and one of eight, and a text
-abbrev pub int : ℕ → List ℕ
+unfoldable pub int : ℕ → List ℕ
 int n = to_be_bytes w32 n
 
-abbrev pub long : ℕ → List ℕ
+unfoldable pub long : ℕ → List ℕ
 long n = to_be_bytes w64 n
 
 abbrev pub text : List ℕ → List ℕ

@@ -1,6 +1,19 @@
 -- Ids on the wire.
-use Rattle.std.specs.Prelude.{◌≡◌, ℕ, ◌+◌, ◌-◌, ◌*◌, ◌^◌, ◌<◌, ◌≤◌, Bool, ◌&&◌, List, [], ◌∷◌, length, Option, Some, None, is_some, nat_le, nat_lt, ◌==◌, if◌then◌else◌}
+use Rattle.std.specs.Prelude.{◌≡◌, ℕ, ◌+◌, ◌-◌, ◌*◌, ◌^◌, ◌<◌, ◌≤◌, Bool, ◌&&◌, List, [], ◌∷◌, Option, Some, None, nat_le, nat_lt, ◌==◌, if◌then◌else◌}
 use Rattle.std.specs.List.{count_by}
+use Rattle.ti_jdwp.specs.declared.error.JdwpError.{JdwpError}
+use Rattle.ti_jdwp.specs.declared.error.JdwpError.TheVariants as error
+use Rattle.ti_jdwp.specs.declared.ids.IdKind.{IdKind}
+use Rattle.ti_jdwp.specs.declared.ids.IdKind.TheVariants as kind
+
+-- the error for an id of nothing
+abbrev pub unknown_id : IdKind → JdwpError
+unknown_id kind.Thread = error.InvalidThread
+unknown_id kind.ThreadGroup = error.InvalidThreadGroup
+unknown_id kind.Object = error.InvalidObject
+unknown_id kind.Class = error.InvalidClass
+unknown_id kind.Method = error.InvalidMethodId
+unknown_id kind.Frame = error.InvalidFrameId
 
 abbrev pub first_thread : ℕ
 first_thread = 1

@@ -12,3 +12,7 @@ pub mod Queues
 pub mod QueueRuns
 pub mod Holds
 pub mod HoldRuns
+pub mod Sent
+pub mod Bodies
+pub mod Composites
+pub mod Spelled

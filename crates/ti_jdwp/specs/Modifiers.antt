@@ -1,9 +1,7 @@
 -- The modifiers of an event request.
-use Rattle.std.specs.Prelude.{◌≡◌, ℕ, suc, zero, ℤ, pos, ◌+◌, ◌-◌, ◌^◌, Bool, false, ◌||◌, ◌&&◌, List, [], ◌∷◌, length, take, drop, slice_index, Option, Some, None, Result, Ok, Err, nat_le, nat_lt, ◌==◌, if◌then◌else◌}
-use Rattle.std.specs.Int.{w32, cast_signed}
+use Rattle.std.specs.Prelude.{ℕ, suc, zero, pos, ◌+◌, ◌^◌, Bool, false, ◌||◌, ◌&&◌, List, [], ◌∷◌, length, drop, slice_index, Result, Ok, Err, nat_le, nat_lt, ◌==◌, if◌then◌else◌}
 use Rattle.ti_jdwp.specs.declared.error.JdwpError.{JdwpError}
 use Rattle.ti_jdwp.specs.declared.error.JdwpError.TheVariants as error
-use Rattle.ti_jdwp.specs.declared.request.Range.{Range}
 use Rattle.ti_jdwp.specs.declared.modifiers.Modifier.{Modifier}
 use Rattle.ti_jdwp.specs.declared.modifiers.Modifier.TheVariants as modifier
 use Rattle.ti_jdwp.specs.Fields.{◌>>=◌, int_at, long_at}

@@ -1,6 +1,5 @@
 -- Packets: a length, an id, a byte of flags, and behind them a command set and a command, or an error.
-use Rattle.std.specs.Prelude.{◌≡◌, ℕ, ◌+◌, ◌^◌, ◌<◌, ◌≤◌, List, [], ◌∷◌, ◌++◌, length, ◌⊎◌}
-use Rattle.std.specs.Int.{w16, to_be_bytes}
+use Rattle.std.specs.Prelude.{◌≡◌, ℕ, ◌^◌, ◌<◌, ◌≤◌, List, [], ◌∷◌, ◌++◌, length, ◌⊎◌}
 use Rattle.ti_jdwp.specs.declared.packet.Head.{Head}
 use Rattle.ti_jdwp.specs.declared.packet.Head.TheVariants as head
 use Rattle.ti_jdwp.specs.Fields.{int}

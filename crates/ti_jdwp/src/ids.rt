@@ -10,6 +10,37 @@
 //!
 //! A frame's id is of another kind: it stands only beside its thread's.
 
+use crate::error::JdwpError;
+
+/// What a request takes an id for.
+#[derive(Clone, Copy, Debug, PartialEq, Eq)]
+pub enum IdKind {
+    Thread,
+    ThreadGroup,
+    /// A thread, a thread group or another object.
+    Object,
+    Class,
+    Method,
+    Frame,
+}
+
+impl IdKind {
+    /// The error of a request whose id names nothing of this kind: 10 INVALID_THREAD, 11 INVALID_THREAD_GROUP,
+    /// 20 INVALID_OBJECT, 21 INVALID_CLASS, 23 INVALID_METHODID or 30 INVALID_FRAMEID.
+    pub fn error(self) -> JdwpError
+        ensures { result ≡ unknown_id self }
+    {
+        match self {
+            IdKind::Thread => JdwpError::InvalidThread,
+            IdKind::ThreadGroup => JdwpError::InvalidThreadGroup,
+            IdKind::Object => JdwpError::InvalidObject,
+            IdKind::Class => JdwpError::InvalidClass,
+            IdKind::Method => JdwpError::InvalidMethodId,
+            IdKind::Frame => JdwpError::InvalidFrameId,
+        }
+    }
+}
+
 /// The id of the one thread group.
 pub const THREAD_GROUP: u64 = 1 << 33;
 
@@ -104,4 +135,4 @@ pub fn kinds_are_apart()
 {}
 
 ghost use Rattle.std.specs.Prelude.{◌≡◌, ◌<◌, ◌^◌, ℕ};
-ghost use Rattle.ti_jdwp.specs.Ids.{number_from, id_from, first_thread, first_class, first_method, frame_id, IsUndone, kinds_with, AtMostOne};
+ghost use Rattle.ti_jdwp.specs.Ids.{unknown_id, number_from, id_from, first_thread, first_class, first_method, frame_id, IsUndone, kinds_with, AtMostOne};

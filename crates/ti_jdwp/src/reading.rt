@@ -18,6 +18,17 @@ const DISPOSED_LEN: usize = 12;
 ///
 /// [`read_modifier`]: crate::read_modifier
 pub fn read_request(set: u8, command: u8, bytes: &[u8]) -> Result<Request, JdwpError>
+    // What is read is what the bytes spell.
+    ensures found { IfOk result (λ r. IsRequest set command bytes.now r) }
+    // What the bytes spell is read.
+    ensures only { (r : Request) → IsRequest set command bytes.now r → result ≡ Ok r }
+    // Which error it is.
+    ensures exact { result ≡ request_in set command bytes.now }
+{
+    request_of(set, command, bytes)
+}
+
+fn request_of(set: u8, command: u8, bytes: &[u8]) -> Result<Request, JdwpError>
     ensures { result ≡ request_in set command bytes.now }
 {
     match set {
@@ -248,6 +259,8 @@ fn clear_event(bytes: &[u8]) -> Result<Request, JdwpError>
     }
 }
 
-ghost use Rattle.std.specs.Prelude.{◌≡◌};
+ghost use Rattle.std.specs.Prelude.{◌≡◌, IfOk};
+ghost use Rattle.ti_jdwp.specs.Spelled.{IsRequest};
+ghost use Rattle.ti_jdwp.specs.declared.request.Request.{Request};
 ghost use Rattle.ti_jdwp.specs.Requests.{id_in, read_as, request_in};
 ghost use Rattle.ti_jdwp.specs.Commands.{no_fields, of_signature, of_objects, of_method, of_frames, of_event, of_clear};
