@@ -35,9 +35,9 @@ suspends_it : (old new : Holds) (t : ℕ) (holder : Holder) → Owns old t → S
 suspends_it old new t holder owns step =
     let is : eqb t t ≡ true = eq-eqb t t refl in
     let n = count_of old t in
-    let here = suspended_here n (count_of new t) (is_own old t) (is_own new t) (is_debugger holder) owns step.0 step.1 in
+    let here = suspended_here n (count_of new t) (is_own old t) (is_own new t) (is_debugger holder) owns step.count step.own in
     record {
-      count = step.0 ∙ ap (λ b. cond b (n + 1) n) (sym is);
+      count = step.count ∙ ap (λ b. cond b (n + 1) n) (sym is);
       balance = ap (λ b. one (b && (eqb n 0 && is_debugger holder)) + one (is_own old t)) is ∙ here.0 ∙ omega arith;
       owns = here.1;
     }
@@ -46,9 +46,9 @@ resumes_it : (old new : Holds) (t : ℕ) (told : Bool) → Owns old t → Step o
 resumes_it old new t told owns step =
     let is : eqb t t ≡ true = eq-eqb t t refl in
     let n = count_of old t in
-    let here = resumed_here n (count_of new t) (is_own old t) (is_own new t) told owns step.0 step.1 step.2 in
+    let here = resumed_here n (count_of new t) (is_own old t) (is_own new t) told owns step.resumes step.count step.own in
     record {
-      count = step.1 ∙ ap (λ b. cond b (n - 1) n) (sym is);
+      count = step.count ∙ ap (λ b. cond b (n - 1) n) (sym is);
       balance = let h : one (eqb t t && told) ≡ one told = ap (λ b. one (b && told)) is in omega (arith, h, here.0);
       owns = here.1;
     }
@@ -56,11 +56,11 @@ resumes_it old new t told owns step =
 lets_it_go : (old new : Holds) (t : ℕ) (told : Bool) → Step old (LetGo t told) new → Goes old new (LetGo t told) t
 lets_it_go old new t told step =
     let is : eqb t t ≡ true = eq-eqb t t refl in
-    let here = let_go_here (is_own old t) (is_own new t) told step.0 step.2 in
+    let here = let_go_here (is_own old t) (is_own new t) told step.resumes step.own in
     record {
-      count = step.1 ∙ ap (λ b. cond b 0 (count_of old t)) (sym is);
+      count = step.count ∙ ap (λ b. cond b 0 (count_of old t)) (sym is);
       balance = let h : one (eqb t t && told) ≡ one told = ap (λ b. one (b && told)) is in omega (arith, h, here);
-      owns = λ h. absurd (true≢false (sym h ∙ step.2));
+      owns = λ h. absurd (true≢false (sym h ∙ step.own));
     }
 
 -- a call at another thread
@@ -76,19 +76,19 @@ goes old new (Suspended u holder) t owns step = elim (cases_eq u t) [
   | inl same ↦ subst (λ v. Goes old new (Suspended v holder) t) (sym same) (suspends_it old new t holder owns (subst (λ v. Step old (Suspended v holder) new) same step))
   | inr other ↦
       let no : eqb u t ≡ false = ne_eqb u t other in
-      passes old new (Suspended u holder) t owns (step.2 t (λ e. other (sym e))) (ap (λ b. cond b (count_of old t + 1) (count_of old t)) no) (ap (λ b. b && (eqb (count_of old t) 0 && is_debugger holder)) no) refl
+      passes old new (Suspended u holder) t owns (step.others t (λ e. other (sym e))) (ap (λ b. cond b (count_of old t + 1) (count_of old t)) no) (ap (λ b. b && (eqb (count_of old t) 0 && is_debugger holder)) no) refl
 ]
 goes old new (Resumed u told) t owns step = elim (cases_eq u t) [
   | inl same ↦ subst (λ v. Goes old new (Resumed v told) t) (sym same) (resumes_it old new t told owns (subst (λ v. Step old (Resumed v told) new) same step))
   | inr other ↦
       let no : eqb u t ≡ false = ne_eqb u t other in
-      passes old new (Resumed u told) t owns (step.3 t (λ e. other (sym e))) (ap (λ b. cond b (count_of old t - 1) (count_of old t)) no) refl (ap (λ b. b && told) no)
+      passes old new (Resumed u told) t owns (step.others t (λ e. other (sym e))) (ap (λ b. cond b (count_of old t - 1) (count_of old t)) no) refl (ap (λ b. b && told) no)
 ]
 goes old new (LetGo u told) t owns step = elim (cases_eq u t) [
   | inl same ↦ subst (λ v. Goes old new (LetGo v told) t) (sym same) (lets_it_go old new t told (subst (λ v. Step old (LetGo v told) new) same step))
   | inr other ↦
       let no : eqb u t ≡ false = ne_eqb u t other in
-      passes old new (LetGo u told) t owns (step.3 t (λ e. other (sym e))) (ap (λ b. cond b 0 (count_of old t)) no) refl (ap (λ b. b && told) no)
+      passes old new (LetGo u told) t owns (step.others t (λ e. other (sym e))) (ap (λ b. cond b 0 (count_of old t)) no) refl (ap (λ b. b && told) no)
 ]
 
 -- what a run does at one thread

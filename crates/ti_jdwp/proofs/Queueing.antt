@@ -3,12 +3,12 @@ use Rattle.std.proofs.Common.{◌≡◌, ℕ, Bool, true, false, not, ◌&&◌, 
 use Rattle.std.specs.Prelude.{slice_get, unwrap_or}
 use Rattle.std.specs.List.{filter_map}
 use Rattle.std.proofs.lemmas.Bool.{cases_Bool}
-use Rattle.ti_jdwp.specs.declared.event.Event.{Event}
+use Rattle.ti_jdwp.specs.declared.notice.Notice.{Notice}
 use Rattle.ti_jdwp.specs.Queues.{Queue, no_events, with_event, with_loss, may_tell, first, without_first}
 use Rattle.ti_jdwp.specs.QueueRuns.{Call, Noted, Lost, Told, Stopped, Resumed, Held, Released, Step, Runs, stops, holds, noted_by, told_by, AreToldWell, AllToldWell}
 
 -- what is known where an event is told
-pub record Tells (old : Queue) (e : Event) (new : Queue) : Type 0 where
+pub record Tells (old : Queue) (e : Notice) (new : Queue) : Type 0 where
   pub stands : old.stopped ≡ false
   pub takes : old.held ≡ false
   pub waiting : old.waiting ≡ e ∷ new.waiting
@@ -20,11 +20,11 @@ may true stopped h = cc
 may false true h = cc
 may false false h = (refl, refl)
 
-taken : (l : List Event) (e : Event) → first l ≡ Some e → l ≡ e ∷ drop 1 l
+taken : (l : List Notice) (e : Notice) → first l ≡ Some e → l ≡ e ∷ drop 1 l
 taken [] e h = cc
 taken (x ∷ l) e h = ap (λ y. y ∷ l) (ap (λ o. unwrap_or o x) h)
 
-tells : (old new : Queue) (e : Event) (b : Bool) → may_tell old ≡ b → cond b (first old.waiting) None ≡ Some e → new ≡ cond b (without_first old) old → Tells old e new
+tells : (old new : Queue) (e : Notice) (b : Bool) → may_tell old ≡ b → cond b (first old.waiting) None ≡ Some e → new ≡ cond b (without_first old) old → Tells old e new
 tells old new e true may_be first_is is = record {
   stands = (may old.held old.stopped may_be).1;
   takes = (may old.held old.stopped may_be).0;
@@ -34,7 +34,7 @@ tells old new e true may_be first_is is = record {
 }
 tells old new e false may_be first_is is = cc
 
-told_step : (old new : Queue) (e : Event) → Step old (Told e) new → Tells old e new
+told_step : (old new : Queue) (e : Notice) → Step old (Told e) new → Tells old e new
 told_step old new e step = tells old new e (may_tell old) refl step.0 step.1
 
 -- what waits and what comes is what is told and what waits at the end
@@ -67,7 +67,7 @@ flags old new Resumed step = from old new (record old { stopped = false }) Resum
 flags old new Held step = from old new (record old { held = true }) Held step (refl, refl)
 flags old new Released step = from old new (record old { held = false }) Released step (refl, refl)
 
-told_at : (q end : Queue) (front rest : List Call) (e : Event) → Runs q (front ++ Told e ∷ rest) end → (fold stops q.stopped front ≡ false) × (fold holds q.held front ≡ false)
+told_at : (q end : Queue) (front rest : List Call) (e : Notice) → Runs q (front ++ Told e ∷ rest) end → (fold stops q.stopped front ≡ false) × (fold holds q.held front ≡ false)
 told_at q end [] rest e run = let told = told_step q run.0 e run.1 in (told.stands, told.takes)
 told_at q end (c ∷ front) rest e run =
     let now = flags q run.0 c run.1 in

@@ -41,3 +41,7 @@ passes e (filter.Thread thread) = event_thread e == thread
 passes e (filter.Class class) = is_event_of e class
 passes e (filter.Matches pattern) = is_match pattern (event_name e)
 passes e (filter.Excludes pattern) = not (is_match pattern (event_name e))
+
+-- a slash for a dot
+abbrev pub slashed : ℕ → ℕ
+slashed b = if b == 46 then 47 else b

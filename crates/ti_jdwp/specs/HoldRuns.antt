@@ -1,7 +1,7 @@
 -- Whole runs of calls of the suspensions, and what they leave.
-use Rattle.std.specs.Prelude.{◌≡◌, ℕ, ◌+◌, ◌-◌, ◌==◌, ◌&&◌, Bool, true, false, nat_lt, List, [], ◌∷◌, fold, count_by, if◌then◌else◌}
+use Rattle.std.specs.Prelude.{◌≡◌, ℕ, ◌+◌, ◌-◌, ◌==◌, ◌&&◌, Bool, false, List, [], ◌∷◌, fold, count_by, if◌then◌else◌}
 use Rattle.ti_jdwp.specs.declared.suspensions.Holder.{Holder}
-use Rattle.ti_jdwp.specs.Holds.{Holds, count_of, is_own, is_debugger, AreOthersKept, AreAllFree}
+use Rattle.ti_jdwp.specs.Holds.{Holds, count_of, is_own, is_debugger, Suspends, Resumes, LetsGo, AreAllFree}
 
 -- A call that succeeded, with what it told. One that fails changes nothing.
 pub data Call : Type 0 where
@@ -11,9 +11,9 @@ pub data Call : Type 0 where
 
 -- what the contracts of the calls say
 abbrev pub Step : Holds → Call → Holds → Type 0
-Step old (Suspended t holder) new = (count_of new t ≡ count_of old t + 1) × (is_own new t ≡ (if count_of old t == 0 then is_debugger holder else is_own old t)) × AreOthersKept old new t
-Step old (Resumed t told) new = (told ≡ (is_own old t && (count_of old t == 1))) × (count_of new t ≡ count_of old t - 1) × (is_own new t ≡ (is_own old t && nat_lt 1 (count_of old t))) × AreOthersKept old new t
-Step old (LetGo t told) new = (told ≡ is_own old t) × (count_of new t ≡ 0) × (is_own new t ≡ false) × AreOthersKept old new t
+Step old (Suspended t holder) new = Suspends old t holder new
+Step old (Resumed t told) new = Resumes old t told new
+Step old (LetGo t told) new = LetsGo old t told new
 
 -- these calls, in this order
 abbrev pub Runs : Holds → List Call → Holds → Type 0

@@ -16,3 +16,9 @@ pub mod Sent
 pub mod Bodies
 pub mod Composites
 pub mod Spelled
+pub mod Lines
+pub mod Plans
+pub mod Constants
+pub mod Talks
+pub mod Steps
+pub mod Answered

@@ -1,14 +1,14 @@
 -- Whole runs of calls of the events that wait.
 use Rattle.std.specs.Prelude.{◌≡◌, Bool, true, false, List, [], ◌∷◌, ◌++◌, fold, Option, Some, None, if◌then◌else◌}
 use Rattle.std.specs.List.{filter_map}
-use Rattle.ti_jdwp.specs.declared.event.Event.{Event}
+use Rattle.ti_jdwp.specs.declared.notice.Notice.{Notice}
 use Rattle.ti_jdwp.specs.Queues.{Queue, no_events, with_event, with_loss, may_tell, first, without_first}
 
 -- A call, with what came of it. One that gives no event changes nothing.
 pub data Call : Type 0 where
-  Noted : Event → Call
+  Noted : Notice → Call
   Lost : Call
-  Told : Event → Call
+  Told : Notice → Call
   Stopped Resumed Held Released : Call
 
 -- what the contracts of the calls say
@@ -46,7 +46,7 @@ holds b Resumed = b
 holds b Held = true
 holds b Released = false
 
-abbrev pub noted_by : Call → Option Event
+abbrev pub noted_by : Call → Option Notice
 noted_by (Noted e) = Some e
 noted_by Lost = None
 noted_by (Told e) = None
@@ -55,7 +55,7 @@ noted_by Resumed = None
 noted_by Held = None
 noted_by Released = None
 
-abbrev pub told_by : Call → Option Event
+abbrev pub told_by : Call → Option Notice
 told_by (Noted e) = None
 told_by Lost = None
 told_by (Told e) = Some e
@@ -68,8 +68,8 @@ told_by Released = None
 -- resumption, nor while the debugger holds events.
 pub record AreToldWell (calls : List Call) (end : Queue) : Type 0 where
   pub order : filter_map noted_by calls ≡ filter_map told_by calls ++ end.waiting
-  pub stands : (front rest : List Call) (e : Event) → calls ≡ front ++ Told e ∷ rest → fold stops false front ≡ false
-  pub takes : (front rest : List Call) (e : Event) → calls ≡ front ++ Told e ∷ rest → fold holds false front ≡ false
+  pub stands : (front rest : List Call) (e : Notice) → calls ≡ front ++ Told e ∷ rest → fold stops false front ≡ false
+  pub takes : (front rest : List Call) (e : Notice) → calls ≡ front ++ Told e ∷ rest → fold holds false front ≡ false
 
 abbrev pub AllToldWell : Type 0
 AllToldWell = (calls : List Call) (end : Queue) → Runs no_events calls end → AreToldWell calls end

@@ -1,10 +1,10 @@
 -- The events that wait to be told.
 use Rattle.std.specs.Prelude.{ℕ, ◌+◌, ◌-◌, ◌^◌, min, Bool, false, not, ◌&&◌, List, [], ◌∷◌, ◌++◌, drop, slice_get, Option}
-use Rattle.ti_jdwp.specs.declared.event.Event.{Event}
+use Rattle.ti_jdwp.specs.declared.notice.Notice.{Notice}
 
 pub record Queue : Type 0 where
   -- in the order in which they came
-  pub waiting : List Event
+  pub waiting : List Notice
   -- how many were lost
   pub lost : ℕ
   -- the debugger holds events
@@ -15,7 +15,7 @@ pub record Queue : Type 0 where
 abbrev pub no_events : Queue
 no_events = record { waiting = []; lost = 0; held = false; stopped = false }
 
-abbrev pub with_event : Queue → Event → Queue
+abbrev pub with_event : Queue → Notice → Queue
 with_event q e = record q { waiting = q.waiting ++ e ∷ [] }
 
 abbrev pub with_loss : Queue → Queue
@@ -25,7 +25,7 @@ with_loss q = record q { lost = min (q.lost + 1) (2 ^ 64 - 1) }
 abbrev pub may_tell : Queue → Bool
 may_tell q = not q.held && not q.stopped
 
-abbrev pub first : List Event → Option Event
+abbrev pub first : List Notice → Option Notice
 first events = slice_get events 0
 
 abbrev pub without_first : Queue → Queue

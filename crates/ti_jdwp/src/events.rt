@@ -1,6 +1,6 @@
 //! The events that wait to be told, and when they may be.
 
-use crate::event::Event;
+use crate::notice::Notice;
 use std::alloc::Global;
 use std::collections::VecDeque;
 use std::marker::Model;
@@ -12,7 +12,7 @@ const MAX_WAITING: usize = 4096;
 /// event that stopped all threads until all are resumed. Contracts see a `Queue`.
 #[derive(Drop)]
 pub(crate) struct Events {
-    waiting: VecDeque<Event>,
+    waiting: VecDeque<Notice>,
     lost: u64,
     held: bool,
     stopped: bool,
@@ -58,11 +58,11 @@ impl Events {
     }
 
     /// Notes an event, if fewer than 4,096 wait and there is memory. It gives whether the event waits now; else it is lost.
-    pub(crate) fn note(&mut self, event: Event) -> bool
-        ensures noted { self.new ≡ (if result then with_event self.old event else with_loss self.old) }
+    pub(crate) fn note(&mut self, notice: Notice) -> bool
+        ensures noted { self.new ≡ (if result then with_event self.old notice else with_loss self.old) }
         ensures full { 4096 ≤ length self.old.waiting → result ≡ false }
     {
-        if self.waiting.len() < MAX_WAITING && self.waiting.push_back(event).is_ok() {
+        if self.waiting.len() < MAX_WAITING && self.waiting.push_back(notice).is_ok() {
             return true;
         }
         self.lose();
@@ -84,8 +84,9 @@ impl Events {
     }
 
     /// Takes the event that waits longest, if events may go out.
-    pub(crate) fn take(&mut self) -> Option<Event>
+    pub(crate) fn take(&mut self) -> Option<Notice>
         ensures result { result ≡ (if may_tell self.old then first self.old.waiting else None) }
+        ensures none { IfNone result (self.new ≡ self.old) }
         ensures left { self.new ≡ (if may_tell self.old then without_first self.old else self.old) }
     {
         if !self.may_tell() {
@@ -123,5 +124,5 @@ impl Events {
     }
 }
 
-ghost use Rattle.std.specs.Prelude.{◌≡◌, ◌≤◌, true, false, None, length, if◌then◌else◌};
+ghost use Rattle.std.specs.Prelude.{◌≡◌, ◌≤◌, true, false, None, length, IfNone, if◌then◌else◌};
 ghost use Rattle.ti_jdwp.specs.Queues.{no_events, with_event, with_loss, may_tell, first, without_first};

@@ -3,26 +3,40 @@
 //! The wire half is a codec: it reads the head and the data of a debugger's packets, and writes replies and events.
 #![tactic(auto)]
 
+mod actions;
+mod asking;
 mod bodies;
+mod constants;
 mod error;
 mod event;
 mod event_laws;
-mod events;
 mod event_text;
+mod events;
 mod fields;
+mod front;
 mod ids;
+mod line;
 mod lists;
 mod modifiers;
+mod notice;
 mod packet;
+mod plan;
 mod reading;
 mod request;
 mod requests_in_force;
+mod sending;
+mod session;
+mod session_answers;
+mod session_error;
+mod session_events;
+mod session_next;
+mod session_requests;
 mod suspension_laws;
 mod suspensions;
 mod text;
-mod sending;
 mod writing;
 
+pub use actions::{Action, Posted};
 pub use bodies::{
     capabilities_body, class_of_object_body, class_paths_body, collected_body, empty_list_body,
     generic_signature_body, groups_body, id_body, id_sizes_body, int_body, new_capabilities_body,
@@ -43,6 +57,8 @@ pub use modifiers::{MAX_MODIFIERS, Modifier, read_modifier};
 pub use packet::{HANDSHAKE, HEAD_LEN, Head, MAX_PACKET, read_head};
 pub use reading::read_request;
 pub use request::{EventKind, Policy, Range, Request};
+pub use sending::{reply, send_event};
+pub use session::Session;
+pub use session_error::SessionError;
 pub use suspension_laws::suspensions_are_balanced;
 pub use suspensions::{Holder, LetGo, Suspensions};
-pub use sending::{reply, send_event};

@@ -91,10 +91,8 @@ impl Suspensions {
     ///
     /// - 110 OUT_OF_MEMORY: there is no memory, or the count is 2,147,483,647. Nothing changes.
     pub fn suspend(&mut self, thread: u32, holder: Holder) -> Result<(), JdwpError>
-        ensures count { OnOk result (count_of self.new thread ≡ count_of self.old thread + 1) }
-        ensures own { OnOk result (is_own self.new thread ≡ (if count_of self.old thread == 0 then is_debugger holder else is_own self.old thread)) }
-        ensures others { OnOk result (AreOthersKept self.old self.new thread) }
-        ensures err { OnErr result (IsKept self.old self.new) }
+        ensures ok { OnOk result (Suspends self.old thread holder self.new) }
+        ensures err { OnErr result (self.new ≡ self.old) }
         ensures memory { IfErr result (λ e. e ≡ OutOfMemory) }
     {
         let count = self.count(thread);
@@ -121,10 +119,7 @@ impl Suspensions {
     /// Counts one suspension of the thread less; at 0 it does nothing. It gives whether the service has to resume the thread:
     /// its count came to 0, and the suspension is the debugger's own.
     pub fn resume(&mut self, thread: u32) -> bool
-        ensures told { result ≡ (is_own self.old thread && (count_of self.old thread == 1)) }
-        ensures count { count_of self.new thread ≡ count_of self.old thread - 1 }
-        ensures own { is_own self.new thread ≡ (is_own self.old thread && nat_lt 1 (count_of self.old thread)) }
-        ensures others { AreOthersKept self.old self.new thread }
+        ensures { Resumes self.old thread result self.new }
     {
         let told = self.is_own(thread) && self.count(thread) == 1;
         if self.count(thread) <= 1 {
@@ -135,15 +130,28 @@ impl Suspensions {
         told
     }
 
+    /// Whether the debugger suspends no thread.
+    pub fn are_all_free(&self) -> bool
+        ensures { result ≡ (held_of self.now == 0) }
+    {
+        self.holds.is_empty()
+    }
+
+    /// The threads that the debugger suspends, each once.
+    ///
+    /// - 110 OUT_OF_MEMORY: there is no memory for the list.
+    pub fn threads(&self, alloc: Global) -> Result<Vec<u32>, JdwpError>
+        ensures ok { IfOk result (λ v. v.items ≡ held_threads self.now) }
+        ensures memory { IfErr result (λ e. e ≡ OutOfMemory) }
+    {
+        let list = self.holds.keys().copied().collect(alloc)?;
+        Ok(list)
+    }
+
     /// Lets one thread go that the debugger suspends, whatever its count is. `None` if there is none any more: every count is 0.
     pub fn let_go(&mut self) -> Option<LetGo>
-        ensures none { IfNone result (AreAllFree self.old × IsKept self.old self.new) }
-        ensures held { IfSome result (λ l. 0 < count_of self.old l.thread) }
-        ensures fewer { IfSome result (λ l. held_of self.new + 1 ≡ held_of self.old) }
-        ensures told { IfSome result (λ l. l.resume ≡ is_own self.old l.thread) }
-        ensures count { IfSome result (λ l. count_of self.new l.thread ≡ 0) }
-        ensures own { IfSome result (λ l. is_own self.new l.thread ≡ false) }
-        ensures others { IfSome result (λ l. AreOthersKept self.old self.new l.thread) }
+        ensures none { IfNone result (AreAllFree self.old × (self.new ≡ self.old)) }
+        ensures some { IfSome result (λ l. LetsGo self.old l.thread l.resume self.new) }
     {
         let last = self.holds.len().saturating_sub(1);
         let (thread, _hold) = self.holds.get_index(last)?;
@@ -154,6 +162,6 @@ impl Suspensions {
     }
 }
 
-ghost use Rattle.std.specs.Prelude.{◌≡◌, [], ◌+◌, ◌-◌, ◌<◌, ◌&&◌, ◌==◌, nat_lt, false, if◌then◌else◌, IfOk, IfErr, IfSome, IfNone, OnOk, OnErr};
-ghost use Rattle.ti_jdwp.specs.Holds.{hold_of, held_of, count_of, is_own, is_debugger, AreOthersKept, IsKept, AreAllFree};
+ghost use Rattle.std.specs.Prelude.{◌≡◌, ◌==◌, [], IfOk, IfErr, IfSome, IfNone, OnOk, OnErr};
+ghost use Rattle.ti_jdwp.specs.Holds.{hold_of, held_of, held_threads, count_of, is_own, Suspends, Resumes, LetsGo, AreAllFree};
 ghost use Rattle.ti_jdwp.specs.declared.error.JdwpError.TheVariants.{OutOfMemory};
