@@ -9,4 +9,5 @@ pub mod Requests
 pub mod Sent
 pub mod Bodies
 pub mod Composites
+pub mod Patterns
 pub mod Spelled
