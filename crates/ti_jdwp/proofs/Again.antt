@@ -1,8 +1,8 @@
 -- What is spelled so is read.
-use Rattle.std.proofs.Common.{◌≡◌, ℕ, ℤ, suc, zero, ◌+◌, ◌-◌, ◌*◌, ◌^◌, ◌<◌, ◌≤◌, Bool, true, false, cond, eqb, ltb, leb, ◌&&◌, List, [], ◌∷◌, ◌++◌, length, get_or, take, drop, Result, Ok, Err, Some, None, Option, refl, sym, ap, subst, ◌∙◌, append_assoc, arith, length-append}
+use Rattle.std.proofs.Common.{◌≡◌, ℕ, ◌+◌, ◌*◌, ◌^◌, ◌<◌, ◌≤◌, cond, eqb, leb, List, [], ◌∷◌, ◌++◌, length, get_or, drop, Result, Ok, Err, Option, refl, sym, ap, subst, ◌∙◌, arith, length-append}
 use Rattle.std.specs.Int.{w32, cast_signed}
-use Rattle.std.proofs.lemmas.Bool.{eq-eqb, le-leb, lt-ltb, and_from}
-use Rattle.std.proofs.lemmas.List.{append-nil}
+use Rattle.std.proofs.lemmas.Bool.{eq-eqb, le-leb, and_from}
+use Rattle.std.proofs.lemmas.List.{append-nil, drop_at}
 use Rattle.std.proofs.lemmas.Nat.{from_be_bytes-to_be_bytes_4, from_be_bytes-to_be_bytes_8}
 use Rattle.ti_jdwp.specs.declared.error.JdwpError.{JdwpError}
 use Rattle.ti_jdwp.specs.declared.error.JdwpError.TheVariants as error
@@ -14,29 +14,13 @@ use Rattle.ti_jdwp.specs.declared.request.Request.{Request}
 use Rattle.ti_jdwp.specs.declared.request.Request.TheVariants as request
 use Rattle.ti_jdwp.specs.Fields.{◌>>=◌, int, long, text, int_at, long_at}
 use Rattle.ti_jdwp.specs.Events.{kind_of, kind_number, policy_of, policy_number}
-use Rattle.ti_jdwp.specs.Modifiers.{within, text_len, modifiers_end}
-use Rattle.ti_jdwp.specs.Commands.{Layout, no_fields, of_id, of_method, of_frames, of_signature, of_objects, of_event, of_clear, layout_of}
-use Rattle.ti_jdwp.specs.Requests.{of_len, id_in, event_in, read_as, read_if_served, request_in}
-use Rattle.ti_jdwp.specs.Spelled.{Spells, IsMethod, IsFrames, IsSignature, IsObjects, IsEvent, IsClear, IsRequest}
-
--- a test that holds
-taken : {A : Type 0} (b : Bool) (x y : A) → b ≡ true → cond b x y ≡ x
-taken b x y e = ap (λ (t : Bool). cond t x y) e
-
-then_ok : {A B : Type 0} (r : Result A JdwpError) (x : A) (f : A → Result B JdwpError) → r ≡ Ok x → (r >>= f) ≡ f x
-then_ok r x f e = ap (λ (q : Result _ JdwpError). q >>= f) e
-
-long_again : (n : ℕ) (rest : List ℕ) → n < 2 ^ 64 → long_at 0 (long n ++ rest) ≡ n
-unfolding long
-long_again n rest fits = from_be_bytes-to_be_bytes_8 n fits
-
-int_again : (n : ℕ) (rest : List ℕ) → n < 2 ^ 32 → int_at 0 (int n ++ rest) ≡ n
-unfolding int
-int_again n rest fits = from_be_bytes-to_be_bytes_4 n fits
-
-int_len : (n : ℕ) → length (int n) ≡ 4
-unfolding int
-int_len n = refl
+use Rattle.ti_jdwp.specs.Modifiers.{text_len, modifiers_end}
+use Rattle.ti_jdwp.specs.Patterns.{AreModifiers}
+use Rattle.ti_jdwp.specs.Commands.{Layout, no_fields, of_id, of_method, of_frames, of_signature, of_objects, of_event, of_clear}
+use Rattle.ti_jdwp.specs.Requests.{of_len, read_as, read_if_served, request_in}
+use Rattle.ti_jdwp.proofs.Parts.{taken, then_ok, int_again, int_len, text_len_again}
+use Rattle.ti_jdwp.proofs.Unpatterned.{ends_again}
+use Rattle.ti_jdwp.specs.Spelled.{Spells, IsRequest}
 
 again_id : (s : ℕ → Request) (id : ℕ) → id < 2 ^ 64 → read_as (of_id s) (long id) ≡ Ok (s id)
 unfolding long
@@ -61,17 +45,6 @@ again_clear kind number fits = ap (λ (n : ℕ). Ok (request.ClearEvent kind (ca
 
 of_len_again : {X : Type 0} (n : ℕ) (bytes : List ℕ) (x : X) → length bytes ≡ n → of_len n bytes x ≡ Ok x
 of_len_again n bytes x e = taken (eqb (length bytes) n) (Ok x) (Err error.IllegalArgument) (eq-eqb _ _ e)
-
-pub text_len_again : (t rest : List ℕ) → length t < 2 ^ 31 → text_len (text t ++ rest) ≡ Ok (4 + length t)
-text_len_again t rest short =
-    let bytes : List ℕ = int (length t) ++ t ++ rest in
-    let len : length bytes ≡ 4 + length t + length rest = omega (arith, length-append (int (length t) ++ t) rest, length-append (int (length t)) t, int_len (length t)) in
-    let n : int_at 0 bytes ≡ length t = ap (λ (b : List ℕ). int_at 0 b) (append_assoc (int (length t)) t rest) ∙ int_again (length t) (t ++ rest) (omega arith) in
-    let tests : (leb 4 (length bytes) && ltb (int_at 0 bytes) (2 ^ 31)) ≡ true = and_from _ _ (le-leb 4 (length bytes) (omega arith)) (lt-ltb (int_at 0 bytes) (2 ^ 31) (omega arith)) in
-    let all : leb (4 + int_at 0 bytes) (length bytes) ≡ true = le-leb _ _ (omega arith) in
-    taken _ (within (4 + int_at 0 bytes) bytes) (Err error.IllegalArgument) tests
-    ∙ taken _ (Ok (4 + int_at 0 bytes)) (Err error.IllegalArgument) all
-    ∙ ap (λ (m : ℕ). Ok (4 + m)) n
 
 again_signature : (bytes t : List ℕ) → length t < 2 ^ 31 → bytes ≡ text t → read_as of_signature bytes ≡ Ok (request.ClassesBySignature (record { start = 4; end = length bytes }))
 again_signature bytes t short e =
@@ -121,13 +94,15 @@ again_event bytes k p count many few walked =
     ∙ then_ok (of_len (length bytes) bytes (length bytes)) (length bytes) (λ end. with_kind (kind_number k) p count end) (of_len_again (length bytes) bytes (length bytes) refl)
     ∙ then_ok (kind_of (kind_number k)) k (λ kind. Ok (request.SetEvent kind p (record { start = 6; end = length bytes }) count)) (kind_again k)
 
-again_event_spelled : (bytes rest : List ℕ) (k : EventKind) (p : Policy) (count : ℕ) → bytes ≡ kind_number k ∷ policy_number p ∷ (int count ++ rest) → count ≤ 64 → modifiers_end count 6 bytes ≡ Ok (length bytes)
+again_event_spelled : (bytes rest : List ℕ) (k : EventKind) (p : Policy) (count : ℕ) → bytes ≡ kind_number k ∷ policy_number p ∷ (int count ++ rest) → count ≤ 64 → AreModifiers count 6 rest
     → read_as of_event bytes ≡ Ok (request.SetEvent k p (record { start = 6; end = length bytes }) count)
-again_event_spelled bytes rest k p count e few walked =
+again_event_spelled bytes rest k p count e few are =
     let len : length bytes ≡ 6 + length rest = ap (λ (b : List ℕ). length b) e ∙ omega (arith, length-append (int count) rest, int_len count) in
     let n : int_at 2 bytes ≡ count = ap (λ (b : List ℕ). int_at 2 b) e ∙ int_again count rest (omega arith) in
     let first : get_or bytes 0 0 ≡ kind_number k = ap (λ (b : List ℕ). get_or b 0 0) e in
     let second : get_or bytes 1 0 ≡ policy_number p = ap (λ (b : List ℕ). get_or b 1 0) e in
+    let behind : drop 6 bytes ≡ rest = ap (λ (b : List ℕ). drop 6 b) e ∙ drop_at (int count) rest 4 (int_len count) in
+    let walked : modifiers_end count 6 bytes ≡ Ok (length bytes) = ends_again count 6 bytes (omega arith) (subst (λ (t : List ℕ). AreModifiers count 6 t) (sym behind) are) in
     ap (λ (c : ℕ). event_of bytes (get_or bytes 0 0) (get_or bytes 1 0) c) n
     ∙ ap (λ (c : ℕ). event_of bytes c (get_or bytes 1 0) count) first
     ∙ ap (λ (c : ℕ). event_of bytes (kind_number k) c count) second

@@ -1,5 +1,5 @@
 -- What is read is spelled so.
-use Rattle.std.proofs.Common.{◌≡◌, ◌⊎◌, ℕ, suc, zero, ◌+◌, ◌-◌, ◌*◌, ◌^◌, ◌<◌, ◌≤◌, Bool, true, false, cond, eqb, ltb, leb, ◌&&◌, List, [], ◌∷◌, ◌++◌, length, get_or, take, drop, Result, Ok, Err, Some, None, Option, refl, sym, ap, subst, ◌∙◌, append_assoc, arith, length-drop, inl, inr}
+use Rattle.std.proofs.Common.{◌≡◌, ◌⊎◌, ℕ, suc, ◌+◌, ◌*◌, ◌^◌, ◌<◌, ◌≤◌, Bool, true, false, cond, eqb, ltb, leb, ◌&&◌, List, [], ◌∷◌, ◌++◌, length, get_or, drop, Result, Ok, Err, Some, None, Option, refl, sym, ap, subst, ◌∙◌, append_assoc, arith, length-drop, inl, inr}
 use Rattle.std.specs.Prelude.{IfOk}
 use Rattle.std.specs.Int.{w32, cast_signed}
 use Rattle.std.proofs.lemmas.Bool.{eqb-true, leb-true, ltb-true, and_parts}
@@ -8,19 +8,19 @@ use Rattle.std.proofs.lemmas.List.{nil_from_length, drop-drop}
 use Rattle.ti_jdwp.specs.declared.error.JdwpError.{JdwpError}
 use Rattle.ti_jdwp.specs.declared.error.JdwpError.TheVariants as error
 use Rattle.ti_jdwp.specs.declared.request.EventKind.{EventKind}
-use Rattle.ti_jdwp.specs.declared.request.EventKind.TheVariants as kind
 use Rattle.ti_jdwp.specs.declared.request.Policy.{Policy}
-use Rattle.ti_jdwp.specs.declared.request.Policy.TheVariants as policy
 use Rattle.ti_jdwp.specs.declared.request.Request.{Request}
 use Rattle.ti_jdwp.specs.declared.request.Request.TheVariants as request
-use Rattle.ti_jdwp.specs.Fields.{◌>>=◌, int, long, text, int_at, long_at}
+use Rattle.ti_jdwp.specs.Fields.{◌>>=◌, int, long, int_at, long_at}
 use Rattle.ti_jdwp.specs.Events.{kind_of, kind_number, policy_of, policy_number}
 use Rattle.ti_jdwp.specs.Modifiers.{within, text_len, modifiers_end}
 use Rattle.ti_jdwp.specs.Commands.{Layout, no_fields, of_id, of_method, of_frames, of_signature, of_objects, of_event, of_clear, layout_of}
-use Rattle.ti_jdwp.specs.Requests.{of_len, id_in, event_in, read_as, read_if_served, request_in}
+use Rattle.ti_jdwp.specs.Requests.{of_len, id_in, read_as, read_if_served, request_in}
 use Rattle.ti_jdwp.specs.Spelled.{Spells, IsMethod, IsFrames, IsSignature, IsObjects, IsEvent, IsClear, IsRequest}
 use Rattle.ti_jdwp.proofs.Bytes.{IsBytes}
-use Rattle.ti_jdwp.proofs.Parts.{bind_ok, guard_ok, let_through, of_len_ok, Front, long_front, int_front, parts_2, ended}
+use Rattle.ti_jdwp.specs.Patterns.{AreModifiers}
+use Rattle.ti_jdwp.proofs.Patterned.{are_all}
+use Rattle.ti_jdwp.proofs.Parts.{bind_ok, guard_ok, let_through, of_len_ok, long_front, int_front, parts_2, ended}
 
 abbrev done : {A : Type 0} → A → Result A JdwpError
 done x = Ok x
@@ -134,7 +134,8 @@ found_event (a ∷ b ∷ rest) r fits e =
     ∙ ap (λ (c : ℕ). c ∷ b ∷ (int n.0 ++ drop 4 rest)) (kind_is a k.0 k.1)
     ∙ ap (λ (c : ℕ). kind_number k.0 ∷ c ∷ (int n.0 ++ drop 4 rest)) (policy_is b p.0 p.1) in
     let whole : m.0 ≡ length bytes = sym all.0 in
-    (k.0, p.0, n.0, drop 4 rest, at_most, first, m.1 ∙ ap done whole, sym (ok_is _ r k.2) ∙ ap (λ (end : ℕ). request.SetEvent k.0 p.0 (record { start = 6; end = end }) n.0) (sym all.1 ∙ whole))
+    let are : AreModifiers n.0 6 (drop 4 rest) = are_all n.0 6 bytes fits many (m.1 ∙ ap done whole) in
+    (k.0, p.0, n.0, drop 4 rest, at_most, first, are, sym (ok_is (request.SetEvent k.0 p.0 (record { start = 6; end = s.0 }) n.0) r k.2) ∙ ap (λ (end : ℕ). request.SetEvent k.0 p.0 (record { start = 6; end = end }) n.0) (sym all.1 ∙ whole))
 
 found : (l : Layout) (bytes : List ℕ) (r : Request) → IsBytes bytes → read_as l bytes ≡ Ok r → Spells l bytes r
 found (no_fields s) bytes r fits e =

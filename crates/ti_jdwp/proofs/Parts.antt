@@ -1,11 +1,13 @@
 -- Parts of bytes that are read as numbers, and the steps of a reading that did not fail.
-use Rattle.std.proofs.Common.{◌≡◌, ℕ, ◌+◌, ◌-◌, ◌^◌, ◌<◌, ◌≤◌, Bool, true, false, cond, eqb, List, [], ◌∷◌, ◌++◌, length, get_or, take, drop, Result, Ok, Err, refl, sym, ap, subst, ◌∙◌, append_assoc, arith, length-drop}
+use Rattle.std.proofs.Common.{◌≡◌, ℕ, ◌+◌, ◌^◌, ◌<◌, ◌≤◌, Bool, true, false, cond, eqb, ltb, leb, ◌&&◌, List, ◌++◌, length, take, drop, Result, Ok, Err, refl, sym, ap, ◌∙◌, append_assoc, arith, length-drop, length-append}
 use Rattle.std.specs.Int.{w32, w64, to_be_bytes, from_be_bytes}
-use Rattle.std.proofs.lemmas.Bool.{eqb-true}
+use Rattle.std.proofs.lemmas.Bool.{eqb-true, le-leb, lt-ltb, and_from}
 use Rattle.std.proofs.lemmas.List.{length-take, take-append-drop, nil_from_length, append-nil}
-use Rattle.std.proofs.lemmas.Nat.{be_bytes_4, be_bytes_8}
+use Rattle.std.proofs.lemmas.Nat.{be_bytes_4, be_bytes_8, from_be_bytes-to_be_bytes_4, from_be_bytes-to_be_bytes_8}
 use Rattle.ti_jdwp.specs.declared.error.JdwpError.{JdwpError}
-use Rattle.ti_jdwp.specs.Fields.{◌>>=◌, int, long, int_at, long_at}
+use Rattle.ti_jdwp.specs.declared.error.JdwpError.TheVariants as error
+use Rattle.ti_jdwp.specs.Fields.{◌>>=◌, int, long, text, int_at, long_at}
+use Rattle.ti_jdwp.specs.Modifiers.{within, text_len}
 use Rattle.ti_jdwp.specs.Requests.{of_len}
 use Rattle.ti_jdwp.proofs.Bytes.{IsBytes, IsBytes-take, IsBytes-drop}
 
@@ -56,3 +58,39 @@ parts_2 bytes a b rest first second = first ∙ ap (λ (t : List ℕ). a ++ t) s
 
 pub ended : (n : ℕ) (bytes front : List ℕ) → length bytes ≤ n → bytes ≡ front ++ drop n bytes → bytes ≡ front
 ended n bytes front all parts = parts ∙ ap (λ (t : List ℕ). front ++ t) (nil_from_length (drop n bytes) (omega (arith, length-drop n bytes))) ∙ append-nil front
+
+-- ---- the other way
+
+-- a test that holds
+pub taken : {A : Type 0} (b : Bool) (x y : A) → b ≡ true → cond b x y ≡ x
+taken b x y e = ap (λ (t : Bool). cond t x y) e
+
+pub then_ok : {A B : Type 0} (r : Result A JdwpError) (x : A) (f : A → Result B JdwpError) → r ≡ Ok x → (r >>= f) ≡ f x
+then_ok r x f e = ap (λ (q : Result _ JdwpError). q >>= f) e
+
+pub long_again : (n : ℕ) (rest : List ℕ) → n < 2 ^ 64 → long_at 0 (long n ++ rest) ≡ n
+unfolding long
+long_again n rest fits = from_be_bytes-to_be_bytes_8 n fits
+
+pub int_again : (n : ℕ) (rest : List ℕ) → n < 2 ^ 32 → int_at 0 (int n ++ rest) ≡ n
+unfolding int
+int_again n rest fits = from_be_bytes-to_be_bytes_4 n fits
+
+pub int_len : (n : ℕ) → length (int n) ≡ 4
+unfolding int
+int_len n = refl
+
+pub long_len : (n : ℕ) → length (long n) ≡ 8
+unfolding long
+long_len n = refl
+
+pub text_len_again : (t rest : List ℕ) → length t < 2 ^ 31 → text_len (text t ++ rest) ≡ Ok (4 + length t)
+text_len_again t rest short =
+    let bytes : List ℕ = int (length t) ++ t ++ rest in
+    let len : length bytes ≡ 4 + length t + length rest = omega (arith, length-append (int (length t) ++ t) rest, length-append (int (length t)) t, int_len (length t)) in
+    let n : int_at 0 bytes ≡ length t = ap (λ (b : List ℕ). int_at 0 b) (append_assoc (int (length t)) t rest) ∙ int_again (length t) (t ++ rest) (omega arith) in
+    let tests : (leb 4 (length bytes) && ltb (int_at 0 bytes) (2 ^ 31)) ≡ true = and_from _ _ (le-leb 4 (length bytes) (omega arith)) (lt-ltb (int_at 0 bytes) (2 ^ 31) (omega arith)) in
+    let all : leb (4 + int_at 0 bytes) (length bytes) ≡ true = le-leb _ _ (omega arith) in
+    taken _ (within (4 + int_at 0 bytes) bytes) (Err error.IllegalArgument) tests
+    ∙ taken _ (Ok (4 + int_at 0 bytes)) (Err error.IllegalArgument) all
+    ∙ ap (λ (m : ℕ). Ok (4 + m)) n

@@ -15,6 +15,7 @@ pub mod HoldRuns
 pub mod Sent
 pub mod Bodies
 pub mod Composites
+pub mod Patterns
 pub mod Spelled
 pub mod Lines
 pub mod Plans

@@ -26,27 +26,28 @@ fields_len number rest =
     else (if number == 7 then within 25 rest
     else (if number == 8 then within 10 rest
     else (if is_one_of (9 ∷ 10 ∷ []) number then within 16 rest
-    else (if number == 13 then Ok 0
+    else (if number == 13 then within 0 rest
     else Err error.IllegalArgument))))))
 
 abbrev pub counted : ℕ → Result Modifier JdwpError
 counted n = if nat_le 1 n && nat_lt n (2 ^ 31) then Ok (modifier.Count (pos n)) else Err error.IllegalArgument
 
--- what a modifier says whose fields stand from a place to another
+-- what a modifier says whose fields begin the rest, and stand from a place to another
 abbrev pub made : ℕ → List ℕ → ℕ → ℕ → Result Modifier JdwpError
-made number bytes at end =
-    if number == 1 then counted (int_at at bytes)
-    else (if number == 3 then Ok (modifier.ThreadOnly (long_at at bytes))
-    else (if number == 4 then Ok (modifier.ClassOnly (long_at at bytes))
-    else (if number == 5 then Ok (modifier.ClassMatch (record { start = at + 4; end = end }))
-    else (if number == 6 then Ok (modifier.ClassExclude (record { start = at + 4; end = end }))
+made number rest start end =
+    if number == 1 then counted (int_at 0 rest)
+    else (if number == 3 then Ok (modifier.ThreadOnly (long_at 0 rest))
+    else (if number == 4 then Ok (modifier.ClassOnly (long_at 0 rest))
+    else (if number == 5 then Ok (modifier.ClassMatch (record { start = start + 4; end = end }))
+    else (if number == 6 then Ok (modifier.ClassExclude (record { start = start + 4; end = end }))
     else Ok modifier.Other))))
 
+-- the modifier with this number whose fields begin the rest, and where the next one begins
+abbrev pub modifier_in : ℕ → List ℕ → ℕ → Result (Modifier × ℕ) JdwpError
+modifier_in number rest start = fields_len number rest >>= λ len. made number rest start (start + len) >>= λ m. Ok (m, start + len)
+
 abbrev pub modifier_at : ℕ → List ℕ → Result (Modifier × ℕ) JdwpError
-modifier_at at bytes =
-    if nat_lt at (length bytes)
-    then (fields_len (slice_index bytes at) (drop (at + 1) bytes) >>= λ len. made (slice_index bytes at) bytes (at + 1) (at + 1 + len) >>= λ m. Ok (m, at + 1 + len))
-    else Err error.IllegalArgument
+modifier_at at bytes = if nat_lt at (length bytes) then modifier_in (slice_index bytes at) (drop (at + 1) bytes) (at + 1) else Err error.IllegalArgument
 
 -- where the data goes on behind this many modifiers
 unfoldable pub modifiers_end : ℕ → ℕ → List ℕ → Result ℕ JdwpError

@@ -20,10 +20,10 @@ BeginsWithLength input len = (rest : List ℕ) × (input ≡ int len ++ rest)
 abbrev pub BeginsWithHead : List ℕ → ℕ → ℕ → ℕ → ℕ → ℕ → Type 0
 BeginsWithHead input len id flags set command = (rest : List ℕ) × (input ≡ request_head len id flags set command ++ rest)
 
--- No two of these cases hold of one input, so they say what is read. A flag of 128 makes a packet a reply.
+-- What an input begins with. A flag of 128 makes a packet a reply.
 abbrev pub BeginsWith : List ℕ → Head → Type 0
 BeginsWith input head.NeedsMore = (length input < 4) ⊎ ((length input < 11) × ((len : ℕ) × BeginsWithLength input len × IsLength len))
 BeginsWith input head.TooShort = (len : ℕ) × BeginsWithLength input len × (len < 11)
 BeginsWith input head.TooLong = (len : ℕ) × BeginsWithLength input len × (65536 < len) × (len < 2 ^ 32)
-BeginsWith input (head.Request id set command len) = (flags : ℕ) × BeginsWithHead input len id flags set command × IsLength len × (flags < 128)
+BeginsWith input (head.Request id set command len) = (flags : ℕ) × BeginsWithHead input len id flags set command × (id < 2 ^ 32) × IsLength len × (flags < 128)
 BeginsWith input (head.Reply len) = (id flags set command : ℕ) × BeginsWithHead input len id flags set command × IsLength len × (128 ≤ flags) × (flags < 256)

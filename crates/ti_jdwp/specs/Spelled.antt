@@ -1,5 +1,5 @@
 -- What a debugger writes for a request: the bytes of each layout.
-use Rattle.std.specs.Prelude.{◌≡◌, ℕ, ◌+◌, ◌*◌, ◌^◌, ◌<◌, ◌≤◌, List, [], ◌∷◌, ◌++◌, length, Some, Ok}
+use Rattle.std.specs.Prelude.{◌≡◌, ℕ, ◌*◌, ◌^◌, ◌<◌, ◌≤◌, List, [], ◌∷◌, ◌++◌, length, Some}
 use Rattle.std.specs.Int.{w32, cast_signed}
 use Rattle.ti_jdwp.specs.declared.request.EventKind.{EventKind}
 use Rattle.ti_jdwp.specs.declared.request.Policy.{Policy}
@@ -7,7 +7,7 @@ use Rattle.ti_jdwp.specs.declared.request.Request.{Request}
 use Rattle.ti_jdwp.specs.declared.request.Request.TheVariants as request
 use Rattle.ti_jdwp.specs.Fields.{int, long, text}
 use Rattle.ti_jdwp.specs.Events.{kind_number, policy_number}
-use Rattle.ti_jdwp.specs.Modifiers.{modifiers_end}
+use Rattle.ti_jdwp.specs.Patterns.{AreModifiers}
 use Rattle.ti_jdwp.specs.Commands.{Layout, no_fields, of_id, of_method, of_frames, of_signature, of_objects, of_event, of_clear, layout_of}
 
 abbrev pub IsMethod : List ℕ → Request → Type 0
@@ -25,7 +25,7 @@ IsObjects bytes r = (n : ℕ) × (rest : List ℕ) × (n < 2 ^ 32) × (bytes ≡
 
 -- at most 64 modifiers, which are all of the rest
 abbrev pub IsEvent : List ℕ → Request → Type 0
-IsEvent bytes r = (k : EventKind) × (p : Policy) × (count : ℕ) × (rest : List ℕ) × (count ≤ 64) × (bytes ≡ kind_number k ∷ policy_number p ∷ int count ++ rest) × (modifiers_end count 6 bytes ≡ Ok (length bytes))
+IsEvent bytes r = (k : EventKind) × (p : Policy) × (count : ℕ) × (rest : List ℕ) × (count ≤ 64) × (bytes ≡ kind_number k ∷ policy_number p ∷ int count ++ rest) × AreModifiers count 6 rest
     × (r ≡ request.SetEvent k p (record { start = 6; end = length bytes }) count)
 
 abbrev pub IsClear : List ℕ → Request → Type 0

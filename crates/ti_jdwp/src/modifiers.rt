@@ -35,7 +35,7 @@ fn fields_len(number: u8, rest: &[u8]) -> Result<usize, JdwpError>
         7 => within(25, rest),
         8 => within(10, rest),
         9 | 10 => within(16, rest),
-        13 => Ok(0),
+        13 => within(0, rest),
         _ => Err(JdwpError::IllegalArgument),
     }
 }
@@ -65,25 +65,31 @@ pub(crate) fn text_len(rest: &[u8]) -> Result<usize, JdwpError>
     within(4 + len as usize, rest)
 }
 
-/// What a modifier says whose fields stand from `at` to `end`.
-fn made(number: u8, bytes: &[u8], at: usize, end: usize) -> Result<Modifier, JdwpError>
-    requires fields { fields_len number (drop at bytes.now) ≡ Ok (end - at) }
-    requires end { at ≤ end }
-    ensures { result ≡ made number bytes.now at end }
+/// What a modifier says whose fields begin `rest`, and stand from `start` to `end` in the data.
+fn made(number: u8, rest: &[u8], start: usize, end: usize) -> Result<Modifier, JdwpError>
+    requires fields { fields_len number rest.now ≡ Ok (end - start) }
+    requires end { start ≤ end }
+    ensures { result ≡ made number rest.now start end }
 {
     match number {
         1 => {
-            let count = int(bytes, at);
+            let count = int(rest, 0);
             if count == 0 || count > i32::MAX as u32 {
                 Err(JdwpError::IllegalArgument)
             } else {
                 Ok(Modifier::Count(count as i32))
             }
         }
-        3 => Ok(Modifier::ThreadOnly(long(bytes, at))),
-        4 => Ok(Modifier::ClassOnly(long(bytes, at))),
-        5 => Ok(Modifier::ClassMatch(Range { start: at + 4, end })),
-        6 => Ok(Modifier::ClassExclude(Range { start: at + 4, end })),
+        3 => Ok(Modifier::ThreadOnly(long(rest, 0))),
+        4 => Ok(Modifier::ClassOnly(long(rest, 0))),
+        5 => Ok(Modifier::ClassMatch(Range {
+            start: start + 4,
+            end,
+        })),
+        6 => Ok(Modifier::ClassExclude(Range {
+            start: start + 4,
+            end,
+        })),
         _ => Ok(Modifier::Other),
     }
 }
@@ -93,15 +99,25 @@ fn made(number: u8, bytes: &[u8], at: usize, end: usize) -> Result<Modifier, Jdw
 /// Fails with 103 ILLEGAL_ARGUMENT if the number of the modifier is not 1 to 13, if its fields are not all there, or if it is
 /// a count below 1.
 pub fn read_modifier(bytes: &[u8], at: usize) -> Result<(Modifier, usize), JdwpError>
+    // What is read is what the bytes spell.
+    ensures found { IfOk result (λ m. StandsAt at bytes.now m.0 m.1) }
+    // What the bytes spell is read.
+    ensures only { (m : Modifier) → (next : ℕ) → StandsAt at bytes.now m next → result ≡ Ok (m, next) }
+    ensures exact { result ≡ modifier_at at bytes.now }
+{
+    said_at(bytes, at)
+}
+
+fn said_at(bytes: &[u8], at: usize) -> Result<(Modifier, usize), JdwpError>
     ensures { result ≡ modifier_at at bytes.now }
 {
     if at >= bytes.len() {
         return Err(JdwpError::IllegalArgument);
     }
-    let number = bytes[at];
-    let end = at + 1 + fields_len(number, &bytes[at + 1..])?;
-    let modifier = made(number, bytes, at + 1, end)?;
-    Ok((modifier, end))
+    let rest = &bytes[at + 1..];
+    let end = at + 1 + fields_len(bytes[at], rest)?;
+    let said = made(bytes[at], rest, at + 1, end)?;
+    Ok((said, end))
 }
 
 /// Where the data goes on behind this many modifiers, which begin at `at`.
@@ -110,11 +126,13 @@ pub(crate) fn end_of_modifiers(bytes: &[u8], at: usize, count: u32) -> Result<us
 {
     let mut end = at;
     for _ in 0..count {
-        let (_, next) = read_modifier(bytes, end)?;
+        let (_, next) = said_at(bytes, end)?;
         end = next;
     }
     Ok(end)
 }
 
-ghost use Rattle.std.specs.Prelude.{◌≡◌, ◌-◌, ◌≤◌, drop, Ok};
+ghost use Rattle.std.specs.Prelude.{◌≡◌, ℕ, ◌-◌, ◌≤◌, drop, Ok, IfOk};
+ghost use Rattle.ti_jdwp.specs.declared.modifiers.Modifier.{Modifier};
+ghost use Rattle.ti_jdwp.specs.Patterns.{StandsAt};
 ghost use Rattle.ti_jdwp.specs.Modifiers.{fields_len, within, text_len, made, modifier_at, modifiers_end};

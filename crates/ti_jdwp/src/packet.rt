@@ -33,6 +33,14 @@ pub enum Head {
 
 /// Reads the head that the input begins with. The length is judged as soon as its four bytes are there.
 pub fn read_head(input: &[u8]) -> Head
+    ensures found { BeginsWith input.now result }
+    // The input begins with nothing else.
+    ensures only { (h : Head) → BeginsWith input.now h → result ≡ h }
+{
+    head_at(input)
+}
+
+fn head_at(input: &[u8]) -> Head
     ensures { BeginsWith input.now result }
 {
     if input.len() < 4 {
@@ -61,4 +69,6 @@ pub fn read_head(input: &[u8]) -> Head
     }
 }
 
+ghost use Rattle.std.specs.Prelude.{◌≡◌};
 ghost use Rattle.ti_jdwp.specs.Packets.{BeginsWith};
+ghost use Rattle.ti_jdwp.specs.declared.packet.Head.{Head};
