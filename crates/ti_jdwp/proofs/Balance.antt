@@ -1,12 +1,12 @@
 -- The counts of a run, and what the service suspended and resumed in it.
-use Rattle.std.proofs.Common.{◌≡◌, ◌≢◌, ℕ, zero, suc, ◌+◌, ◌-◌, ◌<◌, ◌&&◌, Bool, true, false, cond, List, [], ◌∷◌, nat_eq, nat_lt, fold, count_by, refl, sym, ap, subst, ◌∙◌, inl, inr, ◌⊎◌, arith, true≢false, eqb}
-use Rattle.std.specs.Prelude.{◌==◌, if◌then◌else◌}
+use Rattle.std.proofs.Common.{◌≡◌, ℕ, ◌+◌, ◌-◌, ◌<◌, ◌&&◌, Bool, true, false, cond, List, [], ◌∷◌, nat_lt, fold, count_by, refl, sym, ap, subst, ◌∙◌, inl, inr, arith, true≢false, eqb}
+use Rattle.std.specs.Prelude.{if◌then◌else◌}
 use Rattle.std.proofs.lemmas.Bool.{cases_eq, eq-eqb, ne_eqb}
 use Rattle.std.proofs.lemmas.List.Sums.{sum_by-cons}
 use Rattle.std.proofs.lemmas.Bool.Decides.{nat_tests}
 use Rattle.ti_jdwp.specs.declared.suspensions.Holder.{Holder}
-use Rattle.ti_jdwp.specs.Holds.{Holds, count_of, is_own, is_debugger, IsKeptAt, AreOthersKept, AreAllFree}
-use Rattle.ti_jdwp.specs.HoldRuns.{Call, Suspended, Resumed, LetGo, Step, Runs, counted, resumes, suspends, suspensions_from, IsBalanced, AreBalanced}
+use Rattle.ti_jdwp.specs.Holds.{Holds, count_of, is_own, is_debugger, IsKeptAt}
+use Rattle.ti_jdwp.specs.HoldRuns.{Call, Suspended, Resumed, LetGo, Step, Runs, counted, resumes, suspends, suspensions_from, AreBalanced}
 
 -- an own suspension has a count
 abbrev pub Owns : Holds → ℕ → Type 0
@@ -71,7 +71,7 @@ passes old new c t owns kept same never none = record {
   owns = λ h. subst (λ n. 0 < n) (sym kept.count) (owns (sym kept.own ∙ h));
 }
 
-goes : (old new : Holds) (c : Call) (t : ℕ) → Owns old t → Step old c new → Goes old new c t
+pub goes : (old new : Holds) (c : Call) (t : ℕ) → Owns old t → Step old c new → Goes old new c t
 goes old new (Suspended u holder) t owns step = elim (cases_eq u t) [
   | inl same ↦ subst (λ v. Goes old new (Suspended v holder) t) (sym same) (suspends_it old new t holder owns (subst (λ v. Step old (Suspended v holder) new) same step))
   | inr other ↦
@@ -116,7 +116,7 @@ went old new (c ∷ calls) t owns run =
       owns = later.owns;
     }
 
-free_own : (n : ℕ) (own : Bool) → (own ≡ true → 0 < n) → n ≡ 0 → one own ≡ 0
+pub free_own : (n : ℕ) (own : Bool) → (own ≡ true → 0 < n) → n ≡ 0 → one own ≡ 0
 free_own n true owns none = absurd (omega (arith, owns refl))
 free_own n false owns none = refl
 

@@ -1,11 +1,10 @@
 -- Events that wait: their order, and when they may be told.
-use Rattle.std.proofs.Common.{◌≡◌, ℕ, Bool, true, false, not, ◌&&◌, cond, List, [], ◌∷◌, ◌++◌, drop, fold, Option, Some, None, refl, sym, ap, subst, ◌∙◌, inl, inr, append_assoc, append-nil}
-use Rattle.std.specs.Prelude.{slice_get, unwrap_or}
+use Rattle.std.proofs.Common.{◌≡◌, Bool, true, false, not, ◌&&◌, cond, List, [], ◌∷◌, ◌++◌, drop, fold, Some, None, refl, sym, ap, subst, ◌∙◌, append_assoc, append-nil}
+use Rattle.std.specs.Prelude.{unwrap_or}
 use Rattle.std.specs.List.{filter_map}
-use Rattle.std.proofs.lemmas.Bool.{cases_Bool}
 use Rattle.ti_jdwp.specs.declared.notice.Notice.{Notice}
 use Rattle.ti_jdwp.specs.Queues.{Queue, no_events, with_event, with_loss, may_tell, first, without_first}
-use Rattle.ti_jdwp.specs.QueueRuns.{Call, Noted, Lost, Told, Stopped, Resumed, Held, Released, Step, Runs, stops, holds, noted_by, told_by, AreToldWell, AllToldWell}
+use Rattle.ti_jdwp.specs.QueueRuns.{Call, Noted, Lost, Told, Stopped, Resumed, Held, Released, Step, Runs, stops, holds, noted_by, told_by, AllToldWell}
 
 -- what is known where an event is told
 pub record Tells (old : Queue) (e : Notice) (new : Queue) : Type 0 where

@@ -1,14 +1,13 @@
 -- Requests that are told of an event one after another.
-use Rattle.std.proofs.Common.{◌≡◌, ℕ, ◌+◌, ◌-◌, ◌<◌, Bool, true, false, cond, List, [], ◌∷◌, ◌++◌, length, take, drop, map, filter, get_or, refl, sym, ap, subst, ◌∙◌, arith, append_assoc}
-use Rattle.std.specs.Prelude.{slice_set, fold}
+use Rattle.std.proofs.Common.{◌≡◌, ℕ, ◌+◌, ◌-◌, ◌<◌, Bool, true, false, cond, List, [], ◌∷◌, ◌++◌, length, take, drop, map, filter, get_or, refl, sym, ap, ◌∙◌, arith, append_assoc}
+use Rattle.std.specs.Prelude.{slice_set}
 use Rattle.std.proofs.lemmas.List.{set-append_right, get_or-append_right, drop_more, map-append}
 use Rattle.std.proofs.lemmas.List.Elements.{filter-append}
 use Rattle.std.proofs.lemmas.List.Sums.{fold-append}
 use Rattle.std.proofs.lemmas.Grind.{take_at_read, common_steps}
 use Rattle.ti_jdwp.specs.declared.event.Event.{Event}
-use Rattle.ti_jdwp.specs.declared.request.Policy.{Policy}
 use Rattle.ti_jdwp.specs.declared.request.Policy.TheVariants as policy
-use Rattle.ti_jdwp.specs.InForce.{Asked, is_reached, counts_down, is_told, after, stronger, strongest}
+use Rattle.ti_jdwp.specs.InForce.{Asked, is_reached, counts_down, after, stronger, strongest}
 
 -- the requests of which the first i were told
 abbrev pub told_so_far : Event → List Asked → ℕ → List Asked

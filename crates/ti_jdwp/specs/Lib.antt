@@ -23,3 +23,4 @@ pub mod Constants
 pub mod Talks
 pub mod Steps
 pub mod Answered
+pub mod SessionRuns

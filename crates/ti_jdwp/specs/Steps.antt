@@ -1,5 +1,5 @@
 -- What a session does next.
-use Rattle.std.specs.Prelude.{◌≡◌, ◌≢◌, ℕ, ◌+◌, ◌%◌, ◌^◌, ◌<◌, Bool, true, false, List, [], ◌∷◌, ◌++◌, length, ◌⊎◌, Option, Some, None, Result, Ok, Err, ℤ, ◌==◌, if◌then◌else◌}
+use Rattle.std.specs.Prelude.{◌≡◌, ℕ, ◌+◌, ◌%◌, ◌^◌, ◌<◌, Bool, true, false, List, [], ◌∷◌, ◌++◌, length, ◌⊎◌, not, ◌&&◌, Option, Some, None, Result, Ok, Err, ℤ, ◌==◌, if◌then◌else◌}
 use Rattle.std.specs.Int.{w32, cast_unsigned}
 use Rattle.ti_jdwp.specs.declared.actions.Action.{Action}
 use Rattle.ti_jdwp.specs.declared.actions.Action.TheVariants as action
@@ -33,12 +33,16 @@ use Rattle.ti_jdwp.specs.Talks.{Talk, IsFront, data_of, replied, stopped, starve
 abbrev pub Does : Action × Talk → Action → Talk → Type 0
 Does told act new = (act ≡ told.0) × (new ≡ told.1)
 
+-- there is output that the socket can take
+abbrev pub is_unsent : Talk → Bool
+is_unsent t = not t.gone && not (length t.bytes.output == 0)
+
 -- The session ends: what the debugger suspended is let go, one thread after the other, and then the connection closes.
 abbrev pub EndsBy : Action → Talk → Talk → Type 0
 EndsBy (action.Resume t) old new = LetsGo old.holds t true new.holds × (new ≡ record old { holds = new.holds })
 EndsBy action.Again old new = ((t : ℕ) × LetsGo old.holds t false new.holds) × (new ≡ record old { holds = new.holds })
-EndsBy action.Write old new = AreAllFree old.holds × (0 < length old.bytes.output) × (new ≡ old)
-EndsBy action.Close old new = AreAllFree old.holds × (length old.bytes.output ≡ 0) × (new ≡ record old { phase = phase.Closed })
+EndsBy action.Write old new = AreAllFree old.holds × (is_unsent old ≡ true) × (new ≡ old)
+EndsBy action.Close old new = AreAllFree old.holds × (is_unsent old ≡ false) × (new ≡ record old { phase = phase.Closed })
 EndsBy _ old new = ⊥
 
 -- A thread is suspended once more. The service is asked at a count of 0 alone. Where there is no memory, no count changes.
@@ -188,3 +192,23 @@ GoesFirst false old act new = GoesIn old.phase old act new
 
 abbrev pub Goes : Talk → Action → Talk → Type 0
 Goes old act new = GoesFirst (writes_first old.phase old.bytes.output) old act new
+
+abbrev pub is_ready : Phase → Bool
+is_ready phase.Greeting = false
+is_ready phase.Ready = true
+is_ready phase.Asking = false
+is_ready (phase.Listing p) = false
+is_ready (phase.Stopping p) = false
+is_ready (phase.Suspending p t) = false
+is_ready (phase.Undoing p t) = false
+is_ready (phase.Settling p) = false
+is_ready (phase.Finishing p) = false
+is_ready phase.Refusing = false
+is_ready (phase.Numbered n) = false
+is_ready phase.Resuming = false
+is_ready phase.Ending = false
+is_ready phase.Closed = false
+
+-- A call of `next` that fails changes nothing, but for what is known of the request that would be worked on.
+abbrev pub Fails : Talk → Talk → Type 0
+Fails old new = (new ≡ record old { first = new.first }) × (is_ready old.phase ≡ false → new ≡ old)

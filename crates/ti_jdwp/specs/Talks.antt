@@ -1,11 +1,9 @@
 -- A session as contracts see it, and what each call makes of it.
-use Rattle.std.specs.Prelude.{◌≡◌, ℕ, ◌+◌, ◌-◌, ◌%◌, ◌^◌, ◌<◌, ◌≤◌, min, Bool, true, false, not, ◌&&◌, ◌||◌, List, [], ◌∷◌, ◌++◌, length, take, drop, slice_get, Option, Some, None, Result, Ok, Err, IsTrue, nat_le, nat_lt, bytes_eq, ◌==◌, if◌then◌else◌}
+use Rattle.std.specs.Prelude.{ℕ, ◌-◌, ◌≤◌, min, Bool, true, false, not, ◌&&◌, List, [], length, take, drop, Option, None, Result, nat_lt, bytes_eq, ◌==◌, if◌then◌else◌}
 use Rattle.ti_jdwp.specs.declared.actions.Action.{Action}
 use Rattle.ti_jdwp.specs.declared.actions.Action.TheVariants as action
 use Rattle.ti_jdwp.specs.declared.actions.Phase.{Phase}
 use Rattle.ti_jdwp.specs.declared.actions.Phase.TheVariants as phase
-use Rattle.ti_jdwp.specs.declared.actions.Posted.{Posted}
-use Rattle.ti_jdwp.specs.declared.actions.Posted.TheVariants as posted
 use Rattle.ti_jdwp.specs.declared.actions.Purpose.{Purpose}
 use Rattle.ti_jdwp.specs.declared.actions.Purpose.TheVariants as purpose
 use Rattle.ti_jdwp.specs.declared.notice.Notice.{Notice}
@@ -15,7 +13,7 @@ use Rattle.ti_jdwp.specs.declared.front.Front.{Front}
 use Rattle.ti_jdwp.specs.declared.front.Front.TheVariants as front
 use Rattle.ti_jdwp.specs.Holds.{Holds}
 use Rattle.ti_jdwp.specs.InForce.{AllAsked, no_requests}
-use Rattle.ti_jdwp.specs.Lines.{Bytes, no_bytes, with_input, without_input, with_reply, with_output, with_written, handshake}
+use Rattle.ti_jdwp.specs.Lines.{Bytes, no_bytes, with_input, without_input, with_reply, with_output, handshake}
 use Rattle.ti_jdwp.specs.Packets.{BeginsWith}
 use Rattle.ti_jdwp.specs.Queues.{Queue, no_events}
 
@@ -26,6 +24,8 @@ pub record Talk : Type 0 where
   pub first : First
   -- the socket gives no more
   pub ended : Bool
+  -- the socket is gone
+  pub gone : Bool
   pub holds : Holds
   pub requests : AllAsked
   pub queue : Queue
@@ -42,7 +42,7 @@ abbrev pub no_request : First
 no_request = record { id = 0; set = 0; command = 0; length = 0 }
 
 abbrev pub opened : Talk
-opened = record { bytes = no_bytes; phase = phase.Greeting; first = no_request; ended = false; holds = []; requests = no_requests; queue = no_events; work = []; notice = None; told = 0; short = false }
+opened = record { bytes = no_bytes; phase = phase.Greeting; first = no_request; ended = false; gone = false; holds = []; requests = no_requests; queue = no_events; work = []; notice = None; told = 0; short = false }
 
 -- what stands first in an input
 abbrev pub IsFront : List ℕ → Front → Type 0
@@ -74,7 +74,7 @@ is_open phase.Closed = false
 
 -- how many bytes of input are taken
 abbrev pub room_in : Talk → ℕ
-room_in t = if (is_open t.phase && not t.ended) && (length t.bytes.output == 0) then 65536 - length t.bytes.input else 0
+room_in t = if ((is_open t.phase && not t.ended) && not t.gone) && (length t.bytes.output == 0) then 65536 - length t.bytes.input else 0
 
 abbrev pub fed : Talk → List ℕ → Talk
 fed t more = record t { bytes = with_input t.bytes more }
@@ -85,7 +85,7 @@ replied t a = record t { bytes = with_reply t.bytes t.first.length t.first.id a;
 
 -- nothing more is read
 abbrev pub stopped : Talk → Talk
-stopped t = record t { bytes = record t.bytes { input = [] }; phase = phase.Ending }
+stopped t = record t { phase = phase.Ending }
 
 -- Nothing whole came. Where the socket gives no more, the session ends.
 abbrev pub starved : Talk → Action × Talk
@@ -125,4 +125,4 @@ closing phase.Ending = phase.Ending
 closing phase.Closed = phase.Closed
 
 abbrev pub closed : Talk → Talk
-closed t = record t { bytes = no_bytes; phase = closing t.phase }
+closed t = record t { phase = closing t.phase; gone = true }

@@ -82,22 +82,6 @@ impl Line {
         self.read += count.min(self.received.len() - self.read);
     }
 
-    /// Drops all that came.
-    pub(crate) fn skip_all(&mut self)
-        ensures { self.new ≡ record self.old { input = [] } }
-    {
-        self.received.clear();
-        self.read = 0;
-    }
-
-    /// Drops all that is to be sent.
-    pub(crate) fn unsend_all(&mut self)
-        ensures { self.new ≡ record self.old { output = [] } }
-    {
-        self.to_send.clear();
-        self.sent = 0;
-    }
-
     /// Replies to the request that stands first in the input, whose packet has this many bytes, and drops the packet. 110
     /// OUT_OF_MEMORY if there is no memory for the reply: nothing changes.
     pub(crate) fn answer(
@@ -157,7 +141,7 @@ impl Line {
     }
 }
 
-ghost use Rattle.std.specs.Prelude.{◌≡◌, ◌≤◌, [], length, drop, IfErr, OnOk, OnErr};
+ghost use Rattle.std.specs.Prelude.{◌≡◌, ◌≤◌, length, drop, IfErr, OnOk, OnErr};
 ghost use Rattle.ti_jdwp.specs.Sent.{answered, event_packet};
 ghost use Rattle.ti_jdwp.specs.Lines.{no_bytes, with_input, without_input, with_reply, with_output, with_written, handshake};
 ghost use Rattle.ti_jdwp.specs.declared.error.JdwpError.TheVariants.{OutOfMemory};

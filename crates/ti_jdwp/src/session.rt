@@ -27,6 +27,8 @@ pub struct Session {
     /// The request that is worked on, or was last.
     pub(crate) first: First,
     pub(crate) ended: bool,
+    /// The socket is gone.
+    pub(crate) gone: bool,
     pub(crate) suspensions: Suspensions,
     pub(crate) requests: Requests,
     pub(crate) events: Events,
@@ -51,6 +53,7 @@ impl Model for Session {
       phase = s.phase;
       first = s.first;
       ended = s.ended;
+      gone = s.gone;
       holds = s.suspensions;
       requests = s.requests;
       queue = s.events;
@@ -74,6 +77,7 @@ impl Session {
             phase: Phase::Greeting,
             first: First::NONE,
             ended: false,
+            gone: false,
             suspensions: Suspensions::new(alloc),
             requests: Requests::new(alloc),
             events: Events::new(alloc),
@@ -91,7 +95,7 @@ impl Session {
         ensures bound { length self.now.bytes.input ≤ 65536 }
     {
         let open = !matches!(self.phase, Phase::Ending | Phase::Closed);
-        if open && !self.ended && self.line.output().is_empty() {
+        if open && !self.ended && !self.gone && self.line.output().is_empty() {
             MAX_INPUT - self.line.input().len()
         } else {
             0
@@ -148,8 +152,7 @@ impl Session {
     pub fn close(&mut self)
         ensures { self.new ≡ closed self.old }
     {
-        self.line.skip_all();
-        self.line.unsend_all();
+        self.gone = true;
         self.phase = match self.phase {
             Phase::Suspending { thread, .. } => Phase::Suspending {
                 purpose: Purpose::End,

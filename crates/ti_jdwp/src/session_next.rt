@@ -17,7 +17,7 @@ impl Session {
     pub fn next(&mut self) -> Result<Action, SessionError>
         ensures action { IfOk result (λ a. Goes self.old a self.new) }
         ensures memory { IfErr result (λ e. e ≡ OutOfMemory) }
-        ensures err { OnErr result (self.new ≡ record self.old { first = self.new.first }) }
+        ensures err { OnErr result (Fails self.old self.new) }
     {
         if self.phase == Phase::Ending {
             return Ok(self.let_go());
@@ -61,7 +61,7 @@ impl Session {
                 }
             }
             None => {
-                if self.line.output().is_empty() {
+                if self.gone || self.line.output().is_empty() {
                     self.phase = Phase::Closed;
                     Action::Close
                 } else {
@@ -75,7 +75,6 @@ impl Session {
     pub(crate) fn stop_reading(&mut self) -> Action
         ensures { Does (Again, stopped self.old) result self.new }
     {
-        self.line.skip_all();
         self.phase = Phase::Ending;
         Action::Again
     }
@@ -265,6 +264,6 @@ pub(crate) fn after(purpose: Purpose) -> Phase
 
 ghost use Rattle.std.specs.Prelude.{◌≡◌, IfOk, IfErr, OnErr};
 ghost use Rattle.ti_jdwp.specs.Talks.{stopped, starved, greets, after};
-ghost use Rattle.ti_jdwp.specs.Steps.{Does, Goes, EndsBy, GoesOn, Reads, BeginsEvent, SuspendsBy, SuspendsNext, ResumesNext, finishes, tells};
+ghost use Rattle.ti_jdwp.specs.Steps.{Does, Goes, Fails, EndsBy, GoesOn, Reads, BeginsEvent, SuspendsBy, SuspendsNext, ResumesNext, finishes, tells};
 ghost use Rattle.ti_jdwp.specs.declared.actions.Action.TheVariants.{Again, Write};
 ghost use Rattle.ti_jdwp.specs.declared.session_error.SessionError.TheVariants.{OutOfMemory};

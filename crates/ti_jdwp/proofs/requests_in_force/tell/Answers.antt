@@ -1,4 +1,4 @@
-use Rattle.std.proofs.Common.{◌≡◌, ℕ, ◌+◌, ◌-◌, ◌<◌, ◌≤◌, true, false, cond, List, [], ◌∷◌, ◌++◌, length, take, drop, map, filter, get_or, vec_len, vec_capacity, refl, sym, ap, subst, ◌∙◌, arith, append_assoc}
+use Rattle.std.proofs.Common.{◌≡◌, ◌+◌, ◌<◌, true, false, List, [], ◌∷◌, ◌++◌, length, take, map, filter, get_or, vec_len, vec_capacity, sym, ap, ◌∙◌, arith, append_assoc}
 use Rattle.std.specs.Prelude.{slice_set}
 use Rattle.ti_jdwp.specs.InForce.{Asked, is_told, after, stronger, strongest}
 use Rattle.ti_jdwp.proofs.Telling.{told_so_far, OneMore, one_more, told_more, numbers_more, after_keeps, strongest_more, nothing_more}

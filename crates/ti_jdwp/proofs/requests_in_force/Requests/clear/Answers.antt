@@ -1,4 +1,4 @@
-use Rattle.std.proofs.Common.{rules, ◌≡◌, not, ap, ◌∙◌, filter, List}
+use Rattle.std.proofs.Common.{rules, not, ap, ◌∙◌, List}
 use Rattle.std.proofs.lemmas.Fn.{filter_same}
 use Rattle.ti_jdwp.specs.InForce.{Asked, AllAsked, is_it, without_request}
 use Rattle.ti_jdwp.proofs.requests_in_force.Requests.clear.Goals as goal

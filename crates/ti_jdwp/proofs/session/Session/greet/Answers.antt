@@ -1,4 +1,4 @@
-use Rattle.std.proofs.Common.{ℕ, ◌≤◌, length, subst, sym}
+use Rattle.std.proofs.Common.{◌≤◌, length, subst, sym}
 use Rattle.ti_jdwp.specs.Lines.{Bytes}
 use Rattle.ti_jdwp.proofs.Shorter.{shorter}
 use Rattle.ti_jdwp.proofs.session.Session.greet.Goals as goal
