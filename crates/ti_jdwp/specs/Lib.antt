@@ -23,4 +23,7 @@ pub mod Constants
 pub mod Talks
 pub mod Steps
 pub mod Answered
+pub mod Notes
 pub mod SessionRuns
+pub mod SessionHolds
+pub mod SessionStops

@@ -1,11 +1,14 @@
 -- Whole runs of a session, and what goes over its connection.
-use Rattle.std.specs.Prelude.{◌≡◌, ℕ, ◌≤◌, true, List, [], ◌∷◌, ◌++◌, length, take, min, Some, Result}
+use Rattle.std.specs.Prelude.{◌≡◌, ℕ, ◌≤◌, Bool, true, List, [], ◌∷◌, ◌++◌, length, take, min, Some, Result}
 use Rattle.std.specs.List.{flat_map}
 use Rattle.ti_jdwp.specs.declared.actions.Action.{Action}
 use Rattle.ti_jdwp.specs.declared.actions.Posted.{Posted}
+use Rattle.ti_jdwp.specs.declared.event.Event.{Event}
+use Rattle.ti_jdwp.specs.declared.event_text.Occurrence.{Occurrence}
 use Rattle.ti_jdwp.specs.declared.packet.Head.TheVariants as head
 use Rattle.ti_jdwp.specs.Answered.{is_asked, listed_in, settled_in, PostedIn}
 use Rattle.ti_jdwp.specs.Lines.{with_written, handshake}
+use Rattle.ti_jdwp.specs.Notes.{Notes}
 use Rattle.ti_jdwp.specs.Packets.{BeginsWith}
 use Rattle.ti_jdwp.specs.Sent.{reply_packet, event_packet}
 use Rattle.ti_jdwp.specs.Steps.{Goes, Fails}
@@ -23,8 +26,8 @@ pub data Call : Type 0 where
   PostedAs : Posted → Call
   Settled : Call
   Written : ℕ → Call
-  -- something took place at the service
-  Happened : Call
+  -- something took place at the service, and was noted or lost
+  Happened : Event → Occurrence → Bool → Call
 
 -- what the contracts of the calls say
 abbrev pub Step : Talk → Call → Talk → Type 0
@@ -38,7 +41,7 @@ Step old (Listed threads) new = listed_in old.phase threads old ≡ Some new
 Step old (PostedAs posted) new = PostedIn old.phase posted old new
 Step old Settled new = settled_in old.phase old ≡ Some new
 Step old (Written count) new = new ≡ record old { bytes = with_written old.bytes count }
-Step old Happened new = new ≡ record old { requests = new.requests; queue = new.queue }
+Step old (Happened e o result) new = Notes e o old result new
 
 -- the bytes that a call took from the socket
 abbrev pub received : Call → List ℕ
@@ -52,7 +55,7 @@ received (Listed threads) = []
 received (PostedAs posted) = []
 received Settled = []
 received (Written count) = []
-received Happened = []
+received (Happened e o result) = []
 
 -- the bytes that the socket took with a call
 abbrev pub taken : Talk → Call → List ℕ
@@ -66,7 +69,7 @@ taken t (Listed threads) = []
 taken t (PostedAs posted) = []
 taken t Settled = []
 taken t (Written count) = take (min count (length t.bytes.output)) t.bytes.output
-taken t Happened = []
+taken t (Happened e o result) = []
 
 -- these calls in this order, with all that the socket took
 abbrev pub Runs : Talk → List Call → List ℕ → Talk → Type 0

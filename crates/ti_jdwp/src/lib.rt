@@ -61,6 +61,6 @@ pub use request::{EventKind, Policy, Range, Request};
 pub use sending::{reply, send_event};
 pub use session::Session;
 pub use session_error::SessionError;
-pub use session_laws::requests_are_answered;
+pub use session_laws::{no_event_while_stopped, nothing_stays_suspended, requests_are_answered};
 pub use suspension_laws::suspensions_are_balanced;
 pub use suspensions::{Holder, LetGo, Suspensions};

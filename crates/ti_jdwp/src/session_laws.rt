@@ -7,4 +7,19 @@ pub fn requests_are_answered()
     ensures { RequestsAreAnswered }
 {}
 
+/// Whatever calls come, in whatever order: for each thread, the driver is told to resume it as often as it said that it suspended
+/// it, but for a suspension that the session still owes. After the close none is owed: nothing that the session suspended is still
+/// suspended by it.
+pub fn nothing_stays_suspended()
+    ensures { NothingStaysSuspended }
+{}
+
+/// Whatever calls come, in whatever order: between an event that stopped all threads and a resumption of all no other event goes
+/// out. All are resumed where a request to resume all is answered, or the debugger suspends no thread any more.
+pub fn no_event_while_stopped()
+    ensures { NoEventWhileStopped }
+{}
+
 ghost use Rattle.ti_jdwp.specs.SessionRuns.{RequestsAreAnswered};
+ghost use Rattle.ti_jdwp.specs.SessionHolds.{NothingStaysSuspended};
+ghost use Rattle.ti_jdwp.specs.SessionStops.{NoEventWhileStopped};
