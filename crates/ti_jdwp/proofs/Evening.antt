@@ -16,6 +16,7 @@ use Rattle.ti_jdwp.specs.declared.front.Front.TheVariants as front
 use Rattle.ti_jdwp.specs.declared.notice.Notice.{Notice}
 use Rattle.ti_jdwp.specs.declared.plan.Plan.{Plan}
 use Rattle.ti_jdwp.specs.declared.plan.Plan.TheVariants as plan
+use Rattle.ti_jdwp.specs.declared.request.EventKind.{EventKind}
 use Rattle.ti_jdwp.specs.declared.request.Policy.{Policy}
 use Rattle.ti_jdwp.specs.declared.request.Policy.TheVariants as policy
 use Rattle.ti_jdwp.specs.declared.request.Request.{Request}
@@ -166,16 +167,16 @@ does old new target told act t q p none s holds is at out in' post open' fine =
     subst (λ b. Undoes old new t false b) (sym (ap (resumes_by t) s.0 ∙ none))
     (quiet old new t q p at out (ap (λ (x : Talk). x.holds) s.1 ∙ holds) (ap (λ (x : Talk). x.phase) s.1 ∙ is) in' post open' fine)
 
-sets_even : (old new : Talk) (act : Action) (t : ℕ) → old.phase ≡ phase.Ready → Fine old t → SetsEvent old act new → Undoes old new t false (resumes_by t act)
-sets_even old new action.Again t at fine s = quiet old new t phase.Ready (phase.Numbered new.requests.given) at refl (ap (λ (x : Talk). x.holds) s.0) (ap (λ (x : Talk). x.phase) s.0) refl refl refl fine
-sets_even old new (action.Ask r) t at fine s = absurd s
-sets_even old new action.ListThreads t at fine s = absurd s
-sets_even old new (action.Suspend v) t at fine s = absurd s
-sets_even old new action.Settle t at fine s = absurd s
-sets_even old new (action.Resume v) t at fine s = absurd s
-sets_even old new action.Write t at fine s = quiet old new t phase.Ready phase.Ready at refl (ap (λ (x : Talk). x.holds) s.1) (ap (λ (x : Talk). x.phase) s.1) refl refl refl fine
-sets_even old new action.Close t at fine s = absurd s
-sets_even old new action.Wait t at fine s = absurd s
+sets_even : (kind : EventKind) (policy : Policy) (place count : ℕ) (old new : Talk) (act : Action) (t : ℕ) → old.phase ≡ phase.Ready → Fine old t → SetsEvent kind policy place count old act new → Undoes old new t false (resumes_by t act)
+sets_even kind policy place count old new action.Again t at fine s = quiet old new t phase.Ready (phase.Numbered (old.requests.given + 1)) at refl (ap (λ (x : Talk). x.holds) s.0) (ap (λ (x : Talk). x.phase) s.0) refl refl refl fine
+sets_even kind policy place count old new (action.Ask r) t at fine s = absurd s
+sets_even kind policy place count old new action.ListThreads t at fine s = absurd s
+sets_even kind policy place count old new (action.Suspend v) t at fine s = absurd s
+sets_even kind policy place count old new action.Settle t at fine s = absurd s
+sets_even kind policy place count old new (action.Resume v) t at fine s = absurd s
+sets_even kind policy place count old new action.Write t at fine s = quiet old new t phase.Ready phase.Ready at refl (ap (λ (x : Talk). x.holds) s.1) (ap (λ (x : Talk). x.phase) s.1) refl refl refl fine
+sets_even kind policy place count old new action.Close t at fine s = absurd s
+sets_even kind policy place count old new action.Wait t at fine s = absurd s
 
 one_even : (told : Bool) (u : ℕ) (old new : Talk) (act : Action) (t : ℕ) → old.phase ≡ phase.Ready → new.phase ≡ phase.Ready → Fine old t → hold.Step old.holds (hold.Resumed u told) new.holds → act ≡ cond told (action.Resume u) action.Write → Undoes old new t false (resumes_by t act)
 one_even true u old new act t at is fine step told =
@@ -201,7 +202,7 @@ plan_even plan.SuspendAll r old new act t at fine s = does old new (record old {
 plan_even plan.ResumeAll r old new act t at fine s = does old new (record old { phase = phase.Resuming; work = held_threads old.holds }) action.Again act t phase.Ready phase.Resuming refl s refl refl at refl refl refl refl fine
 plan_even plan.Hold r old new act t at fine s = does old new (record (replied old (Ok [])) { queue = record old.queue { held = true } }) action.Write act t phase.Ready phase.Ready refl s refl refl at refl refl refl refl fine
 plan_even plan.Release r old new act t at fine s = does old new (record (replied old (Ok [])) { queue = record old.queue { held = false } }) action.Write act t phase.Ready phase.Ready refl s refl refl at refl refl refl refl fine
-plan_even (plan.Set kind policy place count) r old new act t at fine s = sets_even old new act t at fine s
+plan_even (plan.Set kind policy place count) r old new act t at fine s = sets_even kind policy place count old new act t at fine s
 plan_even (plan.Clear kind number) r old new act t at fine s = does old new (clears kind number old) action.Write act t phase.Ready phase.Ready refl s refl refl at refl refl refl refl fine
 plan_even plan.Dispose r old new act t at fine s = does old new (stopped (replied old (Ok []))) action.Again act t phase.Ready phase.Ending refl s refl refl at refl refl refl refl fine
 

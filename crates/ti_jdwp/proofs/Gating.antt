@@ -16,6 +16,7 @@ use Rattle.ti_jdwp.specs.declared.front.Front.TheVariants as front
 use Rattle.ti_jdwp.specs.declared.notice.Notice.{Notice}
 use Rattle.ti_jdwp.specs.declared.plan.Plan.{Plan}
 use Rattle.ti_jdwp.specs.declared.plan.Plan.TheVariants as plan
+use Rattle.ti_jdwp.specs.declared.request.EventKind.{EventKind}
 use Rattle.ti_jdwp.specs.declared.request.Policy.{Policy}
 use Rattle.ti_jdwp.specs.declared.request.Policy.TheVariants as policy
 use Rattle.ti_jdwp.specs.declared.request.Request.{Request}
@@ -127,16 +128,16 @@ end_gated old new action.Write at free s = plain phase.Ending old new action.Wri
 end_gated old new action.Close at free s = plain phase.Ending old new action.Close at refl (ap (λ (x : Talk). x.notice) s.2) (ap (λ (x : Talk). x.queue.stopped) s.2) free
 end_gated old new action.Wait at free s = absurd s
 
-sets_gated : (old new : Talk) (act act' : Action) → old.phase ≡ phase.Ready → Free old → SetsEvent old act new → Gated old new (Went act')
-sets_gated old new action.Again act' at free s = plain phase.Ready old new act' at refl (ap (λ (x : Talk). x.notice) s.0) (ap (λ (x : Talk). x.queue.stopped) s.0) free
-sets_gated old new (action.Ask r) act' at free s = absurd s
-sets_gated old new action.ListThreads act' at free s = absurd s
-sets_gated old new (action.Suspend v) act' at free s = absurd s
-sets_gated old new action.Settle act' at free s = absurd s
-sets_gated old new (action.Resume v) act' at free s = absurd s
-sets_gated old new action.Write act' at free s = plain phase.Ready old new act' at refl (ap (λ (x : Talk). x.notice) s.1) (ap (λ (x : Talk). x.queue.stopped) s.1) free
-sets_gated old new action.Close act' at free s = absurd s
-sets_gated old new action.Wait act' at free s = absurd s
+sets_gated : (kind : EventKind) (policy : Policy) (place count : ℕ) (old new : Talk) (act act' : Action) → old.phase ≡ phase.Ready → Free old → SetsEvent kind policy place count old act new → Gated old new (Went act')
+sets_gated kind policy place count old new action.Again act' at free s = plain phase.Ready old new act' at refl (ap (λ (x : Talk). x.notice) s.0) (ap (λ (x : Talk). x.queue.stopped) s.0) free
+sets_gated kind policy place count old new (action.Ask r) act' at free s = absurd s
+sets_gated kind policy place count old new action.ListThreads act' at free s = absurd s
+sets_gated kind policy place count old new (action.Suspend v) act' at free s = absurd s
+sets_gated kind policy place count old new action.Settle act' at free s = absurd s
+sets_gated kind policy place count old new (action.Resume v) act' at free s = absurd s
+sets_gated kind policy place count old new action.Write act' at free s = plain phase.Ready old new act' at refl (ap (λ (x : Talk). x.notice) s.1) (ap (λ (x : Talk). x.queue.stopped) s.1) free
+sets_gated kind policy place count old new action.Close act' at free s = absurd s
+sets_gated kind policy place count old new action.Wait act' at free s = absurd s
 
 one_gated : (u : ℕ) (old new : Talk) (act : Action) (b : Bool) → held_of new.holds == 0 ≡ b → old.phase ≡ phase.Ready → Free old → new.notice ≡ old.notice → new.queue.stopped ≡ (cond b (record old.queue { stopped = false }) old.queue).stopped → Gated old new (Went act)
 one_gated u old new act true none at free notice stop =
@@ -160,7 +161,7 @@ plan_gated plan.SuspendAll r old new act at free s = plain phase.Ready old new a
 plan_gated plan.ResumeAll r old new act at free s = plain phase.Ready old new act at refl (ap (λ (x : Talk). x.notice) s.1) (ap (λ (x : Talk). x.queue.stopped) s.1) free
 plan_gated plan.Hold r old new act at free s = plain phase.Ready old new act at refl (ap (λ (x : Talk). x.notice) s.1) (ap (λ (x : Talk). x.queue.stopped) s.1) free
 plan_gated plan.Release r old new act at free s = plain phase.Ready old new act at refl (ap (λ (x : Talk). x.notice) s.1) (ap (λ (x : Talk). x.queue.stopped) s.1) free
-plan_gated (plan.Set kind policy place count) r old new act at free s = sets_gated old new act act at free s
+plan_gated (plan.Set kind policy place count) r old new act at free s = sets_gated kind policy place count old new act act at free s
 plan_gated (plan.Clear kind number) r old new act at free s = plain phase.Ready old new act at refl (ap (λ (x : Talk). x.notice) s.1) (ap (λ (x : Talk). x.queue.stopped) s.1) free
 plan_gated plan.Dispose r old new act at free s = plain phase.Ready old new act at refl (ap (λ (x : Talk). x.notice) s.1) (ap (λ (x : Talk). x.queue.stopped) s.1) free
 

@@ -1,5 +1,5 @@
 -- Each step of a session answers what it reads.
-use Rattle.std.proofs.Common.{◌≡◌, ℕ, ◌≤◌, min, Bool, true, false, not, cond, List, [], ◌∷◌, ◌++◌, length, take, Option, Some, None, Result, Ok, Err, refl, sym, ap, subst, ◌∙◌, inl, inr, arith}
+use Rattle.std.proofs.Common.{◌≡◌, ℕ, ◌+◌, ◌≤◌, min, Bool, true, false, not, cond, List, [], ◌∷◌, ◌++◌, length, take, Option, Some, None, Result, Ok, Err, refl, sym, ap, subst, ◌∙◌, inl, inr, arith}
 use Rattle.std.specs.Prelude.{unwrap_or, bytes_eq, nat_lt, ◌==◌}
 use Rattle.std.specs.List.{flat_map}
 use Rattle.std.proofs.lemmas.Bool.{true≢false, cases_Bool, ltb-false, not-false}
@@ -18,6 +18,7 @@ use Rattle.ti_jdwp.specs.declared.front.Front.TheVariants as front
 use Rattle.ti_jdwp.specs.declared.notice.Notice.{Notice}
 use Rattle.ti_jdwp.specs.declared.plan.Plan.{Plan}
 use Rattle.ti_jdwp.specs.declared.plan.Plan.TheVariants as plan
+use Rattle.ti_jdwp.specs.declared.request.EventKind.{EventKind}
 use Rattle.ti_jdwp.specs.declared.request.Policy.{Policy}
 use Rattle.ti_jdwp.specs.declared.request.Policy.TheVariants as policy
 use Rattle.ti_jdwp.specs.declared.request.Request.{Request}
@@ -147,16 +148,16 @@ ends_well old new action.Write at s = idle old new phase.Ending (ap (λ (t : Tal
 ends_well old new action.Close at s = idle old new phase.Closed (ap (λ (t : Talk). t.bytes) s.2) (ap (λ (t : Talk). t.phase) s.2) refl
 ends_well old new action.Wait at s = absurd s
 
-sets_well : (old new : Talk) (act : Action) → Stands old.first old.bytes.input → SetsEvent old act new → Well old.bytes new [] []
-sets_well old new action.Again h s = kept old new (phase.Numbered new.requests.given) (ap (λ (t : Talk). t.bytes) s.0) (ap (λ (t : Talk). t.first) s.0) (ap (λ (t : Talk). t.phase) s.0) (λ k. h)
-sets_well old new (action.Ask r) h s = absurd s
-sets_well old new action.ListThreads h s = absurd s
-sets_well old new (action.Suspend v) h s = absurd s
-sets_well old new action.Settle h s = absurd s
-sets_well old new (action.Resume v) h s = absurd s
-sets_well old new action.Write h s = replied_well old new (Err (number_of s.0)) h s.1
-sets_well old new action.Close h s = absurd s
-sets_well old new action.Wait h s = absurd s
+sets_well : (kind : EventKind) (policy : Policy) (place count : ℕ) (old new : Talk) (act : Action) → Stands old.first old.bytes.input → SetsEvent kind policy place count old act new → Well old.bytes new [] []
+sets_well kind policy place count old new action.Again h s = kept old new (phase.Numbered (old.requests.given + 1)) (ap (λ (t : Talk). t.bytes) s.0) (ap (λ (t : Talk). t.first) s.0) (ap (λ (t : Talk). t.phase) s.0) (λ k. h)
+sets_well kind policy place count old new (action.Ask r) h s = absurd s
+sets_well kind policy place count old new action.ListThreads h s = absurd s
+sets_well kind policy place count old new (action.Suspend v) h s = absurd s
+sets_well kind policy place count old new action.Settle h s = absurd s
+sets_well kind policy place count old new (action.Resume v) h s = absurd s
+sets_well kind policy place count old new action.Write h s = replied_well old new (Err (number_of s.0)) h s.1
+sets_well kind policy place count old new action.Close h s = absurd s
+sets_well kind policy place count old new action.Wait h s = absurd s
 
 stack_well : (b : Bool) (r : Request) (t new : Talk) (act : Action) → Stands t.first t.bytes.input → Does (cond b (action.Write, replied t (Err 13)) (action.Ask r, asks t)) act new → Well t.bytes new [] []
 stack_well true r t new act h s = replied_well t new (Err 13) h s.1
@@ -174,7 +175,7 @@ plan_well plan.SuspendAll r t new act h s = kept t new (phase.Listing purpose.Al
 plan_well plan.ResumeAll r t new act h s = kept t new phase.Resuming (ap (λ (t : Talk). t.bytes) s.1) (ap (λ (t : Talk). t.first) s.1) (ap (λ (t : Talk). t.phase) s.1) (λ k. h)
 plan_well plan.Hold r t new act h s = answers t new phase.Ready (Ok []) h (ap (λ (t : Talk). t.bytes) s.1) (ap (λ (t : Talk). t.phase) s.1) refl
 plan_well plan.Release r t new act h s = answers t new phase.Ready (Ok []) h (ap (λ (t : Talk). t.bytes) s.1) (ap (λ (t : Talk). t.phase) s.1) refl
-plan_well (plan.Set kind policy at count) r t new act h s = sets_well t new act h s
+plan_well (plan.Set kind policy at count) r t new act h s = sets_well kind policy at count t new act h s
 plan_well (plan.Clear kind number) r t new act h s = answers t new phase.Ready (Ok []) h (ap (λ (t : Talk). t.bytes) s.1) (ap (λ (t : Talk). t.phase) s.1) refl
 plan_well plan.Dispose r t new act h s = answers t new phase.Ending (Ok []) h (ap (λ (t : Talk). t.bytes) s.1) (ap (λ (t : Talk). t.phase) s.1) refl
 

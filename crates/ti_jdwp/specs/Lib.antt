@@ -22,6 +22,7 @@ pub mod Plans
 pub mod Constants
 pub mod Talks
 pub mod Steps
+pub mod Asking
 pub mod Answered
 pub mod Notes
 pub mod SessionRuns

@@ -8,20 +8,23 @@ use Rattle.ti_jdwp.specs.declared.actions.Phase.TheVariants as phase
 use Rattle.ti_jdwp.specs.declared.actions.Purpose.{Purpose}
 use Rattle.ti_jdwp.specs.declared.actions.Purpose.TheVariants as purpose
 use Rattle.ti_jdwp.specs.declared.error.JdwpError.{JdwpError}
+use Rattle.ti_jdwp.specs.declared.error.JdwpError.TheVariants as error
 use Rattle.ti_jdwp.specs.declared.front.Front.{Front}
 use Rattle.ti_jdwp.specs.declared.front.Front.TheVariants as front
 use Rattle.ti_jdwp.specs.declared.notice.Notice.{Notice}
 use Rattle.ti_jdwp.specs.declared.plan.Plan.{Plan}
 use Rattle.ti_jdwp.specs.declared.plan.Plan.TheVariants as plan
+use Rattle.ti_jdwp.specs.declared.request.EventKind.{EventKind}
 use Rattle.ti_jdwp.specs.declared.request.Policy.{Policy}
 use Rattle.ti_jdwp.specs.declared.request.Policy.TheVariants as policy
 use Rattle.ti_jdwp.specs.declared.request.Request.{Request}
 use Rattle.ti_jdwp.specs.declared.suspensions.Holder.TheVariants as holder
+use Rattle.ti_jdwp.specs.Asking.{Reading, filters_in}
 use Rattle.ti_jdwp.specs.Constants.{constant_bytes}
 use Rattle.ti_jdwp.specs.Errors.{number_of}
 use Rattle.ti_jdwp.specs.Fields.{int}
 use Rattle.ti_jdwp.specs.Holds.{count_of, held_of, held_threads, Suspends, Resumes, LetsGo, AreAllFree}
-use Rattle.ti_jdwp.specs.InForce.{without_request}
+use Rattle.ti_jdwp.specs.InForce.{with_request, without_request}
 use Rattle.ti_jdwp.specs.Lines.{without_input, with_output}
 use Rattle.ti_jdwp.specs.Plans.{plan_of}
 use Rattle.ti_jdwp.specs.Queues.{may_tell, first, without_first}
@@ -107,11 +110,18 @@ ResumesOne t old act new =
     (told : Bool) × Resumes old.holds t told new.holds × (act ≡ (if told then action.Resume t else action.Write))
     × (new ≡ record (replied old (Ok [])) { holds = new.holds; queue = if held_of new.holds == 0 then record old.queue { stopped = false } else old.queue })
 
--- A request for events is put in force, or refused.
-abbrev pub SetsEvent : Talk → Action → Talk → Type 0
-SetsEvent old action.Again new = (new ≡ record old { phase = phase.Numbered new.requests.given; requests = new.requests }) × (new.requests.given ≡ old.requests.given + 1)
-SetsEvent old action.Write new = (e : JdwpError) × (new ≡ replied old (Err (number_of e)))
-SetsEvent old _ new = ⊥
+-- what the modifiers say of the request that is worked on
+abbrev pub said_in : EventKind → ℕ → ℕ → Talk → Result Reading JdwpError
+said_in kind at count t = filters_in count kind (data_of t.first t.bytes.input) at
+
+-- A request for events is put in force with what its modifiers say, or refused. Where there is no room or no memory, it is refused
+-- by that.
+abbrev pub SetsEvent : EventKind → Policy → ℕ → ℕ → Talk → Action → Talk → Type 0
+SetsEvent kind policy at count old action.Again new =
+    (new ≡ record old { phase = phase.Numbered (old.requests.given + 1); requests = new.requests })
+    × ((r : Reading) × (said_in kind at count old ≡ Ok r) × (new.requests ≡ with_request old.requests kind policy r.front r.count r.rest))
+SetsEvent kind policy at count old action.Write new = (e : JdwpError) × (new ≡ replied old (Err (number_of e))) × ((e ≡ error.OutOfMemory) ⊎ (said_in kind at count old ≡ Err e))
+SetsEvent kind policy at count old _ new = ⊥
 
 abbrev pub clears : ℕ → ℤ → Talk → Talk
 clears kind number t = record (replied t (Ok [])) { requests = without_request t.requests kind (cast_unsigned w32 number) }
@@ -132,7 +142,7 @@ ServesBy plan.SuspendAll r t act new = Does (action.ListThreads, record t { phas
 ServesBy plan.ResumeAll r t act new = Does (action.Again, record t { phase = phase.Resuming; work = held_threads t.holds }) act new
 ServesBy plan.Hold r t act new = Does (action.Write, record (replied t (Ok [])) { queue = record t.queue { held = true } }) act new
 ServesBy plan.Release r t act new = Does (action.Write, record (replied t (Ok [])) { queue = record t.queue { held = false } }) act new
-ServesBy (plan.Set kind policy at count) r t act new = SetsEvent t act new
+ServesBy (plan.Set kind policy at count) r t act new = SetsEvent kind policy at count t act new
 ServesBy (plan.Clear kind number) r t act new = Does (action.Write, clears kind number t) act new
 ServesBy plan.Dispose r t act new = Does (action.Again, stopped (replied t (Ok []))) act new
 

@@ -38,7 +38,10 @@ fn meaning_of(
     kind: EventKind,
     modifier: Modifier,
     bytes: &[u8],
-) -> Result<Meaning, JdwpError> {
+) -> Result<Meaning, JdwpError>
+    ensures ok { IfOk result (λ m. meaning_in kind modifier bytes.now ≡ Ok m) }
+    ensures err { IfErr result (λ e. (e ≡ OutOfMemory) ⊎ (meaning_in kind modifier bytes.now ≡ Err e)) }
+{
     match modifier {
         Modifier::Count(count) => Ok(Meaning::Count(count.cast_unsigned())),
         Modifier::ThreadOnly(id) => match thread_of(id) {
@@ -46,7 +49,7 @@ fn meaning_of(
             None => Err(JdwpError::InvalidThread),
         },
         Modifier::ClassOnly(id) => {
-            if kind != EventKind::ClassPrepare {
+            if !matches!(kind, EventKind::ClassPrepare) {
                 return Err(JdwpError::IllegalArgument);
             }
             match class_of(id) {
@@ -73,20 +76,54 @@ fn meaning_of(
 }
 
 /// Whether events of the kind have a class.
-fn has_class(kind: EventKind) -> bool {
+fn has_class(kind: EventKind) -> bool
+    ensures { result ≡ has_class kind }
+{
     matches!(kind, EventKind::ClassPrepare | EventKind::ClassUnload)
 }
 
-/// The filters with one more. A second count can be met by no event that the first one lets through, unless it is 1.
-fn with(mut filters: Filters, meaning: Meaning) -> Result<Filters, JdwpError> {
+/// The filters with one more. A second count can be met by no event that the first one lets through, unless it is 1. 110
+/// OUT_OF_MEMORY if there is no memory for it.
+fn with(mut filters: Filters, meaning: Meaning) -> Result<Filters, JdwpError>
+    ensures ok { IfOk result (λ f. reading_of f ≡ with_meaning (reading_of filters) meaning) }
+    ensures memory { IfErr result (λ e. e ≡ OutOfMemory) }
+{
     match (meaning, filters.count) {
         (Meaning::Count(count), None) => filters.count = Some(count),
-        (Meaning::Count(1), Some(_)) => (),
-        (Meaning::Count(_), Some(_)) => filters.count = Some(0),
+        (Meaning::Count(count), Some(_)) => {
+            if count != 1 {
+                filters.count = Some(0);
+            }
+        }
         (Meaning::Filter(filter), None) => push(&mut filters.front, filter)?,
         (Meaning::Filter(filter), Some(_)) => push(&mut filters.rest, filter)?,
     }
     Ok(filters)
+}
+
+/// The filters with what the modifier at this place says, and the place behind it.
+fn with_next(
+    alloc: Global,
+    kind: EventKind,
+    bytes: &[u8],
+    place: usize,
+    filters: Filters,
+) -> Result<(Filters, usize), JdwpError>
+    ensures ok { IfOk result (λ r. one_step kind bytes.now place (reading_of filters) ≡ Ok (reading_of r.0, r.1)) }
+    ensures err { IfErr result (λ e. (e ≡ OutOfMemory) ⊎ (one_step kind bytes.now place (reading_of filters) ≡ Err e)) }
+{
+    let (modifier, next) = match read_modifier(bytes, place) {
+        Ok(read) => read,
+        Err(error) => return Err(error),
+    };
+    let meaning = match meaning_of(alloc, kind, modifier, bytes) {
+        Ok(meaning) => meaning,
+        Err(error) => return Err(error),
+    };
+    match with(filters, meaning) {
+        Ok(all) => Ok((all, next)),
+        Err(error) => Err(error),
+    }
 }
 
 fn push(list: &mut Vec<Filter>, filter: Filter) -> Result<(), JdwpError>
@@ -109,7 +146,10 @@ pub(crate) fn read_filters(
     count: u32,
     bytes: &[u8],
     at: usize,
-) -> Result<Filters, JdwpError> {
+) -> Result<Filters, JdwpError>
+    ensures ok { IfOk result (λ f. filters_in count kind bytes.now at ≡ Ok (reading_of f)) }
+    ensures err { IfErr result (λ e. (e ≡ OutOfMemory) ⊎ (filters_in count kind bytes.now at ≡ Err e)) }
+{
     let mut filters = Filters {
         front: Vec::new(alloc),
         count: None,
@@ -117,13 +157,17 @@ pub(crate) fn read_filters(
     };
     let mut place = at;
     for _ in 0..count {
-        let (modifier, next) = read_modifier(bytes, place)?;
-        filters = with(filters, meaning_of(alloc, kind, modifier, bytes)?)?;
+        let (all, next) = match with_next(alloc, kind, bytes, place, filters) {
+            Ok(read) => read,
+            Err(error) => return Err(error),
+        };
+        filters = all;
         place = next;
     }
     Ok(filters)
 }
 
-ghost use Rattle.std.specs.Prelude.{◌≡◌, ◌++◌, ◌∷◌, [], map, IfOk, IfErr, OnOk};
+ghost use Rattle.std.specs.Prelude.{◌≡◌, ◌++◌, ◌∷◌, [], ◌⊎◌, map, Ok, Err, IfOk, IfErr, OnOk};
+ghost use Rattle.ti_jdwp.specs.Asking.{has_class, meaning_in, reading_of, with_meaning, one_step, filters_in};
 ghost use Rattle.ti_jdwp.specs.Filters.{slashed};
 ghost use Rattle.ti_jdwp.specs.declared.error.JdwpError.TheVariants.{OutOfMemory};

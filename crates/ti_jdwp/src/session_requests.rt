@@ -132,7 +132,9 @@ impl Session {
         at: usize,
         count: u32,
     ) -> Result<Action, SessionError>
-        ensures ok { IfOk result (λ a. SetsEvent self.old a self.new) }
+        requires length { 11 ≤ self.old.first.length }
+        requires within { self.old.first.length ≤ length self.old.bytes.input }
+        ensures ok { IfOk result (λ a. SetsEvent kind policy at count self.old a self.new) }
         ensures memory { IfErr result (λ e. e ≡ OutOfMemory) }
         ensures err { OnErr result (self.new ≡ self.old) }
     {
