@@ -113,6 +113,25 @@ with_count bytes p count = modifiers_end count 6 bytes >>= λ end. with_end byte
 abbrev with_policy : List ℕ → Policy → Result Request JdwpError
 with_policy bytes p = cond (leb (int_at 2 bytes) 64) (Ok (int_at 2 bytes)) (Err error.IllegalArgument) >>= λ count. with_count bytes p count
 
+-- what the bytes begin with
+event_first : (a b count : ℕ) (rest : List ℕ) (k : EventKind) (p : Policy) → kind_of a ≡ Ok k → policy_of b ≡ Ok p → rest ≡ int count ++ drop 4 rest → a ∷ b ∷ rest ≡ kind_number k ∷ policy_number p ∷ (int count ++ drop 4 rest)
+event_first a b count rest k p is_k is_p parts =
+    ap (λ (t : List ℕ). a ∷ b ∷ t) parts
+    ∙ ap (λ (c : ℕ). c ∷ b ∷ (int count ++ drop 4 rest)) (kind_is a k is_k)
+    ∙ ap (λ (c : ℕ). kind_number k ∷ c ∷ (int count ++ drop 4 rest)) (policy_is b p is_p)
+
+event_set : (k : EventKind) (p : Policy) (count end len : ℕ) (r : Request) → done (request.SetEvent k p (record { start = 6; end = end }) count) ≡ done r → end ≡ len → r ≡ request.SetEvent k p (record { start = 6; end = len }) count
+event_set k p count end len r e is = sym (ok_is (request.SetEvent k p (record { start = 6; end = end }) count) r e) ∙ ap (λ (n : ℕ). request.SetEvent k p (record { start = 6; end = n }) count) is
+
+-- the same by what the steps gave
+event_is : (a b count end last : ℕ) (rest : List ℕ) (k : EventKind) (p : Policy) (r : Request) → IsBytes (a ∷ b ∷ rest) → 6 ≤ length (a ∷ b ∷ rest) → policy_of b ≡ Ok p → int_at 0 rest ≤ 64 → int_at 0 rest ≡ count
+    → modifiers_end count 6 (a ∷ b ∷ rest) ≡ Ok end → length (a ∷ b ∷ rest) ≡ end → end ≡ last → kind_of a ≡ Ok k → done (request.SetEvent k p (record { start = 6; end = last }) count) ≡ done r → IsEvent (a ∷ b ∷ rest) r
+event_is a b count end last rest k p r fits many is_p few is_count walked all same is_k e =
+    let f = int_front rest (omega arith) (IsBytes-tail b rest (IsBytes-tail a (b ∷ rest) fits)) in
+    let parts : rest ≡ int count ++ drop 4 rest = f.0.parts ∙ ap (λ (c : ℕ). int c ++ drop 4 rest) is_count in
+    let are : AreModifiers count 6 (drop 4 rest) = are_all count 6 (a ∷ b ∷ rest) fits many (walked ∙ ap done (sym all)) in
+    (k, p, count, drop 4 rest, omega arith, event_first a b count rest k p is_k is_p parts, are, event_set k p count last (length (a ∷ b ∷ rest)) r e (sym same ∙ sym all))
+
 found_event : (bytes : List ℕ) (r : Request) → IsBytes bytes → read_as of_event bytes ≡ Ok r → IsEvent bytes r
 found_event [] r fits e = absurd cc
 found_event (a ∷ []) r fits e = absurd cc
@@ -124,18 +143,9 @@ found_event (a ∷ b ∷ rest) r fits e =
     let m = bind_ok (modifiers_end n.0 6 bytes) (λ end. with_end bytes p.0 n.0 end) r n.2 in
     let s = bind_ok (of_len m.0 bytes m.0) (λ end. with_kind bytes p.0 n.0 end) r m.2 in
     let k = bind_ok (kind_of a) (λ kind. Ok (request.SetEvent kind p.0 (record { start = 6; end = s.0 }) n.0)) r s.2 in
-    let many : 6 ≤ length bytes = leb-true 6 (length bytes) l.0 in
     let few = guard_ok (leb (int_at 0 rest) 64) error.IllegalArgument (int_at 0 rest) n.0 n.1 in
     let all = of_len_ok m.0 bytes m.0 s.0 s.1 in
-    let f = int_front rest (omega arith) (IsBytes-tail b rest (IsBytes-tail a (b ∷ rest) fits)) in
-    let at_most : n.0 ≤ 64 = omega (arith, leb-true (int_at 0 rest) 64 few.0) in
-    let first : a ∷ b ∷ rest ≡ kind_number k.0 ∷ policy_number p.0 ∷ (int n.0 ++ drop 4 rest) =
-    ap (λ (t : List ℕ). a ∷ b ∷ t) (f.0.parts ∙ ap (λ (c : ℕ). int c ++ drop 4 rest) few.1)
-    ∙ ap (λ (c : ℕ). c ∷ b ∷ (int n.0 ++ drop 4 rest)) (kind_is a k.0 k.1)
-    ∙ ap (λ (c : ℕ). kind_number k.0 ∷ c ∷ (int n.0 ++ drop 4 rest)) (policy_is b p.0 p.1) in
-    let whole : m.0 ≡ length bytes = sym all.0 in
-    let are : AreModifiers n.0 6 (drop 4 rest) = are_all n.0 6 bytes fits many (m.1 ∙ ap done whole) in
-    (k.0, p.0, n.0, drop 4 rest, at_most, first, are, sym (ok_is (request.SetEvent k.0 p.0 (record { start = 6; end = s.0 }) n.0) r k.2) ∙ ap (λ (end : ℕ). request.SetEvent k.0 p.0 (record { start = 6; end = end }) n.0) (sym all.1 ∙ whole))
+    event_is a b n.0 m.0 s.0 rest k.0 p.0 r fits (leb-true 6 (length bytes) l.0) p.1 (leb-true (int_at 0 rest) 64 few.0) few.1 m.1 all.0 all.1 k.1 k.2
 
 found : (l : Layout) (bytes : List ℕ) (r : Request) → IsBytes bytes → read_as l bytes ≡ Ok r → Spells l bytes r
 found (no_fields s) bytes r fits e =

@@ -1,5 +1,5 @@
 -- Composite events.
-use Rattle.std.specs.Prelude.{ℕ, List, [], ◌∷◌, ◌++◌}
+use Rattle.std.specs.Prelude.{ℕ, ◌<◌, ◌^◌, length, List, [], ◌∷◌, ◌++◌}
 use Rattle.ti_jdwp.specs.declared.event_text.EventRow.{EventRow}
 use Rattle.ti_jdwp.specs.declared.event_text.Occurrence.{Occurrence}
 use Rattle.ti_jdwp.specs.declared.event_text.Occurrence.TheVariants as occurrence
@@ -28,6 +28,14 @@ occurrence_fields (occurrence.ThreadDeath thread) = long (id_from first_thread t
 occurrence_fields (occurrence.ClassPrepare thread class signature) = prepared_fields thread class signature.now
 occurrence_fields (occurrence.ClassUnload signature) = text signature.now
 occurrence_fields occurrence.VmDeath = []
+
+-- its signature, if it has one, has fewer than 2 ^ 31 bytes
+abbrev pub HasShortText : Occurrence → Type 0
+HasShortText (occurrence.ThreadStart thread) = Unit {0}
+HasShortText (occurrence.ThreadDeath thread) = Unit {0}
+HasShortText (occurrence.ClassPrepare thread class signature) = length signature.now < 2 ^ 31
+HasShortText (occurrence.ClassUnload signature) = length signature.now < 2 ^ 31
+HasShortText occurrence.VmDeath = Unit {0}
 
 -- the kind, the event request, and what the kind has
 abbrev pub event_row : EventRow → List ℕ

@@ -66,6 +66,7 @@ pub fn collected_body(alloc: Global, collected: bool) -> Result<Vec<u8>, JdwpErr
 /// A text: the name of a thread or a thread group, a signature or a source file.
 pub fn text_body(alloc: Global, content: &[u8]) -> Result<Vec<u8>, JdwpError>
     ensures ok { IfOk result (λ v. v.items ≡ text content.now) }
+    ensures fits { IfOk result (λ _. length content.now < 2 ^ 31) }
     ensures memory { IfErr result (λ e. e ≡ OutOfMemory) }
 {
     let mut out = Vec::new(alloc);
@@ -76,6 +77,7 @@ pub fn text_body(alloc: Global, content: &[u8]) -> Result<Vec<u8>, JdwpError>
 /// A signature, and the empty text for the generic one (2/13).
 pub fn generic_signature_body(alloc: Global, signature: &[u8]) -> Result<Vec<u8>, JdwpError>
     ensures ok { IfOk result (λ v. v.items ≡ text signature.now ++ text []) }
+    ensures fits { IfOk result (λ _. length signature.now < 2 ^ 31) }
     ensures memory { IfErr result (λ e. e ≡ OutOfMemory) }
 {
     let mut out = Vec::new(alloc);
@@ -106,6 +108,7 @@ pub fn version_body(
     name: &[u8],
 ) -> Result<Vec<u8>, JdwpError>
     ensures ok { IfOk result (λ v. v.items ≡ text description.now ++ int 1 ++ int 8 ++ text version.now ++ text name.now) }
+    ensures fits { IfOk result (λ _. (length description.now < 2 ^ 31) × (length version.now < 2 ^ 31) × (length name.now < 2 ^ 31)) }
     ensures memory { IfErr result (λ e. e ≡ OutOfMemory) }
 {
     let mut out = Vec::new(alloc);
@@ -120,6 +123,7 @@ pub fn version_body(
 /// The class path (1/13): the base directory, one entry, and no boot class path.
 pub fn class_paths_body(alloc: Global, base: &[u8], path: &[u8]) -> Result<Vec<u8>, JdwpError>
     ensures ok { IfOk result (λ v. v.items ≡ text base.now ++ int 1 ++ text path.now ++ int 0) }
+    ensures fits { IfOk result (λ _. (length base.now < 2 ^ 31) × (length path.now < 2 ^ 31)) }
     ensures memory { IfErr result (λ e. e ≡ OutOfMemory) }
 {
     let mut out = Vec::new(alloc);
@@ -173,7 +177,7 @@ pub fn groups_body(alloc: Global) -> Result<Vec<u8>, JdwpError>
     Ok(out)
 }
 
-ghost use Rattle.std.specs.Prelude.{◌≡◌, ◌∷◌, [], ◌++◌, IfOk, IfErr, replicate};
+ghost use Rattle.std.specs.Prelude.{◌≡◌, ◌<◌, ◌^◌, length, ◌∷◌, [], ◌++◌, IfOk, IfErr, replicate};
 ghost use Rattle.ti_jdwp.specs.Fields.{int, long, text};
 ghost use Rattle.ti_jdwp.specs.Ids.{thread_group};
 ghost use Rattle.ti_jdwp.specs.Bodies.{signed, flag};

@@ -47,6 +47,7 @@ pub fn composite_body(
     events: &[EventRow<'_>],
 ) -> Result<Vec<u8>, JdwpError>
     ensures ok { IfOk result (λ v. v.items ≡ composite policy events.now) }
+    ensures fits { IfOk result (λ _. (length events.now < 2 ^ 31) × All (λ r. HasShortText r.occurrence) events.now) }
     ensures memory { IfErr result (λ e. e ≡ OutOfMemory) }
 {
     let mut out = Vec::new(alloc);
@@ -60,6 +61,7 @@ pub fn composite_body(
 
 fn put_event(out: &mut Vec<u8>, row: EventRow<'_>) -> Result<(), JdwpError>
     ensures ok { OnOk result (out.new.items ≡ out.old.items ++ event_row row.entry) }
+    ensures fits { OnOk result (HasShortText row.entry.occurrence) }
     ensures memory { IfErr result (λ e. e ≡ OutOfMemory) }
 {
     put_byte(out, kind(row.occurrence).number())?;
@@ -82,6 +84,7 @@ fn kind(occurrence: Occurrence<'_>) -> EventKind
 
 fn put_occurrence(out: &mut Vec<u8>, occurrence: Occurrence<'_>) -> Result<(), JdwpError>
     ensures ok { OnOk result (out.new.items ≡ out.old.items ++ occurrence_fields occurrence.entry) }
+    ensures fits { OnOk result (HasShortText occurrence.entry) }
     ensures memory { IfErr result (λ e. e ≡ OutOfMemory) }
 {
     match occurrence {
@@ -105,6 +108,7 @@ fn put_prepared(
     signature: &[u8],
 ) -> Result<(), JdwpError>
     ensures ok { OnOk result (out.new.items ≡ out.old.items ++ prepared_fields thread class signature.now) }
+    ensures fits { OnOk result (length signature.now < 2 ^ 31) }
     ensures memory { IfErr result (λ e. e ≡ OutOfMemory) }
 {
     put_long(out, thread_id(thread))?;
@@ -115,6 +119,6 @@ fn put_prepared(
     Ok(())
 }
 
-ghost use Rattle.std.specs.Prelude.{◌≡◌, ◌++◌, OnOk, IfOk, IfErr};
-ghost use Rattle.ti_jdwp.specs.Composites.{kind_of_occurrence, occurrence_fields, prepared_fields, event_row, composite};
+ghost use Rattle.std.specs.Prelude.{◌≡◌, ◌<◌, ◌^◌, length, All, ◌++◌, OnOk, IfOk, IfErr};
+ghost use Rattle.ti_jdwp.specs.Composites.{HasShortText, kind_of_occurrence, occurrence_fields, prepared_fields, event_row, composite};
 ghost use Rattle.ti_jdwp.specs.declared.error.JdwpError.TheVariants.{OutOfMemory};

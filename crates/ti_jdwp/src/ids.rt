@@ -1,14 +1,14 @@
 //! Ids on the wire, and what they stand for.
 //!
-//! | Ids | Of |
+//! | Id | What it names |
 //! |---|---|
-//! | 1 to 2^32 | threads: a thread's number and 1 |
+//! | a thread's number + 1, so 1 to 2^32 | the thread |
 //! | 2^33 | the thread group |
-//! | from 2 · 2^33 on | classes: with the class's number added |
-//! | from 3 · 2^33 on | methods: with the method's number added |
+//! | 2 · 2^33 + a class's number | the class |
+//! | 3 · 2^33 + a method's number | the method |
 //! | 4 · 2^33 | the class of all thread objects |
 //!
-//! A frame's id is of another kind: it stands only beside its thread's.
+//! Frames have ids of a kind of their own: a frame's id is read only beside the id of its thread.
 
 use crate::error::JdwpError;
 
@@ -51,7 +51,7 @@ const FIRST_CLASS: u64 = 2 << 33;
 
 const FIRST_METHOD: u64 = 3 << 33;
 
-/// The number of an id in a range that begins at `first`.
+/// The number with this id, if the range of 2^32 ids that begins at `first` has it.
 fn number_from(first: u64, id: u64) -> Option<u32>
     ensures { result ≡ number_from first id }
 {

@@ -54,6 +54,7 @@ pub struct FrameRow {
 
 fn put_threads(out: &mut Vec<u8>, threads: &[u32]) -> Result<(), JdwpError>
     ensures ok { OnOk result (out.new.items ≡ out.old.items ++ thread_list threads.now) }
+    ensures fits { OnOk result (length threads.now < 2 ^ 31) }
     ensures memory { IfErr result (λ e. e ≡ OutOfMemory) }
 {
     put_count(out, threads.len())?;
@@ -66,6 +67,7 @@ fn put_threads(out: &mut Vec<u8>, threads: &[u32]) -> Result<(), JdwpError>
 /// Threads by their numbers (1/4).
 pub fn threads_body(alloc: Global, threads: &[u32]) -> Result<Vec<u8>, JdwpError>
     ensures ok { IfOk result (λ v. v.items ≡ thread_list threads.now) }
+    ensures fits { IfOk result (λ _. length threads.now < 2 ^ 31) }
     ensures memory { IfErr result (λ e. e ≡ OutOfMemory) }
 {
     let mut out = Vec::new(alloc);
@@ -76,6 +78,7 @@ pub fn threads_body(alloc: Global, threads: &[u32]) -> Result<Vec<u8>, JdwpError
 /// The threads of the group by their numbers, and no groups in it (12/3).
 pub fn group_children_body(alloc: Global, threads: &[u32]) -> Result<Vec<u8>, JdwpError>
     ensures ok { IfOk result (λ v. v.items ≡ thread_list threads.now ++ int 0) }
+    ensures fits { IfOk result (λ _. length threads.now < 2 ^ 31) }
     ensures memory { IfErr result (λ e. e ≡ OutOfMemory) }
 {
     let mut out = Vec::new(alloc);
@@ -86,6 +89,7 @@ pub fn group_children_body(alloc: Global, threads: &[u32]) -> Result<Vec<u8>, Jd
 
 fn put_class(out: &mut Vec<u8>, row: ClassRow<'_>) -> Result<(), JdwpError>
     ensures ok { OnOk result (out.new.items ≡ out.old.items ++ class_row row.entry) }
+    ensures fits { OnOk result (length row.entry.signature.now < 2 ^ 31) }
     ensures memory { IfErr result (λ e. e ≡ OutOfMemory) }
 {
     put_byte(out, CLASS_TAG)?;
@@ -99,6 +103,7 @@ fn put_class(out: &mut Vec<u8>, row: ClassRow<'_>) -> Result<(), JdwpError>
 /// Classes with their signatures, and the empty text for each generic one (1/20).
 pub fn classes_body(alloc: Global, classes: &[ClassRow<'_>]) -> Result<Vec<u8>, JdwpError>
     ensures ok { IfOk result (λ v. v.items ≡ class_list classes.now) }
+    ensures fits { IfOk result (λ _. (length classes.now < 2 ^ 31) × All (λ r. length r.signature.now < 2 ^ 31) classes.now) }
     ensures memory { IfErr result (λ e. e ≡ OutOfMemory) }
 {
     let mut out = Vec::new(alloc);
@@ -122,6 +127,7 @@ fn put_found_class(out: &mut Vec<u8>, class: u32) -> Result<(), JdwpError>
 /// Classes by their numbers, which have the signature that was asked for (1/2).
 pub fn classes_found_body(alloc: Global, classes: &[u32]) -> Result<Vec<u8>, JdwpError>
     ensures ok { IfOk result (λ v. v.items ≡ found_list classes.now) }
+    ensures fits { IfOk result (λ _. length classes.now < 2 ^ 31) }
     ensures memory { IfErr result (λ e. e ≡ OutOfMemory) }
 {
     let mut out = Vec::new(alloc);
@@ -140,6 +146,7 @@ fn method_flags(native: bool) -> u32
 
 fn put_method(out: &mut Vec<u8>, row: MethodRow<'_>) -> Result<(), JdwpError>
     ensures ok { OnOk result (out.new.items ≡ out.old.items ++ method_row row.entry) }
+    ensures fits { OnOk result ((length row.entry.name.now < 2 ^ 31) × (length row.entry.signature.now < 2 ^ 31)) }
     ensures memory { IfErr result (λ e. e ≡ OutOfMemory) }
 {
     put_long(out, method_id(row.method))?;
@@ -153,6 +160,7 @@ fn put_method(out: &mut Vec<u8>, row: MethodRow<'_>) -> Result<(), JdwpError>
 /// The methods of a class, with the empty text for each generic signature (2/15). All are public and static.
 pub fn methods_body(alloc: Global, methods: &[MethodRow<'_>]) -> Result<Vec<u8>, JdwpError>
     ensures ok { IfOk result (λ v. v.items ≡ method_list methods.now) }
+    ensures fits { IfOk result (λ _. (length methods.now < 2 ^ 31) × All (λ r. (length r.name.now < 2 ^ 31) × (length r.signature.now < 2 ^ 31)) methods.now) }
     ensures memory { IfErr result (λ e. e ≡ OutOfMemory) }
 {
     let mut out = Vec::new(alloc);
@@ -180,6 +188,7 @@ pub fn line_table_body(
     lines: &[LineRow],
 ) -> Result<Vec<u8>, JdwpError>
     ensures ok { IfOk result (λ v. v.items ≡ long start ++ long end ++ line_list lines.now) }
+    ensures fits { IfOk result (λ _. length lines.now < 2 ^ 31) }
     ensures memory { IfErr result (λ e. e ≡ OutOfMemory) }
 {
     let mut out = Vec::new(alloc);
@@ -191,6 +200,7 @@ pub fn line_table_body(
 
 fn put_lines(out: &mut Vec<u8>, lines: &[LineRow]) -> Result<(), JdwpError>
     ensures ok { OnOk result (out.new.items ≡ out.old.items ++ line_list lines.now) }
+    ensures fits { OnOk result (length lines.now < 2 ^ 31) }
     ensures memory { IfErr result (λ e. e ≡ OutOfMemory) }
 {
     put_count(out, lines.len())?;
@@ -204,6 +214,7 @@ fn put_lines(out: &mut Vec<u8>, lines: &[LineRow]) -> Result<(), JdwpError>
 /// location from 0 to 2^32 - 1 is in the range of the table.
 pub fn identity_lines_body(alloc: Global, lines: &[u32]) -> Result<Vec<u8>, JdwpError>
     ensures ok { IfOk result (λ v. v.items ≡ long 0 ++ long 4294967295 ++ identity_list lines.now) }
+    ensures fits { IfOk result (λ _. length lines.now < 2 ^ 31) }
     ensures memory { IfErr result (λ e. e ≡ OutOfMemory) }
 {
     let mut out = Vec::new(alloc);
@@ -215,6 +226,7 @@ pub fn identity_lines_body(alloc: Global, lines: &[u32]) -> Result<Vec<u8>, Jdwp
 
 fn put_identity(out: &mut Vec<u8>, lines: &[u32]) -> Result<(), JdwpError>
     ensures ok { OnOk result (out.new.items ≡ out.old.items ++ identity_list lines.now) }
+    ensures fits { OnOk result (length lines.now < 2 ^ 31) }
     ensures memory { IfErr result (λ e. e ≡ OutOfMemory) }
 {
     put_count(out, lines.len())?;
@@ -248,6 +260,7 @@ fn put_frame(out: &mut Vec<u8>, thread: u32, row: FrameRow) -> Result<(), JdwpEr
 /// Frames of a thread (11/6).
 pub fn frames_body(alloc: Global, thread: u32, frames: &[FrameRow]) -> Result<Vec<u8>, JdwpError>
     ensures ok { IfOk result (λ v. v.items ≡ frame_list thread frames.now) }
+    ensures fits { IfOk result (λ _. length frames.now < 2 ^ 31) }
     ensures memory { IfErr result (λ e. e ≡ OutOfMemory) }
 {
     let mut out = Vec::new(alloc);
@@ -258,7 +271,7 @@ pub fn frames_body(alloc: Global, thread: u32, frames: &[FrameRow]) -> Result<Ve
     Ok(out)
 }
 
-ghost use Rattle.std.specs.Prelude.{◌≡◌, ◌++◌, OnOk, IfOk, IfErr};
+ghost use Rattle.std.specs.Prelude.{◌≡◌, ◌<◌, ◌^◌, length, All, ◌++◌, OnOk, IfOk, IfErr};
 ghost use Rattle.ti_jdwp.specs.Fields.{int, long};
 ghost use Rattle.ti_jdwp.specs.Bodies.{thread_list, class_row, class_list, found_class, found_list, method_flags, method_row, method_list, line_row, line_list, identity_line, identity_list, frame_row, frame_list};
 ghost use Rattle.ti_jdwp.specs.declared.error.JdwpError.TheVariants.{OutOfMemory};

@@ -10,7 +10,7 @@ pub const MAX_MODIFIERS: u32 = 64;
 /// Which events a request is for, as far as one modifier says. Ranges are those of patterns, within the data of the request.
 #[derive(Clone, Copy, Debug, PartialEq, Eq)]
 pub enum Modifier {
-    /// 1: the first event after this many less one, 1 to 2^31 - 1, and no further one.
+    /// 1: the event with this number of those that the other modifiers let through, and none after it. 1 to 2^31 - 1.
     Count(i32),
     /// 3: events at the thread with this id.
     ThreadOnly(u64),

@@ -22,6 +22,7 @@ pub fn read_request(set: u8, command: u8, bytes: &[u8]) -> Result<Request, JdwpE
     ensures found { IfOk result (λ r. IsRequest set command bytes.now r) }
     // What the bytes spell is read.
     ensures only { (r : Request) → IsRequest set command bytes.now r → result ≡ Ok r }
+    ensures not_served { layout_of set command ≡ None → result ≡ Err NotImplemented }
     // Which error it is.
     ensures exact { result ≡ request_in set command bytes.now }
 {
@@ -260,7 +261,8 @@ fn clear_event(bytes: &[u8]) -> Result<Request, JdwpError>
 }
 
 ghost use Rattle.std.specs.Prelude.{◌≡◌, IfOk};
+ghost use Rattle.ti_jdwp.specs.declared.error.JdwpError.TheVariants.{NotImplemented};
 ghost use Rattle.ti_jdwp.specs.Spelled.{IsRequest};
 ghost use Rattle.ti_jdwp.specs.declared.request.Request.{Request};
 ghost use Rattle.ti_jdwp.specs.Requests.{id_in, read_as, request_in};
-ghost use Rattle.ti_jdwp.specs.Commands.{no_fields, of_signature, of_objects, of_method, of_frames, of_event, of_clear};
+ghost use Rattle.ti_jdwp.specs.Commands.{layout_of, no_fields, of_signature, of_objects, of_method, of_frames, of_event, of_clear};

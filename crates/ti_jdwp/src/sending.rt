@@ -24,7 +24,8 @@ pub fn reply(out: &mut Vec<u8>, id: u32, answer: Result<&[u8], JdwpError>) -> Re
     }
 }
 
-/// Writes a composite event with these bytes as its body, which goes to the debugger without a request. Its id is any one.
+/// Writes a composite event with these bytes as its body. It goes to the debugger without a request. The id may be any number,
+/// since no reply comes.
 ///
 /// Fails with 110 OUT_OF_MEMORY as [`reply`] does.
 pub fn send_event(out: &mut Vec<u8>, id: u32, body: &[u8]) -> Result<(), JdwpError>
