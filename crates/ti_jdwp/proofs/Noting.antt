@@ -1,0 +1,34 @@
+-- An event that takes place changes what is kept of events alone.
+use Rattle.std.proofs.Common.{◌≡◌, Bool, true, false, List, [], ◌∷◌, filter, refl, sym, subst, inl, inr}
+use Rattle.ti_jdwp.specs.declared.event.Event.{Event}
+use Rattle.ti_jdwp.specs.declared.event_text.Occurrence.{Occurrence}
+use Rattle.ti_jdwp.specs.InForce.{Asked, is_told, all_after}
+use Rattle.ti_jdwp.specs.Queues.{Queue, with_loss}
+use Rattle.ti_jdwp.specs.Notes.{is_over, queue_with, noted, NotesIn, Notes}
+use Rattle.ti_jdwp.specs.Talks.{Talk}
+
+pub record Keeps (old new : Talk) : Type 0 where
+  pub bytes : new.bytes ≡ old.bytes
+  pub first : new.first ≡ old.first
+  pub phase : new.phase ≡ old.phase
+  pub holds : new.holds ≡ old.holds
+  pub notice : new.notice ≡ old.notice
+  pub stopped : new.queue.stopped ≡ old.queue.stopped
+
+same_stop : (e : Event) (o : Occurrence) (rs : List Asked) (q : Queue) → (queue_with e o rs q).stopped ≡ q.stopped
+same_stop e o [] q = refl
+same_stop e o (r ∷ rs) q = refl
+
+as_said : (old new target : Talk) → new ≡ target → Keeps old target → Keeps old new
+as_said old new target is h = subst (λ t. Keeps old t) (sym is) h
+
+keeps_in : (b result : Bool) (e : Event) (o : Occurrence) (old new : Talk) → NotesIn b e o old result new → Keeps old new
+keeps_in true result e o old new h = as_said old new old h.1 (record { bytes = refl; first = refl; phase = refl; holds = refl; notice = refl; stopped = refl })
+keeps_in false true e o old new h = as_said old new (noted e o old) h (record { bytes = refl; first = refl; phase = refl; holds = refl; notice = refl; stopped = same_stop e o (filter (is_told e) old.requests.list) old.queue })
+keeps_in false false e o old new h = elim h [
+  | inl a ↦ as_said old new (record old { queue = with_loss old.queue }) a (record { bytes = refl; first = refl; phase = refl; holds = refl; notice = refl; stopped = refl })
+  | inr a ↦ as_said old new (record old { requests = all_after e old.requests; queue = with_loss old.queue }) a (record { bytes = refl; first = refl; phase = refl; holds = refl; notice = refl; stopped = refl })
+]
+
+pub keeps : (e : Event) (o : Occurrence) (result : Bool) (old new : Talk) → Notes e o old result new → Keeps old new
+keeps e o result old new h = keeps_in (is_over old.phase) result e o old new h

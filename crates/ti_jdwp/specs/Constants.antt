@@ -1,0 +1,31 @@
+-- The bodies of replies that are always the same.
+use Rattle.std.specs.Prelude.{ℕ, List, [], ◌∷◌, ◌++◌, replicate}
+use Rattle.ti_jdwp.specs.declared.plan.Constant.{Constant}
+use Rattle.ti_jdwp.specs.declared.plan.Constant.TheVariants as constant
+use Rattle.ti_jdwp.specs.Fields.{int, long, text}
+use Rattle.ti_jdwp.specs.Ids.{thread_group, thread_class}
+
+-- "main"
+abbrev pub group_name : List ℕ
+group_name = 109 ∷ 97 ∷ 105 ∷ 110 ∷ []
+
+-- "Ljava/lang/Thread;"
+abbrev pub thread_signature : List ℕ
+thread_signature = 76 ∷ 106 ∷ 97 ∷ 118 ∷ 97 ∷ 47 ∷ 108 ∷ 97 ∷ 110 ∷ 103 ∷ 47 ∷ 84 ∷ 104 ∷ 114 ∷ 101 ∷ 97 ∷ 100 ∷ 59 ∷ []
+
+abbrev pub constant_bytes : Constant → List ℕ
+constant_bytes constant.Empty = []
+constant_bytes constant.IdSizes = int 8 ++ int 8 ++ int 8 ++ int 8 ++ int 8
+constant_bytes constant.Capabilities = replicate 7 0
+constant_bytes constant.NewCapabilities = replicate 10 0 ++ 0 ∷ replicate 21 0
+constant_bytes constant.Groups = int 1 ++ long thread_group
+constant_bytes constant.GroupName = text group_name
+constant_bytes constant.GroupId = long thread_group
+constant_bytes constant.NoId = long 0
+constant_bytes constant.NoItems = int 0
+constant_bytes constant.False = 0 ∷ []
+constant_bytes constant.Public = int 1
+constant_bytes constant.Initialized = int 7
+constant_bytes constant.ThreadClass = 1 ∷ long thread_class
+constant_bytes constant.ThreadSignature = text thread_signature
+constant_bytes constant.ThreadGenericSignature = text thread_signature ++ text []

@@ -1,0 +1,45 @@
+//! The bodies of replies that are always the same.
+
+use crate::bodies::{
+    capabilities_body, class_of_object_body, collected_body, empty_list_body,
+    generic_signature_body, groups_body, id_body, id_sizes_body, int_body, new_capabilities_body,
+    text_body,
+};
+use crate::error::JdwpError;
+use crate::ids::{THREAD_CLASS, THREAD_GROUP};
+use crate::plan::Constant;
+use std::alloc::Global;
+
+/// The name of the one thread group.
+const GROUP_NAME: &[u8] = b"main";
+
+/// The signature of the class of all thread objects.
+const THREAD_SIGNATURE: &[u8] = b"Ljava/lang/Thread;";
+
+/// The bytes of a body. 110 OUT_OF_MEMORY if there is no memory for them.
+pub(crate) fn constant_body(alloc: Global, constant: Constant) -> Result<Vec<u8>, JdwpError>
+    ensures ok { IfOk result (λ v. v.items ≡ constant_bytes constant) }
+    ensures memory { IfErr result (λ e. e ≡ OutOfMemory) }
+{
+    match constant {
+        Constant::Empty => Ok(Vec::new(alloc)),
+        Constant::IdSizes => id_sizes_body(alloc),
+        Constant::Capabilities => capabilities_body(alloc),
+        Constant::NewCapabilities => new_capabilities_body(alloc, false),
+        Constant::Groups => groups_body(alloc),
+        Constant::GroupName => text_body(alloc, GROUP_NAME),
+        Constant::GroupId => id_body(alloc, THREAD_GROUP),
+        Constant::NoId => id_body(alloc, 0),
+        Constant::NoItems => empty_list_body(alloc),
+        Constant::False => collected_body(alloc, false),
+        Constant::Public => int_body(alloc, 1),
+        Constant::Initialized => int_body(alloc, 7),
+        Constant::ThreadClass => class_of_object_body(alloc, THREAD_CLASS),
+        Constant::ThreadSignature => text_body(alloc, THREAD_SIGNATURE),
+        Constant::ThreadGenericSignature => generic_signature_body(alloc, THREAD_SIGNATURE),
+    }
+}
+
+ghost use Rattle.std.specs.Prelude.{◌≡◌, IfOk, IfErr};
+ghost use Rattle.ti_jdwp.specs.Constants.{constant_bytes};
+ghost use Rattle.ti_jdwp.specs.declared.error.JdwpError.TheVariants.{OutOfMemory};

@@ -1,0 +1,108 @@
+//! The errors that a reply can have.
+
+use std::alloc::AllocError;
+use std::error::Error;
+use std::fmt;
+
+/// Why a request is refused: an error of JDWP (Java 8).
+#[derive(Clone, Copy, Debug, PartialEq, Eq)]
+pub enum JdwpError {
+    /// 10 INVALID_THREAD: the id is no thread's.
+    InvalidThread,
+    /// 11 INVALID_THREAD_GROUP: the id is no thread group's.
+    InvalidThreadGroup,
+    /// 13 THREAD_NOT_SUSPENDED: the thread is not suspended, or has not reached a safe point yet.
+    ThreadNotSuspended,
+    /// 20 INVALID_OBJECT: the id is no object's.
+    InvalidObject,
+    /// 21 INVALID_CLASS: the id is no class's.
+    InvalidClass,
+    /// 23 INVALID_METHODID: the id is no method's.
+    InvalidMethodId,
+    /// 30 INVALID_FRAMEID: the id is no frame's.
+    InvalidFrameId,
+    /// 99 NOT_IMPLEMENTED: the command or the kind of event is not served.
+    NotImplemented,
+    /// 101 ABSENT_INFORMATION: the class has no source file, or the method no lines.
+    AbsentInformation,
+    /// 102 INVALID_EVENT_TYPE: there is no such kind of event.
+    InvalidEventType,
+    /// 103 ILLEGAL_ARGUMENT: the data of the request is not laid out as its command says.
+    IllegalArgument,
+    /// 110 OUT_OF_MEMORY: there is no memory, or a bound leaves no room.
+    OutOfMemory,
+    /// 112 VM_DEAD: the session has ended.
+    VmDead,
+    /// 503 INVALID_INDEX: a stack has no frame at the start.
+    InvalidIndex,
+    /// 504 INVALID_LENGTH: a stack has fewer frames than were asked for.
+    InvalidLength,
+    /// 511 NATIVE_METHOD: a native method has no lines.
+    NativeMethod,
+}
+
+impl JdwpError {
+    /// The number of the error in a reply.
+    pub fn number(self) -> u16
+        ensures { result ≡ number_of self }
+    {
+        match self {
+            JdwpError::InvalidThread => 10,
+            JdwpError::InvalidThreadGroup => 11,
+            JdwpError::ThreadNotSuspended => 13,
+            JdwpError::InvalidObject => 20,
+            JdwpError::InvalidClass => 21,
+            JdwpError::InvalidMethodId => 23,
+            JdwpError::InvalidFrameId => 30,
+            JdwpError::NotImplemented => 99,
+            JdwpError::AbsentInformation => 101,
+            JdwpError::InvalidEventType => 102,
+            JdwpError::IllegalArgument => 103,
+            JdwpError::OutOfMemory => 110,
+            JdwpError::VmDead => 112,
+            JdwpError::InvalidIndex => 503,
+            JdwpError::InvalidLength => 504,
+            JdwpError::NativeMethod => 511,
+        }
+    }
+}
+
+impl fmt::Display for JdwpError {
+    fn fmt<W: fmt::Write>(&self, f: &mut fmt::Formatter<W>) -> fmt::Result {
+        f.write_str(match self {
+            JdwpError::InvalidThread => "the id is no thread's",
+            JdwpError::InvalidThreadGroup => "the id is no thread group's",
+            JdwpError::ThreadNotSuspended => "the thread is not suspended",
+            JdwpError::InvalidObject => "the id is no object's",
+            JdwpError::InvalidClass => "the id is no class's",
+            JdwpError::InvalidMethodId => "the id is no method's",
+            JdwpError::InvalidFrameId => "the id is no frame's",
+            JdwpError::NotImplemented => "not implemented",
+            JdwpError::AbsentInformation => "absent information",
+            JdwpError::InvalidEventType => "no such kind of event",
+            JdwpError::IllegalArgument => "illegal argument",
+            JdwpError::OutOfMemory => "out of memory",
+            JdwpError::VmDead => "the session has ended",
+            JdwpError::InvalidIndex => "no frame at the start",
+            JdwpError::InvalidLength => "fewer frames than asked for",
+            JdwpError::NativeMethod => "a native method has no lines",
+        })
+    }
+}
+
+impl Error for JdwpError {}
+
+impl From<AllocError> for JdwpError {
+    ghost use Rattle.std.specs.Prelude.{◌≡◌};
+    ghost use Rattle.ti_jdwp.specs.declared.error.JdwpError.TheVariants.{OutOfMemory};
+
+    ghost from_gives = { λ _ e. e ≡ OutOfMemory };
+
+    /// Lack of memory is OUT_OF_MEMORY, 110.
+    fn from(_: AllocError) -> Self {
+        JdwpError::OutOfMemory
+    }
+}
+
+ghost use Rattle.std.specs.Prelude.{◌≡◌};
+ghost use Rattle.ti_jdwp.specs.Errors.{number_of};

@@ -1,0 +1,147 @@
+//! What takes place at the service, and a debugger can ask to be told.
+
+use crate::error::JdwpError;
+use crate::request::EventKind;
+use crate::text::Text;
+use std::alloc::Global;
+
+/// What took place.
+#[derive(Drop)]
+pub(crate) enum Event {
+    /// The thread with this number began.
+    ThreadStart(u32),
+    /// The thread with this number ended.
+    ThreadDeath(u32),
+    /// A class became known, at this thread.
+    ClassPrepare {
+        thread: u32,
+        class: u32,
+        signature: Text,
+    },
+}
+
+impl Event {
+    /// A class became known. 110 OUT_OF_MEMORY if there is no memory for its signature.
+    pub(crate) fn class_prepare(
+        alloc: Global,
+        thread: u32,
+        class: u32,
+        signature: &[u8],
+    ) -> Result<Event, JdwpError>
+        ensures ok { IfOk result (λ e. e ≡ ClassPrepare thread class signature.now) }
+        ensures memory { IfErr result (λ e. e ≡ OutOfMemory) }
+    {
+        let bytes = Vec::from_slice(alloc, signature)?;
+        Ok(Event::ClassPrepare {
+            thread,
+            class,
+            signature: Text::new(bytes),
+        })
+    }
+
+    /// The kind of event that a debugger asks for.
+    pub(crate) fn kind(&self) -> EventKind
+        ensures { result ≡ event_kind self.now }
+    {
+        match self {
+            Event::ThreadStart(_) => EventKind::ThreadStart,
+            Event::ThreadDeath(_) => EventKind::ThreadDeath,
+            Event::ClassPrepare { .. } => EventKind::ClassPrepare,
+        }
+    }
+
+    /// The thread at which it took place.
+    pub(crate) fn thread(&self) -> u32
+        ensures { result ≡ event_thread self.now }
+    {
+        match self {
+            Event::ThreadStart(thread) => *thread,
+            Event::ThreadDeath(thread) => *thread,
+            Event::ClassPrepare { thread, .. } => *thread,
+        }
+    }
+
+    /// Whether it is an event of this class.
+    fn is_of(&self, class: u32) -> bool
+        ensures { result ≡ is_event_of self.now class }
+    {
+        match self {
+            Event::ClassPrepare { class: own, .. } => *own == class,
+            _ => false,
+        }
+    }
+
+    /// The name of the class with `/` between its parts: the signature without its first byte, `L`, and its last, `;`. An event
+    /// of a thread has an empty name.
+    fn name(&self) -> &[u8]
+        ensures { result.now ≡ event_name self.now }
+    {
+        match self {
+            Event::ClassPrepare { signature, .. } => inner(signature.as_slice()),
+            _ => &[],
+        }
+    }
+}
+
+/// The bytes without the first and the last.
+fn inner(bytes: &[u8]) -> &[u8]
+    ensures { result.now ≡ drop 1 (take (length bytes.now - 1) bytes.now) }
+{
+    if bytes.len() < 2 {
+        return &[];
+    }
+    &bytes[1..bytes.len() - 1]
+}
+
+/// What an event has to meet beside its kind. Patterns have `/` between the parts of a name, and may begin or end with `*`.
+#[derive(Drop)]
+pub(crate) enum Filter {
+    /// It takes place at this thread.
+    Thread(u32),
+    /// It is an event of this class.
+    Class(u32),
+    /// The name of its class matches the pattern.
+    Matches(Text),
+    /// The name of its class does not match the pattern.
+    Excludes(Text),
+}
+
+/// Whether a name matches a pattern: a `*` at its beginning or, if there is none, at its end stands for any bytes.
+fn is_match(pattern: &[u8], name: &[u8]) -> bool
+    ensures { result ≡ is_match pattern.now name.now }
+{
+    if pattern.starts_with(b"*") {
+        name.ends_with(&pattern[1..])
+    } else if pattern.ends_with(b"*") {
+        name.starts_with(&pattern[..pattern.len() - 1])
+    } else {
+        name == pattern
+    }
+}
+
+impl Filter {
+    /// Whether the event meets it.
+    pub(crate) fn passes(&self, event: &Event) -> bool
+        ensures { result ≡ passes event.now self.now }
+    {
+        match self {
+            Filter::Thread(thread) => event.thread() == *thread,
+            Filter::Class(class) => event.is_of(*class),
+            Filter::Matches(pattern) => is_match(pattern.as_slice(), event.name()),
+            Filter::Excludes(pattern) => !is_match(pattern.as_slice(), event.name()),
+        }
+    }
+}
+
+/// Whether the event meets all of them.
+pub(crate) fn all_pass(filters: &[Filter], event: &Event) -> bool
+    ensures { result ≡ list_all (passes event.now) filters.now }
+{
+    filters.iter().all(|filter| filter.passes(event))
+}
+
+ghost use Rattle.std.specs.Prelude.{◌≡◌, ◌-◌, length, take, drop, IfOk, IfErr};
+ghost use Rattle.std.specs.List.{list_all};
+ghost use Rattle.ti_jdwp.specs.Filters.{event_kind, event_thread, is_event_of, event_name, is_match, passes};
+ghost use Rattle.ti_jdwp.specs.declared.error.JdwpError.TheVariants.{OutOfMemory};
+ghost use Rattle.ti_jdwp.specs.declared.event.Event.TheVariants.{ClassPrepare};

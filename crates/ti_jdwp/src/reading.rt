@@ -1,0 +1,268 @@
+//! Requests, read from the data of a packet.
+
+use crate::error::JdwpError;
+use crate::fields::{int, long};
+use crate::modifiers::{MAX_MODIFIERS, end_of_modifiers, text_len};
+use crate::request::{EventKind, Policy, Range, Request};
+
+/// Bytes that each object of 1/14 takes: its id, and a count of references.
+const DISPOSED_LEN: usize = 12;
+
+/// Reads the data of a request with this command set and command. The data is all of the packet behind its head.
+///
+/// Fails with 99 NOT_IMPLEMENTED if the command is not served, whatever the data. Fails with 103 ILLEGAL_ARGUMENT if the data
+/// is not laid out as the command says, or bytes are left. So do an event request with a policy above 2, one with more than
+/// 64 modifiers or a negative number of them, and one with a modifier that cannot be read ([`read_modifier`]). An event request
+/// whose data is well laid out fails with 99 for a kind of event that is not served, and with 102 INVALID_EVENT_TYPE for a
+/// number that no kind has.
+///
+/// [`read_modifier`]: crate::read_modifier
+pub fn read_request(set: u8, command: u8, bytes: &[u8]) -> Result<Request, JdwpError>
+    // What is read is what the bytes spell.
+    ensures found { IfOk result (λ r. IsRequest set command bytes.now r) }
+    // What the bytes spell is read.
+    ensures only { (r : Request) → IsRequest set command bytes.now r → result ≡ Ok r }
+    ensures not_served { layout_of set command ≡ None → result ≡ Err NotImplemented }
+    // Which error it is.
+    ensures exact { result ≡ request_in set command bytes.now }
+{
+    request_of(set, command, bytes)
+}
+
+fn request_of(set: u8, command: u8, bytes: &[u8]) -> Result<Request, JdwpError>
+    ensures { result ≡ request_in set command bytes.now }
+{
+    match set {
+        1 => virtual_machine(command, bytes),
+        2 => reference_type(command, bytes),
+        3 => class_type(command, bytes),
+        6 => method(command, bytes),
+        9 => object_reference(command, bytes),
+        11 => thread_reference(command, bytes),
+        12 => thread_group(command, bytes),
+        15 => event_request(command, bytes),
+        _ => Err(JdwpError::NotImplemented),
+    }
+}
+
+fn virtual_machine(command: u8, bytes: &[u8]) -> Result<Request, JdwpError>
+    ensures { result ≡ request_in 1 command bytes.now }
+{
+    match command {
+        1 => plain(Request::Version, bytes),
+        2 => classes_by_signature(bytes),
+        4 => plain(Request::AllThreads, bytes),
+        5 => plain(Request::TopLevelThreadGroups, bytes),
+        6 => plain(Request::Dispose, bytes),
+        7 => plain(Request::IdSizes, bytes),
+        8 => plain(Request::SuspendAll, bytes),
+        9 => plain(Request::ResumeAll, bytes),
+        12 => plain(Request::Capabilities, bytes),
+        13 => plain(Request::ClassPaths, bytes),
+        14 => dispose_objects(bytes),
+        15 => plain(Request::HoldEvents, bytes),
+        16 => plain(Request::ReleaseEvents, bytes),
+        17 => plain(Request::CapabilitiesNew, bytes),
+        20 => plain(Request::AllClasses, bytes),
+        _ => Err(JdwpError::NotImplemented),
+    }
+}
+
+fn reference_type(command: u8, bytes: &[u8]) -> Result<Request, JdwpError>
+    ensures { result ≡ request_in 2 command bytes.now }
+{
+    match command {
+        1 => Ok(Request::Signature(id(bytes)?)),
+        2 => Ok(Request::ClassLoader(id(bytes)?)),
+        3 => Ok(Request::Modifiers(id(bytes)?)),
+        7 => Ok(Request::SourceFile(id(bytes)?)),
+        9 => Ok(Request::ClassStatus(id(bytes)?)),
+        10 => Ok(Request::Interfaces(id(bytes)?)),
+        13 => Ok(Request::SignatureWithGeneric(id(bytes)?)),
+        14 => Ok(Request::Fields(id(bytes)?)),
+        15 => Ok(Request::MethodsWithGeneric(id(bytes)?)),
+        _ => Err(JdwpError::NotImplemented),
+    }
+}
+
+fn class_type(command: u8, bytes: &[u8]) -> Result<Request, JdwpError>
+    ensures { result ≡ request_in 3 command bytes.now }
+{
+    match command {
+        1 => Ok(Request::Superclass(id(bytes)?)),
+        _ => Err(JdwpError::NotImplemented),
+    }
+}
+
+fn method(command: u8, bytes: &[u8]) -> Result<Request, JdwpError>
+    ensures { result ≡ request_in 6 command bytes.now }
+{
+    match command {
+        1 => line_table(bytes),
+        _ => Err(JdwpError::NotImplemented),
+    }
+}
+
+fn object_reference(command: u8, bytes: &[u8]) -> Result<Request, JdwpError>
+    ensures { result ≡ request_in 9 command bytes.now }
+{
+    match command {
+        1 => Ok(Request::ReferenceType(id(bytes)?)),
+        9 => Ok(Request::IsCollected(id(bytes)?)),
+        _ => Err(JdwpError::NotImplemented),
+    }
+}
+
+fn thread_reference(command: u8, bytes: &[u8]) -> Result<Request, JdwpError>
+    ensures { result ≡ request_in 11 command bytes.now }
+{
+    match command {
+        1 => Ok(Request::ThreadName(id(bytes)?)),
+        2 => Ok(Request::Suspend(id(bytes)?)),
+        3 => Ok(Request::Resume(id(bytes)?)),
+        4 => Ok(Request::ThreadStatus(id(bytes)?)),
+        5 => Ok(Request::ThreadGroup(id(bytes)?)),
+        6 => frames(bytes),
+        7 => Ok(Request::FrameCount(id(bytes)?)),
+        12 => Ok(Request::SuspendCount(id(bytes)?)),
+        _ => Err(JdwpError::NotImplemented),
+    }
+}
+
+fn thread_group(command: u8, bytes: &[u8]) -> Result<Request, JdwpError>
+    ensures { result ≡ request_in 12 command bytes.now }
+{
+    match command {
+        1 => Ok(Request::GroupName(id(bytes)?)),
+        2 => Ok(Request::GroupParent(id(bytes)?)),
+        3 => Ok(Request::GroupChildren(id(bytes)?)),
+        _ => Err(JdwpError::NotImplemented),
+    }
+}
+
+fn event_request(command: u8, bytes: &[u8]) -> Result<Request, JdwpError>
+    ensures { result ≡ request_in 15 command bytes.now }
+{
+    match command {
+        1 => set_event(bytes),
+        2 => clear_event(bytes),
+        _ => Err(JdwpError::NotImplemented),
+    }
+}
+
+/// A request without data.
+fn plain(request: Request, bytes: &[u8]) -> Result<Request, JdwpError>
+    ensures { result ≡ read_as (no_fields request) bytes.now }
+{
+    if bytes.is_empty() {
+        Ok(request)
+    } else {
+        Err(JdwpError::IllegalArgument)
+    }
+}
+
+/// The id that is all of the data.
+fn id(bytes: &[u8]) -> Result<u64, JdwpError>
+    ensures { result ≡ id_in bytes.now }
+{
+    if bytes.len() == 8 {
+        Ok(long(bytes, 0))
+    } else {
+        Err(JdwpError::IllegalArgument)
+    }
+}
+
+fn classes_by_signature(bytes: &[u8]) -> Result<Request, JdwpError>
+    ensures { result ≡ read_as of_signature bytes.now }
+{
+    if text_len(bytes)? == bytes.len() {
+        Ok(Request::ClassesBySignature(Range {
+            start: 4,
+            end: bytes.len(),
+        }))
+    } else {
+        Err(JdwpError::IllegalArgument)
+    }
+}
+
+fn dispose_objects(bytes: &[u8]) -> Result<Request, JdwpError>
+    ensures { result ≡ read_as of_objects bytes.now }
+{
+    if bytes.len() >= 4 && bytes.len() == 4 + DISPOSED_LEN * int(bytes, 0) as usize {
+        Ok(Request::DisposeObjects)
+    } else {
+        Err(JdwpError::IllegalArgument)
+    }
+}
+
+fn line_table(bytes: &[u8]) -> Result<Request, JdwpError>
+    ensures { result ≡ read_as of_method bytes.now }
+{
+    if bytes.len() == 16 {
+        Ok(Request::LineTable {
+            class: long(bytes, 0),
+            method: long(bytes, 8),
+        })
+    } else {
+        Err(JdwpError::IllegalArgument)
+    }
+}
+
+fn frames(bytes: &[u8]) -> Result<Request, JdwpError>
+    ensures { result ≡ read_as of_frames bytes.now }
+{
+    if bytes.len() == 16 {
+        Ok(Request::Frames {
+            thread: long(bytes, 0),
+            start: int(bytes, 8).cast_signed(),
+            length: int(bytes, 12).cast_signed(),
+        })
+    } else {
+        Err(JdwpError::IllegalArgument)
+    }
+}
+
+fn set_event(bytes: &[u8]) -> Result<Request, JdwpError>
+    ensures { result ≡ read_as of_event bytes.now }
+{
+    if bytes.len() < 6 {
+        return Err(JdwpError::IllegalArgument);
+    }
+    let policy = Policy::from_number(bytes[1])?;
+    let count = int(bytes, 2);
+    if count > MAX_MODIFIERS {
+        return Err(JdwpError::IllegalArgument);
+    }
+    let end = end_of_modifiers(bytes, 6, count)?;
+    if end != bytes.len() {
+        return Err(JdwpError::IllegalArgument);
+    }
+    let kind = EventKind::from_number(bytes[0])?;
+    let modifiers = Range { start: 6, end };
+    Ok(Request::SetEvent {
+        kind,
+        policy,
+        modifiers,
+        count,
+    })
+}
+
+fn clear_event(bytes: &[u8]) -> Result<Request, JdwpError>
+    ensures { result ≡ read_as of_clear bytes.now }
+{
+    if bytes.len() == 5 {
+        Ok(Request::ClearEvent {
+            kind: bytes[0],
+            request: int(bytes, 1).cast_signed(),
+        })
+    } else {
+        Err(JdwpError::IllegalArgument)
+    }
+}
+
+ghost use Rattle.std.specs.Prelude.{◌≡◌, IfOk};
+ghost use Rattle.ti_jdwp.specs.declared.error.JdwpError.TheVariants.{NotImplemented};
+ghost use Rattle.ti_jdwp.specs.Spelled.{IsRequest};
+ghost use Rattle.ti_jdwp.specs.declared.request.Request.{Request};
+ghost use Rattle.ti_jdwp.specs.Requests.{id_in, read_as, request_in};
+ghost use Rattle.ti_jdwp.specs.Commands.{layout_of, no_fields, of_signature, of_objects, of_method, of_frames, of_event, of_clear};

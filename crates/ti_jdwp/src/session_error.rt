@@ -1,0 +1,52 @@
+//! Why a call of a session is refused.
+
+use crate::error::JdwpError;
+use std::error::Error;
+use std::fmt;
+
+/// Why a call of a session is refused. The session is as it was before.
+#[derive(Clone, Copy, Debug, PartialEq, Eq)]
+pub enum SessionError {
+    /// 110 OUT_OF_MEMORY (JVM TI 11): there is no memory for the input, for a reply or for an event.
+    OutOfMemory,
+    /// 112 WRONG_PHASE (JVM TI 11): the session did not ask for this answer.
+    NotAsked,
+}
+
+impl SessionError {
+    /// The number by which the error is known: JVM TI 11's.
+    pub fn number(self) -> u32
+        ensures { result ≡ session_number self }
+    {
+        match self {
+            SessionError::OutOfMemory => 110,
+            SessionError::NotAsked => 112,
+        }
+    }
+}
+
+impl fmt::Display for SessionError {
+    fn fmt<W: fmt::Write>(&self, f: &mut fmt::Formatter<W>) -> fmt::Result {
+        f.write_str(match self {
+            SessionError::OutOfMemory => "out of memory",
+            SessionError::NotAsked => "the session did not ask for this answer",
+        })
+    }
+}
+
+impl Error for SessionError {}
+
+impl From<JdwpError> for SessionError {
+    ghost use Rattle.std.specs.Prelude.{◌≡◌};
+    ghost use Rattle.ti_jdwp.specs.declared.session_error.SessionError.TheVariants.{OutOfMemory};
+
+    ghost from_gives = { λ _ e. e ≡ OutOfMemory };
+
+    /// What fails inside a session fails for lack of memory.
+    fn from(_: JdwpError) -> Self {
+        SessionError::OutOfMemory
+    }
+}
+
+ghost use Rattle.std.specs.Prelude.{◌≡◌};
+ghost use Rattle.ti_jdwp.specs.Plans.{session_number};

@@ -1,0 +1,136 @@
+//! What takes place at the service while a debugger is there.
+
+use crate::actions::Phase;
+use crate::error::JdwpError;
+use crate::event::Event;
+use crate::event_text::{EventRow, Occurrence, composite_body};
+use crate::notice::Notice;
+use crate::request::Policy;
+use crate::requests_in_force::Told;
+use crate::session::Session;
+use crate::text::Text;
+use std::alloc::Global;
+
+impl Session {
+    /// A thread began. It gives whether the event is told to those who asked for it; else it is lost, since 4,096 events wait or
+    /// there is no memory.
+    pub fn thread_started(&mut self, thread: u32) -> bool
+        ensures { Notes (ThreadStart thread) (starts thread) self.old result self.new }
+    {
+        let occurrence = Occurrence::ThreadStart { thread };
+        self.note(Event::ThreadStart(thread), occurrence)
+    }
+
+    /// A thread ended. It gives whether the event is told to those who asked for it; else it is lost, since 4,096 events wait or
+    /// there is no memory.
+    pub fn thread_ended(&mut self, thread: u32) -> bool
+        ensures { Notes (ThreadDeath thread) (ends thread) self.old result self.new }
+    {
+        let occurrence = Occurrence::ThreadDeath { thread };
+        self.note(Event::ThreadDeath(thread), occurrence)
+    }
+
+    /// A class with this signature, as `Lscripts/nbody;`, became known at a thread. It gives whether the event is told to those who
+    /// asked for it; else it is lost, since 4,096 events wait or there is no memory.
+    pub fn class_prepared(&mut self, thread: u32, class: u32, signature: &[u8]) -> bool
+        ensures { Notes (ClassPrepare thread class signature.now) (prepares thread class signature.entry) self.old result self.new }
+    {
+        if self.is_over() {
+            return true;
+        }
+        let Ok(event) = Event::class_prepare(self.alloc, thread, class, signature) else {
+            self.events.lose();
+            return false;
+        };
+        let occurrence = Occurrence::ClassPrepare {
+            thread,
+            class,
+            signature,
+        };
+        self.note(event, occurrence)
+    }
+
+    /// Whether the session ends, so that nobody is told of an event.
+    fn is_over(&self) -> bool
+        ensures { result ≡ is_over self.now.phase }
+    {
+        matches!(self.phase, Phase::Ending | Phase::Closed)
+    }
+
+    /// Notes an event, if a request is for it.
+    fn note(&mut self, event: Event, occurrence: Occurrence<'_>) -> bool
+        ensures { Notes event occurrence.entry self.old result self.new }
+    {
+        if self.is_over() {
+            return true;
+        }
+        let Ok(told) = self.requests.tell(self.alloc, &event) else {
+            self.events.lose();
+            return false;
+        };
+        if told.numbers.is_empty() {
+            return true;
+        }
+        match notice_of(self.alloc, &event, occurrence, told) {
+            Ok(notice) => self.events.note(notice),
+            Err(_) => {
+                self.events.lose();
+                false
+            }
+        }
+    }
+}
+
+/// Which threads an event suspends. The begin and the end of a thread suspend none, whatever the requests say.
+fn policy_of(event: &Event, asked: Policy) -> Policy
+    ensures { result ≡ event_policy event.now asked }
+{
+    match event {
+        Event::ClassPrepare { .. } => asked,
+        _ => Policy::None,
+    }
+}
+
+/// The rows of a packet, one for each request. 110 OUT_OF_MEMORY if there is no memory for them.
+fn rows_of<'a>(
+    alloc: Global,
+    numbers: &[u32],
+    occurrence: Occurrence<'a>,
+) -> Result<Vec<EventRow<'a>>, JdwpError>
+    ensures ok { IfOk result (λ v. v.items ≡ map (row_of occurrence.entry) numbers.now) }
+    ensures memory { IfErr result (λ e. e ≡ OutOfMemory) }
+{
+    let rows = numbers
+        .iter()
+        .map(|number| EventRow {
+            request: number.cast_signed(),
+            occurrence,
+        })
+        .collect(alloc)?;
+    Ok(rows)
+}
+
+/// All that is told of an event. 110 OUT_OF_MEMORY if there is no memory for it.
+fn notice_of(
+    alloc: Global,
+    event: &Event,
+    occurrence: Occurrence<'_>,
+    told: Told,
+) -> Result<Notice, JdwpError>
+    ensures ok { IfOk result (λ n. n ≡ notice_for event.now occurrence.entry told.policy told.numbers.items) }
+    ensures memory { IfErr result (λ e. e ≡ OutOfMemory) }
+{
+    let policy = policy_of(event, told.policy);
+    let rows = rows_of(alloc, told.numbers.as_slice(), occurrence)?;
+    let body = composite_body(alloc, policy, rows.as_slice())?;
+    Ok(Notice {
+        policy,
+        thread: event.thread(),
+        body: Text::new(body),
+    })
+}
+
+ghost use Rattle.std.specs.Prelude.{◌≡◌, map, IfOk, IfErr};
+ghost use Rattle.ti_jdwp.specs.Notes.{Notes, is_over, event_policy, notice_for, row_of, starts, ends, prepares};
+ghost use Rattle.ti_jdwp.specs.declared.error.JdwpError.TheVariants.{OutOfMemory};
+ghost use Rattle.ti_jdwp.specs.declared.event.Event.TheVariants.{ThreadStart, ThreadDeath, ClassPrepare};
