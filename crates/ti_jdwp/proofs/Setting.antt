@@ -1,5 +1,5 @@
 -- A request for events that is put in force.
-use Rattle.std.proofs.Common.{◌≡◌, ℕ, ◌+◌, ◌≤◌, List, length, Result, Ok, ap, sym, ◌∙◌}
+use Rattle.std.proofs.Common.{◌≡◌, ℕ, ◌+◌, ◌≤◌, List, length, Ok, ap, sym, ◌∙◌}
 use Rattle.ti_jdwp.specs.declared.actions.Action.TheVariants as action
 use Rattle.ti_jdwp.specs.declared.actions.Phase.TheVariants as phase
 use Rattle.ti_jdwp.specs.declared.request.EventKind.{EventKind}

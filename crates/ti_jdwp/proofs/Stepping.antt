@@ -1,5 +1,5 @@
 -- The modifiers of a request that are read one after another.
-use Rattle.std.proofs.Common.{◌≡◌, ℕ, suc, ◌-◌, ◌+◌, ◌≤◌, ◌<◌, List, Result, Ok, Err, sym, ap, ◌∙◌, arith, ◌⊎◌, inl, inr}
+use Rattle.std.proofs.Common.{◌≡◌, ℕ, suc, ◌-◌, ◌+◌, ◌≤◌, ◌<◌, List, Result, Ok, Err, sym, ap, ◌∙◌, arith}
 use Rattle.ti_jdwp.specs.declared.error.JdwpError.{JdwpError}
 use Rattle.ti_jdwp.specs.declared.request.EventKind.{EventKind}
 use Rattle.ti_jdwp.specs.Asking.{Reading, one_step, steps}

@@ -1,5 +1,5 @@
 -- What a request for events says of the events that it is for.
-use Rattle.std.specs.Prelude.{◌≡◌, ℕ, suc, zero, ◌==◌, Bool, true, false, List, [], ◌∷◌, ◌++◌, map, Option, Some, None, Result, Ok, Err, if◌then◌else◌}
+use Rattle.std.specs.Prelude.{ℕ, suc, zero, ◌==◌, Bool, true, false, List, [], ◌∷◌, ◌++◌, map, Option, Some, None, Result, Ok, Err, if◌then◌else◌}
 use Rattle.std.specs.Int.{w32, cast_unsigned}
 use Rattle.ti_jdwp.specs.declared.asking.Meaning.{Meaning}
 use Rattle.ti_jdwp.specs.declared.asking.Meaning.TheVariants as meaning

@@ -1,4 +1,4 @@
-use Rattle.std.proofs.Common.{inl, inr, ◌⊎◌}
+use Rattle.std.proofs.Common.{inl, inr}
 use Rattle.ti_jdwp.specs.Asking.{reading_of, filters_in}
 use Rattle.ti_jdwp.proofs.Stepping.{goes_on, ends, is_done}
 use Rattle.ti_jdwp.proofs.asking.read_filters.Goals as goal
