@@ -7,7 +7,6 @@ use crate::posts::buffer_for;
 use std::alloc::Global;
 use std::marker::Model;
 use std::sync::Wait;
-use ti_chunked::Chunked;
 use ti_env::EnvState;
 use ti_handshake::Desk;
 use ti_types::{Answer, Call, Caps, EnvNo, Frame, ThreadNo, TiError, TraceBuf};
@@ -65,7 +64,7 @@ pub struct Env<H: Home = Alone> {
     pub(crate) env: EnvNo,
     pub(crate) state: EnvState,
     /// The place of a thread is that of its desk here.
-    pub(crate) desks: Chunked<Desk>,
+    pub(crate) desks: Vec<Desk>,
 }
 
 impl<H: Home> Model for Env<H> {
@@ -74,9 +73,9 @@ impl<H: Home> Model for Env<H> {
 
     ghost Value = { Housed H };
 
-    ghost view = { λ a. record { home = a.home; env = record { env = a.env; state = a.state; desks = a.desks } } };
+    ghost view = { λ a. record { home = a.home; env = record { env = a.env; state = a.state; desks = a.desks.items } } };
 
-    ghost invariant = { λ a. IsWhole (record { env = a.env; state = a.state; desks = a.desks }) × IsAtHome H.about H.holds a.home (record { env = a.env; state = a.state; desks = a.desks }) };
+    ghost invariant = { λ a. IsWhole (record { env = a.env; state = a.state; desks = a.desks.items }) × IsAtHome H.about H.holds a.home (record { env = a.env; state = a.state; desks = a.desks.items }) };
 }
 
 impl Env {
@@ -96,7 +95,7 @@ impl Env {
             home: Alone,
             env,
             state,
-            desks: Chunked::from_vec(desks),
+            desks,
         }
     }
 }
@@ -113,7 +112,7 @@ impl<H: Home> Env<H> {
             state: _,
             desks,
         } = self;
-        desks.into_vec()
+        desks
     }
 
     /// The place of a thread, as the environment's state and the operations on its desks name it. If there is no desk at a

@@ -2,7 +2,6 @@
 
 use crate::env::Env;
 use std::alloc::Global;
-use ti_chunked::Chunked;
 use ti_env::EnvState;
 use ti_types::{EnvNo, Limits};
 
@@ -42,7 +41,7 @@ impl<H: Home> Env<H> {
             home,
             env,
             state: EnvState::at_no_thread(alloc, limits),
-            desks: Chunked::new(alloc),
+            desks: Vec::new(alloc),
         }
     }
 

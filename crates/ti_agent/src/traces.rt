@@ -7,7 +7,6 @@ use crate::thread_counts::{
 };
 use std::alloc::Global;
 use std::sync::{Mutex, Wait};
-use ti_chunked::Chunked;
 use ti_env::EnvState;
 use ti_handshake::Desk;
 use ti_types::{Answer, EnvNo, StackInfo, ThreadNo, TiError, TraceBuf};
@@ -53,7 +52,7 @@ pub(crate) fn told_of(thread: ThreadNo, answer: Answer) -> StackInfo
 fn read_each<R: Wait>(
     rt: &R,
     standing: &mut Standing<'_, '_>,
-    desks: &mut Chunked<Desk>,
+    desks: &mut [Desk],
     state: &mut EnvState,
     places: &[ThreadNo],
     max_count: i32,
@@ -70,7 +69,6 @@ fn read_each<R: Wait>(
     requires bufs { (length bufs.items ≡ length places.now) × AreRoomy state.old.limits max_count bufs.items }
     requires empty { infos.old.items ≡ [] }
     requires room { length places.now ≤ vec_capacity infos.old }
-    ensures count { length desks.new ≡ length desks.old }
     ensures cells { cells_of standing.old.threads desks.new ≡ standing.old.cells }
     ensures held { AreStopped (record { env = standing.old.env; state = state.new; desks = desks.new }) standing.old.threads }
     ensures reads { HasRead (record { env = standing.old.env; state = state.old; desks = desks.old }) (record { env = standing.old.env; state = state.new; desks = desks.new }) max_count places.now (threads_at desks.old places.now) infos.new.items }
@@ -94,7 +92,7 @@ fn trace_each<R: Wait>(
     rt: &R,
     turn: &mut VmTurn,
     env: EnvNo,
-    desks: &mut Chunked<Desk>,
+    desks: &mut [Desk],
     state: &mut EnvState,
     stopping: &[(ThreadNo, u64)],
     places: &[ThreadNo],

@@ -149,10 +149,6 @@ each_step done old now more x d q a unlisted there added = (length-set now x.0.0
 pub adds : (p q : DeskState) (more : List Entry) → IsSame p q → Waits p.view q.view more → HasAdded p q more
 adds p q more same k = record { same = same; goes = k.goes; mine = k.mine; posted = k.posted }
 
--- the same of what a call found there, at a place among all desks
-pub added_at : (now : List DeskState) (t : ℕ) (d q : DeskState) (more : EnvNo → List Entry) → d ≡ slice_index_or now t d → HasAdded d q (more d.env) → HasAdded (slice_index_or now t d) q (more (slice_index_or now t d).env)
-added_at now t d q more here added = subst (λ (p : DeskState). HasAdded p q (more p.env)) here added
-
 pub each_more : (threads : Listed) (k n : ℕ) (old now : List DeskState) (more : EnvNo → List Entry) (c : ThreadNo × ℕ) (d q : DeskState) → AreDistinct threads → AreThere (length old) threads → k < length threads → n ≡ suc k
     → AtEach (take k threads) old now more → HasAdded (slice_index_or now (slice_index_or threads k c).0.0 d) q (more (slice_index_or now (slice_index_or threads k c).0.0 d).env)
     → AtEach (take n threads) old (slice_set now (slice_index_or threads k c).0.0 q) more

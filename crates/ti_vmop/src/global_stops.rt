@@ -3,7 +3,6 @@
 use crate::one_thread::{await_one, go_one, read_one, stop_one};
 use std::marker::Model;
 use std::sync::Wait;
-use ti_chunked::Chunked;
 use ti_env::EnvState;
 use ti_handshake::Desk;
 use ti_trail::GhostList;
@@ -89,12 +88,7 @@ pub(crate) fn are_paid_for(state: &EnvState, threads: &[(ThreadNo, u64)]) -> boo
 }
 
 /// Stops each thread, in the order of the list, and spends a call for each.
-fn stop_each<R: Wait>(
-    rt: &R,
-    desks: &mut Chunked<Desk>,
-    state: &mut EnvState,
-    threads: &[(ThreadNo, u64)],
-)
+fn stop_each<R: Wait>(rt: &R, desks: &mut [Desk], state: &mut EnvState, threads: &[(ThreadNo, u64)])
     requires there { AreThere (length desks.old) threads.now × (length state.old.spent ≡ length desks.old) }
     requires distinct { AreDistinct threads.now }
     requires paid { are_paid state.old threads.now ≡ true }
@@ -110,7 +104,7 @@ fn stop_each<R: Wait>(
 }
 
 /// Waits until each thread is standing.
-fn await_each<R: Wait>(rt: &R, desks: &mut Chunked<Desk>, threads: &[(ThreadNo, u64)])
+fn await_each<R: Wait>(rt: &R, desks: &mut [Desk], threads: &[(ThreadNo, u64)])
     requires there { AreThere (length desks.old) threads.now }
     requires distinct { AreDistinct threads.now }
     ensures desks { AtEach threads.now desks.old desks.new (λ e. []) }
@@ -123,7 +117,7 @@ fn await_each<R: Wait>(rt: &R, desks: &mut Chunked<Desk>, threads: &[(ThreadNo, 
 }
 
 /// The listed desks, in the order of the list. Only contracts read them.
-fn listed_desks(desks: &Chunked<Desk>, threads: &[(ThreadNo, u64)]) -> GhostList<Desk>
+fn listed_desks(desks: &[Desk], threads: &[(ThreadNo, u64)]) -> GhostList<Desk>
     requires there { AreThere (length desks.now) threads.now }
     ensures cells { map (λ p. Some p.cell) result.items ≡ cells_of threads.now desks.now }
 {
@@ -148,7 +142,7 @@ pub fn stop_all<'t, 'l, R: Wait>(
     rt: &R,
     turn: &'t mut VmTurn,
     env: EnvNo,
-    desks: &mut Chunked<Desk>,
+    desks: &mut [Desk],
     state: &mut EnvState,
     threads: &'l [(ThreadNo, u64)],
 ) -> Result<Standing<'t, 'l>, TiError>
@@ -192,7 +186,7 @@ impl<'t, 'l> Standing<'t, 'l> {
     pub fn read<R: Wait>(
         &mut self,
         rt: &R,
-        desks: &mut Chunked<Desk>,
+        desks: &mut [Desk],
         state: &mut EnvState,
         thread: ThreadNo,
         max_count: i32,
@@ -218,7 +212,7 @@ impl<'t, 'l> Standing<'t, 'l> {
 
     /// Lets each listed thread go, in the order of the list, and gives the round. It costs nothing. The desks are the very
     /// ones of `stop_all`.
-    pub fn go<R: Wait>(self, rt: &R, desks: &mut Chunked<Desk>) -> Round
+    pub fn go<R: Wait>(self, rt: &R, desks: &mut [Desk]) -> Round
         requires cells { cells_of self.threads desks.old ≡ self.cells }
         requires there { AreThere (length desks.old) self.threads }
         requires stand { AllStand self.threads desks.old }
@@ -245,7 +239,7 @@ impl<'t, 'l> Standing<'t, 'l> {
 }
 
 /// Lets each thread go, in the order of the list.
-fn go_each<R: Wait>(rt: &R, desks: &mut Chunked<Desk>, threads: &[(ThreadNo, u64)])
+fn go_each<R: Wait>(rt: &R, desks: &mut [Desk], threads: &[(ThreadNo, u64)])
     requires there { AreThere (length desks.old) threads.now }
     requires distinct { AreDistinct threads.now }
     requires stand { AllStand threads.now desks.old }

@@ -7,6 +7,7 @@ use Rattle.ti_types.specs.declared.limits.Limits.{Limits}
 use Rattle.ti_types.specs.Answer.{said}
 use Rattle.ti_types.specs.Numbers.{or_zero}
 use Rattle.ti_slot.specs.Waiting.{HasRoomFor}
+use Rattle.ti_handshake.specs.Desk.{DeskState}
 use Rattle.ti_vmop.specs.Turns.{Listed, MayRead, Stood, cells_of}
 use Rattle.ti_vmop.proofs.Each.{cells_stay}
 use Rattle.ti_agent.specs.Env.{Environment, thread_at, threads_at}
@@ -26,7 +27,7 @@ read-answer-requires-clause-there g c =
     let stopping : Listed = c.args.standing.now.threads in
     let listed = listed_in stopping c.args.places.now c.loop-i.i none c.requires.listed c.loop-i-test.true in
     let there = there_listed (length c.args.desks.now) (slice_index_or c.args.places.now c.loop-i.i none).0 stopping c.requires.there listed in
-    (omega (arith, there, c.loop-i.invariant.same), c.loop-i.invariant.held.count)
+    (omega (arith, there, c.loop-i.auto.desks), c.loop-i.invariant.held.count)
 
 pub read-answer-requires-clause-cells : goal.read-answer-requires-clause-cells
 read-answer-requires-clause-cells g c =
@@ -40,7 +41,7 @@ told_of-requires g c =
     let t : ThreadNo = slice_index_or c.args.places.now c.loop-i.i none in
     let listed = listed_in stopping c.args.places.now c.loop-i.i none c.requires.listed c.loop-i-test.true in
     let there = there_listed (length c.args.desks.now) t.0 stopping c.requires.there listed in
-    record { stack = tells_stack c.loop-i.desks c.read-answer.new.desks t.0 m (said c.read-answer.result) (omega (arith, there, c.loop-i.invariant.same)) c.read-answer.ensures.desks.0 c.read-answer.ensures.answer }
+    record { stack = tells_stack c.loop-i.desks c.read-answer.new.desks t.0 m (said c.read-answer.result) (omega (arith, there, c.loop-i.auto.desks)) c.read-answer.ensures.desks.0 c.read-answer.ensures.answer }
 
 pub read-answer-requires-clause-desk : goal.read-answer-requires-clause-desk
 read-answer-requires-clause-desk g c p at =
@@ -70,18 +71,18 @@ loop-i-preserved g c =
     let first : Environment = record { env = c.args.standing.now.env; state = c.args.state.now; desks = c.args.desks.now } in
     let s : Environment = record { env = c.args.standing.now.env; state = c.loop-i.state; desks = c.loop-i.desks } in
     let n : Environment = record { env = c.args.standing.now.env; state = c.read-answer.new.state; desks = c.read-answer.new.desks } in
-    let was_there : t.0 < length c.loop-i.desks = omega (arith, there_listed (length c.args.desks.now) t.0 stopping c.requires.there (listed_in stopping l i none c.requires.listed c.loop-i-test.true), c.loop-i.invariant.same) in
+    let was_there : t.0 < length c.loop-i.desks = omega (arith, there_listed (length c.args.desks.now) t.0 stopping c.requires.there (listed_in stopping l i none c.requires.listed c.loop-i-test.true), c.loop-i.auto.desks) in
     let now_there : t.0 < length c.read-answer.new.desks = omega (arith, was_there, r.desks.0) in
     let after : thread_at c.read-answer.new.desks t.0 ≡ thread_at c.loop-i.desks t.0 = names_each ((t, 0) ∷ []) c.loop-i.desks c.read-answer.new.desks (λ e. Read e m ∷ []) r.desks t.0 in
     let x : Telling = record { place = t; thread = c.thread-thread.result; answer = said c.read-answer.result } in
-    let named : c.thread-thread.result ≡ thread_at c.read-answer.new.desks t.0 = sym (name_of c.read-answer.new.desks t.0 c.index.result.now c.thread-thread.result now_there c.index.ensures c.thread-thread.ensures) in
+    let named : c.thread-thread.result ≡ thread_at c.read-answer.new.desks t.0 = sym (name_of c.read-answer.new.desks t.0 c.index-desks-place.result c.thread-thread.result now_there c.index-desks-place.is (c.thread-thread.ensures ∙ ap (λ (d : DeskState). d.view.subject.thread) (sym c.index-desks-place.is))) in
     let about : c.thread-thread.result ≡ thread_at c.loop-i.desks t.0 = named ∙ after in
     let one : ReadsOne s n m x = record { env_is = refl; about = about; state_is = r.state; desks = r.desks; answer_is = r.answer } in
     let within : i < length l = c.loop-i-test.true in
     let next : i + 1 ≡ suc i = omega arith in
     let left : AreLeft c.loop-i.state (t ∷ drop (i + 1) l) = subst (AreLeft c.loop-i.state) (drop_more l i (i + 1) none next within) before.left in
     let listed = listed_in stopping l i none c.requires.listed within in
-    let there : t.0 < length c.loop-i.desks = omega (arith, there_listed (length c.args.desks.now) t.0 stopping c.requires.there listed, c.loop-i.invariant.same) in
+    let there : t.0 < length c.loop-i.desks = omega (arith, there_listed (length c.args.desks.now) t.0 stopping c.requires.there listed, c.loop-i.auto.desks) in
     let more : take (i + 1) l ≡ take i l ++ t ∷ [] = (take_at_read l i none within).1 in
     let info = c.told_of.result in
     let first_name : c.thread-thread.result ≡ thread_at c.args.desks.now t.0 = about ∙ before.names t.0 in
@@ -106,5 +107,4 @@ loop-i-preserved g c =
       few = omega (arith, longer, before.few);
       room = search rules;
       cells = cells_stay stopping ((t, 0) ∷ []) c.loop-i.desks c.read-answer.new.desks (λ e. Read e m ∷ []) r.desks ∙ before.cells;
-      same = r.desks.0 ∙ before.same;
     }

@@ -19,5 +19,4 @@ invariant-loop-i g l = record {
   few : length l.infos.items ≡ l.i;
   room : length l.places ≤ vec_capacity l.infos;
   cells : cells_of l.fn.standing.threads l.desks ≡ l.fn.standing.cells;
-  same : length l.desks ≡ length l.fn.desks;
 }

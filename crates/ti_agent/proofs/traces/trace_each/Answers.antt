@@ -63,7 +63,7 @@ go-requires-clause-cells g c = subst (λ (z : Stood). cells_of z.threads c.read_
 pub go-requires-clause-there : goal.go-requires-clause-there
 go-requires-clause-there g c =
     let threads : c.read_each.new.standing.threads ≡ c.args.stopping.now = ap (λ v. v.threads) c.read_each.ensures.standing ∙ c.in-Ok.ensures.standing.0 in
-    let count : length c.read_each.new.desks ≡ length c.args.desks.now = c.read_each.ensures.count ∙ c.in-Ok.ensures.desks.0 in
+    let count : length c.read_each.new.desks ≡ length c.args.desks.now = c.read_each.auto.desks ∙ c.in-Ok.ensures.desks.0 in
     subst (λ (l : Listed). AreThere (length c.read_each.new.desks) l) (sym threads)
     (there_in c.args.stopping.now (length c.args.state.now.spent) (length c.read_each.new.desks) c.args.places.now c.requires.stopping (c.requires.whole.count ∙ sym count))
 

@@ -1,6 +1,6 @@
-use Rattle.std.proofs.Common.{[], ◌∷◌, ◌∙◌, Some, ap, sym, take, length, arith}
+use Rattle.std.proofs.Common.{[], ◌∷◌, take, length, arith}
 use Rattle.ti_types.specs.declared.entry.Entry.TheVariants.{Go}
-use Rattle.ti_vmop.proofs.Each.{listed_at, there_at, distinct_at, each_none, not_done, each_more, each_all, added_at, adds}
+use Rattle.ti_vmop.proofs.Each.{listed_at, there_at, distinct_at, each_none, not_done, each_more, each_all, adds}
 use Rattle.ti_vmop.proofs.global_stops.go_each.Goals as goal
 
 pub loop-i-init : goal.loop-i-init
@@ -11,13 +11,13 @@ go_one-requires g c =
     let threads = c.args.threads.now in
     let unlisted = distinct_at threads c.loop-i.i (record { 0 = 0 }, 0) c.requires.distinct c.loop-i-test.true in
     let there = there_at (length c.args.desks.now) threads c.loop-i.i (record { 0 = 0 }, 0) c.requires.there c.loop-i-test.true in
-    let at = not_done (take c.loop-i.i threads) c.args.desks.now c.loop-i.desks (λ e. Go e ∷ []) _ c.index_mut.result.now c.loop-i.invariant unlisted there in
-    record { stands = c.requires.stand _ _ (at ∙ ap Some (sym c.index_mut.ensures.value)) (listed_at threads c.loop-i.i (record { 0 = 0 }, 0) c.loop-i-test.true) }
+    let at = not_done (take c.loop-i.i threads) c.args.desks.now c.loop-i.desks (λ e. Go e ∷ []) _ c.index-desks-thread.result c.loop-i.invariant unlisted there in
+    record { stands = c.requires.stand _ _ at (listed_at threads c.loop-i.i (record { 0 = 0 }, 0) c.loop-i-test.true) }
 
 pub loop-i-preserved : goal.loop-i-preserved
 loop-i-preserved g c =
-    each_more c.args.threads.now c.loop-i.i _ c.args.desks.now c.loop-i.desks (λ e. Go e ∷ []) (record { 0 = 0 }, 0) c.index_mut.result.now c.go_one.new.desk c.requires.distinct c.requires.there c.loop-i-test.true (omega arith) c.loop-i.invariant
-    (added_at c.loop-i.desks _ c.index_mut.result.now c.go_one.new.desk (λ e. Go e ∷ []) c.index_mut.ensures.value (adds _ _ _ c.go_one.ensures.same c.go_one.ensures.hold.waits))
+    each_more c.args.threads.now c.loop-i.i _ c.args.desks.now c.loop-i.desks (λ e. Go e ∷ []) (record { 0 = 0 }, 0) c.index-desks-thread.result c.go_one.new.desk c.requires.distinct c.requires.there c.loop-i-test.true (omega arith) c.loop-i.invariant
+    (adds _ _ _ c.go_one.ensures.same c.go_one.ensures.hold.waits)
 
 pub returns : goal.returns
 returns g c = record { desks = each_all c.args.threads.now c.loop-i.i c.args.desks.now c.loop-i.desks (λ e. Go e ∷ []) (omega (arith, c.loop-i-test.false)) c.loop-i.invariant }
