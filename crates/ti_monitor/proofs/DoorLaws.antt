@@ -9,7 +9,7 @@ use Rattle.ti_monitor.specs.declared.door_error.DoorError.{DoorError}
 use Rattle.ti_monitor.specs.declared.door_error.DoorError.TheVariants.{OutOfMemory}
 use Rattle.ti_monitor.specs.declared.door_seat.Seat.{Seat}
 use Rattle.ti_monitor.specs.Doors.{AllRun, Changes, DoorValue, OneRuns, Refuses, TalksRun, door_with, opened_in, talk_at, with_talk}
-use Rattle.ti_monitor.specs.SeatLists.{door_of, seat_at, seat_in, talk_of, without}
+use Rattle.ti_monitor.specs.SeatLists.{door_of, seat_at, talk_of, without}
 use Rattle.ti_monitor.specs.Seats.{RunsTo}
 use Rattle.ti_monitor.proofs.SeatLaws.{runs_more, runs_none}
 

@@ -1,7 +1,7 @@
 -- What is said as JSON has no float.
 use Rattle.std.proofs.Common.{◌≡◌, ℕ, ◌+◌, ◌||◌, Bool, true, false, List, [], ◌∷◌, map, Option, Some, None, refl, ap, ◌∙◌, cond, eqb}
 use Rattle.std.specs.Prelude.{ℤ, pos, negsuc, length, slice_get, unwrap_or}
-use Rattle.serde_json.specs.Data.{Data, array, null, number, string, unsigned}
+use Rattle.serde_json.specs.Data.{Data, null, number, string, unsigned}
 use Rattle.serde_json.specs.Find.{is_float, of_integer}
 use Rattle.serde_json.specs.View.{items_of}
 use Rattle.serde_json.specs.Written.{has_float, items_have_float}
@@ -12,7 +12,7 @@ use Rattle.ti_pprof.specs.declared.stacks.Node.{Node}
 use Rattle.ti_pprof.specs.declared.table.Row.{Row}
 use Rattle.ti_monitor.specs.declared.reading.Reading.{Reading}
 use Rattle.ti_monitor.specs.declared.reading.Seen.{Seen}
-use Rattle.ti_monitor.specs.Json.{frame_data, frames_data, function_data, line_data, named_data, state_data, suspended_data, text_data, thread_at, thread_data, threads_at, threads_data}
+use Rattle.ti_monitor.specs.Json.{frame_data, frames_data, function_data, line_data, named_data, state_data, suspended_data, thread_data, threads_at, threads_data}
 use Rattle.ti_monitor.specs.Stacks.{frames_in, row_of, state_of, text_at}
 use Rattle.ti_monitor.specs.Threads.{unknown}
 use Rattle.std.specs.String.{string_bytes}

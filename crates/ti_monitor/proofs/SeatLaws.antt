@@ -1,6 +1,6 @@
 -- What calls at a connection leave as it is.
-use Rattle.std.proofs.Common.{◌≡◌, ℕ, Bool, true, false, ◌&&◌, ◌||◌, List, [], ◌∷◌, ◌++◌, length, Option, Some, None, refl, sym, ap, subst, ◌∙◌}
-use Rattle.std.specs.Prelude.{take, min, Result, Ok, Err, OnErr, OnOk}
+use Rattle.std.proofs.Common.{◌≡◌, ℕ, true, false, ◌&&◌, ◌||◌, List, [], ◌∷◌, ◌++◌, Some, refl, sym, ap, subst, ◌∙◌}
+use Rattle.std.specs.Prelude.{take, Result, Ok, Err, OnErr, OnOk}
 use Rattle.ti_http.specs.declared.answers.ContentType.{ContentType}
 use Rattle.ti_http.specs.declared.connection.Action.{Action}
 use Rattle.ti_http.specs.declared.connection.Action.TheVariants as action
@@ -8,9 +8,9 @@ use Rattle.ti_http.specs.declared.connection.Phase.{Phase}
 use Rattle.ti_http.specs.declared.connection.Phase.TheVariants as phase
 use Rattle.ti_http.specs.declared.head.Request.{Request}
 use Rattle.ti_http.specs.declared.status.Status.{Status}
-use Rattle.ti_http.specs.Talks.{Talk, Goes, answered_by, ended_by_peer, fed, room_in, ticked, written_from}
-use Rattle.ti_http.specs.Runs.{Call, Fed, PeerEnded, Told, Answered, Written, Ticked, Step, Runs, State, idle, waits as waiting, shut, state_of, is_idle, is_waiting, is_shut, is_same, allows}
-use Rattle.ti_http.proofs.Protocol.{FineIn, Fine, step_well}
+use Rattle.ti_http.specs.Talks.{Talk, Goes, answered_by, fed, room_in, ticked, written_from}
+use Rattle.ti_http.specs.Runs.{Call, Fed, Told, Answered, Written, Ticked, Step, Runs, State, idle, waits as waiting, shut, state_of, is_idle, is_waiting, is_shut, is_same, allows}
+use Rattle.ti_http.proofs.Protocol.{FineIn, step_well}
 use Rattle.ti_monitor.specs.Seats.{QuietIn, RunsTo, asks_one, waits}
 
 fine_of : (p : Phase) (out : List ℕ) → QuietIn p out → FineIn p out

@@ -1,5 +1,5 @@
 -- The connections of a door, by number.
-use Rattle.std.specs.Prelude.{⊤, ◌≡◌, ℕ, ◌+◌, ◌<◌, ◌≤◌, List, [], ◌∷◌, ◌++◌, length, min, nat_lt, slice_get, slice_set, take, Option, Some, None, if◌then◌else◌}
+use Rattle.std.specs.Prelude.{⊤, ◌≡◌, ℕ, ◌<◌, ◌≤◌, List, [], ◌∷◌, ◌++◌, length, min, nat_lt, slice_get, slice_set, take, Option, Some, None, if◌then◌else◌}
 use Rattle.ti_http.specs.declared.hosts.Hosts.{Hosts}
 use Rattle.ti_http.specs.Talks.{Talk, fed, opened, room_in}
 use Rattle.ti_monitor.specs.declared.door_error.DoorError.{DoorError}
