@@ -1,5 +1,5 @@
 -- A session as contracts see it, and what each call makes of it.
-use Rattle.std.specs.Prelude.{ℕ, ◌-◌, ◌≤◌, min, Bool, true, false, not, ◌&&◌, List, [], length, take, drop, Option, None, Result, nat_lt, bytes_eq, ◌==◌, if◌then◌else◌}
+use Rattle.std.specs.Prelude.{◌<◌, ℕ, ◌-◌, ◌≤◌, min, Bool, true, false, not, ◌&&◌, List, [], length, take, drop, Option, None, Result, nat_lt, bytes_eq, ◌==◌, if◌then◌else◌}
 use Rattle.ti_jdwp.specs.declared.actions.Action.{Action}
 use Rattle.ti_jdwp.specs.declared.actions.Action.TheVariants as action
 use Rattle.ti_jdwp.specs.declared.actions.Phase.{Phase}
@@ -7,6 +7,7 @@ use Rattle.ti_jdwp.specs.declared.actions.Phase.TheVariants as phase
 use Rattle.ti_jdwp.specs.declared.actions.Purpose.{Purpose}
 use Rattle.ti_jdwp.specs.declared.actions.Purpose.TheVariants as purpose
 use Rattle.ti_jdwp.specs.declared.notice.Notice.{Notice}
+use Rattle.ti_jdwp.specs.declared.packet.Head.{Head}
 use Rattle.ti_jdwp.specs.declared.packet.Head.TheVariants as head
 use Rattle.ti_jdwp.specs.declared.front.First.{First}
 use Rattle.ti_jdwp.specs.declared.front.Front.{Front}
@@ -44,10 +45,26 @@ no_request = record { id = 0; set = 0; command = 0; length = 0 }
 abbrev pub opened : Talk
 opened = record { bytes = no_bytes; phase = phase.Greeting; first = no_request; ended = false; gone = false; holds = []; requests = no_requests; queue = no_events; work = []; notice = None; told = 0; short = false }
 
+-- a packet that did not come whole yet
+abbrev pub IsPart : Head → List ℕ → Type 0
+IsPart head.NeedsMore input = Unit {0}
+IsPart head.TooShort input = ⊥
+IsPart head.TooLong input = ⊥
+IsPart (head.Request id set command n) input = length input < n
+IsPart (head.Reply n) input = length input < n
+
+-- a length that no packet has
+abbrev pub IsNoPacket : Head → Type 0
+IsNoPacket head.NeedsMore = ⊥
+IsNoPacket head.TooShort = Unit {0}
+IsNoPacket head.TooLong = Unit {0}
+IsNoPacket (head.Request id set command n) = ⊥
+IsNoPacket (head.Reply n) = ⊥
+
 -- what stands first in an input
 abbrev pub IsFront : List ℕ → Front → Type 0
-IsFront input front.More = Unit {0}
-IsFront input front.Broken = Unit {0}
+IsFront input front.More = (h : Head) × BeginsWith input h × IsPart h input
+IsFront input front.Broken = (h : Head) × BeginsWith input h × IsNoPacket h
 IsFront input (front.Reply n) = BeginsWith input (head.Reply n) × (n ≤ length input)
 IsFront input (front.Request f) = BeginsWith input (head.Request f.id f.set f.command f.length) × (f.length ≤ length input) × (11 ≤ f.length)
 

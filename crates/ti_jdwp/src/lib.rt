@@ -1,6 +1,11 @@
 //! The Java Debug Wire Protocol (JDWP) of Java 8 for a thread inspection service, with no socket and no clock.
 //!
-//! The wire half is a codec: it reads the head and the data of a debugger's packets, and writes replies and events.
+//! The wire half is a codec: it reads the head and the data of a debugger's packets, and writes replies and events. The other half
+//! is a [`Session`]: it takes the bytes of one debugger and says what the driver does, as `SESSION.md` tells. It promises:
+//!
+//! - Each request gets one reply, with its id, in the order of the requests.
+//! - What the debugger suspended is resumed before the connection closes.
+//! - After an event that stopped all threads no other goes out until all are resumed.
 #![tactic(auto)]
 
 mod actions;

@@ -115,13 +115,15 @@ impl Session {
         ensures memory { IfErr result (λ e. e ≡ OutOfMemory) }
         ensures err { OnErr result (self.new ≡ record self.old { first = self.new.first }) }
     {
-        if let Some(notice) = self.events.take() {
-            let policy = notice.policy;
-            let thread = notice.thread;
-            self.notice = Some(notice);
-            return Ok(self.begin_event(policy, thread));
+        match self.events.take() {
+            Some(notice) => {
+                let policy = notice.policy;
+                let thread = notice.thread;
+                self.notice = Some(notice);
+                Ok(self.begin_event(policy, thread))
+            }
+            None => self.read(),
         }
-        self.read()
     }
 
     /// Reads a packet.
