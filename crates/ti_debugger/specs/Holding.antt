@@ -1,0 +1,53 @@
+-- What comes of a suspension.
+use Rattle.std.specs.Prelude.{ℕ, Bool, true, false, ◌&&◌, nat_lt, Option, Some, None, if◌then◌else◌}
+use Rattle.ti_types.specs.declared.answer.Answer.{Answer}
+use Rattle.ti_types.specs.declared.answer.Answer.TheVariants as answer
+use Rattle.ti_types.specs.declared.error.TiError.TheVariants as error
+use Rattle.ti_debugger.specs.declared.hold.Hold.{Hold}
+use Rattle.ti_debugger.specs.declared.hold.Hold.TheVariants as hold
+
+-- A suspension that took place is the agent's own. One that came after another environment's is that one's.
+abbrev pub answered_by : Answer → Bool → Hold
+answered_by answer.Done wanted = if wanted then hold.Own else hold.Owed
+answered_by (answer.Refused error.ThreadSuspended) wanted = if wanted then hold.Another else hold.Free
+answered_by _ wanted = hold.Free
+
+-- what is left to be undone after a resumption
+abbrev pub let_go : Hold → Hold
+let_go hold.Free = hold.Free
+let_go (hold.Out ticket until wanted) = hold.Out ticket until false
+let_go hold.Own = hold.Owed
+let_go hold.Another = hold.Free
+let_go hold.Owed = hold.Owed
+
+-- A suspension that was not undone yet serves again.
+abbrev pub again : Hold → ℕ → Option Hold
+again hold.Free until = None
+again (hold.Out ticket before wanted) until = Some (hold.Out ticket until true)
+again hold.Own until = Some hold.Own
+again hold.Another until = None
+again hold.Owed until = Some hold.Own
+
+abbrev pub is_awaited : Hold → ℕ → Bool
+is_awaited hold.Free now = false
+is_awaited (hold.Out ticket until wanted) now = wanted && nat_lt now until
+is_awaited hold.Own now = false
+is_awaited hold.Another now = false
+is_awaited hold.Owed now = false
+
+-- an answer is to be collected, or a suspension to be undone
+abbrev pub is_open : Hold → Bool
+is_open hold.Free = false
+is_open (hold.Out ticket until wanted) = true
+is_open hold.Own = false
+is_open hold.Another = false
+is_open hold.Owed = true
+
+-- no suspension of the agent's stays here
+abbrev pub is_let_go : Hold → Bool
+is_let_go hold.Free = true
+is_let_go (hold.Out ticket until true) = false
+is_let_go (hold.Out ticket until false) = true
+is_let_go hold.Own = false
+is_let_go hold.Another = false
+is_let_go hold.Owed = true

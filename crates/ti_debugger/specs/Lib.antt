@@ -1,0 +1,9 @@
+pub mod Errors
+pub mod Status
+pub mod Refusals
+pub mod Holding
+pub mod Crowds
+pub mod Stacks
+pub mod Runs
+pub mod Seats
+pub mod Sessions

@@ -1,0 +1,248 @@
+//! The agent for debuggers, one after the other.
+
+use crate::about::About;
+use crate::debugger_error::DebuggerError;
+use crate::desk::Desk;
+use crate::seat::{Seat, Todo};
+use std::alloc::Global;
+use ti_service::{Agent, Service};
+use ti_types::TiError;
+
+/// How long after a `tick` the agent looks again for what a session waits for, in nanoseconds.
+const SOON: u64 = 1_000_000;
+
+/// How long after a `tick` it looks again for suspensions that nobody waits for.
+const LATER: u64 = 10_000_000;
+
+/// How many starts and ends of threads are told at once.
+const EVENTS: u32 = 4_096;
+
+/// An agent of a service for debuggers, one at a time. Times are nanoseconds of a clock that never goes back.
+#[derive(Drop)]
+pub struct Debugger {
+    alloc: Global,
+    seat: Option<Seat>,
+    desk: Desk,
+    last_tick: u64,
+}
+
+impl Debugger {
+    /// An agent with no debugger. It takes the capability to suspend threads. `about` is what debuggers are told of the runtime.
+    pub fn new(alloc: Global, agent: Agent, about: About, now: u64) -> Debugger
+        ensures none { result.seat ≡ None }
+        ensures free { NoneHeld result.desk.crowd.list.items }
+    {
+        Debugger {
+            alloc,
+            seat: None,
+            desk: Desk::new(alloc, agent, about, now),
+            last_tick: now,
+        }
+    }
+
+    /// Begins the session of a debugger that has connected. False while there is one: then nothing changes.
+    pub fn connect(&mut self, now: u64) -> bool
+        ensures told { result ≡ not (is_some self.old.seat) }
+        ensures opened { result ≡ true → session_in self.new.seat ≡ Some opened }
+        ensures there { result ≡ false → self.new ≡ self.old }
+    {
+        if self.seat.is_some() {
+            return false;
+        }
+        self.seat = Some(Seat::new(self.alloc));
+        self.last_tick = now;
+        true
+    }
+
+    /// Whether a debugger is connected.
+    pub fn is_connected(&self) -> bool
+        ensures { result ≡ is_some self.now.seat }
+    {
+        self.seat.is_some()
+    }
+
+    /// How many bytes `feed` takes now, at most 65,536. 0 if no debugger is connected.
+    pub fn room(&self) -> usize
+        ensures { result ≡ room_of (session_in self.now.seat) }
+    {
+        match &self.seat {
+            Some(seat) => seat.session.room(),
+            None => 0,
+        }
+    }
+
+    /// Takes bytes that the socket gave, as many as there is room for. It gives their number.
+    ///
+    /// - 112 WRONG_PHASE: no debugger is connected. Nothing changes.
+    /// - 110 OUT_OF_MEMORY: there is no memory for them. Nothing changes.
+    pub fn feed(&mut self, bytes: &[u8], _now: u64) -> Result<usize, DebuggerError>
+        ensures fed { IfOk result (λ n. Changes (session_in self.old.seat) (session_in self.new.seat) (λ s s'. Feeds s s' bytes.now n)) }
+        ensures unknown { self.old.seat ≡ None → result ≡ Err NoDebugger }
+        ensures err { OnErr result (session_in self.new.seat ≡ session_in self.old.seat) }
+    {
+        let Some(mut seat) = self.seat.take() else {
+            return Err(DebuggerError::NoDebugger);
+        };
+        let taken = seat.session.feed(bytes);
+        self.seat = Some(seat);
+        Ok(taken?)
+    }
+
+    /// Says that the socket gives no more. Requests that came whole are still answered, and then the session ends.
+    ///
+    /// - 112 WRONG_PHASE: no debugger is connected. Nothing changes.
+    pub fn end(&mut self, _now: u64) -> Result<(), DebuggerError>
+        ensures ended { OnOk result (Changes (session_in self.old.seat) (session_in self.new.seat) (λ s s'. s' ≡ record s { ended = true })) }
+        ensures unknown { self.old.seat ≡ None → result ≡ Err NoDebugger }
+        ensures err { OnErr result (self.old.seat ≡ None) }
+    {
+        let Some(mut seat) = self.seat.take() else {
+            return Err(DebuggerError::NoDebugger);
+        };
+        seat.session.end();
+        self.seat = Some(seat);
+        Ok(())
+    }
+
+    /// What the caller does next with the connection. Requests are answered here.
+    ///
+    /// - 112 WRONG_PHASE: no debugger is connected. Nothing changes.
+    /// - 110 OUT_OF_MEMORY: there is no memory for a reply, an event, or what a request asks to be kept. What was done before stays
+    ///   done, and the rest waits for the next call.
+    pub fn next(&mut self, now: u64) -> Result<Todo, DebuggerError>
+        ensures run { IfOk result (λ t. Changes (session_in self.old.seat) (session_in self.new.seat) (λ s s'. RunsTo s s' × Says s' t)) }
+        ensures err { IfErr result (λ e. (self.old.seat ≡ None) ⊎ Changes (session_in self.old.seat) (session_in self.new.seat) RunsTo) }
+        ensures unknown { self.old.seat ≡ None → result ≡ Err NoDebugger }
+    {
+        let Some(mut seat) = self.seat.take() else {
+            return Err(DebuggerError::NoDebugger);
+        };
+        let todo = seat.next(&mut self.desk, now);
+        self.seat = Some(seat);
+        Ok(todo?)
+    }
+
+    /// The bytes that are to be written. None if no debugger is connected.
+    pub fn output(&self) -> &[u8]
+        ensures { result.now ≡ output_of (session_in self.now.seat) }
+    {
+        match &self.seat {
+            Some(seat) => seat.session.output(),
+            None => &[],
+        }
+    }
+
+    /// Says that the socket took so many bytes of the output; more than there are count as all of them.
+    ///
+    /// - 112 WRONG_PHASE: no debugger is connected. Nothing changes.
+    pub fn written(&mut self, count: usize) -> Result<(), DebuggerError>
+        ensures written { OnOk result (Changes (session_in self.old.seat) (session_in self.new.seat) (λ s s'. s' ≡ record s { bytes = with_written s.bytes count })) }
+        ensures unknown { self.old.seat ≡ None → result ≡ Err NoDebugger }
+        ensures err { OnErr result (self.old.seat ≡ None) }
+    {
+        let Some(mut seat) = self.seat.take() else {
+            return Err(DebuggerError::NoDebugger);
+        };
+        seat.session.written(count);
+        self.seat = Some(seat);
+        Ok(())
+    }
+
+    /// Says that the socket is gone. The session is over, and all that its debugger suspended is resumed, now or by `tick`. Nothing
+    /// happens if no debugger is connected.
+    pub fn closed(&mut self)
+        ensures gone { self.new.seat ≡ None }
+        ensures free { NoneHeld self.new.desk.crowd.list.items }
+    {
+        self.seat = None;
+        self.desk.resume_all();
+    }
+
+    /// Does what is due: it meets threads, tells the session of their starts and ends, collects what threads answered, and undoes
+    /// suspensions that are not wanted any more. Call `next` after it.
+    pub fn tick(&mut self, now: u64) {
+        self.last_tick = now;
+        self.desk.meet_if_due(now);
+        self.tell();
+        self.desk.settle_all();
+    }
+
+    /// Tells the session of the starts and ends of threads.
+    fn tell(&mut self) {
+        for _ in 0..EVENTS {
+            let Some(life) = self.desk.next_life() else {
+                return;
+            };
+            if let Some(seat) = &mut self.seat {
+                seat.tell(life);
+            }
+        }
+    }
+
+    /// When `tick` has something to do next.
+    pub fn deadline(&self) -> u64 {
+        let mut due = self.desk.next_meeting;
+        if self.desk.is_open() {
+            due = due.min(self.last_tick.saturating_add(LATER));
+        }
+        if let Some(seat) = &self.seat {
+            if seat.rests {
+                due = self.last_tick;
+            } else if seat.due.is_some() {
+                due = due.min(self.last_tick.saturating_add(SOON));
+            }
+        }
+        due
+    }
+
+    /// Whether `finish` may dispose of the agent: no debugger is connected, and no suspension is out or to be undone.
+    fn is_idle(&self) -> bool
+        ensures { result ≡ is_idle self.now.seat self.now.desk.crowd.list.items }
+    {
+        self.seat.is_none() && !self.desk.is_open()
+    }
+
+    /// Disposes of the agent. With an error it comes back, with the same session and the same suspensions.
+    ///
+    /// - 215 `Busy` (this profile): a debugger is connected, or a thread has not answered its suspension or has not been resumed yet.
+    ///   Nothing changes: call `closed`, and `tick` until it has.
+    /// - 110 OUT_OF_MEMORY, 215 and 216 as `ServiceTries::dispose_now`. The agent may have left some of its threads already, and can
+    ///   only be disposed of.
+    pub fn finish(self) -> Result<Service, (TiError, Debugger)>
+        ensures idle { is_idle self.seat self.desk.crowd.list.items ≡ false → result ≡ Err (Busy, self) }
+        ensures seat { IfErr result (λ r. r.1.seat ≡ self.seat) }
+        ensures threads { IfErr result (λ r. r.1.desk.crowd ≡ self.desk.crowd) }
+    {
+        if !self.is_idle() {
+            return Err((TiError::Busy, self));
+        }
+        let Debugger {
+            alloc,
+            seat,
+            desk,
+            last_tick,
+        } = self;
+        match desk.dispose() {
+            Ok(service) => Ok(service),
+            Err((error, desk)) => Err((
+                error,
+                Debugger {
+                    alloc,
+                    seat,
+                    desk,
+                    last_tick,
+                },
+            )),
+        }
+    }
+}
+
+ghost use Rattle.std.specs.Prelude.{◌≡◌, ◌⊎◌, true, false, not, is_some, Some, None, Err, IfOk, IfErr, OnOk, OnErr};
+ghost use Rattle.ti_types.specs.declared.error.TiError.TheVariants.{Busy};
+ghost use Rattle.ti_jdwp.specs.Lines.{with_written};
+ghost use Rattle.ti_jdwp.specs.Talks.{opened};
+ghost use Rattle.ti_debugger.specs.declared.debugger_error.DebuggerError.TheVariants.{NoDebugger};
+ghost use Rattle.ti_debugger.specs.Crowds.{NoneHeld};
+ghost use Rattle.ti_debugger.specs.Runs.{RunsTo};
+ghost use Rattle.ti_debugger.specs.Seats.{Says};
+ghost use Rattle.ti_debugger.specs.Sessions.{session_in, room_of, output_of, Changes, Feeds, is_idle};

@@ -1,0 +1,56 @@
+//! The agent, with the threads that it watches.
+
+use crate::about::About;
+use crate::crowd::Crowd;
+use std::alloc::Global;
+use ti_service::{Agent, Service, ServiceTries};
+use ti_types::{Caps, TiError};
+
+/// The agent, with the threads that it watches, and what it tells of the runtime.
+#[derive(Drop)]
+pub(crate) struct Desk {
+    pub(crate) alloc: Global,
+    pub(crate) agent: Agent,
+    pub(crate) about: About,
+    pub(crate) crowd: Crowd,
+    /// When threads are met next.
+    pub(crate) next_meeting: u64,
+    /// Ends of threads were lost, so that each thread has to be looked at.
+    pub(crate) lost: bool,
+}
+
+impl Desk {
+    /// An agent that watches nobody yet.
+    pub(crate) fn new(alloc: Global, agent: Agent, about: About, now: u64) -> Desk
+        ensures { result.crowd.list.items ≡ [] }
+    {
+        let mut agent = agent;
+        let _it_can_be_had = agent.add_capabilities(Caps::CAN_SUSPEND);
+        let _later_if_busy = agent.set_event_notification_mode_now(true);
+        Desk {
+            alloc,
+            agent,
+            about,
+            crowd: Crowd::new(alloc),
+            next_meeting: now,
+            lost: false,
+        }
+    }
+
+    /// Disposes of the agent. The errors are those of `ServiceTries::dispose_now`. Then the threads are watched as before.
+    pub(crate) fn dispose(self) -> Result<Service, (TiError, Desk)>
+        ensures { IfErr result (λ r. r.1.crowd ≡ self.crowd) }
+    {
+        let mut rest = self;
+        let alloc = rest.alloc;
+        match rest.agent.dispose_now(alloc) {
+            Ok(service) => Ok(service),
+            Err((error, agent)) => {
+                rest.agent = agent;
+                Err((error, rest))
+            }
+        }
+    }
+}
+
+ghost use Rattle.std.specs.Prelude.{◌≡◌, [], IfErr};

@@ -1,0 +1,16 @@
+//! What a session waits for.
+
+use ti_jdwp::Request;
+
+/// What a session waits for, and its agent owes it.
+#[derive(Clone, Copy, Debug, PartialEq, Eq)]
+pub(crate) enum Due {
+    /// The reply to a request.
+    Answer(Request),
+    /// The list of threads that are alive.
+    List,
+    /// The suspension of a thread.
+    Post(u32),
+    /// That suspensions stand.
+    Settle,
+}

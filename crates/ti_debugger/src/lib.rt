@@ -1,0 +1,29 @@
+//! The agent behind a debugger's session: it answers the Java Debug Wire Protocol (JDWP) from a service's threads.
+//!
+//! A `Debugger` is an agent of the service, kept from one debugger to the next, with at most one session of `ti_jdwp`. It suspends
+//! and resumes threads as the session says, and replies with their names, states and stacks, and with the runtime's classes. It has
+//! no socket and no clock: bytes and the time go in, bytes and what is to be done come out. No call waits.
+#![tactic(auto)]
+
+mod about;
+mod asking;
+mod class_answers;
+mod crowd;
+mod debugger;
+mod debugger_error;
+mod desk;
+mod due;
+mod hold;
+mod holding;
+mod meeting;
+mod method_answers;
+mod refusal;
+mod seat;
+mod stacks;
+mod status;
+mod watched;
+
+pub use about::About;
+pub use debugger::Debugger;
+pub use debugger_error::DebuggerError;
+pub use seat::Todo;

@@ -1,0 +1,121 @@
+//! How threads are met and let go of, and what happens to them.
+
+use crate::desk::Desk;
+use crate::watched::Watched;
+use std::alloc::Global;
+use ti_service::{Agent, LifeEvent, LifeKind, ServiceTries, ThreadInfo};
+use ti_types::{ThreadNo, TiError};
+
+/// How often threads are met if nothing is new, in nanoseconds.
+const LOOK: u64 = 100_000_000;
+
+/// After which time a meeting that could not be is tried again.
+const SOON: u64 = 1_000_000;
+
+/// A thread that was just met, with its name. One that was given back meanwhile has no name.
+///
+/// The error is 110 OUT_OF_MEMORY, or 215 `Busy` if the roster is in use.
+fn watched_at(alloc: Global, agent: &mut Agent, thread: ThreadNo) -> Result<Watched, TiError> {
+    match agent.get_thread_info_now(alloc, thread) {
+        Ok(ThreadInfo { name, .. }) => Ok(Watched::new(thread, name)),
+        Err(error @ (TiError::OutOfMemory | TiError::Busy)) => Err(error),
+        Err(_) => {
+            let mut watched = Watched::new(thread, String::new(alloc));
+            watched.ended = true;
+            Ok(watched)
+        }
+    }
+}
+
+impl Desk {
+    /// Meets threads, if that is due or there is news.
+    pub(crate) fn meet_if_due(&mut self, now: u64) {
+        if !self.agent.has_news() && now < self.next_meeting {
+            return;
+        }
+        let is_met = self.meet();
+        self.next_meeting = now.saturating_add(if is_met { LOOK } else { SOON });
+    }
+
+    /// Meets the threads that came, and lets go of those that were given back. False if the roster is in use.
+    fn meet(&mut self) -> bool {
+        let enabled = self.agent.set_event_notification_mode_now(true);
+        let met = self.agent.meet_now(self.alloc);
+        let watched = self.watch_new();
+        self.let_go_of_ended();
+        enabled.is_ok() && met != Err(TiError::Busy) && watched
+    }
+
+    /// The index of the first desk of the agent's that is at a thread behind all that are watched.
+    fn first_new(&self) -> u32 {
+        let mut index = self.agent.desk_count();
+        let Some(last) = self.crowd.last() else {
+            return 0;
+        };
+        while index > 0 {
+            match self.agent.thread_at(index - 1) {
+                Some(thread) if thread.0 > last.0 => index -= 1,
+                _ => break,
+            }
+        }
+        index
+    }
+
+    /// Watches the threads that the agent has met since the last time, as far as there is room and memory. False if the roster is in
+    /// use.
+    fn watch_new(&mut self) -> bool {
+        for index in self.first_new()..self.agent.desk_count() {
+            let Some(thread) = self.agent.thread_at(index) else {
+                return true;
+            };
+            match watched_at(self.alloc, &mut self.agent, thread) {
+                Ok(one) => {
+                    if !self.crowd.add(one) {
+                        return true;
+                    }
+                }
+                Err(error) => return error != TiError::Busy,
+            }
+        }
+        true
+    }
+
+    /// Lets go of threads that were given back, so that their memory is freed. If ends of threads were lost, it looks at each thread.
+    fn let_go_of_ended(&mut self) {
+        let all = self.lost;
+        self.lost = false;
+        for one in self.crowd.list.iter_mut() {
+            if !one.gone && (one.ended || all) {
+                match self.agent.let_go_now(one.thread) {
+                    Ok(true) => {
+                        one.gone = true;
+                        one.ended = true;
+                    }
+                    Ok(false) => (),
+                    Err(_) => self.lost = self.lost || all,
+                }
+            }
+        }
+    }
+
+    /// The next start or end of a thread that is to be told. `None` if there is none, or if the roster is in use.
+    pub(crate) fn next_life(&mut self) -> Option<LifeEvent> {
+        let Ok(Some(next)) = self.agent.next_event_now() else {
+            return None;
+        };
+        if next.lost > 0 {
+            self.lost = true;
+        }
+        if next.event.kind == LifeKind::ThreadEnd {
+            self.note_end(next.event.thread);
+        }
+        Some(next.event)
+    }
+
+    /// Notes that a thread was given back.
+    fn note_end(&mut self, thread: ThreadNo) {
+        if let Some(place) = self.crowd.place_of(thread.0) {
+            self.crowd.list[place].ended = true;
+        }
+    }
+}

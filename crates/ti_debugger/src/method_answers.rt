@@ -1,0 +1,127 @@
+//! What is told of methods.
+
+use crate::desk::Desk;
+use crate::refusal::Refusal;
+use std::alloc::{AllocError, Global};
+use ti_jdwp::{
+    JdwpError, LineRow, MethodRow, class_of, identity_lines_body, line_table_body, method_of,
+    methods_body,
+};
+use ti_service::{ClassCalls, ClassError, ClassNo, LineEntry, Lines};
+use ti_types::MethodNo;
+
+/// The signature that each method has: the runtime's own need not be one of Java's.
+const SIGNATURE: &[u8] = b"()V";
+
+/// How many lines are told of a method whose locations are its lines, from its first line on.
+const MOST_LINES: u32 = 4_096;
+
+/// A method with its name.
+#[derive(Drop)]
+struct Known {
+    method: u32,
+    name: String,
+    native: bool,
+}
+
+/// The rows of a list of methods. The error is lack of memory.
+fn body_of(alloc: Global, methods: &[Known]) -> Result<Vec<u8>, JdwpError> {
+    let mut rows = Vec::new(alloc);
+    for known in methods {
+        rows.reserve(1)?;
+        rows.push_reserved(MethodRow {
+            method: known.method,
+            name: known.name.as_bytes(),
+            signature: SIGNATURE,
+            native: known.native,
+        });
+    }
+    methods_body(alloc, rows.as_slice())
+}
+
+/// The lines from this one on, 1 if it is not known. The error is lack of memory.
+fn lines_from(alloc: Global, first: u32) -> Result<Vec<u32>, AllocError> {
+    let mut lines = Vec::new(alloc);
+    let from = first.max(1);
+    for more in 0..MOST_LINES {
+        lines.push(from.saturating_add(more))?;
+    }
+    Ok(lines)
+}
+
+/// The rows of a table, in the order of their locations. The error is lack of memory.
+fn rows_of(alloc: Global, entries: &[LineEntry]) -> Result<Vec<LineRow>, AllocError> {
+    let mut rows = Vec::new(alloc);
+    for entry in entries {
+        rows.reserve(1)?;
+        rows.push_reserved(LineRow {
+            index: u64::from(entry.start_location),
+            line: entry.line,
+        });
+    }
+    rows.sort_by_key(|row: &LineRow| row.index)?;
+    Ok(rows)
+}
+
+/// The lines of a method whose first line is this one (6/1). Each location is in the range of the table.
+fn table_of(alloc: Global, lines: Lines, first: u32) -> Result<Vec<u8>, JdwpError> {
+    match lines {
+        Lines::Absent => identity_lines_body(alloc, &[]),
+        Lines::Locations => {
+            let lines = lines_from(alloc, first)?;
+            identity_lines_body(alloc, lines.as_slice())
+        }
+        Lines::Table(entries) => {
+            let rows = rows_of(alloc, entries.as_slice())?;
+            line_table_body(alloc, 0, u64::from(u32::MAX), rows.as_slice())
+        }
+    }
+}
+
+impl Desk {
+    /// A method with its name.
+    fn known_method(&mut self, method: MethodNo) -> Result<Known, ClassError> {
+        let named = self.agent.get_method_name(self.alloc, method)?;
+        Ok(Known {
+            method: method.0,
+            name: named.name,
+            native: self.agent.is_method_native(method)?,
+        })
+    }
+
+    /// The methods of a class (2/15).
+    pub(crate) fn methods(&mut self, id: u64) -> Result<Vec<u8>, Refusal> {
+        let Some(class) = class_of(id) else {
+            return Err(Refusal::Error(JdwpError::InvalidClass));
+        };
+        let mut known = Vec::new(self.alloc);
+        let methods = self.agent.get_class_methods(self.alloc, ClassNo(class))?;
+        for method in &methods {
+            known.reserve(1)?;
+            known.push_reserved(self.known_method(*method)?);
+        }
+        Ok(body_of(self.alloc, known.as_slice())?)
+    }
+
+    /// The lines of a method (6/1). One whose lines are not known has none.
+    pub(crate) fn line_table(&mut self, class: u64, method: u64) -> Result<Vec<u8>, Refusal> {
+        let (Some(class), Some(method)) = (class_of(class), method_of(method)) else {
+            return Err(Refusal::Error(JdwpError::InvalidMethodId));
+        };
+        if self.agent.get_method_declaring_class(MethodNo(method))? != ClassNo(class) {
+            return Err(Refusal::Error(JdwpError::InvalidMethodId));
+        }
+        let first = self
+            .agent
+            .get_method_name(self.alloc, MethodNo(method))?
+            .first_line;
+        let lines = match self
+            .agent
+            .get_line_number_table(self.alloc, MethodNo(method))
+        {
+            Err(ClassError::AbsentInformation) => Lines::Absent,
+            told => told?,
+        };
+        Ok(table_of(self.alloc, lines, first)?)
+    }
+}

@@ -1,0 +1,232 @@
+//! A session, and what the agent owes it.
+
+use crate::desk::Desk;
+use crate::due::Due;
+use crate::refusal::Refusal;
+use std::alloc::Global;
+use ti_jdwp::{Action, JdwpError, Request, Session, SessionError};
+use ti_service::{LifeEvent, LifeKind};
+
+/// How many steps of a session are taken at once.
+const STEPS: u32 = 262_144;
+
+/// What a caller does next with the connection.
+#[derive(Clone, Copy, Debug, PartialEq, Eq)]
+pub enum Todo {
+    /// Write `output` to the socket, and tell how much it took by `written`.
+    Write,
+    /// Close the socket, and call `closed`.
+    Close,
+    /// Nothing, until the socket gives more or `tick` was called.
+    Wait,
+}
+
+/// A session, and what the agent owes it.
+#[derive(Drop)]
+pub(crate) struct Seat {
+    pub(crate) session: Session,
+    pub(crate) due: Option<Due>,
+    /// There is more to do than was done at once.
+    pub(crate) rests: bool,
+}
+
+impl Seat {
+    /// A session that waits for the handshake.
+    pub(crate) fn new(alloc: Global) -> Seat
+        ensures { result.session ≡ opened }
+    {
+        Seat {
+            session: Session::new(alloc),
+            due: None,
+            rests: false,
+        }
+    }
+
+    /// What the caller does next. What the session asks for is done here, as far as it can be now. The error is lack of memory.
+    pub(crate) fn next(&mut self, desk: &mut Desk, now: u64) -> Result<Todo, SessionError>
+        ensures run { RunsTo self.old.session self.new.session }
+        ensures says { IfOk result (λ t. Says self.new.session t) }
+    {
+        self.rests = false;
+        for _ in 0..STEPS {
+            if let Some(todo) = self.step(desk, now)? {
+                return Ok(todo);
+            }
+        }
+        self.rests = true;
+        Ok(self.todo())
+    }
+
+    /// Takes one step of the session. `None` if there is more to do now. The error is lack of memory.
+    fn step(&mut self, desk: &mut Desk, now: u64) -> Result<Option<Todo>, SessionError>
+        ensures run { RunsTo self.old.session self.new.session }
+        ensures says { IfOk result (λ o. IfSome o (λ t. Says self.new.session t)) }
+    {
+        let ready = self.settle(desk, now)?;
+        self.go_on(desk, ready)
+    }
+
+    /// Takes up what the session says next, if it waits for nothing. `None` if there is more to do now. The error is lack of memory.
+    fn go_on(&mut self, desk: &mut Desk, ready: bool) -> Result<Option<Todo>, SessionError>
+        ensures run { RunsTo self.old.session self.new.session }
+        ensures says { IfOk result (λ o. IfSome o (λ t. Says self.new.session t)) }
+    {
+        if !ready {
+            return Ok(Some(self.todo()));
+        }
+        match self.advance()? {
+            Action::Close => Ok(Some(self.closing())),
+            Action::Write | Action::Wait => Ok(Some(self.todo())),
+            action => {
+                self.take_up(desk, action);
+                Ok(None)
+            }
+        }
+    }
+
+    /// What the session says next. The error is lack of memory.
+    fn advance(&mut self) -> Result<Action, SessionError>
+        ensures { RunsTo self.old.session self.new.session }
+    {
+        self.session.next()
+    }
+
+    /// Whether there is something to write.
+    fn todo(&self) -> Todo
+        ensures { Says self.now.session result }
+    {
+        if self.session.output().is_empty() {
+            Todo::Wait
+        } else {
+            Todo::Write
+        }
+    }
+
+    /// Closes the connection, once all is written.
+    fn closing(&self) -> Todo
+        ensures { Says self.now.session result }
+    {
+        if self.session.output().is_empty() {
+            Todo::Close
+        } else {
+            Todo::Write
+        }
+    }
+
+    /// Takes up what the session asks for.
+    fn take_up(&mut self, desk: &mut Desk, action: Action)
+        ensures { self.new.session ≡ self.old.session }
+    {
+        match action {
+            Action::Ask(request) => self.due = Some(Due::Answer(request)),
+            Action::ListThreads => self.due = Some(Due::List),
+            Action::Suspend(thread) => self.due = Some(Due::Post(thread)),
+            Action::Settle => self.due = Some(Due::Settle),
+            Action::Resume(thread) => desk.resume(thread),
+            Action::Again | Action::Write | Action::Close | Action::Wait => (),
+        }
+    }
+
+    /// Gives the session what it waits for. Whether it waits for nothing any more. The error is lack of memory.
+    fn settle(&mut self, desk: &mut Desk, now: u64) -> Result<bool, SessionError>
+        ensures { RunsTo self.old.session self.new.session }
+    {
+        let Some(due) = self.due else {
+            return Ok(true);
+        };
+        let given = self.give(desk, due, now)?;
+        if given {
+            self.due = None;
+        }
+        Ok(given)
+    }
+
+    /// Gives the session this. Whether it was there. The error is lack of memory.
+    fn give(&mut self, desk: &mut Desk, due: Due, now: u64) -> Result<bool, SessionError>
+        ensures { RunsTo self.old.session self.new.session }
+    {
+        match due {
+            Due::Answer(request) => self.give_answer(desk, request),
+            Due::List => self.give_list(desk),
+            Due::Post(thread) => self.give_posted(desk, thread, now),
+            Due::Settle => self.give_settled(desk, now),
+        }
+    }
+
+    /// Replies to a request, if the answer is there.
+    fn give_answer(&mut self, desk: &mut Desk, request: Request) -> Result<bool, SessionError>
+        ensures { RunsTo self.old.session self.new.session }
+    {
+        match desk.answer(request, self.session.data()) {
+            Ok(body) => self.reply(body.as_slice()),
+            Err(Refusal::Error(error)) => self.refuse(error),
+            Err(Refusal::Later) => Ok(false),
+        }
+    }
+
+    /// Replies to a request.
+    fn reply(&mut self, body: &[u8]) -> Result<bool, SessionError>
+        ensures { RunsTo self.old.session self.new.session }
+    {
+        self.session.reply(body)?;
+        Ok(true)
+    }
+
+    /// Replies to a request with an error.
+    fn refuse(&mut self, error: JdwpError) -> Result<bool, SessionError>
+        ensures { RunsTo self.old.session self.new.session }
+    {
+        self.session.refuse(error)?;
+        Ok(true)
+    }
+
+    /// Lists the threads that are there.
+    fn give_list(&mut self, desk: &mut Desk) -> Result<bool, SessionError>
+        ensures { RunsTo self.old.session self.new.session }
+    {
+        let threads = match desk.crowd.alive(desk.alloc) {
+            Ok(threads) => threads,
+            Err(_) => return Err(SessionError::OutOfMemory),
+        };
+        self.session.threads(threads.as_slice())?;
+        Ok(true)
+    }
+
+    /// Suspends a thread, if its cell is free.
+    fn give_posted(&mut self, desk: &mut Desk, thread: u32, now: u64) -> Result<bool, SessionError>
+        ensures { RunsTo self.old.session self.new.session }
+    {
+        match desk.suspend(thread, now) {
+            Some(posted) => {
+                self.session.suspended(posted)?;
+                Ok(true)
+            }
+            None => Ok(false),
+        }
+    }
+
+    /// Says that the suspensions stand, if they do or the second is over.
+    fn give_settled(&mut self, desk: &mut Desk, now: u64) -> Result<bool, SessionError>
+        ensures { RunsTo self.old.session self.new.session }
+    {
+        desk.settle_all();
+        if desk.is_awaiting(now) {
+            return Ok(false);
+        }
+        self.session.settled()?;
+        Ok(true)
+    }
+
+    /// Tells the session of the start or the end of a thread.
+    pub(crate) fn tell(&mut self, life: LifeEvent) {
+        let _it_counts_what_is_lost = match life.kind {
+            LifeKind::ThreadStart => self.session.thread_started(life.thread.0),
+            LifeKind::ThreadEnd => self.session.thread_ended(life.thread.0),
+        };
+    }
+}
+
+ghost use Rattle.std.specs.Prelude.{◌≡◌, IfOk, IfSome};
+ghost use Rattle.ti_jdwp.specs.Talks.{opened};
+ghost use Rattle.ti_debugger.specs.Runs.{RunsTo};
+ghost use Rattle.ti_debugger.specs.Seats.{Says};

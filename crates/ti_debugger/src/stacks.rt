@@ -1,0 +1,173 @@
+//! What is told of a thread's state and stack.
+
+use crate::desk::Desk;
+use crate::refusal::{Refusal, refusal_of_call, refusal_of_class};
+use crate::status::{is_suspended, is_terminated, status_of};
+use ti_jdwp::{FrameRow, JdwpError, frames_body, int_body, status_body};
+use ti_service::ClassCalls;
+use ti_slot::Asked;
+use ti_types::{Answer, Call, Frame, Place, ThreadNo, TraceBuf};
+
+/// The location of a frame in a native method: -1.
+const NATIVE_INDEX: u64 = u64::MAX;
+
+/// The greatest count of frames that the protocol has.
+const MOST_FRAMES: u32 = 0x7fff_ffff;
+
+/// A part of a stack.
+#[derive(Clone, Copy, Debug, PartialEq, Eq)]
+pub(crate) struct Part {
+    pub(crate) start: i32,
+    pub(crate) count: i32,
+}
+
+/// How many frames are asked for from `start` on: `length`, or all that are left for -1.
+fn wanted_of(count: i32, start: i32, length: i32) -> i64
+    ensures all { length ≡ negsuc 0 → result ≡ count -ℤ start }
+    ensures some { length ≢ negsuc 0 → result ≡ length }
+{
+    if length == -1 {
+        i64::from(count) - i64::from(start)
+    } else {
+        i64::from(length)
+    }
+}
+
+/// The part of a stack of this many frames that a debugger asks for. `None` if it asks for no frame.
+///
+/// - 503 INVALID_INDEX: the stack has no frame at the start.
+/// - 504 INVALID_LENGTH: it has fewer frames than were asked for.
+fn part_of(count: i32, start: i32, wanted: i64) -> Result<Option<Part>, JdwpError>
+    ensures { IsPart count start wanted result }
+{
+    if wanted == 0 {
+        return Ok(None);
+    }
+    if start < 0 || start >= count {
+        return Err(JdwpError::InvalidIndex);
+    }
+    if wanted < 0 || wanted > i64::from(count) - i64::from(start) {
+        return Err(JdwpError::InvalidLength);
+    }
+    Ok(Some(Part {
+        start,
+        count: wanted as i32,
+    }))
+}
+
+/// Where a frame is in its method.
+fn index_of(place: Place) -> u64
+    ensures { result ≡ index_of place }
+{
+    match place {
+        Place::Java(location) => u64::from(location),
+        Place::Native => NATIVE_INDEX,
+    }
+}
+
+impl Desk {
+    /// The answer of a thread that answers at once. A thread that is not there, or that still runs, has none: 13.
+    fn ask_now(&mut self, thread: u32, call: Call) -> Result<Answer, Refusal> {
+        match self.agent.post_now(self.alloc, ThreadNo(thread), call) {
+            Ok(Asked::Answered(Answer::Refused(error))) => Err(refusal_of_call(error)),
+            Ok(Asked::Answered(answer)) => Ok(answer),
+            Ok(Asked::Waiting(ticket)) => {
+                let _it_goes_with_the_agent = self.agent.cancel_now(self.alloc, ticket);
+                Err(Refusal::Error(JdwpError::ThreadNotSuspended))
+            }
+            Err(error) => Err(refusal_of_call(error)),
+        }
+    }
+
+    /// The bits of a thread's state. 10 INVALID_THREAD if it is not watched.
+    fn state_bits(&mut self, thread: u32) -> Result<Option<u32>, Refusal> {
+        let Some(place) = self.crowd.place_of(thread) else {
+            return Err(Refusal::Error(JdwpError::InvalidThread));
+        };
+        if self.crowd.list[place].ended {
+            return Ok(None);
+        }
+        match self.ask_now(thread, Call::State)? {
+            Answer::State(bits) if !is_terminated(bits) => Ok(Some(bits)),
+            _ => Ok(None),
+        }
+    }
+
+    /// The status of a thread (11/4): that of one that has ended is 0, and not suspended.
+    pub(crate) fn status(&mut self, thread: u32) -> Result<Vec<u8>, Refusal> {
+        let (status, suspended) = match self.state_bits(thread)? {
+            Some(bits) => (status_of(bits), is_suspended(bits)),
+            None => (0, false),
+        };
+        Ok(status_body(self.alloc, status, suspended)?)
+    }
+
+    /// How many frames a suspended thread has. 13 THREAD_NOT_SUSPENDED if it has ended or still runs.
+    fn depth(&mut self, thread: u32) -> Result<i32, Refusal> {
+        match self.state_bits(thread)? {
+            Some(bits) if is_suspended(bits) => (),
+            _ => return Err(Refusal::Error(JdwpError::ThreadNotSuspended)),
+        }
+        match self.ask_now(thread, Call::FrameCount)? {
+            Answer::Count(count) => Ok(count.min(MOST_FRAMES).cast_signed()),
+            _ => Err(Refusal::Error(JdwpError::ThreadNotSuspended)),
+        }
+    }
+
+    /// The number of frames of a suspended thread (11/7).
+    pub(crate) fn frame_count(&mut self, thread: u32) -> Result<Vec<u8>, Refusal> {
+        let count = self.depth(thread)?;
+        Ok(int_body(self.alloc, count)?)
+    }
+
+    /// Frames of a suspended thread (11/6).
+    pub(crate) fn frames(
+        &mut self,
+        thread: u32,
+        start: i32,
+        length: i32,
+    ) -> Result<Vec<u8>, Refusal> {
+        let count = self.depth(thread)?;
+        let wanted = wanted_of(count, start, length);
+        let Some(part) = part_of(count, start, wanted)? else {
+            return Ok(frames_body(self.alloc, thread, &[])?);
+        };
+        let call = Call::Trace {
+            start: part.start,
+            max_count: part.count,
+        };
+        match self.ask_now(thread, call)? {
+            Answer::Trace(trace) => self.stack(thread, part.start.cast_unsigned(), &trace),
+            _ => Err(Refusal::Error(JdwpError::ThreadNotSuspended)),
+        }
+    }
+
+    /// The frames of a trace whose newest frame is at a depth.
+    fn stack(&mut self, thread: u32, depth: u32, trace: &TraceBuf) -> Result<Vec<u8>, Refusal> {
+        let mut rows = Vec::new(self.alloc);
+        let mut next = depth;
+        for frame in trace.frames() {
+            rows.reserve(1)?;
+            rows.push_reserved(self.row(next, *frame)?);
+            next = next.saturating_add(1);
+        }
+        Ok(frames_body(self.alloc, thread, rows.as_slice())?)
+    }
+
+    /// A frame at a depth. 23 INVALID_METHODID if nobody defined its method.
+    fn row(&mut self, depth: u32, frame: Frame) -> Result<FrameRow, Refusal> {
+        let class = match self.agent.get_method_declaring_class(frame.method) {
+            Ok(class) => class,
+            Err(error) => return Err(refusal_of_class(error)),
+        };
+        Ok(FrameRow {
+            depth,
+            class: class.0,
+            method: frame.method.0,
+            index: index_of(frame.place),
+        })
+    }
+}
+
+ghost use Rattle.std.specs.Prelude.{◌≡◌, ◌≢◌, ◌-ℤ◌, negsuc};
+ghost use Rattle.ti_debugger.specs.Stacks.{IsPart, index_of};
