@@ -1,3 +1,0 @@
-pub mod Lowering
-pub mod Cutting
-pub mod Pieces
