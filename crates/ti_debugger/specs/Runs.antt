@@ -16,7 +16,7 @@ is_agents (Listed threads) = true
 is_agents (PostedAs posted) = true
 is_agents Settled = true
 is_agents (Written count) = false
-is_agents Happened = true
+is_agents (Happened event occurrence is_told) = false
 
 -- A session went on by such calls. `requests_are_answered` of `ti_jdwp` says what whole runs of calls send.
 abbrev pub RunsTo : Talk → Talk → Type 0
