@@ -7,12 +7,12 @@
 # `make stress` prove and build the program of `bench/tibench`, which the gate only tries.
 # `make lib` builds the library for C into `dist/`. `make capi` tests it: by C programs, under sanitizers and valgrind, by the
 # bindings for Rust and Python, and as it is installed (`make installed`). `make lua` builds the Lua host of `hosts/lua` over it,
-# and tests that. `make serve` has pprof and Prometheus read what a Lua program serves. `make install` installs what `make lib` has built, and the programs that are built, below PREFIX. `make uninstall`
+# and tests that. `make serve` has pprof and Prometheus read what a Lua program serves, and `make jdb` has jdb attach to one. `make install` installs what `make lib` has built, and the programs that are built, below PREFIX. `make uninstall`
 # removes them.
 # `make jvm` carries walks out on a Java VM and compares its answers with the program's lines, and what the library tells of the VM's
 # classes with what JVM TI tells. `make try` runs the program on all
 # examples without proving anything.
-.PHONY: run try test examples cases bench refused stress edits lib capi installed lua serve install uninstall jvm
+.PHONY: run try test examples cases bench refused stress edits lib capi installed lua serve jdb install uninstall jvm
 
 CAPI = crates/ti_capi/out/libti_capi.a
 TIBENCH = bench/out/tibench
@@ -81,6 +81,10 @@ lua: lib
 serve: lib
 	$(MAKE) -C hosts/lua CEBDYRAQ=$(CURDIR)/dist
 	python3 tests/serve/run.py
+
+jdb: lib
+	$(MAKE) -C hosts/lua CEBDYRAQ=$(CURDIR)/dist
+	python3 tests/jdb/run.py
 
 # PREFIX is where the files are looked for later, and DESTDIR a folder before it into which they are put now.
 PREFIX ?= /usr/local

@@ -516,7 +516,7 @@ private:
     }
 };
 
-/* What serves a service over HTTP, until it is destroyed. */
+/* What serves a service over HTTP, or listens for debuggers, until it is destroyed. */
 class server : public holder<cq_server> {
 public:
     server(server &&) noexcept = default;
@@ -577,11 +577,16 @@ public:
     /* Serves profiles, stacks and counters at an address, as cq_serve does. Throws std::system_error if the operating system
      * refuses it. */
     server serve(const std::string &address, const std::string &program) {
-        server made(shared_signal());
-        std::uint32_t got = cq_serve(made.get(), get(), signal(), address.c_str(), program.c_str());
-        if (got == CQ_SYSTEM) throw std::system_error(errno, std::generic_category(), address);
-        check(got);
-        return made;
+        return served(address, [&](server &made) {
+            return cq_serve(made.get(), get(), signal(), address.c_str(), program.c_str());
+        });
+    }
+
+    /* Listens for debuggers at an address, as cq_debug_listen does. It throws as `serve` does. */
+    server debug_listen(const std::string &address, const std::string &program, const std::string &path) {
+        return served(address, [&](server &made) {
+            return cq_debug_listen(made.get(), get(), signal(), address.c_str(), program.c_str(), path.c_str());
+        });
     }
 
     /* An empty name of a source file is none. */
@@ -594,6 +599,15 @@ public:
 
 private:
     using holder::holder;
+
+    template <class Begin>
+    server served(const std::string &address, Begin begin) {
+        server made(shared_signal());
+        std::uint32_t got = begin(made);
+        if (got == CQ_SYSTEM) throw std::system_error(errno, std::generic_category(), address);
+        check(got);
+        return made;
+    }
 };
 
 }  // namespace cebdyraq

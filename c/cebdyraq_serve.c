@@ -1,26 +1,24 @@
 /* cebdyraq_serve.c: see cebdyraq_serve.h. Sockets and a clock around a door. */
 #define _GNU_SOURCE
 #include "cebdyraq_serve.h"
+#include "cebdyraq_listen.h"
+#include "cebdyraq_peer.h"
 
-#include <arpa/inet.h>
 #include <errno.h>
-#include <fcntl.h>
 #include <netinet/in.h>
 #include <netinet/tcp.h>
 #include <poll.h>
 #include <pthread.h>
 #include <signal.h>
-#include <stdlib.h>
 #include <string.h>
 #include <sys/eventfd.h>
 #include <sys/socket.h>
-#include <sys/stat.h>
-#include <sys/un.h>
 #include <time.h>
-#include <unistd.h>
 
-enum { CHUNK = 16384, BACKLOG = 64, NO_PORT = 65536 };
+enum { CHUNK = 16384, NO_PORT = 65536 };
 static const uint64_t LINGER_NS = 1000000000;  /* how long a peer may send after its answer */
+static const uint64_t GREETING_NS = 2000000000;  /* how long a debugger may take to greet */
+static const uint64_t NEVER = UINT64_MAX;
 static const uint64_t NAP_NS = 50000;          /* between two tries of what another uses */
 static const uint64_t REFUSED_NS = 100000000;  /* before connections are taken in again after the system refused one */
 
@@ -29,26 +27,26 @@ typedef struct __attribute__((may_alias)) {
     cq_door door;
     cq_signal *signal;
     pthread_t thread;
-    int listener;                                /* a socket */
+    listener listener;
     int ending;                                  /* an eventfd */
     int sockets[CQ_DOOR_CONNECTIONS];            /* by connection, or -1 */
     int leaving[CQ_DOOR_CONNECTIONS];            /* sockets of connections that ended, whose peers may still send */
     uint64_t leaving_since[CQ_DOOR_CONNECTIONS];
     uint32_t actions[CQ_DOOR_CONNECTIONS];       /* what is to be done with each */
     uint64_t rooms[CQ_DOOR_CONNECTIONS];
-    char path[108];                              /* of a Unix socket */
-    uint16_t port;
+    uint64_t resumptions;                        /* by the door, for which threads were woken */
+    uint64_t greets_by;                          /* when a debugger has to have greeted, or NEVER */
+    bool is_for_debuggers;
     bool runs;
 } server;
 _Static_assert(sizeof(server) <= sizeof(cq_server), "it fits");
 
-/* An address to listen at. */
-typedef union {
-    struct sockaddr any;
-    struct sockaddr_in four;
-    struct sockaddr_in6 six;
-    struct sockaddr_un unix_path;
-} address;
+/* Which door is opened. */
+typedef struct {
+    bool is_for_debuggers;
+    const char *program;
+    const char *path;  /* in which debuggers look for source files */
+} opening;
 
 static uint64_t clock_ns(clockid_t clock) {
     struct timespec now;
@@ -68,13 +66,6 @@ static void nap(void) {
 /* ------------------------------------------------------------------------------------------------------------------
  * Connections.
  */
-
-static void close_socket(int *socket) {
-    if (*socket >= 0) {
-        close(*socket);
-    }
-    *socket = -1;
-}
 
 /* Lets a peer that may still send leave: with unread bytes a close would cut off the answer that is on its way. */
 static void let_leave(server *s, int socket, uint64_t now) {
@@ -131,6 +122,7 @@ static bool write_some(server *s, uint32_t connection) {
         return false;
     }
     cq_door_written(&s->door, connection, (uint64_t)taken, now_ns());
+    s->greets_by = NEVER;
     return true;
 }
 
@@ -170,22 +162,46 @@ static void read_some(server *s, uint32_t connection) {
     }
 }
 
-/* Takes in a connection that waits. Returns whether another may be taken in. */
-static bool take_in(server *s) {
-    uint32_t connection = 0;
-    if (cq_door_connect(&s->door, now_ns(), &connection) != CQ_OK) {
-        return false;
-    }
-    int socket = accept4(s->listener, NULL, NULL, SOCK_CLOEXEC | SOCK_NONBLOCK), yes = 1;
-    if (socket < 0) {
-        bool is_none = errno == EAGAIN || errno == EINTR || errno == ECONNABORTED;
-        cq_door_disconnect(&s->door, connection);
-        return is_none;
-    }
+/* Whether a peer may have what the door has. */
+static bool is_welcome(const server *s, int socket) {
+    return !s->is_for_debuggers || is_own_peer(socket);
+}
+
+static void settle_in(server *s, uint32_t connection, int socket) {
+    int yes = 1;
     setsockopt(socket, IPPROTO_TCP, TCP_NODELAY, &yes, sizeof yes);
     s->sockets[connection] = socket;
+    s->greets_by = s->is_for_debuggers ? now_ns() + GREETING_NS : NEVER;
     go_on(s, connection);
-    return true;
+}
+
+/* Closes a debugger that has not greeted in time: nothing was written to it. It has the only place. */
+static void drop_silent(server *s) {
+    if (now_ns() >= s->greets_by) {
+        s->greets_by = NEVER;
+        drop(s, 0);
+    }
+}
+
+/* Takes in a connection that waits. Returns whether another may be taken in. Without a place it goes on waiting for one; only a
+ * further debugger is closed at once. */
+static bool take_in(server *s) {
+    uint32_t connection = 0;
+    bool has_place = cq_door_connect(&s->door, now_ns(), &connection) == CQ_OK;
+    if (!has_place && !s->is_for_debuggers) {
+        return false;
+    }
+    int socket = accept4(s->listener.socket, NULL, NULL, SOCK_CLOEXEC | SOCK_NONBLOCK);
+    bool is_refused = socket < 0 && errno != EAGAIN && errno != EINTR && errno != ECONNABORTED;
+    if (socket >= 0 && has_place && is_welcome(s, socket)) {
+        settle_in(s, connection, socket);
+        return true;
+    }
+    close_socket(&socket);
+    if (has_place) {
+        cq_door_disconnect(&s->door, connection);
+    }
+    return !is_refused;
 }
 
 /* ------------------------------------------------------------------------------------------------------------------
@@ -199,7 +215,7 @@ static short wanted(const server *s, uint32_t connection) {
 }
 
 static void list_sockets(const server *s, bool takes, struct pollfd *all) {
-    all[LISTENER] = (struct pollfd){ takes ? s->listener : -1, POLLIN, 0 };
+    all[LISTENER] = (struct pollfd){ takes ? s->listener.socket : -1, POLLIN, 0 };
     all[ENDING] = (struct pollfd){ s->ending, POLLIN, 0 };
     for (uint32_t i = 0; i < CQ_DOOR_CONNECTIONS; i++) {
         all[FIRST + i] = (struct pollfd){ s->sockets[i], s->sockets[i] >= 0 ? wanted(s, i) : 0, 0 };
@@ -207,8 +223,9 @@ static void list_sockets(const server *s, bool takes, struct pollfd *all) {
     }
 }
 
-/* When the next leaving peer is sent away, if that is before `until`. */
+/* When the next leaving peer is sent away, or a debugger that does not greet, if that is before `until`. */
 static uint64_t before_leaving(const server *s, uint64_t until) {
+    until = s->greets_by < until ? s->greets_by : until;
     for (size_t i = 0; i < CQ_DOOR_CONNECTIONS; i++) {
         uint64_t end = s->leaving_since[i] + LINGER_NS;
         until = s->leaving[i] >= 0 && end < until ? end : until;
@@ -255,6 +272,27 @@ static bool write_all(server *s) {
     return moved;
 }
 
+/* Does what is due at the door. Returns when it is to be done next. */
+static uint64_t tick(server *s) {
+    uint64_t deadline = 0;
+    return cq_door_tick(&s->door, now_ns(), &deadline) == CQ_OK ? deadline : now_ns() + NAP_NS;
+}
+
+static void wake_all(const server *s) {
+    if (s->signal) {
+        cq_wake(s->signal);
+    }
+}
+
+/* Wakes the threads that the door has resumed. */
+static void wake_resumed(server *s) {
+    uint64_t count = 0;
+    if (cq_door_resumptions(&s->door, &count) == CQ_OK && count != s->resumptions) {
+        s->resumptions = count;
+        wake_all(s);
+    }
+}
+
 /* When it has to go on, at the latest. */
 static uint64_t next_time(const server *s, uint64_t deadline, bool takes, uint64_t refused) {
     uint64_t until = before_leaving(s, deadline), again = refused + REFUSED_NS;
@@ -266,15 +304,15 @@ static uint64_t next_time(const server *s, uint64_t deadline, bool takes, uint64
 static void *run(void *arg) {
     server *s = arg;
     struct pollfd all[ALL];
-    uint64_t deadline = 0, refused = 0;
+    uint64_t refused = 0;
     bool takes = true;
     list_sockets(s, takes, all);
     while (!(all[ENDING].revents & POLLIN)) {
         bool moved = serve_all(s, all), is_refused = takes && all[LISTENER].revents && !take_in(s);
-        if (cq_door_tick(&s->door, now_ns(), &deadline) != CQ_OK) {
-            deadline = now_ns() + NAP_NS;
-        }
+        drop_silent(s);
+        uint64_t deadline = tick(s);
         bool wrote = write_all(s);
+        wake_resumed(s);
         refused = is_refused ? now_ns() : refused;
         takes = (takes && !is_refused) || moved || wrote || now_ns() - refused >= REFUSED_NS;
         list_sockets(s, takes, all);
@@ -287,130 +325,64 @@ static void *run(void *arg) {
  * Begin and end.
  */
 
-static bool read_port(const char *text, uint16_t *port) {
-    char *end = NULL;
-    unsigned long number = text[0] >= '0' && text[0] <= '9' ? strtoul(text, &end, 10) : NO_PORT;
-    *port = (uint16_t)number;
-    return number < NO_PORT && *end == 0;
-}
-
-/* Reads "HOST:PORT". Only hosts of this machine are served. Returns the length of the address, or 0. */
-static socklen_t read_host(const char *text, address *at) {
-    static const char *const fours[] = { "127.0.0.1:", "localhost:" };
-    uint16_t port = 0;
-    for (size_t i = 0; i < sizeof fours / sizeof *fours; i++) {
-        size_t length = strlen(fours[i]);
-        if (!strncmp(text, fours[i], length) && read_port(text + length, &port)) {
-            at->four = (struct sockaddr_in){ .sin_family = AF_INET, .sin_port = htons(port), .sin_addr = { htonl(INADDR_LOOPBACK) } };
-            return sizeof at->four;
-        }
-    }
-    if (!strncmp(text, "[::1]:", 6) && read_port(text + 6, &port)) {
-        at->six = (struct sockaddr_in6){ .sin6_family = AF_INET6, .sin6_port = htons(port), .sin6_addr = IN6ADDR_LOOPBACK_INIT };
-        return sizeof at->six;
-    }
-    return 0;
-}
-
-/* Reads an address. Returns its length, or 0 if it is none. */
-static socklen_t read_address(const char *text, address *at) {
-    if (strncmp(text, "unix:", 5) != 0) {
-        return read_host(text, at);
-    }
-    size_t length = strlen(text + 5);
-    if (length == 0 || length >= sizeof at->unix_path.sun_path) {
-        return 0;
-    }
-    at->unix_path.sun_family = AF_UNIX;
-    memcpy(at->unix_path.sun_path, text + 5, length + 1);
-    return sizeof at->unix_path;
-}
-
-/* Removes the file of a Unix socket at which nobody listens any more. */
-static void remove_stale(const address *at) {
-    int probe = socket(AF_UNIX, SOCK_STREAM | SOCK_CLOEXEC, 0);
-    struct stat file;
-    bool is_socket = stat(at->unix_path.sun_path, &file) == 0 && S_ISSOCK(file.st_mode);
-    if (probe >= 0 && is_socket && connect(probe, &at->any, sizeof at->unix_path) && errno == ECONNREFUSED) {
-        unlink(at->unix_path.sun_path);
-    }
-    close_socket(&probe);
-}
-
-/* Binds a socket to an address. The file of a Unix socket is for this user alone, also before its mode is set. */
-static bool bind_to(int socket, const address *at, socklen_t length) {
-    int yes = 1;
-    if (at->any.sa_family != AF_UNIX) {
-        setsockopt(socket, SOL_SOCKET, SO_REUSEADDR, &yes, sizeof yes);
-        return bind(socket, &at->any, length) == 0;
-    }
-    remove_stale(at);
-    return fchmod(socket, 0600) == 0 && bind(socket, &at->any, length) == 0 && chmod(at->unix_path.sun_path, 0600) == 0;
-}
-
-/* Listens at an address, and notes the port or the path. */
-static bool listen_at(server *s, const address *at, socklen_t length) {
-    address bound;
-    socklen_t size = sizeof bound;
-    s->listener = socket(at->any.sa_family, SOCK_STREAM | SOCK_CLOEXEC | SOCK_NONBLOCK, 0);
-    if (s->listener < 0 || !bind_to(s->listener, at, length)) {
-        return false;
-    }
-    if (at->any.sa_family == AF_UNIX) {
-        memcpy(s->path, at->unix_path.sun_path, sizeof s->path);
-    }
-    if (listen(s->listener, BACKLOG) || getsockname(s->listener, &bound.any, &size)) {
-        return false;
-    }
-    s->port = ntohs(at->any.sa_family == AF_INET ? bound.four.sin_port : at->any.sa_family == AF_INET6 ? bound.six.sin6_port : 0);
-    s->ending = eventfd(0, EFD_CLOEXEC | EFD_NONBLOCK);
-    return s->ending >= 0;
-}
-
 static void close_all(server *s) {
     int kept = errno;
-    close_socket(&s->listener);
+    close_listener(&s->listener);
     close_socket(&s->ending);
-    for (size_t i = 0; i < CQ_DOOR_CONNECTIONS; i++) {
-        close_socket(&s->sockets[i]);
+    for (uint32_t i = 0; i < CQ_DOOR_CONNECTIONS; i++) {
+        if (s->sockets[i] >= 0) {
+            drop(s, i);
+        }
         close_socket(&s->leaving[i]);
     }
-    if (s->path[0]) {
-        unlink(s->path);
-    }
-    s->path[0] = 0;
     errno = kept;
 }
 
-static uint32_t open_door(server *s, cq_service *service, const char *program, bool has_port) {
-    uint32_t code = CQ_BUSY, port = has_port ? s->port : NO_PORT;
-    for (;;) {
-        code = cq_open_door(service, (const uint8_t *)program, strlen(program), port, now_ns(), &s->door);
-        if (code != CQ_BUSY) {
-            break;
-        }
+/* Tries once to open the door. */
+static uint32_t try_to_open(server *s, cq_service *service, const opening *of) {
+    const uint8_t *program = (const uint8_t *)of->program, *path = (const uint8_t *)of->path;
+    uint32_t port = s->listener.path[0] ? NO_PORT : s->listener.port;
+    if (of->is_for_debuggers) {
+        return cq_open_debugger(service, program, strlen(of->program), path, strlen(of->path), now_ns(), &s->door);
+    }
+    return cq_open_door(service, program, strlen(of->program), port, now_ns(), &s->door);
+}
+
+static uint32_t open_door(server *s, cq_service *service, const opening *of) {
+    uint32_t code = CQ_BUSY;
+    while ((code = try_to_open(s, service, of)) == CQ_BUSY) {
         nap();
     }
-    if (s->signal) {
-        cq_wake(s->signal);
-    }
+    wake_all(s);
     return code;
 }
 
+/* Undoes what a debugger has suspended, as far as its threads have polled. */
+static void undo(server *s) {
+    if (s->is_for_debuggers) {
+        tick(s);
+        wake_resumed(s);
+    }
+}
+
+/* Closes the door, once nothing is suspended by it. */
 static uint32_t close_door(server *s) {
     uint32_t code = CQ_BUSY;
     while ((code = cq_close_door(&s->door)) == CQ_BUSY) {
         nap();
+        undo(s);
     }
-    if (s->signal) {
-        cq_wake(s->signal);
-    }
+    wake_all(s);
     return code;
 }
 
 /* Starts the thread, to which no signal of the program's comes. */
 static bool start(server *s) {
     sigset_t all, kept;
+    s->ending = eventfd(0, EFD_CLOEXEC | EFD_NONBLOCK);
+    if (s->ending < 0) {
+        return false;
+    }
     sigfillset(&all);
     pthread_sigmask(SIG_SETMASK, &all, &kept);
     int failed = pthread_create(&s->thread, NULL, run, s);
@@ -421,11 +393,11 @@ static bool start(server *s) {
 }
 
 /* Listens, opens the door and starts the thread. */
-static uint32_t begin(server *s, cq_service *service, const address *at, socklen_t length, const char *program) {
-    if (!listen_at(s, at, length)) {
-        return CQ_SYSTEM;
+static uint32_t start_at(server *s, cq_service *service, const char *address, const opening *of) {
+    uint32_t code = open_listener(&s->listener, address);
+    if (code == CQ_OK) {
+        code = open_door(s, service, of);
     }
-    uint32_t code = open_door(s, service, program, at->any.sa_family != AF_UNIX);
     if (code == CQ_OK && !start(s)) {
         close_door(s);
         code = CQ_SYSTEM;
@@ -433,25 +405,31 @@ static uint32_t begin(server *s, cq_service *service, const address *at, socklen
     return code;
 }
 
-uint32_t cq_serve(cq_server *in, cq_service *service, cq_signal *signal, const char *where, const char *program) {
+static uint32_t begin(cq_server *in, cq_service *service, cq_signal *signal, const char *address, const opening *of) {
     server *s = (server *)in;
-    address at = { 0 };
-    socklen_t length = read_address(where, &at);
     if (s->runs || s->door.kind != 0) {
         return CQ_MISUSED;
     }
-    if (length == 0) {
-        return CQ_ILLEGAL_ARGUMENT;
-    }
-    *s = (server){ .signal = signal, .listener = -1, .ending = -1 };
+    *s = (server){ .signal = signal, .ending = -1, .greets_by = NEVER, .is_for_debuggers = of->is_for_debuggers };
     for (size_t i = 0; i < CQ_DOOR_CONNECTIONS; i++) {
         s->sockets[i] = s->leaving[i] = -1;
     }
-    uint32_t code = begin(s, service, &at, length, program);
+    uint32_t code = start_at(s, service, address, of);
     if (code != CQ_OK) {
         close_all(s);
     }
     return code;
+}
+
+uint32_t cq_serve(cq_server *in, cq_service *service, cq_signal *signal, const char *address, const char *program) {
+    opening of = { .program = program };
+    return begin(in, service, signal, address, &of);
+}
+
+uint32_t cq_debug_listen(cq_server *in, cq_service *service, cq_signal *signal, const char *address, const char *program,
+                         const char *path) {
+    opening of = { .is_for_debuggers = true, .program = program, .path = path };
+    return begin(in, service, signal, address, &of);
 }
 
 uint32_t cq_server_port(const cq_server *in, uint16_t *port) {
@@ -459,7 +437,7 @@ uint32_t cq_server_port(const cq_server *in, uint16_t *port) {
     if (!s->runs) {
         return CQ_MISUSED;
     }
-    *port = s->port;
+    *port = s->listener.port;
     return CQ_OK;
 }
 

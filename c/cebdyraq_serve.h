@@ -1,14 +1,18 @@
-/* cebdyraq_serve.h: profiles, stacks and counters of a service over HTTP, for tools that people have.
+/* cebdyraq_serve.h: a service at a socket, for profilers, monitors and debuggers.
  *
- *     static cq_server server;
+ *     static cq_server server, debugger;
  *     if (cq_serve(&server, &service, &signal, "127.0.0.1:6060", "my program") != CQ_OK) perror("cq_serve");
+ *     if (cq_debug_listen(&debugger, &service, &signal, "127.0.0.1:5005", "my program", "/my/sources") != CQ_OK)
+ *         perror("cq_debug_listen");
  *     ...
+ *     cq_serve_end(&debugger);
  *     cq_serve_end(&server);
  *
  * Then `go tool pprof http://127.0.0.1:6060/debug/pprof/profile?seconds=5` profiles the threads of the service, Prometheus scrapes
- * /metrics, and a person reads / and /threads. A profile has the names that the runtime has given by cq_define_class.
+ * /metrics, and a person reads / and /threads. `jdb -attach 127.0.0.1:5005` lists the threads, suspends and resumes them, and shows
+ * their stacks. Names and lines are those that the runtime has given by cq_define_class.
  *
- * WHAT IS SERVED
+ * WHAT IS SERVED OVER HTTP
  *
  *   /                        what there is, as text
  *   /threads, /threads.json  each thread with its state and its stack, the newest frame first
@@ -19,14 +23,29 @@
  *
  * A thread that does not poll has 50 ms to answer, and is shown without a stack then.
  *
- * WHO IS SERVED
+ * WHO IS SERVED OVER HTTP
  *
  * Whoever reaches the address: the users of this machine at a port, and this user alone at a Unix socket, whose file has the mode
  * 0600. There is no password and no TLS; a proxy adds them. Only GET and HEAD are answered, and nothing of it changes a thread. A
  * Host of another name is refused with 421, and a page of another site with 403. There are 16 connections and two profiles at
  * once at the most; README.md of crates/ti_http has the table of all refusals.
  *
- * It is for Linux. The door below, which reads requests and answers them, is proved; the loop over sockets is not.
+ * WHAT A DEBUGGER MAY DO
+ *
+ * It speaks the Java Debug Wire Protocol of Java 8, as jdb and the Java debuggers of editors do. It reads threads, stacks, classes,
+ * methods and lines, is told of threads that start and end and of classes that come, and suspends and resumes threads. Breakpoints,
+ * steps and variables are refused (99). Its suspensions of a thread nest. When it goes, the threads that it has suspended are
+ * resumed, and those that another environment has suspended stay so. README.md of crates/ti_jdwp and crates/ti_debugger have all
+ * requests and errors.
+ *
+ * WHO MAY DEBUG
+ *
+ * One debugger at a time, if its process belongs to root or to this process's effective user. Any other connection is closed at
+ * once, and the debugger that is there goes on. One that has not greeted within two seconds is closed too. At a port,
+ * /proc/net/tcp and /proc/net/tcp6 tell the user; a connection that they do not have is closed. There is no password and no TLS;
+ * ssh forwards a port from elsewhere.
+ *
+ * It is for Linux. The doors below, which read requests and answer them, are proved; the loop over sockets is not.
  */
 #ifndef CEBDYRAQ_SERVE_H
 #define CEBDYRAQ_SERVE_H
@@ -41,10 +60,11 @@ extern "C" {
 enum { CQ_SYSTEM = 306 };
 
 /* ------------------------------------------------------------------------------------------------------------------
- * The door: requests in, answers out. It has no socket, no clock and no thread, so a program may have its own loop around it.
+ * The door: requests in, answers out. It has no socket, no clock and no thread, so a program may have its own loop around it. There
+ * are doors for HTTP (cq_open_door) and doors for debuggers (cq_open_debugger). The latter have one connection, whose number is 0.
  *
  * Times are nanoseconds of a clock that never goes back, such as CLOCK_MONOTONIC. A handle is zeros at first, and is used by one
- * thread at a time. No function waits.
+ * thread at a time. No function waits. Each gives CQ_MISUSED 304, and changes nothing, if the handle is empty.
  */
 typedef struct { uint32_t kind; void *at; } cq_door;
 
@@ -57,9 +77,9 @@ enum {
     CQ_DOOR_CLOSE = 2   /* close it, and tell that by cq_door_disconnect */
 };
 
-/* Opens a door of the service: attaches an environment of its own. `program` is what a profile calls the program, in UTF-8.
- * `port` is that at which hosts are served: only `localhost`, `127.0.0.1` and `[::1]`, alone or with this port, are hosts then.
- * Above 65,535 every host is served, as at a Unix socket, which no page of the web reaches.
+/* Opens a door for HTTP: attaches an environment of its own to the service. `program` is what a profile calls the program, in
+ * UTF-8. `port` is that at which hosts are served: only `localhost`, `127.0.0.1` and `[::1]`, alone or with this port, are hosts
+ * then. Above 65,535 every host is served, as at a Unix socket, which no page of the web reaches.
  *
  *   CQ_MISUSED 304           `service` is empty, or `door` is full
  *   CQ_ILLEGAL_ARGUMENT 103  `program` is not UTF-8
@@ -69,12 +89,20 @@ enum {
 uint32_t cq_open_door(cq_service *service, const uint8_t *program, size_t length, uint32_t port, uint64_t now,
                       cq_door *door) CQ_MUST_USE;
 
-/* Takes a new connection in. Writes its number to `connection`, below CQ_DOOR_CONNECTIONS. With CQ_FULL 216 all are in use; then
- * the one that has been idle longest, if one is idle, is to be closed (cq_door_next). CQ_OUT_OF_MEMORY 110. */
+/* Opens a door for debuggers: attaches an environment of its own, with CQ_CAN_SUSPEND, to the service. `program` is the name that a
+ * debugger is told, and `path` the directory in which it looks for source files, both in UTF-8. The codes are those of
+ * cq_open_door; CQ_ILLEGAL_ARGUMENT 103 is also for a `path` that is not UTF-8. */
+uint32_t cq_open_debugger(cq_service *service, const uint8_t *program, size_t program_length, const uint8_t *path,
+                          size_t path_length, uint64_t now, cq_door *door) CQ_MUST_USE;
+
+/* Takes a new connection in. Writes its number to `connection`, below CQ_DOOR_CONNECTIONS. With CQ_FULL 216 all are in use. Then,
+ * at a door for HTTP, the one that has been idle longest, if one is idle, is to be closed (cq_door_next); at one for debuggers
+ * nothing changes. CQ_OUT_OF_MEMORY 110. */
 uint32_t cq_door_connect(cq_door *door, uint64_t now, uint32_t *connection) CQ_MUST_USE;
 
-/* What is to be done with a connection. Writes one of CQ_DOOR_.. to `action`, and to `room` how many bytes cq_door_feed takes.
- * `unix_time` is in nanoseconds since 1970, or 0. CQ_NONE 303: there is no such connection. CQ_OUT_OF_MEMORY 110: call again. */
+/* What is to be done with a connection. Writes one of CQ_DOOR_.. to `action`, and to `room` how many bytes cq_door_feed takes, at
+ * most 8,192, or 65,536 from a debugger. A debugger's requests are answered here. `unix_time` is in nanoseconds since 1970, or 0;
+ * only HTTP uses it. CQ_NONE 303: there is no such connection. CQ_OUT_OF_MEMORY 110: call again. */
 uint32_t cq_door_next(cq_door *door, uint32_t connection, uint64_t now, uint64_t unix_time, uint32_t *action,
                       uint64_t *room) CQ_MUST_USE;
 
@@ -92,14 +120,22 @@ uint32_t cq_door_output(cq_door *door, uint32_t connection, uint8_t *bytes, size
 /* The socket took so many of these bytes. CQ_NONE 303. */
 uint32_t cq_door_written(cq_door *door, uint32_t connection, uint64_t count, uint64_t now);
 
-/* The socket is gone. What the connection waits for is given up, and its number is free. CQ_NONE 303. */
+/* The socket is gone. What the connection waits for is given up, and its number is free. What a debugger has suspended is resumed,
+ * now or by cq_door_tick. CQ_NONE 303. */
 uint32_t cq_door_disconnect(cq_door *door, uint32_t connection);
 
-/* Does what is due: meets threads, reads stacks, counts, and answers. Writes to `deadline` when it is to be called next. */
+/* Does what is due: meets threads, reads stacks, counts, and answers; tells a debugger of events, and undoes suspensions that are
+ * not wanted any more. Writes to `deadline` when it is to be called next. Call cq_door_next after it. */
 uint32_t cq_door_tick(cq_door *door, uint64_t now, uint64_t *deadline) CQ_MUST_USE;
 
+/* Writes to `count` how many times the door has resumed a thread, 0 at a door for HTTP. A program whose threads sleep by
+ * cebdyraq_wait.h calls cq_wake when it has grown, after cq_door_next, cq_door_disconnect and cq_door_tick. */
+uint32_t cq_door_resumptions(cq_door *door, uint64_t *count) CQ_MUST_USE;
+
 /* Closes the door, and disposes of its environment. The codes are those of cq_dispose_environment. With another than CQ_OK call
- * again. */
+ * again. CQ_BUSY 215 comes also while a debugger is connected, or a thread that it has suspended is not resumed: then nothing
+ * changes. Call cq_door_disconnect, and cq_door_tick until it is. A suspension that a thread has not answered is undone when the
+ * thread polls, so a thread that never polls keeps the door open. */
 uint32_t cq_close_door(cq_door *door) CQ_MUST_USE;
 
 /* ------------------------------------------------------------------------------------------------------------------
@@ -109,9 +145,9 @@ uint32_t cq_close_door(cq_door *door) CQ_MUST_USE;
 /* Zeros at first, and then for these functions alone. It stays where it is until cq_serve_end. */
 typedef struct { uint64_t opaque[96]; } cq_server;
 
-/* Serves an address: "127.0.0.1:PORT", "[::1]:PORT" or "localhost:PORT", where port 0 is any free one, or "unix:PATH". `signal` is
- * that of the service's other threads, or NULL if none uses cebdyraq_wait.h. `program` is what a profile calls the program.
- * The service's handle is used in this call alone.
+/* Serves HTTP at an address: "127.0.0.1:PORT", "[::1]:PORT" or "localhost:PORT", where port 0 is any free one, or "unix:PATH".
+ * `signal` is that of the service's other threads, or NULL if none uses cebdyraq_wait.h. `program` is what a profile calls the
+ * program. The service's handle is used in this call alone.
  *
  *   CQ_MISUSED 304           `service` is empty, or `server` serves
  *   CQ_ILLEGAL_ARGUMENT 103  there is no such address, or it is not one of this machine's own; `program` is not UTF-8
@@ -121,12 +157,20 @@ typedef struct { uint64_t opaque[96]; } cq_server;
 uint32_t cq_serve(cq_server *server, cq_service *service, cq_signal *signal, const char *address,
                   const char *program) CQ_MUST_USE;
 
+/* Listens for debuggers at an address, with `service`, `signal` and `address` as for cq_serve. `program` and `path` are those of
+ * cq_open_debugger; debuggers run elsewhere, so `path` begins at the root. The codes are those of cq_serve; CQ_ILLEGAL_ARGUMENT 103
+ * is also for a `path` that is not UTF-8. */
+uint32_t cq_debug_listen(cq_server *server, cq_service *service, cq_signal *signal, const char *address, const char *program,
+                         const char *path) CQ_MUST_USE;
+
 /* Writes the port at which it listens to `port`, also where port 0 was asked for. 0 at a Unix socket. CQ_MISUSED 304: it does not
  * serve. */
 uint32_t cq_server_port(const cq_server *server, uint16_t *port) CQ_MUST_USE;
 
-/* Ends the thread, closes all sockets, and disposes of the environment. Threads of the service go on meanwhile. It is CQ_OK for a
- * server that does not serve. CQ_OUT_OF_MEMORY 110, CQ_FULL 216: the environment is not disposed of. Call again. */
+/* Ends the thread, closes all sockets, and disposes of the environment. Threads of the service go on meanwhile. All that a debugger
+ * has suspended is resumed. If it has asked a thread to be suspended, and the thread has not answered, this waits until the thread
+ * polls, so that thread does not call it. It is CQ_OK for a server that does not serve. CQ_OUT_OF_MEMORY 110, CQ_FULL 216: the
+ * environment is not disposed of. Call again. */
 uint32_t cq_serve_end(cq_server *server);
 
 #ifdef __cplusplus

@@ -31,6 +31,12 @@ ARCHIVE = CRATE / "out/libti_capi.a"
 DIST = TOP / "dist"
 HEADERS = (*header.HEADERS, "cebdyraq.hpp")
 SUPPRESSIONS = "tsan.supp"
+# The objects of the library, each with its C files.
+OBJECTS = {
+    "cebdyraq": ("cebdyraq_heap", "cebdyraq_version", "cebdyraq_classes"),
+    "cebdyraq_wait": ("cebdyraq_wait",),
+    "cebdyraq_serve": ("cebdyraq_serve", "cebdyraq_listen", "cebdyraq_peer"),
+}
 FLAGS = ("-std=c11", "-O2", "-g", "-fPIC", "-Wall", "-Wextra", "-Werror", f"-ffile-prefix-map={TOP}/=")
 PKG_CONFIG = """prefix=${{pcfiledir}}/../..
 includedir=${{prefix}}/include
@@ -54,19 +60,24 @@ def run(*command, **named):
 
 def compiled(name, room):
     """The object of a C file."""
-    made = room / f"{name}.o"
+    made = room / f"{name}.c.o"
     run(*words("CC", "cc"), *FLAGS, *words("CFLAGS", ""), "-c", f"{header.C}/{name}.c", "-o", made)
     return made
 
 
-def joined(archive, room):
-    """One object of the proved half, the version, the heap and classes of strings, in which only cq_ names are global."""
-    made = room / "cebdyraq.o"
-    parts = [compiled(name, room) for name in ("cebdyraq_heap", "cebdyraq_version", "cebdyraq_classes")]
-    run(*words("CC", "cc"), "-nostdlib", "-r", "-Wl,--whole-archive", archive, "-Wl,--no-whole-archive", *parts, "-o", made)
+def joined(name, parts, room):
+    """One object of several, in which only cq_ names are global."""
+    made = room / f"{name}.o"
+    run(*words("CC", "cc"), "-nostdlib", "-r", *parts, "-o", made)
     # (the partial link makes LLVM's table of addresses stale)
     run(*words("OBJCOPY", "objcopy"), "--wildcard", "--keep-global-symbol=cq_*", "--remove-section=.llvm_addrsig", made)
     return made
+
+
+def objects(archive, room):
+    """The objects of OBJECTS. The first one has the proved half as well."""
+    proved = ["-Wl,--whole-archive", archive, "-Wl,--no-whole-archive"]
+    return [joined(made, proved * (made == "cebdyraq") + [compiled(name, room) for name in names], room) for made, names in OBJECTS.items()]
 
 
 def link_shared(objects, folder):
@@ -91,10 +102,10 @@ def build(archive, dist):
     shutil.copyfile(header.C / SUPPRESSIONS, share / SUPPRESSIONS)
     with tempfile.TemporaryDirectory() as name:
         room = pathlib.Path(name)
-        objects = [joined(archive, room), compiled("cebdyraq_wait", room), compiled("cebdyraq_serve", room)]
-        run(*words("AR", "ar"), "rcs", lib / "libcebdyraq.a", *objects)
+        linked = objects(archive, room)
+        run(*words("AR", "ar"), "rcs", lib / "libcebdyraq.a", *linked)
         os.chmod(lib / "libcebdyraq.a", 0o644)
-        link_shared(objects, lib)
+        link_shared(linked, lib)
     version = ".".join(map(str, header.version()))
     (lib / "pkgconfig/cebdyraq.pc").write_text(PKG_CONFIG.format(version=version))
     (man / "cebdyraq.3").write_text(man_page.page())

@@ -13,6 +13,7 @@ import json
 import os
 import pathlib
 import shlex
+import socket
 import subprocess
 import sys
 import tempfile
@@ -255,6 +256,16 @@ class WithRuntime(unittest.TestCase):
         with self.assertRaises(OSError):
             urllib.request.urlopen(address, timeout=10)
         self.assert_code(Code.ILLEGAL_ARGUMENT, cebdyraq.Server, self.library, service, signal, "0.0.0.0:0", "a test")
+
+    def test_what_debuggers_are_told(self):
+        service, signal = self.library.runtime_service(), self.library.runtime_signal()
+        with cebdyraq.Server(self.library, service, signal, "127.0.0.1:0", "a test", "/src") as server:
+            debugger = socket.create_connection(("127.0.0.1", server.port), timeout=10)
+            debugger.sendall(b"JDWP-Handshake")
+            self.assertEqual(debugger.recv(14, socket.MSG_WAITALL), b"JDWP-Handshake")
+        self.assertEqual(debugger.recv(1), b"")
+        debugger.close()
+        self.assert_code(Code.ILLEGAL_ARGUMENT, cebdyraq.Server, self.library, service, signal, "0.0.0.0:0", "a test", "/src")
 
     def end_and_begin(self):
         """The environment keeps the first service alive. The runtime begins again with another."""

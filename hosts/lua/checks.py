@@ -1,4 +1,5 @@
 """What the tests have in common: how a program is run, a debugger is talked to, and a check is counted."""
+import contextlib
 import os
 import pathlib
 import shutil
@@ -51,6 +52,19 @@ def script(folder, name, text):
     path = pathlib.Path(folder) / name
     path.write_text(text)
     return str(path)
+
+
+@contextlib.contextmanager
+def served(folder, *words, where=SCRIPTS):
+    """A host whose first line on standard error tells where it listens."""
+    stop, options = pathlib.Path(folder, "stop"), 2 if words[0] == "serve" else 1
+    command = [CQLUA, *words[:options], "-e", f"STOP = '{stop}'", *words[options:]]
+    with subprocess.Popen(command, cwd=where, stderr=subprocess.PIPE, stdout=subprocess.PIPE, text=True) as host:
+        try:
+            yield host, host.stderr.readline()
+        finally:
+            stop.touch()
+            host.communicate(timeout=60)
 
 
 class Debugger:

@@ -10,6 +10,7 @@
 #include <sys/eventfd.h>
 #include <unistd.h>
 
+#include "chunks.h"
 #include "links.h"
 #include "nudge.h"
 
@@ -62,10 +63,11 @@ static int add_traceback(lua_State *L) {
     return 1;
 }
 
-/* Calls the function on the top, if it was loaded. The message of an error, with its traceback, is left there. */
+/* Calls the chunk on the top, if it was loaded. The message of an error, with its traceback, is left there. */
 static int call(lua_State *L, int loaded) {
     if (loaded != LUA_OK)
         return loaded;
+    chunk_learn(L);
     lua_pushcfunction(L, add_traceback);
     lua_insert(L, -2);
     int code = lua_pcall(L, 0, 0, -2);
@@ -87,6 +89,7 @@ static int open_libraries(lua_State *L) {
     luaL_openlibs(L);
     open_coroutines(L);
     open_blocking(L);
+    open_chunks(L);
     lua_newtable(L);
     lua_pushstring(L, script_of(L)->path);
     lua_rawseti(L, -2, 0);
@@ -177,10 +180,11 @@ static int refused(const char *what, uint32_t code) {
 int host_make(struct host *host, char **paths, size_t count, bool inspected) {
     host->scripts = calloc(count, sizeof *host->scripts);
     host->ended = eventfd(0, EFD_CLOEXEC);
-    uint32_t code = inspected ? cq_make(FRAMES, 3, 8, &host->service) : CQ_OK;
+    uint32_t code = inspected ? cq_make(FRAMES, 1 + DOORS, 8, &host->service) : CQ_OK;
     if (code != CQ_OK)
         return refused("the service", code);
-    if (!host->scripts || host->ended < 0 || sem_init(&host->alive, 0, 0) || methods_make(inspected ? &host->service : NULL)) {
+    if (!host->scripts || host->ended < 0 || sem_init(&host->alive, 0, 0)
+        || methods_make(inspected ? &host->service : NULL)) {
         perror("cqlua");
         return -1;
     }
@@ -223,26 +227,54 @@ bool host_join(struct host *host) {
     return failed;
 }
 
-int host_serve(struct host *host, const char *address) {
-    static const char *const hosts[] = { "http://127.0.0.1", "http://[::1]" };
+/* What is told of each door: before its address, and around a port. */
+static const struct {
+    const char *before, *protocol, *end;
+} DOOR_TEXTS[DOORS] = {
+    [DOOR_HTTP] = { "serves", "http://", "/" },
+    [DOOR_DEBUGGER] = { "a debugger may attach at", "", "" },
+};
+
+static void tell_address(enum door door, const char *address, uint16_t port) {
+    const char *host = *address == '[' ? "[::1]" : "127.0.0.1", *before = DOOR_TEXTS[door].before;
+    if (port)
+        fprintf(stderr, "cqlua: %s %s%s:%u%s\n", before, DOOR_TEXTS[door].protocol, host, port, DOOR_TEXTS[door].end);
+    else
+        fprintf(stderr, "cqlua: %s %s\n", before, address);
+}
+
+/* Sources are looked for in the current directory. */
+static uint32_t open_debugger(struct host *host, const char *address) {
+    char *path = getcwd(NULL, 0);
+    uint32_t code = CQ_SYSTEM;
+    if (path)
+        code = cq_debug_listen(&host->servers[DOOR_DEBUGGER], &host->service, &host->signal, address, "cqlua", path);
+    free(path);
+    return code;
+}
+
+static uint32_t open_door(struct host *host, enum door door, const char *address) {
+    return door == DOOR_DEBUGGER ? open_debugger(host, address)
+                                 : cq_serve(&host->servers[door], &host->service, &host->signal, address, "cqlua");
+}
+
+int host_open(struct host *host, enum door door, const char *address) {
     uint16_t port = 0;
-    uint32_t code = cq_serve(&host->server, &host->service, &host->signal, address, "cqlua");
+    uint32_t code = open_door(host, door, address);
     if (code == CQ_SYSTEM) {
         fprintf(stderr, "cqlua: %s: %s\n", address, strerror(errno));
         return -1;
     }
-    if (code != CQ_OK || (code = cq_server_port(&host->server, &port)) != CQ_OK)
+    if (code != CQ_OK || (code = cq_server_port(&host->servers[door], &port)) != CQ_OK)
         return refused(address, code);
-    if (port)
-        fprintf(stderr, "cqlua: serves %s:%u/\n", hosts[*address == '['], port);
-    else
-        fprintf(stderr, "cqlua: serves %s\n", address);
+    tell_address(door, address, port);
     return 0;
 }
 
 void host_free(struct host *host) {
-    if (cq_serve_end(&host->server) != CQ_OK)
-        fputs("cqlua: the server's environment stays\n", stderr);
+    for (size_t i = 0; i < DOORS; i++)
+        if (cq_serve_end(&host->servers[i]) != CQ_OK)
+            fputs("cqlua: a server's environment stays\n", stderr);
     methods_end();
     if (host->inspected)
         cq_free(&host->service);

@@ -51,10 +51,17 @@ struct script {
     cq_frame frames[FRAMES];
 };
 
+/* What others ask the scripts by, at an address. */
+enum door {
+    DOOR_HTTP,      /* profiles, stacks and counters */
+    DOOR_DEBUGGER,  /* the Java Debug Wire Protocol, for one debugger at a time */
+    DOORS
+};
+
 struct host {
     cq_service service;
     cq_signal signal;
-    cq_server server;           /* zeros if nothing is served */
+    cq_server servers[DOORS];   /* zeros where none listens */
     bool inspected;             /* there is a service */
     const char **statements;    /* what each script runs first */
     size_t statement_count;
@@ -69,8 +76,8 @@ struct host {
 /* Makes the scripts, and attaches them to a new service, if there is to be one. Returns 0, or -1 with a message. */
 int host_make(struct host *host, char **paths, size_t count, bool inspected);
 
-/* Serves profiles, stacks and counters at an address, until host_free. Returns 0, or -1 with a message. */
-int host_serve(struct host *host, const char *address);
+/* Opens a door at an address, until host_free. Returns 0, or -1 with a message. */
+int host_open(struct host *host, enum door door, const char *address);
 
 /* Starts all scripts, and waits until they are alive. Returns 0, or -1 with a message if some could not be started. */
 int host_start(struct host *host);
@@ -105,6 +112,9 @@ bool complain(struct script *script, const char *what, uint32_t code);
 
 /* stack.c: writes the stack from this level on, newest frame first, and returns how many there are, at most SHOWN. */
 size_t stack_read(struct script *script, lua_State *L, int level, cq_frame *frames);
+
+/* stack.c: the name of the source of a function: that of the file, or the short form of a text, or "[C]". */
+const char *source_of(const lua_Debug *ar);
 
 /* stack.c: cuts the chain of coroutines after this one, which runs. */
 void stack_cut(struct script *script, lua_State *L);

@@ -7,18 +7,22 @@
 #include "agent.h"
 
 static const char USAGE[] =
-    "usage: cqlua run [-e STATEMENT] [--no-service] [--serve ADDRESS] SCRIPT..\n"
-    "       cqlua serve ADDRESS [-e STATEMENT] SCRIPT..\n"
-    "       cqlua prof [-e STATEMENT] [--serve ADDRESS] [--seconds N] [--rate N] [--svg] [-o FILE] SCRIPT..\n"
-    "       cqlua top [-e STATEMENT] [--serve ADDRESS] SCRIPT..\n"
-    "       cqlua debug [-e STATEMENT] [--serve ADDRESS] SCRIPT..\n"
+    "usage: cqlua run [OPTION..] [--no-service] SCRIPT..\n"
+    "       cqlua serve ADDRESS [OPTION..] SCRIPT..\n"
+    "       cqlua prof [OPTION..] [--seconds N] [--rate N] [--svg] [-o FILE] SCRIPT..\n"
+    "       cqlua top [OPTION..] SCRIPT..\n"
+    "       cqlua debug [OPTION..] SCRIPT..\n"
+    "Each takes these options:\n"
+    "  -e STATEMENT     runs it in each script's state first\n"
+    "  --serve ADDRESS  serves profiles, stacks and counters over HTTP\n"
+    "  --debug ADDRESS  lets debuggers for Java attach, such as jdb\n"
     "An ADDRESS is 127.0.0.1:PORT, [::1]:PORT, localhost:PORT or unix:PATH.\n";
 
 struct arguments {
     const char *command;
     struct prof_options prof;
     bool inspected;
-    const char *address;      /* at which is served, or NULL */
+    const char *addresses[DOORS];  /* where each door listens, or NULL */
     const char **statements;
     size_t statement_count;
     char **scripts;
@@ -35,15 +39,17 @@ static bool read_number(const char *text, double least, double most, double *num
 
 /* Reads the option at `at`, and its value. Returns how many words it has, or 0 if it is none of this command's. */
 static size_t read_option(struct arguments *a, char **at) {
+    static const char *const options[DOORS] = { "--serve", "--debug" };
     bool run = !strcmp(a->command, "run"), prof = !strcmp(a->command, "prof");
     if (!strcmp(at[0], "-e") && at[1]) {
         a->statements[a->statement_count++] = at[1];
         return 2;
     }
-    if (!strcmp(at[0], "--serve") && at[1]) {
-        a->address = at[1];
-        return 2;
-    }
+    for (size_t i = 0; i < DOORS; i++)
+        if (!strcmp(at[0], options[i]) && at[1]) {
+            a->addresses[i] = at[1];
+            return 2;
+        }
     if (run && !strcmp(at[0], "--no-service")) {
         a->inspected = false;
         return 1;
@@ -71,12 +77,19 @@ static bool read_command(struct arguments *a, const char *word) {
     return a->command;
 }
 
+static bool has_door(const struct arguments *a) {
+    bool has = false;
+    for (size_t i = 0; i < DOORS; i++)
+        has = has || a->addresses[i];
+    return has;
+}
+
 static bool read_arguments(struct arguments *a, char **argv) {
     size_t at = 2;
     if (!argv[0] || !read_command(a, argv[1]))
         return false;
     if (!strcmp(a->command, "serve")) {
-        a->address = argv[at];
+        a->addresses[DOOR_HTTP] = argv[at];
         at += argv[at] != NULL;
     }
     while (argv[at] && argv[at][0] == '-') {
@@ -88,7 +101,7 @@ static bool read_arguments(struct arguments *a, char **argv) {
     a->scripts = &argv[at];
     while (argv[at + a->script_count])
         a->script_count++;
-    return a->script_count > 0 && (a->inspected || !a->address);
+    return a->script_count > 0 && (a->inspected || !has_door(a));
 }
 
 static int run_command(const struct arguments *a, struct host *host) {
@@ -107,8 +120,9 @@ static int run(const struct arguments *a) {
     host.statement_count = a->statement_count;
     if (host_make(&host, a->scripts, a->script_count, a->inspected))
         return 1;
-    if (a->address && host_serve(&host, a->address))
-        return 1;
+    for (size_t i = 0; i < DOORS; i++)
+        if (a->addresses[i] && host_open(&host, (enum door)i, a->addresses[i]))
+            return 1;
     bool failed = run_command(a, &host);
     failed = host_join(&host) || failed;
     host_free(&host);

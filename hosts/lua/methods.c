@@ -1,4 +1,5 @@
-/* methods.c: the table of methods. Numbers count from 0, and a hash table with open addressing leads to them. */
+/* methods.c: the table of methods. Numbers count from 0, and a hash table with open addressing leads to them: by source
+ * and line, and to C functions by name. Methods that have these in common follow one another in it. */
 #include "methods.h"
 
 #include <pthread.h>
@@ -6,6 +7,7 @@
 #include <stdlib.h>
 #include <string.h>
 
+#include "signature.h"
 #include "text.h"
 
 static pthread_mutex_t lock = PTHREAD_MUTEX_INITIALIZER;
@@ -15,27 +17,54 @@ static uint32_t count;
 static uint32_t *places;         /* a number and one, or 0 for an empty place */
 static size_t place_count;       /* a power of two */
 
-static uint64_t hash_text(uint64_t hash, const char *text) {
+/* ------------------------------------------------------------------------------------------------------------------
+ * The hash table.
+ */
+
+static uint64_t hash_of(const char *text, int line) {
+    uint64_t hash = 0xcbf29ce484222325u;
     for (; *text; text++)
         hash = (hash ^ (unsigned char)*text) * 0x100000001b3u;
-    return (hash ^ 0xff) * 0x100000001b3u;
-}
-
-static uint64_t hash_of(const char *source, int line, const char *name) {
-    uint64_t hash = hash_text(hash_text(0xcbf29ce484222325u, source), name);
     hash = (hash ^ (uint32_t)line) * 0x9e3779b97f4a7c15u;
     return hash ^ (hash >> 29);
 }
 
-/* The place of the method, or the empty place at which it would be. */
-static size_t place_of(const char *source, int line, const char *name) {
-    size_t at = hash_of(source, line, name) & (place_count - 1);
-    for (; places[at]; at = (at + 1) & (place_count - 1)) {
-        const struct method *m = methods[places[at] - 1];
-        if (m->line == line && !strcmp(m->source, source) && !strcmp(m->name, name))
-            break;
+static size_t first_place(const char *source, int line, const char *name) {
+    return hash_of(line < 0 ? name : source, line) & (place_count - 1);
+}
+
+static size_t next_place(size_t at) {
+    return (at + 1) & (place_count - 1);
+}
+
+/* Whether it is a chunk's method of these lines. */
+static bool is_within(const struct method *m, const struct function *f) {
+    return m->code && m->line == f->line && m->last == f->last && !strcmp(m->source, f->source);
+}
+
+/* Whether it is that of a function that was met without its chunk. */
+static bool is_alone(const struct method *m, const struct function *f) {
+    return !m->code && m->line == f->line && !strcmp(m->source, f->source) && !strcmp(m->name, f->name);
+}
+
+/* The method of a chunk, or else the one that was met alone. */
+static struct method *look_up(const struct function *f) {
+    struct method *alone = NULL;
+    for (size_t at = first_place(f->source, f->line, f->name); places[at]; at = next_place(at)) {
+        struct method *m = methods[places[at] - 1];
+        if (is_within(m, f) && (!f->code || f->code == m->code))
+            return m;
+        if (is_alone(m, f))
+            alone = m;
     }
-    return at;
+    return alone;
+}
+
+static void put(const struct method *m) {
+    size_t at = first_place(m->source, m->line, m->name);
+    while (places[at])
+        at = next_place(at);
+    places[at] = m->number + 1;
 }
 
 /* Makes the table of this size, and puts the methods into it. */
@@ -53,68 +82,165 @@ static int grow(size_t size) {
     places = more_places;
     place_count = size;
     for (uint32_t i = 0; i < count; i++)
-        places[place_of(methods[i]->source, methods[i]->line, methods[i]->name)] = i + 1;
+        put(methods[i]);
     return 0;
 }
 
-static void free_method(struct method *m) {
-    free(m->source);
-    free(m->name);
-    free(m);
+/* Makes room for so many methods more. */
+static int reserve(size_t more) {
+    size_t size = place_count ? place_count : 1024;
+    while (count + more > size / 2)
+        size *= 2;
+    return size > place_count ? grow(size) : 0;
 }
 
-/* Defines a method in the service, as the one of a class. It has the next number there, as it has here. */
-static bool define(const struct method *m) {
-    bool native = m->line < 0;
-    char *file = strdup(m->source), *name = strdup(m->name);
+/* ------------------------------------------------------------------------------------------------------------------
+ * Classes.
+ */
+
+/* A class that is being made. */
+struct class {
+    char *signature, *source;
+    struct method *methods;
+    size_t count;
+};
+
+static char *copy_clean(const char *text) {
+    char *copy = strdup(text);
+    if (copy)
+        text_clean(copy);
+    return copy;
+}
+
+static cq_method_strings strings_of(const struct method *m) {
+    return (cq_method_strings){ .name = copy_clean(m->name),
+                                .lines_kind = m->line < 0 ? CQ_LINES_NATIVE : CQ_LINES_LOCATIONS,
+                                .first_line = m->line > 0 ? (uint32_t)m->line : 0 };
+}
+
+/* Defines the class in the service. Its methods have the next numbers there, as they have here. */
+static bool define_strings(const struct class *class, const char *file, cq_method_strings *strings) {
     uint32_t class_no, number, code = CQ_OUT_OF_MEMORY;
-    if (file && name) {
-        text_clean(file);
-        text_clean(name);
-        cq_method_strings own = { .name = name, .lines_kind = native ? CQ_LINES_NATIVE : CQ_LINES_LOCATIONS,
-                                  .first_line = m->line > 0 ? (uint32_t)m->line : 0 };
-        do
-            code = cq_define_class_strings(&service, file, native ? NULL : file, &own, 1, &class_no, &number);
-        while (code == CQ_BUSY);
+    bool all = true;
+    for (size_t i = 0; i < class->count; i++) {
+        strings[i] = strings_of(&class->methods[i]);
+        all = all && strings[i].name;
     }
-    free(file);
-    free(name);
+    if (all)
+        do
+            code = cq_define_class_strings(&service, class->signature, file, strings, class->count, &class_no, &number);
+        while (code == CQ_BUSY);
+    for (size_t i = 0; i < class->count; i++)
+        free((char *)strings[i].name);
     return code == CQ_OK;
 }
 
-static struct method *make_method(const char *source, int line, const char *name) {
-    struct method *m = malloc(sizeof *m);
-    if (!m)
-        return NULL;
-    *m = (struct method){ strdup(source), line, strdup(name), count };
-    if (m->source && m->name && (!service.kind || define(m)))
-        return m;
-    free_method(m);
-    return NULL;
+static bool define(const struct class *class) {
+    bool native = class->methods[0].line < 0;
+    char *file = native ? NULL : copy_clean(class->source);
+    cq_method_strings *strings = calloc(class->count, sizeof *strings);
+    bool defined = strings && (native || file) && (!service.kind || define_strings(class, file, strings));
+    free(strings);
+    free(file);
+    return defined;
 }
 
-static const struct method *find(const char *source, int line, const char *name) {
-    size_t at = place_of(source, line, name);
-    if (places[at])
-        return methods[places[at] - 1];
-    if (count == place_count / 2) {
-        if (grow(place_count * 2))
-            return NULL;
-        at = place_of(source, line, name);
+static bool is_whole(const struct class *class) {
+    bool whole = class->signature && class->source && class->methods;
+    for (size_t i = 0; i < class->count && whole; i++)
+        whole = class->methods[i].name;
+    return whole;
+}
+
+static void keep(const struct class *class) {
+    for (size_t i = 0; i < class->count; i++) {
+        struct method *m = &class->methods[i];
+        m->number = count;
+        methods[count++] = m;
+        put(m);
     }
-    struct method *m = make_method(source, line, name);
-    if (!m)
-        return NULL;
-    methods[count++] = m;
-    places[at] = count;
-    return m;
 }
 
-const struct method *methods_find(const char *source, int line, const char *name) {
+static void discard(const struct class *class) {
+    for (size_t i = 0; i < class->count && class->methods; i++)
+        free((char *)class->methods[i].name);
+    free(class->methods);
+    free(class->source);
+}
+
+/* Keeps a class, or frees it if there is no memory. Takes the signature. Returns whether it is kept. */
+static bool finish(const struct class *class) {
+    bool kept = is_whole(class) && !reserve(class->count) && define(class);
+    if (kept)
+        keep(class);
+    else
+        discard(class);
+    free(class->signature);
+    return kept;
+}
+
+static struct class begin(char *signature, const char *source, size_t methods) {
+    struct class class = { signature, strdup(source), calloc(methods, sizeof *class.methods), methods };
+    for (size_t i = 0; i < methods && class.methods; i++)
+        class.methods[i].source = class.source;
+    return class;
+}
+
+/* ------------------------------------------------------------------------------------------------------------------
+ * What is asked for.
+ */
+
+/* Makes a function that no chunk has a class of its own. */
+static const struct method *make_alone(const struct function *f) {
+    char *signature = f->line < 0 ? signature_of_native(f->name) : signature_of_source(f->source);
+    struct class class = begin(signature, f->source, 1);
+    if (class.methods) {
+        class.methods->line = f->line;
+        class.methods->name = strdup(f->name);
+    }
+    return finish(&class) ? class.methods : NULL;
+}
+
+const struct method *methods_find(const struct function *f) {
     pthread_mutex_lock(&lock);
-    const struct method *m = find(source, line, name);
+    const struct method *m = look_up(f);
+    if (!m)
+        m = make_alone(f);
     pthread_mutex_unlock(&lock);
     return m;
+}
+
+bool methods_are_many(const struct function *f) {
+    size_t many = 0;
+    pthread_mutex_lock(&lock);
+    for (size_t at = first_place(f->source, f->line, f->name); places[at]; at = next_place(at))
+        many += is_within(methods[places[at] - 1], f);
+    pthread_mutex_unlock(&lock);
+    return many > 1;
+}
+
+static void fill(struct method *m, const struct proto *proto) {
+    m->line = proto->line;
+    m->last = proto->last;
+    m->code = proto->code;
+    m->name = strndup(proto->name.at, proto->name.length);
+}
+
+static void define_chunk(const char *source, const struct protos *protos) {
+    const struct proto *chunk = protos->at;
+    const struct method *known = look_up(&(struct function){ source, chunk->line, chunk->last, "", chunk->code });
+    if (known && known->code)
+        return;
+    struct class class = begin(signature_of_source(source), source, protos->count);
+    for (size_t i = 0; i < protos->count && class.methods; i++)
+        fill(&class.methods[i], &protos->at[i]);
+    finish(&class);
+}
+
+void methods_define(const char *source, const struct protos *protos) {
+    pthread_mutex_lock(&lock);
+    define_chunk(source, protos);
+    pthread_mutex_unlock(&lock);
 }
 
 const struct method *methods_get(uint32_t number) {
@@ -124,14 +250,20 @@ const struct method *methods_get(uint32_t number) {
     return m;
 }
 
+/* The methods that are no functions are one class. */
+static bool make_own(void) {
+    static const char *const names[] = { "(no memory for the method)", "(frames left out)", "late" };
+    struct class class = begin(strdup("Lcqlua;"), "[C]", METHOD_OWN + 1);
+    for (size_t i = 0; i <= METHOD_OWN && class.methods; i++) {
+        class.methods[i].line = -1;
+        class.methods[i].name = strdup(names[i]);
+    }
+    return finish(&class);
+}
+
 int methods_make(cq_service *of) {
-    static const char *const own[] = { "(no memory for the method)", "(frames left out)", "late" };
-    if ((of && cq_share(of, &service) != CQ_OK) || grow(1024))
-        return -1;
-    for (size_t i = 0; i <= METHOD_OWN; i++)
-        if (!methods_find("[C]", -1, own[i]))
-            return -1;
-    return 0;
+    bool made = (!of || cq_share(of, &service) == CQ_OK) && make_own();
+    return made ? 0 : -1;
 }
 
 void methods_end(void) {

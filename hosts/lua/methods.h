@@ -1,18 +1,23 @@
-/* methods.h: the numbers of methods. One table serves all states of the process, and all agents. Each method is also a class of
- * its own in the service, so that every tool over the library has its name. */
+/* methods.h: the numbers of methods. One table serves all states of the process, and all agents. Each method belongs to
+ * a class of the service, so that every tool over the library has its name: a chunk is a class with all its functions.
+ * A function that was met without its chunk is a class of its own. */
 #ifndef METHODS_H
 #define METHODS_H
 
+#include <stdbool.h>
 #include <stddef.h>
 #include <stdint.h>
 
 #include "cebdyraq.h"
+#include "protos.h"
 
 /* A method. Once made it stays as it is, and where it is, until the process ends. */
 struct method {
-    char *source;    /* the file's name, or the short form of a text that was loaded, or "[C]" */
-    int line;        /* where it is defined: 0 for a main chunk, -1 for a C function */
-    char *name;
+    const char *source;  /* the file's name, or the short form of a text that was loaded, or "[C]" */
+    int line;            /* where it is defined: 0 for a main chunk, -1 for a C function */
+    int last;            /* the line of its end, if it belongs to a chunk */
+    uint64_t code;       /* a hash of the function, if it belongs to a chunk, or 0 */
+    const char *name;
     uint32_t number;
 };
 
@@ -23,15 +28,30 @@ enum {
     METHOD_OWN = METHOD_LATE
 };
 
-/* Makes the table, with the methods above. Nobody else defines classes in the service, which may be NULL. Returns 0, or -1 when
- * there is no memory. */
+/* Makes the table, with the methods above. Nobody else defines classes in the service, which may be NULL. Returns 0, or
+ * -1 when there is no memory. */
 int methods_make(cq_service *service);
 
 /* Lets go of the service. No method is made from then on. */
 void methods_end(void);
 
-/* The method of this source, line and name. It is made if it is new. NULL when there is no memory. */
-const struct method *methods_find(const char *source, int line, const char *name);
+/* Defines the class of a chunk, with a method for each of its functions, unless the same functions of this source are
+ * there. When there is no memory, each will be a class of its own. */
+void methods_define(const char *source, const struct protos *protos);
+
+/* A function that was seen in a stack. */
+struct function {
+    const char *source;
+    int line, last;
+    const char *name;  /* by which it is called */
+    uint64_t code;     /* as in a method, or 0 if it is not known */
+};
+
+/* Whether chunks have several methods of this source and these lines. Then `code` tells which of them it is. */
+bool methods_are_many(const struct function *f);
+
+/* The method of a function. One that no chunk has is made if it is new. NULL when there is no memory. */
+const struct method *methods_find(const struct function *f);
 
 /* The method of a number that methods_find gave. */
 const struct method *methods_get(uint32_t number);

@@ -2,13 +2,15 @@
  *
  * A script knows the methods of the functions that it saw before by their addresses. The address of a function that was
  * collected may be used again. So a hit counts only if the method has the source and the line that Lua says. Then it is
- * the right method, whichever function it was. A C function is known by its code, which stays as long as the state. */
+ * the right method, or that of another function on the same line. A C function is known by its code, which stays as
+ * long as the state. */
 #include <string.h>
 
+#include "chunks.h"
 #include "host.h"
 #include "links.h"
 
-static const char *source_of(const lua_Debug *ar) {
+const char *source_of(const lua_Debug *ar) {
     if (*ar->what == 'C')
         return "[C]";
     return *ar->source == '@' ? ar->source + 1 : ar->short_src;
@@ -20,18 +22,21 @@ static int line_of(const lua_Debug *ar) {
     return ar->linedefined < 0 ? 0 : ar->linedefined;
 }
 
-/* Asks the table. The name is the one by which the function is called now. */
+/* Asks the table for the function on the top of the stack. If no chunk has it, its name is the one by which it is
+ * called now. */
 static const struct method *ask(lua_State *L, lua_Debug *ar) {
     lua_getinfo(L, "n", ar);
     const char *name = ar->name ? ar->name : *ar->what == 'C' ? "?" : "function";
-    return methods_find(source_of(ar), line_of(ar), *ar->what == 'm' ? "main chunk" : name);
+    struct function f = { source_of(ar), line_of(ar), ar->lastlinedefined, *ar->what == 'm' ? "main" : name, 0 };
+    if (methods_are_many(&f))
+        f.code = chunk_code(L);
+    return methods_find(&f);
 }
 
-/* The method of the function on the top of the stack, which is taken away. */
+/* The method of the function on the top of the stack. */
 static uint32_t method_of(struct script *script, lua_State *L, lua_Debug *ar) {
     bool native = *ar->what == 'C';
     uintptr_t function = native ? (uintptr_t)lua_tocfunction(L, -1) : (uintptr_t)lua_topointer(L, -1);
-    lua_pop(L, 1);
     struct known *k = &script->known[(function >> 4 ^ function >> 14) & (KNOWN - 1)];
     bool hit = k->method && k->function == function && k->method->line == line_of(ar);
     if (!hit || (!native && strcmp(k->method->source, source_of(ar)))) {
@@ -57,13 +62,12 @@ static int64_t location_of(const lua_Debug *ar) {
 static cq_frame frame_of(struct script *script, lua_State *L, lua_Debug *ar, struct read *last) {
     lua_getinfo(L, "lf", ar);
     const void *function = lua_topointer(L, -1);
-    if (function == last->function) {
-        lua_pop(L, 1);
-    } else {
+    if (function != last->function) {
         lua_getinfo(L, "S", ar);
         last->frame = (cq_frame){ method_of(script, L, ar), *ar->what == 'C' ? -1 : 0 };
         last->function = function;
     }
+    lua_pop(L, 1);
     if (last->frame.location >= 0)
         last->frame.location = location_of(ar);
     return last->frame;

@@ -8,7 +8,9 @@ import sys
 import tempfile
 
 sys.dont_write_bytecode = True
+import tests_attach
 import tests_build
+import tests_classes
 import tests_debug
 import tests_deep
 import tests_end
@@ -18,7 +20,8 @@ import tests_run
 import tests_serve
 from checks import HERE, LUA, check, failed, passed
 
-MODULES = (tests_run, tests_prof, tests_late, tests_deep, tests_end, tests_debug, tests_serve, tests_build)
+MODULES = (tests_run, tests_prof, tests_late, tests_deep, tests_end, tests_debug, tests_serve, tests_attach,
+           tests_classes, tests_build)
 
 
 def run_test(name, test):

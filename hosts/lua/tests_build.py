@@ -33,7 +33,7 @@ local function f2() return 1 + f3() end
 local function f1() return 1 + f2() end
 f1() print("it ran on")
 """
-WHOLE = ["[C] sleep", "leaf", "f5", "f4", "f3", "f2", "f1", "main chunk"]
+WHOLE = ["[C] sleep", "leaf", "f5", "f4", "f3", "f2", "f1", "main"]
 CUT = "(frames left out)"
 # What is shown if so many frames are taken at most: half of them each time, with one that says so.
 SHOWN = {8: WHOLE, 7: WHOLE[:3] + [CUT], 4: WHOLE[:3] + [CUT], 3: WHOLE[:1] + [CUT], 2: WHOLE[:1] + [CUT], 1: [CUT],
@@ -90,7 +90,7 @@ def test_refused_stacks(folder):
     for code, why in (201, "too many frames"), (110, "no memory"), (103, "a frame that is none"):
         for most, frames in SHOWN.items():
             text = refused(folder, program, code, most)
-            seen = re.findall(r"^#\d+ +(main chunk|\(frames left out\)|(?:\[C\] )?\w+)", text, re.M)
+            seen = re.findall(r"^#\d+ +(\(frames left out\)|(?:\[C\] )?\w+)", text, re.M)
             check(f"{why}, and {most} are taken: the newest are shown", seen == frames, text)
     for code, why in (204, "the thread does not run"), (208, "no step is left"), (304, "a handle that is misused"):
         text = refused(folder, program, code, -1, after=5)

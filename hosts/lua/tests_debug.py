@@ -52,14 +52,14 @@ def test_debug(folder):
     time.sleep(1)
     two, spent, seconds = d.say("bt 0"), d.processor_time("0 ") - before, time.time() - start
     check("bt of a suspended thread twice is the same", one == two and
-          re.search(r"^#\d+ +main chunk .*first.lua:\d+$", one, re.M), one + two)
+          re.search(r"^#\d+ +main .*first.lua:\d+$", one, re.M), one + two)
     check(f"meanwhile it is woken by others, and takes {1000 * spent:.2f} ms of {seconds:.1f} s", spent < seconds / 100)
     check("bt of a thread that runs moves", moved)
     check("threads has it as suspended", "first.lua  RUNNABLE, suspended" in d.say("threads"))
     all_one, all_moved = d.say("bt all"), moves(d, "bt all")
     check("bt all has the stacks of all threads", re.findall(r"^thread (\d)  (\w+).lua  ", all_one, re.M) ==
           [("0", "first"), ("1", "second"), ("2", "sleeps")] and
-          len(re.findall(r"^#\d+ +main chunk ", all_one, re.M)) == 3, all_one)
+          len(re.findall(r"^#\d+ +main ", all_one, re.M)) == 3, all_one)
     check("bt all of a suspended thread is the same as bt", all_one.startswith(
           "thread 0  first.lua  RUNNABLE, suspended\n" + one + "thread 1  second.lua  RUNNABLE\n"), all_one + one)
     check("bt all of threads that run moves", all_moved, all_one)

@@ -25,7 +25,7 @@ def expected(depth):
     frames = NATIVE + ["down"] * depth + ["next"]
     for n in range(40, 0, -1):
         frames += [f"f{n}", "next"]
-    return frames + ["tower", "main chunk"]
+    return frames + ["tower", "main"]
 
 
 def shown(frames):
@@ -34,7 +34,7 @@ def shown(frames):
 
 
 def names(text):
-    return re.findall(r"^#\d+ +(main chunk|\(frames left out\)|(?:\[C\] )?[\w?]+)", text, re.M)
+    return re.findall(r"^#\d+ +(\(frames left out\)|(?:\[C\] )?[\w?]+)", text, re.M)
 
 
 def look(folder, depth, program=CQLUA, where="tower({})"):
@@ -67,9 +67,9 @@ def test_deep_stacks_of_coroutines(folder):
         local function resume(n) local step = coroutine.wrap(tower) local r = step(n) return r end
         resume({})""")
     check("a deep coroutine over a shallow state has the main chunk", deep == expected(2000)[:480] +
-          ["(frames left out)", "[C] step", "resume", "main chunk"], deep[478:])
+          ["(frames left out)", "[C] step", "resume", "main"], deep[478:])
     shallow = look(folder, 600, where="leaf = coroutine.wrap(leaf) tower({})")
-    check("a coroutine over a deep state", shallow == shown(["[C] sleep", "function", "[C] leaf"] + expected(600)[2:]),
+    check("a coroutine over a deep state", shallow == shown(["[C] sleep", "leaf", "[C] leaf"] + expected(600)[2:]),
           shallow[:5] + shallow[478:])
 
 

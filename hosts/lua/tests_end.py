@@ -120,5 +120,5 @@ def test_end_by_exit_of_two(folder):
     path = script(folder, "two.lua", "for i = 1, 1e7 do local s = i end os.exit(8)")
     results = [cqlua("prof", *[path] * 4) for _ in range(10)]
     bad = [r for r in results if r.returncode != 8 or " ticks in " not in r.stderr or
-           not re.search(r"^(main chunk|late).* \d+$", r.stdout, re.M)]
+           not re.search(r"^(main|late).* \d+$", r.stdout, re.M)]
     check("of scripts that all exit, one ends the process, and the profile is written", not bad, bad)

@@ -62,7 +62,7 @@ def test_late_c_functions_in_coroutines(folder):
     at_least("a C function that waits in a coroutine", shares(stacks).get("[C] close", 0), 0.8 / seconds, stacks)
     names = {tuple(re.sub(r" \(.*", "", f) for f in s) for s in stacks if s[-1] == "[C] close"}
     check("its stack is that of the coroutine, over the resumer's", names == {
-          ("main chunk", "[C] step", "function", "wait", "[C] close")}, names)
+          ("main", "[C] step", "inner", "wait", "[C] close")}, names)
 
 
 def test_late_finalizers(folder):

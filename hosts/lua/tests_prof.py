@@ -16,7 +16,7 @@ def test_prof(folder):
         return
     ticks, seconds, all_stacks, _, worth = numbers
     check("the counts of the stacks add up", sum(stacks.values()) == all_stacks, f"{sum(stacks.values())} {all_stacks}")
-    check("each stack begins in a main chunk, or is late", all(re.fullmatch(r"late|main chunk \(\w+\.lua:0\)", s[0])
+    check("each stack begins in a main chunk, or is late", all(re.fullmatch(r"late|main \(\w+\.lua:0\)", s[0])
                                                                for s in stacks))
     check("each stack has functions of one script", all(len(set(re.findall(r"\((\w+\.lua):", ";".join(s)))) <= 1
                                                         for s in stacks))
@@ -38,10 +38,10 @@ def test_prof_in_coroutines(folder):
     """)
     _, stacks, _ = profile(folder, path)
     places = {tuple(re.sub(r" \(.*:(\d+)\)", r" \1", f) for f in s) for s in stacks}
-    whole = ("main chunk 0", "[C] resume", "function 4", "[C] step", "function 3", "spin 2")
+    whole = ("main 0", "[C] resume", "outer 4", "[C] step", "inner 3", "spin 2")
     check("a coroutine's stack lies over that of who resumed it", whole in places, places)
-    check("a coroutine that is over is not in the stack", ("main chunk 0", "spin 2") in places and
-          all(s[0] in ("main chunk 0", "late") for s in places), places)
+    check("a coroutine that is over is not in the stack", ("main 0", "spin 2") in places and
+          all(s[0] in ("main 0", "late") for s in places), places)
 
 
 def test_prof_writes(folder):
@@ -57,7 +57,7 @@ def test_prof_writes(folder):
     result = cqlua("prof", "--seconds", "0.3", "-e", "N = 20", "sleeper.lua")
     check("prof --seconds ends the samples, and the script runs on", "20 rounds: " in result.stdout and
           float(re.search(r"in ([\d.]+) s", result.stderr).group(1)) < 0.6 and time.time() - start > 1, result.stderr)
-    check("without -o the profile is on standard output", re.search(r"^main chunk \(sleeper.lua:0\).*\[C\] sleep \d+$",
+    check("without -o the profile is on standard output", re.search(r"^main \(sleeper.lua:0\).*\[C\] sleep \d+$",
                                                                     result.stdout, re.M), result.stdout)
     result = cqlua("prof", "-o", "/not/there", "sleeper.lua")
     check("a file that cannot be written: status 1", result.returncode == 1 and "/not/there" in result.stderr)

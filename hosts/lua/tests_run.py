@@ -91,3 +91,32 @@ def test_coroutines_as_plain(folder):
     plain, ours = run(LUA, path), cqlua("run", path)
     check("coroutines as under plain Lua", same(plain.stdout) == same(ours.stdout) != "" and not ours.returncode,
           f"{plain.stdout!r} {ours.stdout!r} {ours.stderr!r}")
+
+
+def test_loading_as_plain(folder):
+    """The functions that the host puts in place of Lua's own, with the same results and the same messages of errors."""
+    script(folder, "given.lua", "return 1, nil, ...")
+    script(folder, "yields.lua", "return coroutine.yield('inside'), 'after'")
+    script(folder, "module.lua", "return { name = ..., file = select(2, ...) }")
+    script(folder, "broken.lua", "x = = 1")
+    path = script(folder, "loads.lua", """
+        local folder = arg[0]:match("(.*)/")
+        package.path = folder .. "/?.lua"
+        print(dofile(folder .. "/given.lua")) print(loadfile(folder .. "/given.lua")(2, 3)) print(load("return ...")(4, 5))
+        print(load("return x", "=name", "t", { x = 6 })()) print(load(string.dump(load("return 7")))())
+        local parts = { "return ", "8" } print(load(function() return table.remove(parts, 1) end, "@parts")())
+        local step = coroutine.wrap(function() return dofile(folder .. "/yields.lua") end) print(step(), step("given"))
+        print(require("module").name, require("module").file == folder .. "/module.lua", require("module") == require("module"))
+        for _, name in ipairs({ "broken", "nothing" }) do
+            local file = folder .. "/" .. name .. ".lua"
+            print(loadfile(file)) print(pcall(dofile, file)) print(pcall(require, name)) print(pcall(function() dofile(file) end))
+        end
+        for _, wrong in ipairs({ load, loadfile, dofile, require }) do
+            print(pcall(wrong, {})) print(pcall(function() wrong({}) end))
+        end
+        print(load("x = = 1")) print(load("return 1", "text", "b")) print(pcall(load, function() error("thrown") end))
+    """)
+    plain, ours = run(LUA, path), cqlua("run", path)
+    check("chunks are loaded as under plain Lua", plain.stdout == ours.stdout != "" and
+          plain.returncode == ours.returncode == 0,
+          f"{plain.stdout} {ours.stdout} {ours.stderr}")

@@ -6,11 +6,10 @@ import pathlib
 import re
 import socket
 import stat
-import subprocess
 import threading
 import time
 
-from checks import CQLUA, SCRIPTS, SLEEPER, WORKER, check, cqlua, script
+from checks import SLEEPER, WORKER, check, cqlua, script, served
 
 
 class OverPath(http.client.HTTPConnection):
@@ -20,19 +19,6 @@ class OverPath(http.client.HTTPConnection):
         self.sock = socket.socket(socket.AF_UNIX)
         self.sock.settimeout(30)
         self.sock.connect(self.host)
-
-
-@contextlib.contextmanager
-def served(folder, *words):
-    """A host whose first line on standard error tells where it serves."""
-    stop = pathlib.Path(folder, "stop")
-    command = [CQLUA, *words[:2], "-e", f"STOP = '{stop}'", *words[2:]]
-    with subprocess.Popen(command, cwd=SCRIPTS, stderr=subprocess.PIPE, stdout=subprocess.PIPE, text=True) as host:
-        try:
-            yield host, host.stderr.readline()
-        finally:
-            stop.touch()
-            host.communicate(timeout=60)
 
 
 def get(connection, target):
@@ -61,7 +47,7 @@ def test_serve_at_a_port(folder):
         threads = threads_of(connection)
         check("both scripts are there", set(threads) == {"work.lua", "sleep.lua"}, threads)
         frames = {name: [(frame["method"], frame["file"]) for frame in thread["frames"]] for name, thread in threads.items()}
-        check("a worker's functions and files", ("work", work) in frames["work.lua"] and frames["work.lua"][-1] == ("main chunk", work), frames)
+        check("a worker's functions and files", ("work", work) in frames["work.lua"] and frames["work.lua"][-1] == ("main", work), frames)
         check("a sleeper's C function has no file", frames["sleep.lua"][0] == ("sleep", None) and threads["sleep.lua"]["state"] == "sleeping", threads)
         lines = [frame["line"] for frame in threads["work.lua"]["frames"]]
         check("lines are those of the source", all(line and WORKER.splitlines()[line - 1].strip() for line in lines), lines)
@@ -84,7 +70,7 @@ def test_serve_at_a_path(folder):
 
 def test_serve_beside_prof(folder):
     result = cqlua("prof", "--serve", "127.0.0.1:0", "--rate", "100", "-e", "N = 100", "spectral_norm.lua")
-    check("prof serves besides", "cqlua: serves http://127.0.0.1:" in result.stderr and "main chunk" in result.stdout and not result.returncode,
+    check("prof serves besides", "cqlua: serves http://127.0.0.1:" in result.stderr and "main (" in result.stdout and not result.returncode,
           result.stderr)
 
 

@@ -1,24 +1,17 @@
 /* door_random.c: random streams of bytes, cut at random. Whatever comes, what the door writes are whole answers with statuses that
  * it knows, no more than there were ends of lines, and nothing after a close. */
+#include "chance.h"
 #include "door.h"
 
 #include <ctype.h>
 
 enum { LONGEST = 3000, WRITTEN = 1 << 17 };
 
-static uint64_t chance;
+uint64_t chance;
 static char stream[LONGEST + 512];
 static size_t length;
 static char written[WRITTEN + 1];
 static size_t written_count;
-
-/* xorshift64* */
-static uint32_t below(uint32_t bound) {
-    chance ^= chance >> 12;
-    chance ^= chance << 25;
-    chance ^= chance >> 27;
-    return (uint32_t)(((chance * 0x2545F4914F6CDD1DULL >> 32) * bound) >> 32);
-}
 
 /* Parts of requests, by where they stand in one. Those at the front of each list are right. */
 static const char *const METHODS[] = { "GET ", "GET ", "HEAD ", "POST ", "BREW ", "get " };
@@ -169,7 +162,7 @@ static void check_written(void) {
 }
 
 void feeds_at_random(uint64_t streams, uint64_t seed) {
-    chance = seed * 0x9E3779B97F4A7C15ULL | 1;
+    seed_chance(seed);
     for (uint64_t i = 0; i < streams; i++) {
         uint32_t connection = connected();
         make_stream();

@@ -23,8 +23,8 @@ def of_headers(folder):
         source, library = pathlib.Path(name, "bodies.c"), pathlib.Path(name, "libcebdyraq.so")
         bodies = "".join(f"{prototype[:-1]} {{ __builtin_trap(); }}\n" for prototype in header.functions(folder).values())
         source.write_text("".join(f'#include "{name}"\n' for name in header.HEADERS) + bodies)
-        run(*CC, "-std=c11", "-g", "-fPIC", "-shared", "-w", f"-I{folder}", source, f"-Wl,-soname,libcebdyraq.so.{header.version(folder)[0]}",
-            f"-Wl,--version-script={header.C}/cebdyraq.map", "-o", library)
+        run(*CC, "-std=c11", "-g", "-fPIC", "-shared", "-w", f"-I{folder}", source.name, f"-Wl,-soname,libcebdyraq.so.{header.version(folder)[0]}",
+            f"-Wl,--version-script={header.C}/cebdyraq.map", "-o", library, cwd=name)
         return run("abidw", *READ, library)
 
 

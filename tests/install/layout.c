@@ -1,6 +1,6 @@
 /* layout.c: the sizes, the places of members and the numbers that programs were compiled with (docs/ABI.md), on a system of 64
  * bits. It is compiled, and not run. */
-#include <cebdyraq_wait.h>
+#include <cebdyraq_serve.h>
 
 #ifndef __cplusplus
 #define static_assert _Static_assert
@@ -61,6 +61,8 @@ PLACE(cq_method_name, name_length, 0);
 PLACE(cq_method_name, signature_length, 8);
 PLACE(cq_method_name, first_line, 16);
 SIZE(cq_signal, 16);
+SIZE(cq_door, 16);
+SIZE(cq_server, 768);
 
 NUMBER(CQ_OK, 0);
 NUMBER(CQ_INVALID_THREAD, 10);
@@ -97,6 +99,7 @@ NUMBER(CQ_WAITING, 302);
 NUMBER(CQ_NONE, 303);
 NUMBER(CQ_MISUSED, 304);
 NUMBER(CQ_POPPED, 305);
+NUMBER(CQ_SYSTEM, 306);
 
 NUMBER(CQ_LINES_ABSENT, 0);
 NUMBER(CQ_LINES_LOCATIONS, 1);
@@ -125,3 +128,7 @@ NUMBER(CQ_PARK, 4);
 NUMBER(CQ_TIMED_PARK, 5);
 NUMBER(CQ_THREAD_START, 0);
 NUMBER(CQ_THREAD_END, 1);
+NUMBER(CQ_DOOR_CONNECTIONS, 16);
+NUMBER(CQ_DOOR_WAIT, 0);
+NUMBER(CQ_DOOR_WRITE, 1);
+NUMBER(CQ_DOOR_CLOSE, 2);

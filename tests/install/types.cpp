@@ -224,20 +224,29 @@ void test_classes() {
     EXPECT(refused([&] { service.define_class("\xff", "", {}); }) == cebdyraq::code::illegal_argument);
 }
 
-std::string answer_of(std::uint16_t port, const std::string &target) {
+int dial(std::uint16_t port) {
     sockaddr_in at{};
     at.sin_family = AF_INET;
     at.sin_port = htons(port);
     at.sin_addr.s_addr = htonl(INADDR_LOOPBACK);
     int made = socket(AF_INET, SOCK_STREAM, 0);
     EXPECT(connect(made, reinterpret_cast<sockaddr *>(&at), sizeof at) == 0);
-    std::string text = "GET " + target + " HTTP/1.1\r\nHost: localhost\r\nConnection: close\r\n\r\n";
+    return made;
+}
+
+/* At most so many bytes of what comes back until the server closes. */
+std::string answer_to(std::uint16_t port, std::string text, std::size_t most) {
+    int made = dial(port);
     EXPECT(send(made, text.data(), text.size(), 0) == ssize_t(text.size()));
     char some[4096];
     text.clear();
-    for (ssize_t count; (count = recv(made, some, sizeof some, 0)) > 0;) text.append(some, std::size_t(count));
+    for (ssize_t count; text.size() < most && (count = recv(made, some, sizeof some, 0)) > 0;) text.append(some, std::size_t(count));
     close(made);
     return text;
+}
+
+std::string answer_of(std::uint16_t port, const std::string &target) {
+    return answer_to(port, "GET " + target + " HTTP/1.1\r\nHost: localhost\r\nConnection: close\r\n\r\n", SIZE_MAX);
 }
 
 void test_server() {
@@ -254,6 +263,13 @@ void test_server() {
     }
 }
 
+void test_debugger() {
+    cebdyraq::service service(8, 1, 4);
+    auto server = service.debug_listen("127.0.0.1:0", "types", "/src");
+    EXPECT(answer_to(server.port(), "JDWP-Handshake", 14) == "JDWP-Handshake");
+    EXPECT(refused([&] { service.debug_listen("nowhere", "types", "/src"); }) == cebdyraq::code::illegal_argument);
+}
+
 }  // namespace
 
 int main() {
@@ -265,5 +281,6 @@ int main() {
     test_lives();
     test_classes();
     test_server();
+    test_debugger();
     return failures;
 }

@@ -128,8 +128,9 @@ class Pprof(unittest.TestCase):
         self.assertRegex(text, r"Showing nodes accounting for 0, 0% of")
 
     def test_stacks_of_now(self):
-        text = self.pprof("-top", "-sample_index=samples", self.url("threads"))
-        self.assertIn("Total samples = 2", re.sub(r"of (\d+) total", r"Total samples = \1", text))
+        text = self.pprof("-top", self.url("threads"))
+        self.assertIn("Type: threads\n", text)
+        self.assertRegex(text, r"of 2 total\b")
 
     @wants("dot")
     def test_draws_a_graph(self):

@@ -4,7 +4,7 @@ import ctypes
 import os
 from typing import Any, Dict, List, Optional, Sequence, Union
 
-VERSION = (1, 3)
+VERSION = (1, 4)
 
 
 class Handle(ctypes.Structure):
@@ -117,6 +117,7 @@ FUNCTIONS: Dict[str, List[Any]] = {
     "cq_wait_next_event": [AT, I64, AT],
     "cq_wait_dispose_environment": [AT],
     "cq_serve": [AT, AT, ctypes.c_char_p, ctypes.c_char_p],
+    "cq_debug_listen": [AT, AT, ctypes.c_char_p, ctypes.c_char_p, ctypes.c_char_p],
     "cq_server_port": [AT],
     "cq_serve_end": [],
     "cq_get_loaded_classes": [AT, SIZE, AT],

@@ -1,4 +1,4 @@
-"""A service that is served over HTTP, for pprof and Prometheus."""
+"""A service that is served over HTTP, for pprof and Prometheus, or that debuggers attach to."""
 
 import ctypes
 import os
@@ -10,15 +10,17 @@ from ._values import Code, Error
 
 
 class Server:
-    """Serves profiles, stacks and counters of a service (cebdyraq_serve.h), until `end`. `service` and `signal` are the addresses of
-    the runtime's cq_service and cq_signal; the cq_service is used by nobody else while the server is made.
+    """Serves profiles, stacks and counters of a service (cebdyraq_serve.h), until `end`. With a `path` it listens for debuggers
+    instead, which look for source files there. `service` and `signal` are the addresses of the runtime's cq_service and cq_signal;
+    the cq_service is used by nobody else while the server is made.
 
     `address` is 127.0.0.1:PORT, [::1]:PORT, localhost:PORT, where port 0 is any free one, or unix:PATH. `program` is what a profile
-    calls the program. What the operating system refuses is raised as an OSError."""
+    or a debugger calls the program. What the operating system refuses is raised as an OSError."""
 
-    def __init__(self, library: ctypes.CDLL, service: int, signal: int, address: str, program: str) -> None:
+    def __init__(self, library: ctypes.CDLL, service: int, signal: int, address: str, program: str, path: Optional[str] = None) -> None:
         self._library, self._memory = library, lib.Server()
-        code = library.cq_serve(ctypes.byref(self._memory), service, signal, address.encode(), program.encode())
+        begin, texts = (library.cq_serve, [address, program]) if path is None else (library.cq_debug_listen, [address, program, path])
+        code = begin(ctypes.byref(self._memory), service, signal, *(text.encode() for text in texts))
         if code == Code.SYSTEM:
             raise OSError(ctypes.get_errno(), os.strerror(ctypes.get_errno()), address)
         if code != Code.OK:

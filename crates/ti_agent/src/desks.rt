@@ -127,17 +127,19 @@ impl<H: Home> Env<H> {
         if self.state.is_full() {
             return Err((TiError::Full, free));
         }
-        match self.desks.reserve(1) {
-            Ok(()) => (),
-            Err(_) => return Err((TiError::OutOfMemory, free)),
-        }
         match self.state.add_place(free.spent) {
             Ok(()) => (),
             Err(error) => return Err((error, free)),
         }
-        let FreeDesk { desk, spent: _ } = free;
-        self.desks.push_reserved(desk);
-        Ok(())
+        let FreeDesk { desk, spent } = free;
+        match self.desks.push(desk) {
+            Ok(()) => Ok(()),
+            Err(desk) => {
+                let last = ThreadNo(self.state.threads() - 1);
+                self.state.remove_place(last);
+                Err((TiError::OutOfMemory, FreeDesk { desk, spent }))
+            }
+        }
     }
 
     /// Takes the desk at a thread out of the environment, with what is spent there (this profile). The others keep their

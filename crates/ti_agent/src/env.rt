@@ -7,6 +7,7 @@ use crate::posts::buffer_for;
 use std::alloc::Global;
 use std::marker::Model;
 use std::sync::Wait;
+use ti_chunked::Chunked;
 use ti_env::EnvState;
 use ti_handshake::Desk;
 use ti_types::{Answer, Call, Caps, EnvNo, Frame, ThreadNo, TiError, TraceBuf};
@@ -64,7 +65,7 @@ pub struct Env<H: Home = Alone> {
     pub(crate) env: EnvNo,
     pub(crate) state: EnvState,
     /// The place of a thread is that of its desk here.
-    pub(crate) desks: Vec<Desk>,
+    pub(crate) desks: Chunked<Desk>,
 }
 
 impl<H: Home> Model for Env<H> {
@@ -73,9 +74,9 @@ impl<H: Home> Model for Env<H> {
 
     ghost Value = { Housed H };
 
-    ghost view = { λ a. record { home = a.home; env = record { env = a.env; state = a.state; desks = a.desks.items } } };
+    ghost view = { λ a. record { home = a.home; env = record { env = a.env; state = a.state; desks = a.desks } } };
 
-    ghost invariant = { λ a. IsWhole (record { env = a.env; state = a.state; desks = a.desks.items }) × IsAtHome H.about H.holds a.home (record { env = a.env; state = a.state; desks = a.desks.items }) };
+    ghost invariant = { λ a. IsWhole (record { env = a.env; state = a.state; desks = a.desks }) × IsAtHome H.about H.holds a.home (record { env = a.env; state = a.state; desks = a.desks }) };
 }
 
 impl Env {
@@ -95,7 +96,7 @@ impl Env {
             home: Alone,
             env,
             state,
-            desks,
+            desks: Chunked::from_vec(desks),
         }
     }
 }
@@ -112,7 +113,7 @@ impl<H: Home> Env<H> {
             state: _,
             desks,
         } = self;
-        desks
+        desks.into_vec()
     }
 
     /// The place of a thread, as the environment's state and the operations on its desks name it. If there is no desk at a

@@ -3,6 +3,7 @@
 use crate::env::Env;
 use crate::home::{Alone, Home};
 use std::marker::Model;
+use ti_chunked::Chunked;
 use ti_env::EnvState;
 use ti_handshake::Desk;
 use ti_trail::GhostList;
@@ -38,7 +39,7 @@ pub struct Gathering<H: Home = Alone> {
     pub(crate) home: H,
     pub(crate) env: EnvNo,
     pub(crate) state: EnvState,
-    pub(crate) desks: Vec<Desk>,
+    pub(crate) desks: Chunked<Desk>,
     /// The places of the threads to stop, each with its reads to come, in their order.
     pub(crate) stopping: Vec<(ThreadNo, u64)>,
     /// The places of the threads to read, in the order of the result.
@@ -62,9 +63,9 @@ impl<H: Home> Model for Gathering<H> {
 
     ghost Value = { HousedTrace H };
 
-    ghost view = { λ g. record { home = g.home; trace = record { began = envs_of g.began.items; now = record { env = g.env; state = g.state; desks = g.desks.items }; stopping = g.stopping.items; places = g.places.items; max_count = g.max_count; is_alive_only = g.is_alive_only; bufs = g.bufs.items; infos = g.infos.items; phase = g.phase } } };
+    ghost view = { λ g. record { home = g.home; trace = record { began = envs_of g.began.items; now = record { env = g.env; state = g.state; desks = g.desks }; stopping = g.stopping.items; places = g.places.items; max_count = g.max_count; is_alive_only = g.is_alive_only; bufs = g.bufs.items; infos = g.infos.items; phase = g.phase } } };
 
-    ghost invariant = { λ g. IsAtWork (record { began = envs_of g.began.items; now = record { env = g.env; state = g.state; desks = g.desks.items }; stopping = g.stopping.items; places = g.places.items; max_count = g.max_count; is_alive_only = g.is_alive_only; bufs = g.bufs.items; infos = g.infos.items; phase = g.phase }) × (length g.places.items ≤ vec_capacity g.infos) × All (IsAtHome H.about H.holds g.home) (envs_of g.began.items) };
+    ghost invariant = { λ g. IsAtWork (record { began = envs_of g.began.items; now = record { env = g.env; state = g.state; desks = g.desks }; stopping = g.stopping.items; places = g.places.items; max_count = g.max_count; is_alive_only = g.is_alive_only; bufs = g.bufs.items; infos = g.infos.items; phase = g.phase }) × (length g.places.items ≤ vec_capacity g.infos) × All (IsAtHome H.about H.holds g.home) (envs_of g.began.items) };
 }
 
 /// What is told of the threads that were read: of all, or only of those that are alive.

@@ -2,6 +2,7 @@
 
 use crate::env::Env;
 use std::alloc::Global;
+use ti_chunked::Chunked;
 use ti_env::EnvState;
 use ti_types::{EnvNo, Limits};
 
@@ -41,7 +42,7 @@ impl<H: Home> Env<H> {
             home,
             env,
             state: EnvState::at_no_thread(alloc, limits),
-            desks: Vec::new(alloc),
+            desks: Chunked::new(alloc),
         }
     }
 

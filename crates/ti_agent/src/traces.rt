@@ -6,7 +6,9 @@ use crate::thread_counts::{
     all_threads, all_with_one_read, are_all_paid, count_each, counted_threads,
 };
 use std::alloc::Global;
+use std::mem::replace;
 use std::sync::{Mutex, Wait};
+use ti_chunked::Chunked;
 use ti_env::EnvState;
 use ti_handshake::Desk;
 use ti_types::{Answer, EnvNo, StackInfo, ThreadNo, TiError, TraceBuf};
@@ -213,11 +215,12 @@ impl<H: Home> Env<H> {
         let bufs = buffers(alloc, places.len(), max_count, self.state.limits().depth)?;
         let mut infos = Vec::with_capacity(alloc, places.len())?;
         let mut held = turn.lock(rt);
+        let mut desks = replace(&mut self.desks, Chunked::new(alloc)).into_vec();
         let round = trace_each(
             rt,
             &mut held,
             self.env,
-            &mut self.desks,
+            &mut desks,
             &mut self.state,
             stopping,
             places,
@@ -225,6 +228,7 @@ impl<H: Home> Env<H> {
             bufs,
             &mut infos,
         );
+        self.desks = Chunked::from_vec(desks);
         Ok((infos, round))
     }
 

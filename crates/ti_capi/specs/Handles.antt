@@ -6,7 +6,7 @@ use Rattle.ti_thread.specs.declared.host_thread.HostThread.{HostThread}
 use Rattle.ti_capi.specs.declared.held.Held.{Held}
 use Rattle.ti_capi.specs.declared.held.Held.TheVariants as held
 use Rattle.ti_capi.specs.declared.held.HeldThread.{HeldThread}
-use Rattle.ti_monitor.specs.Doors.{DoorValue}
+use Rattle.ti_capi.specs.declared.any_door.AnyDoor.{AnyDoor}
 use Rattle.ti_capi.specs.declared.held.HeldDoor.{HeldDoor}
 use Rattle.ti_capi.specs.declared.held.HeldEnv.{HeldEnv}
 use Rattle.ti_capi.specs.declared.held_at.HeldAt.{HeldAt}
@@ -79,11 +79,11 @@ abbrev pub with_door_box : Handle → HeldDoor → Handle
 with_door_box h d = with_held h (held.Door d)
 
 -- the door behind a handle
-abbrev pub door_in_box : Option HeldDoor → Option DoorValue
+abbrev pub door_in_box : Option HeldDoor → Option AnyDoor
 door_in_box (Some h) = h.door
 door_in_box None = None
 
-abbrev pub door_of : Option Held → Option DoorValue
+abbrev pub door_of : Option Held → Option AnyDoor
 door_of held = door_in_box (door_box_of held)
 
 -- the environment behind a handle

@@ -16,4 +16,5 @@ pub mod Services
 pub mod Resuming
 pub mod Defining
 pub mod Classes
+pub mod AnyDoors
 pub mod Doors

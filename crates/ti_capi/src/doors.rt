@@ -1,18 +1,20 @@
-//! A door: requests of HTTP about the threads of a service.
+//! A door of a service: for requests of HTTP, or for debuggers.
 
+use crate::any_door::AnyDoor;
 use crate::codes::{CQ_MISUSED, CQ_NONE, CQ_OK};
 use crate::handle::{CqDoor, CqService};
 use crate::held::{Held, HeldDoor};
 use crate::service_calls::{boxed, fill, name_of};
 use crate::writes::write_bytes;
 use std::alloc::Global;
+use ti_debugger::{About, Debugger};
 use ti_http::Hosts;
-use ti_monitor::{ConnNo, Door, DoorError, Monitor, Todo};
+use ti_monitor::{Door, DoorError, Monitor, Todo};
 use ti_service::Service;
 use ti_types::TiError;
 
-/// The version that `/metrics` tells, which is that of `cebdyraq.h`.
-const VERSION: &str = "1.3.1";
+/// The version that `/metrics` and a debugger are told, which is that of `cebdyraq.h`.
+const VERSION: &str = "1.4.0";
 
 /// The hosts that are served at a port. Above 65,535 there is no port, and every host is served.
 fn hosts_at(port: u32) -> Hosts
@@ -56,7 +58,7 @@ fn action_of(todo: Todo) -> u32
     }
 }
 
-/// A door in a box, with an environment of its own.
+/// A door for requests of HTTP in a box, with an environment of its own.
 fn open(
     alloc: Global,
     service: &mut Service,
@@ -65,7 +67,7 @@ fn open(
     now: u64,
 ) -> Result<Box<Held>, TiError>
     ensures made { OnOk result (service.new ≡ with_handle service.old) }
-    ensures opened { IfOk result (λ b. door_of (Some b.value) ≡ Some (door_with hosts [])) }
+    ensures opened { IfOk result (λ b. door_of (Some b.value) ≡ Some (Http (door_with hosts []))) }
     ensures refused { IfErr result (λ e. RefusesDoor program.now service.old service.new e) }
 {
     let program = name_of(alloc, program)?;
@@ -74,12 +76,12 @@ fn open(
     let agent = service.attach_environment_now(alloc)?;
     let monitor = Monitor::new(alloc, agent, program, now);
     *held = Held::Door(HeldDoor {
-        door: Some(Door::new(alloc, monitor, hosts, version)),
+        door: Some(AnyDoor::Http(Door::new(alloc, monitor, hosts, version))),
     });
     Ok(held)
 }
 
-/// Opens a door of the service.
+/// Opens a door for requests of HTTP.
 #[unsafe(no_mangle)]
 pub extern "C" fn cq_open_door(
     alloc: Global,
@@ -100,6 +102,62 @@ pub extern "C" fn cq_open_door(
     fill(door, open(alloc, service, program, hosts_at(port), now))
 }
 
+/// What a debugger is told of the runtime.
+fn about(alloc: Global, program: &[u8], path: &[u8], version: String) -> Result<About, TiError>
+    ensures { IfErr result (NamesOneWrongly program.now path.now) }
+{
+    Ok(About {
+        description: name_of(alloc, program)?,
+        version,
+        name: name_of(alloc, program)?,
+        base: name_of(alloc, path)?,
+        path: name_of(alloc, path)?,
+    })
+}
+
+/// A door for debuggers in a box, with an environment of its own.
+fn open_debugger(
+    alloc: Global,
+    service: &mut Service,
+    program: &[u8],
+    path: &[u8],
+    now: u64,
+) -> Result<Box<Held>, TiError>
+    ensures made { OnOk result (service.new ≡ with_handle service.old) }
+    ensures opened { IfOk result (λ b. AwaitsDebugger (Some b.value)) }
+    ensures refused { IfErr result (λ e. RefusesDebugger program.now path.now service.old service.new e) }
+{
+    let version = String::from_str(alloc, VERSION)?;
+    let about = about(alloc, program, path, version)?;
+    let mut held = boxed(alloc, Held::Door(HeldDoor { door: None }))?;
+    let agent = service.attach_environment_now(alloc)?;
+    *held = Held::Door(HeldDoor {
+        door: Some(AnyDoor::Debugger(Debugger::new(alloc, agent, about, now))),
+    });
+    Ok(held)
+}
+
+/// Opens a door for debuggers.
+#[unsafe(no_mangle)]
+pub extern "C" fn cq_open_debugger(
+    alloc: Global,
+    service: &mut CqService,
+    program: &[u8],
+    path: &[u8],
+    now: u64,
+    door: &mut CqDoor,
+) -> u32
+    ensures { OpensDebugger program.now path.now service.old service.new door.old door.new result }
+{
+    let Some(service) = service.service() else {
+        return CQ_MISUSED;
+    };
+    if !door.is_empty() {
+        return CQ_MISUSED;
+    }
+    fill(door, open_debugger(alloc, service, program, path, now))
+}
+
 /// Takes a new connection in.
 #[unsafe(no_mangle)]
 pub extern "C" fn cq_door_connect(door: &mut CqDoor, now: u64, connection: &mut u32) -> u32
@@ -111,9 +169,9 @@ pub extern "C" fn cq_door_connect(door: &mut CqDoor, now: u64, connection: &mut 
     let Some(door) = &mut held.door else {
         return CQ_MISUSED;
     };
-    match door.open(now) {
+    match door.connect(now) {
         Some(number) => {
-            *connection = number.0;
+            *connection = number;
             CQ_OK
         }
         None => TiError::Full.number(),
@@ -138,10 +196,10 @@ pub extern "C" fn cq_door_next(
     let Some(door) = &mut held.door else {
         return CQ_MISUSED;
     };
-    match door.next(ConnNo(connection), now, unix_time) {
+    match door.next(connection, now, unix_time) {
         Ok(todo) => {
             *action = action_of(todo);
-            *room = door.room(ConnNo(connection)) as u64;
+            *room = door.room(connection) as u64;
             CQ_OK
         }
         Err(error) => refusal_code(error),
@@ -165,7 +223,7 @@ pub extern "C" fn cq_door_feed(
     let Some(door) = &mut held.door else {
         return CQ_MISUSED;
     };
-    match door.feed(ConnNo(connection), bytes, now) {
+    match door.feed(connection, bytes, now) {
         Ok(count) => {
             *taken = count as u64;
             CQ_OK
@@ -177,7 +235,7 @@ pub extern "C" fn cq_door_feed(
 /// The peer sends no more.
 #[unsafe(no_mangle)]
 pub extern "C" fn cq_door_end(door: &mut CqDoor, connection: u32, now: u64) -> u32
-    ensures { CallsDoor (ChangesOne connection (λ t t'. RunsTo t t' × (t'.ended ≡ true))) ⊤ door.old door.new result }
+    ensures { CallsDoor (ChangesOne connection (Ends connection)) ⊤ door.old door.new result }
 {
     let Some(held) = door.held_door() else {
         return CQ_MISUSED;
@@ -185,7 +243,7 @@ pub extern "C" fn cq_door_end(door: &mut CqDoor, connection: u32, now: u64) -> u
     let Some(door) = &mut held.door else {
         return CQ_MISUSED;
     };
-    code_of(door.end(ConnNo(connection), now))
+    code_of(door.end(connection, now))
 }
 
 /// The first bytes of what is to be written.
@@ -204,10 +262,10 @@ pub extern "C" fn cq_door_output(
     let Some(door) = &mut held.door else {
         return CQ_MISUSED;
     };
-    if !door.is_open(ConnNo(connection)) {
+    if !door.is_open(connection) {
         return CQ_NONE;
     }
-    let output = door.output(ConnNo(connection));
+    let output = door.output(connection);
     *count = output.len().min(bytes.len()) as u64;
     write_bytes(output, bytes);
     CQ_OK
@@ -216,7 +274,7 @@ pub extern "C" fn cq_door_output(
 /// The socket took so many bytes.
 #[unsafe(no_mangle)]
 pub extern "C" fn cq_door_written(door: &mut CqDoor, connection: u32, count: u64, now: u64) -> u32
-    ensures { CallsDoor (ChangesOne connection (λ t t'. t' ≡ written_from t count (millis now))) ⊤ door.old door.new result }
+    ensures { CallsDoor (ChangesOne connection (Writes connection count now)) ⊤ door.old door.new result }
 {
     let Some(held) = door.held_door() else {
         return CQ_MISUSED;
@@ -224,13 +282,13 @@ pub extern "C" fn cq_door_written(door: &mut CqDoor, connection: u32, count: u64
     let Some(door) = &mut held.door else {
         return CQ_MISUSED;
     };
-    code_of(door.written(ConnNo(connection), count as usize, now))
+    code_of(door.written(connection, count as usize, now))
 }
 
 /// The socket is gone.
 #[unsafe(no_mangle)]
 pub extern "C" fn cq_door_disconnect(door: &mut CqDoor, connection: u32) -> u32
-    ensures { CallsDoor (Disconnects connection) ⊤ door.old door.new result }
+    ensures { CallsDoor (ChangesOne connection (Disconnects connection)) ⊤ door.old door.new result }
 {
     let Some(held) = door.held_door() else {
         return CQ_MISUSED;
@@ -238,13 +296,13 @@ pub extern "C" fn cq_door_disconnect(door: &mut CqDoor, connection: u32) -> u32
     let Some(door) = &mut held.door else {
         return CQ_MISUSED;
     };
-    code_of(door.closed(ConnNo(connection)))
+    code_of(door.disconnect(connection))
 }
 
 /// Does what is due.
 #[unsafe(no_mangle)]
 pub extern "C" fn cq_door_tick(door: &mut CqDoor, now: u64, deadline: &mut u64) -> u32
-    ensures { CallsDoor Ticks (deadline.new ≡ deadline.old) door.old door.new result }
+    ensures { CallsDoor IsTicked (deadline.new ≡ deadline.old) door.old door.new result }
 {
     let Some(held) = door.held_door() else {
         return CQ_MISUSED;
@@ -254,6 +312,21 @@ pub extern "C" fn cq_door_tick(door: &mut CqDoor, now: u64, deadline: &mut u64) 
     };
     door.tick(now);
     *deadline = door.deadline();
+    CQ_OK
+}
+
+/// How many times the door has resumed a thread.
+#[unsafe(no_mangle)]
+pub extern "C" fn cq_door_resumptions(door: &mut CqDoor, count: &mut u64) -> u32
+    ensures { CallsDoor (TellsResumptions count.new) (count.new ≡ count.old) door.old door.new result }
+{
+    let Some(held) = door.held_door() else {
+        return CQ_MISUSED;
+    };
+    let Some(door) = &mut held.door else {
+        return CQ_MISUSED;
+    };
+    *count = door.resumptions();
     CQ_OK
 }
 
@@ -288,10 +361,10 @@ fn close(held: &mut HeldDoor) -> u32
     }
 }
 
-ghost use Rattle.std.specs.Prelude.{◌≡◌, [], ⊤, true, IfErr, IfOk, OnOk, Some};
-ghost use Rattle.ti_http.specs.Talks.{written_from};
+ghost use Rattle.std.specs.Prelude.{◌≡◌, [], ⊤, IfErr, IfOk, OnOk, Some};
 ghost use Rattle.ti_monitor.specs.Doors.{door_with};
-ghost use Rattle.ti_monitor.specs.Seats.{RunsTo};
-ghost use Rattle.ti_capi.specs.Doors.{CallsDoor, ChangesOne, Closes, ClosesDoor, Connects, Disconnects, GivesOutput, OpensDoor, RefusesDoor, Takes, Tells, Ticks, action_of, code_done, code_refused, hosts_at, millis};
+ghost use Rattle.ti_capi.specs.AnyDoors.{Disconnects, Ends, Writes};
+ghost use Rattle.ti_capi.specs.Doors.{AwaitsDebugger, CallsDoor, ChangesOne, Closes, ClosesDoor, Connects, GivesOutput, IsTicked, NamesOneWrongly, OpensDebugger, OpensDoor, RefusesDebugger, RefusesDoor, Takes, Tells, TellsResumptions, action_of, code_done, code_refused, hosts_at};
 ghost use Rattle.ti_capi.specs.Handles.{door_of};
+ghost use Rattle.ti_capi.specs.declared.any_door.AnyDoor.TheVariants.{Http};
 ghost use Rattle.ti_service.specs.Service.{with_handle};

@@ -1,7 +1,7 @@
 //! What lies behind a handle.
 
+use crate::any_door::AnyDoor;
 use crate::held_trace::HeldTrace;
-use ti_monitor::Door;
 use ti_service::{Agent, Service};
 use ti_thread::HostThread;
 use ti_types::{Frame, StackInfo};
@@ -49,7 +49,7 @@ pub struct HeldEnv {
 #[derive(Drop)]
 pub struct HeldDoor {
     /// `None` only while a call works on it.
-    pub door: Option<Door>,
+    pub door: Option<AnyDoor>,
 }
 
 impl Held {

@@ -10,6 +10,7 @@
 //! - While an environment makes a trace step by step, its other calls have the code 304 too, and change nothing.
 #![tactic(auto)]
 
+mod any_door;
 mod class_defines;
 mod class_parts;
 mod class_reads;
@@ -40,6 +41,7 @@ mod thread_turns;
 mod values;
 mod writes;
 
+pub use any_door::AnyDoor;
 pub use class_values::{CqClassRanges, CqLineEntry, CqMethodName, CqMethodRanges, CqRange};
 pub use handle::{CqDoor, CqEnv, CqHandle, CqService, CqThread};
 pub use held::{Held, HeldDoor, HeldEnv, HeldThread};

@@ -1,1 +1,5 @@
+pub mod ClassLaws
+pub mod CrowdLaws
+pub mod RefusedLaws
 pub mod RunLaws
+pub mod TellLaws

@@ -16,7 +16,7 @@ use Rattle.ti_debugger.specs.Runs.{RunsTo, is_agents}
 pub runs_none : (t m : Talk) → m ≡ t → RunsTo t m
 runs_none t m is = ([], refl, (sym is, refl))
 
-runs_on : (t m u : Talk) (first more : List Call) (s s' : List ℕ) → Runs t first s m → Runs m more s' u → Runs t (first ++ more) (s ++ s') u
+pub runs_on : (t m u : Talk) (first more : List Call) (s s' : List ℕ) → Runs t first s m → Runs m more s' u → Runs t (first ++ more) (s ++ s') u
 runs_on t m u [] more s s' a b = subst (λ (x : Talk). Runs x more (s ++ s') u) (sym a.0) (subst (λ (x : List ℕ). Runs m more (x ++ s') u) (sym a.1) b)
 runs_on t m u (c ∷ first) more s s' a b = (a.0, a.1 ++ s', a.2, ap (λ x. x ++ s') a.3 ∙ append_assoc (taken t c) a.1 s', runs_on a.0 m u first more a.1 s' a.4 b)
 

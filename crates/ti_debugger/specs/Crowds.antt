@@ -1,5 +1,5 @@
 -- The threads that are watched.
-use Rattle.std.specs.Prelude.{ℕ, ◌≡◌, Bool, true, not, List, Option, Some, None, map, filter, slice_get, All}
+use Rattle.std.specs.Prelude.{ℕ, ◌≡◌, Bool, true, not, List, [], ◌∷◌, Option, Some, None, map, filter, slice_get, All}
 use Rattle.std.specs.List.{list_any}
 use Rattle.ti_debugger.specs.declared.watched.Watched.{Watched}
 use Rattle.ti_debugger.specs.Holding.{is_awaited, is_open, is_let_go}
@@ -15,6 +15,10 @@ number_at list place = number_of (slice_get list place)
 -- the numbers of the threads that are there
 abbrev pub alive_in : List Watched → List ℕ
 alive_in list = map (λ (w : Watched). w.thread.0) (filter (λ (w : Watched). not w.ended) list)
+
+abbrev pub first : List ℕ → Option ℕ
+first [] = None
+first (n ∷ numbers) = Some n
 
 -- the debugger waits for some suspension
 abbrev pub any_awaited : List Watched → ℕ → Bool

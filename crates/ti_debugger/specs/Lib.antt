@@ -7,3 +7,8 @@ pub mod Stacks
 pub mod Runs
 pub mod Seats
 pub mod Sessions
+pub mod Refused
+pub mod Sources
+pub mod Told
+pub mod Desks
+pub mod Replies

@@ -51,6 +51,18 @@ impl Crowd {
         Some(last.thread)
     }
 
+    /// The thread with the lowest number that is there.
+    pub(crate) fn first_alive(&self) -> Option<u32>
+        ensures { result ≡ first (alive_in self.now.list.items) }
+    {
+        for watched in &self.list {
+            if !watched.ended {
+                return Some(watched.thread.0);
+            }
+        }
+        None
+    }
+
     /// The numbers of the threads that are there, the lowest first. The error is lack of memory.
     #[tactic(auto, using(std::proofs::lemmas::List::Elements::filter_more))]
     pub(crate) fn alive(&self, alloc: Global) -> Result<Vec<u32>, AllocError>
@@ -89,4 +101,4 @@ impl Crowd {
 }
 
 ghost use Rattle.std.specs.Prelude.{◌≡◌, ◌<◌, ◌≤◌, [], Some, length, IfOk, IfSome};
-ghost use Rattle.ti_debugger.specs.Crowds.{number_at, alive_in};
+ghost use Rattle.ti_debugger.specs.Crowds.{number_at, alive_in, first};

@@ -4,6 +4,7 @@ use crate::about::About;
 use crate::debugger_error::DebuggerError;
 use crate::desk::Desk;
 use crate::seat::{Seat, Todo};
+use crate::telling::{tell_classes, tell_lives};
 use std::alloc::Global;
 use ti_service::{Agent, Service};
 use ti_types::TiError;
@@ -13,9 +14,6 @@ const SOON: u64 = 1_000_000;
 
 /// How long after a `tick` it looks again for suspensions that nobody waits for.
 const LATER: u64 = 10_000_000;
-
-/// How many starts and ends of threads are told at once.
-const EVENTS: u32 = 4_096;
 
 /// An agent of a service for debuggers, one at a time. Times are nanoseconds of a clock that never goes back.
 #[derive(Drop)]
@@ -31,6 +29,7 @@ impl Debugger {
     pub fn new(alloc: Global, agent: Agent, about: About, now: u64) -> Debugger
         ensures none { result.seat ≡ None }
         ensures free { NoneHeld result.desk.crowd.list.items }
+        ensures resumptions { result.desk.resumptions ≡ 0 }
     {
         Debugger {
             alloc,
@@ -45,6 +44,7 @@ impl Debugger {
         ensures told { result ≡ not (is_some self.old.seat) }
         ensures opened { result ≡ true → session_in self.new.seat ≡ Some opened }
         ensures there { result ≡ false → self.new ≡ self.old }
+        ensures desk { self.new.desk ≡ self.old.desk }
     {
         if self.seat.is_some() {
             return false;
@@ -77,8 +77,8 @@ impl Debugger {
     /// - 110 OUT_OF_MEMORY: there is no memory for them. Nothing changes.
     pub fn feed(&mut self, bytes: &[u8], _now: u64) -> Result<usize, DebuggerError>
         ensures fed { IfOk result (λ n. Changes (session_in self.old.seat) (session_in self.new.seat) (λ s s'. Feeds s s' bytes.now n)) }
-        ensures unknown { self.old.seat ≡ None → result ≡ Err NoDebugger }
-        ensures err { OnErr result (session_in self.new.seat ≡ session_in self.old.seat) }
+        ensures err { IfErr result (Refuses (λ s s'. s' ≡ s) self.old self.new) }
+        ensures desk { self.new.desk ≡ self.old.desk }
     {
         let Some(mut seat) = self.seat.take() else {
             return Err(DebuggerError::NoDebugger);
@@ -93,8 +93,8 @@ impl Debugger {
     /// - 112 WRONG_PHASE: no debugger is connected. Nothing changes.
     pub fn end(&mut self, _now: u64) -> Result<(), DebuggerError>
         ensures ended { OnOk result (Changes (session_in self.old.seat) (session_in self.new.seat) (λ s s'. s' ≡ record s { ended = true })) }
-        ensures unknown { self.old.seat ≡ None → result ≡ Err NoDebugger }
-        ensures err { OnErr result (self.old.seat ≡ None) }
+        ensures err { IfErr result (HasNone self.old self.new) }
+        ensures desk { self.new.desk ≡ self.old.desk }
     {
         let Some(mut seat) = self.seat.take() else {
             return Err(DebuggerError::NoDebugger);
@@ -111,8 +111,8 @@ impl Debugger {
     ///   done, and the rest waits for the next call.
     pub fn next(&mut self, now: u64) -> Result<Todo, DebuggerError>
         ensures run { IfOk result (λ t. Changes (session_in self.old.seat) (session_in self.new.seat) (λ s s'. RunsTo s s' × Says s' t)) }
-        ensures err { IfErr result (λ e. (self.old.seat ≡ None) ⊎ Changes (session_in self.old.seat) (session_in self.new.seat) RunsTo) }
-        ensures unknown { self.old.seat ≡ None → result ≡ Err NoDebugger }
+        ensures err { IfErr result (Refuses RunsTo self.old self.new) }
+        ensures desk { Works self.old.desk self.new.desk }
     {
         let Some(mut seat) = self.seat.take() else {
             return Err(DebuggerError::NoDebugger);
@@ -137,8 +137,8 @@ impl Debugger {
     /// - 112 WRONG_PHASE: no debugger is connected. Nothing changes.
     pub fn written(&mut self, count: usize) -> Result<(), DebuggerError>
         ensures written { OnOk result (Changes (session_in self.old.seat) (session_in self.new.seat) (λ s s'. s' ≡ record s { bytes = with_written s.bytes count })) }
-        ensures unknown { self.old.seat ≡ None → result ≡ Err NoDebugger }
-        ensures err { OnErr result (self.old.seat ≡ None) }
+        ensures err { IfErr result (HasNone self.old self.new) }
+        ensures desk { self.new.desk ≡ self.old.desk }
     {
         let Some(mut seat) = self.seat.take() else {
             return Err(DebuggerError::NoDebugger);
@@ -153,35 +153,39 @@ impl Debugger {
     pub fn closed(&mut self)
         ensures gone { self.new.seat ≡ None }
         ensures free { NoneHeld self.new.desk.crowd.list.items }
+        ensures desk { Works self.old.desk self.new.desk }
     {
         self.seat = None;
         self.desk.resume_all();
     }
 
-    /// Does what is due: it meets threads, tells the session of their starts and ends, collects what threads answered, and undoes
-    /// suspensions that are not wanted any more. Call `next` after it.
-    pub fn tick(&mut self, now: u64) {
+    /// Does what is due: it meets threads, tells the session of their starts and ends and of the classes that were defined, collects
+    /// what threads answered, and undoes suspensions that are not wanted any more. Call `next` after it.
+    pub fn tick(&mut self, now: u64)
+        ensures told { ToldBy (classes_of self.new.desk.agent) self.old.desk.next_class self.new.desk.next_class (session_in self.old.seat) (session_in self.new.seat) }
+        ensures resumptions { self.old.desk.resumptions ≤ self.new.desk.resumptions }
+    {
         self.last_tick = now;
         self.desk.meet_if_due(now);
-        self.tell();
+        tell_lives(&mut self.seat, &mut self.desk);
+        tell_classes(&mut self.seat, &mut self.desk);
         self.desk.settle_all();
     }
 
-    /// Tells the session of the starts and ends of threads.
-    fn tell(&mut self) {
-        for _ in 0..EVENTS {
-            let Some(life) = self.desk.next_life() else {
-                return;
-            };
-            if let Some(seat) = &mut self.seat {
-                seat.tell(life);
-            }
-        }
+    /// How many times it has resumed a thread of the service since it was made. The count never goes back, and stays at 2^64 - 1. When
+    /// it has grown, wake the threads that sleep.
+    pub fn resumptions(&self) -> u64
+        ensures { result ≡ self.now.desk.resumptions }
+    {
+        self.desk.resumptions
     }
 
     /// When `tick` has something to do next.
     pub fn deadline(&self) -> u64 {
         let mut due = self.desk.next_meeting;
+        if self.desk.more_classes {
+            due = due.min(self.last_tick.saturating_add(SOON));
+        }
         if self.desk.is_open() {
             due = due.min(self.last_tick.saturating_add(LATER));
         }
@@ -210,8 +214,9 @@ impl Debugger {
     ///   only be disposed of.
     pub fn finish(self) -> Result<Service, (TiError, Debugger)>
         ensures idle { is_idle self.seat self.desk.crowd.list.items ≡ false → result ≡ Err (Busy, self) }
-        ensures seat { IfErr result (λ r. r.1.seat ≡ self.seat) }
-        ensures threads { IfErr result (λ r. r.1.desk.crowd ≡ self.desk.crowd) }
+        ensures disposed { IfOk result (λ s. Disposes (state_of self.desk.agent) s) }
+        ensures refused { IfErr result (λ r. (is_idle self.seat self.desk.crowd.list.items ≡ false) ⊎ StaysOn (state_of self.desk.agent) (state_of r.1.desk.agent) r.0) }
+        ensures rest { IfErr result (λ r. r.1 ≡ record self { desk = record self.desk { agent = r.1.desk.agent } }) }
     {
         if !self.is_idle() {
             return Err((TiError::Busy, self));
@@ -237,12 +242,17 @@ impl Debugger {
     }
 }
 
-ghost use Rattle.std.specs.Prelude.{◌≡◌, ◌⊎◌, true, false, not, is_some, Some, None, Err, IfOk, IfErr, OnOk, OnErr};
+ghost use Rattle.std.specs.Prelude.{◌≡◌, ◌≤◌, ◌⊎◌, true, false, not, is_some, Some, None, Err, IfOk, IfErr, OnOk, OnErr};
 ghost use Rattle.ti_types.specs.declared.error.TiError.TheVariants.{Busy};
 ghost use Rattle.ti_jdwp.specs.Lines.{with_written};
 ghost use Rattle.ti_jdwp.specs.Talks.{opened};
-ghost use Rattle.ti_debugger.specs.declared.debugger_error.DebuggerError.TheVariants.{NoDebugger};
+ghost use Rattle.ti_service.specs.Classes.{classes_of};
+ghost use Rattle.ti_service.specs.Leaving.{Disposes, StaysOn};
+ghost use Rattle.ti_service.specs.Memberships.{state_of};
 ghost use Rattle.ti_debugger.specs.Crowds.{NoneHeld};
+ghost use Rattle.ti_debugger.specs.Desks.{Works};
 ghost use Rattle.ti_debugger.specs.Runs.{RunsTo};
 ghost use Rattle.ti_debugger.specs.Seats.{Says};
+ghost use Rattle.ti_debugger.specs.Refused.{HasNone, Refuses};
 ghost use Rattle.ti_debugger.specs.Sessions.{session_in, room_of, output_of, Changes, Feeds, is_idle};
+ghost use Rattle.ti_debugger.specs.Told.{ToldBy};

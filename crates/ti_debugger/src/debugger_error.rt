@@ -1,15 +1,16 @@
 //! Why a call of a debugger's agent is refused.
 
-use std::error::Error;
-use std::fmt;
+use thiserror::Error;
 use ti_jdwp::SessionError;
 
 /// Why a call is refused. The session is as it was before, but for `next`, which may have gone on before it.
-#[derive(Clone, Copy, Debug, PartialEq, Eq)]
+#[derive(Clone, Copy, Debug, PartialEq, Eq, Error)]
 pub enum DebuggerError {
     /// 110 OUT_OF_MEMORY (JVM TI 11): there is no memory for the input, for a reply or for an event.
+    #[error("out of memory")]
     OutOfMemory,
     /// 112 WRONG_PHASE (JVM TI 11): no debugger is connected.
+    #[error("no debugger is connected")]
     NoDebugger,
 }
 
@@ -24,17 +25,6 @@ impl DebuggerError {
         }
     }
 }
-
-impl fmt::Display for DebuggerError {
-    fn fmt<W: fmt::Write>(&self, f: &mut fmt::Formatter<W>) -> fmt::Result {
-        f.write_str(match self {
-            DebuggerError::OutOfMemory => "out of memory",
-            DebuggerError::NoDebugger => "no debugger is connected",
-        })
-    }
-}
-
-impl Error for DebuggerError {}
 
 impl From<SessionError> for DebuggerError {
     ghost use Rattle.std.specs.Prelude.{◌≡◌};

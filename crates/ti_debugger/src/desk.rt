@@ -17,12 +17,19 @@ pub(crate) struct Desk {
     pub(crate) next_meeting: u64,
     /// Ends of threads were lost, so that each thread has to be looked at.
     pub(crate) lost: bool,
+    /// The number of the class that is told next.
+    pub(crate) next_class: u64,
+    /// As many classes were told as are told at once, so that more may be there.
+    pub(crate) more_classes: bool,
+    /// How many times the agent has resumed a thread. It stays at 2^64 - 1.
+    pub(crate) resumptions: u64,
 }
 
 impl Desk {
     /// An agent that watches nobody yet.
     pub(crate) fn new(alloc: Global, agent: Agent, about: About, now: u64) -> Desk
-        ensures { result.crowd.list.items ≡ [] }
+        ensures free { result.crowd.list.items ≡ [] }
+        ensures resumptions { result.resumptions ≡ 0 }
     {
         let mut agent = agent;
         let _it_can_be_had = agent.add_capabilities(Caps::CAN_SUSPEND);
@@ -34,12 +41,17 @@ impl Desk {
             crowd: Crowd::new(alloc),
             next_meeting: now,
             lost: false,
+            next_class: 0,
+            more_classes: false,
+            resumptions: 0,
         }
     }
 
     /// Disposes of the agent. The errors are those of `ServiceTries::dispose_now`. Then the threads are watched as before.
     pub(crate) fn dispose(self) -> Result<Service, (TiError, Desk)>
-        ensures { IfErr result (λ r. r.1.crowd ≡ self.crowd) }
+        ensures disposed { IfOk result (λ s. Disposes (state_of self.agent) s) }
+        ensures refused { IfErr result (λ r. StaysOn (state_of self.agent) (state_of r.1.agent) r.0) }
+        ensures rest { IfErr result (λ r. r.1 ≡ record self { agent = r.1.agent }) }
     {
         let mut rest = self;
         let alloc = rest.alloc;
@@ -53,4 +65,6 @@ impl Desk {
     }
 }
 
-ghost use Rattle.std.specs.Prelude.{◌≡◌, [], IfErr};
+ghost use Rattle.std.specs.Prelude.{◌≡◌, [], IfOk, IfErr};
+ghost use Rattle.ti_service.specs.Leaving.{Disposes, StaysOn};
+ghost use Rattle.ti_service.specs.Memberships.{state_of};

@@ -54,7 +54,8 @@ fn suspend_at(alloc: Global, agent: &mut Agent, one: &mut Watched, now: u64) -> 
 
 /// Collects the answer to a suspension that is out.
 fn collect_at(agent: &mut Agent, one: &mut Watched)
-    ensures { is_let_go one.old.hold ≡ true → is_let_go one.new.hold ≡ true }
+    ensures free { is_let_go one.old.hold ≡ true → is_let_go one.new.hold ≡ true }
+    ensures home { agent.new.home ≡ agent.old.home }
 {
     let Hold::Out { ticket, wanted, .. } = one.hold else {
         return;
@@ -64,38 +65,51 @@ fn collect_at(agent: &mut Agent, one: &mut Watched)
     }
 }
 
-/// Undoes a suspension that stands and is not wanted any more. If the thread's cell is in use, it is tried again soon.
-fn undo_at(alloc: Global, agent: &mut Agent, one: &mut Watched)
-    ensures { is_let_go one.old.hold ≡ true → is_let_go one.new.hold ≡ true }
+/// Undoes a suspension that stands and is not wanted any more. If the thread's cell is in use, it is tried again soon. It gives
+/// whether the thread was resumed.
+fn undo_at(alloc: Global, agent: &mut Agent, one: &mut Watched) -> bool
+    ensures resumed { result ≡ true → (one.old.hold ≡ Owed) × (one.new.hold ≡ Free) × Posts agent.old.env agent.new.env one.old.thread call.Resume (Answered answer.Done) }
+    ensures free { is_let_go one.old.hold ≡ true → is_let_go one.new.hold ≡ true }
+    ensures home { agent.new.home ≡ agent.old.home }
 {
     if one.hold != Hold::Owed {
-        return;
+        return false;
     }
     match agent.post_now(alloc, one.thread, Call::Resume) {
-        Err(TiError::Busy) => (),
-        _ => one.hold = Hold::Free,
+        Err(TiError::Busy) => false,
+        Ok(Asked::Answered(Answer::Done)) => {
+            one.hold = Hold::Free;
+            true
+        }
+        _ => {
+            one.hold = Hold::Free;
+            false
+        }
     }
 }
 
-/// Does what is open at a thread.
-fn settle_at(alloc: Global, agent: &mut Agent, one: &mut Watched)
-    ensures { is_let_go one.old.hold ≡ true → is_let_go one.new.hold ≡ true }
+/// Does what is open at a thread. It gives whether the thread was resumed.
+fn settle_at(alloc: Global, agent: &mut Agent, one: &mut Watched) -> bool
+    ensures free { is_let_go one.old.hold ≡ true → is_let_go one.new.hold ≡ true }
+    ensures home { agent.new.home ≡ agent.old.home }
 {
     collect_at(agent, one);
-    undo_at(alloc, agent, one);
+    undo_at(alloc, agent, one)
 }
 
-/// Resumes a thread, as far as it can be now.
-fn resume_at(alloc: Global, agent: &mut Agent, one: &mut Watched)
+/// Resumes a thread, as far as it can be now. It gives whether the thread was resumed.
+fn resume_at(alloc: Global, agent: &mut Agent, one: &mut Watched) -> bool
     ensures { is_let_go one.new.hold ≡ true }
 {
     one.hold = one.hold.let_go();
-    settle_at(alloc, agent, one);
+    settle_at(alloc, agent, one)
 }
 
 impl Desk {
     /// Suspends a thread, and says what came of it. `None` if the thread's cell is in use: then it is tried again soon.
-    pub(crate) fn suspend(&mut self, thread: u32, now: u64) -> Option<Posted> {
+    pub(crate) fn suspend(&mut self, thread: u32, now: u64) -> Option<Posted>
+        ensures { Works self.old self.new }
+    {
         let Some(place) = self.crowd.place_of(thread) else {
             return Some(Posted::Unknown);
         };
@@ -108,28 +122,46 @@ impl Desk {
     }
 
     /// Resumes a thread. What could not be undone is undone by `settle_all`.
-    pub(crate) fn resume(&mut self, thread: u32) {
+    pub(crate) fn resume(&mut self, thread: u32)
+        ensures { Works self.old self.new }
+    {
         let Some(place) = self.crowd.place_of(thread) else {
             return;
         };
-        resume_at(self.alloc, &mut self.agent, &mut self.crowd.list[place]);
+        let resumed = resume_at(self.alloc, &mut self.agent, &mut self.crowd.list[place]);
+        self.count_resumption(resumed);
+    }
+
+    /// Counts a resumption, if it is one.
+    fn count_resumption(&mut self, resumed: bool)
+        ensures rest { self.new ≡ record self.old { resumptions = self.new.resumptions } }
+        ensures grows { self.old.resumptions ≤ self.new.resumptions }
+        ensures none { resumed ≡ false → self.new ≡ self.old }
+        ensures one { resumed ≡ true → self.old.resumptions < 2 ^ 64 - 1 → self.new.resumptions ≡ self.old.resumptions + 1 }
+    {
+        self.resumptions = self.resumptions.saturating_add(u64::from(resumed));
     }
 
     /// Resumes all threads that the debugger suspends. What could not be undone is undone by `settle_all`.
     pub(crate) fn resume_all(&mut self)
-        ensures { NoneHeld self.new.crowd.list.items }
+        ensures free { NoneHeld self.new.crowd.list.items }
+        ensures rest { Works self.old self.new }
     {
         for place in 0..self.crowd.list.len() {
-            resume_at(self.alloc, &mut self.agent, &mut self.crowd.list[place]);
+            let resumed = resume_at(self.alloc, &mut self.agent, &mut self.crowd.list[place]);
+            self.count_resumption(resumed);
         }
     }
 
     /// Collects the answers to suspensions, and undoes those that are not wanted any more.
     pub(crate) fn settle_all(&mut self)
-        ensures { NoneHeld self.old.crowd.list.items → NoneHeld self.new.crowd.list.items }
+        ensures free { NoneHeld self.old.crowd.list.items → NoneHeld self.new.crowd.list.items }
+        ensures rest { Works self.old self.new }
+        ensures known { classes_of self.new.agent ≡ classes_of self.old.agent }
     {
         for place in 0..self.crowd.list.len() {
-            settle_at(self.alloc, &mut self.agent, &mut self.crowd.list[place]);
+            let resumed = settle_at(self.alloc, &mut self.agent, &mut self.crowd.list[place]);
+            self.count_resumption(resumed);
         }
     }
 
@@ -154,6 +186,13 @@ impl Desk {
     }
 }
 
-ghost use Rattle.std.specs.Prelude.{◌≡◌, true};
+ghost use Rattle.std.specs.Prelude.{◌≡◌, ◌≤◌, ◌<◌, ◌+◌, ◌-◌, ◌^◌, true, false};
+ghost use Rattle.ti_types.specs.declared.answer.Answer.TheVariants as answer;
+ghost use Rattle.ti_types.specs.declared.call.Call.TheVariants as call;
+ghost use Rattle.ti_slot.specs.declared.asked.Asked.TheVariants.{Answered};
+ghost use Rattle.ti_agent.specs.Posts.{Posts};
+ghost use Rattle.ti_debugger.specs.declared.hold.Hold.TheVariants.{Free, Owed};
+ghost use Rattle.ti_service.specs.Classes.{classes_of};
 ghost use Rattle.ti_debugger.specs.Crowds.{NoneHeld, any_awaited, any_open};
+ghost use Rattle.ti_debugger.specs.Desks.{Works};
 ghost use Rattle.ti_debugger.specs.Holding.{is_let_go};

@@ -17,10 +17,15 @@ mod hold;
 mod holding;
 mod meeting;
 mod method_answers;
+mod prepared;
 mod refusal;
 mod seat;
+mod source;
 mod stacks;
 mod status;
+mod telling;
+#[cfg(test)]
+mod tests;
 mod watched;
 
 pub use about::About;

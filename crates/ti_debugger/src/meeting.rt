@@ -27,9 +27,29 @@ fn watched_at(alloc: Global, agent: &mut Agent, thread: ThreadNo) -> Result<Watc
     }
 }
 
+/// Lets go of those that have ended, or looks at all of them. Whether all have to be looked at again, since the roster is in use.
+fn let_go_of(agent: &mut Agent, list: &mut [Watched], all: bool) -> bool {
+    let mut again = false;
+    for one in list.iter_mut() {
+        if !one.gone && (one.ended || all) {
+            match agent.let_go_now(one.thread) {
+                Ok(true) => {
+                    one.gone = true;
+                    one.ended = true;
+                }
+                Ok(false) => (),
+                Err(_) => again = again || all,
+            }
+        }
+    }
+    again
+}
+
 impl Desk {
     /// Meets threads, if that is due or there is news.
-    pub(crate) fn meet_if_due(&mut self, now: u64) {
+    pub(crate) fn meet_if_due(&mut self, now: u64)
+        ensures { Watches self.old self.new }
+    {
         if !self.agent.has_news() && now < self.next_meeting {
             return;
         }
@@ -38,7 +58,9 @@ impl Desk {
     }
 
     /// Meets the threads that came, and lets go of those that were given back. False if the roster is in use.
-    fn meet(&mut self) -> bool {
+    fn meet(&mut self) -> bool
+        ensures { Watches self.old self.new }
+    {
         let enabled = self.agent.set_event_notification_mode_now(true);
         let met = self.agent.meet_now(self.alloc);
         let watched = self.watch_new();
@@ -63,7 +85,9 @@ impl Desk {
 
     /// Watches the threads that the agent has met since the last time, as far as there is room and memory. False if the roster is in
     /// use.
-    fn watch_new(&mut self) -> bool {
+    fn watch_new(&mut self) -> bool
+        ensures { Watches self.old self.new }
+    {
         for index in self.first_new()..self.agent.desk_count() {
             let Some(thread) = self.agent.thread_at(index) else {
                 return true;
@@ -81,25 +105,16 @@ impl Desk {
     }
 
     /// Lets go of threads that were given back, so that their memory is freed. If ends of threads were lost, it looks at each thread.
-    fn let_go_of_ended(&mut self) {
-        let all = self.lost;
-        self.lost = false;
-        for one in self.crowd.list.iter_mut() {
-            if !one.gone && (one.ended || all) {
-                match self.agent.let_go_now(one.thread) {
-                    Ok(true) => {
-                        one.gone = true;
-                        one.ended = true;
-                    }
-                    Ok(false) => (),
-                    Err(_) => self.lost = self.lost || all,
-                }
-            }
-        }
+    fn let_go_of_ended(&mut self)
+        ensures { Watches self.old self.new }
+    {
+        self.lost = let_go_of(&mut self.agent, self.crowd.list.as_mut_slice(), self.lost);
     }
 
     /// The next start or end of a thread that is to be told. `None` if there is none, or if the roster is in use.
-    pub(crate) fn next_life(&mut self) -> Option<LifeEvent> {
+    pub(crate) fn next_life(&mut self) -> Option<LifeEvent>
+        ensures { Watches self.old self.new }
+    {
         let Ok(Some(next)) = self.agent.next_event_now() else {
             return None;
         };
@@ -113,9 +128,13 @@ impl Desk {
     }
 
     /// Notes that a thread was given back.
-    fn note_end(&mut self, thread: ThreadNo) {
+    fn note_end(&mut self, thread: ThreadNo)
+        ensures { Watches self.old self.new }
+    {
         if let Some(place) = self.crowd.place_of(thread.0) {
             self.crowd.list[place].ended = true;
         }
     }
 }
+
+ghost use Rattle.ti_debugger.specs.Desks.{Watches};

@@ -80,7 +80,9 @@ fn table_of(alloc: Global, lines: Lines, first: u32) -> Result<Vec<u8>, JdwpErro
 
 impl Desk {
     /// A method with its name.
-    fn known_method(&mut self, method: MethodNo) -> Result<Known, ClassError> {
+    fn known_method(&mut self, method: MethodNo) -> Result<Known, ClassError>
+        ensures { self.new ≡ record self.old { agent = self.new.agent } }
+    {
         let named = self.agent.get_method_name(self.alloc, method)?;
         Ok(Known {
             method: method.0,
@@ -90,7 +92,9 @@ impl Desk {
     }
 
     /// The methods of a class (2/15).
-    pub(crate) fn methods(&mut self, id: u64) -> Result<Vec<u8>, Refusal> {
+    pub(crate) fn methods(&mut self, id: u64) -> Result<Vec<u8>, Refusal>
+        ensures { self.new ≡ record self.old { agent = self.new.agent } }
+    {
         let Some(class) = class_of(id) else {
             return Err(Refusal::Error(JdwpError::InvalidClass));
         };
@@ -104,7 +108,9 @@ impl Desk {
     }
 
     /// The lines of a method (6/1). One whose lines are not known has none.
-    pub(crate) fn line_table(&mut self, class: u64, method: u64) -> Result<Vec<u8>, Refusal> {
+    pub(crate) fn line_table(&mut self, class: u64, method: u64) -> Result<Vec<u8>, Refusal>
+        ensures { self.new ≡ record self.old { agent = self.new.agent } }
+    {
         let (Some(class), Some(method)) = (class_of(class), method_of(method)) else {
             return Err(Refusal::Error(JdwpError::InvalidMethodId));
         };
@@ -125,3 +131,5 @@ impl Desk {
         Ok(table_of(self.alloc, lines, first)?)
     }
 }
+
+ghost use Rattle.std.specs.Prelude.{◌≡◌};

@@ -2,6 +2,7 @@
 
 use crate::desk::Desk;
 use crate::due::Due;
+use crate::prepared::Prepared;
 use crate::refusal::Refusal;
 use std::alloc::Global;
 use ti_jdwp::{Action, JdwpError, Request, Session, SessionError};
@@ -45,6 +46,7 @@ impl Seat {
     /// What the caller does next. What the session asks for is done here, as far as it can be now. The error is lack of memory.
     pub(crate) fn next(&mut self, desk: &mut Desk, now: u64) -> Result<Todo, SessionError>
         ensures run { RunsTo self.old.session self.new.session }
+        ensures desk { Works desk.old desk.new }
         ensures says { IfOk result (λ t. Says self.new.session t) }
     {
         self.rests = false;
@@ -60,6 +62,7 @@ impl Seat {
     /// Takes one step of the session. `None` if there is more to do now. The error is lack of memory.
     fn step(&mut self, desk: &mut Desk, now: u64) -> Result<Option<Todo>, SessionError>
         ensures run { RunsTo self.old.session self.new.session }
+        ensures desk { Works desk.old desk.new }
         ensures says { IfOk result (λ o. IfSome o (λ t. Says self.new.session t)) }
     {
         let ready = self.settle(desk, now)?;
@@ -69,6 +72,7 @@ impl Seat {
     /// Takes up what the session says next, if it waits for nothing. `None` if there is more to do now. The error is lack of memory.
     fn go_on(&mut self, desk: &mut Desk, ready: bool) -> Result<Option<Todo>, SessionError>
         ensures run { RunsTo self.old.session self.new.session }
+        ensures desk { Works desk.old desk.new }
         ensures says { IfOk result (λ o. IfSome o (λ t. Says self.new.session t)) }
     {
         if !ready {
@@ -115,7 +119,8 @@ impl Seat {
 
     /// Takes up what the session asks for.
     fn take_up(&mut self, desk: &mut Desk, action: Action)
-        ensures { self.new.session ≡ self.old.session }
+        ensures session { self.new.session ≡ self.old.session }
+        ensures desk { Works desk.old desk.new }
     {
         match action {
             Action::Ask(request) => self.due = Some(Due::Answer(request)),
@@ -129,7 +134,8 @@ impl Seat {
 
     /// Gives the session what it waits for. Whether it waits for nothing any more. The error is lack of memory.
     fn settle(&mut self, desk: &mut Desk, now: u64) -> Result<bool, SessionError>
-        ensures { RunsTo self.old.session self.new.session }
+        ensures run { RunsTo self.old.session self.new.session }
+        ensures desk { Works desk.old desk.new }
     {
         let Some(due) = self.due else {
             return Ok(true);
@@ -143,7 +149,8 @@ impl Seat {
 
     /// Gives the session this. Whether it was there. The error is lack of memory.
     fn give(&mut self, desk: &mut Desk, due: Due, now: u64) -> Result<bool, SessionError>
-        ensures { RunsTo self.old.session self.new.session }
+        ensures run { RunsTo self.old.session self.new.session }
+        ensures desk { Works desk.old desk.new }
     {
         match due {
             Due::Answer(request) => self.give_answer(desk, request),
@@ -155,7 +162,8 @@ impl Seat {
 
     /// Replies to a request, if the answer is there.
     fn give_answer(&mut self, desk: &mut Desk, request: Request) -> Result<bool, SessionError>
-        ensures { RunsTo self.old.session self.new.session }
+        ensures run { RunsTo self.old.session self.new.session }
+        ensures desk { Works desk.old desk.new }
     {
         match desk.answer(request, self.session.data()) {
             Ok(body) => self.reply(body.as_slice()),
@@ -181,7 +189,7 @@ impl Seat {
     }
 
     /// Lists the threads that are there.
-    fn give_list(&mut self, desk: &mut Desk) -> Result<bool, SessionError>
+    fn give_list(&mut self, desk: &Desk) -> Result<bool, SessionError>
         ensures { RunsTo self.old.session self.new.session }
     {
         let threads = match desk.crowd.alive(desk.alloc) {
@@ -194,7 +202,8 @@ impl Seat {
 
     /// Suspends a thread, if its cell is free.
     fn give_posted(&mut self, desk: &mut Desk, thread: u32, now: u64) -> Result<bool, SessionError>
-        ensures { RunsTo self.old.session self.new.session }
+        ensures run { RunsTo self.old.session self.new.session }
+        ensures desk { Works desk.old desk.new }
     {
         match desk.suspend(thread, now) {
             Some(posted) => {
@@ -207,7 +216,8 @@ impl Seat {
 
     /// Says that the suspensions stand, if they do or the second is over.
     fn give_settled(&mut self, desk: &mut Desk, now: u64) -> Result<bool, SessionError>
-        ensures { RunsTo self.old.session self.new.session }
+        ensures run { RunsTo self.old.session self.new.session }
+        ensures desk { Works desk.old desk.new }
     {
         desk.settle_all();
         if desk.is_awaiting(now) {
@@ -218,15 +228,27 @@ impl Seat {
     }
 
     /// Tells the session of the start or the end of a thread.
-    pub(crate) fn tell(&mut self, life: LifeEvent) {
+    pub(crate) fn tell(&mut self, life: LifeEvent)
+        ensures { TellsLives self.old.session self.new.session }
+    {
         let _it_counts_what_is_lost = match life.kind {
             LifeKind::ThreadStart => self.session.thread_started(life.thread.0),
             LifeKind::ThreadEnd => self.session.thread_ended(life.thread.0),
         };
     }
+
+    /// Tells the session of a class that was defined, as one of this thread. False if it is lost, and is to be told again.
+    pub(crate) fn tell_class(&mut self, thread: u32, prepared: &Prepared) -> bool
+        ensures { TellsClass prepared.now.class (string_bytes prepared.now.signature) self.old.session result self.new.session }
+    {
+        self.session
+            .class_prepared(thread, prepared.class, prepared.signature.as_bytes())
+    }
 }
 
-ghost use Rattle.std.specs.Prelude.{◌≡◌, IfOk, IfSome};
+ghost use Rattle.std.specs.Prelude.{◌≡◌, string_bytes, IfOk, IfSome};
 ghost use Rattle.ti_jdwp.specs.Talks.{opened};
+ghost use Rattle.ti_debugger.specs.Desks.{Works};
 ghost use Rattle.ti_debugger.specs.Runs.{RunsTo};
 ghost use Rattle.ti_debugger.specs.Seats.{Says};
+ghost use Rattle.ti_debugger.specs.Told.{TellsLives, TellsClass};

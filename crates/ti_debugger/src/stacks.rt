@@ -3,6 +3,7 @@
 use crate::desk::Desk;
 use crate::refusal::{Refusal, refusal_of_call, refusal_of_class};
 use crate::status::{is_suspended, is_terminated, status_of};
+use std::alloc::Global;
 use ti_jdwp::{FrameRow, JdwpError, frames_body, int_body, status_body};
 use ti_service::ClassCalls;
 use ti_slot::Asked;
@@ -65,9 +66,36 @@ fn index_of(place: Place) -> u64
     }
 }
 
+/// The bits of a thread that told its state. `None` if it has ended.
+fn bits_in(answer: Answer) -> Option<u32>
+    ensures { result ≡ bits_in answer }
+{
+    match answer {
+        Answer::State(bits) => if is_terminated(bits) {
+            None
+        } else {
+            Some(bits)
+        },
+        _ => None,
+    }
+}
+
+/// The body of the reply for a thread with these bits, or for one that has ended. The error is lack of memory.
+fn state_body(alloc: Global, bits: Option<u32>) -> Result<Vec<u8>, JdwpError>
+    ensures { IfOk result (λ v. v.items ≡ state_text bits) }
+{
+    match bits {
+        Some(bits) => status_body(alloc, status_of(bits), is_suspended(bits)),
+        None => status_body(alloc, 0, false),
+    }
+}
+
 impl Desk {
     /// The answer of a thread that answers at once. A thread that is not there, or that still runs, has none: 13.
-    fn ask_now(&mut self, thread: u32, call: Call) -> Result<Answer, Refusal> {
+    fn ask_now(&mut self, thread: u32, call: Call) -> Result<Answer, Refusal>
+        ensures told { IfOk result (λ a. Posts self.old.agent.env self.new.agent.env (record { 0 = thread }) call (Answered a)) }
+        ensures rest { self.new ≡ record self.old { agent = self.new.agent } }
+    {
         match self.agent.post_now(self.alloc, ThreadNo(thread), call) {
             Ok(Asked::Answered(Answer::Refused(error))) => Err(refusal_of_call(error)),
             Ok(Asked::Answered(answer)) => Ok(answer),
@@ -79,31 +107,34 @@ impl Desk {
         }
     }
 
-    /// The bits of a thread's state. 10 INVALID_THREAD if it is not watched.
-    fn state_bits(&mut self, thread: u32) -> Result<Option<u32>, Refusal> {
+    /// The bits of a thread's state, `None` if it has ended. 10 INVALID_THREAD if it is not watched.
+    fn state_bits(&mut self, thread: u32) -> Result<Option<u32>, Refusal>
+        ensures told { IfOk result (λ bits. HasState self.old self.new thread bits) }
+        ensures rest { self.new ≡ record self.old { agent = self.new.agent } }
+    {
         let Some(place) = self.crowd.place_of(thread) else {
             return Err(Refusal::Error(JdwpError::InvalidThread));
         };
         if self.crowd.list[place].ended {
             return Ok(None);
         }
-        match self.ask_now(thread, Call::State)? {
-            Answer::State(bits) if !is_terminated(bits) => Ok(Some(bits)),
-            _ => Ok(None),
-        }
+        let answer = self.ask_now(thread, Call::State)?;
+        Ok(bits_in(answer))
     }
 
     /// The status of a thread (11/4): that of one that has ended is 0, and not suspended.
-    pub(crate) fn status(&mut self, thread: u32) -> Result<Vec<u8>, Refusal> {
-        let (status, suspended) = match self.state_bits(thread)? {
-            Some(bits) => (status_of(bits), is_suspended(bits)),
-            None => (0, false),
-        };
-        Ok(status_body(self.alloc, status, suspended)?)
+    pub(crate) fn status(&mut self, thread: u32) -> Result<Vec<u8>, Refusal>
+        ensures told { IfOk result (λ v. TellsState self.old self.new thread v.items) }
+        ensures rest { self.new ≡ record self.old { agent = self.new.agent } }
+    {
+        let bits = self.state_bits(thread)?;
+        Ok(state_body(self.alloc, bits)?)
     }
 
     /// How many frames a suspended thread has. 13 THREAD_NOT_SUSPENDED if it has ended or still runs.
-    fn depth(&mut self, thread: u32) -> Result<i32, Refusal> {
+    fn depth(&mut self, thread: u32) -> Result<i32, Refusal>
+        ensures { self.new ≡ record self.old { agent = self.new.agent } }
+    {
         match self.state_bits(thread)? {
             Some(bits) if is_suspended(bits) => (),
             _ => return Err(Refusal::Error(JdwpError::ThreadNotSuspended)),
@@ -115,7 +146,9 @@ impl Desk {
     }
 
     /// The number of frames of a suspended thread (11/7).
-    pub(crate) fn frame_count(&mut self, thread: u32) -> Result<Vec<u8>, Refusal> {
+    pub(crate) fn frame_count(&mut self, thread: u32) -> Result<Vec<u8>, Refusal>
+        ensures { self.new ≡ record self.old { agent = self.new.agent } }
+    {
         let count = self.depth(thread)?;
         Ok(int_body(self.alloc, count)?)
     }
@@ -126,7 +159,9 @@ impl Desk {
         thread: u32,
         start: i32,
         length: i32,
-    ) -> Result<Vec<u8>, Refusal> {
+    ) -> Result<Vec<u8>, Refusal>
+        ensures { self.new ≡ record self.old { agent = self.new.agent } }
+    {
         let count = self.depth(thread)?;
         let wanted = wanted_of(count, start, length);
         let Some(part) = part_of(count, start, wanted)? else {
@@ -143,7 +178,9 @@ impl Desk {
     }
 
     /// The frames of a trace whose newest frame is at a depth.
-    fn stack(&mut self, thread: u32, depth: u32, trace: &TraceBuf) -> Result<Vec<u8>, Refusal> {
+    fn stack(&mut self, thread: u32, depth: u32, trace: &TraceBuf) -> Result<Vec<u8>, Refusal>
+        ensures { self.new ≡ record self.old { agent = self.new.agent } }
+    {
         let mut rows = Vec::new(self.alloc);
         let mut next = depth;
         for frame in trace.frames() {
@@ -155,7 +192,9 @@ impl Desk {
     }
 
     /// A frame at a depth. 23 INVALID_METHODID if nobody defined its method.
-    fn row(&mut self, depth: u32, frame: Frame) -> Result<FrameRow, Refusal> {
+    fn row(&mut self, depth: u32, frame: Frame) -> Result<FrameRow, Refusal>
+        ensures { self.new ≡ record self.old { agent = self.new.agent } }
+    {
         let class = match self.agent.get_method_declaring_class(frame.method) {
             Ok(class) => class,
             Err(error) => return Err(refusal_of_class(error)),
@@ -169,5 +208,8 @@ impl Desk {
     }
 }
 
-ghost use Rattle.std.specs.Prelude.{◌≡◌, ◌≢◌, ◌-ℤ◌, negsuc};
+ghost use Rattle.std.specs.Prelude.{◌≡◌, ◌≢◌, ◌-ℤ◌, negsuc, IfOk};
+ghost use Rattle.ti_slot.specs.declared.asked.Asked.TheVariants.{Answered};
+ghost use Rattle.ti_agent.specs.Posts.{Posts};
+ghost use Rattle.ti_debugger.specs.Replies.{HasState, TellsState, bits_in, state_text};
 ghost use Rattle.ti_debugger.specs.Stacks.{IsPart, index_of};

@@ -1,7 +1,8 @@
 //! What an environment keeps for itself, and which calls it refuses.
 
-use std::alloc::{AllocError, Global};
+use std::alloc::Global;
 use std::marker::Model;
+use ti_chunked::Chunked;
 use ti_types::{Call, Caps, Limits, ThreadNo, TiError, needs};
 
 /// What an environment keeps for itself: its capabilities, its own word, and how many calls it has spent at each
@@ -32,7 +33,7 @@ use ti_types::{Call, Caps, Limits, ThreadNo, TiError, needs};
 pub struct EnvState {
     caps: Caps,
     /// By the place of the thread.
-    spent: Vec<u64>,
+    spent: Chunked<u64>,
     limits: Limits,
     word: u64,
     /// The numbers below this one were threads once.
@@ -45,9 +46,9 @@ impl Model for EnvState {
 
     ghost Value = { EnvValue };
 
-    ghost view = { λ a. record { caps = a.caps; spent = a.spent.items; limits = a.limits; word = a.word; known = a.known } };
+    ghost view = { λ a. record { caps = a.caps; spent = a.spent; limits = a.limits; word = a.word; known = a.known } };
 
-    ghost invariant = { λ a. length a.spent.items ≤ 65536 };
+    ghost invariant = { λ a. length a.spent ≤ 65536 };
 }
 
 impl EnvState {
@@ -63,7 +64,7 @@ impl EnvState {
     {
         Ok(EnvState {
             caps: Caps::none(),
-            spent: vec![in alloc; 0; limits.threads as usize]?,
+            spent: Chunked::from_vec(vec![in alloc; 0; limits.threads as usize]?),
             limits,
             word: 0,
             known: 0,
@@ -76,7 +77,7 @@ impl EnvState {
     {
         EnvState {
             caps: Caps::none(),
-            spent: Vec::new(alloc),
+            spent: Chunked::new(alloc),
             limits,
             word: 0,
             known: 0,
@@ -105,7 +106,7 @@ impl EnvState {
         }
         match self.spent.push(spent) {
             Ok(()) => Ok(()),
-            Err(refused) => Err(AllocError::from(refused).into()),
+            Err(_) => Err(TiError::OutOfMemory),
         }
     }
 
@@ -265,10 +266,11 @@ impl EnvState {
     pub fn left(&self, thread: ThreadNo) -> u64
         ensures { result ≡ left_at self.now thread }
     {
-        match self.spent.get(thread.0 as usize) {
-            Some(spent) => self.limits.calls.saturating_sub(*spent),
-            None => 0,
+        let index = thread.0 as usize;
+        if index >= self.spent.len() {
+            return 0;
         }
+        self.limits.calls.saturating_sub(self.spent[index])
     }
 
     /// Spends one of the calls that are left at a thread. Nothing is spent at the others (this profile). There must be such

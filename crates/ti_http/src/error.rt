@@ -1,15 +1,16 @@
 //! Why a call is refused.
 
 use std::alloc::AllocError;
-use std::error::Error;
-use std::fmt;
+use thiserror::Error;
 
 /// Why a call is refused. The connection is as it was before.
-#[derive(Clone, Copy, Debug, PartialEq, Eq)]
+#[derive(Clone, Copy, Debug, PartialEq, Eq, Error)]
 pub enum HttpError {
     /// 110 OUT_OF_MEMORY (JVM TI 11): there is no memory for the input or for an answer.
+    #[error("out of memory")]
     OutOfMemory,
     /// 112 WRONG_PHASE (JVM TI 11): no request waits for an answer.
+    #[error("no request waits for an answer")]
     NotAsked,
 }
 
@@ -24,17 +25,6 @@ impl HttpError {
         }
     }
 }
-
-impl fmt::Display for HttpError {
-    fn fmt<W: fmt::Write>(&self, f: &mut fmt::Formatter<W>) -> fmt::Result {
-        f.write_str(match self {
-            HttpError::OutOfMemory => "out of memory",
-            HttpError::NotAsked => "no request waits for an answer",
-        })
-    }
-}
-
-impl Error for HttpError {}
 
 impl From<AllocError> for HttpError {
     ghost use Rattle.std.specs.Prelude.{◌≡◌};

@@ -1,43 +1,58 @@
 //! The errors that a reply can have.
 
 use std::alloc::AllocError;
-use std::error::Error;
-use std::fmt;
+use thiserror::Error;
 
 /// Why a request is refused: an error of JDWP (Java 8).
-#[derive(Clone, Copy, Debug, PartialEq, Eq)]
+#[derive(Clone, Copy, Debug, PartialEq, Eq, Error)]
 pub enum JdwpError {
     /// 10 INVALID_THREAD: the id is no thread's.
+    #[error("the id is no thread's")]
     InvalidThread,
     /// 11 INVALID_THREAD_GROUP: the id is no thread group's.
+    #[error("the id is no thread group's")]
     InvalidThreadGroup,
     /// 13 THREAD_NOT_SUSPENDED: the thread is not suspended, or has not reached a safe point yet.
+    #[error("the thread is not suspended")]
     ThreadNotSuspended,
     /// 20 INVALID_OBJECT: the id is no object's.
+    #[error("the id is no object's")]
     InvalidObject,
     /// 21 INVALID_CLASS: the id is no class's.
+    #[error("the id is no class's")]
     InvalidClass,
     /// 23 INVALID_METHODID: the id is no method's.
+    #[error("the id is no method's")]
     InvalidMethodId,
     /// 30 INVALID_FRAMEID: the id is no frame's.
+    #[error("the id is no frame's")]
     InvalidFrameId,
     /// 99 NOT_IMPLEMENTED: the command or the kind of event is not served.
+    #[error("not implemented")]
     NotImplemented,
     /// 101 ABSENT_INFORMATION: the class has no source file, or the method no lines.
+    #[error("absent information")]
     AbsentInformation,
     /// 102 INVALID_EVENT_TYPE: there is no such kind of event.
+    #[error("no such kind of event")]
     InvalidEventType,
     /// 103 ILLEGAL_ARGUMENT: the data of the request is not laid out as its command says.
+    #[error("illegal argument")]
     IllegalArgument,
     /// 110 OUT_OF_MEMORY: there is no memory, or a bound leaves no room.
+    #[error("out of memory")]
     OutOfMemory,
     /// 112 VM_DEAD: the session has ended.
+    #[error("the session has ended")]
     VmDead,
     /// 503 INVALID_INDEX: a stack has no frame at the start.
+    #[error("no frame at the start")]
     InvalidIndex,
     /// 504 INVALID_LENGTH: a stack has fewer frames than were asked for.
+    #[error("fewer frames than asked for")]
     InvalidLength,
     /// 511 NATIVE_METHOD: a native method has no lines.
+    #[error("a native method has no lines")]
     NativeMethod,
 }
 
@@ -66,31 +81,6 @@ impl JdwpError {
         }
     }
 }
-
-impl fmt::Display for JdwpError {
-    fn fmt<W: fmt::Write>(&self, f: &mut fmt::Formatter<W>) -> fmt::Result {
-        f.write_str(match self {
-            JdwpError::InvalidThread => "the id is no thread's",
-            JdwpError::InvalidThreadGroup => "the id is no thread group's",
-            JdwpError::ThreadNotSuspended => "the thread is not suspended",
-            JdwpError::InvalidObject => "the id is no object's",
-            JdwpError::InvalidClass => "the id is no class's",
-            JdwpError::InvalidMethodId => "the id is no method's",
-            JdwpError::InvalidFrameId => "the id is no frame's",
-            JdwpError::NotImplemented => "not implemented",
-            JdwpError::AbsentInformation => "absent information",
-            JdwpError::InvalidEventType => "no such kind of event",
-            JdwpError::IllegalArgument => "illegal argument",
-            JdwpError::OutOfMemory => "out of memory",
-            JdwpError::VmDead => "the session has ended",
-            JdwpError::InvalidIndex => "no frame at the start",
-            JdwpError::InvalidLength => "fewer frames than asked for",
-            JdwpError::NativeMethod => "a native method has no lines",
-        })
-    }
-}
-
-impl Error for JdwpError {}
 
 impl From<AllocError> for JdwpError {
     ghost use Rattle.std.specs.Prelude.{◌≡◌};

@@ -1,15 +1,16 @@
 //! Why a call of a session is refused.
 
 use crate::error::JdwpError;
-use std::error::Error;
-use std::fmt;
+use thiserror::Error;
 
 /// Why a call of a session is refused. The session is as it was before.
-#[derive(Clone, Copy, Debug, PartialEq, Eq)]
+#[derive(Clone, Copy, Debug, PartialEq, Eq, Error)]
 pub enum SessionError {
     /// 110 OUT_OF_MEMORY (JVM TI 11): there is no memory for the input, for a reply or for an event.
+    #[error("out of memory")]
     OutOfMemory,
     /// 112 WRONG_PHASE (JVM TI 11): the session did not ask for this answer.
+    #[error("the session did not ask for this answer")]
     NotAsked,
 }
 
@@ -24,17 +25,6 @@ impl SessionError {
         }
     }
 }
-
-impl fmt::Display for SessionError {
-    fn fmt<W: fmt::Write>(&self, f: &mut fmt::Formatter<W>) -> fmt::Result {
-        f.write_str(match self {
-            SessionError::OutOfMemory => "out of memory",
-            SessionError::NotAsked => "the session did not ask for this answer",
-        })
-    }
-}
-
-impl Error for SessionError {}
 
 impl From<JdwpError> for SessionError {
     ghost use Rattle.std.specs.Prelude.{◌≡◌};

@@ -190,6 +190,7 @@ impl Door {
     /// - 103 ILLEGAL_ARGUMENT: there is no such connection. Nothing changes.
     pub fn closed(&mut self, conn: ConnNo) -> Result<(), DoorError>
         ensures gone { OnOk result (self.new ≡ with_talk self.old conn.0 None) }
+        ensures known { talk_at self.old conn.0 ≡ None → result ≡ Err NoConnection }
         ensures unknown { IfErr result (IsUnknown self.old conn.0) }
         ensures kept { OnErr result (self.new ≡ self.old) }
     {
@@ -264,7 +265,8 @@ impl Door {
     }
 }
 
-ghost use Rattle.std.specs.Prelude.{◌≡◌, ◌≤◌, ◌/◌, [], is_some, length, true, IfErr, IfNone, IfOk, IfSome, None, OnErr, OnOk};
+ghost use Rattle.std.specs.Prelude.{◌≡◌, ◌≤◌, ◌/◌, [], is_some, length, true, Err, IfErr, IfNone, IfOk, IfSome, None, OnErr, OnOk};
 ghost use Rattle.ti_http.specs.Talks.{written_from};
+ghost use Rattle.ti_monitor.specs.declared.door_error.DoorError.TheVariants.{NoConnection};
 ghost use Rattle.ti_monitor.specs.Doors.{AllRun, Changes, Feeds, IsUnknown, Opens, Refuses, door_with, output_of, room_of, talk_at, with_talk};
 ghost use Rattle.ti_monitor.specs.Seats.{RunsTo, Says};

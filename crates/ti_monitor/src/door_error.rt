@@ -1,15 +1,16 @@
 //! Why a call at a door is refused.
 
-use std::error::Error;
-use std::fmt;
+use thiserror::Error;
 use ti_http::HttpError;
 
 /// Why a call at a door is refused. Nothing has changed then.
-#[derive(Clone, Copy, Debug, PartialEq, Eq)]
+#[derive(Clone, Copy, Debug, PartialEq, Eq, Error)]
 pub enum DoorError {
     /// 103 ILLEGAL_ARGUMENT (JVM TI 11): no connection of this number is open.
+    #[error("no such connection is open")]
     NoConnection,
     /// 110 OUT_OF_MEMORY (JVM TI 11): there is no memory for the input or for an answer.
+    #[error("out of memory")]
     OutOfMemory,
 }
 
@@ -24,17 +25,6 @@ impl DoorError {
         }
     }
 }
-
-impl fmt::Display for DoorError {
-    fn fmt<W: fmt::Write>(&self, f: &mut fmt::Formatter<W>) -> fmt::Result {
-        f.write_str(match self {
-            DoorError::NoConnection => "no such connection is open",
-            DoorError::OutOfMemory => "out of memory",
-        })
-    }
-}
-
-impl Error for DoorError {}
 
 impl From<HttpError> for DoorError {
     ghost use Rattle.std.specs.Prelude.{◌≡◌};

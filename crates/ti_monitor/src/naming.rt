@@ -144,7 +144,7 @@ pub(crate) fn about_of(
     comments.push(comment_of(alloc, reading)?)?;
     Ok(About {
         program: String::from_str(alloc, program)?,
-        period: reading.period(),
+        unit: reading.unit(),
         time: reading.unix,
         duration: reading.duration(),
         comments,

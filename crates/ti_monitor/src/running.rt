@@ -9,7 +9,7 @@ use crate::stack::{Stack, bare};
 use crate::watched::Watched;
 use std::alloc::{AllocError, Global};
 use ti_http::Labels;
-use ti_pprof::Counts;
+use ti_pprof::{Counts, Unit};
 
 /// How long the stacks of the last tick may take, in nanoseconds.
 const PATIENCE: u64 = 50_000_000;
@@ -95,9 +95,14 @@ impl Running {
         }
     }
 
-    /// The nanoseconds between two samples, for the reader. A single one takes one.
-    pub(crate) fn period(&self) -> u64 {
-        self.schedule.period
+    /// What each of its stacks stands for.
+    pub(crate) fn unit(&self) -> Unit {
+        match self.order {
+            Order::Once => Unit::Threads,
+            Order::Over { .. } => Unit::Wall {
+                period: self.schedule.period,
+            },
+        }
     }
 
     /// Whether it has ended.

@@ -6,3 +6,4 @@ pub mod SampleLaws
 pub mod PlaceLaws
 pub mod FrameLaws
 pub mod StringLaws
+pub mod LabelLaws

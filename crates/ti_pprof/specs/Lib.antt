@@ -3,4 +3,7 @@ pub mod Stacks
 pub mod Rows
 pub mod Samples
 pub mod Strings
+pub mod Units
 pub mod Profile
+pub mod Labels
+pub mod LabelTables

@@ -8,19 +8,25 @@ use Rattle.indexmap.specs.IndexSet.{insert_key}
 use Rattle.ti_pprof.specs.declared.names.About.{About}
 use Rattle.ti_pprof.specs.declared.names.Function.{Function}
 use Rattle.ti_pprof.specs.declared.names.Names.{Names}
+use Rattle.ti_pprof.specs.declared.names.Unit.{Unit}
+use Rattle.ti_pprof.specs.declared.names.Unit.TheVariants.{Threads, Wall}
 use Rattle.ti_pprof.specs.declared.stacks.Frame.{Frame}
 use Rattle.ti_pprof.specs.declared.stacks.Node.{Node}
 use Rattle.ti_pprof.specs.Samples.{Sample}
 use Rattle.ti_pprof.specs.Stacks.{is_same_frame}
 use Rattle.ti_pprof.specs.Strings.{number_of, strings_of}
+use Rattle.ti_pprof.specs.Units.{unit_measure, unit_name, unit_period, unit_words}
 use Rattle.ti_pprof.specs.Wire.{block_field, number_field, packed_field}
 
 -- ---- the texts, in the order of their use
 
 -- what each profile names
-abbrev pub words : List (List ℕ)
-words = [] ∷ codes "samples" ∷ codes "count" ∷ codes "wall" ∷ codes "nanoseconds" ∷ codes "thread" ∷ codes "state"
+abbrev pub common_words : List (List ℕ)
+common_words = [] ∷ codes "samples" ∷ codes "count" ∷ codes "wall" ∷ codes "nanoseconds" ∷ codes "thread" ∷ codes "state"
     ∷ codes "(no frames)" ∷ codes "(no room)" ∷ codes "(unknown)" ∷ []
+
+abbrev pub words : Unit → List (List ℕ)
+words unit = common_words ++ unit_words unit
 
 -- a function's name and its file
 abbrev pub texts_of_function : Function → List (List ℕ)
@@ -28,7 +34,7 @@ texts_of_function f = string_bytes f.name ∷ string_bytes f.file ∷ []
 
 abbrev pub texts_of : About → Names → List (List ℕ)
 texts_of about names =
-    words ++ (string_bytes about.program ∷ [] ++ (flat_map texts_of_function names.functions.items
+    words about.unit ++ (string_bytes about.program ∷ [] ++ (flat_map texts_of_function names.functions.items
     ++ (map string_bytes names.threads.items ++ (map string_bytes names.states.items ++ map string_bytes about.comments.items))))
 
 -- ---- the messages; `strings` is the table of strings
@@ -51,8 +57,9 @@ abbrev pub wall_of : ℕ → ℕ → ℕ
 wall_of period count = min (count * period) 9223372036854775807
 
 -- the values of a Sample: 2 value
-abbrev pub values : ℕ → ℕ → List ℕ
-values period count = packed_field 2 (count ∷ wall_of period count ∷ [])
+abbrev pub values : Unit → ℕ → List ℕ
+values (Wall period) count = packed_field 2 (count ∷ wall_of period count ∷ [])
+values Threads count = packed_field 2 (count ∷ [])
 
 -- Location 1 is for a stack without frames, and location 2 for a stack without room. Those of the frames follow.
 abbrev pub location_of : List Frame → Frame → ℕ
@@ -72,16 +79,16 @@ labels strings names thread state =
     label_field strings (codes "thread") (slice_get names.threads.items thread) ++ label_field strings (codes "state") (slice_get names.states.items state)
 
 -- Sample: 1 location_id, 2 value, 3 label
-abbrev pub sample_message : List (List ℕ) → Names → ℕ → List Frame → Sample → List ℕ
-sample_message strings names period locations s =
-    packed_field 1 (locations_of_stack locations s.frames) ++ (values period s.count ++ labels strings names s.thread s.state)
+abbrev pub sample_message : List (List ℕ) → Names → Unit → List Frame → Sample → List ℕ
+sample_message strings names unit locations s =
+    packed_field 1 (locations_of_stack locations s.frames) ++ (values unit s.count ++ labels strings names s.thread s.state)
 
-abbrev pub sample_field : List (List ℕ) → Names → ℕ → List Frame → Sample → List ℕ
-sample_field strings names period locations s = block_field 2 (sample_message strings names period locations s)
+abbrev pub sample_field : List (List ℕ) → Names → Unit → List Frame → Sample → List ℕ
+sample_field strings names unit locations s = block_field 2 (sample_message strings names unit locations s)
 
 -- the Sample of what had no room, if there was any
-abbrev pub no_room_field : ℕ → ℕ → List ℕ
-no_room_field period count = if count == 0 then [] else block_field 2 (packed_field 1 (2 ∷ []) ++ values period count)
+abbrev pub no_room_field : Unit → ℕ → List ℕ
+no_room_field unit count = if count == 0 then [] else block_field 2 (packed_field 1 (2 ∷ []) ++ values unit count)
 
 -- Mapping: 1 id, 5 filename, 7 has_functions, 8 has_filenames, 9 has_line_numbers
 abbrev pub mapping : List (List ℕ) → List ℕ → List ℕ
@@ -118,12 +125,13 @@ functions_from strings id (f ∷ functions) =
 -- ---- the parts of a Profile, in their order
 
 -- 1 sample_type
-abbrev pub sample_types : List (List ℕ) → List ℕ
-sample_types strings = block_field 1 (value_type strings (codes "samples") (codes "count")) ++ block_field 1 (value_type strings (codes "wall") (codes "nanoseconds"))
+abbrev pub sample_types : List (List ℕ) → Unit → List ℕ
+sample_types strings Threads = block_field 1 (value_type strings (codes "threads") (codes "count"))
+sample_types strings (Wall period) = block_field 1 (value_type strings (codes "samples") (codes "count")) ++ block_field 1 (value_type strings (codes "wall") (codes "nanoseconds"))
 
 -- 2 sample
-abbrev pub sample_fields : List (List ℕ) → Names → ℕ → List Frame → List Sample → List ℕ
-sample_fields strings names period locations samples = flat_map (sample_field strings names period locations) samples
+abbrev pub sample_fields : List (List ℕ) → Names → Unit → List Frame → List Sample → List ℕ
+sample_fields strings names unit locations samples = flat_map (sample_field strings names unit locations) samples
 
 -- 4 location
 abbrev pub location_fields : ℕ → List Frame → List ℕ
@@ -142,9 +150,9 @@ string_fields strings = flat_map (block_field 6) strings
 -- 9 time_nanos, 10 duration_nanos, 11 period_type, 12 period, 13 comment, 14 default_sample_type
 abbrev pub about_fields : List (List ℕ) → About → List ℕ
 about_fields strings about =
-    number_field 9 about.time ++ (number_field 10 about.duration ++ (block_field 11 (value_type strings (codes "wall") (codes "nanoseconds"))
-    ++ (number_field 12 about.period ++ (packed_field 13 (map (number_of strings) (map string_bytes about.comments.items))
-    ++ number_field 14 (number_of strings (codes "wall"))))))
+    number_field 9 about.time ++ (number_field 10 about.duration ++ (block_field 11 (value_type strings (unit_name about.unit) (unit_measure about.unit))
+    ++ (number_field 12 (unit_period about.unit) ++ (packed_field 13 (map (number_of strings) (map string_bytes about.comments.items))
+    ++ number_field 14 (number_of strings (unit_name about.unit))))))
 
 -- ---- the whole
 
@@ -153,8 +161,8 @@ abbrev pub frames_of : List Node → List Frame
 frames_of nodes = fold (insert_key is_same_frame) [] (map (λ (n : Node). n.frame) nodes)
 
 -- what was counted: a Sample for each sample, and one for what had no room
-abbrev pub counted_fields : List (List ℕ) → Names → ℕ → List Frame → List Sample → ℕ → List ℕ
-counted_fields strings names period locations samples no_room = sample_fields strings names period locations samples ++ no_room_field period no_room
+abbrev pub counted_fields : List (List ℕ) → Names → Unit → List Frame → List Sample → ℕ → List ℕ
+counted_fields strings names unit locations samples no_room = sample_fields strings names unit locations samples ++ no_room_field unit no_room
 
 -- what the samples refer to
 abbrev pub table_fields : List (List ℕ) → List Frame → About → Names → List ℕ
@@ -165,7 +173,7 @@ table_fields strings locations about names =
 -- the profile over a table of strings and a list of frames
 abbrev pub profile_over : List (List ℕ) → List Frame → About → Names → List Sample → ℕ → List ℕ
 profile_over strings locations about names samples no_room =
-    sample_types strings ++ (counted_fields strings names about.period locations samples no_room
+    sample_types strings about.unit ++ (counted_fields strings names about.unit locations samples no_room
     ++ (table_fields strings locations about names ++ about_fields strings about))
 
 -- the profile of these samples, and of so many stacks without room

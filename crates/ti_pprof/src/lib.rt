@@ -9,6 +9,7 @@
 #![tactic(auto)]
 
 mod counting;
+mod labels;
 mod messages;
 mod named;
 mod names;
@@ -21,7 +22,7 @@ mod texts;
 mod wire;
 
 pub use counting::{Counts, TOTAL_LIMIT};
-pub use names::{About, Function, Names};
+pub use names::{About, Function, Names, Unit};
 pub use profile::encode;
 pub use stacks::{Frame, Node, Trie};
 pub use table::{Row, Table};

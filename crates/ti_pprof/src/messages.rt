@@ -1,20 +1,27 @@
 //! The messages of a profile that have no list of messages in them.
 
+use crate::names::Unit;
 use crate::texts::Texts;
 use crate::wire::{push_block, push_number, push_varints};
 use std::alloc::AllocError;
 
-/// Appends a field that is a list of numbers. One that has none is left out. The error is lack of memory.
-pub(crate) fn push_packed(out: &mut Vec<u8>, field: u64, numbers: &[u64]) -> Result<(), AllocError>
+/// Appends a field that is a list of numbers. One that has none is left out. `inner` is room for the list. The error is lack of
+/// memory.
+pub(crate) fn push_packed(
+    out: &mut Vec<u8>,
+    inner: &mut Vec<u8>,
+    field: u64,
+    numbers: &[u64],
+) -> Result<(), AllocError>
     requires { field < 2 ^ 29 }
     ensures { OnOk result (out.new.items ≡ out.old.items ++ packed_field field numbers.now) }
 {
     if numbers.is_empty() {
         return Ok(());
     }
-    let mut inner = Vec::new(*out.allocator());
-    push_varints(&mut inner, numbers)?;
-    push_block(out, field, &inner)
+    inner.clear();
+    push_varints(inner, numbers)?;
+    push_block(out, field, inner)
 }
 
 /// Appends the fields of a ValueType. The error is lack of memory.
@@ -46,22 +53,23 @@ pub(crate) fn push_value_type_field(
     push_block(out, field, &inner)
 }
 
-/// Appends a label, if there is a text for it. The error is lack of memory.
+/// Appends a label, by the numbers of its key and its text, if there is a text. `inner` is room for the label. The error is lack of
+/// memory.
 pub(crate) fn push_label(
     out: &mut Vec<u8>,
-    texts: &Texts<'_>,
-    key: &str,
-    text: Option<&String>,
+    inner: &mut Vec<u8>,
+    key: u64,
+    text: Option<u64>,
 ) -> Result<(), AllocError>
-    ensures { OnOk result (out.new.items ≡ out.old.items ++ label_field (strings_in texts.now) key.now (option_copied text.entry)) }
+    ensures { OnOk result (out.new.items ≡ out.old.items ++ numbered_label key text) }
 {
     let Some(text) = text else {
         return Ok(());
     };
-    let mut inner = Vec::new(*out.allocator());
-    push_number(&mut inner, 1, texts.number(key))?;
-    push_number(&mut inner, 2, texts.number(text.as_str()))?;
-    push_block(out, 3, &inner)
+    inner.clear();
+    push_number(inner, 1, key)?;
+    push_number(inner, 2, text)?;
+    push_block(out, 3, inner)
 }
 
 /// The nanoseconds of so many samples, at most 2^63 - 1.
@@ -71,23 +79,32 @@ fn wall_of(period: u64, count: u64) -> u64
     count.saturating_mul(period).min(i64::MAX as u64)
 }
 
-/// Appends the values of a sample. The error is lack of memory.
-pub(crate) fn push_values(out: &mut Vec<u8>, period: u64, count: u64) -> Result<(), AllocError>
-    ensures { OnOk result (out.new.items ≡ out.old.items ++ values period count) }
+/// Appends the values of a sample. `inner` is room for them. The error is lack of memory.
+pub(crate) fn push_values(
+    out: &mut Vec<u8>,
+    inner: &mut Vec<u8>,
+    unit: Unit,
+    count: u64,
+) -> Result<(), AllocError>
+    ensures { OnOk result (out.new.items ≡ out.old.items ++ values unit count) }
 {
-    push_packed(out, 2, &[count, wall_of(period, count)])
+    match unit {
+        Unit::Wall { period } => push_packed(out, inner, 2, &[count, wall_of(period, count)]),
+        Unit::Threads => push_packed(out, inner, 2, &[count]),
+    }
 }
 
 /// Appends the sample of so many stacks that had no room, if there are any. The error is lack of memory.
-pub(crate) fn push_no_room(out: &mut Vec<u8>, period: u64, count: u64) -> Result<(), AllocError>
-    ensures { OnOk result (out.new.items ≡ out.old.items ++ no_room_field period count) }
+pub(crate) fn push_no_room(out: &mut Vec<u8>, unit: Unit, count: u64) -> Result<(), AllocError>
+    ensures { OnOk result (out.new.items ≡ out.old.items ++ no_room_field unit count) }
 {
     if count == 0 {
         return Ok(());
     }
+    let mut list = Vec::new(*out.allocator());
     let mut inner = Vec::new(*out.allocator());
-    push_packed(&mut inner, 1, &[2])?;
-    push_values(&mut inner, period, count)?;
+    push_packed(&mut inner, &mut list, 1, &[2])?;
+    push_values(&mut inner, &mut list, unit, count)?;
     push_block(out, 2, &inner)
 }
 
@@ -147,7 +164,7 @@ pub(crate) fn push_function(
 }
 
 ghost use Rattle.std.specs.Prelude.{◌≡◌, ◌<◌, ◌^◌, ◌++◌, OnOk};
-ghost use Rattle.std.specs.Option.{option_copied};
-ghost use Rattle.ti_pprof.specs.Profile.{function, label_field, location, mapping, no_room_field, value_type, values, wall_of};
+ghost use Rattle.ti_pprof.specs.Labels.{numbered_label};
+ghost use Rattle.ti_pprof.specs.Profile.{function, location, mapping, no_room_field, value_type, values, wall_of};
 ghost use Rattle.ti_pprof.specs.Strings.{strings_in};
 ghost use Rattle.ti_pprof.specs.Wire.{block_field, packed_field};

@@ -1,14 +1,14 @@
 //! The texts and the functions of a profile.
 
 use crate::messages::push_function;
-use crate::names::{About, Function, Names};
+use crate::names::{About, Function, Names, Unit};
 use crate::texts::Texts;
 use crate::wire::push_block;
 use std::alloc::{AllocError, Global};
 
 /// Adds the words that each profile has. The error is lack of memory.
-fn add_words(texts: &mut Texts<'_>) -> Result<(), AllocError>
-    ensures { OnOk result (strings_in texts.new ≡ fold with_string (strings_in texts.old) words) }
+fn add_common_words(texts: &mut Texts<'_>) -> Result<(), AllocError>
+    ensures { OnOk result (strings_in texts.new ≡ fold with_string (strings_in texts.old) common_words) }
 {
     texts.add("")?;
     texts.add("samples")?;
@@ -20,6 +20,25 @@ fn add_words(texts: &mut Texts<'_>) -> Result<(), AllocError>
     texts.add("(no frames)")?;
     texts.add("(no room)")?;
     texts.add("(unknown)")?;
+    Ok(())
+}
+
+/// Adds the words that a profile with this unit has besides. The error is lack of memory.
+fn add_unit_words(texts: &mut Texts<'_>, unit: Unit) -> Result<(), AllocError>
+    ensures { OnOk result (strings_in texts.new ≡ fold with_string (strings_in texts.old) (unit_words unit)) }
+{
+    match unit {
+        Unit::Wall { .. } => Ok(()),
+        Unit::Threads => texts.add("threads"),
+    }
+}
+
+/// Adds the words that a profile with this unit has. The error is lack of memory.
+fn add_words(texts: &mut Texts<'_>, unit: Unit) -> Result<(), AllocError>
+    ensures { OnOk result (strings_in texts.new ≡ fold with_string (strings_in texts.old) (words unit)) }
+{
+    add_common_words(texts)?;
+    add_unit_words(texts, unit)?;
     Ok(())
 }
 
@@ -53,7 +72,7 @@ pub(crate) fn texts_of<'t>(
     ensures { IfOk result (λ t. strings_in t ≡ strings_of (texts_of about.now names.now)) }
 {
     let mut texts = Texts::new(alloc);
-    add_words(&mut texts)?;
+    add_words(&mut texts, about.unit)?;
     texts.add(about.program.as_str())?;
     add_functions(&mut texts, &names.functions)?;
     add_list(&mut texts, &names.threads)?;
@@ -136,5 +155,6 @@ fn push_texts(out: &mut Vec<u8>, texts: &[&str]) -> Result<(), AllocError>
 ghost use Rattle.std.specs.Prelude.{◌≡◌, ◌<◌, ◌^◌, ◌++◌, fold, length, map, OnOk, IfOk};
 ghost use Rattle.std.specs.List.{flat_map};
 ghost use Rattle.std.specs.String.{string_bytes};
-ghost use Rattle.ti_pprof.specs.Profile.{function_fields, functions_from, string_fields, texts_of, texts_of_function, words};
+ghost use Rattle.ti_pprof.specs.Units.{unit_words};
+ghost use Rattle.ti_pprof.specs.Profile.{common_words, function_fields, functions_from, string_fields, texts_of, texts_of_function, words};
 ghost use Rattle.ti_pprof.specs.Strings.{number_of, strings_in, strings_of, with_string};

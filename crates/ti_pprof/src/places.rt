@@ -35,34 +35,34 @@ impl<'n> Places<'n> {
         &self.frames
     }
 
-    /// The ids of the locations of a stack, the newest frame first. A stack without frames has location 1. The error is lack
-    /// of memory.
-    pub(crate) fn locations_of(&self, alloc: Global, stack: u32) -> Result<Vec<u64>, AllocError>
+    /// Writes the ids of the locations of a stack, the newest frame first, in place of what is there. A stack without frames has
+    /// location 1. The error is lack of memory.
+    pub(crate) fn write_locations(&self, ids: &mut Vec<u64>, stack: u32) -> Result<(), AllocError>
         requires there { stack ≤ length self.now.nodes.now }
-        ensures { IfOk result (λ ids. ids.items ≡ locations_of_stack self.now.frames.keys (stack_at (stacks_of self.now.nodes.now) stack)) }
+        ensures { OnOk result (ids.new.items ≡ locations_of_stack self.now.frames.keys (stack_at (stacks_of self.now.nodes.now) stack)) }
     {
         if stack == 0 {
-            let mut ids = Vec::new(alloc);
+            ids.clear();
             ids.push(1)?;
-            return Ok(ids);
+            return Ok(());
         }
-        let ids = self.locations_of_frames(alloc, stack)?;
-        Ok(ids)
+        self.write_locations_of_frames(ids, stack)?;
+        Ok(())
     }
 
-    /// The ids of the locations of a stack's frames, the newest first. The error is lack of memory.
-    fn locations_of_frames(&self, alloc: Global, stack: u32) -> Result<Vec<u64>, AllocError>
+    /// Writes the ids of the locations of a stack's frames, the newest first, in place of what is there. The error is lack of memory.
+    fn write_locations_of_frames(&self, ids: &mut Vec<u64>, stack: u32) -> Result<(), AllocError>
         requires there { stack ≤ length self.now.nodes.now }
-        ensures { IfOk result (λ ids. ids.items ≡ map (location_of self.now.frames.keys) (stack_at (stacks_of self.now.nodes.now) stack)) }
+        ensures { OnOk result (ids.new.items ≡ map (location_of self.now.frames.keys) (stack_at (stacks_of self.now.nodes.now) stack)) }
     {
-        let mut ids = Vec::new(alloc);
+        ids.clear();
         let mut number = stack;
         while number > 0 {
             let place = number as usize - 1;
             ids.push(self.ids[place])?;
             number = self.nodes[place].rest;
         }
-        Ok(ids)
+        Ok(())
     }
 }
 

@@ -1,9 +1,10 @@
 //! The bytes of a profile.
 
 use crate::counting::Counts;
+use crate::labels::Labels;
 use crate::messages::{push_mapping, push_no_room, push_packed, push_value_type_field};
 use crate::named::{numbers_of, push_functions, push_strings, texts_of};
-use crate::names::{About, Names};
+use crate::names::{About, Names, Unit};
 use crate::places::{Places, push_locations};
 use crate::samples::{Tables, push_samples};
 use crate::stacks::Frame;
@@ -12,12 +13,17 @@ use crate::wire::push_number;
 use indexmap::IndexSet;
 use std::alloc::{AllocError, Global};
 
-/// Appends the types of a sample's two values. The error is lack of memory.
-fn push_sample_types(out: &mut Vec<u8>, texts: &Texts<'_>) -> Result<(), AllocError>
-    ensures { OnOk result (out.new.items ≡ out.old.items ++ sample_types (strings_in texts.now)) }
+/// Appends the types of a sample's values. The error is lack of memory.
+fn push_sample_types(out: &mut Vec<u8>, texts: &Texts<'_>, unit: Unit) -> Result<(), AllocError>
+    ensures { OnOk result (out.new.items ≡ out.old.items ++ sample_types (strings_in texts.now) unit) }
 {
-    push_value_type_field(out, 1, texts, "samples", "count")?;
-    push_value_type_field(out, 1, texts, "wall", "nanoseconds")
+    match unit {
+        Unit::Wall { .. } => {
+            push_value_type_field(out, 1, texts, "samples", "count")?;
+            push_value_type_field(out, 1, texts, "wall", "nanoseconds")
+        }
+        Unit::Threads => push_value_type_field(out, 1, texts, "threads", "count"),
+    }
 }
 
 /// Appends when and how the stacks were taken. The error is lack of memory.
@@ -26,11 +32,13 @@ fn push_about(out: &mut Vec<u8>, texts: &Texts<'_>, about: &About) -> Result<(),
 {
     push_number(out, 9, about.time)?;
     push_number(out, 10, about.duration)?;
-    push_value_type_field(out, 11, texts, "wall", "nanoseconds")?;
-    push_number(out, 12, about.period)?;
-    let comments = numbers_of(*out.allocator(), texts, about.comments.as_slice())?;
-    push_packed(out, 13, &comments)?;
-    push_number(out, 14, texts.number("wall"))
+    let unit = about.unit;
+    push_value_type_field(out, 11, texts, unit.name(), unit.measure())?;
+    push_number(out, 12, unit.period())?;
+    let alloc = *out.allocator();
+    let comments = numbers_of(alloc, texts, about.comments.as_slice())?;
+    push_packed(out, &mut Vec::new(alloc), 13, &comments)?;
+    push_number(out, 14, texts.number(unit.name()))
 }
 
 /// Appends what was counted. The error is lack of memory.
@@ -39,12 +47,13 @@ fn push_counts(
     tables: &Tables<'_, '_, '_>,
     counts: &Counts,
 ) -> Result<(), AllocError>
+    requires numbered { AreNumbers tables.now }
     requires there { tables.now.places.now.nodes.now ≡ counts.now.trie.nodes.keys }
-    ensures { OnOk result (out.new.items ≡ out.old.items ++ counted_fields (strings_in tables.now.texts.now) tables.now.names.now tables.now.period tables.now.places.now.frames.keys (samples_of counts.now.trie counts.now.table) counts.now.no_room) }
+    ensures { OnOk result (out.new.items ≡ out.old.items ++ counted_fields (strings_in tables.now.texts.now) tables.now.names.now tables.now.unit tables.now.places.now.frames.keys (samples_of counts.now.trie counts.now.table) counts.now.no_room) }
 {
     let table = counts.table();
     push_samples(out, tables, table.rows(), table.counts())?;
-    push_no_room(out, tables.period, counts.no_room())
+    push_no_room(out, tables.unit, counts.no_room())
 }
 
 /// The bytes of a profile, as `go tool pprof` reads them, without gzip. The samples are in the order in which they were first
@@ -62,12 +71,16 @@ pub fn encode(
     let texts = texts_of(alloc, about, names)?;
     let places = Places::new(alloc, counts.trie().nodes())?;
     let mut out = Vec::new(alloc);
-    push_sample_types(&mut out, &texts)?;
+    push_sample_types(&mut out, &texts, about.unit)?;
+    let threads = Labels::new(alloc, &texts, "thread", &names.threads)?;
+    let states = Labels::new(alloc, &texts, "state", &names.states)?;
     let tables = Tables {
         texts: &texts,
         names,
+        threads: &threads,
+        states: &states,
         places: &places,
-        period: about.period,
+        unit: about.unit,
     };
     push_counts(&mut out, &tables, counts)?;
     push_tables(&mut out, &texts, about, names, places.frames())?;
@@ -92,6 +105,7 @@ fn push_tables(
 }
 
 ghost use Rattle.std.specs.Prelude.{◌≡◌, ◌++◌, OnOk, IfOk};
+ghost use Rattle.ti_pprof.specs.LabelTables.{AreNumbers};
 ghost use Rattle.ti_pprof.specs.Profile.{about_fields, counted_fields, profile, sample_types, table_fields};
 ghost use Rattle.ti_pprof.specs.Samples.{samples_of};
 ghost use Rattle.ti_pprof.specs.Strings.{strings_in};

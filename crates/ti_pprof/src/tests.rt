@@ -30,7 +30,7 @@ fn about(alloc: Global) -> Result<About, AllocError> {
     comments.push(String::from_str(alloc, "ticks=4")?)?;
     Ok(About {
         program: String::from_str(alloc, "demo")?,
-        period: 10_000_000,
+        unit: Unit::Wall { period: 10_000_000 },
         time: 1_764_200_000_000_000_000,
         duration: 2_000_000_000,
         comments,

@@ -8,6 +8,7 @@ use crate::row::{Row, new_row};
 use std::alloc::Global;
 use std::marker::Model;
 use ti_agent::FreeDesk;
+use ti_chunked::Chunked;
 use ti_handshake::Fresh;
 use ti_trail::GhostList;
 use ti_types::{EnvNo, Limits, ThreadNo, TiError};
@@ -25,7 +26,7 @@ pub struct Roster {
     /// Whose seat it goes to when it is put back.
     user: Option<EnvNo>,
     /// The threads that are there, in the order of their numbers.
-    rows: Vec<Row>,
+    rows: Chunked<Row>,
     /// What is noted of each environment's number. `None` while no environment has it. Otherwise the environment has taken its
     /// desks at the threads below this number.
     marks: Vec<Option<u32>>,
@@ -43,7 +44,7 @@ impl Model for Roster {
 
     ghost view = { λ r. record { items = r.log.items; limits = r.limits; user = r.user } };
 
-    ghost invariant = { λ r. (r.len ≡ length r.log.items) × (r.len < 2 ^ 62) × (r.next ≡ threads_in r.log.items) × AreRows r.log.items r.limits r.rows.items r.marks.items × AreEvents r.log.items r.life.events };
+    ghost invariant = { λ r. (r.len ≡ length r.log.items) × (r.len < 2 ^ 62) × (r.next ≡ threads_in r.log.items) × AreRows r.log.items r.limits r.rows r.marks.items × AreEvents r.log.items r.life.events };
 }
 
 impl Roster {
@@ -59,7 +60,7 @@ impl Roster {
             next: 0,
             limits,
             user: None,
-            rows: Vec::new(alloc),
+            rows: Chunked::new(alloc),
             marks: vec![in alloc; None; limits.envs as usize]?,
             life: Life::new(alloc)?,
         })
@@ -106,18 +107,21 @@ impl Roster {
             return Err(TiError::Full);
         }
         let (fresh, row) = new_row(alloc, self.limits, ThreadNo(self.next), info)?;
-        self.rows.reserve(1)?;
+        let thread = row.thread();
         let Row { newcomer, desks } = row;
-        self.life.push(LifeEvent {
-            kind: LifeKind::ThreadStart,
-            thread: newcomer.thread,
-        });
         let coming = Coming::Came(newcomer);
-        self.log = self.log.and(&coming);
+        let log = self.log.and(&coming);
         let Coming::Came(newcomer) = coming else {
             unreachable!()
         };
-        self.rows.push_reserved(Row { newcomer, desks });
+        if self.rows.push(Row { newcomer, desks }).is_err() {
+            return Err(TiError::OutOfMemory);
+        }
+        self.life.push(LifeEvent {
+            kind: LifeKind::ThreadStart,
+            thread,
+        });
+        self.log = log;
         self.next = next;
         self.len += 1;
         Ok(fresh)
@@ -396,13 +400,13 @@ impl Roster {
 }
 
 /// Takes the desks of an environment out of the rows from an index on, in which there is room for it.
-fn take_desks(rows: &mut Vec<Row>, start: usize, env: EnvNo, desks: &mut Vec<FreeDesk>)
-    requires places { (i : ℕ) (r : Row) → slice_get rows.old.items i ≡ Some r → env.0 < length r.desks.items }
-    requires room { length desks.old.items + length rows.old.items ≤ vec_capacity desks.old + start }
-    ensures count { length rows.new.items ≡ length rows.old.items }
-    ensures before { (i : ℕ) (r q : Row) → i < start → slice_get rows.old.items i ≡ Some r → slice_get rows.new.items i ≡ Some q → q ≡ r }
-    ensures each { (i : ℕ) (r q : Row) → start ≤ i → slice_get rows.old.items i ≡ Some r → slice_get rows.new.items i ≡ Some q → IsTaken env r q }
-    ensures desks { desks.new.items ≡ desks.old.items ++ desks_in env (drop start rows.old.items) }
+fn take_desks(rows: &mut Chunked<Row>, start: usize, env: EnvNo, desks: &mut Vec<FreeDesk>)
+    requires places { (i : ℕ) (r : Row) → slice_get rows.old i ≡ Some r → env.0 < length r.desks.items }
+    requires room { length desks.old.items + length rows.old ≤ vec_capacity desks.old + start }
+    ensures count { length rows.new ≡ length rows.old }
+    ensures before { (i : ℕ) (r q : Row) → i < start → slice_get rows.old i ≡ Some r → slice_get rows.new i ≡ Some q → q ≡ r }
+    ensures each { (i : ℕ) (r q : Row) → start ≤ i → slice_get rows.old i ≡ Some r → slice_get rows.new i ≡ Some q → IsTaken env r q }
+    ensures desks { desks.new.items ≡ desks.old.items ++ desks_in env (drop start rows.old) }
 {
     for i in start..rows.len() {
         if let Some(desk) = rows[i].take(env.0 as usize) {

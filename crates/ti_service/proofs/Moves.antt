@@ -11,13 +11,14 @@ use Rattle.ti_agent.specs.Desks.{with_desk}
 use Rattle.ti_agent.specs.Env.{Environment}
 use Rattle.ti_agent.specs.FreeDesk.{FreeState}
 use Rattle.ti_roster.specs.declared.coming.Coming.{Coming}
-use Rattle.ti_roster.specs.declared.coming.Coming.TheVariants.{Attached, Disposed}
+use Rattle.ti_roster.specs.declared.coming.Coming.TheVariants.{Attached, Came, Disposed}
+use Rattle.ti_roster.specs.declared.newcomer.Newcomer.{Newcomer}
 use Rattle.ti_roster.specs.Log.{Log, live, mark_of, threads_in, with_item, with_user}
 use Rattle.ti_roster.specs.Roster.{HasDisposedOf, HasMetOf, IsOwn, MayGoBack, meeting}
 use Rattle.ti_roster.specs.Rows.{AreLeft}
 use Rattle.ti_roster.specs.Rule.{Begins, Claims, Moves}
 use Rattle.ti_roster.specs.Seats.{Sitting}
-use Rattle.ti_roster.proofs.Moving.{may_attach, may_dispose, may_meet_any, may_stay, other_env, own_then}
+use Rattle.ti_roster.proofs.Moving.{may_add, may_attach, may_dispose, may_meet_any, may_stay, other_env, own_then}
 use Rattle.ti_roster.proofs.Returning.{backs_own}
 use Rattle.ti_service.specs.Agent.{AgentState, Meets, MeetsSome, Moved, knowing}
 use Rattle.ti_service.proofs.Homes.{own_later}
@@ -31,6 +32,11 @@ pub claim_moves : (o : Option EnvNo) (r r' : Log) (seen : List Coming) (res : Re
     → IfOk res (λ e. (e.0 < r.limits.envs) × (mark_of e r.items ≡ None)) → IfOk res (λ e. r' ≡ with_user (with_item r (Attached e)) e) → OnErr res (r' ≡ r) → Moves o r'.user r.items r'.items
 claim_moves o r r' seen (Ok e) nobody claims user free is same = (may_attach o r r' e nobody free.1 is).moves
 claim_moves o r r' seen (Err e) nobody claims user free is same = (may_stay o r r' seen claims user same).moves
+
+pub come_moves : {V : Type 0} (newcomer_of : V → Newcomer) (o : Option EnvNo) (r r' : Log) (seen : List Coming) (res : Result V TiError) → Claims r.items o seen → r.user ≡ o
+    → IfOk res (λ v. r' ≡ with_item r (Came (newcomer_of v))) → OnErr res (r' ≡ r) → Moves o r'.user r.items r'.items
+come_moves newcomer_of o r r' seen (Ok v) claims user came same = (may_add o r r' seen (Came (newcomer_of v)) claims user (λ e. refl) came).moves
+come_moves newcomer_of o r r' seen (Err e) claims user came same = (may_stay o r r' seen claims user same).moves
 
 met_moves : (u o : Option EnvNo) (r r' : Log) (seen : List Coming) (desks : List FreeState) → Claims r.items o seen → r.user ≡ u → r.user ≡ o → HasMetOf u r r' desks → Moves o r'.user r.items r'.items
 met_moves None o r r' seen desks claims is user met = absurd met

@@ -11,7 +11,7 @@ use crate::samples::Sampled;
 use std::alloc::{AllocError, Global};
 use std::rt::Clock;
 use std::time::SystemTime;
-use ti_pprof::{About, Counts, Frame, Function, Names, TOTAL_LIMIT, encode};
+use ti_pprof::{About, Counts, Frame, Function, Names, TOTAL_LIMIT, Unit, encode};
 use ti_types::MethodNo;
 
 /// How many frames that differ in themselves or in what is below them there is room for.
@@ -166,7 +166,9 @@ fn about_of(
     )?)?;
     Ok(About {
         program: String::from_str(alloc, "tiprof")?,
-        period: u64::from(options.interval) * 1000,
+        unit: Unit::Wall {
+            period: u64::from(options.interval) * 1000,
+        },
         time,
         duration: nanos_of(sampled),
         comments,

@@ -9,7 +9,7 @@ use core::ptr::null_mut;
 
 /// The version whose functions are declared here.
 pub const CQ_VERSION_MAJOR: u32 = 1;
-pub const CQ_VERSION_MINOR: u32 = 3;
+pub const CQ_VERSION_MINOR: u32 = 4;
 
 /// Whether the library that the program runs with has all of them, as `cq_version_fits` of `cebdyraq.h` says.
 pub fn version_fits() -> bool {
@@ -530,6 +530,15 @@ extern "C" {
         now: u64,
         door: *mut cq_door,
     ) -> u32;
+    pub fn cq_open_debugger(
+        service: *mut cq_service,
+        program: *const u8,
+        program_length: usize,
+        path: *const u8,
+        path_length: usize,
+        now: u64,
+        door: *mut cq_door,
+    ) -> u32;
     pub fn cq_door_connect(door: *mut cq_door, now: u64, connection: *mut u32) -> u32;
     pub fn cq_door_next(
         door: *mut cq_door,
@@ -552,6 +561,7 @@ extern "C" {
     pub fn cq_door_written(door: *mut cq_door, connection: u32, count: u64, now: u64) -> u32;
     pub fn cq_door_disconnect(door: *mut cq_door, connection: u32) -> u32;
     pub fn cq_door_tick(door: *mut cq_door, now: u64, deadline: *mut u64) -> u32;
+    pub fn cq_door_resumptions(door: *mut cq_door, count: *mut u64) -> u32;
     pub fn cq_close_door(door: *mut cq_door) -> u32;
     pub fn cq_serve(
         server: *mut cq_server,
@@ -559,6 +569,14 @@ extern "C" {
         signal: *mut cq_signal,
         address: *const c_char,
         program: *const c_char,
+    ) -> u32;
+    pub fn cq_debug_listen(
+        server: *mut cq_server,
+        service: *mut cq_service,
+        signal: *mut cq_signal,
+        address: *const c_char,
+        program: *const c_char,
+        path: *const c_char,
     ) -> u32;
     pub fn cq_server_port(server: *const cq_server, port: *mut u16) -> u32;
     pub fn cq_serve_end(server: *mut cq_server) -> u32;

@@ -33,8 +33,8 @@ impl From<Error> for ServeError {
     }
 }
 
-/// Profiles, stacks and counters of a service over HTTP, for `go tool pprof` and Prometheus (`cebdyraq_serve.h`). It serves until it
-/// is dropped.
+/// A service at a socket (`cebdyraq_serve.h`): over HTTP, for `go tool pprof` and Prometheus, or for debuggers. It serves until it is
+/// dropped.
 #[derive(Debug)]
 pub struct Server {
     // Boxed, since it stays where it is.
@@ -72,10 +72,30 @@ impl Service {
     /// `program` is what a profile calls the program. A thread of its own does it, which nothing has to wait for.
     pub fn serve(&mut self, address: &str, program: &str) -> Result<Server, ServeError> {
         let (address, program) = (c_string(address)?, c_string(program)?);
+        self.begin(|memory, service, signal| {
+            // SAFETY: see `begin`, and the texts end with a 0.
+            unsafe { sys::cq_serve(memory, service, signal, address.as_ptr(), program.as_ptr()) }
+        })
+    }
+
+    /// Listens for debuggers, such as `jdb -attach`, at an address as for [`Service::serve`]. They are told the name of the program,
+    /// and look for source files in `path`. One of them at a time may attach, if it belongs to this process's user or to root.
+    pub fn debug_listen(&mut self, address: &str, program: &str, path: &str) -> Result<Server, ServeError> {
+        let (address, program, path) = (c_string(address)?, c_string(program)?, c_string(path)?);
+        self.begin(|memory, service, signal| {
+            // SAFETY: see `begin`, and the texts end with a 0.
+            unsafe { sys::cq_debug_listen(memory, service, signal, address.as_ptr(), program.as_ptr(), path.as_ptr()) }
+        })
+    }
+
+    /// Begins to serve by a call that gives a code. Its memory is empty and stays where it is, and the signal lives as long as the
+    /// server.
+    fn begin(
+        &mut self,
+        call: impl FnOnce(*mut sys::cq_server, *mut sys::cq_service, *mut sys::cq_signal) -> u32,
+    ) -> Result<Server, ServeError> {
         let (mut memory, signal) = (Box::new(sys::cq_server::empty()), self.signal.clone());
-        // SAFETY: the memory is empty and stays where it is, the texts end with a 0, and the signal lives as long as the server.
-        let code =
-            unsafe { sys::cq_serve(&mut *memory, &mut *self.handle, signal.at(), address.as_ptr(), program.as_ptr()) };
+        let code = call(&mut *memory, &mut *self.handle, signal.at());
         if code == sys::CQ_SYSTEM {
             return Err(ServeError::System(io::Error::last_os_error()));
         }

@@ -306,6 +306,21 @@ fn serves_over_http() {
 }
 
 #[test]
+fn listens_for_debuggers() {
+    let (mut service, running, _env) = with_thread();
+    assert!(matches!(service.debug_listen("5005", "test", "/src"), Err(ServeError::Refused(Error::IllegalArgument))));
+    let server = service.debug_listen("127.0.0.1:0", "test", "/src").unwrap();
+    let mut socket = TcpStream::connect(("127.0.0.1", server.port())).unwrap();
+    let mut greeting = [0; 14];
+    socket.write_all(b"JDWP-Handshake").unwrap();
+    socket.read_exact(&mut greeting).unwrap();
+    assert_eq!(&greeting, b"JDWP-Handshake");
+    drop(server);
+    assert_eq!(socket.read(&mut greeting).unwrap(), 0);
+    drop(running);
+}
+
+#[test]
 fn limits_are_checked() {
     assert!(matches!(Service::make(0, 1, 1), Err(Error::IllegalArgument)));
     assert!(matches!(Service::make(1, 33, 1), Err(Error::IllegalArgument)));

@@ -10,7 +10,7 @@ pub returns : goal.returns
 returns c =
     let about = c.args.about.now in
     let names = c.args.names.now in
-    strings_of-parts words (string_bytes about.program) (flat_map texts_of_function names.functions.items) (map string_bytes names.threads.items)
+    strings_of-parts (words about.unit) (string_bytes about.program) (flat_map texts_of_function names.functions.items) (map string_bytes names.threads.items)
     (map string_bytes names.states.items) (map string_bytes about.comments.items) _ _ _ _ _ _ _
     c.new-texts.ensures
     c.in_ok-add_words.ensures

@@ -22,7 +22,7 @@ returns c =
     let frames = c.in_ok-places.places.frames.keys in
     let tables = c.in_ok-push_tables.ensures ∙ ap (λ f. c.push_counts.new.out.items ++ table_fields strings f.keys about names) c.frames.ensures in
     let whole = joined c.new-out.result.items c.push_sample_types.new.out.items c.push_counts.new.out.items c.push_tables.new.out.items c.push_about.new.out.items
-    (sample_types strings) (counted_fields strings names about.period frames samples counts.no_room) (table_fields strings frames about names) (about_fields strings about)
+    (sample_types strings about.unit) (counted_fields strings names about.unit frames samples counts.no_room) (table_fields strings frames about names) (about_fields strings about)
     c.new-out.ensures.items c.in_ok-push_sample_types.ensures c.in_ok-push_counts.ensures tables c.in_ok-push_about.ensures in
     let same_frames = c.in_ok-places.ensures.frames ∙ ap frames_of (c.nodes.ensures.nodes ∙ ap (λ (t : Trie). t.nodes.keys) c.trie.ensures.trie) in
     whole ∙ (λ j. profile_over (c.in_ok-texts.ensures j) (same_frames j) about names samples counts.no_room)

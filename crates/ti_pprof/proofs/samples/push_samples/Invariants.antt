@@ -7,5 +7,5 @@ use Rattle.ti_pprof.proofs.samples.push_samples.Given as goal
 
 abbrev pub invariant-loop-place : goal.invariant-loop-place
 invariant-loop-place l =
-    l.out.items ++ sample_fields (strings_in l.tables.texts.now) l.tables.names.now l.tables.period l.tables.places.now.frames.keys (samples_in (stacks_of l.tables.places.now.nodes.now) (drop l.place l.rows) (drop l.place l.counts))
-    ≡ l.fn.out.items ++ sample_fields (strings_in l.tables.texts.now) l.tables.names.now l.tables.period l.tables.places.now.frames.keys (samples_in (stacks_of l.tables.places.now.nodes.now) l.rows l.counts)
+    l.out.items ++ sample_fields (strings_in l.tables.texts.now) l.tables.names.now l.tables.unit l.tables.places.now.frames.keys (samples_in (stacks_of l.tables.places.now.nodes.now) (drop l.place l.rows) (drop l.place l.counts))
+    ≡ l.fn.out.items ++ sample_fields (strings_in l.tables.texts.now) l.tables.names.now l.tables.unit l.tables.places.now.frames.keys (samples_in (stacks_of l.tables.places.now.nodes.now) l.rows l.counts)

@@ -13,10 +13,10 @@ use Rattle.ti_roster.proofs.roster.take_desks.Goals.{in-Some, in_default}
 pub take-requires : goal.take-requires
 take-requires c =
     let at = c.loop-i in
-    let old : List Row = c.args.rows.now.items in
+    let old : List Row = c.args.rows.now in
     let d : Row = c.index_mut.result.now in
-    let within : at.i < length at.rows.items = omega (arith, c.loop-i-test.true, c.len-i-end.ensures, at.invariant.0) in
-    let there : slice_get at.rows.items at.i ≡ Some d = read_at at.rows.items at.i d within c.index_mut.ensures.value in
+    let within : at.i < length at.rows = omega (arith, c.loop-i-test.true, c.len-i-end.ensures, at.invariant.0) in
+    let there : slice_get at.rows at.i ≡ Some d = read_at at.rows at.i d within c.index_mut.ensures.value in
     let first = get_there old at.i (omega (arith, within, at.invariant.0)) in
     c.requires.places at.i d (first.1 ∙ ap (λ (r : Row). Some r) (sym (at.invariant.2 at.i first.0 d (omega arith) first.1 there)))
 
@@ -26,8 +26,8 @@ loop-i-preserved c =
     let at = c.loop-i in
     let i = at.i in
     let e = c.args.env in
-    let old : List Row = c.args.rows.now.items in
-    let now : List Row = at.rows.items in
+    let old : List Row = c.args.rows.now in
+    let now : List Row = at.rows in
     let d : Row = c.index_mut.result.now in
     let x : Row = c.take.new.self in
     let within : i < length now = omega (arith, c.loop-i-test.true, c.len-i-end.ensures, at.invariant.0) in
@@ -75,4 +75,4 @@ loop-i-preserved c =
 
 pub returns-clause-each : goal.returns-clause-each
 returns-clause-each c =
-    λ j r q s a b. c.loop-i.invariant.1 j r q s (omega (arith, get_within c.args.rows.now.items j r a, c.loop-i-test.false, c.len-i-end.ensures)) a b
+    λ j r q s a b. c.loop-i.invariant.1 j r q s (omega (arith, get_within c.args.rows.now j r a, c.loop-i-test.false, c.len-i-end.ensures)) a b

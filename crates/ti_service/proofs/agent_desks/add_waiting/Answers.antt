@@ -15,13 +15,13 @@ use Rattle.ti_service.proofs.agent_desks.add_waiting.Goals.{After-pop}
 use Rattle.ti_service.proofs.agent_desks.add_waiting.Goals as goal
 
 -- all desks that wait are the agent's own
-ours : (c : After-pop) → AreOursOf c.agent.inside.home.service (record { env = c.agent.inside.env; state = c.agent.inside.state; desks = c.agent.inside.desks.items }) c.agent.inside.home.waiting.items
-ours c = ours_of c.agent.inside.home.service (record { env = c.agent.inside.env; state = c.agent.inside.state; desks = c.agent.inside.desks.items }) c.agent.inside.home.waiting.items c.agent.invariant.1.0 c.agent.invariant.1.1
+ours : (c : After-pop) → AreOursOf c.agent.inside.home.service (record { env = c.agent.inside.env; state = c.agent.inside.state; desks = c.agent.inside.desks }) c.agent.inside.home.waiting.items
+ours c = ours_of c.agent.inside.home.service (record { env = c.agent.inside.env; state = c.agent.inside.state; desks = c.agent.inside.desks }) c.agent.inside.home.waiting.items c.agent.invariant.1.0 c.agent.invariant.1.1
 
 pub add_desk-requires : goal.add_desk-requires
 add_desk-requires c =
     let at = c.agent.inside in
-    let s : Environment = record { env = at.env; state = at.state; desks = at.desks.items } in
+    let s : Environment = record { env = at.env; state = at.state; desks = at.desks } in
     let f : FreeState = c.in-Some.desk in
     let rest : List FreeState = c.pop.new.self.items in
     let left : at.home.waiting.items ≡ rest ++ f ∷ [] = c.pop.ensures.items ∙ ap (λ (o : Option FreeState). rest ++ option_to_list o) c.in-Some.is in
@@ -45,7 +45,7 @@ loop-desk-preserved c =
 pub returns-in-Err-clause-refused : goal.returns-in-Err-clause-refused
 returns-in-Err-clause-refused c =
     let at = c.agent.inside in
-    let s : Environment = record { env = at.env; state = at.state; desks = at.desks.items } in
+    let s : Environment = record { env = at.env; state = at.state; desks = at.desks } in
     let f : FreeState = c.in-Some.desk in
     let rest : List FreeState = c.pop.new.self.items in
     let left : at.home.waiting.items ≡ rest ++ f ∷ [] = c.pop.ensures.items ∙ ap (λ (o : Option FreeState). rest ++ option_to_list o) c.in-Some.is in

@@ -15,9 +15,9 @@ use Rattle.ti_service.proofs.agent_tries.clear_now.Goals.{After-push_reserved}
 use Rattle.ti_service.proofs.agent_tries.clear_now.Goals as goal
 
 -- the desk that was cleared
-cleared : (c : After-push_reserved) → IsCleared (record { env = c.agent.inside.env; state = c.agent.inside.state; desks = c.agent.inside.desks.items }) c.clear_desk_now.new.self.env c.in-Some.thread c.in-Some-2.desk
+cleared : (c : After-push_reserved) → IsCleared (record { env = c.agent.inside.env; state = c.agent.inside.state; desks = c.agent.inside.desks }) c.clear_desk_now.new.self.env c.in-Some.thread c.in-Some-2.desk
 cleared c =
-    subst (λ (o : Option FreeState). IfSome o (λ f. IsCleared (record { env = c.agent.inside.env; state = c.agent.inside.state; desks = c.agent.inside.desks.items }) c.clear_desk_now.new.self.env c.in-Some.thread f)) c.in-Some-2.is
+    subst (λ (o : Option FreeState). IfSome o (λ f. IsCleared (record { env = c.agent.inside.env; state = c.agent.inside.state; desks = c.agent.inside.desks }) c.clear_desk_now.new.self.env c.in-Some.thread f)) c.in-Some-2.is
     c.in_ok-desk.ensures.cleared
 
 -- it waits behind the others
@@ -32,8 +32,8 @@ invariant_of-agent-in-Some-2 c =
     let here = (goal.at.invariant_of-agent-in-Some-2 c).After-push_reserved in
     let at = c.agent.inside in
     let now = c.agent-in-Some.inside in
-    let s : Environment = record { env = at.env; state = at.state; desks = at.desks.items } in
-    let t : Environment = record { env = now.env; state = now.state; desks = now.desks.items } in
+    let s : Environment = record { env = at.env; state = at.state; desks = at.desks } in
+    let t : Environment = record { env = now.env; state = now.state; desks = now.desks } in
     let more = c.push_reserved.new.self.items in
     let o : AreOursOf at.home.service s at.home.waiting.items = ours_of at.home.service s at.home.waiting.items c.agent.invariant.1.0 c.agent.invariant.1.1 in
     let k : AreOursOf at.home.service c.clear_desk_now.new.self.env more = ours_cleared at.home.service s c.clear_desk_now.new.self.env at.home.waiting.items more c.in-Some.thread c.in-Some-2.desk (cleared here) (waits here) o in
@@ -46,7 +46,7 @@ loop-thread-smaller c =
     let at = c.agent.inside in
     let now = c.agent-in-Some.inside in
     let k = cleared (goal.at.loop-thread-smaller c).After-push_reserved in
-    let s : Environment = record { env = at.env; state = at.state; desks = at.desks.items } in
+    let s : Environment = record { env = at.env; state = at.state; desks = at.desks } in
     let env : s ≡ c.loop-thread.agent.env = ap (λ (x : Housed Membership). x.env) c.agent.view_is in
     let there : place_in s.desks c.in-Some.thread < length s.desks = subst (λ (e : Environment). place_in e.desks c.in-Some.thread < length e.desks) (sym env) c.in-Some.ensures.there in
     omega (arith, ap (λ (e : Environment). length e.desks) k.new_is, length-remove s.desks (place_in s.desks c.in-Some.thread) there, ap (λ (e : Environment). length e.desks) env, ap (λ (x : Housed Membership). length x.env.desks) c.agent-in-Some.view_is)
@@ -56,7 +56,7 @@ loop-thread-preserved c =
     let here = (goal.at.loop-thread-preserved c).After-push_reserved in
     let at = c.agent.inside in
     let now = c.agent-in-Some.inside in
-    let t : Environment = record { env = now.env; state = now.state; desks = now.desks.items } in
+    let t : Environment = record { env = now.env; state = now.state; desks = now.desks } in
     let was = c.agent.view_is in
     let is = c.agent-in-Some.view_is in
     let home = c.in_ok-desk.ensures.home in

@@ -12,26 +12,26 @@ use Rattle.ti_agent.proofs.env.Env.ask_one.Goals as goal
 
 pub call-answer-requires-clause-calls : goal.call-answer-requires-clause-calls
 call-answer-requires-clause-calls g c =
-    let s : Environment = record { env = c.self.inside.env; state = c.self.inside.state; desks = c.self.inside.desks.items } in
+    let s : Environment = record { env = c.self.inside.env; state = c.self.inside.state; desks = c.self.inside.desks } in
     let free : call_refusal s.state c.args.place c.args.call ≡ None = reaches c.args.self.now.env s c.args.thread c.args.place c.args.call (same_env c.self.view_is) c.requires.place c.requires.admitted in
     may_call s c.args.place c.args.call c.index_mut.result.now c.self.invariant.0 free c.index_mut.ensures.value
 
 pub call-answer-requires-clause-room : goal.call-answer-requires-clause-room
 call-answer-requires-clause-room g c = λ _.
-    let s : Environment = record { env = c.self.inside.env; state = c.self.inside.state; desks = c.self.inside.desks.items } in
+    let s : Environment = record { env = c.self.inside.env; state = c.self.inside.state; desks = c.self.inside.desks } in
     let free : call_refusal s.state c.args.place c.args.call ≡ None = reaches c.args.self.now.env s c.args.thread c.args.place c.args.call (same_env c.self.view_is) c.requires.place c.requires.admitted in
     has_room s c.args.place c.args.call c.index_mut.result.now c.self.invariant.0 free c.index_mut.ensures.value
 
 pub call-answer-requires-clause-buf : goal.call-answer-requires-clause-buf
 call-answer-requires-clause-buf g c =
-    let s : Environment = record { env = c.self.inside.env; state = c.self.inside.state; desks = c.self.inside.desks.items } in
+    let s : Environment = record { env = c.self.inside.env; state = c.self.inside.state; desks = c.self.inside.desks } in
     let free : call_refusal s.state c.args.place c.args.call ≡ None = reaches c.args.self.now.env s c.args.thread c.args.place c.args.call (same_env c.self.view_is) c.requires.place c.requires.admitted in
     let has : IsJustBufferOf s.state.limits c.args.call c.args.buf = subst (λ (x : Environment). IsJustBufferOf x.state.limits c.args.call c.args.buf) (sym (same_env c.self.view_is)) c.requires.buf in
     has_buffer s c.args.place c.args.call c.index_mut.result.now c.args.buf c.self.invariant.0 free c.index_mut.ensures.value has
 
 pub invariant_of-self : goal.invariant_of-self
 invariant_of-self g c =
-    let s : Environment = record { env = c.self.inside.env; state = c.self.inside.state; desks = c.self.inside.desks.items } in
+    let s : Environment = record { env = c.self.inside.env; state = c.self.inside.state; desks = c.self.inside.desks } in
     let free : call_refusal s.state c.args.place c.args.call ≡ None = reaches c.args.self.now.env s c.args.thread c.args.place c.args.call (same_env c.self.view_is) c.requires.place c.requires.admitted in
     let e = c.call-answer.ensures in (
       whole_after s c.args.place c.args.call c.index_mut.result.now c.call-answer.new.self c.spend.new.self c.self.invariant.0 free c.index_mut.ensures.value c.spend.ensures e.same.env e.goes e.mine
@@ -41,7 +41,7 @@ invariant_of-self g c =
 
 pub returns-clause-went : goal.returns-clause-went
 returns-clause-went g c =
-    let s : Environment = record { env = c.self.inside.env; state = c.self.inside.state; desks = c.self.inside.desks.items } in
+    let s : Environment = record { env = c.self.inside.env; state = c.self.inside.state; desks = c.self.inside.desks } in
     let free : call_refusal s.state c.args.place c.args.call ≡ None = reaches c.args.self.now.env s c.args.thread c.args.place c.args.call (same_env c.self.view_is) c.requires.place c.requires.admitted in
     let e = c.call-answer.ensures in
     let k : Asks c.index_mut.result.now c.call-answer.new.self c.args.call (said c.call-answer.result) = record { same = e.same; goes = e.goes; mine = e.mine; posted = e.posted; answer = e.answer } in

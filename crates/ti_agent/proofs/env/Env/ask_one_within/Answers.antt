@@ -13,26 +13,26 @@ use Rattle.ti_agent.proofs.env.Env.ask_one_within.Goals as goal
 
 pub call_within-requires-clause-calls : goal.call_within-requires-clause-calls
 call_within-requires-clause-calls g c =
-    let s : Environment = record { env = c.self.inside.env; state = c.self.inside.state; desks = c.self.inside.desks.items } in
+    let s : Environment = record { env = c.self.inside.env; state = c.self.inside.state; desks = c.self.inside.desks } in
     let free : call_refusal s.state c.args.place c.args.call ≡ None = reaches c.args.self.now.env s c.args.thread c.args.place c.args.call (same_env c.self.view_is) c.requires.place c.requires.admitted in
     may_call s c.args.place c.args.call c.index_mut.result.now c.self.invariant.0 free c.index_mut.ensures.value
 
 pub call_within-requires-clause-room : goal.call_within-requires-clause-room
 call_within-requires-clause-room g c = λ _.
-    let s : Environment = record { env = c.self.inside.env; state = c.self.inside.state; desks = c.self.inside.desks.items } in
+    let s : Environment = record { env = c.self.inside.env; state = c.self.inside.state; desks = c.self.inside.desks } in
     let free : call_refusal s.state c.args.place c.args.call ≡ None = reaches c.args.self.now.env s c.args.thread c.args.place c.args.call (same_env c.self.view_is) c.requires.place c.requires.admitted in
     has_room s c.args.place c.args.call c.index_mut.result.now c.self.invariant.0 free c.index_mut.ensures.value
 
 pub call_within-requires-clause-buf : goal.call_within-requires-clause-buf
 call_within-requires-clause-buf g c =
-    let s : Environment = record { env = c.self.inside.env; state = c.self.inside.state; desks = c.self.inside.desks.items } in
+    let s : Environment = record { env = c.self.inside.env; state = c.self.inside.state; desks = c.self.inside.desks } in
     let free : call_refusal s.state c.args.place c.args.call ≡ None = reaches c.args.self.now.env s c.args.thread c.args.place c.args.call (same_env c.self.view_is) c.requires.place c.requires.admitted in
     let has : IsJustBufferOf s.state.limits c.args.call c.args.buf = subst (λ (x : Environment). IsJustBufferOf x.state.limits c.args.call c.args.buf) (sym (same_env c.self.view_is)) c.requires.buf in
     has_buffer s c.args.place c.args.call c.index_mut.result.now c.args.buf c.self.invariant.0 free c.index_mut.ensures.value has
 
 pub invariant_of-self-2 : goal.invariant_of-self-2
 invariant_of-self-2 g c =
-    let s : Environment = record { env = c.self.inside.env; state = c.self.inside.state; desks = c.self.inside.desks.items } in
+    let s : Environment = record { env = c.self.inside.env; state = c.self.inside.state; desks = c.self.inside.desks } in
     let free : call_refusal s.state c.args.place c.args.call ≡ None = reaches c.args.self.now.env s c.args.thread c.args.place c.args.call (same_env c.self.view_is) c.requires.place c.requires.admitted in
     let room : (waits c.args.call && is_full s c.args.thread) ≡ false = subst (λ (x : Environment). (waits c.args.call && is_full x c.args.thread) ≡ false) (sym (same_env c.self.view_is)) c.requires.room in
     let e = c.in-Ok.ensures in (
@@ -42,7 +42,7 @@ invariant_of-self-2 g c =
 
 pub returns-clause-comes : goal.returns-clause-comes
 returns-clause-comes g c =
-    let s : Environment = record { env = c.self.inside.env; state = c.self.inside.state; desks = c.self.inside.desks.items } in
+    let s : Environment = record { env = c.self.inside.env; state = c.self.inside.state; desks = c.self.inside.desks } in
     let free : call_refusal s.state c.args.place c.args.call ≡ None = reaches c.args.self.now.env s c.args.thread c.args.place c.args.call (same_env c.self.view_is) c.requires.place c.requires.admitted in
     let e = c.in-Ok.ensures in
     subst (λ (x : Environment). ComesTo x (after_call s c.args.place c.spend.new.self c.call_within.new.self) c.args.thread c.args.call (said c.unwrap_or.result)) (same_env c.self.view_is)

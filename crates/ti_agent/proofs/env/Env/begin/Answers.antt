@@ -13,7 +13,7 @@ use Rattle.ti_agent.proofs.env.Env.begin.Goals as goal
 
 pub invariant_of-result : goal.invariant_of-result
 invariant_of-result g c =
-    let s : Environment = record { env = c.self.inside.env; state = c.self.inside.state; desks = c.self.inside.desks.items } in
+    let s : Environment = record { env = c.self.inside.env; state = c.self.inside.state; desks = c.self.inside.desks } in
     let P : Environment → Type 0 = IsAtHome g.H.Home.about g.H.Home.holds c.self.inside.home in
     let p = c.args.plan in
     let m : to_z w32 (of_z w32 p.max_count) ≡ p.max_count = search rules in

@@ -13,7 +13,7 @@ use Rattle.ti_agent.proofs.env.Env.collect_now.Goals as goal
 
 pub invariant_of-self : goal.invariant_of-self
 invariant_of-self g c =
-    let s : Environment = record { env = c.self.inside.env; state = c.self.inside.state; desks = c.self.inside.desks.items } in
+    let s : Environment = record { env = c.self.inside.env; state = c.self.inside.state; desks = c.self.inside.desks } in
     let t = c.place_of-at.result.0 in
     let within : t < length s.desks = grind (arith, nat_tests, c.if-at-len.false, c.len.ensures) in
     let at = desk_there s t c.index_mut.result.now within c.index_mut.ensures.value in
@@ -24,7 +24,7 @@ invariant_of-self g c =
 
 pub returns-clause-looks : goal.returns-clause-looks
 returns-clause-looks g c =
-    let s : Environment = record { env = c.self.inside.env; state = c.self.inside.state; desks = c.self.inside.desks.items } in
+    let s : Environment = record { env = c.self.inside.env; state = c.self.inside.state; desks = c.self.inside.desks } in
     let t = c.place_of-at.result.0 in
     let is : t ≡ place_in s.desks c.args.ticket.thread = ap (λ (x : ThreadNo). x.0) (found_in c.args.self.now.env s c.args.ticket.thread c.place_of-at.result (same_env c.self.view_is) c.place_of-at.ensures) in
     let within : t < length s.desks = grind (arith, nat_tests, c.if-at-len.false, c.len.ensures) in

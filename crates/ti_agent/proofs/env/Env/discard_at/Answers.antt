@@ -1,4 +1,4 @@
-use Rattle.std.proofs.Common.{◌≡◌, ◌<◌, length, ap, subst, sym, ◌∙◌}
+use Rattle.std.proofs.Common.{◌≡◌, ◌<◌, length, ap, subst, sym}
 use Rattle.ti_types.specs.declared.numbers.ThreadNo.{ThreadNo}
 use Rattle.ti_agent.specs.Deadlines.{DiscardsAt}
 use Rattle.ti_agent.specs.Env.{Environment, place_in, place_of}
@@ -11,20 +11,20 @@ use Rattle.ti_agent.proofs.env.Env.discard_at.Goals.{After-index_mut}
 use Rattle.ti_agent.proofs.env.Env.discard_at.Goals as goal
 
 -- the place, among the desks
-found : (g : Over) (c : After-index_mut g) → c.args.place ≡ place_of c.self.inside.desks.items c.args.thread
+found : (g : Over) (c : After-index_mut g) → c.args.place ≡ place_of c.self.inside.desks c.args.thread
 found g c =
-    let s : Environment = record { env = c.self.inside.env; state = c.self.inside.state; desks = c.self.inside.desks.items } in
+    let s : Environment = record { env = c.self.inside.env; state = c.self.inside.state; desks = c.self.inside.desks } in
     found_in c.args.self.now.env s c.args.thread c.args.place (same_env c.self.view_is) c.requires.place
 
 -- there is a desk
-here : (g : Over) (c : After-index_mut g) → c.args.place.0 < length c.self.inside.desks.items
+here : (g : Over) (c : After-index_mut g) → c.args.place.0 < length c.self.inside.desks
 here g c =
-    let there : place_in c.self.inside.desks.items c.args.thread < length c.self.inside.desks.items = subst (λ (x : Environment). place_in x.desks c.args.thread < length x.desks) (sym (same_env c.self.view_is)) c.requires.there in
-    subst (λ (x : ThreadNo). x.0 < length c.self.inside.desks.items) (sym (found g c)) there
+    let there : place_in c.self.inside.desks c.args.thread < length c.self.inside.desks = subst (λ (x : Environment). place_in x.desks c.args.thread < length x.desks) (sym (same_env c.self.view_is)) c.requires.there in
+    subst (λ (x : ThreadNo). x.0 < length c.self.inside.desks) (sym (found g c)) there
 
 pub invariant_of-self : goal.invariant_of-self
 invariant_of-self g c =
-    let s : Environment = record { env = c.self.inside.env; state = c.self.inside.state; desks = c.self.inside.desks.items } in
+    let s : Environment = record { env = c.self.inside.env; state = c.self.inside.state; desks = c.self.inside.desks } in
     let l = (goal.at.invariant_of-self g c).After-index_mut in
     let at = desk_there s c.args.place.0 c.index_mut.result.now (here g l) c.index_mut.ensures.value in (
       discard_whole s c.args.place.0 c.index_mut.result.now c.discard.new.self c.discard.result c.self.invariant.0 at c.discard.ensures,
@@ -33,7 +33,7 @@ invariant_of-self g c =
 
 pub returns-clause-discards : goal.returns-clause-discards
 returns-clause-discards g c =
-    let s : Environment = record { env = c.self.inside.env; state = c.self.inside.state; desks = c.self.inside.desks.items } in
+    let s : Environment = record { env = c.self.inside.env; state = c.self.inside.state; desks = c.self.inside.desks } in
     let l = (goal.at.returns-clause-discards g c).After-index_mut in
     let at = desk_there s c.args.place.0 c.index_mut.result.now (here g l) c.index_mut.ensures.value in
     subst (λ (x : Environment). DiscardsAt x (seen_call s c.args.place.0 c.discard.new.self) c.args.thread c.discard.result) (same_env c.self.view_is)

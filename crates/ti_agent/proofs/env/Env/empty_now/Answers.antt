@@ -14,16 +14,16 @@ use Rattle.ti_agent.proofs.env.Env.empty_now.Goals.{After-left}
 use Rattle.ti_agent.proofs.env.Env.empty_now.Goals as goal
 
 -- the place, among the desks
-found : (g : Over) (c : After-left g) → c.args.place ≡ place_of c.self.inside.desks.items c.args.thread
+found : (g : Over) (c : After-left g) → c.args.place ≡ place_of c.self.inside.desks c.args.thread
 found g c =
-    let s : Environment = record { env = c.self.inside.env; state = c.self.inside.state; desks = c.self.inside.desks.items } in
+    let s : Environment = record { env = c.self.inside.env; state = c.self.inside.state; desks = c.self.inside.desks } in
     found_in c.args.self.now.env s c.args.thread c.args.place (same_env c.self.view_is) c.requires.place
 
 -- there is a desk
-here : (g : Over) (c : After-left g) → c.args.place.0 < length c.self.inside.desks.items
+here : (g : Over) (c : After-left g) → c.args.place.0 < length c.self.inside.desks
 here g c =
-    let there : place_in c.self.inside.desks.items c.args.thread < length c.self.inside.desks.items = subst (λ (x : Environment). place_in x.desks c.args.thread < length x.desks) (sym (same_env c.self.view_is)) c.requires.there in
-    subst (λ (x : ThreadNo). x.0 < length c.self.inside.desks.items) (sym (found g c)) there
+    let there : place_in c.self.inside.desks c.args.thread < length c.self.inside.desks = subst (λ (x : Environment). place_in x.desks c.args.thread < length x.desks) (sym (same_env c.self.view_is)) c.requires.there in
+    subst (λ (x : ThreadNo). x.0 < length c.self.inside.desks) (sym (found g c)) there
 
 -- and as many places as desks
 inside : (g : Over) (c : After-left g) → c.args.place.0 < length c.self.inside.state.spent
@@ -31,7 +31,7 @@ inside g c = (let h = here g c in omega (arith, h, c.self.invariant.0.count))
 
 pub invariant_of-self : goal.invariant_of-self
 invariant_of-self g c =
-    let s : Environment = record { env = c.self.inside.env; state = c.self.inside.state; desks = c.self.inside.desks.items } in
+    let s : Environment = record { env = c.self.inside.env; state = c.self.inside.state; desks = c.self.inside.desks } in
     let l = (goal.at.invariant_of-self g c).After-left in
     let p = c.index_mut.result.now in
     let at = desk_there s c.args.place.0 p (here g l) c.index_mut.ensures.value in
@@ -42,7 +42,7 @@ invariant_of-self g c =
 
 pub returns-then-left-eq0-clause-emptied : goal.returns-then-left-eq0-clause-emptied
 returns-then-left-eq0-clause-emptied g c =
-    let s : Environment = record { env = c.self.inside.env; state = c.self.inside.state; desks = c.self.inside.desks.items } in
+    let s : Environment = record { env = c.self.inside.env; state = c.self.inside.state; desks = c.self.inside.desks } in
     let l = (goal.at.returns-then-left-eq0-clause-emptied g c).After-left in
     let p = c.index_mut.result.now in
     let q = c.cancel_all_now.new.self in
@@ -54,7 +54,7 @@ returns-then-left-eq0-clause-emptied g c =
 
 pub clear_now-requires : goal.clear_now-requires
 clear_now-requires g c =
-    let s : Environment = record { env = c.self.inside.env; state = c.self.inside.state; desks = c.self.inside.desks.items } in
+    let s : Environment = record { env = c.self.inside.env; state = c.self.inside.state; desks = c.self.inside.desks } in
     let l = (goal.at.clear_now-requires g c).After-left in
     let p = c.index_mut-2.result.now in
     let at = desk_there s c.args.place.0 p (here g l) c.index_mut-2.ensures.value in
@@ -63,7 +63,7 @@ clear_now-requires g c =
 
 pub invariant_of-self-in-Ok : goal.invariant_of-self-in-Ok
 invariant_of-self-in-Ok g c =
-    let s : Environment = record { env = c.self.inside.env; state = c.self.inside.state; desks = c.self.inside.desks.items } in
+    let s : Environment = record { env = c.self.inside.env; state = c.self.inside.state; desks = c.self.inside.desks } in
     let l = (goal.at.invariant_of-self-in-Ok g c).After-left in
     let p = c.index_mut-2.result.now in
     let at = desk_there s c.args.place.0 p (here g l) c.index_mut-2.ensures.value in
@@ -77,7 +77,7 @@ invariant_of-self-in-Ok g c =
 
 pub returns-in-Ok-clause-emptied : goal.returns-in-Ok-clause-emptied
 returns-in-Ok-clause-emptied g c =
-    let s : Environment = record { env = c.self.inside.env; state = c.self.inside.state; desks = c.self.inside.desks.items } in
+    let s : Environment = record { env = c.self.inside.env; state = c.self.inside.state; desks = c.self.inside.desks } in
     let l = (goal.at.returns-in-Ok-clause-emptied g c).After-left in
     let p = c.index_mut-2.result.now in
     let q = c.clear_now.new.self in

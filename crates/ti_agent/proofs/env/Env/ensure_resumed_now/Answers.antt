@@ -1,7 +1,7 @@
 use Rattle.std.proofs.Common.{◌≡◌, ◌≤◌, length, refl, ap, sym, ◌∙◌, subst, inl, inr}
 use Rattle.ti_types.specs.declared.call.Call.TheVariants.{Resume}
 use Rattle.ti_slot.specs.declared.asked.Asked.{Asked as AskedOf}
-use Rattle.ti_slot.specs.declared.asked.Asked.TheVariants.{Answered, Waiting}
+use Rattle.ti_slot.specs.declared.asked.Asked.TheVariants.{Answered}
 use Rattle.ti_agent.specs.Env.{place_in}
 use Rattle.ti_agent.specs.Home.{Housed}
 use Rattle.ti_agent.specs.Posts.{Posts}

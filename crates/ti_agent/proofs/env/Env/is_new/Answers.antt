@@ -10,7 +10,7 @@ use Rattle.ti_agent.proofs.env.Env.is_new.Goals as goal
 
 pub returns-else-count-eq0 : goal.returns-else-count-eq0
 returns-else-count-eq0 g c =
-    let l = c.self.inside.desks.items in
+    let l = c.self.inside.desks in
     let s : Environment = record { env = c.self.inside.env; state = c.self.inside.state; desks = l } in
     let t : ThreadNo = c.args.thread in
     let n = c.threads-count.result in

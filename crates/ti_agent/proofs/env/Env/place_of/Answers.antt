@@ -37,7 +37,7 @@ from_on l n i order at j k h =
 
 pub returns-then-thread : goal.returns-then-thread
 returns-then-thread g c =
-    let l = c.self.inside.desks.items in
+    let l = c.self.inside.desks in
     let s : Environment = record { env = c.self.inside.env; state = c.self.inside.state; desks = l } in
     let here : c.args.thread.0 < length l = omega (arith, c.if-thread-count.true, c.threads-count.ensures.counted, c.self.invariant.0.count) in
     let name = name_of l c.args.thread.0 c.index.result.now c.thread.result here c.index.ensures c.thread.ensures in
@@ -46,7 +46,7 @@ returns-then-thread g c =
 
 pub returns-then-number-thread : goal.returns-then-number-thread
 returns-then-number-thread g c =
-    let l = c.self.inside.desks.items in
+    let l = c.self.inside.desks in
     let s : Environment = record { env = c.self.inside.env; state = c.self.inside.state; desks = l } in
     let v = c.loop-low.invariant in
     let i : ℕ = c.loop-low.low + (c.loop-low.high - c.loop-low.low) / 2 in
@@ -56,7 +56,7 @@ returns-then-number-thread g c =
 
 pub loop-low-preserved-then-number-thread-2 : goal.loop-low-preserved-then-number-thread-2
 loop-low-preserved-then-number-thread-2 g c =
-    let l = c.self.inside.desks.items in
+    let l = c.self.inside.desks in
     let v = c.loop-low.invariant in
     let i : ℕ = c.loop-low.low + (c.loop-low.high - c.loop-low.low) / 2 in
     let between = middle c.loop-low.low c.loop-low.high c.loop-low-test.true in
@@ -72,7 +72,7 @@ loop-low-preserved-then-number-thread-2 g c =
 
 pub loop-low-preserved : goal.loop-low-preserved
 loop-low-preserved g c =
-    let l = c.self.inside.desks.items in
+    let l = c.self.inside.desks in
     let v = c.loop-low.invariant in
     let i : ℕ = c.loop-low.low + (c.loop-low.high - c.loop-low.low) / 2 in
     let between = middle c.loop-low.low c.loop-low.high c.loop-low-test.true in
@@ -88,7 +88,7 @@ loop-low-preserved g c =
 
 pub returns : goal.returns
 returns g c =
-    let l = c.self.inside.desks.items in
+    let l = c.self.inside.desks in
     let s : Environment = record { env = c.self.inside.env; state = c.self.inside.state; desks = l } in
     let count : length l ≡ c.threads-count.result = sym c.self.invariant.0.count ∙ c.threads-count.ensures.counted in
     let v = c.loop-low.invariant in

@@ -6,9 +6,9 @@ use Rattle.ti_agent.proofs.env.Env.place_of.Given as goal
 abbrev pub invariant-loop-low : goal.invariant-loop-low
 invariant-loop-low g l = record {
   order : l.low ≤ l.high;
-  there : l.high ≤ length l.self-inside.desks.items;
-  lower : (j : ℕ) → j < l.low → (thread_at l.self-inside.desks.items j).0 < l.thread.0;
-  higher : (j : ℕ) → l.high ≤ j → j < length l.self-inside.desks.items → l.thread.0 < (thread_at l.self-inside.desks.items j).0;
+  there : l.high ≤ length l.self-inside.desks;
+  lower : (j : ℕ) → j < l.low → (thread_at l.self-inside.desks j).0 < l.thread.0;
+  higher : (j : ℕ) → l.high ≤ j → j < length l.self-inside.desks → l.thread.0 < (thread_at l.self-inside.desks j).0;
 }
 
 abbrev pub decreases-loop-low : goal.decreases-loop-low

@@ -7,5 +7,5 @@ use Rattle.ti_agent.proofs.env.Env.relinquish_capabilities.Goals as goal
 pub invariant_of-self : goal.invariant_of-self
 invariant_of-self g c = (
   whole_with _ c.relinquish.new.self c.self.invariant.0 (ap (λ (x : EnvValue). x.spent) c.relinquish.ensures) (ap (λ (x : EnvValue). x.limits) c.relinquish.ensures),
-  home_with g.H.Home.about g.H.Home.holds c.self.inside.home (record { env = c.self.inside.env; state = c.self.inside.state; desks = c.self.inside.desks.items }) c.relinquish.new.self (ap (λ (x : EnvValue). x.limits) c.relinquish.ensures) c.self.invariant.1,
+  home_with g.H.Home.about g.H.Home.holds c.self.inside.home (record { env = c.self.inside.env; state = c.self.inside.state; desks = c.self.inside.desks }) c.relinquish.new.self (ap (λ (x : EnvValue). x.limits) c.relinquish.ensures) c.self.invariant.1,
 )

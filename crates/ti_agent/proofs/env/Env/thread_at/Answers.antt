@@ -6,6 +6,6 @@ use Rattle.ti_agent.proofs.env.Env.thread_at.Goals as goal
 
 pub returns-then-index-threads-clause-thread : goal.returns-then-index-threads-clause-thread
 returns-then-index-threads-clause-thread g c =
-    let l = c.self.inside.desks.items in
+    let l = c.self.inside.desks in
     let here : c.args.index < length l = omega (arith, c.if-index-threads.true, c.threads.ensures.counted, c.self.invariant.0.count) in
     sym (name_of l c.args.index c.index.result.now c.thread.result here c.index.ensures c.thread.ensures) ∙ ap (λ (s : Environment). thread_at s.desks c.args.index) (same_env c.self.view_is)

@@ -10,7 +10,7 @@ use Rattle.ti_agent.proofs.gathering.Gathering.finish.Goals as goal
 
 -- the trace as its fields have it
 abbrev trace : (g : Over) (c : After-is_given_up-is_given_up g) → Gathered
-trace g c = record { began = envs_of c.self.inside.began.items; now = record { env = c.self.inside.env; state = c.self.inside.state; desks = c.self.inside.desks.items }; stopping = c.self.inside.stopping.items; places = c.self.inside.places.items; max_count = c.self.inside.max_count; is_alive_only = c.self.inside.is_alive_only; bufs = c.self.inside.bufs.items; infos = c.self.inside.infos.items; phase = c.self.inside.phase }
+trace g c = record { began = envs_of c.self.inside.began.items; now = record { env = c.self.inside.env; state = c.self.inside.state; desks = c.self.inside.desks }; stopping = c.self.inside.stopping.items; places = c.self.inside.places.items; max_count = c.self.inside.max_count; is_alive_only = c.self.inside.is_alive_only; bufs = c.self.inside.bufs.items; infos = c.self.inside.infos.items; phase = c.self.inside.phase }
 
 over : (g : Over) (c : After-is_given_up-is_given_up g) → has_ended (trace g c) ≡ true
 over g c = ap has_ended (same_trace c.self.view_is) ∙ (sym c.has_ended.ensures ∙ c.if-not-has_ended.false)

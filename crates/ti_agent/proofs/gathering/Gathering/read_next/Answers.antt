@@ -22,7 +22,7 @@ use Rattle.ti_agent.proofs.gathering.Gathering.read_next.Goals as goal
 
 -- the trace as its fields have it
 abbrev trace : (g : Over) (c : After-thread-thread g) → Gathered
-trace g c = record { began = envs_of c.self.inside.began.items; now = record { env = c.self.inside.env; state = c.self.inside.state; desks = c.self.inside.desks.items }; stopping = c.self.inside.stopping.items; places = c.self.inside.places.items; max_count = c.self.inside.max_count; is_alive_only = c.self.inside.is_alive_only; bufs = c.self.inside.bufs.items; infos = c.self.inside.infos.items; phase = c.self.inside.phase }
+trace g c = record { began = envs_of c.self.inside.began.items; now = record { env = c.self.inside.env; state = c.self.inside.state; desks = c.self.inside.desks }; stopping = c.self.inside.stopping.items; places = c.self.inside.places.items; max_count = c.self.inside.max_count; is_alive_only = c.self.inside.is_alive_only; bufs = c.self.inside.bufs.items; infos = c.self.inside.infos.items; phase = c.self.inside.phase }
 
 is : (g : Over) (c : After-thread-thread g) → (trace g c).phase ≡ phase.Reading
 is g c = ap (λ (z : Gathered). z.phase) (same_trace c.self.view_is) ∙ c.requires.at
@@ -74,7 +74,7 @@ invariant_of-self g c =
     let at = was_read (trace g l) c.self.invariant.0 c.index-place.result.now p q c.spend.new.self a info c.pop.new.self.items c.in-Some.buf (is g l) (within g l) (place g l) c.index_mut-desk.ensures.value added read c.spend.ensures told (c.told_of.ensures.thread ∙ thread) c.in-Some.ensures.items in
     let pushed : c.self.inside.infos.items ++ info ∷ [] ≡ c.push_reserved.new.self.items = sym c.push_reserved.ensures.items in
     let room : length c.self.inside.places.items ≤ vec_capacity c.push_reserved.new.self = subst (λ n. length c.self.inside.places.items ≤ n) (sym c.push_reserved.ensures.capacity) c.self.invariant.1 in
-    (subst (λ (v : List StackInfo). IsAtWork (with_read (trace g l) c.spend.new.self (slice_set c.self.inside.desks.items c.index-place.result.now.0 q) c.pop.new.self.items v)) pushed at, room, c.self.invariant.2)
+    (subst (λ (v : List StackInfo). IsAtWork (with_read (trace g l) c.spend.new.self (slice_set c.self.inside.desks c.index-place.result.now.0 q) c.pop.new.self.items v)) pushed at, room, c.self.invariant.2)
 
 pub invariant_of-self-in-Err : goal.invariant_of-self-in-Err
 invariant_of-self-in-Err g c =

@@ -1,11 +1,15 @@
+use Rattle.std.proofs.Common.{rules}
 use Rattle.ti_debugger.proofs.RunLaws.{runs_more}
 use Rattle.ti_debugger.proofs.seat.Seat.next.Goals as goal
 
 pub returns-in_err-todo-clause-run : goal.returns-in_err-todo-clause-run
-returns-in_err-todo-clause-run c = runs_more _ c.loop.self.session _ c.loop.invariant c.step.ensures.run
+returns-in_err-todo-clause-run c = runs_more _ c.loop.self.session _ c.loop.invariant.run c.step.ensures.run
 
 pub returns-in-Some-clause-run : goal.returns-in-Some-clause-run
-returns-in-Some-clause-run c = runs_more _ c.loop.self.session _ c.loop.invariant c.step.ensures.run
+returns-in-Some-clause-run c = runs_more _ c.loop.self.session _ c.loop.invariant.run c.step.ensures.run
 
 pub loop-preserved : goal.loop-preserved
-loop-preserved c = runs_more _ c.loop.self.session _ c.loop.invariant c.step.ensures.run
+loop-preserved c = record {
+  run = runs_more _ c.loop.self.session _ c.loop.invariant.run c.step.ensures.run;
+  desk = search rules;
+}

@@ -1,5 +1,5 @@
 use Rattle.std.proofs.Common.{◌∙◌}
-use Rattle.ti_monitor.proofs.DoorLaws.{gone, kept}
+use Rattle.ti_monitor.proofs.DoorLaws.{gone, kept, talk_is}
 use Rattle.ti_monitor.proofs.door.Door.closed.Goals as goal
 
 pub returns-clause-gone : goal.returns-clause-gone
@@ -8,3 +8,8 @@ returns-clause-gone c = gone c.self.inside.hosts c.self.inside.seats.list.items 
 pub returns-in_default-clause-kept : goal.returns-in_default-clause-kept
 returns-in_default-clause-kept c =
     kept c.self.inside.hosts c.self.inside.seats.list.items c.take.new.self.list.items c.args.self.now c.args.conn.0 c.self.view_is c.take.ensures.taken (c.take.ensures.was ∙ c.in_default.is)
+
+pub returns-clause-known : goal.returns-clause-known
+returns-clause-known c none =
+    let there = talk_is c.self.inside.hosts c.self.inside.seats.list.items c.args.self.now c.args.conn.0 _ c.self.view_is c.in-Some.ensures.was in
+    absurd (cc (there, none))

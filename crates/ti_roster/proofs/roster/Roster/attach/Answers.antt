@@ -14,7 +14,7 @@ use Rattle.ti_roster.proofs.roster.Roster.attach.Goals as goal
 pub invariant_of-self : goal.invariant_of-self
 invariant_of-self c =
     let log = c.self.inside.log.items in
-    let rows = c.self.inside.rows.items in
+    let rows = c.self.inside.rows in
     let marks = c.self.inside.marks.items in
     let e : EnvNo = record { 0 = c.in-Some.place } in
     let items : c.and-self-inside.result.items ≡ log ++ Attached e ∷ [] = c.and-self-inside.ensures in

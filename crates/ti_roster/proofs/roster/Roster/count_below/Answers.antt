@@ -10,7 +10,7 @@ use Rattle.ti_roster.proofs.roster.Roster.count_below.Goals as goal
 
 pub loop-low-preserved-then-thread-number : goal.loop-low-preserved-then-thread-number
 loop-low-preserved-then-thread-number c =
-    let rows = c.self.inside.rows.items in
+    let rows = c.self.inside.rows in
     let m : ℕ = c.loop-low.low + (c.loop-low.high - c.loop-low.low) / 2 in
     let d : Row = c.index.result.now in
     let test = c.loop-low-test.true in
@@ -25,7 +25,7 @@ loop-low-preserved-then-thread-number c =
 
 pub loop-low-preserved : goal.loop-low-preserved
 loop-low-preserved c =
-    let rows = c.self.inside.rows.items in
+    let rows = c.self.inside.rows in
     let m : ℕ = c.loop-low.low + (c.loop-low.high - c.loop-low.low) / 2 in
     let d : Row = c.index.result.now in
     let test = c.loop-low-test.true in
@@ -41,11 +41,11 @@ loop-low-preserved c =
 pub returns-clause-below : goal.returns-clause-below
 returns-clause-below c j n h at =
     let was : slice_get (live c.self.inside.log.items) j ≡ Some n = ap (λ (r : Log). slice_get (live r.items) j) c.self.view_is ∙ at in
-    let r = row_at c.self.inside.log.items c.self.inside.limits c.self.inside.rows.items c.self.inside.marks.items j n c.self.invariant.3 was in
+    let r = row_at c.self.inside.log.items c.self.inside.limits c.self.inside.rows c.self.inside.marks.items j n c.self.invariant.3 was in
     subst (λ (x : Newcomer). x.thread.0 < c.args.number) r.2 (c.loop-low.invariant.2 j r.0 h r.1)
 
 pub returns-clause-from : goal.returns-clause-from
 returns-clause-from c j n h at =
     let was : slice_get (live c.self.inside.log.items) j ≡ Some n = ap (λ (r : Log). slice_get (live r.items) j) c.self.view_is ∙ at in
-    let r = row_at c.self.inside.log.items c.self.inside.limits c.self.inside.rows.items c.self.inside.marks.items j n c.self.invariant.3 was in
+    let r = row_at c.self.inside.log.items c.self.inside.limits c.self.inside.rows c.self.inside.marks.items j n c.self.invariant.3 was in
     subst (λ (x : Newcomer). c.args.number ≤ x.thread.0) r.2 (c.loop-low.invariant.3 j r.0 (omega (arith, h, c.loop-low-test.false)) r.1)

@@ -7,9 +7,9 @@ use Rattle.ti_roster.proofs.roster.Roster.count_below.Given as goal
 abbrev pub invariant-loop-low : goal.invariant-loop-low
 invariant-loop-low l =
     (l.low ≤ l.high)
-    × (l.high ≤ length l.self-inside.rows.items)
-    × ((j : ℕ) (r : Row) → j < l.low → slice_get l.self-inside.rows.items j ≡ Some r → r.newcomer.thread.0 < l.number)
-    × ((j : ℕ) (r : Row) → l.high ≤ j → slice_get l.self-inside.rows.items j ≡ Some r → l.number ≤ r.newcomer.thread.0)
+    × (l.high ≤ length l.self-inside.rows)
+    × ((j : ℕ) (r : Row) → j < l.low → slice_get l.self-inside.rows j ≡ Some r → r.newcomer.thread.0 < l.number)
+    × ((j : ℕ) (r : Row) → l.high ≤ j → slice_get l.self-inside.rows j ≡ Some r → l.number ≤ r.newcomer.thread.0)
 
 abbrev pub decreases-loop-low : goal.decreases-loop-low
 decreases-loop-low l = l.high - l.low

@@ -42,7 +42,7 @@ loop-desk-preserved c =
 pub invariant_of-self : goal.invariant_of-self
 invariant_of-self c =
     let log = c.self-2.inside.log.items in
-    let rows = c.self-2.inside.rows.items in
+    let rows = c.self-2.inside.rows in
     let marks = c.self-2.inside.marks.items in
     let e = c.in-Some.env in
     let items : c.and-self-inside.result.items ≡ log ++ Disposed e ∷ [] = c.and-self-inside.ensures in

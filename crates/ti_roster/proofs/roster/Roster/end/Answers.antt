@@ -26,8 +26,8 @@ remove-row-requires c =
     let log = c.self.inside.log.items in
     let at : IsIndex (live log) c.args.thread c.in-Some.i = subst (λ (x : Log). IsIndex (live x.items) c.args.thread c.in-Some.i) (sym c.self.view_is) c.in-Some.ensures.there in
     let within : c.in-Some.i < length (live log) = get_within (live log) c.in-Some.i at.one at.at in
-    let count : length c.self.inside.rows.items ≡ length (live log) = rows_count c.self.inside.rows.items (live log) c.self.invariant.3.live_are in
-    omega (arith, within, count, c.self.inside.rows.ok)
+    let count : length c.self.inside.rows ≡ length (live log) = rows_count c.self.inside.rows (live log) c.self.invariant.3.live_are in
+    omega (arith, within, count)
 
 pub push-requires : goal.push-requires
 push-requires c =
@@ -38,7 +38,7 @@ push-requires c =
 pub invariant_of-self : goal.invariant_of-self
 invariant_of-self c =
     let log = c.self.inside.log.items in
-    let rows = c.self.inside.rows.items in
+    let rows = c.self.inside.rows in
     let marks = c.self.inside.marks.items in
     let at : IsIndex (live log) c.args.thread c.in-Some.i = subst (λ (x : Log). IsIndex (live x.items) c.args.thread c.in-Some.i) (sym c.self.view_is) c.in-Some.ensures.there in
     let items : c.and-self-inside.result.items ≡ log ++ Ended c.args.thread ∷ [] = c.and-self-inside.ensures in
@@ -60,7 +60,7 @@ returns-clause-there c =
 pub returns-clause-who : goal.returns-clause-who
 returns-clause-who c =
     let r : Log = c.args.self.now in
-    let rows = c.self.inside.rows.items in
+    let rows = c.self.inside.rows in
     let marks = c.self.inside.marks.items in
     let at : IsIndex (live r.items) c.args.thread c.in-Some.i = c.in-Some.ensures.there in
     let k : AreRows r.items r.limits rows marks = subst (λ (x : Log). AreRows x.items x.limits rows marks) c.self.view_is c.self.invariant.3 in record {

@@ -24,7 +24,7 @@ refused r t (Err x) there e = e ∙ sym (ap (λ (b : Bool). if b then OutOfMemor
 
 pub returns-in-Some-clause-told : goal.returns-in-Some-clause-told
 returns-in-Some-clause-told c =
-    let rows : List Row = c.self.inside.rows.items in
+    let rows : List Row = c.self.inside.rows in
     let log = c.self.inside.log.items in
     let i = c.in-Some.i in
     let d : Row = c.index.result.now in

@@ -20,16 +20,16 @@ use Rattle.ti_roster.proofs.roster.Roster.meet.Goals.{After-has_met_all, After-c
 use Rattle.ti_roster.proofs.roster.Roster.meet.Goals as goal
 
 -- the rows before the first one in which a desk may lie miss theirs
-out_before : (c : After-count_below-first) → (i : ℕ) (r : Row) → i < c.count_below-first.result → slice_get c.self.inside.rows.items i ≡ Some r → lies c.in-Some.env r.newcomer.thread c.self.inside.log.items ≡ Out
+out_before : (c : After-count_below-first) → (i : ℕ) (r : Row) → i < c.count_below-first.result → slice_get c.self.inside.rows i ≡ Some r → lies c.in-Some.env r.newcomer.thread c.self.inside.log.items ≡ Out
 out_before c i r h at =
     let log = c.self.inside.log.items in
-    let there : slice_get (live log) i ≡ Some r.newcomer = live_at log c.self.inside.limits c.self.inside.rows.items c.self.inside.marks.items i r c.self.invariant.3 at in
+    let there : slice_get (live log) i ≡ Some r.newcomer = live_at log c.self.inside.limits c.self.inside.rows c.self.inside.marks.items i r c.self.invariant.3 at in
     let less = c.count_below-first.ensures.below i r.newcomer h (ap (λ (x : Log). slice_get (live x.items) i) (sym c.self.view_is) ∙ there) in
     ap (λ (x : Log). lies c.in-Some.env r.newcomer.thread x.items) c.self.view_is ∙ c.first_left.ensures r.newcomer.thread less
 
 -- each row is as if the desk was taken out of it
-all_taken : (c : After-take_desks) → ((i : ℕ) (r : Row) → i < c.count_below-first.result → slice_get c.self.inside.rows.items i ≡ Some r → lies c.in-Some.env r.newcomer.thread c.self.inside.log.items ≡ Out)
-    → (i : ℕ) (r q : Row) → slice_get c.self.inside.rows.items i ≡ Some r → slice_get c.take_desks.new.rows.items i ≡ Some q → IsTaken c.in-Some.env r q
+all_taken : (c : After-take_desks) → ((i : ℕ) (r : Row) → i < c.count_below-first.result → slice_get c.self.inside.rows i ≡ Some r → lies c.in-Some.env r.newcomer.thread c.self.inside.log.items ≡ Out)
+    → (i : ℕ) (r q : Row) → slice_get c.self.inside.rows i ≡ Some r → slice_get c.take_desks.new.rows i ≡ Some q → IsTaken c.in-Some.env r q
 all_taken c out i r q a b =
     elim (cases_lt i c.count_below-first.result) [
       | inl before ↦
@@ -49,26 +49,26 @@ returns-then-has_met_all-clause-met c =
     let e : EnvNo = c.in-Some.env in
     let old : Log = record { items = log; limits = limits; user = c.self.inside.user } in
     let all = met_all (goal.at.returns-then-has_met_all-clause-met c).After-has_met_all ∙ c.if-has_met_all.true in
-    let left : AreLeft log limits e (live log) [] = none_left log limits c.self.inside.rows.items c.self.inside.marks.items e c.self.invariant.3 all in
+    let left : AreLeft log limits e (live log) [] = none_left log limits c.self.inside.rows c.self.inside.marks.items e c.self.invariant.3 all in
     let met : HasMet old old [] = subst (λ (u : Option EnvNo). HasMetOf u old old []) (sym c.in-Some.is) (left, left_own log limits e (live log) [] c.self.invariant.3.listed left, notes_nothing old e all) in
     subst (λ (x : Log × List FreeState). HasMet x.0 x.0 x.1) (λ j. (c.self.view_is j, sym c.new.ensures.items j)) met
 
 pub invariant_of-self : goal.invariant_of-self
 invariant_of-self c =
     let log = c.self.inside.log.items in
-    let rows = c.self.inside.rows.items in
+    let rows = c.self.inside.rows in
     let marks = c.self.inside.marks.items in
     let e : EnvNo = c.in-Some.env in
     let next : c.self.inside.next ≡ threads_in log = c.self.invariant.2 in
     let items : c.and-self-inside.result.items ≡ log ++ Met e (threads_in log) ∷ [] = c.and-self-inside.ensures ∙ ap (λ (n : ℕ). log ++ Met e n ∷ []) next in
     let len : length c.and-self-inside.result.items ≡ length log + 1 = ap (λ (l : List Coming). length l) items ∙ length-append log (Met e (threads_in log) ∷ []) in
     let count : threads_in c.and-self-inside.result.items ≡ threads_in log = ap threads_in items ∙ threads_met log e (threads_in log) in
-    let after : AreRows (log ++ Met e (threads_in log) ∷ []) c.self.inside.limits c.take_desks.new.rows.items (slice_set marks e.0 (Some (threads_in log))) =
-    rows_meet log c.self.inside.limits rows c.take_desks.new.rows.items marks e c.self.invariant.3 c.if-env-self.true c.take_desks.ensures.count (all_taken (goal.at.invariant_of-self c).After-take_desks (out_before (goal.at.invariant_of-self c).After-count_below-first)) in (
+    let after : AreRows (log ++ Met e (threads_in log) ∷ []) c.self.inside.limits c.take_desks.new.rows (slice_set marks e.0 (Some (threads_in log))) =
+    rows_meet log c.self.inside.limits rows c.take_desks.new.rows marks e c.self.invariant.3 c.if-env-self.true c.take_desks.ensures.count (all_taken (goal.at.invariant_of-self c).After-take_desks (out_before (goal.at.invariant_of-self c).After-count_below-first)) in (
       omega (arith, len, c.self.invariant.0),
       omega (arith, c.if-self-ge-LAST.false),
       next ∙ sym count,
-      subst (λ (x : List Coming × ℕ). AreRows x.0 c.self.inside.limits c.take_desks.new.rows.items (slice_set marks e.0 (Some x.1))) (λ j. (sym items j, sym next j)) after,
+      subst (λ (x : List Coming × ℕ). AreRows x.0 c.self.inside.limits c.take_desks.new.rows (slice_set marks e.0 (Some x.1))) (λ j. (sym items j, sym next j)) after,
       subst (λ (x : List Coming). AreEvents x c.self.inside.life.events) (sym items) (events_met log c.self.inside.life.events e (threads_in log) c.self.invariant.4),
     )
 
@@ -76,7 +76,7 @@ pub returns-clause-met : goal.returns-clause-met
 returns-clause-met c =
     let log = c.self.inside.log.items in
     let limits = c.self.inside.limits in
-    let rows = c.self.inside.rows.items in
+    let rows = c.self.inside.rows in
     let e : EnvNo = c.in-Some.env in
     let old : Log = record { items = log; limits = limits; user = c.self.inside.user } in
     let next : c.self.inside.next ≡ threads_in log = c.self.invariant.2 in

@@ -11,6 +11,6 @@ invariant_of-result c =
       search rules,
       search rules,
       search rules,
-      rows_none c.new.result.items c.args.limits c.new-2.result.items c.in_ok-vec.field-0.items c.new.ensures c.new-2.ensures.items marks,
+      rows_none c.new.result.items c.args.limits c.new-2.result c.in_ok-vec.field-0.items c.new.ensures c.new-2.ensures marks,
       events_none c.new.result.items c.in_ok-new.field-0.events c.new.ensures (ap (λ (l : Lives). l.events) c.in_ok-new.ensures.new),
     )

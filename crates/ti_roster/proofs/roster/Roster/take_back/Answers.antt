@@ -19,13 +19,13 @@ use Rattle.ti_roster.proofs.roster.Roster.take_back.Goals.{After-index, After-ha
 use Rattle.ti_roster.proofs.roster.Roster.take_back.Goals as goal
 
 -- the row of the desk's thread
-found : (c : After-index) → Found c.args.self.now c.self.inside.rows.items c.args.desk c.in-Some.i c.index.result.now
+found : (c : After-index) → Found c.args.self.now c.self.inside.rows c.args.desk c.in-Some.i c.index.result.now
 found c =
-    let k : AreRows c.args.self.now.items c.args.self.now.limits c.self.inside.rows.items c.self.inside.marks.items = subst (λ (x : Log). AreRows x.items x.limits c.self.inside.rows.items c.self.inside.marks.items) c.self.view_is c.self.invariant.3 in
-    found_row c.args.self.now c.self.inside.rows.items c.self.inside.marks.items c.args.desk c.thread-thread.result c.in-Some.i c.index.result.now k c.in-Some.ensures.there c.thread-thread.ensures c.index.ensures
+    let k : AreRows c.args.self.now.items c.args.self.now.limits c.self.inside.rows c.self.inside.marks.items = subst (λ (x : Log). AreRows x.items x.limits c.self.inside.rows c.self.inside.marks.items) c.self.view_is c.self.invariant.3 in
+    found_row c.args.self.now c.self.inside.rows c.self.inside.marks.items c.args.desk c.thread-thread.result c.in-Some.i c.index.result.now k c.in-Some.ensures.there c.thread-thread.ensures c.index.ensures
 
 -- whether the row misses the desk
-misses : (c : After-has) → Found c.args.self.now c.self.inside.rows.items c.args.desk c.in-Some.i c.index.result.now → (c.has.result ≡ false → is_missed c.args.self.now c.args.desk ≡ true) × (c.has.result ≡ true → is_missed c.args.self.now c.args.desk ≡ false)
+misses : (c : After-has) → Found c.args.self.now c.self.inside.rows c.args.desk c.in-Some.i c.index.result.now → (c.has.result ≡ false → is_missed c.args.self.now c.args.desk ≡ true) × (c.has.result ≡ true → is_missed c.args.self.now c.args.desk ≡ false)
 misses c f =
     missed_by_row c.args.self.now c.index.result.now c.args.desk c.env-env.result.0 c.has.result (ap (λ (e : EnvNo). e.0) c.env-env.ensures) f.is_row c.requires.place f.number f.alive c.has.ensures
 
@@ -40,9 +40,9 @@ index_mut-requires c =
     omega (arith, f.within)
 
 -- the row that the desk goes into
-same_row : (c : After-index_mut) → Found c.args.self.now c.self.inside.rows.items c.args.desk c.in-Some.i c.index.result.now → c.index_mut.result.now ≡ c.index.result.now
+same_row : (c : After-index_mut) → Found c.args.self.now c.self.inside.rows c.args.desk c.in-Some.i c.index.result.now → c.index_mut.result.now ≡ c.index.result.now
 same_row c f =
-    is_same _ _ (sym (read_at c.self.inside.rows.items c.in-Some.i c.index_mut.result.now f.within c.index_mut.ensures.value) ∙ f.here)
+    is_same _ _ (sym (read_at c.self.inside.rows c.in-Some.i c.index_mut.result.now f.within c.index_mut.ensures.value) ∙ f.here)
 
 pub put-requires : goal.put-requires
 put-requires c =
@@ -54,7 +54,7 @@ pub invariant_of-self : goal.invariant_of-self
 invariant_of-self c =
     let log = c.self.inside.log.items in
     let limits = c.self.inside.limits in
-    let rows = c.self.inside.rows.items in
+    let rows = c.self.inside.rows in
     let marks = c.self.inside.marks.items in
     let e : EnvNo = c.env-env.result in
     let s : Log = c.args.self.now in

@@ -7,7 +7,7 @@ use Rattle.ti_roster.proofs.roster.Roster.threads.Goals as goal
 
 pub returns-clause-threads : goal.returns-clause-threads
 returns-clause-threads c =
-    let rows : List Row = c.self.inside.rows.items in
+    let rows : List Row = c.self.inside.rows in
     c.loop-i.invariant.0
     ∙ (ap (λ (l : List Row). map (λ (r : Row). r.newcomer.thread) l) (take_past rows c.loop-i.i (omega (arith, c.loop-i-test.false, c.len-i-end.ensures)))
     ∙ (map_map (λ (n : Newcomer). n.thread) (λ (r : Row). r.newcomer) rows

@@ -6,6 +6,6 @@ use Rattle.ti_service.proofs.agent_calls.EnvMembershipServiceCalls.get_thread_in
 pub invariant_of-self : goal.invariant_of-self
 invariant_of-self g c =
     let at = c.self.inside in
-    let s : Environment = record { env = at.env; state = at.state; desks = at.desks.items } in
+    let s : Environment = record { env = at.env; state = at.state; desks = at.desks } in
     let held = c.get_thread_info in
     (c.self.invariant.0, held_home at.home.service held.new.self s at.home.waiting.items held.new.self.view.seen [] held.ensures.hold c.self.invariant.1)

@@ -12,21 +12,21 @@ use Rattle.ti_service.proofs.agent_calls.EnvMembershipServiceCalls.let_go.Goals 
 pub invariant_of-self : goal.invariant_of-self
 invariant_of-self g c =
     let at = c.self.inside in
-    let s : Environment = record { env = at.env; state = at.state; desks = at.desks.items } in
+    let s : Environment = record { env = at.env; state = at.state; desks = at.desks } in
     let live = c.is_live in
     (c.self.invariant.0, held_home at.home.service live.new.self s at.home.waiting.items live.new.self.view.seen [] live.ensures.hold c.self.invariant.1)
 
 pub invariant_of-self-else-is_live : goal.invariant_of-self-else-is_live
 invariant_of-self-else-is_live g c =
     let at = c.self.inside in
-    let s : Environment = record { env = at.env; state = at.state; desks = at.desks.items } in
+    let s : Environment = record { env = at.env; state = at.state; desks = at.desks } in
     let live = c.is_live in
     (c.self.invariant.0, held_home at.home.service live.new.self s at.home.waiting.items live.new.self.view.seen [] live.ensures.hold c.self.invariant.1)
 
 pub returns : goal.returns
 returns g c =
     let at = c.self.inside in
-    let s : Environment = record { env = at.env; state = at.state; desks = at.desks.items } in
+    let s : Environment = record { env = at.env; state = at.state; desks = at.desks } in
     let live = c.is_live in
     let none : outstanding s c.args.thread ≡ 0 = omega (arith, c.if-out_at-gt0.false, c.out_at.ensures, ap (λ (e : Environment). outstanding e c.args.thread) (same_env c.self.view_is)) in
     let waits = at.home.waiting.items in

@@ -17,14 +17,14 @@ use Rattle.ti_service.proofs.agent_calls.EnvMembershipServiceCalls.meet.Goals as
 pub invariant_of-self : goal.invariant_of-self
 invariant_of-self g c =
     let at = c.self.inside in
-    let s : Environment = record { env = at.env; state = at.state; desks = at.desks.items } in
+    let s : Environment = record { env = at.env; state = at.state; desks = at.desks } in
     let waits = at.home.waiting.items in
     (c.self.invariant.0, held_home at.home.service c.meet.new.self s waits c.meet.new.self.view.seen [] c.in_err-desks.ensures.unchanged c.self.invariant.1)
 
 pub invariant_of-self-2 : goal.invariant_of-self-2
 invariant_of-self-2 g c =
     let at = c.self.inside in
-    let s : Environment = record { env = at.env; state = at.state; desks = at.desks.items } in
+    let s : Environment = record { env = at.env; state = at.state; desks = at.desks } in
     let waits = at.home.waiting.items in
     let back = c.reverse.new.self.items in
     let o = ours_of at.home.service s waits c.self.invariant.1.0 c.self.invariant.1.1 in (
@@ -39,7 +39,7 @@ returns-in_err-add_waiting-2-clause-kept g c =
     let at = c.self.inside in
     let old : AgentState = state_of c.args.self.now in
     let first : AgentState = state_of c.add_waiting.new.agent in
-    let taken : AgentState = record { service = c.meet.new.self; env = record { env = at.env; state = at.state; desks = at.desks.items }; waiting = c.reverse.new.self.items; events = at.home.events } in
+    let taken : AgentState = record { service = c.meet.new.self; env = record { env = at.env; state = at.state; desks = at.desks }; waiting = c.reverse.new.self.items; events = at.home.events } in
     let last : AgentState = state_of c.add_waiting-2.new.agent in
     let t : TakesDesks first.service.view c.meet.new.self.view c.in_ok-desks.desks.items c.in_ok-desks.next =
     subst (λ (x : Housed Membership). TakesDesks x.home.service.view c.meet.new.self.view c.in_ok-desks.desks.items c.in_ok-desks.next) c.self.view_is c.in_ok-desks.ensures.taken in
@@ -54,7 +54,7 @@ returns-clause-met g c =
     let at = c.self.inside in
     let old : AgentState = state_of c.args.self.now in
     let first : AgentState = state_of c.add_waiting.new.agent in
-    let taken : AgentState = record { service = c.meet.new.self; env = record { env = at.env; state = at.state; desks = at.desks.items }; waiting = c.reverse.new.self.items; events = at.home.events } in
+    let taken : AgentState = record { service = c.meet.new.self; env = record { env = at.env; state = at.state; desks = at.desks }; waiting = c.reverse.new.self.items; events = at.home.events } in
     let new : AgentState = state_of c.add_waiting-2.new.agent in
     let t : TakesDesks first.service.view c.meet.new.self.view c.in_ok-desks.desks.items c.in_ok-desks.next =
     subst (λ (x : Housed Membership). TakesDesks x.home.service.view c.meet.new.self.view c.in_ok-desks.desks.items c.in_ok-desks.next) c.self.view_is c.in_ok-desks.ensures.taken in

@@ -5,6 +5,6 @@ use Rattle.ti_service.proofs.agent_tries.EnvMembershipServiceTries.get_all_threa
 pub invariant_of-self : goal.invariant_of-self
 invariant_of-self c =
     let at = c.self.inside in
-    let s : Environment = record { env = at.env; state = at.state; desks = at.desks.items } in
+    let s : Environment = record { env = at.env; state = at.state; desks = at.desks } in
     let tried = c.get_all_threads_now in
     (c.self.invariant.0, looked_home at.home.service tried.new.self s at.home.waiting.items (held_or_refused at.home.service tried.new.self tried.result tried.ensures.hold tried.ensures.refused) c.self.invariant.1)

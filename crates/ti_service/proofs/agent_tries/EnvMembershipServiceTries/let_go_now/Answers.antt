@@ -13,28 +13,28 @@ use Rattle.ti_service.proofs.agent_tries.EnvMembershipServiceTries.let_go_now.Go
 pub invariant_of-self : goal.invariant_of-self
 invariant_of-self c =
     let at = c.self.inside in
-    let s : Environment = record { env = at.env; state = at.state; desks = at.desks.items } in
+    let s : Environment = record { env = at.env; state = at.state; desks = at.desks } in
     let live = c.is_live_now in
     (c.self.invariant.0, looked_home at.home.service live.new.self s at.home.waiting.items (held_or_busy at.home.service live.new.self live.result live.ensures.hold live.ensures.busy) c.self.invariant.1)
 
 pub invariant_of-self-then-there : goal.invariant_of-self-then-there
 invariant_of-self-then-there c =
     let at = c.self.inside in
-    let s : Environment = record { env = at.env; state = at.state; desks = at.desks.items } in
+    let s : Environment = record { env = at.env; state = at.state; desks = at.desks } in
     let live = c.is_live_now in
     (c.self.invariant.0, looked_home at.home.service live.new.self s at.home.waiting.items (held_or_busy at.home.service live.new.self live.result live.ensures.hold live.ensures.busy) c.self.invariant.1)
 
 pub invariant_of-self-2 : goal.invariant_of-self-2
 invariant_of-self-2 c =
     let at = c.self.inside in
-    let s : Environment = record { env = at.env; state = at.state; desks = at.desks.items } in
+    let s : Environment = record { env = at.env; state = at.state; desks = at.desks } in
     let live = c.is_live_now in
     (c.self.invariant.0, looked_home at.home.service live.new.self s at.home.waiting.items (held_or_busy at.home.service live.new.self live.result live.ensures.hold live.ensures.busy) c.self.invariant.1)
 
 pub returns-clause-steps : goal.returns-clause-steps
 returns-clause-steps c =
     let at = c.self.inside in
-    let s : Environment = record { env = at.env; state = at.state; desks = at.desks.items } in
+    let s : Environment = record { env = at.env; state = at.state; desks = at.desks } in
     let live = c.is_live_now in
     let none : outstanding s c.args.thread ≡ 0 = omega (arith, c.if-out_at-gt0.false, c.out_at.ensures, ap (λ (e : Environment). outstanding e c.args.thread) (same_env c.self.view_is)) in
     let waits = at.home.waiting.items in

@@ -19,14 +19,14 @@ use Rattle.ti_service.proofs.agent_tries.EnvMembershipServiceTries.meet_now.Goal
 pub invariant_of-self : goal.invariant_of-self
 invariant_of-self c =
     let at = c.self.inside in
-    let s : Environment = record { env = at.env; state = at.state; desks = at.desks.items } in
+    let s : Environment = record { env = at.env; state = at.state; desks = at.desks } in
     let waits = at.home.waiting.items in
     (c.self.invariant.0, looked_home at.home.service c.meet_now.new.self s waits (either_way c.in_err-desks.ensures.refused) c.self.invariant.1)
 
 pub invariant_of-self-2 : goal.invariant_of-self-2
 invariant_of-self-2 c =
     let at = c.self.inside in
-    let s : Environment = record { env = at.env; state = at.state; desks = at.desks.items } in
+    let s : Environment = record { env = at.env; state = at.state; desks = at.desks } in
     let waits = at.home.waiting.items in
     let back = c.reverse.new.self.items in
     let o = ours_of at.home.service s waits c.self.invariant.1.0 c.self.invariant.1.1 in (
@@ -41,7 +41,7 @@ returns-in_err-add_waiting-2-clause-kept c =
     let at = c.self.inside in
     let old : AgentState = state_of c.args.self.now in
     let first : AgentState = state_of c.add_waiting.new.agent in
-    let taken : AgentState = record { service = c.meet_now.new.self; env = record { env = at.env; state = at.state; desks = at.desks.items }; waiting = c.reverse.new.self.items; events = at.home.events } in
+    let taken : AgentState = record { service = c.meet_now.new.self; env = record { env = at.env; state = at.state; desks = at.desks }; waiting = c.reverse.new.self.items; events = at.home.events } in
     let last : AgentState = state_of c.add_waiting-2.new.agent in
     let t : TakesDesks first.service.view c.meet_now.new.self.view c.in_ok-desks.desks.items c.in_ok-desks.next =
     subst (λ (x : Housed Membership). TakesDesks x.home.service.view c.meet_now.new.self.view c.in_ok-desks.desks.items c.in_ok-desks.next) c.self.view_is c.in_ok-desks.ensures.taken in
@@ -56,7 +56,7 @@ returns-clause-met c =
     let at = c.self.inside in
     let old : AgentState = state_of c.args.self.now in
     let first : AgentState = state_of c.add_waiting.new.agent in
-    let taken : AgentState = record { service = c.meet_now.new.self; env = record { env = at.env; state = at.state; desks = at.desks.items }; waiting = c.reverse.new.self.items; events = at.home.events } in
+    let taken : AgentState = record { service = c.meet_now.new.self; env = record { env = at.env; state = at.state; desks = at.desks }; waiting = c.reverse.new.self.items; events = at.home.events } in
     let new : AgentState = state_of c.add_waiting-2.new.agent in
     let t : TakesDesks first.service.view c.meet_now.new.self.view c.in_ok-desks.desks.items c.in_ok-desks.next =
     subst (λ (x : Housed Membership). TakesDesks x.home.service.view c.meet_now.new.self.view c.in_ok-desks.desks.items c.in_ok-desks.next) c.self.view_is c.in_ok-desks.ensures.taken in

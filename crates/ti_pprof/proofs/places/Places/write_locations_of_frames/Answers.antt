@@ -3,7 +3,7 @@ use Rattle.std.proofs.lemmas.List.{get_or-map}
 use Rattle.ti_pprof.specs.Profile.{location_of, node_location}
 use Rattle.ti_pprof.specs.declared.stacks.Node.{Node}
 use Rattle.ti_pprof.proofs.FrameLaws.{locations-step, locations-end}
-use Rattle.ti_pprof.proofs.places.Places.locations_of_frames.Goals as goal
+use Rattle.ti_pprof.proofs.places.Places.write_locations_of_frames.Goals as goal
 
 pub loop-number-preserved : goal.loop-number-preserved
 loop-number-preserved c =

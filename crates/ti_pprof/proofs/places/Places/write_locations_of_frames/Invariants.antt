@@ -1,7 +1,7 @@
 use Rattle.std.specs.Prelude.{◌≡◌, ◌≤◌, ◌++◌, map, length}
 use Rattle.ti_pprof.specs.Profile.{location_of}
 use Rattle.ti_pprof.specs.Stacks.{stack_at, stacks_of}
-use Rattle.ti_pprof.proofs.places.Places.locations_of_frames.Given as goal
+use Rattle.ti_pprof.proofs.places.Places.write_locations_of_frames.Given as goal
 
 abbrev pub invariant-loop-number : goal.invariant-loop-number
 invariant-loop-number l = record {

@@ -1,0 +1,11 @@
+/* cebdyraq_peer.h: who is at the other end of a socket. It is not installed. */
+#ifndef CEBDYRAQ_PEER_H
+#define CEBDYRAQ_PEER_H
+
+#include <stdbool.h>
+
+/* Whether the peer of a connection on this machine is a process of root's, or of this process's effective user. Where the system
+ * does not tell, it is not. */
+bool is_own_peer(int socket);
+
+#endif

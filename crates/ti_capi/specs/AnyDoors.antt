@@ -1,0 +1,156 @@
+-- Doors of either kind, as C uses them.
+use Rattle.std.specs.Prelude.{ℕ, ◌≡◌, ◌≤◌, ◌==◌, ◌/◌, ⊤, Bool, true, false, List, is_some, if◌then◌else◌, Option, None, Some, Result, Ok, Err}
+use Rattle.ti_http.specs.Talks.{Talk, written_from}
+use Rattle.ti_monitor.specs.declared.door_error.DoorError.{DoorError}
+use Rattle.ti_monitor.specs.declared.door_error.DoorError.TheVariants.{NoConnection, OutOfMemory}
+use Rattle.ti_monitor.specs.declared.door_seat.Todo.{Todo}
+use Rattle.ti_monitor.specs.declared.door_seat.Todo.TheVariants.{Close, Wait, Write}
+use Rattle.ti_monitor.specs.Doors as http
+use Rattle.ti_monitor.specs.Seats as http_seats
+use Rattle.ti_jdwp.specs.Lines.{with_written}
+use Rattle.ti_jdwp.specs.Talks as debugger_talks
+use Rattle.ti_debugger.specs.declared.debugger.Debugger.{Debugger}
+use Rattle.ti_debugger.specs.declared.debugger_error.DebuggerError.{DebuggerError}
+use Rattle.ti_debugger.specs.declared.debugger_error.DebuggerError.TheVariants as debugger_error
+use Rattle.ti_debugger.specs.declared.seat.Todo.{Todo as DebuggerTodo}
+use Rattle.ti_debugger.specs.declared.seat.Todo.TheVariants as debugger_todo
+use Rattle.ti_debugger.specs.Crowds.{NoneHeld}
+use Rattle.ti_debugger.specs.Desks.{Works}
+use Rattle.ti_debugger.specs.Told.{ToldBy}
+use Rattle.ti_service.specs.Classes.{classes_of}
+use Rattle.ti_debugger.specs.Runs as debugger_runs
+use Rattle.ti_debugger.specs.Seats as debugger_seats
+use Rattle.ti_debugger.specs.Sessions as sessions
+use Rattle.ti_capi.specs.declared.any_door.AnyDoor.{AnyDoor}
+use Rattle.ti_capi.specs.declared.any_door.AnyDoor.TheVariants as any
+
+-- the milliseconds of a time in nanoseconds
+abbrev pub millis : ℕ → ℕ
+millis now = now / 1000000
+
+-- the only number of a debugger's connection
+abbrev pub only : ℕ → Result ⊤ DoorError
+only connection = if connection == 0 then Ok tt else Err NoConnection
+
+abbrev pub at_door : DebuggerError → DoorError
+at_door debugger_error.OutOfMemory = OutOfMemory
+at_door debugger_error.NoDebugger = NoConnection
+
+abbrev pub todo_at_door : DebuggerTodo → Todo
+todo_at_door debugger_todo.Wait = Wait
+todo_at_door debugger_todo.Write = Write
+todo_at_door debugger_todo.Close = Close
+
+-- the session of a debugger's connection of this number
+abbrev pub session_at : ℕ → Debugger → Option debugger_talks.Talk
+session_at connection d = if connection == 0 then sessions.session_in d.seat else None
+
+abbrev pub is_there : ℕ → AnyDoor → Bool
+is_there connection (any.Http d) = is_some (http.talk_at d connection)
+is_there connection (any.Debugger d) = is_some (session_at connection d)
+
+abbrev pub room_at : ℕ → AnyDoor → ℕ
+room_at connection (any.Http d) = http.room_of (http.talk_at d connection)
+room_at connection (any.Debugger d) = sessions.room_of (session_at connection d)
+
+abbrev pub output_at : ℕ → AnyDoor → List ℕ
+output_at connection (any.Http d) = http.output_of (http.talk_at d connection)
+output_at connection (any.Debugger d) = sessions.output_of (session_at connection d)
+
+abbrev pub resumptions : AnyDoor → ℕ
+resumptions (any.Http d) = 0
+resumptions (any.Debugger d) = d.desk.resumptions
+
+-- a connection of this number is taken in at this time
+abbrev pub Opens : ℕ → ℕ → AnyDoor → AnyDoor → Type 0
+Opens now c (any.Http d) (any.Http n) = http.Opens d n c (millis now)
+Opens now c (any.Debugger d) (any.Debugger n) = (c ≡ 0) × (d.seat ≡ None) × (sessions.session_in n.seat ≡ Some debugger_talks.opened) × (n.desk ≡ d.desk)
+Opens now c _ _ = ⊥
+
+-- there is no room for one more connection
+abbrev pub IsFull : AnyDoor → AnyDoor → Type 0
+IsFull (any.Http d) (any.Http n) = http.AllRun d n
+IsFull (any.Debugger d) (any.Debugger n) = (is_some d.seat ≡ true) × (n ≡ d)
+IsFull _ _ = ⊥
+
+-- a session goes on by calls, and none begins or ends
+abbrev pub SessionRuns : Option debugger_talks.Talk → Option debugger_talks.Talk → Type 0
+SessionRuns None None = ⊤
+SessionRuns None (Some s) = ⊥
+SessionRuns (Some s) None = ⊥
+SessionRuns (Some s) (Some n) = debugger_runs.RunsTo s n
+
+-- each connection goes on by calls, and none opens or closes
+abbrev pub AllRun : AnyDoor → AnyDoor → Type 0
+AllRun (any.Http d) (any.Http n) = http.AllRun d n
+AllRun (any.Debugger d) (any.Debugger n) = SessionRuns (sessions.session_in d.seat) (sessions.session_in n.seat)
+AllRun _ _ = ⊥
+
+-- the connection goes on by calls, and this is to be done with it
+abbrev pub Goes : ℕ → Todo → AnyDoor → AnyDoor → Type 0
+Goes connection todo (any.Http d) (any.Http n) = http.Changes d n connection (λ t n. http_seats.RunsTo t n × http_seats.Says n todo)
+Goes connection todo (any.Debugger d) (any.Debugger n) =
+    Works d.desk n.desk × (t : DebuggerTodo) × (todo ≡ todo_at_door t) × sessions.Changes (session_at connection d) (session_at connection n) (λ s n. debugger_runs.RunsTo s n × debugger_seats.Says n t)
+Goes connection todo _ _ = ⊥
+
+-- there is no session, or no memory
+abbrev pub RefusesSession : Option debugger_talks.Talk → DoorError → Type 0
+RefusesSession None e = e ≡ NoConnection
+RefusesSession (Some s) e = e ≡ OutOfMemory
+
+-- there is no connection of this number, or no memory
+abbrev pub Refuses : ℕ → AnyDoor → DoorError → Type 0
+Refuses connection (any.Http d) e = http.Refuses (http.talk_at d connection) e
+Refuses connection (any.Debugger d) e = RefusesSession (session_at connection d) e
+
+-- there is no connection of this number, and nothing changes
+abbrev pub IsUnknown : ℕ → AnyDoor → AnyDoor → DoorError → Type 0
+IsUnknown connection d n e = (e ≡ NoConnection) × (is_there connection d ≡ false) × (n ≡ d)
+
+-- the connections are as before
+abbrev pub IsAsBefore : AnyDoor → AnyDoor → Type 0
+IsAsBefore (any.Http d) (any.Http n) = n ≡ d
+IsAsBefore (any.Debugger d) (any.Debugger n) = sessions.session_in n.seat ≡ sessions.session_in d.seat
+IsAsBefore _ _ = ⊥
+
+-- the connection takes so many of these bytes, as many as it has room for
+abbrev pub Feeds : ℕ → List ℕ → ℕ → ℕ → AnyDoor → AnyDoor → Type 0
+Feeds connection bytes now count (any.Http d) (any.Http n) = http.Changes d n connection (http.Feeds bytes count (millis now))
+Feeds connection bytes now count (any.Debugger d) (any.Debugger n) = (n.desk ≡ d.desk) × sessions.Changes (session_at connection d) (session_at connection n) (λ s n. sessions.Feeds s n bytes count)
+Feeds connection bytes now count _ _ = ⊥
+
+-- the peer of the connection sends no more
+abbrev pub Ends : ℕ → AnyDoor → AnyDoor → Type 0
+Ends connection (any.Http d) (any.Http n) = http.Changes d n connection (λ t n. http_seats.RunsTo t n × (n.ended ≡ true))
+Ends connection (any.Debugger d) (any.Debugger n) = (n.desk ≡ d.desk) × sessions.Changes (session_at connection d) (session_at connection n) (λ s n. n ≡ record s { ended = true })
+Ends connection _ _ = ⊥
+
+-- the socket of the connection took so many bytes
+abbrev pub Writes : ℕ → ℕ → ℕ → AnyDoor → AnyDoor → Type 0
+Writes connection count now (any.Http d) (any.Http n) = http.Changes d n connection (λ t n. n ≡ written_from t count (millis now))
+Writes connection count now (any.Debugger d) (any.Debugger n) = (n.desk ≡ d.desk) × sessions.Changes (session_at connection d) (session_at connection n) (λ s n. n ≡ record s { bytes = with_written s.bytes count })
+Writes connection count now _ _ = ⊥
+
+-- The connection is gone. What a debugger suspended is resumed, or will be
+abbrev pub Disconnects : ℕ → AnyDoor → AnyDoor → Type 0
+Disconnects connection (any.Http d) (any.Http n) = (is_some (http.talk_at d connection) ≡ true) × (n ≡ http.with_talk d connection None)
+Disconnects connection (any.Debugger d) (any.Debugger n) = (is_some (session_at connection d) ≡ true) × (n.seat ≡ None) × NoneHeld n.desk.crowd.list.items × Works d.desk n.desk
+Disconnects connection _ _ = ⊥
+
+-- Each connection goes on, and none opens or closes. A debugger's session is told of events alone
+abbrev pub Ticks : AnyDoor → AnyDoor → Type 0
+Ticks (any.Http d) (any.Http n) = http.AllRun d n
+Ticks (any.Debugger d) (any.Debugger n) =
+    ToldBy (classes_of n.desk.agent) d.desk.next_class n.desk.next_class (sessions.session_in d.seat) (sessions.session_in n.seat) × (d.desk.resumptions ≤ n.desk.resumptions)
+Ticks _ _ = ⊥
+
+-- A door for debuggers ends only if no debugger is connected, and no suspension is out or to be undone
+abbrev pub MayEnd : AnyDoor → Type 0
+MayEnd (any.Http d) = ⊤
+MayEnd (any.Debugger d) = sessions.is_idle d.seat d.desk.crowd.list.items ≡ true
+
+-- a door that does not end is as it was, but for its environment, which may have left some of its threads
+abbrev pub StaysAs : AnyDoor → AnyDoor → Type 0
+StaysAs (any.Http d) (any.Http n) = n ≡ d
+StaysAs (any.Debugger d) (any.Debugger n) = n ≡ record d { desk = record d.desk { agent = n.desk.agent } }
+StaysAs _ _ = ⊥

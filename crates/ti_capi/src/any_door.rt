@@ -1,0 +1,240 @@
+//! A door of either kind: for requests of HTTP, or for debuggers.
+
+use ti_debugger::{Debugger, DebuggerError, Todo as DebuggerTodo};
+use ti_monitor::{ConnNo, Door, DoorError, Todo};
+use ti_service::Service;
+use ti_types::TiError;
+
+/// A door. That for debuggers has one connection at most, and its number is 0.
+#[derive(Drop)]
+pub enum AnyDoor {
+    Http(Door),
+    Debugger(Debugger),
+}
+
+/// Whether there may be a connection of this number at a door for debuggers.
+fn only(connection: u32) -> Result<(), DoorError>
+    ensures { result ≡ only connection }
+{
+    if connection == 0 {
+        Ok(())
+    } else {
+        Err(DoorError::NoConnection)
+    }
+}
+
+/// The same error, by the other door's name.
+fn at_door(error: DebuggerError) -> DoorError
+    ensures { result ≡ at_door error }
+{
+    match error {
+        DebuggerError::OutOfMemory => DoorError::OutOfMemory,
+        DebuggerError::NoDebugger => DoorError::NoConnection,
+    }
+}
+
+/// What is to be done, by the other door's name.
+fn todo_at_door(todo: DebuggerTodo) -> Todo
+    ensures { result ≡ todo_at_door todo }
+{
+    match todo {
+        DebuggerTodo::Wait => Todo::Wait,
+        DebuggerTodo::Write => Todo::Write,
+        DebuggerTodo::Close => Todo::Close,
+    }
+}
+
+impl AnyDoor {
+    /// Takes a new connection in, and gives its number. `None` if all are in use, or there is no memory.
+    pub(crate) fn connect(&mut self, now: u64) -> Option<u32>
+        ensures opened { IfSome result (λ c. Opens now c self.old self.new) }
+        ensures full { IfNone result (IsFull self.old self.new) }
+    {
+        match self {
+            AnyDoor::Http(door) => Some(door.open(now)?.0),
+            AnyDoor::Debugger(debugger) => { if debugger.connect(now) { Some(0) } else { None } }
+        }
+    }
+
+    /// What is to be done with a connection. `unix` is the time in nanoseconds since 1970, or 0.
+    pub(crate) fn next(&mut self, connection: u32, now: u64, unix: u64) -> Result<Todo, DoorError>
+        ensures told { IfOk result (λ todo. Goes connection todo self.old self.new) }
+        ensures refused { IfErr result (Refuses connection self.old) }
+        ensures run { OnErr result (AllRun self.old self.new) }
+    {
+        match self {
+            AnyDoor::Http(door) => door.next(ConnNo(connection), now, unix),
+            AnyDoor::Debugger(debugger) => {
+                only(connection)?;
+                match debugger.next(now) {
+                    Ok(todo) => Ok(todo_at_door(todo)),
+                    Err(error) => Err(at_door(error)),
+                }
+            }
+        }
+    }
+
+    /// How many bytes `feed` takes now. 0 if there is no such connection.
+    pub(crate) fn room(&self, connection: u32) -> usize
+        ensures { result ≡ room_at connection self.now }
+    {
+        match self {
+            AnyDoor::Http(door) => door.room(ConnNo(connection)),
+            AnyDoor::Debugger(debugger) => { if connection == 0 { debugger.room() } else { 0 } }
+        }
+    }
+
+    /// Takes bytes that a socket gave, as many as there is room for. It gives their number.
+    pub(crate) fn feed(
+        &mut self,
+        connection: u32,
+        bytes: &[u8],
+        now: u64,
+    ) -> Result<usize, DoorError>
+        ensures fed { IfOk result (λ n. Feeds connection bytes.now now n self.old self.new) }
+        ensures refused { IfErr result (Refuses connection self.old) }
+        ensures kept { OnErr result (IsAsBefore self.old self.new) }
+    {
+        match self {
+            AnyDoor::Http(door) => door.feed(ConnNo(connection), bytes, now),
+            AnyDoor::Debugger(debugger) => {
+                only(connection)?;
+                match debugger.feed(bytes, now) {
+                    Ok(count) => Ok(count),
+                    Err(error) => Err(at_door(error)),
+                }
+            }
+        }
+    }
+
+    /// The peer sends no more.
+    pub(crate) fn end(&mut self, connection: u32, now: u64) -> Result<(), DoorError>
+        ensures ended { OnOk result (Ends connection self.old self.new) }
+        ensures refused { IfErr result (IsUnknown connection self.old self.new) }
+    {
+        match self {
+            AnyDoor::Http(door) => door.end(ConnNo(connection), now),
+            AnyDoor::Debugger(debugger) => {
+                only(connection)?;
+                match debugger.end(now) {
+                    Ok(()) => Ok(()),
+                    Err(error) => Err(at_door(error)),
+                }
+            }
+        }
+    }
+
+    /// Whether there is a connection of this number.
+    pub(crate) fn is_open(&self, connection: u32) -> bool
+        ensures { result ≡ is_there connection self.now }
+    {
+        match self {
+            AnyDoor::Http(door) => door.is_open(ConnNo(connection)),
+            AnyDoor::Debugger(debugger) => connection == 0 && debugger.is_connected(),
+        }
+    }
+
+    /// The bytes that are to be written. None if there is no such connection.
+    pub(crate) fn output(&self, connection: u32) -> &[u8]
+        ensures { result.now ≡ output_at connection self.now }
+    {
+        match self {
+            AnyDoor::Http(door) => door.output(ConnNo(connection)),
+            AnyDoor::Debugger(debugger) => {
+                if connection == 0 {
+                    debugger.output()
+                } else {
+                    &[]
+                }
+            }
+        }
+    }
+
+    /// The socket took so many bytes.
+    pub(crate) fn written(
+        &mut self,
+        connection: u32,
+        count: usize,
+        now: u64,
+    ) -> Result<(), DoorError>
+        ensures written { OnOk result (Writes connection count now self.old self.new) }
+        ensures refused { IfErr result (IsUnknown connection self.old self.new) }
+    {
+        match self {
+            AnyDoor::Http(door) => door.written(ConnNo(connection), count, now),
+            AnyDoor::Debugger(debugger) => {
+                only(connection)?;
+                match debugger.written(count) {
+                    Ok(()) => Ok(()),
+                    Err(error) => Err(at_door(error)),
+                }
+            }
+        }
+    }
+
+    /// The socket is gone.
+    pub(crate) fn disconnect(&mut self, connection: u32) -> Result<(), DoorError>
+        ensures gone { OnOk result (Disconnects connection self.old self.new) }
+        ensures refused { IfErr result (IsUnknown connection self.old self.new) }
+    {
+        match self {
+            AnyDoor::Http(door) => door.closed(ConnNo(connection)),
+            AnyDoor::Debugger(debugger) => {
+                only(connection)?;
+                if !debugger.is_connected() {
+                    return Err(DoorError::NoConnection);
+                }
+                debugger.closed();
+                Ok(())
+            }
+        }
+    }
+
+    /// Does what is due.
+    pub(crate) fn tick(&mut self, now: u64)
+        ensures { Ticks self.old self.new }
+    {
+        match self {
+            AnyDoor::Http(door) => door.tick(now),
+            AnyDoor::Debugger(debugger) => debugger.tick(now),
+        }
+    }
+
+    /// When `tick` has something to do next.
+    pub(crate) fn deadline(&self) -> u64 {
+        match self {
+            AnyDoor::Http(door) => door.deadline(),
+            AnyDoor::Debugger(debugger) => debugger.deadline(),
+        }
+    }
+
+    /// How many times it has resumed a thread.
+    pub(crate) fn resumptions(&self) -> u64
+        ensures { result ≡ resumptions self.now }
+    {
+        match self {
+            AnyDoor::Http(_) => 0,
+            AnyDoor::Debugger(debugger) => debugger.resumptions(),
+        }
+    }
+
+    /// Disposes of the environment. With an error the door comes back.
+    pub(crate) fn finish(self) -> Result<Service, (TiError, AnyDoor)>
+        ensures done { OnOk result (MayEnd self) }
+        ensures stays { IfErr result (λ p. StaysAs self p.1) }
+    {
+        match self {
+            AnyDoor::Http(door) => match door.finish() {
+                Ok(service) => Ok(service),
+                Err((error, door)) => Err((error, AnyDoor::Http(door))),
+            },
+            AnyDoor::Debugger(debugger) => match debugger.finish() {
+                Ok(service) => Ok(service),
+                Err((error, debugger)) => Err((error, AnyDoor::Debugger(debugger))),
+            },
+        }
+    }
+}
+
+ghost use Rattle.std.specs.Prelude.{◌≡◌, IfErr, IfNone, IfOk, IfSome, OnErr, OnOk};
+ghost use Rattle.ti_capi.specs.AnyDoors.{AllRun, Disconnects, Ends, Feeds, Goes, IsAsBefore, IsFull, IsUnknown, MayEnd, Opens, Refuses, StaysAs, Ticks, Writes, at_door, is_there, only, output_at, resumptions, room_at, todo_at_door};

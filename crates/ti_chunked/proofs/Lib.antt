@@ -1,0 +1,3 @@
+pub mod Lowering
+pub mod Cutting
+pub mod Pieces

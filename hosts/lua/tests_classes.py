@@ -1,0 +1,136 @@
+"""The classes of scripts: which functions they have, how they are named, and when there is a new one."""
+import contextlib
+import pathlib
+import time
+
+from checks import SLEEPER, check, script, served
+from jdwp import PATIENCE
+from tests_attach import attach
+
+# Functions by all forms that name one, and below them the names in the order of the source.
+SHAPES = """
+local M = {}
+function M.advance() end
+function M:turn() end
+function everywhere() end
+local function pull() end
+local first, second = function() end, function() end
+local later
+later = function() end
+local function outer() later = function() end return function() end end
+local t = { field = function() end, ["a key"] = function() end, function() end }
+t[#t + 1] = function() end
+M.called = (function() return function() end end)()
+"""
+NAMES = ["main", "advance", "turn", "everywhere", "pull", "first", "second", "later", "outer", "later", "function", "field",
+         "a key", "function", "function", "function", "function"]
+# More constants than one byte counts, so that the names of fields are no part of the instructions.
+MANY = "".join(f"K = 'constant {n}'\n" for n in range(300)) + """
+local M, key = {}, "of a variable"
+function global() end
+function M.field() end
+M[key] = function() end
+"""
+MANY_NAMES = ["main", "global", "field", "function"]
+
+
+class Debugger:
+    """A debugger at scripts that run until they are told to stop."""
+
+    def __init__(self, wire):
+        self.wire = wire
+
+    def classes(self, signature, count=1):
+        """The ids of the classes of this signature, once there are so many."""
+        end, found = time.monotonic() + PATIENCE, []
+        while len(found) < count and time.monotonic() < end:
+            found = self.wire.classes().get(signature, [])
+        return found
+
+    def names(self, signature, count=1):
+        """The names of each such class's methods, once there are so many classes."""
+        return [list(self.wire.methods(class_).values()) for class_ in self.classes(signature, count)]
+
+    def stack(self, name, newest):
+        """The stack of a thread as soon as this is its newest function."""
+        end, thread, stack = time.monotonic() + PATIENCE, self.wire.threads(1)[name], []
+        while stack[:1] != [newest] and time.monotonic() < end:
+            stack = self.wire.look(thread)
+        return stack
+
+
+@contextlib.contextmanager
+def debugged(folder, *scripts):
+    """A debugger at these scripts of the folder, which is the current one."""
+    with served(folder, "run", "--debug", "127.0.0.1:0", *scripts, where=folder) as (_, line), attach(line) as wire:
+        yield Debugger(wire)
+
+
+def test_classes_have_all_functions(folder):
+    script(folder, "shapes.lua", SHAPES + SLEEPER)
+    script(folder, "many.lua", MANY + SLEEPER)
+    with debugged(folder, "shapes.lua", "many.lua") as debugger:
+        check("functions are named by the source", debugger.names("Lshapes;") == [NAMES], debugger.names("Lshapes;"))
+        check("also in a chunk with many constants", debugger.names("Lmany;") == [MANY_NAMES], debugger.names("Lmany;"))
+        check("the statement is a chunk too", debugger.names("L_command_line_;") == [["main"]])
+
+
+def test_classes_of_what_is_loaded(folder):
+    (pathlib.Path(folder) / "n-body").mkdir()
+    script(folder, "n-body/2d.lua", "local M = {} function M.move() end return M")
+    script(folder, "done.lua", "local function did() end")
+    script(folder, "main.lua", """
+        package.path = "./?.lua"
+        require("n-body.2d") dofile("done.lua") assert(loadfile("./done.lua"))
+        load("local function not_found() end") load("local function named() end", "@lib/named.lua")
+    """ + SLEEPER)
+    with debugged(folder, "main.lua") as debugger:
+        names = debugger.names("Ln_body/_2d;")
+        check("a module", names == [["main", "move"]], names)
+        names = debugger.names("Llib/named;")
+        check("a chunk that is named as a file", names == [["main", "named"]], names)
+        names = debugger.names("Ldone;", 2)
+        check("files that are loaded, under two names", names == [["main", "did"]] * 2, names)
+        files = [debugger.wire.source_file(class_) for class_ in debugger.classes("Ldone;", 2)]
+        check("the files of classes", files == ["done.lua"] * 2, files)
+        texts = [signature for signature in debugger.wire.classes() if "not_found" in signature]
+        check("a text is no class before it runs", not texts, texts)
+
+
+def test_classes_are_shared_and_never_change(folder):
+    script(folder, "shared.lua", "local function one() end")
+    script(folder, "first.lua", "dofile('shared.lua') dofile('shared.lua')" + SLEEPER)
+    script(folder, "second.lua", """
+        dofile("shared.lua")
+        local file = io.open("changes.lua", "w") file:write("local function old() end") file:close() dofile("changes.lua")
+        file = io.open("changes.lua", "w") file:write("local function new() end") file:close() dofile("changes.lua")
+    """ + SLEEPER)
+    with debugged(folder, "first.lua", "second.lua") as debugger:
+        names = debugger.names("Lchanges;", 2)
+        check("another text is another class", names == [["main", "old"], ["main", "new"]], names)
+        names = debugger.names("Lshared;")
+        check("states that load the same file share its class", names == [["main", "one"]], names)
+
+
+def test_classes_of_functions_on_one_line(folder):
+    """They have the same lines, and are called by other names. The code tells which of them runs."""
+    script(folder, "twins.lua", """
+        local t = { one = function() sleep(0.02) return 1 end, two = function() sleep(0.02) return 2 end }
+        local two, one = t.one, t.two
+        repeat one() local file = io.open(STOP) until file
+    """)
+    with debugged(folder, "twins.lua") as debugger:
+        stack = debugger.stack("twins.lua", "C.sleep.sleep")
+        check("it is the function, not its variable", stack == ["C.sleep.sleep", "twins.two:2", "twins.main:4"], stack)
+
+
+def test_classes_of_stripped_chunks(folder):
+    """Their functions cannot be read, so each is a class of its own, under the name by which it is called."""
+    script(folder, "strip.lua", """
+        local text = "local function rest() repeat sleep(0.02) local file = io.open(STOP) until file end return rest"
+        local stripped = load(string.dump(load(text), true))()
+        stripped()
+    """)
+    with debugged(folder, "strip.lua") as debugger:
+        stack = debugger.stack("strip.lua", "C.sleep.sleep")
+        check("a stripped function", stack == ["C.sleep.sleep", "_.stripped:0", "strip.main:4"], stack)

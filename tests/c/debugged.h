@@ -1,0 +1,34 @@
+/* debugged.h: a runtime of two threads that debuggers may attach to, and a debugger over a socket. */
+#ifndef DEBUGGED_H
+#define DEBUGGED_H
+
+#include "client.h"
+#include "jdwp.h"
+
+extern cq_server debugged;
+
+/* Begins to listen at an address, with both threads started: a worker that polls, and a sleeper. */
+void begin_debugged(const char *address);
+
+/* Ends both threads and the server. */
+void end_debugged(void);
+
+/* Waits until the worker has gone on. It fails after 20 s. */
+void await_worker(void);
+
+/* How often the worker has found, at a poll, that it is called for. */
+unsigned long calls_for_worker(void);
+
+/* A connection that has exchanged the handshake. */
+int attached(void);
+
+/* Whether the handshake is answered there. */
+bool is_greeted(int socket);
+
+/* Asks, and takes the reply: it has this error and data. */
+void asks_at(int socket, uint8_t set, uint8_t command, const char *data, uint16_t error, const char *reply);
+
+/* debug_users.c: who may attach. */
+void takes_own_users(void);
+
+#endif

@@ -1,0 +1,166 @@
+"""Packets that no debugger sends. They harm neither the process nor the next debugger."""
+import struct
+import time
+import unittest
+
+import places
+from jdwp import Closed, Wire, ids
+
+NOT_IMPLEMENTED, INVALID_EVENT_TYPE, ILLEGAL_ARGUMENT = 99, 102, 103
+INVALID_THREAD, INVALID_THREAD_GROUP, THREAD_NOT_SUSPENDED = 10, 11, 13
+INVALID_OBJECT, INVALID_CLASS, INVALID_METHODID, INVALID_INDEX, INVALID_LENGTH = 20, 21, 23, 503, 504
+THREAD_START = 6
+PATIENCE = 60  # seconds
+# What ids count from, by their kinds.
+GROUP, CLASSES, METHODS = 1 << 33, 2 << 33, 3 << 33
+NOTHING = 0, (1 << 32) + 1, 5 << 33, 1 << 63, (1 << 64) - 1  # ids of no kind
+
+
+def event_request(kind, policy, count, modifiers=b""):
+    return struct.pack(">BBi", kind, policy, count) + modifiers
+
+
+class Malformed(unittest.TestCase):
+    def setUp(self):
+        host = places.scripts("waits", "spins")
+        self.host = host.__enter__()
+        self.addCleanup(host.__exit__, None, None, None)
+
+    def tearDown(self):
+        """The scripts run, none of them is suspended, and another debugger may attach."""
+        self.assertTrue(self.host.runs())
+        with self.attached() as wire:
+            threads, end = wire.threads(2), time.monotonic() + PATIENCE
+            self.assertEqual(set(threads), {"waits.lua", "spins.lua"})
+            while any(wire.status(thread)[1] for thread in threads.values()):
+                self.assertLess(time.monotonic(), end, "a thread stays suspended")
+
+    def attached(self):
+        """A debugger, once the one before it has gone."""
+        return attach(self.host.port)
+
+    def errors(self, error, *requests):
+        """Each of the requests gets this error, and the connection stays."""
+        with self.attached() as wire:
+            for command_set, command, data in requests:
+                with self.subTest(set=command_set, command=command, data=data):
+                    self.assertEqual(wire.error_of(command_set, command, data), error)
+            wire.version()
+
+    def closes(self, **more):
+        """A request with this head closes the connection, and resumes what was suspended."""
+        with self.attached() as wire:
+            wire.suspend()
+            wire.send(1, 1, **more)
+            self.assertTrue(wire.is_closed())
+
+    def test_handshake_of_another_protocol(self):
+        for bytes_ in b"GET / HTTP/1.1\r\n\r\n", b"JDWP-handshake", b"\0" * 14:
+            with self.subTest(bytes=bytes_), Wire(self.host.port, handshake=bytes_) as wire:
+                self.assertTrue(wire.is_closed())
+
+    def test_handshake_that_is_cut_off(self):
+        with Wire(self.host.port, handshake=b"JDWP-"):
+            pass
+
+    def test_lengths_below_a_head(self):
+        for length in 0, 1, 10:
+            with self.subTest(length=length):
+                self.closes(length=length)
+
+    def test_lengths_above_the_bound(self):
+        for length in 65537, 1 << 30, (1 << 31) - 1, 1 << 31, (1 << 32) - 1:
+            with self.subTest(length=length):
+                self.closes(length=length)
+
+    def test_packet_that_is_cut_off(self):
+        with self.attached() as wire:
+            wire.suspend()
+            wire.send(11, 1, ids(1)[:5], length=19)
+
+    def test_too_many_and_too_few_bytes(self):
+        self.errors(ILLEGAL_ARGUMENT, (1, 1, b"\0"), (1, 8, b"\0"), (11, 1, ids(1) + b"\0"), (11, 1, ids(1)[:7]),
+                    (11, 1, b""), (1, 2, struct.pack(">i", -1)), (1, 2, struct.pack(">I", 1 << 30) + b"L"),
+                    (2, 15, b"\0" * 9), (11, 6, ids(1) + b"\0" * 7), (15, 1, b""),
+                    (15, 1, event_request(THREAD_START, 0, 0) + b"\0"))
+
+    def test_counts_of_modifiers(self):
+        self.errors(ILLEGAL_ARGUMENT, *((15, 1, event_request(THREAD_START, 0, count))
+                                        for count in (-1, 1, 65, 1 << 30, -1 << 31)))
+
+    def test_modifiers(self):
+        count_of_0, number_14, number_0 = struct.pack(">Bi", 1, 0), b"\x0e", b"\0"
+        self.errors(ILLEGAL_ARGUMENT, *((15, 1, event_request(THREAD_START, 0, 1, modifier))
+                                        for modifier in (count_of_0, number_14, number_0, b"\x01\0\0")))
+
+    def test_policies(self):
+        self.errors(ILLEGAL_ARGUMENT, (15, 1, event_request(THREAD_START, 3, 0)), (15, 1, event_request(THREAD_START, 255, 0)))
+
+    def test_kinds_of_events(self):
+        self.errors(NOT_IMPLEMENTED, (15, 1, event_request(20, 0, 0)), (15, 1, event_request(41, 0, 0)))
+        self.errors(INVALID_EVENT_TYPE, (15, 1, event_request(77, 0, 0)), (15, 1, event_request(0, 0, 0)))
+
+    def test_commands_that_are_not_served(self):
+        self.errors(NOT_IMPLEMENTED, (1, 99, b""), (200, 1, b"abc"), (0, 0, b""), (1, 10, struct.pack(">i", 1)),
+                    (1, 18, b"\0" * 100))
+
+    def test_ids_of_other_kinds(self):
+        for number in NOTHING:
+            self.errors(INVALID_THREAD_GROUP, *((12, command, ids(number)) for command in (1, 2, 3)))
+        for number in NOTHING + (GROUP, CLASSES, METHODS):
+            self.errors(INVALID_OBJECT, (9, 1, ids(number)))
+            self.errors(INVALID_THREAD, *((11, command, ids(number)) for command in (1, 2, 3, 4, 5, 7, 12)),
+                        (11, 6, ids(number) + b"\0" * 8))
+        for number in NOTHING + (1, GROUP, METHODS):
+            self.errors(INVALID_CLASS, *((2, command, ids(number)) for command in (1, 2, 3, 7, 9, 10, 13, 14, 15)),
+                        (3, 1, ids(number)))
+
+    def test_ids_of_what_is_not_there(self):
+        absent = 99999
+        self.errors(INVALID_THREAD, *((11, command, ids(absent)) for command in (1, 2, 4)))
+        self.errors(THREAD_NOT_SUSPENDED, (11, 7, ids(absent)), (11, 6, ids(absent) + b"\0" * 8))
+        self.errors(INVALID_CLASS, *((2, command, ids(CLASSES + absent)) for command in (1, 7, 13, 15)))
+        self.errors(INVALID_METHODID, (6, 1, ids(CLASSES, METHODS + absent)), (6, 1, ids(CLASSES, 1)))
+
+    def test_frames_that_are_not_there(self):
+        """The stack of waits.lua has seven frames once it sleeps."""
+        with self.attached() as wire:
+            thread = wire.threads(2)["waits.lua"]
+            while wire.status(thread)[0] != 2:
+                time.sleep(0.01)
+            wire.suspend(thread)
+            self.assertEqual(len(wire.frames(thread)), 7)
+            for start, length, error in ((7, 1, INVALID_INDEX), (8, -1, INVALID_INDEX), (0, 8, INVALID_LENGTH),
+                                         (6, 2, INVALID_LENGTH)):
+                self.assertEqual(wire.error_of(11, 6, ids(thread) + struct.pack(">ii", start, length)), error)
+
+    def test_reply_of_a_debugger_is_passed_over(self):
+        with self.attached() as wire:
+            wire.send(1, 1, b"whatever", flags=0x80)
+            self.assertIn("cqlua", str(wire.version()))
+
+    def test_second_debugger_is_closed_at_once(self):
+        with self.attached() as wire:
+            with Wire(self.host.port, handshake=b"") as second:
+                self.assertTrue(second.is_closed())
+            self.assertEqual(set(wire.threads(2)), {"waits.lua", "spins.lua"})
+
+    def test_end_while_all_is_suspended(self):
+        """The next debugger finds all resumed."""
+        with self.attached() as wire:
+            wire.suspend()
+            thread = wire.threads(2)["spins.lua"]
+            wire.suspend(thread)
+            self.assertEqual(wire.status(thread)[1], 1)
+
+
+def attach(port):
+    """A debugger at this port. As long as the one before it is there, it is closed at once."""
+    end = time.monotonic() + PATIENCE
+    while True:
+        try:
+            return Wire(port)
+        except (Closed, BrokenPipeError):
+            if time.monotonic() > end:
+                raise
+            time.sleep(0.01)
