@@ -88,7 +88,7 @@ extern "C" {
 
 /* The version of this header. */
 #define CQ_VERSION_MAJOR 1
-#define CQ_VERSION_MINOR 4
+#define CQ_VERSION_MINOR 5
 #define CQ_VERSION_PATCH 0
 
 /* The version of the library that the program runs with, as major * 1,000,000 + minor * 1,000 + patch. */
@@ -109,13 +109,17 @@ enum {
     CQ_OK = 0,                        /* it is done, or the answer is there */
     /* JVM TI 11's errors. */
     CQ_INVALID_THREAD = 10,           /* there is no thread of this number, or the environment has not met it */
-    CQ_THREAD_NOT_SUSPENDED = 13,     /* a resumption or a pop, and the thread is not suspended */
+    CQ_THREAD_NOT_SUSPENDED = 13,     /* a resumption or a pop, and the thread is not suspended; or the end of a stop, and it does
+                                         not stop for the environment */
     CQ_THREAD_SUSPENDED = 14,         /* a suspension, and the thread is suspended */
     CQ_THREAD_NOT_ALIVE = 15,         /* the thread has not started, or has ended */
     CQ_INVALID_CLASS = 21,            /* no class of this number was defined */
     CQ_INVALID_METHODID = 23,         /* no method of this number was defined */
+    CQ_INVALID_LOCATION = 24,         /* there can be no breakpoint at this location of the method */
     CQ_NO_MORE_FRAMES = 31,           /* there is no frame at this depth, or there are fewer than two for a pop */
     CQ_OPAQUE_FRAME = 32,             /* a pop, and one of the two newest frames is native */
+    CQ_DUPLICATE = 40,                /* the environment has this breakpoint, or asked for this pop, before */
+    CQ_NOT_FOUND = 41,                /* the environment has no such breakpoint */
     CQ_NOT_AVAILABLE = 98,            /* a capability that cannot be had */
     CQ_MUST_POSSESS_CAPABILITY = 99,  /* the call needs a capability that the environment does not have */
     CQ_ABSENT_INFORMATION = 101,      /* the class has no source file, or the method no lines */
@@ -180,6 +184,13 @@ enum {
 /* Events of a thread's life. */
 enum { CQ_THREAD_START = 0, CQ_THREAD_END = 1 };
 
+/* Kinds of stops, and a number that stands for all threads. */
+enum { CQ_BREAKPOINT = 0, CQ_SINGLE_STEP = 1, CQ_FRAME_POP = 2 };
+#define CQ_ALL_THREADS UINT32_MAX
+
+/* Why a thread stops, as a sum of bits. */
+enum { CQ_STOP_BREAKPOINT = 1, CQ_STOP_SINGLE_STEP = 2, CQ_STOP_FRAME_POP = 4 };
+
 /* Handles. Zeros at first, and then for this library alone. */
 typedef struct { uint32_t kind; void *at; } cq_service;
 typedef struct { uint32_t kind; void *at; } cq_thread;
@@ -203,6 +214,9 @@ typedef struct { uint64_t name_length; int32_t priority; } cq_thread_info;
 
 /* An event: CQ_THREAD_START or CQ_THREAD_END, the thread's number, and how many events were lost before it. */
 typedef struct { uint32_t kind; uint32_t thread; uint64_t lost; } cq_event;
+
+/* A stop: the thread's number, where it is, and why it stops there. */
+typedef struct { uint32_t thread; uint32_t method; int64_t location; uint32_t why; } cq_stop;
 
 /* What a trace of several threads tells of one: its number, its state (GetThreadState), and how many frames there are. */
 typedef struct { uint32_t thread; uint32_t state; uint64_t frame_count; } cq_stack_info;
@@ -834,6 +848,86 @@ uint32_t cq_is_method_native(cq_env *env, uint32_t method, bool *native) CQ_MUST
  *   CQ_BUSY 215                its class is just being defined, and nobody has the number yet */
 uint32_t cq_get_line_number_table(cq_env *env, uint32_t method, uint32_t *kind, cq_line_entry *entries, size_t room,
                                   uint64_t *count) CQ_MUST_USE;
+
+/* ------------------------------------------------------------------------------------------------------------------
+ * Breakpoints, single steps and the ends of frames (JVM TI 11), and the threads that stop for them.
+ *
+ * An environment says of which kinds of stops it is told. Its breakpoints and its other wishes are its own: no other environment
+ * sees or changes them, and they end with it. A thread that reaches what an environment wants to be told of stops there, for each
+ * such environment, until all of them have ended its stop. It may be suspended meanwhile, by whomever, and then stays suspended.
+ *
+ * A runtime asks by cq_may_stop, which is one load, wherever a thread may stop: at the begin of each line, say. If that is true,
+ * it says by cq_reached where the thread is. If the thread is to stop, it gives its frames, blocks (cq_block, with CQ_PARK), and
+ * asks by cq_is_stopped until it no longer stops. Then it returns by cq_back. With cebdyraq_wait.h:
+ *
+ *     bool stops = false;
+ *     if (cq_may_stop(&thread) && cq_wait_reached(&thread, &signal, method, line, &stops) == CQ_OK && stops) {
+ *         give_frames();                       // cq_set_frames, if the runtime keeps a stack of its own
+ *         code = cq_wait_stop(&thread, &signal);
+ *     }
+ *
+ * A method is stopped in by its number (cq_define_class).
+ */
+
+/* Whether the thread may have to stop at what it reaches next. It is one load. It is false only if no environment was told of any
+ * kind of stop at that load. It may be true though none is: cq_reached tells. False for a handle that is misused. */
+bool cq_may_stop(cq_thread *thread);
+
+/* Says that the thread is at this location of this method, and writes to `stops` whether it has to stop there.
+ *
+ *   CQ_MISUSED 304        as ever
+ *   CQ_OUT_OF_MEMORY 110  there is no memory for a stop. The thread does not stop
+ *   CQ_FULL 216           threads and environments have come and gone, or threads have stopped, 2^62 - 1 times
+ *   CQ_BUSY 215           the list of threads is in use */
+uint32_t cq_reached(cq_thread *thread, uint32_t method, uint32_t location, bool *stops) CQ_MUST_USE;
+
+/* Says that the thread is about to leave its newest frame, at this location of this method, and that it has `frames` frames
+ * with that one. The codes are those of cq_reached. */
+uint32_t cq_leaves(cq_thread *thread, uint32_t method, uint32_t location, uint32_t frames, bool *stops) CQ_MUST_USE;
+
+/* Writes to `stops` whether the thread still has to stop where it is. The codes are those of cq_reached, but for CQ_OUT_OF_MEMORY. */
+uint32_t cq_is_stopped(cq_thread *thread, bool *stops) CQ_MUST_USE;
+
+/* SetBreakpoint. Threads stop there for the environment once it is told of breakpoints (cq_set_stop_notification_mode).
+ *
+ *   CQ_INVALID_METHODID 23  no method of this number was defined
+ *   CQ_INVALID_LOCATION 24  the method is native, or its table of lines has no entry that begins at this location
+ *   CQ_DUPLICATE 40         the environment has a breakpoint there
+ *   CQ_OUT_OF_MEMORY 110    there is no memory for it
+ *   CQ_FULL 216             as for cq_reached
+ *   CQ_BUSY 215             the list of threads is in use, or the method is just being defined */
+uint32_t cq_set_breakpoint(cq_env *env, uint32_t method, uint32_t location) CQ_MUST_USE;
+
+/* ClearBreakpoint. CQ_NOT_FOUND 41 if the environment has no breakpoint there. The other codes are those of cq_set_breakpoint. */
+uint32_t cq_clear_breakpoint(cq_env *env, uint32_t method, uint32_t location) CQ_MUST_USE;
+
+/* SetEventNotificationMode, of CQ_BREAKPOINT, CQ_SINGLE_STEP or CQ_FRAME_POP, at one thread or at CQ_ALL_THREADS. An environment is
+ * told of a kind at a thread if it is enabled for that thread or for all.
+ *
+ *   CQ_ILLEGAL_ARGUMENT 103  there is no such kind
+ *   CQ_OUT_OF_MEMORY 110, CQ_FULL 216, CQ_BUSY 215 as for cq_reached */
+uint32_t cq_set_stop_notification_mode(cq_env *env, bool enabled, uint32_t kind, uint32_t thread) CQ_MUST_USE;
+
+/* NotifyFramePop: the environment is told once, when the thread is about to leave a frame and has at most `frames` frames with
+ * it. It is the frame that is `frames` from the oldest, which is 1: with n frames, the one at depth d has the number n - d.
+ *
+ *   CQ_DUPLICATE 40  the environment has asked for it
+ *   CQ_OUT_OF_MEMORY 110, CQ_FULL 216, CQ_BUSY 215 as for cq_reached */
+uint32_t cq_notify_frame_pop(cq_env *env, uint32_t thread, uint32_t frames) CQ_MUST_USE;
+
+/* Writes the stop to `stop` that has waited longest for the environment and that it was not told, if there is one. The thread
+ * stops until cq_end_stop.
+ *
+ *   CQ_NONE 303  there is none
+ *   CQ_FULL 216  as for cq_reached
+ *   CQ_BUSY 215  the list of threads is in use */
+uint32_t cq_next_stop(cq_env *env, cq_stop *stop) CQ_MUST_USE;
+
+/* Ends the stop of a thread for the environment, once cq_next_stop has told it.
+ *
+ *   CQ_THREAD_NOT_SUSPENDED 13  there is no stop of this thread that the environment was told
+ *   CQ_FULL 216, CQ_BUSY 215    as for cq_next_stop */
+uint32_t cq_end_stop(cq_env *env, uint32_t thread) CQ_MUST_USE;
 
 #ifdef __cplusplus
 }

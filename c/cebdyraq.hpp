@@ -34,8 +34,11 @@ enum class code : std::uint32_t {
     thread_not_alive = CQ_THREAD_NOT_ALIVE,
     invalid_class = CQ_INVALID_CLASS,
     invalid_methodid = CQ_INVALID_METHODID,
+    invalid_location = CQ_INVALID_LOCATION,
     no_more_frames = CQ_NO_MORE_FRAMES,
     opaque_frame = CQ_OPAQUE_FRAME,
+    duplicate = CQ_DUPLICATE,
+    not_found = CQ_NOT_FOUND,
     not_available = CQ_NOT_AVAILABLE,
     must_possess_capability = CQ_MUST_POSSESS_CAPABILITY,
     absent_information = CQ_ABSENT_INFORMATION,
@@ -75,6 +78,7 @@ enum class reason : std::uint32_t {
 
 using frame = cq_frame;
 using event = cq_event;
+using stop = cq_stop;
 using time = std::chrono::nanoseconds;
 inline constexpr time forever{-1};
 
@@ -262,6 +266,19 @@ public:
     void poll() { check(cq_wait_poll(get(), signal())); }
     void end() { check(cq_wait_end(get(), signal())); }
 
+    bool may_stop() const { return cq_may_stop(get()); }
+    bool reached(std::uint32_t method, std::uint32_t location) {
+        bool stops = false;
+        check(cq_wait_reached(get(), signal(), method, location, &stops));
+        return stops;
+    }
+    bool leaves(std::uint32_t method, std::uint32_t location, std::uint32_t frames) {
+        bool stops = false;
+        check(cq_wait_leaves(get(), signal(), method, location, frames, &stops));
+        return stops;
+    }
+    void stop() { check(cq_wait_stop(get(), signal())); }
+
     /* The thread is in native code, or blocked, as long as this lives. Its destructor returns, and waits while the thread is
      * suspended. */
     class away {
@@ -423,6 +440,25 @@ public:
         check(cq_wait_next_event(get(), signal(), within.count(), &next));
         return next;
     }
+
+    void set_breakpoint(std::uint32_t method, std::uint32_t location) {
+        settle([&] { return cq_set_breakpoint(get(), method, location); });
+    }
+    void clear_breakpoint(std::uint32_t method, std::uint32_t location) {
+        settle([&] { return cq_clear_breakpoint(get(), method, location); });
+    }
+    void set_stop_notification_mode(bool enabled, std::uint32_t kind, std::uint32_t thread = CQ_ALL_THREADS) {
+        settle([&] { return cq_set_stop_notification_mode(get(), enabled, kind, thread); });
+    }
+    void notify_frame_pop(std::uint32_t thread, std::uint32_t frames) {
+        settle([&] { return cq_notify_frame_pop(get(), thread, frames); });
+    }
+    stop next_stop(time within = forever) {
+        stop next{};
+        check(cq_wait_next_stop(get(), signal(), within.count(), &next));
+        return next;
+    }
+    void end_stop(std::uint32_t thread) { check(cq_wait_end_stop(get(), signal(), thread)); }
 
     std::vector<std::uint32_t> get_loaded_classes() { return whole<std::uint32_t>(cq_get_loaded_classes); }
     std::string get_class_signature(std::uint32_t class_no) {

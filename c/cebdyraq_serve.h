@@ -33,9 +33,10 @@
  * WHAT A DEBUGGER MAY DO
  *
  * It speaks the Java Debug Wire Protocol of Java 8, as jdb and the Java debuggers of editors do. It reads threads, stacks, classes,
- * methods and lines, is told of threads that start and end and of classes that come, and suspends and resumes threads. Breakpoints,
- * steps and variables are refused (99). Its suspensions of a thread nest. When it goes, the threads that it has suspended are
- * resumed, and those that another environment has suspended stay so. README.md of crates/ti_jdwp and crates/ti_debugger have all
+ * methods and lines, is told of threads that start and end and of classes that come, and suspends and resumes threads. It sets
+ * breakpoints and steps, where the runtime says what its threads reach (cq_reached). Variables are refused (99). Its suspensions of a
+ * thread nest. When it goes, the threads that it has suspended or stopped go on, and those that another environment has suspended
+ * stay so. README.md of crates/ti_jdwp and crates/ti_debugger have all
  * requests and errors.
  *
  * WHO MAY DEBUG
@@ -121,14 +122,14 @@ uint32_t cq_door_output(cq_door *door, uint32_t connection, uint8_t *bytes, size
 uint32_t cq_door_written(cq_door *door, uint32_t connection, uint64_t count, uint64_t now);
 
 /* The socket is gone. What the connection waits for is given up, and its number is free. What a debugger has suspended is resumed,
- * now or by cq_door_tick. CQ_NONE 303. */
+ * and what stops for it goes on, now or by cq_door_tick. CQ_NONE 303. */
 uint32_t cq_door_disconnect(cq_door *door, uint32_t connection);
 
-/* Does what is due: meets threads, reads stacks, counts, and answers; tells a debugger of events, and undoes suspensions that are
- * not wanted any more. Writes to `deadline` when it is to be called next. Call cq_door_next after it. */
+/* Does what is due: meets threads, reads stacks, counts, and answers; tells a debugger of events and stops, and undoes suspensions
+ * and breakpoints that are not wanted any more. Writes to `deadline` when it is to be called next. Call cq_door_next after it. */
 uint32_t cq_door_tick(cq_door *door, uint64_t now, uint64_t *deadline) CQ_MUST_USE;
 
-/* Writes to `count` how many times the door has resumed a thread, 0 at a door for HTTP. A program whose threads sleep by
+/* Writes to `count` how many times the door has resumed a thread or let one go on that had stopped, 0 at a door for HTTP. A program whose threads sleep by
  * cebdyraq_wait.h calls cq_wake when it has grown, after cq_door_next, cq_door_disconnect and cq_door_tick. */
 uint32_t cq_door_resumptions(cq_door *door, uint64_t *count) CQ_MUST_USE;
 

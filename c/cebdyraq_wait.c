@@ -286,6 +286,35 @@ uint32_t cq_wait_back(cq_thread *thread, cq_signal *signal, int64_t timeout_ns) 
     return goes_on(&w);
 }
 
+uint32_t cq_wait_reached(cq_thread *thread, cq_signal *signal, uint32_t method, uint32_t location, bool *stops) {
+    waiter w = begin(signal, FOREVER, CQ_BUSY);
+    while (again(&w)) w.code = cq_reached(thread, method, location, stops);
+    return w.code;
+}
+
+uint32_t cq_wait_leaves(cq_thread *thread, cq_signal *signal, uint32_t method, uint32_t location, uint32_t frames, bool *stops) {
+    waiter w = begin(signal, FOREVER, CQ_BUSY);
+    while (again(&w)) w.code = cq_leaves(thread, method, location, frames, stops);
+    return w.code;
+}
+
+/* CQ_BARRED as long as the thread has to stop. */
+static uint32_t stop_ended(cq_thread *thread) {
+    bool stops = true;
+    uint32_t code = cq_is_stopped(thread, &stops);
+    return code == CQ_OK && stops ? CQ_BARRED : code;
+}
+
+uint32_t cq_wait_stop(cq_thread *thread, cq_signal *signal) {
+    uint32_t code = cq_wait_block(thread, signal, CQ_PARK);
+    wake(&signal->agents, COMINGS);
+    if (code != CQ_OK) return code;
+    waiter w = begin_own(thread, signal, FOREVER);
+    while (again(&w)) w.code = stop_ended(thread);
+    code = cq_wait_back(thread, signal, FOREVER);
+    return w.code != CQ_OK ? w.code : code;
+}
+
 uint32_t cq_wait_end(cq_thread *thread, cq_signal *signal) {
     waiter w = begin_hand_over(signal);
     while (again(&w)) w.code = cq_end(thread);
@@ -346,6 +375,7 @@ uint32_t cq_wait_set_event_notification_mode(cq_env *env, cq_signal *signal, boo
 uint32_t cq_wait_dispose_environment(cq_env *env, cq_signal *signal) {
     waiter w = begin(signal, FOREVER, CQ_BUSY);
     while (again(&w)) w.code = cq_dispose_environment(env);
+    if (w.code == CQ_OK) wake(&signal->threads, FUTEX_BITSET_MATCH_ANY);
     return came_or_went(&w);
 }
 
@@ -353,6 +383,20 @@ uint32_t cq_wait_next_event(cq_env *env, cq_signal *signal, int64_t timeout_ns, 
     waiter w = begin(signal, timeout_ns, CQ_NONE);
     w.bits = COMINGS;
     while (again(&w)) w.code = cq_next_event(env, event);
+    return w.code;
+}
+
+uint32_t cq_wait_next_stop(cq_env *env, cq_signal *signal, int64_t timeout_ns, cq_stop *stop) {
+    waiter w = begin(signal, timeout_ns, CQ_NONE);
+    w.bits = COMINGS;
+    while (again(&w)) w.code = cq_next_stop(env, stop);
+    return w.code;
+}
+
+uint32_t cq_wait_end_stop(cq_env *env, cq_signal *signal, uint32_t thread) {
+    waiter w = begin(signal, FOREVER, CQ_BUSY);
+    while (again(&w)) w.code = cq_end_stop(env, thread);
+    if (w.code == CQ_OK) wake(&signal->threads, bit_of(thread));
     return w.code;
 }
 

@@ -39,7 +39,8 @@ typedef struct { cq_sleepers threads; cq_sleepers agents; } cq_signal;
  *
  * The functions below do it by themselves. A program that also uses functions of cebdyraq.h calls it after each that
  * may let another go on: cq_poll, cq_native, cq_block, cq_end, cq_resume_thread, cq_attach_thread, cq_detach_thread,
- * cq_attach_environment and cq_dispose_environment, and after the last cq_gather_step of a trace. */
+ * cq_attach_environment and cq_dispose_environment, cq_reached, cq_leaves and cq_end_stop, and after the last cq_gather_step of a
+ * trace. */
 void cq_wake(cq_signal *signal);
 
 /* ------------------------------------------------------------------------------------------------------------------
@@ -79,6 +80,20 @@ uint32_t cq_wait_block(cq_thread *thread, cq_signal *signal, uint32_t reason) CQ
  * (cq_take_pops). After CQ_TIMED_OUT 214 it has not returned.
  * CQ_NOT_SAFE 205. */
 uint32_t cq_wait_back(cq_thread *thread, cq_signal *signal, int64_t timeout_ns) CQ_MUST_USE;
+
+/* cq_reached. It waits only while the list of threads is in use. CQ_OUT_OF_MEMORY 110, CQ_FULL 216. */
+uint32_t cq_wait_reached(cq_thread *thread, cq_signal *signal, uint32_t method, uint32_t location, bool *stops) CQ_MUST_USE;
+
+/* cq_leaves, likewise. */
+uint32_t cq_wait_leaves(cq_thread *thread, cq_signal *signal, uint32_t method, uint32_t location, uint32_t frames,
+                        bool *stops) CQ_MUST_USE;
+
+/* The stop of a thread of which cq_reached or cq_leaves has told that it stops, and that has given its frames. It blocks, and sleeps
+ * until each environment has ended the stop, and as long as the thread is suspended or stopped by a trace. With CQ_OK it runs, perhaps
+ * with fewer frames (cq_take_pops).
+ *
+ * CQ_NOT_RUNNING 204, CQ_OWN_SPENT 208: it does not wait. CQ_FULL 216. */
+uint32_t cq_wait_stop(cq_thread *thread, cq_signal *signal) CQ_MUST_USE;
 
 /* cq_end. It waits only while an environment uses the thread. CQ_NOT_RUNNING 204. */
 uint32_t cq_wait_end(cq_thread *thread, cq_signal *signal);
@@ -123,6 +138,12 @@ uint32_t cq_wait_dispose_environment(cq_env *env, cq_signal *signal) CQ_MUST_USE
 
 /* cq_next_event. It sleeps until there is an event, and for ever if events are disabled. CQ_TIMED_OUT 214. */
 uint32_t cq_wait_next_event(cq_env *env, cq_signal *signal, int64_t timeout_ns, cq_event *event) CQ_MUST_USE;
+
+/* cq_next_stop. It sleeps until there is a stop. CQ_TIMED_OUT 214, CQ_FULL 216. */
+uint32_t cq_wait_next_stop(cq_env *env, cq_signal *signal, int64_t timeout_ns, cq_stop *stop) CQ_MUST_USE;
+
+/* cq_end_stop. It wakes the thread. CQ_THREAD_NOT_SUSPENDED 13, CQ_FULL 216. */
+uint32_t cq_wait_end_stop(cq_env *env, cq_signal *signal, uint32_t thread) CQ_MUST_USE;
 
 /* ------------------------------------------------------------------------------------------------------------------
  * Calls at a thread. They sleep until the answer is there. The answer is written with CQ_OK, and nothing otherwise.

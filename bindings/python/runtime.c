@@ -34,6 +34,17 @@ static void note_pops(void) {
     __atomic_fetch_add(&popped, count, __ATOMIC_SEQ_CST);
 }
 
+/* The thread is at line 8 of method 1, and stops there if an agent wants it to. */
+static void look(void) {
+    bool stops = false;
+    if (cq_may_stop(&thread)) {
+        expect(cq_wait_reached(&thread, &signal_of_all, 1, 8, &stops));
+    }
+    if (stops) {
+        expect(cq_wait_stop(&thread, &signal_of_all));
+    }
+}
+
 static void *body(void *unused) {
     expect(cq_wait_start(&thread, &signal_of_all, -1));
     expect(cq_enter(&thread, 1));
@@ -43,6 +54,7 @@ static void *body(void *unused) {
     while (wanted() == 0) {
         expect(cq_wait_poll(&thread, &signal_of_all));
         note_pops();
+        look();
         sched_yield();
     }
     expect(cq_enter_native(&thread, 3));

@@ -118,6 +118,29 @@ class WithRuntime(unittest.TestCase):
         with self.assertRaises(ctypes.ArgumentError):
             env.get_class_signature(-1)
 
+    def test_stops(self):
+        env, thread = self.env, self.thread
+        self.assert_code(Code.INVALID_METHODID, env.set_breakpoint, 104, 8)
+        self.assert_code(Code.INVALID_LOCATION, env.set_breakpoint, 2, 8)
+        env.set_breakpoint(1, 8)
+        self.assert_code(Code.DUPLICATE, env.set_breakpoint, 1, 8)
+        self.assert_code(Code.NOT_FOUND, env.clear_breakpoint, 1, 9)
+        self.assert_code(Code.TIMED_OUT, env.next_stop, timeout=0.05)
+        env.set_stop_notification_mode(True, cebdyraq.StopKind.BREAKPOINT)
+        stop = cebdyraq.Stop(thread, 1, 8, cebdyraq.StopReason.BREAKPOINT)
+        self.assertEqual(env.next_stop(), stop)
+        self.assertEqual(env.get_thread_state(thread), 0x291)
+        self.assertEqual(env.get_frame_count(thread), 2)
+        env.clear_breakpoint(1, 8)
+        env.set_stop_notification_mode(True, cebdyraq.StopKind.SINGLE_STEP, thread)
+        env.end_stop(thread)
+        self.assertEqual(env.next_stop(), stop._replace(why=cebdyraq.StopReason.SINGLE_STEP))
+        env.set_stop_notification_mode(False, cebdyraq.StopKind.SINGLE_STEP, thread)
+        env.notify_frame_pop(thread, 1)
+        self.assert_code(Code.DUPLICATE, env.notify_frame_pop, thread, 1)
+        env.end_stop(thread)
+        self.assert_code(Code.THREAD_NOT_SUSPENDED, env.end_stop, thread)
+
     def test_all_stacks(self):
         env, thread = self.env, self.thread
         whole = StackInfo(thread, 0x5, [Frame(2, 0), Frame(1, 10)])

@@ -4,6 +4,7 @@
 
 #include "host.h"
 #include "nudge.h"
+#include "stops.h"
 
 /* Calls Lua's own coroutine.resume, which does not throw once it has a coroutine. */
 static int resume_by(lua_CFunction own, lua_State *L, lua_State *coroutine) {
@@ -13,6 +14,7 @@ static int resume_by(lua_CFunction own, lua_State *L, lua_State *coroutine) {
     if (links < CHAIN)
         script->chain[script->links++] = coroutine;
     nudge_at(script, coroutine);
+    stops_enter(script, coroutine);
     int results = own(L);
     nudge_back_at(script, L);
     script->links = links;

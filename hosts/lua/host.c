@@ -13,6 +13,7 @@
 #include "chunks.h"
 #include "links.h"
 #include "nudge.h"
+#include "stops.h"
 
 /* ------------------------------------------------------------------------------------------------------------------
  * Safepoints.
@@ -22,12 +23,14 @@ struct script *script_of(lua_State *L) {
     return *(struct script **)lua_getextraspace(L);
 }
 
-/* The hook: that of the polls, or of a nudge. The Lua stack is read only when an agent calls for the thread. A
+/* The hook: that of the polls, of a nudge, or of a line. The Lua stack is read only when an agent calls for the thread. A
  * function that was just called has done nothing yet, and is left out. */
 void script_hook(lua_State *L, lua_Debug *ar) {
     struct script *script = script_of(L);
     bool hooked = nudge_clear(L);
     nudge_at(script, L);
+    if (script->inspected)
+        stops_look(script, L, ar);
     if (!script->inspected || cq_poll_clear(&script->thread))
         nudge_take(script, hooked);
     else if (give_stack(script, L, ar->event == LUA_HOOKCALL, hooked))

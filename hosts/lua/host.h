@@ -38,6 +38,7 @@ struct script {
     cq_thread thread;
     bool inspected;           /* it is attached and started */
     bool away;                /* it is in native code or blocked */
+    bool stops;               /* its hook is called at each line */
     bool complained;          /* a refusal was told */
     _Atomic(lua_State *) running;  /* the state or coroutine that a nudge reaches, or NULL */
     volatile bool nudged;     /* a nudge came, and no poll since */
@@ -112,6 +113,9 @@ bool complain(struct script *script, const char *what, uint32_t code);
 
 /* stack.c: writes the stack from this level on, newest frame first, and returns how many there are, at most SHOWN. */
 size_t stack_read(struct script *script, lua_State *L, int level, cq_frame *frames);
+
+/* stack.c: the method of the function on the top of the stack, of which `ar` has what "S" gives. */
+uint32_t stack_method(struct script *script, lua_State *L, lua_Debug *ar);
 
 /* stack.c: the name of the source of a function: that of the file, or the short form of a text, or "[C]". */
 const char *source_of(const lua_Debug *ar);

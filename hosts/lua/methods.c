@@ -103,6 +103,7 @@ struct class {
     char *signature, *source;
     struct method *methods;
     size_t count;
+    const struct proto *protos;  /* of a chunk: one for each method. NULL of another class */
 };
 
 static char *copy_clean(const char *text) {
@@ -112,10 +113,28 @@ static char *copy_clean(const char *text) {
     return copy;
 }
 
-static cq_method_strings strings_of(const struct method *m) {
-    return (cq_method_strings){ .name = copy_clean(m->name),
-                                .lines_kind = m->line < 0 ? CQ_LINES_NATIVE : CQ_LINES_LOCATIONS,
-                                .first_line = m->line > 0 ? (uint32_t)m->line : 0 };
+/* A table of lines, each of which is a location. */
+static cq_line_entry *entries_of(const struct proto *proto) {
+    cq_line_entry *entries = calloc(proto->line_count + 1, sizeof *entries);
+    for (size_t i = 0; i < proto->line_count && entries; i++)
+        entries[i] = (cq_line_entry){ proto->lines[i], proto->lines[i] };
+    return entries;
+}
+
+static void put_lines(cq_method_strings *strings, const struct proto *proto) {
+    strings->lines = entries_of(proto);
+    strings->line_count = strings->lines ? proto->line_count : 0;
+    strings->lines_kind = strings->lines ? CQ_LINES_TABLE : CQ_LINES_LOCATIONS;
+}
+
+static cq_method_strings strings_of(const struct class *class, size_t at) {
+    const struct method *m = &class->methods[at];
+    cq_method_strings strings = { .name = copy_clean(m->name),
+                                  .lines_kind = m->line < 0 ? CQ_LINES_NATIVE : CQ_LINES_LOCATIONS,
+                                  .first_line = m->line > 0 ? (uint32_t)m->line : 0 };
+    if (class->protos)
+        put_lines(&strings, &class->protos[at]);
+    return strings;
 }
 
 /* Defines the class in the service. Its methods have the next numbers there, as they have here. */
@@ -123,15 +142,17 @@ static bool define_strings(const struct class *class, const char *file, cq_metho
     uint32_t class_no, number, code = CQ_OUT_OF_MEMORY;
     bool all = true;
     for (size_t i = 0; i < class->count; i++) {
-        strings[i] = strings_of(&class->methods[i]);
+        strings[i] = strings_of(class, i);
         all = all && strings[i].name;
     }
     if (all)
         do
             code = cq_define_class_strings(&service, class->signature, file, strings, class->count, &class_no, &number);
         while (code == CQ_BUSY);
-    for (size_t i = 0; i < class->count; i++)
+    for (size_t i = 0; i < class->count; i++) {
         free((char *)strings[i].name);
+        free((cq_line_entry *)strings[i].lines);
+    }
     return code == CQ_OK;
 }
 
@@ -180,7 +201,7 @@ static bool finish(const struct class *class) {
 }
 
 static struct class begin(char *signature, const char *source, size_t methods) {
-    struct class class = { signature, strdup(source), calloc(methods, sizeof *class.methods), methods };
+    struct class class = { signature, strdup(source), calloc(methods, sizeof *class.methods), methods, NULL };
     for (size_t i = 0; i < methods && class.methods; i++)
         class.methods[i].source = class.source;
     return class;
@@ -234,6 +255,7 @@ static void define_chunk(const char *source, const struct protos *protos) {
     struct class class = begin(signature_of_source(source), source, protos->count);
     for (size_t i = 0; i < protos->count && class.methods; i++)
         fill(&class.methods[i], &protos->at[i]);
+    class.protos = protos->at;
     finish(&class);
 }
 

@@ -6,6 +6,8 @@
 #include <stdio.h>
 #include <time.h>
 
+#include "stops.h"
+
 static const int64_t LONG_NS = 100000;  /* a script that is longer between two instructions took its time there */
 
 static _Thread_local struct script *own;
@@ -81,10 +83,12 @@ void nudge_begin(struct script *script, lua_State *L) {
 }
 
 bool nudge_clear(lua_State *L) {
-    if (lua_gethookmask(L) == LUA_MASKCOUNT && lua_gethookcount(L) == INSTRUCTIONS)
+    int mask = stops_mask(script_of(L));
+    if (lua_gethookmask(L) == mask && lua_gethookcount(L) == INSTRUCTIONS)
         return false;
-    lua_sethook(L, script_hook, LUA_MASKCOUNT, INSTRUCTIONS);
-    return true;
+    bool hooked = lua_gethookcount(L) != INSTRUCTIONS;
+    lua_sethook(L, script_hook, mask, INSTRUCTIONS);
+    return hooked;
 }
 
 enum nudged nudge_take(struct script *script, bool hooked) {

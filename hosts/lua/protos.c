@@ -93,12 +93,6 @@ struct items {
     size_t count;
 };
 
-struct function {
-    const unsigned char *code;
-    size_t code_count;
-    struct items constants, locals, upvalues;
-};
-
 static struct item take_constant(struct reader *r) {
     unsigned kind = take_byte(r);
     if (kind == SHORT_TEXT || kind == LONG_TEXT)
@@ -133,16 +127,74 @@ static struct items take_items(struct reader *r, struct item (*take_one)(struct 
     return items;
 }
 
-/* The lines of the instructions. A stripped function has none. */
-static void take_lines(struct reader *r, size_t code_count) {
-    size_t count = take_size(r);
-    r->bad = r->bad || count != code_count;
-    take(r, count);
-    for (size_t i = take_size(r); i > 0 && !r->bad; i--) {
+/* The lines of the instructions, each as how much higher it is than the one before, or as FAR if it is named apart. A stripped
+ * function has none. */
+enum { FAR = -128 };
+
+struct steps {
+    const signed char *at;
+    size_t count;
+    uint32_t *far;
+    size_t far_count;
+};
+
+static struct steps take_steps(struct reader *r, size_t code_count) {
+    struct steps steps = { .count = take_size(r) };
+    r->bad = r->bad || steps.count != code_count;
+    steps.at = (const signed char *)take(r, steps.count);
+    steps.far_count = take_size(r);
+    r->bad = r->bad || steps.far_count > (size_t)(r->end - r->at);
+    if (!r->bad)
+        steps.far = calloc(steps.far_count + 1, sizeof *steps.far);
+    r->bad = r->bad || !steps.far;
+    for (size_t i = 0; i < steps.far_count && !r->bad; i++) {
         take_size(r);
-        take_size(r);
+        steps.far[i] = (uint32_t)take_line(r);
     }
+    return steps;
 }
+
+static int by_number(const void *a, const void *b) {
+    uint32_t x = *(const uint32_t *)a, y = *(const uint32_t *)b;
+    return (x > y) - (x < y);
+}
+
+/* Puts lines in rising order, each once. Returns how many there are then. */
+static size_t in_order(uint32_t *lines, size_t count) {
+    size_t kept = 0;
+    if (count)
+        qsort(lines, count, sizeof *lines, by_number);
+    for (size_t i = 0; i < count; i++)
+        if (!kept || lines[kept - 1] != lines[i])
+            lines[kept++] = lines[i];
+    return kept;
+}
+
+/* The lines from that of the instruction `first` on, where the function is defined at `line`. */
+static void find_lines(struct reader *r, struct proto *proto, const struct steps *steps, uint32_t line, size_t first) {
+    size_t far = 0, count = 0;
+    uint32_t *lines = calloc(steps->count + 1, sizeof *lines);
+    r->bad = r->bad || !lines;
+    for (size_t at = 0; at < steps->count && !r->bad; at++) {
+        if (steps->at[at] != FAR)
+            line += (uint32_t)(int32_t)steps->at[at];
+        else if (far < steps->far_count)
+            line = steps->far[far++];
+        else
+            r->bad = true;
+        if (at >= first && !r->bad)
+            lines[count++] = line;
+    }
+    proto->lines = lines;
+    proto->line_count = lines ? in_order(lines, count) : 0;
+}
+
+struct function {
+    const unsigned char *code;
+    size_t code_count;
+    struct items constants, locals, upvalues;
+    struct steps steps;
+};
 
 /* ------------------------------------------------------------------------------------------------------------------
  * Names, by what follows the instruction that makes a function.
@@ -255,6 +307,7 @@ static size_t add(struct reader *r, struct protos *protos) {
         protos->at = more;
         protos->room = room;
     }
+    protos->at[protos->count] = (struct proto){ 0 };
     return protos->count++;
 }
 
@@ -266,20 +319,23 @@ static void read_parts(struct reader *r, struct protos *protos, int depth, struc
     take_text(r);
     const unsigned char *start = r->at;
     int line = take_line(r), last = take_line(r);
-    take(r, 3);  /* how many parameters, whether there may be more, and registers */
+    take_byte(r);  /* how many parameters */
+    bool takes_more = take_byte(r);
+    take_byte(r);  /* how many registers */
     f->code_count = take_size(r);
     f->code = r->at;
     skip(r, f->code_count, sizeof(uint32_t));
     f->constants = take_items(r, take_constant);
     skip(r, take_size(r), 3);  /* where upvalues come from */
     read_functions(r, protos, depth + 1);
-    take_lines(r, f->code_count);
+    f->steps = take_steps(r, f->code_count);
     f->locals = take_items(r, take_local);
     f->upvalues = take_items(r, take_upvalue);
     if (r->bad)
         return;
     struct part name = line ? (struct part){ "function", 8 } : (struct part){ "main", 4 };
-    protos->at[own] = (struct proto){ name, line, last, hash_of(start, r->at), protos->count };
+    protos->at[own] = (struct proto){ name, line, last, hash_of(start, r->at), NULL, 0, protos->count };
+    find_lines(r, &protos->at[own], &f->steps, (uint32_t)line, takes_more);
     name_within(protos, own, f);
 }
 
@@ -289,6 +345,7 @@ static void read_function(struct reader *r, struct protos *protos, int depth) {
     free(f.constants.at);
     free(f.locals.at);
     free(f.upvalues.at);
+    free(f.steps.far);
 }
 
 static void read_functions(struct reader *r, struct protos *protos, int depth) {
@@ -322,5 +379,7 @@ int protos_read(const void *dump, size_t size, struct protos *protos) {
 }
 
 void protos_free(struct protos *protos) {
+    for (size_t i = 0; i < protos->count; i++)
+        free(protos->at[i].lines);
     free(protos->at);
 }

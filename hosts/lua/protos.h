@@ -20,6 +20,8 @@ struct proto {
     int line;          /* where it is defined: 0 for a main chunk */
     int last;          /* the line of its end */
     uint64_t code;     /* a hash of all that it is, with the functions within. It is not 0 */
+    uint32_t *lines;   /* at which a hook may be called, in rising order. It is NULL if there are none */
+    size_t line_count;
     size_t next;       /* behind the functions within, which follow it */
 };
 

@@ -33,8 +33,7 @@ static const struct method *ask(lua_State *L, lua_Debug *ar) {
     return methods_find(&f);
 }
 
-/* The method of the function on the top of the stack. */
-static uint32_t method_of(struct script *script, lua_State *L, lua_Debug *ar) {
+uint32_t stack_method(struct script *script, lua_State *L, lua_Debug *ar) {
     bool native = *ar->what == 'C';
     uintptr_t function = native ? (uintptr_t)lua_tocfunction(L, -1) : (uintptr_t)lua_topointer(L, -1);
     struct known *k = &script->known[(function >> 4 ^ function >> 14) & (KNOWN - 1)];
@@ -64,7 +63,7 @@ static cq_frame frame_of(struct script *script, lua_State *L, lua_Debug *ar, str
     const void *function = lua_topointer(L, -1);
     if (function != last->function) {
         lua_getinfo(L, "S", ar);
-        last->frame = (cq_frame){ method_of(script, L, ar), *ar->what == 'C' ? -1 : 0 };
+        last->frame = (cq_frame){ stack_method(script, L, ar), *ar->what == 'C' ? -1 : 0 };
         last->function = function;
     }
     lua_pop(L, 1);

@@ -126,6 +126,36 @@ static void set_frames(void) {
     OK(cq_set_frames(&thread, frames, 0));
 }
 
+static void set_steps(bool enabled) {
+    OK(cq_set_stop_notification_mode(&env, enabled, CQ_SINGLE_STEP, 1));
+}
+
+/* What a runtime asks at each line: with nobody told of stops, with somebody told of another thread's, and at a stop. */
+static void stops(void) {
+    uint64_t may = 0;
+    bool told = false;
+    cq_stop at;
+    OK(cq_reached(&thread, 1, 1, &told));
+    double began = now_ns();
+    for (uint64_t i = 0; i < rounds; i++) may += cq_may_stop(&thread);
+    note("cq_may_stop, nobody is told of stops", now_ns() - began);
+    SAME(may, 0);
+    set_steps(true);
+    began = now_ns();
+    for (uint64_t i = 0; i < rounds; i++) OK(cq_reached(&thread, 1, 1, &told));
+    note("cq_reached, and the thread does not stop", now_ns() - began);
+    OK(cq_set_stop_notification_mode(&env, true, CQ_SINGLE_STEP, 0));
+    began = now_ns();
+    for (uint64_t i = 0; i < rounds; i++) {
+        OK(cq_reached(&thread, 1, 1, &told));
+        OK(cq_next_stop(&env, &at));
+        OK(cq_end_stop(&env, 0));
+    }
+    note("a stop: reached, told and ended", now_ns() - began);
+    OK(cq_set_stop_notification_mode(&env, false, CQ_SINGLE_STEP, 0));
+    set_steps(false);
+}
+
 static cq_thread others[OTHERS];
 static uint32_t numbers[OTHERS];
 
@@ -170,6 +200,7 @@ static void turn(void) {
     state();
     trace();
     set_frames();
+    stops();
     traces();
 }
 

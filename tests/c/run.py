@@ -52,6 +52,7 @@ PROGRAMS = [
     Program("codes", CODES, COUNTED_HEAP),
     Program("classes", CLASSES, COUNTED_HEAP + STRINGS, wait=[]),
     Program("pops", ["pops.c", "pops_unwound.c"], COUNTED_HEAP),
+    Program("stops", ["stops.c", "stops_threads.c"], COUNTED_HEAP + STRINGS),
     Program("gather", ["gather.c"], COUNTED_HEAP),
     Program("wait", ["wait.c", "wait_any.c", "wait_resumed.c", "wait_window.c"], HEAP),
     Program("gather_waits", ["gather_waits.c"], HEAP, {VALGRIND: ["100"]}),

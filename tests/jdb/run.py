@@ -14,6 +14,7 @@ sys.dont_write_bytecode = True
 import places
 import test_jdb
 import test_jdi
+import test_stops
 import test_wire
 
 
@@ -27,7 +28,7 @@ class Counted(unittest.TextTestResult):
 
 def tests():
     loader = unittest.defaultTestLoader
-    return unittest.TestSuite(loader.loadTestsFromModule(module) for module in (test_wire, test_jdb, test_jdi))
+    return unittest.TestSuite(loader.loadTestsFromModule(module) for module in (test_wire, test_jdb, test_stops, test_jdi))
 
 
 def main():

@@ -19,7 +19,8 @@ threads run on meanwhile. A `timeout` is in seconds, and None is for ever. A cod
 from ._environment import Environment, Posted
 from ._library import load
 from ._server import Server
-from ._values import Capability, Code, Error, Event, EventKind, Frame, LineEntry, MethodName, StackInfo, ThreadInfo
+from ._values import (Capability, Code, Error, Event, EventKind, Frame, LineEntry, MethodName, StackInfo, Stop, StopKind, StopReason,
+                      ThreadInfo)
 
 __all__ = ["Capability", "Code", "Environment", "Error", "Event", "EventKind", "Frame", "LineEntry", "MethodName", "Posted", "Server",
-           "StackInfo", "ThreadInfo", "load"]
+           "StackInfo", "Stop", "StopKind", "StopReason", "ThreadInfo", "load"]

@@ -9,9 +9,11 @@ from typing import Any, Callable, Generic, List, Optional, Sequence, Type, TypeV
 
 from . import _library as lib
 from ._classes import Classes
-from ._values import Capability, Code, Error, Event, EventKind, Frame, StackInfo, ThreadInfo
+from ._values import Capability, Code, Error, Event, EventKind, Frame, StackInfo, Stop, StopKind, StopReason, ThreadInfo
 
 Told = TypeVar("Told")
+
+ALL_THREADS = 2**32 - 1  # CQ_ALL_THREADS
 
 
 def _nanoseconds(timeout: Optional[float]) -> int:
@@ -301,6 +303,31 @@ class Environment(Classes):
         event = lib.Event()
         self._call("cq_wait_next_event", self._signal, _nanoseconds(timeout), ctypes.byref(event))
         return Event(EventKind(event.kind), event.thread, event.lost)
+
+    # Stops of threads.
+
+    def set_breakpoint(self, method: int, location: int) -> None:
+        self._settled("cq_set_breakpoint", method, location)
+
+    def clear_breakpoint(self, method: int, location: int) -> None:
+        self._settled("cq_clear_breakpoint", method, location)
+
+    def set_stop_notification_mode(self, enabled: bool, kind: StopKind, thread: Optional[int] = None) -> None:
+        """Whether the environment is told of this kind of stop, at one thread or at all."""
+        self._settled("cq_set_stop_notification_mode", enabled, kind, ALL_THREADS if thread is None else thread)
+
+    def notify_frame_pop(self, thread: int, frames: int) -> None:
+        """The frame is the one that is `frames` from the oldest, which is 1."""
+        self._settled("cq_notify_frame_pop", thread, frames)
+
+    def next_stop(self, timeout: Optional[float] = None) -> Stop:
+        """The next stop. The thread stops until `end_stop`."""
+        stop = lib.Stop()
+        self._call("cq_wait_next_stop", self._signal, _nanoseconds(timeout), ctypes.byref(stop))
+        return Stop(stop.thread, stop.method, stop.location, StopReason(stop.why))
+
+    def end_stop(self, thread: int) -> None:
+        self._call("cq_wait_end_stop", self._signal, thread)
 
     def dispose(self) -> None:
         """DisposeEnvironment. A further call does nothing."""

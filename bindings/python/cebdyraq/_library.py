@@ -4,7 +4,7 @@ import ctypes
 import os
 from typing import Any, Dict, List, Optional, Sequence, Union
 
-VERSION = (1, 4)
+VERSION = (1, 5)
 
 
 class Handle(ctypes.Structure):
@@ -29,6 +29,10 @@ class ThreadInfo(ctypes.Structure):
 
 class Event(ctypes.Structure):
     _fields_ = [("kind", ctypes.c_uint32), ("thread", ctypes.c_uint32), ("lost", ctypes.c_uint64)]
+
+
+class Stop(ctypes.Structure):
+    _fields_ = [("thread", ctypes.c_uint32), ("method", ctypes.c_uint32), ("location", ctypes.c_int64), ("why", ctypes.c_uint32)]
 
 
 class StackInfo(ctypes.Structure):
@@ -115,6 +119,12 @@ FUNCTIONS: Dict[str, List[Any]] = {
     "cq_set_environment_local_storage": [WORD],
     "cq_wait_set_event_notification_mode": [AT, BOOL],
     "cq_wait_next_event": [AT, I64, AT],
+    "cq_set_breakpoint": [NUMBER, NUMBER],
+    "cq_clear_breakpoint": [NUMBER, NUMBER],
+    "cq_set_stop_notification_mode": [BOOL, NUMBER, NUMBER],
+    "cq_notify_frame_pop": [NUMBER, NUMBER],
+    "cq_wait_next_stop": [AT, I64, AT],
+    "cq_wait_end_stop": [AT, NUMBER],
     "cq_wait_dispose_environment": [AT],
     "cq_serve": [AT, AT, ctypes.c_char_p, ctypes.c_char_p],
     "cq_debug_listen": [AT, AT, ctypes.c_char_p, ctypes.c_char_p, ctypes.c_char_p],

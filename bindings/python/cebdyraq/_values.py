@@ -14,8 +14,11 @@ class Code(enum.IntEnum):
     THREAD_NOT_ALIVE = 15
     INVALID_CLASS = 21
     INVALID_METHODID = 23
+    INVALID_LOCATION = 24
     NO_MORE_FRAMES = 31
     OPAQUE_FRAME = 32
+    DUPLICATE = 40
+    NOT_FOUND = 41
     NOT_AVAILABLE = 98
     MUST_POSSESS_CAPABILITY = 99
     ABSENT_INFORMATION = 101
@@ -55,6 +58,18 @@ class EventKind(enum.IntEnum):
     THREAD_END = 1
 
 
+class StopKind(enum.IntEnum):
+    BREAKPOINT = 0
+    SINGLE_STEP = 1
+    FRAME_POP = 2
+
+
+class StopReason(enum.IntFlag):
+    BREAKPOINT = 1
+    SINGLE_STEP = 2
+    FRAME_POP = 4
+
+
 class Error(Exception):
     """A call was refused. `code` says why."""
 
@@ -91,6 +106,15 @@ class Event(NamedTuple):
     kind: EventKind
     thread: int
     lost: int
+
+
+class Stop(NamedTuple):
+    """A stop of a thread: where it is, and why it stops there."""
+
+    thread: int
+    method: int
+    location: int
+    why: StopReason
 
 
 class MethodName(NamedTuple):

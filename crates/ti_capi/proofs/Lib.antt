@@ -7,3 +7,4 @@ mod Ending
 mod Traced
 mod ClassParts
 mod ClassTelling
+mod Stopping

@@ -9,15 +9,17 @@ use Rattle.ti_monitor.specs.Doors as http
 use Rattle.ti_monitor.specs.Seats as http_seats
 use Rattle.ti_jdwp.specs.Lines.{with_written}
 use Rattle.ti_jdwp.specs.Talks as debugger_talks
-use Rattle.ti_debugger.specs.declared.debugger.Debugger.{Debugger}
 use Rattle.ti_debugger.specs.declared.debugger_error.DebuggerError.{DebuggerError}
 use Rattle.ti_debugger.specs.declared.debugger_error.DebuggerError.TheVariants as debugger_error
 use Rattle.ti_debugger.specs.declared.seat.Todo.{Todo as DebuggerTodo}
 use Rattle.ti_debugger.specs.declared.seat.Todo.TheVariants as debugger_todo
 use Rattle.ti_debugger.specs.Crowds.{NoneHeld}
-use Rattle.ti_debugger.specs.Desks.{Works}
+use Rattle.ti_debugger.specs.Debuggers.{DebuggerValue, Works}
 use Rattle.ti_debugger.specs.Told.{ToldBy}
 use Rattle.ti_service.specs.Classes.{classes_of}
+use Rattle.ti_service.specs.Leaving.{Disposes}
+use Rattle.ti_service.specs.Memberships.{state_of}
+use Rattle.ti_service.specs.Service.{Member}
 use Rattle.ti_debugger.specs.Runs as debugger_runs
 use Rattle.ti_debugger.specs.Seats as debugger_seats
 use Rattle.ti_debugger.specs.Sessions as sessions
@@ -42,8 +44,8 @@ todo_at_door debugger_todo.Write = Write
 todo_at_door debugger_todo.Close = Close
 
 -- the session of a debugger's connection of this number
-abbrev pub session_at : ℕ → Debugger → Option debugger_talks.Talk
-session_at connection d = if connection == 0 then sessions.session_in d.seat else None
+abbrev pub session_at : ℕ → DebuggerValue → Option debugger_talks.Talk
+session_at connection d = if connection == 0 then d.session else None
 
 abbrev pub is_there : ℕ → AnyDoor → Bool
 is_there connection (any.Http d) = is_some (http.talk_at d connection)
@@ -59,18 +61,18 @@ output_at connection (any.Debugger d) = sessions.output_of (session_at connectio
 
 abbrev pub resumptions : AnyDoor → ℕ
 resumptions (any.Http d) = 0
-resumptions (any.Debugger d) = d.desk.resumptions
+resumptions (any.Debugger d) = d.resumptions
 
 -- a connection of this number is taken in at this time
 abbrev pub Opens : ℕ → ℕ → AnyDoor → AnyDoor → Type 0
 Opens now c (any.Http d) (any.Http n) = http.Opens d n c (millis now)
-Opens now c (any.Debugger d) (any.Debugger n) = (c ≡ 0) × (d.seat ≡ None) × (sessions.session_in n.seat ≡ Some debugger_talks.opened) × (n.desk ≡ d.desk)
+Opens now c (any.Debugger d) (any.Debugger n) = (c ≡ 0) × (d.session ≡ None) × (n.session ≡ Some debugger_talks.opened) × (n ≡ record d { session = n.session })
 Opens now c _ _ = ⊥
 
 -- there is no room for one more connection
 abbrev pub IsFull : AnyDoor → AnyDoor → Type 0
 IsFull (any.Http d) (any.Http n) = http.AllRun d n
-IsFull (any.Debugger d) (any.Debugger n) = (is_some d.seat ≡ true) × (n ≡ d)
+IsFull (any.Debugger d) (any.Debugger n) = (is_some d.session ≡ true) × (n ≡ d)
 IsFull _ _ = ⊥
 
 -- a session goes on by calls, and none begins or ends
@@ -80,17 +82,18 @@ SessionRuns None (Some s) = ⊥
 SessionRuns (Some s) None = ⊥
 SessionRuns (Some s) (Some n) = debugger_runs.RunsTo s n
 
--- each connection goes on by calls, and none opens or closes
+-- Each connection goes on by calls, and none opens or closes. A door for debuggers tells the same of the program,
+-- and has resumed no fewer threads
 abbrev pub AllRun : AnyDoor → AnyDoor → Type 0
 AllRun (any.Http d) (any.Http n) = http.AllRun d n
-AllRun (any.Debugger d) (any.Debugger n) = SessionRuns (sessions.session_in d.seat) (sessions.session_in n.seat)
+AllRun (any.Debugger d) (any.Debugger n) = SessionRuns d.session n.session × Works d n
 AllRun _ _ = ⊥
 
 -- the connection goes on by calls, and this is to be done with it
 abbrev pub Goes : ℕ → Todo → AnyDoor → AnyDoor → Type 0
 Goes connection todo (any.Http d) (any.Http n) = http.Changes d n connection (λ t n. http_seats.RunsTo t n × http_seats.Says n todo)
 Goes connection todo (any.Debugger d) (any.Debugger n) =
-    Works d.desk n.desk × (t : DebuggerTodo) × (todo ≡ todo_at_door t) × sessions.Changes (session_at connection d) (session_at connection n) (λ s n. debugger_runs.RunsTo s n × debugger_seats.Says n t)
+    Works d n × (t : DebuggerTodo) × (todo ≡ todo_at_door t) × sessions.Changes (session_at connection d) (session_at connection n) (λ s n. debugger_runs.RunsTo s n × debugger_seats.Says n t)
 Goes connection todo _ _ = ⊥
 
 -- there is no session, or no memory
@@ -107,50 +110,53 @@ Refuses connection (any.Debugger d) e = RefusesSession (session_at connection d)
 abbrev pub IsUnknown : ℕ → AnyDoor → AnyDoor → DoorError → Type 0
 IsUnknown connection d n e = (e ≡ NoConnection) × (is_there connection d ≡ false) × (n ≡ d)
 
--- the connections are as before
+-- the door is as before
 abbrev pub IsAsBefore : AnyDoor → AnyDoor → Type 0
-IsAsBefore (any.Http d) (any.Http n) = n ≡ d
-IsAsBefore (any.Debugger d) (any.Debugger n) = sessions.session_in n.seat ≡ sessions.session_in d.seat
-IsAsBefore _ _ = ⊥
+IsAsBefore d n = n ≡ d
 
 -- the connection takes so many of these bytes, as many as it has room for
 abbrev pub Feeds : ℕ → List ℕ → ℕ → ℕ → AnyDoor → AnyDoor → Type 0
 Feeds connection bytes now count (any.Http d) (any.Http n) = http.Changes d n connection (http.Feeds bytes count (millis now))
-Feeds connection bytes now count (any.Debugger d) (any.Debugger n) = (n.desk ≡ d.desk) × sessions.Changes (session_at connection d) (session_at connection n) (λ s n. sessions.Feeds s n bytes count)
+Feeds connection bytes now count (any.Debugger d) (any.Debugger n) = (n ≡ record d { session = n.session }) × sessions.Changes (session_at connection d) (session_at connection n) (λ s n. sessions.Feeds s n bytes count)
 Feeds connection bytes now count _ _ = ⊥
 
 -- the peer of the connection sends no more
 abbrev pub Ends : ℕ → AnyDoor → AnyDoor → Type 0
 Ends connection (any.Http d) (any.Http n) = http.Changes d n connection (λ t n. http_seats.RunsTo t n × (n.ended ≡ true))
-Ends connection (any.Debugger d) (any.Debugger n) = (n.desk ≡ d.desk) × sessions.Changes (session_at connection d) (session_at connection n) (λ s n. n ≡ record s { ended = true })
+Ends connection (any.Debugger d) (any.Debugger n) = (n ≡ record d { session = n.session }) × sessions.Changes (session_at connection d) (session_at connection n) (λ s n. n ≡ record s { ended = true })
 Ends connection _ _ = ⊥
 
 -- the socket of the connection took so many bytes
 abbrev pub Writes : ℕ → ℕ → ℕ → AnyDoor → AnyDoor → Type 0
 Writes connection count now (any.Http d) (any.Http n) = http.Changes d n connection (λ t n. n ≡ written_from t count (millis now))
-Writes connection count now (any.Debugger d) (any.Debugger n) = (n.desk ≡ d.desk) × sessions.Changes (session_at connection d) (session_at connection n) (λ s n. n ≡ record s { bytes = with_written s.bytes count })
+Writes connection count now (any.Debugger d) (any.Debugger n) = (n ≡ record d { session = n.session }) × sessions.Changes (session_at connection d) (session_at connection n) (λ s n. n ≡ record s { bytes = with_written s.bytes count })
 Writes connection count now _ _ = ⊥
 
 -- The connection is gone. What a debugger suspended is resumed, or will be
 abbrev pub Disconnects : ℕ → AnyDoor → AnyDoor → Type 0
 Disconnects connection (any.Http d) (any.Http n) = (is_some (http.talk_at d connection) ≡ true) × (n ≡ http.with_talk d connection None)
-Disconnects connection (any.Debugger d) (any.Debugger n) = (is_some (session_at connection d) ≡ true) × (n.seat ≡ None) × NoneHeld n.desk.crowd.list.items × Works d.desk n.desk
+Disconnects connection (any.Debugger d) (any.Debugger n) = (is_some (session_at connection d) ≡ true) × (n.session ≡ None) × NoneHeld n.watched × Works d n
 Disconnects connection _ _ = ⊥
 
 -- Each connection goes on, and none opens or closes. A debugger's session is told of events alone
 abbrev pub Ticks : AnyDoor → AnyDoor → Type 0
 Ticks (any.Http d) (any.Http n) = http.AllRun d n
 Ticks (any.Debugger d) (any.Debugger n) =
-    ToldBy (classes_of n.desk.agent) d.desk.next_class n.desk.next_class (sessions.session_in d.seat) (sessions.session_in n.seat) × (d.desk.resumptions ≤ n.desk.resumptions)
+    ToldBy (classes_of n.agent) d.next_class n.next_class d.session n.session × (d.resumptions ≤ n.resumptions) × (n.about ≡ d.about)
 Ticks _ _ = ⊥
 
 -- A door for debuggers ends only if no debugger is connected, and no suspension is out or to be undone
 abbrev pub MayEnd : AnyDoor → Type 0
 MayEnd (any.Http d) = ⊤
-MayEnd (any.Debugger d) = sessions.is_idle d.seat d.desk.crowd.list.items ≡ true
+MayEnd (any.Debugger d) = sessions.is_idle d.session d.watched ≡ true
+
+-- The environment of a door for debuggers is disposed of, and its handle of the service is left. Of a door for HTTP nothing is said
+abbrev pub EndsAs : AnyDoor → Member → Type 0
+EndsAs (any.Http d) s = ⊤
+EndsAs (any.Debugger d) s = Disposes (state_of d.agent) s
 
 -- a door that does not end is as it was, but for its environment, which may have left some of its threads
 abbrev pub StaysAs : AnyDoor → AnyDoor → Type 0
 StaysAs (any.Http d) (any.Http n) = n ≡ d
-StaysAs (any.Debugger d) (any.Debugger n) = n ≡ record d { desk = record d.desk { agent = n.desk.agent } }
+StaysAs (any.Debugger d) (any.Debugger n) = n ≡ record d { agent = n.agent }
 StaysAs _ _ = ⊥

@@ -1,5 +1,5 @@
 -- Doors, as C uses them.
-use Rattle.std.specs.Prelude.{ℕ, ◌≡◌, ◌⊎◌, true, false, List, [], length, min, nat_lt, if◌then◌else◌, Option, None, Some, Result, Ok, Err, ⊤}
+use Rattle.std.specs.Prelude.{ℕ, ◌≡◌, ◌⊎◌, codes, string_bytes, true, false, List, [], length, min, nat_lt, if◌then◌else◌, Option, None, Some, Result, Ok, Err, ⊤}
 use Rattle.ti_types.specs.TiError.{number_of}
 use Rattle.ti_types.specs.declared.error.TiError.{TiError}
 use Rattle.ti_types.specs.declared.error.TiError.TheVariants.{Full, OutOfMemory}
@@ -12,12 +12,13 @@ use Rattle.ti_monitor.specs.declared.door_seat.Todo.TheVariants as todo
 use Rattle.ti_monitor.specs.Doors.{door_with}
 use Rattle.ti_service.specs.Service.{Member, with_handle}
 use Rattle.ti_debugger.specs.Crowds.{NoneHeld}
+use Rattle.ti_debugger.specs.declared.about.About.{About}
 use Rattle.ti_capi.specs.declared.any_door.AnyDoor.{AnyDoor}
 use Rattle.ti_capi.specs.declared.any_door.AnyDoor.TheVariants.{Http, Debugger}
 use Rattle.ti_capi.specs.declared.held.Held.{Held}
 use Rattle.ti_capi.specs.Codes.{misused, none_told}
 use Rattle.ti_capi.specs.declared.held.HeldDoor.{HeldDoor}
-use Rattle.ti_capi.specs.AnyDoors.{AllRun, Feeds, Goes, IsAsBefore, IsFull, MayEnd, Opens, Refuses, StaysAs, Ticks, is_there, output_at, resumptions, room_at}
+use Rattle.ti_capi.specs.AnyDoors.{AllRun, EndsAs, Feeds, Goes, IsAsBefore, IsFull, MayEnd, Opens, Refuses, StaysAs, Ticks, is_there, output_at, resumptions, room_at}
 use Rattle.ti_capi.specs.Handles.{Handle, door_box_in, door_of, service_in, with_door_box}
 use Rattle.ti_capi.specs.Services.{Fills, FillsBy, NamesWrongly, RefusesEnv}
 use Rattle.ti_capi.specs.Values.{over}
@@ -99,19 +100,19 @@ StaysIn (Some d) (Some n) code = (e : TiError) × (code ≡ number_of e) × Stay
 StaysIn (Some d) None code = ⊥
 StaysIn None after code = (after ≡ None) × (code ≡ misused)
 
--- a door may be disposed of
-abbrev pub MayEndIn : Option AnyDoor → Type 0
-MayEndIn (Some d) = MayEnd d
-MayEndIn None = ⊥
+-- a door could be disposed of, and was
+abbrev pub EndsIn : Option AnyDoor → Type 0
+EndsIn (Some d) = MayEnd d × (s : Member) × EndsAs d s
+EndsIn None = ⊥
 
 -- the door is disposed of, or stays
 abbrev pub Closes : Option AnyDoor → Option AnyDoor → ℕ → Type 0
-Closes door after code = ((code ≡ 0) × (after ≡ None) × MayEndIn door) ⊎ StaysIn door after code
+Closes door after code = ((code ≡ 0) × (after ≡ None) × EndsIn door) ⊎ StaysIn door after code
 
 -- the door is gone, and its handle empty. Or the code tells why its environment stays, and so does the door behind its handle
 abbrev pub ClosesBehind : Option HeldDoor → Option HeldDoor → Handle → Handle → ℕ → Type 0
 ClosesBehind (Some h) (Some k) old new code = (new ≡ with_door_box old k) × StaysIn h.door k.door code
-ClosesBehind (Some h) None old new code = (code ≡ 0) × (new.kind ≡ 0) × MayEndIn h.door
+ClosesBehind (Some h) None old new code = (code ≡ 0) × (new.kind ≡ 0) × EndsIn h.door
 ClosesBehind None after old new code = (new ≡ old) × (code ≡ misused)
 
 abbrev pub ClosesDoor : Handle → Handle → ℕ → Type 0
@@ -138,17 +139,29 @@ NamesOneWrongly name path e = NamesWrongly name e ⊎ NamesWrongly path e
 abbrev pub RefusesDebugger : List ℕ → List ℕ → Member → Member → TiError → Type 0
 RefusesDebugger name path m n e = (NamesOneWrongly name path e × (n ≡ m)) ⊎ RefusesEnv m n e
 
--- no debugger is connected, and none has suspended a thread
-abbrev pub Awaits : Option AnyDoor → Type 0
-Awaits (Some (Debugger d)) = (d.seat ≡ None) × NoneHeld d.desk.crowd.list.items
-Awaits (Some (Http d)) = ⊥
-Awaits None = ⊥
+-- the version of this library
+abbrev pub version : List ℕ
+version = codes "1.5.0"
 
-abbrev pub AwaitsDebugger : Option Held → Type 0
-AwaitsDebugger held = Awaits (door_of held)
+-- debuggers are told this name, this path and this version
+pub record TellsAbout (name path version : List ℕ) (a : About) : Type 0 where
+  pub description_is : string_bytes a.description ≡ name
+  pub version_is : string_bytes a.version ≡ version
+  pub name_is : string_bytes a.name ≡ name
+  pub base_is : string_bytes a.base ≡ path
+  pub path_is : string_bytes a.path ≡ path
+
+-- no debugger is connected, none has suspended a thread, and this is what debuggers are told of the program
+abbrev pub Awaits : List ℕ → List ℕ → Option AnyDoor → Type 0
+Awaits name path (Some (Debugger d)) = (d.session ≡ None) × NoneHeld d.watched × TellsAbout name path version d.about
+Awaits name path (Some (Http d)) = ⊥
+Awaits name path None = ⊥
+
+abbrev pub AwaitsDebugger : List ℕ → List ℕ → Option Held → Type 0
+AwaitsDebugger name path held = Awaits name path (door_of held)
 
 abbrev pub OpensDebuggerFor : List ℕ → List ℕ → Member → Member → Handle → Handle → ℕ → Type 0
-OpensDebuggerFor name path m n old new code = Fills (n ≡ m) (λ x. (n ≡ with_handle m) × AwaitsDebugger x) (RefusesDebugger name path m n) old new code
+OpensDebuggerFor name path m n old new code = Fills (n ≡ m) (λ x. (n ≡ with_handle m) × AwaitsDebugger name path x) (RefusesDebugger name path m n) old new code
 
 abbrev pub OpensDebugger : List ℕ → List ℕ → Handle → Handle → Handle → Handle → ℕ → Type 0
 OpensDebugger name path s0 s1 old new code = FillsBy (OpensDebuggerFor name path) (service_in s0) (service_in s1) s0 s1 old new code

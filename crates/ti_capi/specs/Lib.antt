@@ -18,3 +18,4 @@ pub mod Defining
 pub mod Classes
 pub mod AnyDoors
 pub mod Doors
+pub mod Stops

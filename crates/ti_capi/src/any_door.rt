@@ -66,10 +66,7 @@ impl AnyDoor {
             AnyDoor::Http(door) => door.next(ConnNo(connection), now, unix),
             AnyDoor::Debugger(debugger) => {
                 only(connection)?;
-                match debugger.next(now) {
-                    Ok(todo) => Ok(todo_at_door(todo)),
-                    Err(error) => Err(at_door(error)),
-                }
+                debugger.next(now).map(todo_at_door).map_err(at_door)
             }
         }
     }
@@ -99,10 +96,7 @@ impl AnyDoor {
             AnyDoor::Http(door) => door.feed(ConnNo(connection), bytes, now),
             AnyDoor::Debugger(debugger) => {
                 only(connection)?;
-                match debugger.feed(bytes, now) {
-                    Ok(count) => Ok(count),
-                    Err(error) => Err(at_door(error)),
-                }
+                debugger.feed(bytes, now).map_err(at_door)
             }
         }
     }
@@ -116,10 +110,7 @@ impl AnyDoor {
             AnyDoor::Http(door) => door.end(ConnNo(connection), now),
             AnyDoor::Debugger(debugger) => {
                 only(connection)?;
-                match debugger.end(now) {
-                    Ok(()) => Ok(()),
-                    Err(error) => Err(at_door(error)),
-                }
+                debugger.end(now).map_err(at_door)
             }
         }
     }
@@ -164,10 +155,7 @@ impl AnyDoor {
             AnyDoor::Http(door) => door.written(ConnNo(connection), count, now),
             AnyDoor::Debugger(debugger) => {
                 only(connection)?;
-                match debugger.written(count) {
-                    Ok(()) => Ok(()),
-                    Err(error) => Err(at_door(error)),
-                }
+                debugger.written(count).map_err(at_door)
             }
         }
     }
@@ -221,6 +209,7 @@ impl AnyDoor {
     /// Disposes of the environment. With an error the door comes back.
     pub(crate) fn finish(self) -> Result<Service, (TiError, AnyDoor)>
         ensures done { OnOk result (MayEnd self) }
+        ensures disposed { IfOk result (EndsAs self) }
         ensures stays { IfErr result (λ p. StaysAs self p.1) }
     {
         match self {
@@ -237,4 +226,4 @@ impl AnyDoor {
 }
 
 ghost use Rattle.std.specs.Prelude.{◌≡◌, IfErr, IfNone, IfOk, IfSome, OnErr, OnOk};
-ghost use Rattle.ti_capi.specs.AnyDoors.{AllRun, Disconnects, Ends, Feeds, Goes, IsAsBefore, IsFull, IsUnknown, MayEnd, Opens, Refuses, StaysAs, Ticks, Writes, at_door, is_there, only, output_at, resumptions, room_at, todo_at_door};
+ghost use Rattle.ti_capi.specs.AnyDoors.{AllRun, Disconnects, Ends, EndsAs, Feeds, Goes, IsAsBefore, IsFull, IsUnknown, MayEnd, Opens, Refuses, StaysAs, Ticks, Writes, at_door, is_there, only, output_at, resumptions, room_at, todo_at_door};

@@ -14,7 +14,7 @@ use ti_service::Service;
 use ti_types::TiError;
 
 /// The version that `/metrics` and a debugger are told, which is that of `cebdyraq.h`.
-const VERSION: &str = "1.4.0";
+const VERSION: &str = "1.5.0";
 
 /// The hosts that are served at a port. Above 65,535 there is no port, and every host is served.
 fn hosts_at(port: u32) -> Hosts
@@ -104,7 +104,8 @@ pub extern "C" fn cq_open_door(
 
 /// What a debugger is told of the runtime.
 fn about(alloc: Global, program: &[u8], path: &[u8], version: String) -> Result<About, TiError>
-    ensures { IfErr result (NamesOneWrongly program.now path.now) }
+    ensures told { IfOk result (TellsAbout program.now path.now (string_bytes version)) }
+    ensures refused { IfErr result (NamesOneWrongly program.now path.now) }
 {
     Ok(About {
         description: name_of(alloc, program)?,
@@ -124,7 +125,7 @@ fn open_debugger(
     now: u64,
 ) -> Result<Box<Held>, TiError>
     ensures made { OnOk result (service.new ≡ with_handle service.old) }
-    ensures opened { IfOk result (λ b. AwaitsDebugger (Some b.value)) }
+    ensures opened { IfOk result (λ b. AwaitsDebugger program.now path.now (Some b.value)) }
     ensures refused { IfErr result (λ e. RefusesDebugger program.now path.now service.old service.new e) }
 {
     let version = String::from_str(alloc, VERSION)?;
@@ -361,10 +362,10 @@ fn close(held: &mut HeldDoor) -> u32
     }
 }
 
-ghost use Rattle.std.specs.Prelude.{◌≡◌, [], ⊤, IfErr, IfOk, OnOk, Some};
+ghost use Rattle.std.specs.Prelude.{◌≡◌, [], ⊤, IfErr, IfOk, OnOk, Some, string_bytes};
 ghost use Rattle.ti_monitor.specs.Doors.{door_with};
 ghost use Rattle.ti_capi.specs.AnyDoors.{Disconnects, Ends, Writes};
-ghost use Rattle.ti_capi.specs.Doors.{AwaitsDebugger, CallsDoor, ChangesOne, Closes, ClosesDoor, Connects, GivesOutput, IsTicked, NamesOneWrongly, OpensDebugger, OpensDoor, RefusesDebugger, RefusesDoor, Takes, Tells, TellsResumptions, action_of, code_done, code_refused, hosts_at};
+ghost use Rattle.ti_capi.specs.Doors.{AwaitsDebugger, CallsDoor, ChangesOne, Closes, ClosesDoor, Connects, GivesOutput, IsTicked, NamesOneWrongly, OpensDebugger, OpensDoor, RefusesDebugger, RefusesDoor, Takes, Tells, TellsAbout, TellsResumptions, action_of, code_done, code_refused, hosts_at};
 ghost use Rattle.ti_capi.specs.Handles.{door_of};
 ghost use Rattle.ti_capi.specs.declared.any_door.AnyDoor.TheVariants.{Http};
 ghost use Rattle.ti_service.specs.Service.{with_handle};

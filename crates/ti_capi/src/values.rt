@@ -1,7 +1,10 @@
 //! The values that cross to C and back.
 
-use ti_roster::{LifeKind, NextEvent};
+use ti_roster::{LifeKind, NextEvent, Stop, StopKind};
 use ti_types::{EnvNo, Frame, Kind, MethodNo, Place, ThreadNo, Ticket};
+
+/// The number that stands for all threads, which is no thread's.
+const ALL_THREADS: u32 = u32::MAX;
 
 /// A frame: its method, and its location, which is -1 if it is native (JVM TI 11, jlocation).
 #[repr(C)]
@@ -44,6 +47,16 @@ pub struct CqEvent {
     pub kind: u32,
     pub thread: u32,
     pub lost: u64,
+}
+
+/// A stop of a thread: where it is, and why it stops there, by the bits 1 (a breakpoint), 2 (a single step) and 4 (the end of a frame).
+#[repr(C)]
+#[derive(Clone, Copy)]
+pub struct CqStop {
+    pub thread: u32,
+    pub method: u32,
+    pub location: i64,
+    pub why: u32,
 }
 
 /// What a trace of several threads tells of one: its number, its state, and how many of its frames were read.
@@ -122,6 +135,49 @@ pub(crate) fn event_out(next: NextEvent) -> CqEvent
     }
 }
 
+/// A bit, if it is set.
+fn bit(set: bool, value: u32) -> u32
+    ensures { result ≡ bit set value }
+{
+    if set { value } else { 0 }
+}
+
+/// A stop as C has it.
+pub(crate) fn stop_out(stop: Stop) -> CqStop
+    ensures { result ≡ stop_written stop }
+{
+    let frame = frame_out(stop.at);
+    CqStop {
+        thread: stop.thread.0,
+        method: frame.method,
+        location: frame.location,
+        why: bit(stop.breakpoint, 1) + bit(stop.single_step, 2) + bit(stop.frame_pop, 4),
+    }
+}
+
+/// The kind of stop of this number. `None` if there is no such kind.
+pub(crate) fn stop_kind_in(kind: u32) -> Option<StopKind>
+    ensures { result ≡ kind_read kind }
+{
+    match kind {
+        0 => Some(StopKind::Breakpoint),
+        1 => Some(StopKind::SingleStep),
+        2 => Some(StopKind::FramePop),
+        _ => None,
+    }
+}
+
+/// One thread, or all.
+pub(crate) fn stop_thread_in(thread: u32) -> Option<ThreadNo>
+    ensures { result ≡ thread_read thread }
+{
+    if thread == ALL_THREADS {
+        None
+    } else {
+        Some(ThreadNo(thread))
+    }
+}
+
 /// The reason to block of this number. `None` if there is no such reason.
 pub(crate) fn reason_in(reason: u32) -> Option<Kind>
     ensures { result ≡ reason_read reason }
@@ -139,3 +195,4 @@ pub(crate) fn reason_in(reason: u32) -> Option<Kind>
 
 ghost use Rattle.std.specs.Prelude.{◌≡◌, if◌then◌else◌, Some, None};
 ghost use Rattle.ti_capi.specs.Values.{event_written, frame_of, frame_written, is_frame, reason_read, ticket_read, ticket_written};
+ghost use Rattle.ti_capi.specs.Stops.{bit, kind_read, stop_written, thread_read};

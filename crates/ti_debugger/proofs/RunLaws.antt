@@ -1,14 +1,16 @@
 -- Runs of a session by its agent's calls: one call, and one run after another.
-use Rattle.std.proofs.Common.{◌≡◌, ℕ, Bool, true, false, ◌&&◌, List, [], ◌∷◌, ◌++◌, Some, Result, Ok, Err, refl, sym, ap, subst, ◌∙◌, append_assoc}
+use Rattle.std.proofs.Common.{◌≡◌, ℕ, Bool, true, false, ◌&&◌, List, [], ◌∷◌, ◌++◌, Option, Some, Result, Ok, Err, refl, sym, ap, subst, ◌∙◌, append_assoc}
 use Rattle.std.specs.Prelude.{IfOk, OnErr, OnOk}
 use Rattle.std.specs.List.{list_all}
 use Rattle.std.proofs.lemmas.List.Folds.{list_all-append}
 use Rattle.ti_jdwp.specs.declared.actions.Action.{Action}
 use Rattle.ti_jdwp.specs.declared.actions.Posted.{Posted}
+use Rattle.ti_jdwp.specs.declared.error.JdwpError.{JdwpError}
+use Rattle.ti_jdwp.specs.declared.stops.Standing.{Standing}
 use Rattle.ti_jdwp.specs.declared.session_error.SessionError.{SessionError}
 use Rattle.ti_jdwp.specs.declared.session_error.SessionError.TheVariants.{NotAsked}
-use Rattle.ti_jdwp.specs.Answered.{is_asked, listed_in, settled_in, PostedIn}
-use Rattle.ti_jdwp.specs.SessionRuns.{Call, Runs, taken, Went, Failed, Replied, Listed, PostedAs, Settled}
+use Rattle.ti_jdwp.specs.Answered.{is_asked, listed_in, located_in, placed_in, settled_in, PostedIn}
+use Rattle.ti_jdwp.specs.SessionRuns.{Call, Runs, taken, Went, Failed, Replied, Listed, PostedAs, Settled, PlacedAs, LocatedAs}
 use Rattle.ti_jdwp.specs.Steps.{Goes, Fails}
 use Rattle.ti_jdwp.specs.Talks.{Talk, replied}
 use Rattle.ti_debugger.specs.Runs.{RunsTo, is_agents}
@@ -56,3 +58,9 @@ settled_run t m step = (Settled ∷ [], refl, (m, [], step, refl, (refl, refl)))
 pub next_run : (r : Result Action SessionError) (t m : Talk) → IfOk r (λ a. Goes t a m) → OnErr r (Fails t m) → RunsTo t m
 next_run (Ok a) t m goes fails = goes_run t m a goes
 next_run (Err e) t m goes fails = fails_run t m fails
+
+pub placed_run : (t m : Talk) (p : Result (Unit {0}) JdwpError) → placed_in t.phase p t ≡ Some m → RunsTo t m
+placed_run t m p is = (PlacedAs p ∷ [], refl, (m, [], is, refl, (refl, refl)))
+
+pub located_run : (t m : Talk) (o : Option Standing) → located_in t.phase o t ≡ Some m → RunsTo t m
+located_run t m o is = (LocatedAs o ∷ [], refl, (m, [], is, refl, (refl, refl)))

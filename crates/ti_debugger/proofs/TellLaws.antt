@@ -2,7 +2,7 @@
 use Rattle.std.proofs.Common.{◌≡◌, ℕ, zero, suc, Bool, List, [], ◌∷◌, ◌++◌, Option, Some, None, slice_get, refl, sym, ap, subst, arith}
 use Rattle.std.specs.Prelude.{IsSomeAnd, string_bytes}
 use mathlib.Core.List.{IsPrefix}
-use Rattle.ti_jdwp.specs.SessionRuns.{Call, Step, taken, Fed, PeerEnded, Shut, Went, Failed, Replied, Listed, PostedAs, Settled, Written, Happened}
+use Rattle.ti_jdwp.specs.SessionRuns.{Call, Step, taken, Fed, PeerEnded, Shut, Went, Failed, Replied, Listed, PostedAs, Settled, Written, Happened, PlacedAs, LocatedAs, StoppedAt}
 use Rattle.ti_jdwp.specs.Talks.{Talk}
 use Rattle.ti_jdwp.specs.declared.event_text.Occurrence.{Occurrence}
 use Rattle.ti_methods.specs.Classes.{IsSignature}
@@ -45,6 +45,8 @@ follows_more : (log more : List ClassInfo) (n m : ℕ) (o : Occurrence) (is_note
 follows_more log more n m (occurrence.ThreadStart t) is_noted pre is = is
 follows_more log more n m (occurrence.ThreadDeath t) is_noted pre is = is
 follows_more log more n m (occurrence.ClassPrepare t c s) is_noted pre is = (is.0, signature_stays log more _ s.now pre is.1, is.2)
+follows_more log more n m (occurrence.SingleStep t c k i) is_noted pre is = absurd is
+follows_more log more n m (occurrence.Breakpoint t c k i) is_noted pre is = absurd is
 follows_more log more n m (occurrence.ClassUnload s) is_noted pre is = absurd is
 follows_more log more n m occurrence.VmDeath is_noted pre is = absurd is
 
@@ -60,6 +62,9 @@ by_more log more n m (Listed threads) pre is = absurd is
 by_more log more n m (PostedAs posted) pre is = absurd is
 by_more log more n m Settled pre is = absurd is
 by_more log more n m (Written count) pre is = absurd is
+by_more log more n m (PlacedAs placed) pre is = absurd is
+by_more log more n m (LocatedAs standing) pre is = absurd is
+by_more log more n m (StoppedAt x verdict) pre is = is
 
 from_more : (log more : List ClassInfo) (n m : ℕ) (calls : List Call) → IsPrefix log more → TellsFrom log n calls m → TellsFrom more n calls m
 from_more log more n m [] pre is = is
@@ -70,9 +75,10 @@ told_more log more n m None t pre is = is
 told_more log more n m (Some s) t pre is = (is.0, is.1, (is.2.0, from_more log more n m is.2.0 pre is.2.1, is.2.2))
 
 -- the same, by other names
-pub told_at : (log log' : List ClassInfo) (n n' m m' : ℕ) (s t : Option Talk) → log' ≡ log → n ≡ n' → m' ≡ m → ToldBy log n m s t → ToldBy log' n' m' s t
-told_at log log' n n' m m' s t known from up_to is =
-    subst (λ (x : List ClassInfo). ToldBy x n' m' s t) (sym known) (subst (λ (x : ℕ). ToldBy log x m' s t) from (subst (λ (x : ℕ). ToldBy log n x s t) (sym up_to) is))
+pub told_at : (log log' : List ClassInfo) (n n' m m' : ℕ) (s s' t : Option Talk) → log' ≡ log → n ≡ n' → m' ≡ m → s ≡ s' → ToldBy log n m s t → ToldBy log' n' m' s' t
+told_at log log' n n' m m' s s' t known from up_to was is =
+    subst (λ (x : List ClassInfo). ToldBy x n' m' s' t) (sym known)
+    (subst (λ (x : ℕ). ToldBy log x m' s' t) from (subst (λ (x : ℕ). ToldBy log n x s' t) (sym up_to) (subst (λ (x : Option Talk). ToldBy log n m x t) was is)))
 
 -- one event
 pub tells_one : (log : List ClassInfo) (n m : ℕ) (c : Call) (s t : Talk) → TellsBy log n c m → Step s c t → taken s c ≡ [] → Tells log n m s t

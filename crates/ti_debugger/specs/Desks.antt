@@ -1,13 +1,28 @@
--- What a call leaves of a desk.
-use Rattle.std.specs.Prelude.{◌≡◌, ◌≤◌}
+-- What a call leaves of a desk, and what contracts see of it.
+use Rattle.std.specs.Prelude.{◌≡◌, ◌≤◌, Option}
 use Rattle.ti_debugger.specs.declared.desk.Desk.{Desk}
+use Rattle.ti_debugger.specs.declared.seat.Seat.{Seat}
+use Rattle.ti_debugger.specs.Debuggers.{DebuggerValue}
+use Rattle.ti_debugger.specs.Sessions.{session_in}
+
+abbrev pub debugger_of : Option Seat → Desk → DebuggerValue
+debugger_of seat desk = record {
+  session = session_in seat;
+  watched = desk.crowd.list.items;
+  agent = desk.agent;
+  about = desk.about;
+  next_class = desk.next_class;
+  resumptions = desk.resumptions;
+}
 
 -- threads are met, watched and let go of, and no thread is resumed
 pub record Watches (old new : Desk) : Type 0 where
   pub classes : new.next_class ≡ old.next_class
   pub resumptions : new.resumptions ≡ old.resumptions
+  pub about : new.about ≡ old.about
 
 -- threads are suspended, asked and resumed
 pub record Works (old new : Desk) : Type 0 where
   pub classes : new.next_class ≡ old.next_class
   pub resumptions : old.resumptions ≤ new.resumptions
+  pub about : new.about ≡ old.about

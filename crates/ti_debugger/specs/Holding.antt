@@ -1,8 +1,16 @@
 -- What comes of a suspension.
-use Rattle.std.specs.Prelude.{ℕ, Bool, true, false, ◌&&◌, nat_lt, Option, Some, None, if◌then◌else◌}
+use Rattle.std.specs.Prelude.{ℕ, ◌≡◌, ◌⊎◌, Bool, true, false, ◌&&◌, nat_lt, Option, Some, None, if◌then◌else◌}
 use Rattle.ti_types.specs.declared.answer.Answer.{Answer}
 use Rattle.ti_types.specs.declared.answer.Answer.TheVariants as answer
 use Rattle.ti_types.specs.declared.error.TiError.TheVariants as error
+use Rattle.ti_types.specs.declared.call.Call.TheVariants as call
+use Rattle.ti_types.specs.declared.event.Ticket.{Ticket}
+use Rattle.ti_types.specs.declared.numbers.ThreadNo.{ThreadNo}
+use Rattle.ti_slot.specs.declared.asked.Asked.TheVariants.{Answered, Waiting}
+use Rattle.ti_agent.specs.Env.{Environment}
+use Rattle.ti_agent.specs.Posts.{Posts}
+use Rattle.ti_jdwp.specs.declared.actions.Posted.{Posted}
+use Rattle.ti_jdwp.specs.declared.actions.Posted.TheVariants as posted
 use Rattle.ti_debugger.specs.declared.hold.Hold.{Hold}
 use Rattle.ti_debugger.specs.declared.hold.Hold.TheVariants as hold
 
@@ -51,3 +59,24 @@ is_let_go (hold.Out ticket until false) = true
 is_let_go hold.Own = false
 is_let_go hold.Another = false
 is_let_go hold.Owed = true
+
+-- the debugger suspends the thread by the agent
+abbrev pub is_wanted : Hold → Bool
+is_wanted hold.Free = false
+is_wanted (hold.Out ticket until wanted) = wanted
+is_wanted hold.Own = true
+is_wanted hold.Another = false
+is_wanted hold.Owed = false
+
+-- what a session is told of a suspension is what it became
+abbrev pub IsPostedAs : Option Posted → Hold → Hold → Type 0
+IsPostedAs (Some posted.Suspended) old new = is_wanted new ≡ true
+IsPostedAs (Some posted.ByAnother) old new = new ≡ hold.Another
+IsPostedAs _ old new = new ≡ old
+
+-- and it is what the service answered: it took place, or will; or another environment had suspended the thread
+abbrev pub PostsAs : Option Posted → Environment → Environment → ThreadNo → Type 0
+PostsAs (Some posted.Suspended) old new thread = Posts old new thread call.Suspend (Answered answer.Done) ⊎ ((ticket : Ticket) × Posts old new thread call.Suspend (Waiting ticket))
+PostsAs (Some posted.ByAnother) old new thread = Posts old new thread call.Suspend (Answered (answer.Refused error.ThreadSuspended))
+PostsAs (Some _) old new thread = Unit {0}
+PostsAs None old new thread = new ≡ old

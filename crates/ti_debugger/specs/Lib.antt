@@ -7,8 +7,10 @@ pub mod Stacks
 pub mod Runs
 pub mod Seats
 pub mod Sessions
+pub mod Debuggers
 pub mod Refused
 pub mod Sources
 pub mod Told
 pub mod Desks
 pub mod Replies
+pub mod Stopping

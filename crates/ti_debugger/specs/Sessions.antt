@@ -26,5 +26,5 @@ abbrev pub Feeds : Talk → Talk → List ℕ → ℕ → Type 0
 Feeds s s' bytes n = (n ≡ min (length bytes) (room_in s)) × (s' ≡ fed s (take n bytes))
 
 -- no debugger is connected, and nothing is left to be undone
-abbrev pub is_idle : Option Seat → List Watched → Bool
-is_idle seat list = not (is_some seat) && not (any_open list)
+abbrev pub is_idle : Option Talk → List Watched → Bool
+is_idle session list = not (is_some session) && not (any_open list)

@@ -1,6 +1,6 @@
 -- What a session is told without a request.
 use Rattle.std.specs.Prelude.{◌≡◌, ◌≤◌, ◌+◌, ℕ, Bool, List, [], ◌∷◌, Option, Some, None, if◌then◌else◌}
-use Rattle.ti_jdwp.specs.SessionRuns.{Call, Runs, Happened}
+use Rattle.ti_jdwp.specs.SessionRuns.{Call, Runs, Happened, StoppedAt}
 use Rattle.ti_jdwp.specs.Talks.{Talk}
 use Rattle.ti_jdwp.specs.declared.event_text.Occurrence.{Occurrence}
 use Rattle.ti_jdwp.specs.declared.event_text.Occurrence.TheVariants as occurrence
@@ -12,12 +12,15 @@ abbrev pub Follows : List ClassInfo → ℕ → Occurrence → Bool → ℕ → 
 Follows log n (occurrence.ThreadStart t) is_noted m = m ≡ n
 Follows log n (occurrence.ThreadDeath t) is_noted m = m ≡ n
 Follows log n (occurrence.ClassPrepare t c s) is_noted m = (c ≡ n) × IsSignature log (record { 0 = c }) s.now × (m ≡ (if is_noted then n + 1 else n))
+Follows log n (occurrence.SingleStep t c k i) is_noted m = ⊥
+Follows log n (occurrence.Breakpoint t c k i) is_noted m = ⊥
 Follows log n (occurrence.ClassUnload s) is_noted m = ⊥
 Follows log n occurrence.VmDeath is_noted m = ⊥
 
--- the session is told of an event, and asked for nothing
+-- the session is told of an event or of a stop, and asked for nothing
 abbrev pub TellsBy : List ClassInfo → ℕ → Call → ℕ → Type 0
 TellsBy log n (Happened e o is_noted) m = Follows log n o is_noted m
+TellsBy log n (StoppedAt x verdict) m = m ≡ n
 TellsBy log n _ m = ⊥
 
 -- Each call tells of an event. The classes from n on, up to m, are told in the order of their numbers, each once.

@@ -3,9 +3,11 @@
 use crate::about::About;
 use crate::debugger_error::DebuggerError;
 use crate::desk::Desk;
+use crate::halting::tend_stops;
 use crate::seat::{Seat, Todo};
 use crate::telling::{tell_classes, tell_lives};
 use std::alloc::Global;
+use std::marker::Model;
 use ti_service::{Agent, Service};
 use ti_types::TiError;
 
@@ -15,7 +17,8 @@ const SOON: u64 = 1_000_000;
 /// How long after a `tick` it looks again for suspensions that nobody waits for.
 const LATER: u64 = 10_000_000;
 
-/// An agent of a service for debuggers, one at a time. Times are nanoseconds of a clock that never goes back.
+/// An agent of a service for debuggers, one at a time. Times are nanoseconds of a clock that never goes back. Contracts see it as a
+/// `DebuggerValue`: its session as `ti_jdwp` sees it, the threads that it watches, and its environment.
 #[derive(Drop)]
 pub struct Debugger {
     alloc: Global,
@@ -24,12 +27,22 @@ pub struct Debugger {
     last_tick: u64,
 }
 
+impl Model for Debugger {
+    ghost use Rattle.ti_debugger.specs.Debuggers.{DebuggerValue};
+    ghost use Rattle.ti_debugger.specs.Desks.{debugger_of};
+
+    ghost Value = { DebuggerValue };
+
+    ghost view = { λ d. debugger_of d.seat d.desk };
+}
+
 impl Debugger {
     /// An agent with no debugger. It takes the capability to suspend threads. `about` is what debuggers are told of the runtime.
     pub fn new(alloc: Global, agent: Agent, about: About, now: u64) -> Debugger
-        ensures none { result.seat ≡ None }
-        ensures free { NoneHeld result.desk.crowd.list.items }
-        ensures resumptions { result.desk.resumptions ≡ 0 }
+        ensures none { result.session ≡ None }
+        ensures free { NoneHeld result.watched }
+        ensures resumptions { result.resumptions ≡ 0 }
+        ensures about { result.about ≡ about }
     {
         Debugger {
             alloc,
@@ -41,10 +54,10 @@ impl Debugger {
 
     /// Begins the session of a debugger that has connected. False while there is one: then nothing changes.
     pub fn connect(&mut self, now: u64) -> bool
-        ensures told { result ≡ not (is_some self.old.seat) }
-        ensures opened { result ≡ true → session_in self.new.seat ≡ Some opened }
+        ensures told { result ≡ not (is_some self.old.session) }
+        ensures opened { result ≡ true → self.new.session ≡ Some opened }
         ensures there { result ≡ false → self.new ≡ self.old }
-        ensures desk { self.new.desk ≡ self.old.desk }
+        ensures desk { self.new ≡ record self.old { session = self.new.session } }
     {
         if self.seat.is_some() {
             return false;
@@ -56,14 +69,14 @@ impl Debugger {
 
     /// Whether a debugger is connected.
     pub fn is_connected(&self) -> bool
-        ensures { result ≡ is_some self.now.seat }
+        ensures { result ≡ is_some self.now.session }
     {
         self.seat.is_some()
     }
 
     /// How many bytes `feed` takes now, at most 65,536. 0 if no debugger is connected.
     pub fn room(&self) -> usize
-        ensures { result ≡ room_of (session_in self.now.seat) }
+        ensures { result ≡ room_of self.now.session }
     {
         match &self.seat {
             Some(seat) => seat.session.room(),
@@ -76,9 +89,10 @@ impl Debugger {
     /// - 112 WRONG_PHASE: no debugger is connected. Nothing changes.
     /// - 110 OUT_OF_MEMORY: there is no memory for them. Nothing changes.
     pub fn feed(&mut self, bytes: &[u8], _now: u64) -> Result<usize, DebuggerError>
-        ensures fed { IfOk result (λ n. Changes (session_in self.old.seat) (session_in self.new.seat) (λ s s'. Feeds s s' bytes.now n)) }
+        ensures fed { IfOk result (λ n. Changes self.old.session self.new.session (λ s s'. Feeds s s' bytes.now n)) }
         ensures err { IfErr result (Refuses (λ s s'. s' ≡ s) self.old self.new) }
-        ensures desk { self.new.desk ≡ self.old.desk }
+        ensures kept { OnErr result (self.new ≡ self.old) }
+        ensures desk { self.new ≡ record self.old { session = self.new.session } }
     {
         let Some(mut seat) = self.seat.take() else {
             return Err(DebuggerError::NoDebugger);
@@ -92,9 +106,9 @@ impl Debugger {
     ///
     /// - 112 WRONG_PHASE: no debugger is connected. Nothing changes.
     pub fn end(&mut self, _now: u64) -> Result<(), DebuggerError>
-        ensures ended { OnOk result (Changes (session_in self.old.seat) (session_in self.new.seat) (λ s s'. s' ≡ record s { ended = true })) }
+        ensures ended { OnOk result (Changes self.old.session self.new.session (λ s s'. s' ≡ record s { ended = true })) }
         ensures err { IfErr result (HasNone self.old self.new) }
-        ensures desk { self.new.desk ≡ self.old.desk }
+        ensures desk { self.new ≡ record self.old { session = self.new.session } }
     {
         let Some(mut seat) = self.seat.take() else {
             return Err(DebuggerError::NoDebugger);
@@ -110,9 +124,9 @@ impl Debugger {
     /// - 110 OUT_OF_MEMORY: there is no memory for a reply, an event, or what a request asks to be kept. What was done before stays
     ///   done, and the rest waits for the next call.
     pub fn next(&mut self, now: u64) -> Result<Todo, DebuggerError>
-        ensures run { IfOk result (λ t. Changes (session_in self.old.seat) (session_in self.new.seat) (λ s s'. RunsTo s s' × Says s' t)) }
+        ensures run { IfOk result (λ t. Changes self.old.session self.new.session (λ s s'. RunsTo s s' × Says s' t)) }
         ensures err { IfErr result (Refuses RunsTo self.old self.new) }
-        ensures desk { Works self.old.desk self.new.desk }
+        ensures desk { Works self.old self.new }
     {
         let Some(mut seat) = self.seat.take() else {
             return Err(DebuggerError::NoDebugger);
@@ -124,7 +138,7 @@ impl Debugger {
 
     /// The bytes that are to be written. None if no debugger is connected.
     pub fn output(&self) -> &[u8]
-        ensures { result.now ≡ output_of (session_in self.now.seat) }
+        ensures { result.now ≡ output_of self.now.session }
     {
         match &self.seat {
             Some(seat) => seat.session.output(),
@@ -136,9 +150,9 @@ impl Debugger {
     ///
     /// - 112 WRONG_PHASE: no debugger is connected. Nothing changes.
     pub fn written(&mut self, count: usize) -> Result<(), DebuggerError>
-        ensures written { OnOk result (Changes (session_in self.old.seat) (session_in self.new.seat) (λ s s'. s' ≡ record s { bytes = with_written s.bytes count })) }
+        ensures written { OnOk result (Changes self.old.session self.new.session (λ s s'. s' ≡ record s { bytes = with_written s.bytes count })) }
         ensures err { IfErr result (HasNone self.old self.new) }
-        ensures desk { self.new.desk ≡ self.old.desk }
+        ensures desk { self.new ≡ record self.old { session = self.new.session } }
     {
         let Some(mut seat) = self.seat.take() else {
             return Err(DebuggerError::NoDebugger);
@@ -151,31 +165,34 @@ impl Debugger {
     /// Says that the socket is gone. The session is over, and all that its debugger suspended is resumed, now or by `tick`. Nothing
     /// happens if no debugger is connected.
     pub fn closed(&mut self)
-        ensures gone { self.new.seat ≡ None }
-        ensures free { NoneHeld self.new.desk.crowd.list.items }
-        ensures desk { Works self.old.desk self.new.desk }
+        ensures gone { self.new.session ≡ None }
+        ensures free { NoneHeld self.new.watched }
+        ensures desk { Works self.old self.new }
     {
         self.seat = None;
+        self.desk.let_go_of_all();
         self.desk.resume_all();
     }
 
-    /// Does what is due: it meets threads, tells the session of their starts and ends and of the classes that were defined, collects
-    /// what threads answered, and undoes suspensions that are not wanted any more. Call `next` after it.
+    /// Does what is due: it meets threads, tells the session of their starts and ends, of their stops and of the classes that were
+    /// defined, collects what threads answered, and undoes suspensions and stops that are not wanted any more. Call `next` after it.
     pub fn tick(&mut self, now: u64)
-        ensures told { ToldBy (classes_of self.new.desk.agent) self.old.desk.next_class self.new.desk.next_class (session_in self.old.seat) (session_in self.new.seat) }
-        ensures resumptions { self.old.desk.resumptions ≤ self.new.desk.resumptions }
+        ensures told { ToldBy (classes_of self.new.agent) self.old.next_class self.new.next_class self.old.session self.new.session }
+        ensures resumptions { self.old.resumptions ≤ self.new.resumptions }
+        ensures about { self.new.about ≡ self.old.about }
     {
         self.last_tick = now;
         self.desk.meet_if_due(now);
         tell_lives(&mut self.seat, &mut self.desk);
+        tend_stops(&mut self.seat, &mut self.desk);
         tell_classes(&mut self.seat, &mut self.desk);
         self.desk.settle_all();
     }
 
-    /// How many times it has resumed a thread of the service since it was made. The count never goes back, and stays at 2^64 - 1. When
+    /// How many times it has resumed a thread of the service, or has let one go on that had stopped, since it was made. The count never goes back, and stays at 2^64 - 1. When
     /// it has grown, wake the threads that sleep.
     pub fn resumptions(&self) -> u64
-        ensures { result ≡ self.now.desk.resumptions }
+        ensures { result ≡ self.now.resumptions }
     {
         self.desk.resumptions
     }
@@ -183,7 +200,7 @@ impl Debugger {
     /// When `tick` has something to do next.
     pub fn deadline(&self) -> u64 {
         let mut due = self.desk.next_meeting;
-        if self.desk.more_classes {
+        if self.desk.more_classes || self.desk.stops.are_any() {
             due = due.min(self.last_tick.saturating_add(SOON));
         }
         if self.desk.is_open() {
@@ -201,7 +218,7 @@ impl Debugger {
 
     /// Whether `finish` may dispose of the agent: no debugger is connected, and no suspension is out or to be undone.
     fn is_idle(&self) -> bool
-        ensures { result ≡ is_idle self.now.seat self.now.desk.crowd.list.items }
+        ensures { result ≡ is_idle self.now.session self.now.watched }
     {
         self.seat.is_none() && !self.desk.is_open()
     }
@@ -213,10 +230,10 @@ impl Debugger {
     /// - 110 OUT_OF_MEMORY, 215 and 216 as `ServiceTries::dispose_now`. The agent may have left some of its threads already, and can
     ///   only be disposed of.
     pub fn finish(self) -> Result<Service, (TiError, Debugger)>
-        ensures idle { is_idle self.seat self.desk.crowd.list.items ≡ false → result ≡ Err (Busy, self) }
-        ensures disposed { IfOk result (λ s. Disposes (state_of self.desk.agent) s) }
-        ensures refused { IfErr result (λ r. (is_idle self.seat self.desk.crowd.list.items ≡ false) ⊎ StaysOn (state_of self.desk.agent) (state_of r.1.desk.agent) r.0) }
-        ensures rest { IfErr result (λ r. r.1 ≡ record self { desk = record self.desk { agent = r.1.desk.agent } }) }
+        ensures idle { is_idle self.session self.watched ≡ false → result ≡ Err (Busy, self) }
+        ensures disposed { IfOk result (λ s. Disposes (state_of self.agent) s) }
+        ensures refused { IfErr result (λ r. (is_idle self.session self.watched ≡ false) ⊎ StaysOn (state_of self.agent) (state_of r.1.agent) r.0) }
+        ensures rest { IfErr result (λ r. r.1 ≡ record self { agent = r.1.agent }) }
     {
         if !self.is_idle() {
             return Err((TiError::Busy, self));
@@ -250,9 +267,9 @@ ghost use Rattle.ti_service.specs.Classes.{classes_of};
 ghost use Rattle.ti_service.specs.Leaving.{Disposes, StaysOn};
 ghost use Rattle.ti_service.specs.Memberships.{state_of};
 ghost use Rattle.ti_debugger.specs.Crowds.{NoneHeld};
-ghost use Rattle.ti_debugger.specs.Desks.{Works};
+ghost use Rattle.ti_debugger.specs.Debuggers.{Works};
 ghost use Rattle.ti_debugger.specs.Runs.{RunsTo};
 ghost use Rattle.ti_debugger.specs.Seats.{Says};
 ghost use Rattle.ti_debugger.specs.Refused.{HasNone, Refuses};
-ghost use Rattle.ti_debugger.specs.Sessions.{session_in, room_of, output_of, Changes, Feeds, is_idle};
+ghost use Rattle.ti_debugger.specs.Sessions.{room_of, output_of, Changes, Feeds, is_idle};
 ghost use Rattle.ti_debugger.specs.Told.{ToldBy};

@@ -2,6 +2,7 @@
 
 use crate::about::About;
 use crate::crowd::Crowd;
+use crate::halted::Stops;
 use std::alloc::Global;
 use ti_service::{Agent, Service, ServiceTries};
 use ti_types::{Caps, TiError};
@@ -21,8 +22,9 @@ pub(crate) struct Desk {
     pub(crate) next_class: u64,
     /// As many classes were told as are told at once, so that more may be there.
     pub(crate) more_classes: bool,
-    /// How many times the agent has resumed a thread. It stays at 2^64 - 1.
+    /// How many times the agent has resumed a thread, or let it go on that had stopped. It stays at 2^64 - 1.
     pub(crate) resumptions: u64,
+    pub(crate) stops: Stops,
 }
 
 impl Desk {
@@ -30,6 +32,7 @@ impl Desk {
     pub(crate) fn new(alloc: Global, agent: Agent, about: About, now: u64) -> Desk
         ensures free { result.crowd.list.items ≡ [] }
         ensures resumptions { result.resumptions ≡ 0 }
+        ensures about { result.about ≡ about }
     {
         let mut agent = agent;
         let _it_can_be_had = agent.add_capabilities(Caps::CAN_SUSPEND);
@@ -44,6 +47,7 @@ impl Desk {
             next_class: 0,
             more_classes: false,
             resumptions: 0,
+            stops: Stops::new(alloc),
         }
     }
 

@@ -1,5 +1,6 @@
 //! What a session waits for.
 
+use crate::stopping::Spot;
 use ti_jdwp::Request;
 
 /// What a session waits for, and its agent owes it.
@@ -13,4 +14,8 @@ pub(crate) enum Due {
     Post(u32),
     /// That suspensions stand.
     Settle,
+    /// A breakpoint.
+    Place(Spot),
+    /// Where a thread stands that is to step.
+    Locate(u32),
 }

@@ -13,7 +13,10 @@ use ti_types::{Answer, Call, TiError};
 const PATIENCE: u64 = 1_000_000_000;
 
 /// Posts a suspension. `None` if the thread's cell is in use: then it is tried again soon.
-fn post(alloc: Global, agent: &mut Agent, one: &mut Watched, now: u64) -> Option<Posted> {
+fn post(alloc: Global, agent: &mut Agent, one: &mut Watched, now: u64) -> Option<Posted>
+    ensures hold { IsPostedAs result one.old.hold one.new.hold }
+    ensures answer { PostsAs result agent.old.env agent.new.env one.old.thread }
+{
     match agent.post_now(alloc, one.thread, Call::Suspend) {
         Ok(Asked::Answered(Answer::Done)) => {
             one.hold = Hold::Own;
@@ -39,7 +42,9 @@ fn post(alloc: Global, agent: &mut Agent, one: &mut Watched, now: u64) -> Option
 }
 
 /// Suspends a thread that the debugger does not suspend. `None` if its cell is in use.
-fn suspend_at(alloc: Global, agent: &mut Agent, one: &mut Watched, now: u64) -> Option<Posted> {
+fn suspend_at(alloc: Global, agent: &mut Agent, one: &mut Watched, now: u64) -> Option<Posted>
+    ensures { IsPostedAs result one.old.hold one.new.hold }
+{
     if one.ended {
         return Some(Posted::NotAlive);
     }
@@ -195,4 +200,4 @@ ghost use Rattle.ti_debugger.specs.declared.hold.Hold.TheVariants.{Free, Owed};
 ghost use Rattle.ti_service.specs.Classes.{classes_of};
 ghost use Rattle.ti_debugger.specs.Crowds.{NoneHeld, any_awaited, any_open};
 ghost use Rattle.ti_debugger.specs.Desks.{Works};
-ghost use Rattle.ti_debugger.specs.Holding.{is_let_go};
+ghost use Rattle.ti_debugger.specs.Holding.{IsPostedAs, PostsAs, is_let_go};

@@ -13,6 +13,8 @@ mod debugger;
 mod debugger_error;
 mod desk;
 mod due;
+mod halted;
+mod halting;
 mod hold;
 mod holding;
 mod meeting;
@@ -23,9 +25,8 @@ mod seat;
 mod source;
 mod stacks;
 mod status;
+mod stopping;
 mod telling;
-#[cfg(test)]
-mod tests;
 mod watched;
 
 pub use about::About;

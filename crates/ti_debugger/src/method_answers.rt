@@ -63,7 +63,8 @@ fn rows_of(alloc: Global, entries: &[LineEntry]) -> Result<Vec<LineRow>, AllocEr
     Ok(rows)
 }
 
-/// The lines of a method whose first line is this one (6/1). Each location is in the range of the table.
+/// The lines of a method whose first line is this one (6/1). The range of the table begins with its first location, which is that of
+/// the method.
 fn table_of(alloc: Global, lines: Lines, first: u32) -> Result<Vec<u8>, JdwpError> {
     match lines {
         Lines::Absent => identity_lines_body(alloc, &[]),
@@ -73,7 +74,11 @@ fn table_of(alloc: Global, lines: Lines, first: u32) -> Result<Vec<u8>, JdwpErro
         }
         Lines::Table(entries) => {
             let rows = rows_of(alloc, entries.as_slice())?;
-            line_table_body(alloc, 0, u64::from(u32::MAX), rows.as_slice())
+            let start = match rows.first() {
+                Some(row) => row.index,
+                None => 0,
+            };
+            line_table_body(alloc, start, u64::from(u32::MAX), rows.as_slice())
         }
     }
 }

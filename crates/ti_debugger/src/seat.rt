@@ -4,6 +4,7 @@ use crate::desk::Desk;
 use crate::due::Due;
 use crate::prepared::Prepared;
 use crate::refusal::Refusal;
+use crate::stopping::Spot;
 use std::alloc::Global;
 use ti_jdwp::{Action, JdwpError, Request, Session, SessionError};
 use ti_service::{LifeEvent, LifeKind};
@@ -128,6 +129,19 @@ impl Seat {
             Action::Suspend(thread) => self.due = Some(Due::Post(thread)),
             Action::Settle => self.due = Some(Due::Settle),
             Action::Resume(thread) => desk.resume(thread),
+            Action::SetBreakpoint {
+                class,
+                method,
+                index,
+            } => {
+                self.due = Some(Due::Place(Spot {
+                    class,
+                    method,
+                    index,
+                }));
+            }
+            Action::Locate(thread) => self.due = Some(Due::Locate(thread)),
+            Action::LetGo(thread) => desk.let_go(thread),
             Action::Again | Action::Write | Action::Close | Action::Wait => (),
         }
     }
@@ -157,6 +171,8 @@ impl Seat {
             Due::List => self.give_list(desk),
             Due::Post(thread) => self.give_posted(desk, thread, now),
             Due::Settle => self.give_settled(desk, now),
+            Due::Place(spot) => self.give_placed(desk, spot),
+            Due::Locate(thread) => self.give_located(desk, thread),
         }
     }
 
@@ -224,6 +240,34 @@ impl Seat {
             return Ok(false);
         }
         self.session.settled()?;
+        Ok(true)
+    }
+
+    /// Sets a breakpoint, if the roster is free.
+    fn give_placed(&mut self, desk: &mut Desk, spot: Spot) -> Result<bool, SessionError>
+        ensures run { RunsTo self.old.session self.new.session }
+        ensures desk { Works desk.old desk.new }
+    {
+        let came = match desk.place(spot) {
+            Ok(()) => Ok(()),
+            Err(Refusal::Error(error)) => Err(error),
+            Err(Refusal::Later) => return Ok(false),
+        };
+        self.session.placed(came)?;
+        Ok(true)
+    }
+
+    /// Says where a thread stands that is to step, if its cell and the roster are free.
+    fn give_located(&mut self, desk: &mut Desk, thread: u32) -> Result<bool, SessionError>
+        ensures run { RunsTo self.old.session self.new.session }
+        ensures desk { Works desk.old desk.new }
+    {
+        let standing = match desk.locate(thread) {
+            Ok(standing) => Some(standing),
+            Err(Refusal::Error(_)) => None,
+            Err(Refusal::Later) => return Ok(false),
+        };
+        self.session.located(standing)?;
         Ok(true)
     }
 

@@ -92,7 +92,7 @@ fn state_body(alloc: Global, bits: Option<u32>) -> Result<Vec<u8>, JdwpError>
 
 impl Desk {
     /// The answer of a thread that answers at once. A thread that is not there, or that still runs, has none: 13.
-    fn ask_now(&mut self, thread: u32, call: Call) -> Result<Answer, Refusal>
+    pub(crate) fn ask_now(&mut self, thread: u32, call: Call) -> Result<Answer, Refusal>
         ensures told { IfOk result (λ a. Posts self.old.agent.env self.new.agent.env (record { 0 = thread }) call (Answered a)) }
         ensures rest { self.new ≡ record self.old { agent = self.new.agent } }
     {

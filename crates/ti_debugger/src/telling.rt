@@ -33,6 +33,7 @@ fn tell_life(seat: &mut Option<Seat>, life: LifeEvent)
 pub(crate) fn tell_classes(seat: &mut Option<Seat>, desk: &mut Desk)
     ensures told { ToldBy (classes_of desk.new.agent) desk.old.next_class desk.new.next_class (session_in seat.old) (session_in seat.new) }
     ensures resumptions { desk.new.resumptions ≡ desk.old.resumptions }
+    ensures about { desk.new.about ≡ desk.old.about }
 {
     desk.more_classes = false;
     for _ in 0..EVENTS {

@@ -65,6 +65,8 @@ policy_again policy.EventThread = refl
 policy_again policy.All = refl
 
 kind_again : (k : EventKind) → kind_of (kind_number k) ≡ Ok k
+kind_again kind.SingleStep = refl
+kind_again kind.Breakpoint = refl
 kind_again kind.ThreadStart = refl
 kind_again kind.ThreadDeath = refl
 kind_again kind.ClassPrepare = refl

@@ -11,17 +11,23 @@ use Rattle.ti_jdwp.specs.declared.actions.Posted.TheVariants as posted
 use Rattle.ti_jdwp.specs.declared.actions.Purpose.{Purpose}
 use Rattle.ti_jdwp.specs.declared.actions.Purpose.TheVariants as purpose
 use Rattle.ti_jdwp.specs.declared.error.JdwpError.{JdwpError}
+use Rattle.ti_jdwp.specs.declared.error.JdwpError.TheVariants as error
 use Rattle.ti_jdwp.specs.declared.front.Front.{Front}
 use Rattle.ti_jdwp.specs.declared.front.Front.TheVariants as front
 use Rattle.ti_jdwp.specs.declared.notice.Notice.{Notice}
 use Rattle.ti_jdwp.specs.declared.plan.Plan.{Plan}
 use Rattle.ti_jdwp.specs.declared.plan.Plan.TheVariants as plan
-use Rattle.ti_jdwp.specs.declared.request.EventKind.{EventKind}
+use Rattle.ti_jdwp.specs.declared.plan.Wish.{Wish}
 use Rattle.ti_jdwp.specs.declared.request.Policy.{Policy}
 use Rattle.ti_jdwp.specs.declared.request.Policy.TheVariants as policy
 use Rattle.ti_jdwp.specs.declared.request.Request.{Request}
+use Rattle.ti_jdwp.specs.declared.stops.Standing.{Standing}
+use Rattle.ti_jdwp.specs.declared.stops.Target.{Target}
+use Rattle.ti_jdwp.specs.declared.stops.Target.TheVariants as target
+use Rattle.ti_jdwp.specs.Asking.{Reading}
+use Rattle.ti_jdwp.specs.Stops.{nowhere}
 use Rattle.ti_jdwp.specs.declared.suspensions.Holder.TheVariants as holder
-use Rattle.ti_jdwp.specs.Answered.{is_asked, listed_in, settled_in, unknown, PostedBy, PostedIn}
+use Rattle.ti_jdwp.specs.Answered.{is_asked, listed_in, settled_in, placed_as, placed_in, located_as, located_in, unknown, PostedBy, PostedIn}
 use Rattle.ti_jdwp.specs.Constants.{constant_bytes}
 use Rattle.ti_jdwp.specs.Errors.{number_of}
 use Rattle.ti_jdwp.specs.Fields.{int}
@@ -32,10 +38,10 @@ use Rattle.ti_jdwp.specs.Plans.{plan_of}
 use Rattle.ti_jdwp.specs.Queues.{may_tell, first, without_first}
 use Rattle.ti_jdwp.specs.Requests.{request_in}
 use Rattle.ti_jdwp.specs.Talks.{Talk, opened, data_of, replied, stopped, starved, greeted, after, closing}
-use Rattle.ti_jdwp.specs.Steps.{Does, EndsBy, SuspendsBy, SuspendsNext, ResumesNext, tells, finishes, BeginsEvent, SetsEvent, clears, suspended_reply, asks, ServesBy, ServesRead, ReadsBy, GoesOnWith, GoesIn, writes_first, GoesFirst}
-use Rattle.ti_jdwp.specs.SessionRuns.{Call, Fed, PeerEnded, Shut, Went, Failed, Replied, Listed, PostedAs, Settled, Written, Happened, Step}
+use Rattle.ti_jdwp.specs.Steps.{Does, EndsBy, SuspendsBy, SuspendsNext, ResumesNext, tells, finishes, BeginsEvent, told_by, said_in, refused, Puts, PutsRead, PutsInForce, SetsFor, SetsRead, SetsEvent, clears, suspended_reply, asks, ServesBy, ServesRead, ReadsBy, GoesOnWith, GoesIn, writes_first, GoesFirst}
+use Rattle.ti_jdwp.specs.SessionRuns.{Call, Fed, PeerEnded, Shut, Went, Failed, Replied, Listed, PostedAs, Settled, PlacedAs, LocatedAs, StoppedAt, Written, Happened, Step}
 use Rattle.ti_jdwp.specs.SessionHolds.{posts, undoes, is_closed, is_done, suspends_it, resumes_by, resumes_it, once, Counts, owed, NothingStaysSuspended}
-use Rattle.ti_jdwp.proofs.Noting.{keeps}
+use Rattle.ti_jdwp.proofs.Noting.{keeps, stops_keep}
 use Rattle.ti_jdwp.proofs.Balance.{Owns, goes, free_own}
 
 never : {X : Type 0} → false ≡ true → X
@@ -120,6 +126,9 @@ suspends_even p u old new action.Again t q at out fine s = elim s.2 [
 ]
 suspends_even p u old new (action.Ask r) t q at out fine s = absurd s
 suspends_even p u old new action.ListThreads t q at out fine s = absurd s
+suspends_even p u old new (action.SetBreakpoint k m i) t q at out fine s = absurd s
+suspends_even p u old new (action.Locate v) t q at out fine s = absurd s
+suspends_even p u old new (action.LetGo v) t q at out fine s = absurd s
 suspends_even p u old new (action.Suspend v) t q at out fine s =
     still old new t (phase.Suspending p u) (ap (λ (x : Talk). x.holds) s.2) (ap (λ (x : Talk). x.phase) s.2) (sym out ∙ ap (λ (x : Phase). undoes x t) (sym at)) (λ k. ap (count_of old.holds) (sym (eqb-true u t k)) ∙ s.1) (λ k. never k) fine
 suspends_even p u old new action.Settle t q at out fine s = absurd s
@@ -132,6 +141,9 @@ next_even : (p : Purpose) (old new : Talk) (act : Action) (t : ℕ) (q : Phase) 
 next_even p old new action.Again t q at out fine s = let f : Fine (record old { work = new.work }) t = record { owns = fine.owns; zero = fine.zero; free = fine.free } in let u = suspends_even p s.0 (record old { work = new.work }) new action.Again t q at out f s.2 in record { balance = u.balance; fine = u.fine }
 next_even p old new (action.Ask r) t q at out fine s = let f : Fine (record old { work = new.work }) t = record { owns = fine.owns; zero = fine.zero; free = fine.free } in let u = suspends_even p s.0 (record old { work = new.work }) new (action.Ask r) t q at out f s.2 in record { balance = u.balance; fine = u.fine }
 next_even p old new action.ListThreads t q at out fine s = let f : Fine (record old { work = new.work }) t = record { owns = fine.owns; zero = fine.zero; free = fine.free } in let u = suspends_even p s.0 (record old { work = new.work }) new action.ListThreads t q at out f s.2 in record { balance = u.balance; fine = u.fine }
+next_even p old new (action.SetBreakpoint k m i) t q at out fine s = let f : Fine (record old { work = new.work }) t = record { owns = fine.owns; zero = fine.zero; free = fine.free } in let u = suspends_even p s.0 (record old { work = new.work }) new (action.SetBreakpoint k m i) t q at out f s.2 in record { balance = u.balance; fine = u.fine }
+next_even p old new (action.Locate v) t q at out fine s = let f : Fine (record old { work = new.work }) t = record { owns = fine.owns; zero = fine.zero; free = fine.free } in let u = suspends_even p s.0 (record old { work = new.work }) new (action.Locate v) t q at out f s.2 in record { balance = u.balance; fine = u.fine }
+next_even p old new (action.LetGo v) t q at out fine s = let f : Fine (record old { work = new.work }) t = record { owns = fine.owns; zero = fine.zero; free = fine.free } in let u = suspends_even p s.0 (record old { work = new.work }) new (action.LetGo v) t q at out f s.2 in record { balance = u.balance; fine = u.fine }
 next_even p old new (action.Suspend v) t q at out fine s = let f : Fine (record old { work = new.work }) t = record { owns = fine.owns; zero = fine.zero; free = fine.free } in let u = suspends_even p s.0 (record old { work = new.work }) new (action.Suspend v) t q at out f s.2 in record { balance = u.balance; fine = u.fine }
 next_even p old new action.Settle t q at out fine s = quiet old new t q (phase.Settling p) at out (ap (λ (x : Talk). x.holds) s.1) (ap (λ (x : Talk). x.phase) s.1) refl refl refl fine
 next_even p old new (action.Resume v) t q at out fine s = let f : Fine (record old { work = new.work }) t = record { owns = fine.owns; zero = fine.zero; free = fine.free } in let u = suspends_even p s.0 (record old { work = new.work }) new (action.Resume v) t q at out f s.2 in record { balance = u.balance; fine = u.fine }
@@ -143,6 +155,9 @@ resume_even : (old new : Talk) (act : Action) (t : ℕ) → old.phase ≡ phase.
 resume_even old new action.Again t at fine s = moved old new t (hold.Resumed (s.0).0 false) false false phase.Resuming phase.Resuming at refl ((ap (λ (x : Talk). x.phase) s.1) ∙ at) refl refl refl (s.0).2 refl (and_false (eqb (s.0).0 t)) fine
 resume_even old new (action.Ask r) t at fine s = absurd s
 resume_even old new action.ListThreads t at fine s = absurd s
+resume_even old new (action.SetBreakpoint k m i) t at fine s = absurd s
+resume_even old new (action.Locate v) t at fine s = absurd s
+resume_even old new (action.LetGo v) t at fine s = absurd s
 resume_even old new (action.Suspend v) t at fine s = absurd s
 resume_even old new action.Settle t at fine s = absurd s
 resume_even old new (action.Resume v) t at fine s = moved old new t (hold.Resumed v true) false (eqb v t) phase.Resuming phase.Resuming at refl ((ap (λ (x : Talk). x.phase) s.2) ∙ at) refl refl refl s.1 refl (and_true (eqb v t)) fine
@@ -154,6 +169,9 @@ end_even : (old new : Talk) (act : Action) (t : ℕ) → old.phase ≡ phase.End
 end_even old new action.Again t at fine s = moved old new t (hold.LetGo (s.0).0 false) false false phase.Ending phase.Ending at refl ((ap (λ (x : Talk). x.phase) s.1) ∙ at) refl refl refl (s.0).1 refl (and_false (eqb (s.0).0 t)) fine
 end_even old new (action.Ask r) t at fine s = absurd s
 end_even old new action.ListThreads t at fine s = absurd s
+end_even old new (action.SetBreakpoint k m i) t at fine s = absurd s
+end_even old new (action.Locate v) t at fine s = absurd s
+end_even old new (action.LetGo v) t at fine s = absurd s
 end_even old new (action.Suspend v) t at fine s = absurd s
 end_even old new action.Settle t at fine s = absurd s
 end_even old new (action.Resume v) t at fine s = moved old new t (hold.LetGo v true) false (eqb v t) phase.Ending phase.Ending at refl ((ap (λ (x : Talk). x.phase) s.1) ∙ at) refl refl refl s.0 refl (and_true (eqb v t)) fine
@@ -167,16 +185,52 @@ does old new target told act t q p none s holds is at out in' post open' fine =
     subst (λ b. Undoes old new t false b) (sym (ap (resumes_by t) s.0 ∙ none))
     (quiet old new t q p at out (ap (λ (x : Talk). x.holds) s.1 ∙ holds) (ap (λ (x : Talk). x.phase) s.1 ∙ is) in' post open' fine)
 
-sets_even : (kind : EventKind) (policy : Policy) (place count : ℕ) (old new : Talk) (act : Action) (t : ℕ) → old.phase ≡ phase.Ready → Fine old t → SetsEvent kind policy place count old act new → Undoes old new t false (resumes_by t act)
-sets_even kind policy place count old new action.Again t at fine s = quiet old new t phase.Ready (phase.Numbered (old.requests.given + 1)) at refl (ap (λ (x : Talk). x.holds) s.0) (ap (λ (x : Talk). x.phase) s.0) refl refl refl fine
-sets_even kind policy place count old new (action.Ask r) t at fine s = absurd s
-sets_even kind policy place count old new action.ListThreads t at fine s = absurd s
-sets_even kind policy place count old new (action.Suspend v) t at fine s = absurd s
-sets_even kind policy place count old new action.Settle t at fine s = absurd s
-sets_even kind policy place count old new (action.Resume v) t at fine s = absurd s
-sets_even kind policy place count old new action.Write t at fine s = quiet old new t phase.Ready phase.Ready at refl (ap (λ (x : Talk). x.holds) s.1) (ap (λ (x : Talk). x.phase) s.1) refl refl refl fine
-sets_even kind policy place count old new action.Close t at fine s = absurd s
-sets_even kind policy place count old new action.Wait t at fine s = absurd s
+puts_even : (w : Wish) (r : Reading) (old new : Talk) (act : Action) (t : ℕ) (q : Phase) → old.phase ≡ q → undoes q t ≡ false → Fine old t → Puts w r old act new → Undoes old new t false (resumes_by t act)
+puts_even w r old new action.Again t q at out fine s = quiet old new t q (phase.Numbered (old.requests.given + 1)) at out (ap (λ (x : Talk). x.holds) s) (ap (λ (x : Talk). x.phase) s) refl refl refl fine
+puts_even w r old new action.Write t q at out fine s = quiet old new t q phase.Ready at out (ap (λ (x : Talk). x.holds) s) (ap (λ (x : Talk). x.phase) s) refl refl refl fine
+puts_even w r old new (action.Ask r') t q at out fine s = absurd s
+puts_even w r old new action.ListThreads t q at out fine s = absurd s
+puts_even w r old new (action.SetBreakpoint k m i) t q at out fine s = absurd s
+puts_even w r old new (action.Locate v) t q at out fine s = absurd s
+puts_even w r old new (action.LetGo v) t q at out fine s = absurd s
+puts_even w r old new (action.Suspend v) t q at out fine s = absurd s
+puts_even w r old new action.Settle t q at out fine s = absurd s
+puts_even w r old new (action.Resume v) t q at out fine s = absurd s
+puts_even w r old new action.Close t q at out fine s = absurd s
+puts_even w r old new action.Wait t q at out fine s = absurd s
+
+denied_even : (d : JdwpError) (old new : Talk) (act : Action) (t : ℕ) (q : Phase) → old.phase ≡ q → undoes q t ≡ false → Fine old t → Does (refused d old) act new → Undoes old new t false (resumes_by t act)
+denied_even d old new act t q at out fine s = does old new (replied old (Err (number_of d))) action.Write act t q phase.Ready refl s refl refl at out refl refl refl fine
+
+read_put_even : (x : Result Reading JdwpError) (w : Wish) (old new : Talk) (act : Action) (t : ℕ) (q : Phase) → old.phase ≡ q → undoes q t ≡ false → Fine old t → PutsRead x w old act new → Undoes old new t false (resumes_by t act)
+read_put_even (Err e) w old new act t q at out fine s = denied_even e old new act t q at out fine s
+read_put_even (Ok r) w old new act t q at out fine s = puts_even w r old new act t q at out fine s
+
+in_force_even : (w : Wish) (from : Standing) (old new : Talk) (act : Action) (t : ℕ) (q : Phase) → old.phase ≡ q → undoes q t ≡ false → Fine old t → PutsInForce w from old act new → Undoes old new t false (resumes_by t act)
+in_force_even w from old new act t q at out fine s = elim s [
+  | inl a ↦ read_put_even (said_in w from old) w old new act t q at out fine a
+  | inr a ↦ denied_even error.OutOfMemory old new act t q at out fine a
+]
+
+located_first : (b : Bool) (u : ℕ) (w : Wish) (old new : Talk) (act : Action) (t : ℕ) → old.phase ≡ phase.Ready → Fine old t
+    → Does (cond b (refused error.ThreadNotSuspended old) (action.Locate u, record old { phase = phase.Locating w })) act new → Undoes old new t false (resumes_by t act)
+located_first true u w old new act t at fine s = denied_even error.ThreadNotSuspended old new act t phase.Ready at refl fine s
+located_first false u w old new act t at fine s = does old new (record old { phase = phase.Locating w }) (action.Locate u) act t phase.Ready (phase.Locating w) refl s refl refl at refl refl refl refl fine
+
+sets_for_even : (g : Target) (w : Wish) (r : Reading) (old new : Talk) (act : Action) (t : ℕ) → old.phase ≡ phase.Ready → Fine old t → SetsFor g w r old act new → Undoes old new t false (resumes_by t act)
+sets_for_even target.Anywhere w r old new act t at fine s = puts_even w r old new act t phase.Ready at refl fine s
+sets_for_even (target.Place k m i) w r old new act t at fine s = does old new (record old { phase = phase.Placing w }) (action.SetBreakpoint k m i) act t phase.Ready (phase.Placing w) refl s refl refl at refl refl refl refl fine
+sets_for_even (target.Step step) w r old new act t at fine s = located_first (count_of old.holds step.thread == 0) step.thread w old new act t at fine s
+
+sets_read_even : (x : Result Reading JdwpError) (w : Wish) (old new : Talk) (act : Action) (t : ℕ) → old.phase ≡ phase.Ready → Fine old t → SetsRead x w old act new → Undoes old new t false (resumes_by t act)
+sets_read_even (Err e) w old new act t at fine s = denied_even e old new act t phase.Ready at refl fine s
+sets_read_even (Ok r) w old new act t at fine s = sets_for_even r.target w r old new act t at fine s
+
+sets_even : (w : Wish) (old new : Talk) (act : Action) (t : ℕ) → old.phase ≡ phase.Ready → Fine old t → SetsEvent w old act new → Undoes old new t false (resumes_by t act)
+sets_even w old new act t at fine s = elim s [
+  | inl a ↦ sets_read_even (said_in w nowhere old) w old new act t at fine a
+  | inr a ↦ denied_even error.OutOfMemory old new act t phase.Ready at refl fine a
+]
 
 one_even : (told : Bool) (u : ℕ) (old new : Talk) (act : Action) (t : ℕ) → old.phase ≡ phase.Ready → new.phase ≡ phase.Ready → Fine old t → hold.Step old.holds (hold.Resumed u told) new.holds → act ≡ cond told (action.Resume u) action.Write → Undoes old new t false (resumes_by t act)
 one_even true u old new act t at is fine step told =
@@ -202,7 +256,7 @@ plan_even plan.SuspendAll r old new act t at fine s = does old new (record old {
 plan_even plan.ResumeAll r old new act t at fine s = does old new (record old { phase = phase.Resuming; work = held_threads old.holds }) action.Again act t phase.Ready phase.Resuming refl s refl refl at refl refl refl refl fine
 plan_even plan.Hold r old new act t at fine s = does old new (record (replied old (Ok [])) { queue = record old.queue { held = true } }) action.Write act t phase.Ready phase.Ready refl s refl refl at refl refl refl refl fine
 plan_even plan.Release r old new act t at fine s = does old new (record (replied old (Ok [])) { queue = record old.queue { held = false } }) action.Write act t phase.Ready phase.Ready refl s refl refl at refl refl refl refl fine
-plan_even (plan.Set kind policy place count) r old new act t at fine s = sets_even kind policy place count old new act t at fine s
+plan_even (plan.Set w) r old new act t at fine s = sets_even w old new act t at fine s
 plan_even (plan.Clear kind number) r old new act t at fine s = does old new (clears kind number old) action.Write act t phase.Ready phase.Ready refl s refl refl at refl refl refl refl fine
 plan_even plan.Dispose r old new act t at fine s = does old new (stopped (replied old (Ok []))) action.Again act t phase.Ready phase.Ending refl s refl refl at refl refl refl refl fine
 
@@ -245,10 +299,18 @@ tells_holds : (n : Option Notice) (old : Talk) → ((tells n old).holds ≡ old.
 tells_holds None old = (refl, refl)
 tells_holds (Some n) old = (refl, refl)
 
+told_resumes : (b : Bool) (u t : ℕ) → resumes_by t (cond b (action.LetGo u) action.Write) ≡ false
+told_resumes true u t = refl
+told_resumes false u t = refl
+
+tells_resumes : (n : Option Notice) (t : ℕ) → resumes_by t (told_by n) ≡ false
+tells_resumes None t = refl
+tells_resumes (Some n) t = told_resumes n.stop n.thread t
+
 finish_even : (p : Purpose) (old new : Talk) (act : Action) (t : ℕ) → old.phase ≡ phase.Finishing p → Fine old t → Does (finishes p old) act new → Undoes old new t false (resumes_by t act)
 finish_even purpose.One old new act t at fine s = does old new (suspended_reply old) action.Write act t (phase.Finishing purpose.One) phase.Ready refl s refl refl at refl refl refl refl fine
 finish_even purpose.All old new act t at fine s = does old new (suspended_reply old) action.Write act t (phase.Finishing purpose.All) phase.Ready refl s refl refl at refl refl refl refl fine
-finish_even purpose.Event old new act t at fine s = does old new (tells old.notice old) action.Write act t (phase.Finishing purpose.Event) phase.Ready refl s (tells_holds old.notice old).0 (tells_holds old.notice old).1 at refl refl refl refl fine
+finish_even purpose.Event old new act t at fine s = does old new (tells old.notice old) (told_by old.notice) act t (phase.Finishing purpose.Event) phase.Ready (tells_resumes old.notice t) s (tells_holds old.notice old).0 (tells_holds old.notice old).1 at refl refl refl refl fine
 finish_even purpose.End old new act t at fine s = does old new (record old { phase = phase.Ending }) action.Again act t (phase.Finishing purpose.End) phase.Ending refl s refl refl at refl refl refl refl fine
 
 greet_even : (b c : Bool) (old new : Talk) (act : Action) (t : ℕ) → old.phase ≡ phase.Greeting → Fine old t → Does (cond b (action.Again, stopped old) (cond c (starved old) (action.Write, greeted old))) act new → Undoes old new t false (resumes_by t act)
@@ -300,6 +362,10 @@ in_even (phase.Undoing p u) old new act t at fine s = let a = after_out p t in u
 in_even (phase.Settling p) old new act t at fine s = waits_even action.Wait old new act t refl fine s
 in_even (phase.Finishing p) old new act t at fine s = finish_even p old new act t at fine s
 in_even phase.Refusing old new act t at fine s = does old new (replied old (Err 10)) action.Write act t phase.Refusing phase.Ready refl s refl refl at refl refl refl refl fine
+in_even (phase.Placing w) old new act t at fine s = waits_even action.Wait old new act t refl fine s
+in_even (phase.Locating w) old new act t at fine s = waits_even action.Wait old new act t refl fine s
+in_even (phase.Putting w k) old new act t at fine s = in_force_even w k old new act t (phase.Putting w k) at refl fine s
+in_even (phase.Denied d) old new act t at fine s = denied_even d old new act t (phase.Denied d) at refl fine s
 in_even (phase.Numbered n) old new act t at fine s = does old new (replied old (Ok (int n))) action.Write act t (phase.Numbered n) phase.Ready refl s refl refl at refl refl refl refl fine
 in_even phase.Resuming old new act t at fine s = resume_even old new act t at fine s
 in_even phase.Ending old new act t at fine s = end_even old new act t at fine s
@@ -320,6 +386,10 @@ closing_out (phase.Undoing p u) t = (refl, refl, refl)
 closing_out (phase.Settling p) t = (refl, refl, refl)
 closing_out (phase.Finishing p) t = (refl, refl, refl)
 closing_out phase.Refusing t = (refl, refl, refl)
+closing_out (phase.Placing w) t = (refl, refl, refl)
+closing_out (phase.Locating w) t = (refl, refl, refl)
+closing_out (phase.Putting w k) t = (refl, refl, refl)
+closing_out (phase.Denied d) t = (refl, refl, refl)
 closing_out (phase.Numbered n) t = (refl, refl, refl)
 closing_out phase.Resuming t = (refl, refl, refl)
 closing_out phase.Ending t = (refl, refl, refl)
@@ -339,6 +409,10 @@ listed_even (phase.Undoing p u) threads old new t at fine s = cc
 listed_even (phase.Settling p) threads old new t at fine s = cc
 listed_even (phase.Finishing p) threads old new t at fine s = cc
 listed_even phase.Refusing threads old new t at fine s = cc
+listed_even (phase.Placing w) threads old new t at fine s = cc
+listed_even (phase.Locating w) threads old new t at fine s = cc
+listed_even (phase.Putting w k) threads old new t at fine s = cc
+listed_even (phase.Denied d) threads old new t at fine s = cc
 listed_even (phase.Numbered n) threads old new t at fine s = cc
 listed_even phase.Resuming threads old new t at fine s = cc
 listed_even phase.Ending threads old new t at fine s = cc
@@ -355,10 +429,62 @@ settled_even (phase.Undoing p u) old new t at fine s = cc
 settled_even (phase.Settling p) old new t at fine s = let is = some_is _ _ old s in quiet old new t (phase.Settling p) (phase.Finishing p) at refl (ap (λ (x : Talk). x.holds) is) (ap (λ (x : Talk). x.phase) is) refl refl refl fine
 settled_even (phase.Finishing p) old new t at fine s = cc
 settled_even phase.Refusing old new t at fine s = cc
+settled_even (phase.Placing w) old new t at fine s = cc
+settled_even (phase.Locating w) old new t at fine s = cc
+settled_even (phase.Putting w k) old new t at fine s = cc
+settled_even (phase.Denied d) old new t at fine s = cc
 settled_even (phase.Numbered n) old new t at fine s = cc
 settled_even phase.Resuming old new t at fine s = cc
 settled_even phase.Ending old new t at fine s = cc
 settled_even phase.Closed old new t at fine s = cc
+
+placed_still : (w : Wish) (placed : Result (Unit {0}) JdwpError) (old new : Talk) (t : ℕ) → old.phase ≡ phase.Placing w → Fine old t → new ≡ record old { phase = placed_as w placed } → Undoes old new t false false
+placed_still w (Ok done) old new t at fine is = quiet old new t (phase.Placing w) (phase.Putting w nowhere) at refl (ap (λ (x : Talk). x.holds) is) (ap (λ (x : Talk). x.phase) is) refl refl refl fine
+placed_still w (Err e) old new t at fine is = quiet old new t (phase.Placing w) (phase.Denied e) at refl (ap (λ (x : Talk). x.holds) is) (ap (λ (x : Talk). x.phase) is) refl refl refl fine
+
+placed_even : (q : Phase) (placed : Result (Unit {0}) JdwpError) (old new : Talk) (t : ℕ) → old.phase ≡ q → Fine old t → placed_in q placed old ≡ Some new → Undoes old new t false false
+placed_even phase.Greeting placed old new t at fine s = cc
+placed_even phase.Ready placed old new t at fine s = cc
+placed_even phase.Asking placed old new t at fine s = cc
+placed_even (phase.Listing p) placed old new t at fine s = cc
+placed_even (phase.Stopping p) placed old new t at fine s = cc
+placed_even (phase.Suspending p u) placed old new t at fine s = cc
+placed_even (phase.Undoing p u) placed old new t at fine s = cc
+placed_even (phase.Settling p) placed old new t at fine s = cc
+placed_even (phase.Finishing p) placed old new t at fine s = cc
+placed_even phase.Refusing placed old new t at fine s = cc
+placed_even (phase.Placing w) placed old new t at fine s = placed_still w placed old new t at fine (some_is _ _ old s)
+placed_even (phase.Locating w) placed old new t at fine s = cc
+placed_even (phase.Putting w k) placed old new t at fine s = cc
+placed_even (phase.Denied d) placed old new t at fine s = cc
+placed_even (phase.Numbered n) placed old new t at fine s = cc
+placed_even phase.Resuming placed old new t at fine s = cc
+placed_even phase.Ending placed old new t at fine s = cc
+placed_even phase.Closed placed old new t at fine s = cc
+
+located_still : (w : Wish) (standing : Option Standing) (old new : Talk) (t : ℕ) → old.phase ≡ phase.Locating w → Fine old t → new ≡ record old { phase = located_as w standing } → Undoes old new t false false
+located_still w None old new t at fine is = quiet old new t (phase.Locating w) (phase.Denied error.ThreadNotSuspended) at refl (ap (λ (x : Talk). x.holds) is) (ap (λ (x : Talk). x.phase) is) refl refl refl fine
+located_still w (Some from) old new t at fine is = quiet old new t (phase.Locating w) (phase.Putting w from) at refl (ap (λ (x : Talk). x.holds) is) (ap (λ (x : Talk). x.phase) is) refl refl refl fine
+
+located_even : (q : Phase) (standing : Option Standing) (old new : Talk) (t : ℕ) → old.phase ≡ q → Fine old t → located_in q standing old ≡ Some new → Undoes old new t false false
+located_even phase.Greeting standing old new t at fine s = cc
+located_even phase.Ready standing old new t at fine s = cc
+located_even phase.Asking standing old new t at fine s = cc
+located_even (phase.Listing p) standing old new t at fine s = cc
+located_even (phase.Stopping p) standing old new t at fine s = cc
+located_even (phase.Suspending p u) standing old new t at fine s = cc
+located_even (phase.Undoing p u) standing old new t at fine s = cc
+located_even (phase.Settling p) standing old new t at fine s = cc
+located_even (phase.Finishing p) standing old new t at fine s = cc
+located_even phase.Refusing standing old new t at fine s = cc
+located_even (phase.Placing w) standing old new t at fine s = cc
+located_even (phase.Locating w) standing old new t at fine s = located_still w standing old new t at fine (some_is _ _ old s)
+located_even (phase.Putting w k) standing old new t at fine s = cc
+located_even (phase.Denied d) standing old new t at fine s = cc
+located_even (phase.Numbered n) standing old new t at fine s = cc
+located_even phase.Resuming standing old new t at fine s = cc
+located_even phase.Ending standing old new t at fine s = cc
+located_even phase.Closed standing old new t at fine s = cc
 
 unknown_out : (p : Purpose) (t : ℕ) → (undoes (unknown p) t ≡ false) × (posts (unknown p) t ≡ false) × (is_closed (unknown p) ≡ false)
 unknown_out purpose.One t = (refl, refl, refl)
@@ -413,6 +539,10 @@ posted_even (phase.Undoing p u) post old new t at fine s = absurd s
 posted_even (phase.Settling p) post old new t at fine s = absurd s
 posted_even (phase.Finishing p) post old new t at fine s = absurd s
 posted_even phase.Refusing post old new t at fine s = absurd s
+posted_even (phase.Placing w) post old new t at fine s = absurd s
+posted_even (phase.Locating w) post old new t at fine s = absurd s
+posted_even (phase.Putting w k) post old new t at fine s = absurd s
+posted_even (phase.Denied d) post old new t at fine s = absurd s
 posted_even (phase.Numbered n) post old new t at fine s = absurd s
 posted_even phase.Resuming post old new t at fine s = absurd s
 posted_even phase.Ending post old new t at fine s = absurd s
@@ -439,6 +569,10 @@ step_even old new (Replied a) t fine s = asked_even old.phase refl s.0
     asked_even (phase.Settling p) at h = never h
     asked_even (phase.Finishing p) at h = never h
     asked_even phase.Refusing at h = never h
+    asked_even (phase.Placing w) at h = never h
+    asked_even (phase.Locating w) at h = never h
+    asked_even (phase.Putting w k) at h = never h
+    asked_even (phase.Denied d) at h = never h
     asked_even (phase.Numbered n) at h = never h
     asked_even phase.Resuming at h = never h
     asked_even phase.Ending at h = never h
@@ -446,6 +580,9 @@ step_even old new (Replied a) t fine s = asked_even old.phase refl s.0
 step_even old new (Listed threads) t fine s = listed_even old.phase threads old new t refl fine s
 step_even old new (PostedAs post) t fine s = posted_even old.phase post old new t refl fine s
 step_even old new Settled t fine s = settled_even old.phase old new t refl fine s
+step_even old new (PlacedAs placed) t fine s = placed_even old.phase placed old new t refl fine s
+step_even old new (LocatedAs standing) t fine s = located_even old.phase standing old new t refl fine s
+step_even old new (StoppedAt x v) t fine s = let k = stops_keep x v old new s in stays old new t k.holds k.phase fine
 step_even old new (Written count) t fine s = stays old new t (ap (λ (x : Talk). x.holds) s) (ap (λ (x : Talk). x.phase) s) fine
 step_even old new (Happened e o result) t fine s = let k = keeps e o result old new s in stays old new t k.holds k.phase fine
 
@@ -475,6 +612,10 @@ closed_out (phase.Undoing p u) t h = never h
 closed_out (phase.Settling p) t h = never h
 closed_out (phase.Finishing p) t h = never h
 closed_out phase.Refusing t h = never h
+closed_out (phase.Placing w) t h = never h
+closed_out (phase.Locating w) t h = never h
+closed_out (phase.Putting w k) t h = never h
+closed_out (phase.Denied d) t h = never h
 closed_out (phase.Numbered n) t h = never h
 closed_out phase.Resuming t h = never h
 closed_out phase.Ending t h = never h

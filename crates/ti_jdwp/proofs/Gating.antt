@@ -11,26 +11,32 @@ use Rattle.ti_jdwp.specs.declared.actions.Posted.TheVariants as posted
 use Rattle.ti_jdwp.specs.declared.actions.Purpose.{Purpose}
 use Rattle.ti_jdwp.specs.declared.actions.Purpose.TheVariants as purpose
 use Rattle.ti_jdwp.specs.declared.error.JdwpError.{JdwpError}
+use Rattle.ti_jdwp.specs.declared.error.JdwpError.TheVariants as error
 use Rattle.ti_jdwp.specs.declared.front.Front.{Front}
 use Rattle.ti_jdwp.specs.declared.front.Front.TheVariants as front
 use Rattle.ti_jdwp.specs.declared.notice.Notice.{Notice}
 use Rattle.ti_jdwp.specs.declared.plan.Plan.{Plan}
 use Rattle.ti_jdwp.specs.declared.plan.Plan.TheVariants as plan
-use Rattle.ti_jdwp.specs.declared.request.EventKind.{EventKind}
+use Rattle.ti_jdwp.specs.declared.plan.Wish.{Wish}
 use Rattle.ti_jdwp.specs.declared.request.Policy.{Policy}
 use Rattle.ti_jdwp.specs.declared.request.Policy.TheVariants as policy
 use Rattle.ti_jdwp.specs.declared.request.Request.{Request}
-use Rattle.ti_jdwp.specs.Answered.{listed_in, settled_in, PostedBy, PostedIn}
+use Rattle.ti_jdwp.specs.declared.stops.Standing.{Standing}
+use Rattle.ti_jdwp.specs.declared.stops.Target.{Target}
+use Rattle.ti_jdwp.specs.declared.stops.Target.TheVariants as target
+use Rattle.ti_jdwp.specs.Asking.{Reading}
+use Rattle.ti_jdwp.specs.Stops.{nowhere}
+use Rattle.ti_jdwp.specs.Answered.{listed_in, settled_in, placed_in, located_in, PostedBy, PostedIn}
 use Rattle.ti_jdwp.specs.Holds.{count_of, held_of}
 use Rattle.ti_jdwp.specs.Lines.{handshake}
 use Rattle.ti_jdwp.specs.Plans.{plan_of}
 use Rattle.ti_jdwp.specs.Queues.{Queue, may_tell, first, without_first}
 use Rattle.ti_jdwp.specs.Requests.{request_in}
 use Rattle.ti_jdwp.specs.Talks.{Talk, opened, data_of, replied, stopped, starved, greeted}
-use Rattle.ti_jdwp.specs.Steps.{Does, EndsBy, SuspendsBy, SuspendsNext, ResumesNext, tells, finishes, is_all, BeginsEvent, SetsEvent, asks, ServesBy, ServesRead, ReadsBy, GoesOnWith, GoesIn, writes_first, GoesFirst}
-use Rattle.ti_jdwp.specs.SessionRuns.{Call, Fed, PeerEnded, Shut, Went, Failed, Replied, Listed, PostedAs, Settled, Written, Happened, Step, Runs}
+use Rattle.ti_jdwp.specs.Steps.{Does, EndsBy, SuspendsBy, SuspendsNext, ResumesNext, tells, finishes, is_all, BeginsEvent, said_in, refused, Puts, PutsRead, PutsInForce, SetsFor, SetsRead, SetsEvent, asks, ServesBy, ServesRead, ReadsBy, GoesOnWith, GoesIn, writes_first, GoesFirst}
+use Rattle.ti_jdwp.specs.SessionRuns.{Call, Fed, PeerEnded, Shut, Went, Failed, Replied, Listed, PostedAs, Settled, PlacedAs, LocatedAs, StoppedAt, Written, Happened, Step, Runs}
 use Rattle.ti_jdwp.specs.SessionStops.{is_telling, is_resuming, is_stop, tells_event, stops_all, resumes_all, stands_after, AreAlone, NoEventWhileStopped}
-use Rattle.ti_jdwp.proofs.Noting.{keeps}
+use Rattle.ti_jdwp.proofs.Noting.{keeps, stops_keep}
 
 never : {X : Type 0} → false ≡ true → X
 never h = absurd (true≢false (sym h))
@@ -80,6 +86,9 @@ suspends_gated : (p : Purpose) (u : ℕ) (old new : Talk) (act act' : Action) (q
 suspends_gated p u old new action.Again act' q at none free s = plain q old new act' at none (ap (λ (x : Talk). x.notice) s.0) (ap (λ (x : Talk). x.queue.stopped) s.0) free
 suspends_gated p u old new (action.Ask r) act' q at none free s = absurd s
 suspends_gated p u old new action.ListThreads act' q at none free s = absurd s
+suspends_gated p u old new (action.SetBreakpoint k m i) act' q at none free s = absurd s
+suspends_gated p u old new (action.Locate v) act' q at none free s = absurd s
+suspends_gated p u old new (action.LetGo v) act' q at none free s = absurd s
 suspends_gated p u old new (action.Suspend v) act' q at none free s = plain q old new act' at none (ap (λ (x : Talk). x.notice) s.2) (ap (λ (x : Talk). x.queue.stopped) s.2) free
 suspends_gated p u old new action.Settle act' q at none free s = absurd s
 suspends_gated p u old new (action.Resume v) act' q at none free s = absurd s
@@ -96,6 +105,9 @@ next_gated : (p : Purpose) (old new : Talk) (act : Action) → old.phase ≡ pha
 next_gated p old new action.Again at free s = let g = suspends_gated p s.0 (record old { work = new.work }) new action.Again action.Again (phase.Stopping p) at refl free s.2 in record { free = g.free; stands = λ b was is. g.stands b was (unworked old new action.Again b at is) }
 next_gated p old new (action.Ask r) at free s = let g = suspends_gated p s.0 (record old { work = new.work }) new (action.Ask r) (action.Ask r) (phase.Stopping p) at refl free s.2 in record { free = g.free; stands = λ b was is. g.stands b was (unworked old new (action.Ask r) b at is) }
 next_gated p old new action.ListThreads at free s = let g = suspends_gated p s.0 (record old { work = new.work }) new action.ListThreads action.ListThreads (phase.Stopping p) at refl free s.2 in record { free = g.free; stands = λ b was is. g.stands b was (unworked old new action.ListThreads b at is) }
+next_gated p old new (action.SetBreakpoint k m i) at free s = let g = suspends_gated p s.0 (record old { work = new.work }) new (action.SetBreakpoint k m i) (action.SetBreakpoint k m i) (phase.Stopping p) at refl free s.2 in record { free = g.free; stands = λ b was is. g.stands b was (unworked old new (action.SetBreakpoint k m i) b at is) }
+next_gated p old new (action.Locate v) at free s = let g = suspends_gated p s.0 (record old { work = new.work }) new (action.Locate v) (action.Locate v) (phase.Stopping p) at refl free s.2 in record { free = g.free; stands = λ b was is. g.stands b was (unworked old new (action.Locate v) b at is) }
+next_gated p old new (action.LetGo v) at free s = let g = suspends_gated p s.0 (record old { work = new.work }) new (action.LetGo v) (action.LetGo v) (phase.Stopping p) at refl free s.2 in record { free = g.free; stands = λ b was is. g.stands b was (unworked old new (action.LetGo v) b at is) }
 next_gated p old new (action.Suspend v) at free s = let g = suspends_gated p s.0 (record old { work = new.work }) new (action.Suspend v) (action.Suspend v) (phase.Stopping p) at refl free s.2 in record { free = g.free; stands = λ b was is. g.stands b was (unworked old new (action.Suspend v) b at is) }
 next_gated p old new action.Settle at free s = plain (phase.Stopping p) old new action.Settle at refl (ap (λ (x : Talk). x.notice) s.1) (ap (λ (x : Talk). x.queue.stopped) s.1) free
 next_gated p old new (action.Resume v) at free s = let g = suspends_gated p s.0 (record old { work = new.work }) new (action.Resume v) (action.Resume v) (phase.Stopping p) at refl free s.2 in record { free = g.free; stands = λ b was is. g.stands b was (unworked old new (action.Resume v) b at is) }
@@ -107,6 +119,9 @@ resume_gated : (old new : Talk) (act : Action) → old.phase ≡ phase.Resuming 
 resume_gated old new action.Again at free s = plain phase.Resuming old new action.Again at refl (ap (λ (x : Talk). x.notice) s.1) (ap (λ (x : Talk). x.queue.stopped) s.1) free
 resume_gated old new (action.Ask r) at free s = absurd s
 resume_gated old new action.ListThreads at free s = absurd s
+resume_gated old new (action.SetBreakpoint k m i) at free s = absurd s
+resume_gated old new (action.Locate v) at free s = absurd s
+resume_gated old new (action.LetGo v) at free s = absurd s
 resume_gated old new (action.Suspend v) at free s = absurd s
 resume_gated old new action.Settle at free s = absurd s
 resume_gated old new (action.Resume v) at free s = plain phase.Resuming old new (action.Resume v) at refl (ap (λ (x : Talk). x.notice) s.2) (ap (λ (x : Talk). x.queue.stopped) s.2) free
@@ -121,6 +136,9 @@ end_gated : (old new : Talk) (act : Action) → old.phase ≡ phase.Ending → F
 end_gated old new action.Again at free s = plain phase.Ending old new action.Again at refl (ap (λ (x : Talk). x.notice) s.1) (ap (λ (x : Talk). x.queue.stopped) s.1) free
 end_gated old new (action.Ask r) at free s = absurd s
 end_gated old new action.ListThreads at free s = absurd s
+end_gated old new (action.SetBreakpoint k m i) at free s = absurd s
+end_gated old new (action.Locate v) at free s = absurd s
+end_gated old new (action.LetGo v) at free s = absurd s
 end_gated old new (action.Suspend v) at free s = absurd s
 end_gated old new action.Settle at free s = absurd s
 end_gated old new (action.Resume v) at free s = plain phase.Ending old new (action.Resume v) at refl (ap (λ (x : Talk). x.notice) s.1) (ap (λ (x : Talk). x.queue.stopped) s.1) free
@@ -128,16 +146,49 @@ end_gated old new action.Write at free s = plain phase.Ending old new action.Wri
 end_gated old new action.Close at free s = plain phase.Ending old new action.Close at refl (ap (λ (x : Talk). x.notice) s.2) (ap (λ (x : Talk). x.queue.stopped) s.2) free
 end_gated old new action.Wait at free s = absurd s
 
-sets_gated : (kind : EventKind) (policy : Policy) (place count : ℕ) (old new : Talk) (act act' : Action) → old.phase ≡ phase.Ready → Free old → SetsEvent kind policy place count old act new → Gated old new (Went act')
-sets_gated kind policy place count old new action.Again act' at free s = plain phase.Ready old new act' at refl (ap (λ (x : Talk). x.notice) s.0) (ap (λ (x : Talk). x.queue.stopped) s.0) free
-sets_gated kind policy place count old new (action.Ask r) act' at free s = absurd s
-sets_gated kind policy place count old new action.ListThreads act' at free s = absurd s
-sets_gated kind policy place count old new (action.Suspend v) act' at free s = absurd s
-sets_gated kind policy place count old new action.Settle act' at free s = absurd s
-sets_gated kind policy place count old new (action.Resume v) act' at free s = absurd s
-sets_gated kind policy place count old new action.Write act' at free s = plain phase.Ready old new act' at refl (ap (λ (x : Talk). x.notice) s.1) (ap (λ (x : Talk). x.queue.stopped) s.1) free
-sets_gated kind policy place count old new action.Close act' at free s = absurd s
-sets_gated kind policy place count old new action.Wait act' at free s = absurd s
+puts_gated : (w : Wish) (r : Reading) (old new : Talk) (act act' : Action) (q : Phase) → old.phase ≡ q → is_telling q ≡ false → Free old → Puts w r old act new → Gated old new (Went act')
+puts_gated w r old new action.Again act' q at none free s = plain q old new act' at none (ap (λ (x : Talk). x.notice) s) (ap (λ (x : Talk). x.queue.stopped) s) free
+puts_gated w r old new action.Write act' q at none free s = plain q old new act' at none (ap (λ (x : Talk). x.notice) s) (ap (λ (x : Talk). x.queue.stopped) s) free
+puts_gated w r old new (action.Ask r') act' q at none free s = absurd s
+puts_gated w r old new action.ListThreads act' q at none free s = absurd s
+puts_gated w r old new (action.SetBreakpoint k m i) act' q at none free s = absurd s
+puts_gated w r old new (action.Locate v) act' q at none free s = absurd s
+puts_gated w r old new (action.LetGo v) act' q at none free s = absurd s
+puts_gated w r old new (action.Suspend v) act' q at none free s = absurd s
+puts_gated w r old new action.Settle act' q at none free s = absurd s
+puts_gated w r old new (action.Resume v) act' q at none free s = absurd s
+puts_gated w r old new action.Close act' q at none free s = absurd s
+puts_gated w r old new action.Wait act' q at none free s = absurd s
+
+read_put_gated : (x : Result Reading JdwpError) (w : Wish) (old new : Talk) (act : Action) (q : Phase) → old.phase ≡ q → is_telling q ≡ false → Free old → PutsRead x w old act new → Gated old new (Went act)
+read_put_gated (Err e) w old new act q at none free s = plain q old new act at none (ap (λ (x : Talk). x.notice) s.1) (ap (λ (x : Talk). x.queue.stopped) s.1) free
+read_put_gated (Ok r) w old new act q at none free s = puts_gated w r old new act act q at none free s
+
+in_force_gated : (w : Wish) (from : Standing) (old new : Talk) (act : Action) (q : Phase) → old.phase ≡ q → is_telling q ≡ false → Free old → PutsInForce w from old act new → Gated old new (Went act)
+in_force_gated w from old new act q at none free s = elim s [
+  | inl a ↦ read_put_gated (said_in w from old) w old new act q at none free a
+  | inr a ↦ plain q old new act at none (ap (λ (x : Talk). x.notice) a.1) (ap (λ (x : Talk). x.queue.stopped) a.1) free
+]
+
+located_first : (b : Bool) (u : ℕ) (w : Wish) (old new : Talk) (act : Action) → old.phase ≡ phase.Ready → Free old
+    → Does (cond b (refused error.ThreadNotSuspended old) (action.Locate u, record old { phase = phase.Locating w })) act new → Gated old new (Went act)
+located_first true u w old new act at free s = plain phase.Ready old new act at refl (ap (λ (x : Talk). x.notice) s.1) (ap (λ (x : Talk). x.queue.stopped) s.1) free
+located_first false u w old new act at free s = plain phase.Ready old new act at refl (ap (λ (x : Talk). x.notice) s.1) (ap (λ (x : Talk). x.queue.stopped) s.1) free
+
+sets_for_gated : (t : Target) (w : Wish) (r : Reading) (old new : Talk) (act : Action) → old.phase ≡ phase.Ready → Free old → SetsFor t w r old act new → Gated old new (Went act)
+sets_for_gated target.Anywhere w r old new act at free s = puts_gated w r old new act act phase.Ready at refl free s
+sets_for_gated (target.Place k m i) w r old new act at free s = plain phase.Ready old new act at refl (ap (λ (x : Talk). x.notice) s.1) (ap (λ (x : Talk). x.queue.stopped) s.1) free
+sets_for_gated (target.Step step) w r old new act at free s = located_first (count_of old.holds step.thread == 0) step.thread w old new act at free s
+
+sets_read_gated : (x : Result Reading JdwpError) (w : Wish) (old new : Talk) (act : Action) → old.phase ≡ phase.Ready → Free old → SetsRead x w old act new → Gated old new (Went act)
+sets_read_gated (Err e) w old new act at free s = plain phase.Ready old new act at refl (ap (λ (x : Talk). x.notice) s.1) (ap (λ (x : Talk). x.queue.stopped) s.1) free
+sets_read_gated (Ok r) w old new act at free s = sets_for_gated r.target w r old new act at free s
+
+sets_gated : (w : Wish) (old new : Talk) (act : Action) → old.phase ≡ phase.Ready → Free old → SetsEvent w old act new → Gated old new (Went act)
+sets_gated w old new act at free s = elim s [
+  | inl a ↦ sets_read_gated (said_in w nowhere old) w old new act at free a
+  | inr a ↦ plain phase.Ready old new act at refl (ap (λ (x : Talk). x.notice) a.1) (ap (λ (x : Talk). x.queue.stopped) a.1) free
+]
 
 one_gated : (u : ℕ) (old new : Talk) (act : Action) (b : Bool) → held_of new.holds == 0 ≡ b → old.phase ≡ phase.Ready → Free old → new.notice ≡ old.notice → new.queue.stopped ≡ (cond b (record old.queue { stopped = false }) old.queue).stopped → Gated old new (Went act)
 one_gated u old new act true none at free notice stop =
@@ -161,7 +212,7 @@ plan_gated plan.SuspendAll r old new act at free s = plain phase.Ready old new a
 plan_gated plan.ResumeAll r old new act at free s = plain phase.Ready old new act at refl (ap (λ (x : Talk). x.notice) s.1) (ap (λ (x : Talk). x.queue.stopped) s.1) free
 plan_gated plan.Hold r old new act at free s = plain phase.Ready old new act at refl (ap (λ (x : Talk). x.notice) s.1) (ap (λ (x : Talk). x.queue.stopped) s.1) free
 plan_gated plan.Release r old new act at free s = plain phase.Ready old new act at refl (ap (λ (x : Talk). x.notice) s.1) (ap (λ (x : Talk). x.queue.stopped) s.1) free
-plan_gated (plan.Set kind policy place count) r old new act at free s = sets_gated kind policy place count old new act act at free s
+plan_gated (plan.Set w) r old new act at free s = sets_gated w old new act at free s
 plan_gated (plan.Clear kind number) r old new act at free s = plain phase.Ready old new act at refl (ap (λ (x : Talk). x.notice) s.1) (ap (λ (x : Talk). x.queue.stopped) s.1) free
 plan_gated plan.Dispose r old new act at free s = plain phase.Ready old new act at refl (ap (λ (x : Talk). x.notice) s.1) (ap (λ (x : Talk). x.queue.stopped) s.1) free
 
@@ -271,6 +322,10 @@ in_gated (phase.Undoing p u) old new act at free s = plain (phase.Undoing p u) o
 in_gated (phase.Settling p) old new act at free s = plain (phase.Settling p) old new act at refl (ap (λ (x : Talk). x.notice) s.1) (ap (λ (x : Talk). x.queue.stopped) s.1) free
 in_gated (phase.Finishing p) old new act at free s = finish_gated p old new act at free s
 in_gated phase.Refusing old new act at free s = plain phase.Refusing old new act at refl (ap (λ (x : Talk). x.notice) s.1) (ap (λ (x : Talk). x.queue.stopped) s.1) free
+in_gated (phase.Placing w) old new act at free s = plain (phase.Placing w) old new act at refl (ap (λ (x : Talk). x.notice) s.1) (ap (λ (x : Talk). x.queue.stopped) s.1) free
+in_gated (phase.Locating w) old new act at free s = plain (phase.Locating w) old new act at refl (ap (λ (x : Talk). x.notice) s.1) (ap (λ (x : Talk). x.queue.stopped) s.1) free
+in_gated (phase.Putting w k) old new act at free s = in_force_gated w k old new act (phase.Putting w k) at refl free s
+in_gated (phase.Denied d) old new act at free s = plain (phase.Denied d) old new act at refl (ap (λ (x : Talk). x.notice) s.1) (ap (λ (x : Talk). x.queue.stopped) s.1) free
 in_gated (phase.Numbered n) old new act at free s = plain (phase.Numbered n) old new act at refl (ap (λ (x : Talk). x.notice) s.1) (ap (λ (x : Talk). x.queue.stopped) s.1) free
 in_gated phase.Resuming old new act at free s = resume_gated old new act at free s
 in_gated phase.Ending old new act at free s = end_gated old new act at free s
@@ -299,7 +354,15 @@ full_output (phase.Settling p) (b ∷ output) h = longer b output
 full_output (phase.Finishing p) [] h = never h
 full_output (phase.Finishing p) (b ∷ output) h = longer b output
 full_output phase.Refusing [] h = never h
+full_output (phase.Placing w) [] h = never h
+full_output (phase.Locating w) [] h = never h
+full_output (phase.Putting w k) [] h = never h
+full_output (phase.Denied d) [] h = never h
 full_output phase.Refusing (b ∷ output) h = longer b output
+full_output (phase.Placing w) (b ∷ output) h = longer b output
+full_output (phase.Locating w) (b ∷ output) h = longer b output
+full_output (phase.Putting w k) (b ∷ output) h = longer b output
+full_output (phase.Denied d) (b ∷ output) h = longer b output
 full_output (phase.Numbered n) [] h = never h
 full_output (phase.Numbered n) (b ∷ output) h = longer b output
 full_output phase.Resuming [] h = never h
@@ -332,6 +395,10 @@ listed_gated (phase.Undoing p u) threads old new free s = cc
 listed_gated (phase.Settling p) threads old new free s = cc
 listed_gated (phase.Finishing p) threads old new free s = cc
 listed_gated phase.Refusing threads old new free s = cc
+listed_gated (phase.Placing w) threads old new free s = cc
+listed_gated (phase.Locating w) threads old new free s = cc
+listed_gated (phase.Putting w k) threads old new free s = cc
+listed_gated (phase.Denied d) threads old new free s = cc
 listed_gated (phase.Numbered n) threads old new free s = cc
 listed_gated phase.Resuming threads old new free s = cc
 listed_gated phase.Ending threads old new free s = cc
@@ -348,10 +415,54 @@ settled_gated (phase.Undoing p u) old new free s = cc
 settled_gated (phase.Settling p) old new free s = let is = some_is _ _ old s in same old new Settled refl (ap (λ (x : Talk). x.notice) is) (ap (λ (x : Talk). x.queue.stopped) is) free
 settled_gated (phase.Finishing p) old new free s = cc
 settled_gated phase.Refusing old new free s = cc
+settled_gated (phase.Placing w) old new free s = cc
+settled_gated (phase.Locating w) old new free s = cc
+settled_gated (phase.Putting w k) old new free s = cc
+settled_gated (phase.Denied d) old new free s = cc
 settled_gated (phase.Numbered n) old new free s = cc
 settled_gated phase.Resuming old new free s = cc
 settled_gated phase.Ending old new free s = cc
 settled_gated phase.Closed old new free s = cc
+
+placed_gated : (q : Phase) (placed : Result (Unit {0}) JdwpError) (old new : Talk) → Free old → placed_in q placed old ≡ Some new → Gated old new (PlacedAs placed)
+placed_gated phase.Greeting placed old new free s = cc
+placed_gated phase.Ready placed old new free s = cc
+placed_gated phase.Asking placed old new free s = cc
+placed_gated (phase.Listing p) placed old new free s = cc
+placed_gated (phase.Stopping p) placed old new free s = cc
+placed_gated (phase.Suspending p u) placed old new free s = cc
+placed_gated (phase.Undoing p u) placed old new free s = cc
+placed_gated (phase.Settling p) placed old new free s = cc
+placed_gated (phase.Finishing p) placed old new free s = cc
+placed_gated phase.Refusing placed old new free s = cc
+placed_gated (phase.Placing w) placed old new free s = let is = some_is _ _ old s in same old new (PlacedAs placed) refl (ap (λ (x : Talk). x.notice) is) (ap (λ (x : Talk). x.queue.stopped) is) free
+placed_gated (phase.Locating w) placed old new free s = cc
+placed_gated (phase.Putting w k) placed old new free s = cc
+placed_gated (phase.Denied d) placed old new free s = cc
+placed_gated (phase.Numbered n) placed old new free s = cc
+placed_gated phase.Resuming placed old new free s = cc
+placed_gated phase.Ending placed old new free s = cc
+placed_gated phase.Closed placed old new free s = cc
+
+located_gated : (q : Phase) (standing : Option Standing) (old new : Talk) → Free old → located_in q standing old ≡ Some new → Gated old new (LocatedAs standing)
+located_gated phase.Greeting standing old new free s = cc
+located_gated phase.Ready standing old new free s = cc
+located_gated phase.Asking standing old new free s = cc
+located_gated (phase.Listing p) standing old new free s = cc
+located_gated (phase.Stopping p) standing old new free s = cc
+located_gated (phase.Suspending p u) standing old new free s = cc
+located_gated (phase.Undoing p u) standing old new free s = cc
+located_gated (phase.Settling p) standing old new free s = cc
+located_gated (phase.Finishing p) standing old new free s = cc
+located_gated phase.Refusing standing old new free s = cc
+located_gated (phase.Placing w) standing old new free s = cc
+located_gated (phase.Locating w) standing old new free s = let is = some_is _ _ old s in same old new (LocatedAs standing) refl (ap (λ (x : Talk). x.notice) is) (ap (λ (x : Talk). x.queue.stopped) is) free
+located_gated (phase.Putting w k) standing old new free s = cc
+located_gated (phase.Denied d) standing old new free s = cc
+located_gated (phase.Numbered n) standing old new free s = cc
+located_gated phase.Resuming standing old new free s = cc
+located_gated phase.Ending standing old new free s = cc
+located_gated phase.Closed standing old new free s = cc
 
 by_gated : (p : Purpose) (u : ℕ) (post : Posted) (old new : Talk) (c : Posted) → Free old → PostedBy p u post old new → Gated old new (PostedAs c)
 by_gated p u posted.Suspended old new c free s = elim s [
@@ -376,6 +487,10 @@ posted_gated (phase.Undoing p u) post old new free s = absurd s
 posted_gated (phase.Settling p) post old new free s = absurd s
 posted_gated (phase.Finishing p) post old new free s = absurd s
 posted_gated phase.Refusing post old new free s = absurd s
+posted_gated (phase.Placing w) post old new free s = absurd s
+posted_gated (phase.Locating w) post old new free s = absurd s
+posted_gated (phase.Putting w k) post old new free s = absurd s
+posted_gated (phase.Denied d) post old new free s = absurd s
 posted_gated (phase.Numbered n) post old new free s = absurd s
 posted_gated phase.Resuming post old new free s = absurd s
 posted_gated phase.Ending post old new free s = absurd s
@@ -391,6 +506,9 @@ step_gated old new (Replied a) free s = same old new (Replied a) refl (ap (λ (x
 step_gated old new (Listed threads) free s = listed_gated old.phase threads old new free s
 step_gated old new (PostedAs post) free s = posted_gated old.phase post old new free s
 step_gated old new Settled free s = settled_gated old.phase old new free s
+step_gated old new (PlacedAs placed) free s = placed_gated old.phase placed old new free s
+step_gated old new (LocatedAs standing) free s = located_gated old.phase standing old new free s
+step_gated old new (StoppedAt x v) free s = let k = stops_keep x v old new s in same old new (StoppedAt x v) refl k.notice k.stopped free
 step_gated old new (Written count) free s = same old new (Written count) refl (ap (λ (x : Talk). x.notice) s) (ap (λ (x : Talk). x.queue.stopped) s) free
 step_gated old new (Happened e o result) free s = let k = keeps e o result old new s in same old new (Happened e o result) refl k.notice k.stopped free
 
@@ -405,6 +523,9 @@ told_some t (Replied a) h = never h
 told_some t (Listed threads) h = never h
 told_some t (PostedAs post) h = never h
 told_some t Settled h = never h
+told_some t (PlacedAs r) h = never h
+told_some t (LocatedAs o) h = never h
+told_some t (StoppedAt x v) h = never h
 told_some t (Written count) h = never h
 told_some t (Happened e o result) h = never h
 

@@ -1,10 +1,14 @@
 -- An event that takes place changes what is kept of events alone.
 use Rattle.std.proofs.Common.{◌≡◌, Bool, true, false, List, [], ◌∷◌, filter, refl, sym, subst, inl, inr}
 use Rattle.ti_jdwp.specs.declared.event.Event.{Event}
+use Rattle.ti_jdwp.specs.declared.event.Spot.{Spot}
 use Rattle.ti_jdwp.specs.declared.event_text.Occurrence.{Occurrence}
+use Rattle.ti_jdwp.specs.declared.stops.Verdict.{Verdict}
+use Rattle.ti_jdwp.specs.declared.stops.Verdict.TheVariants as verdict
 use Rattle.ti_jdwp.specs.InForce.{Asked, is_told, all_after}
-use Rattle.ti_jdwp.specs.Queues.{Queue, with_loss}
+use Rattle.ti_jdwp.specs.Queues.{Queue, with_event, with_loss}
 use Rattle.ti_jdwp.specs.Notes.{is_over, queue_with, noted, NotesIn, Notes}
+use Rattle.ti_jdwp.specs.StopNotes.{after_stop, stop_for, StopsBy, StopsIn, Stops}
 use Rattle.ti_jdwp.specs.Talks.{Talk}
 
 pub record Keeps (old new : Talk) : Type 0 where
@@ -32,3 +36,19 @@ keeps_in false false e o old new h = elim h [
 
 pub keeps : (e : Event) (o : Occurrence) (result : Bool) (old new : Talk) → Notes e o old result new → Keeps old new
 keeps e o result old new h = keeps_in (is_over old.phase) result e o old new h
+
+stops_keep_by : (v : Verdict) (s : Spot) (old new : Talk) → StopsBy v s old new → Keeps old new
+stops_keep_by verdict.Told s old new h =
+    as_said old new (record old { requests = after_stop s old.requests; queue = with_event old.queue (stop_for s old.requests) }) h.1 (record { bytes = refl; first = refl; phase = refl; holds = refl; notice = refl; stopped = refl })
+stops_keep_by verdict.Passed s old new h = elim h [
+  | inl a ↦ as_said old new (record old { requests = after_stop s old.requests }) a.2 (record { bytes = refl; first = refl; phase = refl; holds = refl; notice = refl; stopped = refl })
+  | inr a ↦ as_said old new (record old { requests = new.requests; queue = with_loss old.queue }) a.1 (record { bytes = refl; first = refl; phase = refl; holds = refl; notice = refl; stopped = refl })
+]
+stops_keep_by (verdict.Deeper n) s old new h = as_said old new (record old { requests = after_stop s old.requests }) h.2 (record { bytes = refl; first = refl; phase = refl; holds = refl; notice = refl; stopped = refl })
+
+stops_keep_in : (b : Bool) (s : Spot) (old new : Talk) (v : Verdict) → StopsIn b s old v new → Keeps old new
+stops_keep_in true s old new v h = as_said old new old h.1 (record { bytes = refl; first = refl; phase = refl; holds = refl; notice = refl; stopped = refl })
+stops_keep_in false s old new v h = stops_keep_by v s old new h
+
+pub stops_keep : (s : Spot) (v : Verdict) (old new : Talk) → Stops s old v new → Keeps old new
+stops_keep s v old new h = stops_keep_in (is_over old.phase) s old new v h

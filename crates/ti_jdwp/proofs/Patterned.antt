@@ -162,6 +162,61 @@ told_as at number number' rest len m is h e k =
     subst (λ (c : ℕ). Told at c rest len m) (sym is)
     (h (ap (λ (c : ℕ). fields_len c rest) (sym is) ∙ e) (ap (λ (c : ℕ). made c rest (at + 1) (at + 1 + len)) (sym is) ∙ k))
 
+told_location : (at : ℕ) (rest : List ℕ) (len : ℕ) (m : Modifier) → IsBytes rest → within 25 rest ≡ Ok len
+    → Ok (modifier.LocationOnly (long_at 1 rest) (long_at 9 rest) (long_at 17 rest)) ≡ done m → Told at 7 rest len m
+told_location at rest len m fits e k =
+    let w = within_ok 25 len rest e in
+    let tag : ℕ = get_or rest 0 0 in
+    let begins : rest ≡ tag ∷ drop 1 rest = drop-cons rest 0 0 (omega (arith, w.0)) in
+    let r1 : List ℕ = drop 1 rest in
+    let f1 = long_front r1 (omega (arith, length-drop 1 rest, w.0)) (IsBytes-drop 1 rest fits) in
+    let r2 : List ℕ = drop 8 r1 in
+    let f2 = long_front r2 (omega (arith, length-drop 8 r1, length-drop 1 rest, w.0)) f1.0.rest_fits in
+    let r3 : List ℕ = drop 8 r2 in
+    let f3 = long_front r3 (omega (arith, length-drop 8 r2, length-drop 8 r1, length-drop 1 rest, w.0)) f2.0.rest_fits in
+    let c : ℕ = long_at 0 r1 in
+    let d : ℕ = long_at 0 r2 in
+    let i : ℕ = long_at 0 r3 in
+    let fields : List ℕ = tag ∷ long c ++ long d ++ long i in
+    let at9 : d ≡ long_at 9 rest = ap (λ (x : List ℕ). long_at 0 x) (drop-drop 8 1 rest) in
+    let at17 : i ≡ long_at 17 rest = ap (λ (x : List ℕ). long_at 0 x) (ap (drop 8) (drop-drop 8 1 rest) ∙ drop-drop 8 9 rest) in
+    let parts : rest ≡ fields ++ drop 8 r3 =
+    begins ∙ ap (λ (x : List ℕ). tag ∷ x)
+    (f1.0.parts ∙ ap (λ (x : List ℕ). long c ++ x) (f2.0.parts ∙ ap (λ (x : List ℕ). long d ++ x) f3.0.parts ∙ sym (append_assoc (long d) (long i) (drop 8 r3)))
+    ∙ sym (append_assoc (long c) (long d ++ long i) (drop 8 r3)) ∙ ap (λ (x : List ℕ). x ++ drop 8 r3) (sym (append_assoc (long c) (long d) (long i)))) in
+    subst (λ (q : Modifier). Told at 7 rest len q) (ap (λ (x : ℕ). modifier.LocationOnly c x i) at9 ∙ ap (λ (x : ℕ). modifier.LocationOnly c (long_at 9 rest) x) at17 ∙ ok_is _ m k) (record {
+      fields = fields;
+      tail = drop 8 r3;
+      parts = parts;
+      long_so = omega (arith, length-append (long c ++ long d) (long i), length-append (long c) (long d), long_len c, long_len d, long_len i, w.1);
+      says = (tag, f1.1, f2.1, f3.1, refl);
+    })
+
+told_step : (at : ℕ) (rest : List ℕ) (len : ℕ) (m : Modifier) → IsBytes rest → within 16 rest ≡ Ok len
+    → Ok (modifier.Step (long_at 0 rest) (int_at 8 rest) (int_at 12 rest)) ≡ done m → Told at 10 rest len m
+told_step at rest len m fits e k =
+    let w = within_ok 16 len rest e in
+    let f1 = long_front rest (omega (arith, w.0)) fits in
+    let r2 : List ℕ = drop 8 rest in
+    let f2 = int_front r2 (omega (arith, length-drop 8 rest, w.0)) f1.0.rest_fits in
+    let r3 : List ℕ = drop 4 r2 in
+    let f3 = int_front r3 (omega (arith, length-drop 4 r2, length-drop 8 rest, w.0)) f2.0.rest_fits in
+    let t : ℕ = long_at 0 rest in
+    let z : ℕ = int_at 0 r2 in
+    let d : ℕ = int_at 0 r3 in
+    let fields : List ℕ = long t ++ int z ++ int d in
+    let at12 : d ≡ int_at 12 rest = ap (λ (x : List ℕ). int_at 0 x) (drop-drop 4 8 rest) in
+    let parts : rest ≡ fields ++ drop 4 r3 =
+    f1.0.parts ∙ ap (λ (x : List ℕ). long t ++ x) (f2.0.parts ∙ ap (λ (x : List ℕ). int z ++ x) f3.0.parts ∙ sym (append_assoc (int z) (int d) (drop 4 r3)))
+    ∙ sym (append_assoc (long t) (int z ++ int d) (drop 4 r3)) ∙ ap (λ (x : List ℕ). x ++ drop 4 r3) (sym (append_assoc (long t) (int z) (int d))) in
+    subst (λ (q : Modifier). Told at 10 rest len q) (ap (λ (x : ℕ). modifier.Step t z x) at12 ∙ ok_is _ m k) (record {
+      fields = fields;
+      tail = drop 4 r3;
+      parts = parts;
+      long_so = omega (arith, length-append (long t ++ int z) (int d), length-append (long t) (int z), long_len t, int_len z, int_len d, w.1);
+      says = (f1.1, f2.1, f3.1, refl);
+    })
+
 none_else : (number : ℕ) (rest : List ℕ) (len : ℕ) → eqb number 1 ≡ false → eqb number 2 ≡ false → eqb number 3 ≡ false → eqb number 4 ≡ false → eqb number 5 ≡ false → eqb number 6 ≡ false → eqb number 7 ≡ false
     → eqb number 8 ≡ false → eqb number 9 ≡ false → eqb number 10 ≡ false → eqb number 11 ≡ false → eqb number 12 ≡ false → eqb number 13 ≡ false → fields_len number rest ≡ Ok len → ⊥
 none_else number rest len a b c d e f g h i j k l m is =
@@ -180,10 +235,10 @@ told at number rest len m fits e k =
     by_test (eqb number 4) (Told at number rest len m) (λ y. told_as at number 4 rest len m (eqb-true _ _ y) (λ e k. told_class at rest len m fits e k) e k) (λ n4.
     by_test (eqb number 5) (Told at number rest len m) (λ y. told_as at number 5 rest len m (eqb-true _ _ y) (λ e k. told_match at rest len m fits e k) e k) (λ n5.
     by_test (eqb number 6) (Told at number rest len m) (λ y. told_as at number 6 rest len m (eqb-true _ _ y) (λ e k. told_exclude at rest len m fits e k) e k) (λ n6.
-    by_test (eqb number 7) (Told at number rest len m) (λ y. told_as at number 7 rest len m (eqb-true _ _ y) (λ e k. told_other at 7 25 rest len m refl e k) e k) (λ n7.
+    by_test (eqb number 7) (Told at number rest len m) (λ y. told_as at number 7 rest len m (eqb-true _ _ y) (λ e k. told_location at rest len m fits e k) e k) (λ n7.
     by_test (eqb number 8) (Told at number rest len m) (λ y. told_as at number 8 rest len m (eqb-true _ _ y) (λ e k. told_other at 8 10 rest len m refl e k) e k) (λ n8.
     by_test (eqb number 9) (Told at number rest len m) (λ y. told_as at number 9 rest len m (eqb-true _ _ y) (λ e k. told_other at 9 16 rest len m refl e k) e k) (λ n9.
-    by_test (eqb number 10) (Told at number rest len m) (λ y. told_as at number 10 rest len m (eqb-true _ _ y) (λ e k. told_other at 10 16 rest len m refl e k) e k) (λ n10.
+    by_test (eqb number 10) (Told at number rest len m) (λ y. told_as at number 10 rest len m (eqb-true _ _ y) (λ e k. told_step at rest len m fits e k) e k) (λ n10.
     by_test (eqb number 11) (Told at number rest len m) (λ y. told_as at number 11 rest len m (eqb-true _ _ y) (λ e k. told_other at 11 8 rest len m refl e k) e k) (λ n11.
     by_test (eqb number 12) (Told at number rest len m) (λ y. told_as at number 12 rest len m (eqb-true _ _ y) (λ e k. told_source at rest len m fits e k) e k) (λ n12.
     by_test (eqb number 13) (Told at number rest len m) (λ y. told_as at number 13 rest len m (eqb-true _ _ y) (λ e k. told_other at 13 0 rest len m refl e k) e k) (λ n13.

@@ -13,16 +13,22 @@ use Rattle.ti_jdwp.specs.declared.actions.Posted.TheVariants as posted
 use Rattle.ti_jdwp.specs.declared.actions.Purpose.{Purpose}
 use Rattle.ti_jdwp.specs.declared.actions.Purpose.TheVariants as purpose
 use Rattle.ti_jdwp.specs.declared.error.JdwpError.{JdwpError}
+use Rattle.ti_jdwp.specs.declared.error.JdwpError.TheVariants as error
 use Rattle.ti_jdwp.specs.declared.front.Front.{Front}
 use Rattle.ti_jdwp.specs.declared.front.Front.TheVariants as front
 use Rattle.ti_jdwp.specs.declared.notice.Notice.{Notice}
 use Rattle.ti_jdwp.specs.declared.plan.Plan.{Plan}
 use Rattle.ti_jdwp.specs.declared.plan.Plan.TheVariants as plan
-use Rattle.ti_jdwp.specs.declared.request.EventKind.{EventKind}
+use Rattle.ti_jdwp.specs.declared.plan.Wish.{Wish}
 use Rattle.ti_jdwp.specs.declared.request.Policy.{Policy}
 use Rattle.ti_jdwp.specs.declared.request.Policy.TheVariants as policy
 use Rattle.ti_jdwp.specs.declared.request.Request.{Request}
-use Rattle.ti_jdwp.specs.Answered.{is_asked, listed_in, settled_in, unknown, PostedBy, PostedIn}
+use Rattle.ti_jdwp.specs.declared.stops.Standing.{Standing}
+use Rattle.ti_jdwp.specs.declared.stops.Target.{Target}
+use Rattle.ti_jdwp.specs.declared.stops.Target.TheVariants as target
+use Rattle.ti_jdwp.specs.Asking.{Reading}
+use Rattle.ti_jdwp.specs.Stops.{nowhere}
+use Rattle.ti_jdwp.specs.Answered.{is_asked, listed_in, settled_in, placed_as, placed_in, located_as, located_in, unknown, PostedBy, PostedIn}
 use Rattle.ti_jdwp.specs.Constants.{constant_bytes}
 use Rattle.ti_jdwp.specs.Errors.{number_of}
 use Rattle.ti_jdwp.specs.Fields.{int}
@@ -33,9 +39,9 @@ use Rattle.ti_jdwp.specs.Queues.{may_tell, first, without_first}
 use Rattle.ti_jdwp.specs.Requests.{request_in}
 use Rattle.ti_jdwp.specs.Sent.{event_packet}
 use Rattle.ti_jdwp.specs.Talks.{Talk, opened, IsFront, data_of, replied, stopped, starved, greeted, after, closing}
-use Rattle.ti_jdwp.specs.Steps.{Does, EndsBy, SuspendsBy, SuspendsNext, ResumesNext, tells, finishes, BeginsEvent, SetsEvent, asks, ServesBy, ServesRead, ReadsBy, GoesOnWith, GoesIn, writes_first, GoesFirst, is_ready, Fails}
-use Rattle.ti_jdwp.specs.SessionRuns.{Call, Fed, PeerEnded, Shut, Went, Failed, Replied, Listed, PostedAs, Settled, Written, Happened, Step, received, taken, Runs, RequestsAreAnswered}
-use Rattle.ti_jdwp.proofs.Noting.{keeps}
+use Rattle.ti_jdwp.specs.Steps.{Does, EndsBy, SuspendsBy, SuspendsNext, ResumesNext, tells, finishes, BeginsEvent, said_in, refused, Puts, PutsRead, PutsInForce, SetsFor, SetsRead, SetsEvent, asks, ServesBy, ServesRead, ReadsBy, GoesOnWith, GoesIn, writes_first, GoesFirst, is_ready, Fails}
+use Rattle.ti_jdwp.specs.SessionRuns.{Call, Fed, PeerEnded, Shut, Went, Failed, Replied, Listed, PostedAs, Settled, PlacedAs, LocatedAs, StoppedAt, Written, Happened, Step, received, taken, Runs, RequestsAreAnswered}
+use Rattle.ti_jdwp.proofs.Noting.{keeps, stops_keep}
 use Rattle.ti_jdwp.proofs.Pieces.{Stands, stands_more, Goes-well, quietly, comes, goes_out, replies, passes, and_then}
 use Rattle.ti_jdwp.proofs.Pieces as pieces
 
@@ -58,6 +64,10 @@ works (phase.Undoing p u) = is_request p
 works (phase.Settling p) = is_request p
 works (phase.Finishing p) = is_request p
 works phase.Refusing = true
+works (phase.Placing w) = true
+works (phase.Locating w) = true
+works (phase.Putting w k) = true
+works (phase.Denied d) = true
 works (phase.Numbered n) = true
 works phase.Resuming = true
 works phase.Ending = false
@@ -108,6 +118,9 @@ suspends_well : (p : Purpose) (t : ℕ) (old new : Talk) (act : Action) → (is_
 suspends_well p t old new action.Again h s = kept old new (phase.Stopping p) (ap (λ (t : Talk). t.bytes) s.0) (ap (λ (t : Talk). t.first) s.0) (ap (λ (t : Talk). t.phase) s.0) h
 suspends_well p t old new (action.Ask r) h s = absurd s
 suspends_well p t old new action.ListThreads h s = absurd s
+suspends_well p t old new (action.SetBreakpoint k m i) h s = absurd s
+suspends_well p t old new (action.Locate v) h s = absurd s
+suspends_well p t old new (action.LetGo v) h s = absurd s
 suspends_well p t old new (action.Suspend v) h s = kept old new (phase.Suspending p t) (ap (λ (t : Talk). t.bytes) s.2) (ap (λ (t : Talk). t.first) s.2) (ap (λ (t : Talk). t.phase) s.2) h
 suspends_well p t old new action.Settle h s = absurd s
 suspends_well p t old new (action.Resume v) h s = absurd s
@@ -119,6 +132,9 @@ next_well : (p : Purpose) (old new : Talk) (act : Action) → (is_request p ≡ 
 next_well p old new action.Again h s = suspends_well p s.0 (record old { work = new.work }) new action.Again h s.2
 next_well p old new (action.Ask r) h s = suspends_well p s.0 (record old { work = new.work }) new (action.Ask r) h s.2
 next_well p old new action.ListThreads h s = suspends_well p s.0 (record old { work = new.work }) new action.ListThreads h s.2
+next_well p old new (action.SetBreakpoint k m i) h s = suspends_well p s.0 (record old { work = new.work }) new (action.SetBreakpoint k m i) h s.2
+next_well p old new (action.Locate v) h s = suspends_well p s.0 (record old { work = new.work }) new (action.Locate v) h s.2
+next_well p old new (action.LetGo v) h s = suspends_well p s.0 (record old { work = new.work }) new (action.LetGo v) h s.2
 next_well p old new (action.Suspend v) h s = suspends_well p s.0 (record old { work = new.work }) new (action.Suspend v) h s.2
 next_well p old new action.Settle h s = kept old new (phase.Settling p) (ap (λ (t : Talk). t.bytes) s.1) (ap (λ (t : Talk). t.first) s.1) (ap (λ (t : Talk). t.phase) s.1) h
 next_well p old new (action.Resume v) h s = suspends_well p s.0 (record old { work = new.work }) new (action.Resume v) h s.2
@@ -130,6 +146,9 @@ resumes_well : (old new : Talk) (act : Action) → old.phase ≡ phase.Resuming 
 resumes_well old new action.Again at h s = kept old new phase.Resuming (ap (λ (t : Talk). t.bytes) s.1) (ap (λ (t : Talk). t.first) s.1) (ap (λ (t : Talk). t.phase) s.1 ∙ at) (λ k. h)
 resumes_well old new (action.Ask r) at h s = absurd s
 resumes_well old new action.ListThreads at h s = absurd s
+resumes_well old new (action.SetBreakpoint k m i) at h s = absurd s
+resumes_well old new (action.Locate v) at h s = absurd s
+resumes_well old new (action.LetGo v) at h s = absurd s
 resumes_well old new (action.Suspend v) at h s = absurd s
 resumes_well old new action.Settle at h s = absurd s
 resumes_well old new (action.Resume v) at h s = kept old new phase.Resuming (ap (λ (t : Talk). t.bytes) s.2) (ap (λ (t : Talk). t.first) s.2) (ap (λ (t : Talk). t.phase) s.2 ∙ at) (λ k. h)
@@ -141,6 +160,9 @@ ends_well : (old new : Talk) (act : Action) → old.phase ≡ phase.Ending → E
 ends_well old new action.Again at s = idle old new phase.Ending (ap (λ (t : Talk). t.bytes) s.1) (ap (λ (t : Talk). t.phase) s.1 ∙ at) refl
 ends_well old new (action.Ask r) at s = absurd s
 ends_well old new action.ListThreads at s = absurd s
+ends_well old new (action.SetBreakpoint k m i) at s = absurd s
+ends_well old new (action.Locate v) at s = absurd s
+ends_well old new (action.LetGo v) at s = absurd s
 ends_well old new (action.Suspend v) at s = absurd s
 ends_well old new action.Settle at s = absurd s
 ends_well old new (action.Resume v) at s = idle old new phase.Ending (ap (λ (t : Talk). t.bytes) s.1) (ap (λ (t : Talk). t.phase) s.1 ∙ at) refl
@@ -148,16 +170,49 @@ ends_well old new action.Write at s = idle old new phase.Ending (ap (λ (t : Tal
 ends_well old new action.Close at s = idle old new phase.Closed (ap (λ (t : Talk). t.bytes) s.2) (ap (λ (t : Talk). t.phase) s.2) refl
 ends_well old new action.Wait at s = absurd s
 
-sets_well : (kind : EventKind) (policy : Policy) (place count : ℕ) (old new : Talk) (act : Action) → Stands old.first old.bytes.input → SetsEvent kind policy place count old act new → Well old.bytes new [] []
-sets_well kind policy place count old new action.Again h s = kept old new (phase.Numbered (old.requests.given + 1)) (ap (λ (t : Talk). t.bytes) s.0) (ap (λ (t : Talk). t.first) s.0) (ap (λ (t : Talk). t.phase) s.0) (λ k. h)
-sets_well kind policy place count old new (action.Ask r) h s = absurd s
-sets_well kind policy place count old new action.ListThreads h s = absurd s
-sets_well kind policy place count old new (action.Suspend v) h s = absurd s
-sets_well kind policy place count old new action.Settle h s = absurd s
-sets_well kind policy place count old new (action.Resume v) h s = absurd s
-sets_well kind policy place count old new action.Write h s = replied_well old new (Err (number_of s.0)) h s.1
-sets_well kind policy place count old new action.Close h s = absurd s
-sets_well kind policy place count old new action.Wait h s = absurd s
+puts_well : (w : Wish) (r : Reading) (old new : Talk) (act : Action) → Stands old.first old.bytes.input → Puts w r old act new → Well old.bytes new [] []
+puts_well w r old new action.Again h s = kept old new (phase.Numbered (old.requests.given + 1)) (ap (λ (t : Talk). t.bytes) s) (ap (λ (t : Talk). t.first) s) (ap (λ (t : Talk). t.phase) s) (λ k. h)
+puts_well w r old new action.Write h s = replied_well old new (Err 110) h s
+puts_well w r old new (action.Ask r') h s = absurd s
+puts_well w r old new action.ListThreads h s = absurd s
+puts_well w r old new (action.SetBreakpoint k m i) h s = absurd s
+puts_well w r old new (action.Locate v) h s = absurd s
+puts_well w r old new (action.LetGo v) h s = absurd s
+puts_well w r old new (action.Suspend v) h s = absurd s
+puts_well w r old new action.Settle h s = absurd s
+puts_well w r old new (action.Resume v) h s = absurd s
+puts_well w r old new action.Close h s = absurd s
+puts_well w r old new action.Wait h s = absurd s
+
+read_put_well : (x : Result Reading JdwpError) (w : Wish) (old new : Talk) (act : Action) → Stands old.first old.bytes.input → PutsRead x w old act new → Well old.bytes new [] []
+read_put_well (Err e) w old new act h s = replied_well old new (Err (number_of e)) h s.1
+read_put_well (Ok r) w old new act h s = puts_well w r old new act h s
+
+in_force_well : (w : Wish) (from : Standing) (old new : Talk) (act : Action) → Stands old.first old.bytes.input → PutsInForce w from old act new → Well old.bytes new [] []
+in_force_well w from old new act h s = elim s [
+  | inl a ↦ read_put_well (said_in w from old) w old new act h a
+  | inr a ↦ replied_well old new (Err 110) h a.1
+]
+
+located_first : (b : Bool) (u : ℕ) (w : Wish) (old new : Talk) (act : Action) → Stands old.first old.bytes.input
+    → Does (cond b (refused error.ThreadNotSuspended old) (action.Locate u, record old { phase = phase.Locating w })) act new → Well old.bytes new [] []
+located_first true u w old new act h s = replied_well old new (Err 13) h s.1
+located_first false u w old new act h s = kept old new (phase.Locating w) (ap (λ (t : Talk). t.bytes) s.1) (ap (λ (t : Talk). t.first) s.1) (ap (λ (t : Talk). t.phase) s.1) (λ k. h)
+
+sets_for_well : (g : Target) (w : Wish) (r : Reading) (old new : Talk) (act : Action) → Stands old.first old.bytes.input → SetsFor g w r old act new → Well old.bytes new [] []
+sets_for_well target.Anywhere w r old new act h s = puts_well w r old new act h s
+sets_for_well (target.Place k m i) w r old new act h s = kept old new (phase.Placing w) (ap (λ (t : Talk). t.bytes) s.1) (ap (λ (t : Talk). t.first) s.1) (ap (λ (t : Talk). t.phase) s.1) (λ k. h)
+sets_for_well (target.Step step) w r old new act h s = located_first (count_of old.holds step.thread == 0) step.thread w old new act h s
+
+sets_read_well : (x : Result Reading JdwpError) (w : Wish) (old new : Talk) (act : Action) → Stands old.first old.bytes.input → SetsRead x w old act new → Well old.bytes new [] []
+sets_read_well (Err e) w old new act h s = replied_well old new (Err (number_of e)) h s.1
+sets_read_well (Ok r) w old new act h s = sets_for_well r.target w r old new act h s
+
+sets_well : (w : Wish) (old new : Talk) (act : Action) → Stands old.first old.bytes.input → SetsEvent w old act new → Well old.bytes new [] []
+sets_well w old new act h s = elim s [
+  | inl a ↦ sets_read_well (said_in w nowhere old) w old new act h a
+  | inr a ↦ replied_well old new (Err 110) h a.1
+]
 
 stack_well : (b : Bool) (r : Request) (t new : Talk) (act : Action) → Stands t.first t.bytes.input → Does (cond b (action.Write, replied t (Err 13)) (action.Ask r, asks t)) act new → Well t.bytes new [] []
 stack_well true r t new act h s = replied_well t new (Err 13) h s.1
@@ -175,7 +230,7 @@ plan_well plan.SuspendAll r t new act h s = kept t new (phase.Listing purpose.Al
 plan_well plan.ResumeAll r t new act h s = kept t new phase.Resuming (ap (λ (t : Talk). t.bytes) s.1) (ap (λ (t : Talk). t.first) s.1) (ap (λ (t : Talk). t.phase) s.1) (λ k. h)
 plan_well plan.Hold r t new act h s = answers t new phase.Ready (Ok []) h (ap (λ (t : Talk). t.bytes) s.1) (ap (λ (t : Talk). t.phase) s.1) refl
 plan_well plan.Release r t new act h s = answers t new phase.Ready (Ok []) h (ap (λ (t : Talk). t.bytes) s.1) (ap (λ (t : Talk). t.phase) s.1) refl
-plan_well (plan.Set kind policy at count) r t new act h s = sets_well kind policy at count t new act h s
+plan_well (plan.Set w) r t new act h s = sets_well w t new act h s
 plan_well (plan.Clear kind number) r t new act h s = answers t new phase.Ready (Ok []) h (ap (λ (t : Talk). t.bytes) s.1) (ap (λ (t : Talk). t.phase) s.1) refl
 plan_well plan.Dispose r t new act h s = answers t new phase.Ending (Ok []) h (ap (λ (t : Talk). t.bytes) s.1) (ap (λ (t : Talk). t.phase) s.1) refl
 
@@ -259,6 +314,10 @@ in_well (phase.Undoing p u) old new act at h s = kept old new (after p) (ap (λ 
 in_well (phase.Settling p) old new act at h s = waits_well (phase.Settling p) old new act at h s
 in_well (phase.Finishing p) old new act at h s = finish_well p old new act h s
 in_well phase.Refusing old new act at h s = replied_well old new (Err 10) (h refl) s.1
+in_well (phase.Placing w) old new act at h s = waits_well (phase.Placing w) old new act at h s
+in_well (phase.Locating w) old new act at h s = waits_well (phase.Locating w) old new act at h s
+in_well (phase.Putting w k) old new act at h s = in_force_well w k old new act (h refl) s
+in_well (phase.Denied d) old new act at h s = replied_well old new (Err (number_of d)) (h refl) s.1
 in_well (phase.Numbered n) old new act at h s = replied_well old new (Ok (int n)) (h refl) s.1
 in_well phase.Resuming old new act at h s = resumes_well old new act at (h refl) s
 in_well phase.Ending old new act at h s = ends_well old new act at s
@@ -279,6 +338,10 @@ closing_idle (phase.Undoing p u) = refl
 closing_idle (phase.Settling p) = refl
 closing_idle (phase.Finishing p) = refl
 closing_idle phase.Refusing = refl
+closing_idle (phase.Placing w) = refl
+closing_idle (phase.Locating w) = refl
+closing_idle (phase.Putting w k) = refl
+closing_idle (phase.Denied d) = refl
 closing_idle (phase.Numbered n) = refl
 closing_idle phase.Resuming = refl
 closing_idle phase.Ending = refl
@@ -295,6 +358,10 @@ asked_works (phase.Undoing p u) h = never h
 asked_works (phase.Settling p) h = never h
 asked_works (phase.Finishing p) h = never h
 asked_works phase.Refusing h = never h
+asked_works (phase.Placing w) h = never h
+asked_works (phase.Locating w) h = never h
+asked_works (phase.Putting w k) h = never h
+asked_works (phase.Denied d) h = never h
 asked_works (phase.Numbered n) h = never h
 asked_works phase.Resuming h = never h
 asked_works phase.Ending h = never h
@@ -314,6 +381,10 @@ listed_well (phase.Undoing p u) threads old new h s = cc
 listed_well (phase.Settling p) threads old new h s = cc
 listed_well (phase.Finishing p) threads old new h s = cc
 listed_well phase.Refusing threads old new h s = cc
+listed_well (phase.Placing w) threads old new h s = cc
+listed_well (phase.Locating w) threads old new h s = cc
+listed_well (phase.Putting w k) threads old new h s = cc
+listed_well (phase.Denied d) threads old new h s = cc
 listed_well (phase.Numbered n) threads old new h s = cc
 listed_well phase.Resuming threads old new h s = cc
 listed_well phase.Ending threads old new h s = cc
@@ -330,10 +401,62 @@ settled_well (phase.Undoing p u) old new h s = cc
 settled_well (phase.Settling p) old new h s = let is = some_is _ _ old s in kept old new (phase.Finishing p) (ap (λ (t : Talk). t.bytes) is) (ap (λ (t : Talk). t.first) is) (ap (λ (t : Talk). t.phase) is) h
 settled_well (phase.Finishing p) old new h s = cc
 settled_well phase.Refusing old new h s = cc
+settled_well (phase.Placing w) old new h s = cc
+settled_well (phase.Locating w) old new h s = cc
+settled_well (phase.Putting w k) old new h s = cc
+settled_well (phase.Denied d) old new h s = cc
 settled_well (phase.Numbered n) old new h s = cc
 settled_well phase.Resuming old new h s = cc
 settled_well phase.Ending old new h s = cc
 settled_well phase.Closed old new h s = cc
+
+placed_kept : (w : Wish) (placed : Result (Unit {0}) JdwpError) (old new : Talk) → Stands old.first old.bytes.input → new ≡ record old { phase = placed_as w placed } → Well old.bytes new [] []
+placed_kept w (Ok done) old new h is = kept old new (phase.Putting w nowhere) (ap (λ (t : Talk). t.bytes) is) (ap (λ (t : Talk). t.first) is) (ap (λ (t : Talk). t.phase) is) (λ k. h)
+placed_kept w (Err e) old new h is = kept old new (phase.Denied e) (ap (λ (t : Talk). t.bytes) is) (ap (λ (t : Talk). t.first) is) (ap (λ (t : Talk). t.phase) is) (λ k. h)
+
+placed_well : (p : Phase) (placed : Result (Unit {0}) JdwpError) (old new : Talk) → (works p ≡ true → Stands old.first old.bytes.input) → placed_in p placed old ≡ Some new → Well old.bytes new [] []
+placed_well phase.Greeting placed old new h s = cc
+placed_well phase.Ready placed old new h s = cc
+placed_well phase.Asking placed old new h s = cc
+placed_well (phase.Listing p) placed old new h s = cc
+placed_well (phase.Stopping p) placed old new h s = cc
+placed_well (phase.Suspending p u) placed old new h s = cc
+placed_well (phase.Undoing p u) placed old new h s = cc
+placed_well (phase.Settling p) placed old new h s = cc
+placed_well (phase.Finishing p) placed old new h s = cc
+placed_well phase.Refusing placed old new h s = cc
+placed_well (phase.Placing w) placed old new h s = placed_kept w placed old new (h refl) (some_is _ _ old s)
+placed_well (phase.Locating w) placed old new h s = cc
+placed_well (phase.Putting w k) placed old new h s = cc
+placed_well (phase.Denied d) placed old new h s = cc
+placed_well (phase.Numbered n) placed old new h s = cc
+placed_well phase.Resuming placed old new h s = cc
+placed_well phase.Ending placed old new h s = cc
+placed_well phase.Closed placed old new h s = cc
+
+located_kept : (w : Wish) (standing : Option Standing) (old new : Talk) → Stands old.first old.bytes.input → new ≡ record old { phase = located_as w standing } → Well old.bytes new [] []
+located_kept w None old new h is = kept old new (phase.Denied error.ThreadNotSuspended) (ap (λ (t : Talk). t.bytes) is) (ap (λ (t : Talk). t.first) is) (ap (λ (t : Talk). t.phase) is) (λ k. h)
+located_kept w (Some from) old new h is = kept old new (phase.Putting w from) (ap (λ (t : Talk). t.bytes) is) (ap (λ (t : Talk). t.first) is) (ap (λ (t : Talk). t.phase) is) (λ k. h)
+
+located_well : (p : Phase) (standing : Option Standing) (old new : Talk) → (works p ≡ true → Stands old.first old.bytes.input) → located_in p standing old ≡ Some new → Well old.bytes new [] []
+located_well phase.Greeting standing old new h s = cc
+located_well phase.Ready standing old new h s = cc
+located_well phase.Asking standing old new h s = cc
+located_well (phase.Listing p) standing old new h s = cc
+located_well (phase.Stopping p) standing old new h s = cc
+located_well (phase.Suspending p u) standing old new h s = cc
+located_well (phase.Undoing p u) standing old new h s = cc
+located_well (phase.Settling p) standing old new h s = cc
+located_well (phase.Finishing p) standing old new h s = cc
+located_well phase.Refusing standing old new h s = cc
+located_well (phase.Placing w) standing old new h s = cc
+located_well (phase.Locating w) standing old new h s = located_kept w standing old new (h refl) (some_is _ _ old s)
+located_well (phase.Putting w k) standing old new h s = cc
+located_well (phase.Denied d) standing old new h s = cc
+located_well (phase.Numbered n) standing old new h s = cc
+located_well phase.Resuming standing old new h s = cc
+located_well phase.Ending standing old new h s = cc
+located_well phase.Closed standing old new h s = cc
 
 unknown_works : (p : Purpose) → works (unknown p) ≡ is_request p
 unknown_works purpose.One = refl
@@ -367,6 +490,10 @@ posted_well (phase.Undoing p u) post old new h s = absurd s
 posted_well (phase.Settling p) post old new h s = absurd s
 posted_well (phase.Finishing p) post old new h s = absurd s
 posted_well phase.Refusing post old new h s = absurd s
+posted_well (phase.Placing w) post old new h s = absurd s
+posted_well (phase.Locating w) post old new h s = absurd s
+posted_well (phase.Putting w k) post old new h s = absurd s
+posted_well (phase.Denied d) post old new h s = absurd s
 posted_well (phase.Numbered n) post old new h s = absurd s
 posted_well phase.Resuming post old new h s = absurd s
 posted_well phase.Ending post old new h s = absurd s
@@ -383,6 +510,10 @@ ready_idle (phase.Undoing p u) h = never h
 ready_idle (phase.Settling p) h = never h
 ready_idle (phase.Finishing p) h = never h
 ready_idle phase.Refusing h = never h
+ready_idle (phase.Placing w) h = never h
+ready_idle (phase.Locating w) h = never h
+ready_idle (phase.Putting w k) h = never h
+ready_idle (phase.Denied d) h = never h
 ready_idle (phase.Numbered n) h = never h
 ready_idle phase.Resuming h = never h
 ready_idle phase.Ending h = never h
@@ -406,6 +537,9 @@ step_well old new (Replied a) h s = replied_well old new a (h (asked_works old.p
 step_well old new (Listed threads) h s = listed_well old.phase threads old new h s
 step_well old new (PostedAs post) h s = posted_well old.phase post old new h s
 step_well old new Settled h s = settled_well old.phase old new h s
+step_well old new (PlacedAs placed) h s = placed_well old.phase placed old new h s
+step_well old new (LocatedAs standing) h s = located_well old.phase standing old new h s
+step_well old new (StoppedAt x v) h s = let k = stops_keep x v old new s in kept old new old.phase k.bytes k.first k.phase h
 step_well old new (Written count) h s =
     subst (λ t. Well old.bytes t [] (take (min count (length old.bytes.output)) old.bytes.output)) (sym s)
     (record { goes = goes_out old.bytes (min count (length old.bytes.output)); works = h })

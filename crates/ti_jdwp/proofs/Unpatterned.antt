@@ -1,12 +1,12 @@
 -- Modifiers that are spelled so are read.
-use Rattle.std.proofs.Common.{◌≡◌, ℕ, suc, zero, pos, ◌+◌, ◌^◌, ◌<◌, ◌≤◌, Bool, true, false, eqb, ltb, leb, ◌&&◌, ◌||◌, ℤ, List, ◌∷◌, ◌++◌, length, get_or, drop, Ok, Err, refl, sym, ap, subst, ◌∙◌, arith, length-append, length-drop, get_or-drop, inl, inr}
+use Rattle.std.proofs.Common.{◌≡◌, ℕ, suc, zero, pos, ◌+◌, ◌^◌, ◌<◌, ◌≤◌, Bool, true, false, eqb, ltb, leb, ◌&&◌, ◌||◌, ℤ, List, ◌∷◌, ◌++◌, length, get_or, drop, Ok, Err, append_assoc, refl, sym, ap, subst, ◌∙◌, arith, length-append, length-drop, get_or-drop, inl, inr}
 use Rattle.std.proofs.lemmas.Bool.{le-leb, lt-ltb, and_from, and_parts, eqb-true}
 use Rattle.std.proofs.lemmas.List.{drop-drop, drop_at}
 use Rattle.ti_jdwp.specs.declared.error.JdwpError.TheVariants as error
 use Rattle.ti_jdwp.specs.declared.request.Range.{Range}
 use Rattle.ti_jdwp.specs.declared.modifiers.Modifier.{Modifier}
 use Rattle.ti_jdwp.specs.declared.modifiers.Modifier.TheVariants as modifier
-use Rattle.ti_jdwp.specs.Fields.{◌>>=◌, int, long, text, int_at}
+use Rattle.ti_jdwp.specs.Fields.{◌>>=◌, int, long, text, int_at, long_at}
 use Rattle.ti_jdwp.specs.Modifiers.{within, fields_len, counted, made, modifier_in, modifier_at, modifiers_end}
 use Rattle.ti_jdwp.specs.Patterns.{IsOther, is_other, Says, StandsAt, AreModifiers}
 use Rattle.ti_jdwp.proofs.Parts.{taken, then_ok, long_again, int_again, int_len, long_len, text_len_again}
@@ -66,6 +66,40 @@ reads_exclude at t rest short =
     let said : made 6 (text t ++ rest) (at + 1) (at + 1 + (4 + length t)) ≡ Ok (modifier.ClassExclude (pattern_range (at + 5) (at + 5 + length t))) = ap (λ (r : Range). Ok (modifier.ClassExclude r)) (range_again at (length t)) in
     in_again 6 (text t ++ rest) at (4 + length t) _ (text_len_again t rest short) said ∙ ap (λ (n : ℕ). Ok (modifier.ClassExclude (pattern_range (at + 5) (at + 5 + length t)), at + 1 + n)) (sym (text_size t))
 
+reads_location : (at tag c d i : ℕ) (rest : List ℕ) → c < 2 ^ 64 → d < 2 ^ 64 → i < 2 ^ 64 → Reads at 7 (tag ∷ long c ++ long d ++ long i) rest (modifier.LocationOnly c d i)
+reads_location at tag c d i rest c_fits d_fits i_fits =
+    let fields : List ℕ = tag ∷ long c ++ long d ++ long i in
+    let all : List ℕ = fields ++ rest in
+    let size : length fields ≡ 25 = omega (arith, length-append (long c ++ long d) (long i), length-append (long c) (long d), long_len c, long_len d, long_len i) in
+    let r1 : drop 1 all ≡ long c ++ (long d ++ (long i ++ rest)) =
+    append_assoc (long c ++ long d) (long i) rest ∙ append_assoc (long c) (long d) (long i ++ rest) in
+    let r9 : drop 9 all ≡ long d ++ (long i ++ rest) = sym (drop-drop 8 1 all) ∙ ap (drop 8) r1 ∙ drop_at (long c) (long d ++ (long i ++ rest)) 8 (long_len c) in
+    let r17 : drop 17 all ≡ long i ++ rest = sym (drop-drop 8 9 all) ∙ ap (drop 8) r9 ∙ drop_at (long d) (long i ++ rest) 8 (long_len d) in
+    let at1 : long_at 1 all ≡ c = ap (λ (x : List ℕ). long_at 0 x) r1 ∙ long_again c (long d ++ (long i ++ rest)) c_fits in
+    let at9 : long_at 9 all ≡ d = ap (λ (x : List ℕ). long_at 0 x) r9 ∙ long_again d (long i ++ rest) d_fits in
+    let at17 : long_at 17 all ≡ i = ap (λ (x : List ℕ). long_at 0 x) r17 ∙ long_again i rest i_fits in
+    let len : fields_len 7 all ≡ Ok 25 = within_again 25 all (omega (arith, length-append fields rest, size)) in
+    let said : made 7 all (at + 1) (at + 1 + 25) ≡ Ok (modifier.LocationOnly c d i) =
+    ap (λ (n : ℕ). Ok (modifier.LocationOnly n (long_at 9 all) (long_at 17 all))) at1 ∙ ap (λ (n : ℕ). Ok (modifier.LocationOnly c n (long_at 17 all))) at9 ∙ ap (λ (n : ℕ). Ok (modifier.LocationOnly c d n)) at17 in
+    in_again 7 all at 25 (modifier.LocationOnly c d i) len said ∙ ap (λ (n : ℕ). Ok (modifier.LocationOnly c d i, at + 1 + n)) (sym size)
+
+reads_step : (at t z d : ℕ) (rest : List ℕ) → t < 2 ^ 64 → z < 2 ^ 32 → d < 2 ^ 32 → Reads at 10 (long t ++ int z ++ int d) rest (modifier.Step t z d)
+reads_step at t z d rest t_fits z_fits d_fits =
+    let fields : List ℕ = long t ++ int z ++ int d in
+    let all : List ℕ = fields ++ rest in
+    let size : length fields ≡ 16 = omega (arith, length-append (long t ++ int z) (int d), length-append (long t) (int z), long_len t, int_len z, int_len d) in
+    let r0 : all ≡ long t ++ (int z ++ (int d ++ rest)) =
+    append_assoc (long t ++ int z) (int d) rest ∙ append_assoc (long t) (int z) (int d ++ rest) in
+    let r8 : drop 8 all ≡ int z ++ (int d ++ rest) = ap (drop 8) r0 ∙ drop_at (long t) (int z ++ (int d ++ rest)) 8 (long_len t) in
+    let r12 : drop 12 all ≡ int d ++ rest = sym (drop-drop 4 8 all) ∙ ap (drop 4) r8 ∙ drop_at (int z) (int d ++ rest) 4 (int_len z) in
+    let at0 : long_at 0 all ≡ t = ap (λ (x : List ℕ). long_at 0 x) r0 ∙ long_again t (int z ++ (int d ++ rest)) t_fits in
+    let at8 : int_at 8 all ≡ z = ap (λ (x : List ℕ). int_at 0 x) r8 ∙ int_again z (int d ++ rest) z_fits in
+    let at12 : int_at 12 all ≡ d = ap (λ (x : List ℕ). int_at 0 x) r12 ∙ int_again d rest d_fits in
+    let len : fields_len 10 all ≡ Ok 16 = within_again 16 all (omega (arith, length-append fields rest, size)) in
+    let said : made 10 all (at + 1) (at + 1 + 16) ≡ Ok (modifier.Step t z d) =
+    ap (λ (n : ℕ). Ok (modifier.Step n (int_at 8 all) (int_at 12 all))) at0 ∙ ap (λ (n : ℕ). Ok (modifier.Step t n (int_at 12 all))) at8 ∙ ap (λ (n : ℕ). Ok (modifier.Step t z n)) at12 in
+    in_again 10 all at 16 (modifier.Step t z d) len said ∙ ap (λ (n : ℕ). Ok (modifier.Step t z d, at + 1 + n)) (sym size)
+
 reads_source : (at : ℕ) (t rest : List ℕ) → length t < 2 ^ 31 → Reads at 12 (text t) rest modifier.Other
 reads_source at t rest short =
     in_again 12 (text t ++ rest) at (4 + length t) modifier.Other (text_len_again t rest short) refl ∙ ap (λ (n : ℕ). Ok (modifier.Other, at + 1 + n)) (sym (text_size t))
@@ -96,12 +130,10 @@ either false y P e f g = g e
 reads_other : (at number : ℕ) (fields rest : List ℕ) → is_other number (length fields) ≡ true → Reads at number fields rest modifier.Other
 reads_other at number fields rest h =
     either _ _ _ h (by_row at number 2 4 fields rest (λ all. refl) (λ all s e. refl)) (λ h.
-    either _ _ _ h (by_row at number 7 25 fields rest (λ all. refl) (λ all s e. refl)) (λ h.
     either _ _ _ h (by_row at number 8 10 fields rest (λ all. refl) (λ all s e. refl)) (λ h.
     either _ _ _ h (by_row at number 9 16 fields rest (λ all. refl) (λ all s e. refl)) (λ h.
-    either _ _ _ h (by_row at number 10 16 fields rest (λ all. refl) (λ all s e. refl)) (λ h.
     either _ _ _ h (by_row at number 11 8 fields rest (λ all. refl) (λ all s e. refl))
-    (by_row at number 13 0 fields rest (λ all. refl) (λ all s e. refl)))))))
+    (by_row at number 13 0 fields rest (λ all. refl) (λ all s e. refl)))))
 
 -- a modifier that says this, by its number and its fields
 record Parted (at : ℕ) (own rest : List ℕ) (m : Modifier) : Type 0 where
@@ -116,6 +148,8 @@ parted at own rest (modifier.ThreadOnly id) h = record { number = 3; fields = lo
 parted at own rest (modifier.ClassOnly id) h = record { number = 4; fields = long id; is_own = h.1; reads = reads_class at id rest h.0 }
 parted at own rest (modifier.ClassMatch r) h = record { number = 5; fields = text h.0; is_own = h.2; reads = subst (λ (r : Range). Reads at 5 (text h.0) rest (modifier.ClassMatch r)) (sym h.3) (reads_match at h.0 rest h.1) }
 parted at own rest (modifier.ClassExclude r) h = record { number = 6; fields = text h.0; is_own = h.2; reads = subst (λ (r : Range). Reads at 6 (text h.0) rest (modifier.ClassExclude r)) (sym h.3) (reads_exclude at h.0 rest h.1) }
+parted at own rest (modifier.LocationOnly c d i) h = record { number = 7; fields = h.0 ∷ long c ++ long d ++ long i; is_own = h.4; reads = reads_location at h.0 c d i rest h.1 h.2 h.3 }
+parted at own rest (modifier.Step t z d) h = record { number = 10; fields = long t ++ int z ++ int d; is_own = h.3; reads = reads_step at t z d rest h.0 h.1 h.2 }
 parted at own rest modifier.Other h = record { number = h.0; fields = h.1; is_own = h.3; reads = by_kind h.2 }
   where
     by_kind : IsOther h.0 h.1 → Reads at h.0 h.1 rest modifier.Other

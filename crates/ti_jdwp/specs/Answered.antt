@@ -1,13 +1,18 @@
 -- What the answers of the driver make of a session.
-use Rattle.std.specs.Prelude.{◌≡◌, ℕ, Bool, true, false, List, Option, Some, None, ◌⊎◌}
+use Rattle.std.specs.Prelude.{◌≡◌, ℕ, Bool, true, false, List, Option, Some, None, Result, Ok, Err, ◌⊎◌}
 use Rattle.ti_jdwp.specs.declared.actions.Phase.{Phase}
 use Rattle.ti_jdwp.specs.declared.actions.Phase.TheVariants as phase
 use Rattle.ti_jdwp.specs.declared.actions.Posted.{Posted}
 use Rattle.ti_jdwp.specs.declared.actions.Posted.TheVariants as posted
 use Rattle.ti_jdwp.specs.declared.actions.Purpose.{Purpose}
 use Rattle.ti_jdwp.specs.declared.actions.Purpose.TheVariants as purpose
+use Rattle.ti_jdwp.specs.declared.error.JdwpError.{JdwpError}
+use Rattle.ti_jdwp.specs.declared.error.JdwpError.TheVariants as error
+use Rattle.ti_jdwp.specs.declared.plan.Wish.{Wish}
+use Rattle.ti_jdwp.specs.declared.stops.Standing.{Standing}
 use Rattle.ti_jdwp.specs.declared.suspensions.Holder.TheVariants as holder
 use Rattle.ti_jdwp.specs.Holds.{Suspends}
+use Rattle.ti_jdwp.specs.Stops.{nowhere}
 use Rattle.ti_jdwp.specs.Talks.{Talk, after}
 
 -- the driver answers a request
@@ -22,6 +27,10 @@ is_asked (phase.Undoing p t) = false
 is_asked (phase.Settling p) = false
 is_asked (phase.Finishing p) = false
 is_asked phase.Refusing = false
+is_asked (phase.Placing w) = false
+is_asked (phase.Locating w) = false
+is_asked (phase.Putting w k) = false
+is_asked (phase.Denied d) = false
 is_asked (phase.Numbered n) = false
 is_asked phase.Resuming = false
 is_asked phase.Ending = false
@@ -39,6 +48,10 @@ is_posting (phase.Undoing p t) = false
 is_posting (phase.Settling p) = false
 is_posting (phase.Finishing p) = false
 is_posting phase.Refusing = false
+is_posting (phase.Placing w) = false
+is_posting (phase.Locating w) = false
+is_posting (phase.Putting w k) = false
+is_posting (phase.Denied d) = false
 is_posting (phase.Numbered n) = false
 is_posting phase.Resuming = false
 is_posting phase.Ending = false
@@ -56,6 +69,10 @@ listed_in (phase.Undoing p u) threads t = None
 listed_in (phase.Settling p) threads t = None
 listed_in (phase.Finishing p) threads t = None
 listed_in phase.Refusing threads t = None
+listed_in (phase.Placing w) threads t = None
+listed_in (phase.Locating w) threads t = None
+listed_in (phase.Putting w k) threads t = None
+listed_in (phase.Denied d) threads t = None
 listed_in (phase.Numbered n) threads t = None
 listed_in phase.Resuming threads t = None
 listed_in phase.Ending threads t = None
@@ -73,6 +90,10 @@ settled_in (phase.Undoing p u) t = None
 settled_in (phase.Settling p) t = Some (record t { phase = phase.Finishing p })
 settled_in (phase.Finishing p) t = None
 settled_in phase.Refusing t = None
+settled_in (phase.Placing w) t = None
+settled_in (phase.Locating w) t = None
+settled_in (phase.Putting w k) t = None
+settled_in (phase.Denied d) t = None
 settled_in (phase.Numbered n) t = None
 settled_in phase.Resuming t = None
 settled_in phase.Ending t = None
@@ -107,7 +128,61 @@ PostedIn (phase.Undoing p t) posted old new = ⊥
 PostedIn (phase.Settling p) posted old new = ⊥
 PostedIn (phase.Finishing p) posted old new = ⊥
 PostedIn phase.Refusing posted old new = ⊥
+PostedIn (phase.Placing w) posted old new = ⊥
+PostedIn (phase.Locating w) posted old new = ⊥
+PostedIn (phase.Putting w k) posted old new = ⊥
+PostedIn (phase.Denied d) posted old new = ⊥
 PostedIn (phase.Numbered n) posted old new = ⊥
 PostedIn phase.Resuming posted old new = ⊥
 PostedIn phase.Ending posted old new = ⊥
 PostedIn phase.Closed posted old new = ⊥
+
+abbrev pub placed_as : Wish → Result (Unit {0}) JdwpError → Phase
+placed_as w (Ok done) = phase.Putting w nowhere
+placed_as w (Err e) = phase.Denied e
+
+-- the driver says what came of a breakpoint
+abbrev pub placed_in : Phase → Result (Unit {0}) JdwpError → Talk → Option Talk
+placed_in phase.Greeting placed t = None
+placed_in phase.Ready placed t = None
+placed_in phase.Asking placed t = None
+placed_in (phase.Listing p) placed t = None
+placed_in (phase.Stopping p) placed t = None
+placed_in (phase.Suspending p u) placed t = None
+placed_in (phase.Undoing p u) placed t = None
+placed_in (phase.Settling p) placed t = None
+placed_in (phase.Finishing p) placed t = None
+placed_in phase.Refusing placed t = None
+placed_in (phase.Placing w) placed t = Some (record t { phase = placed_as w placed })
+placed_in (phase.Locating w) placed t = None
+placed_in (phase.Putting w k) placed t = None
+placed_in (phase.Denied d) placed t = None
+placed_in (phase.Numbered n) placed t = None
+placed_in phase.Resuming placed t = None
+placed_in phase.Ending placed t = None
+placed_in phase.Closed placed t = None
+
+abbrev pub located_as : Wish → Option Standing → Phase
+located_as w None = phase.Denied error.ThreadNotSuspended
+located_as w (Some standing) = phase.Putting w standing
+
+-- the driver says where a thread stands
+abbrev pub located_in : Phase → Option Standing → Talk → Option Talk
+located_in phase.Greeting standing t = None
+located_in phase.Ready standing t = None
+located_in phase.Asking standing t = None
+located_in (phase.Listing p) standing t = None
+located_in (phase.Stopping p) standing t = None
+located_in (phase.Suspending p u) standing t = None
+located_in (phase.Undoing p u) standing t = None
+located_in (phase.Settling p) standing t = None
+located_in (phase.Finishing p) standing t = None
+located_in phase.Refusing standing t = None
+located_in (phase.Placing w) standing t = None
+located_in (phase.Locating w) standing t = Some (record t { phase = located_as w standing })
+located_in (phase.Putting w k) standing t = None
+located_in (phase.Denied d) standing t = None
+located_in (phase.Numbered n) standing t = None
+located_in phase.Resuming standing t = None
+located_in phase.Ending standing t = None
+located_in phase.Closed standing t = None

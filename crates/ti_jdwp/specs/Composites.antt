@@ -8,13 +8,15 @@ use Rattle.ti_jdwp.specs.declared.request.EventKind.TheVariants as kind
 use Rattle.ti_jdwp.specs.declared.request.Policy.{Policy}
 use Rattle.ti_jdwp.specs.Events.{kind_number, policy_number}
 use Rattle.ti_jdwp.specs.Fields.{int, long, text}
-use Rattle.ti_jdwp.specs.Ids.{id_from, first_thread, first_class}
+use Rattle.ti_jdwp.specs.Ids.{id_from, first_thread, first_class, first_method}
 use Rattle.ti_jdwp.specs.Bodies.{signed, list}
 
 abbrev pub kind_of_occurrence : Occurrence → EventKind
 kind_of_occurrence (occurrence.ThreadStart thread) = kind.ThreadStart
 kind_of_occurrence (occurrence.ThreadDeath thread) = kind.ThreadDeath
 kind_of_occurrence (occurrence.ClassPrepare thread class signature) = kind.ClassPrepare
+kind_of_occurrence (occurrence.SingleStep thread class method index) = kind.SingleStep
+kind_of_occurrence (occurrence.Breakpoint thread class method index) = kind.Breakpoint
 kind_of_occurrence (occurrence.ClassUnload signature) = kind.ClassUnload
 kind_of_occurrence occurrence.VmDeath = kind.VmDeath
 
@@ -22,10 +24,16 @@ kind_of_occurrence occurrence.VmDeath = kind.VmDeath
 abbrev pub prepared_fields : ℕ → ℕ → List ℕ → List ℕ
 prepared_fields thread class signature = long (id_from first_thread thread) ++ 1 ∷ long (id_from first_class class) ++ text signature ++ int 7
 
+-- a thread, and a location: a tag for a class, the ids of the class and of the method, and the index
+abbrev pub location_fields : ℕ → ℕ → ℕ → ℕ → List ℕ
+location_fields thread class method index = long (id_from first_thread thread) ++ 1 ∷ long (id_from first_class class) ++ long (id_from first_method method) ++ long index
+
 abbrev pub occurrence_fields : Occurrence → List ℕ
 occurrence_fields (occurrence.ThreadStart thread) = long (id_from first_thread thread)
 occurrence_fields (occurrence.ThreadDeath thread) = long (id_from first_thread thread)
 occurrence_fields (occurrence.ClassPrepare thread class signature) = prepared_fields thread class signature.now
+occurrence_fields (occurrence.SingleStep thread class method index) = location_fields thread class method index
+occurrence_fields (occurrence.Breakpoint thread class method index) = location_fields thread class method index
 occurrence_fields (occurrence.ClassUnload signature) = text signature.now
 occurrence_fields occurrence.VmDeath = []
 
@@ -34,6 +42,8 @@ abbrev pub HasShortText : Occurrence → Type 0
 HasShortText (occurrence.ThreadStart thread) = Unit {0}
 HasShortText (occurrence.ThreadDeath thread) = Unit {0}
 HasShortText (occurrence.ClassPrepare thread class signature) = length signature.now < 2 ^ 31
+HasShortText (occurrence.SingleStep thread class method index) = Unit {0}
+HasShortText (occurrence.Breakpoint thread class method index) = Unit {0}
 HasShortText (occurrence.ClassUnload signature) = length signature.now < 2 ^ 31
 HasShortText occurrence.VmDeath = Unit {0}
 

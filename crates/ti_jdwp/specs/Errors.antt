@@ -11,6 +11,7 @@ number_of error.ThreadNotSuspended = 13
 number_of error.InvalidObject = 20
 number_of error.InvalidClass = 21
 number_of error.InvalidMethodId = 23
+number_of error.InvalidLocation = 24
 number_of error.InvalidFrameId = 30
 number_of error.NotImplemented = 99
 number_of error.AbsentInformation = 101

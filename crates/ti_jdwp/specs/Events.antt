@@ -9,6 +9,8 @@ use Rattle.ti_jdwp.specs.declared.request.Policy.TheVariants as policy
 
 -- JDWP's "EventKind" constants that are served
 abbrev pub kind_number : EventKind → ℕ
+kind_number kind.SingleStep = 1
+kind_number kind.Breakpoint = 2
 kind_number kind.ThreadStart = 6
 kind_number kind.ThreadDeath = 7
 kind_number kind.ClassPrepare = 8
@@ -25,13 +27,15 @@ is_kind n = is_between 1 10 n || (is_between 20 21 n || (n == 30 || (is_between 
 
 abbrev pub kind_of : ℕ → Result EventKind JdwpError
 kind_of n =
-    if n == 6 then Ok kind.ThreadStart
+    if n == 1 then Ok kind.SingleStep
+    else (if n == 2 then Ok kind.Breakpoint
+    else (if n == 6 then Ok kind.ThreadStart
     else (if n == 7 then Ok kind.ThreadDeath
     else (if n == 8 then Ok kind.ClassPrepare
     else (if n == 9 then Ok kind.ClassUnload
     else (if n == 90 then Ok kind.VmStart
     else (if n == 99 then Ok kind.VmDeath
-    else (if is_kind n then Err error.NotImplemented else Err error.InvalidEventType))))))
+    else (if is_kind n then Err error.NotImplemented else Err error.InvalidEventType))))))))
 
 -- JDWP's "SuspendPolicy" constants
 abbrev pub policy_number : Policy → ℕ

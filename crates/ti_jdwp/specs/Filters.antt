@@ -9,25 +9,36 @@ use Rattle.ti_jdwp.specs.declared.request.EventKind.{EventKind}
 use Rattle.ti_jdwp.specs.declared.request.EventKind.TheVariants as kind
 
 abbrev pub event_kind : Event → EventKind
+event_kind (event.SingleStep s) = kind.SingleStep
+event_kind (event.Breakpoint s) = kind.Breakpoint
 event_kind (event.ThreadStart thread) = kind.ThreadStart
 event_kind (event.ThreadDeath thread) = kind.ThreadDeath
 event_kind (event.ClassPrepare thread class signature) = kind.ClassPrepare
 
 abbrev pub event_thread : Event → ℕ
+event_thread (event.SingleStep s) = s.thread
+event_thread (event.Breakpoint s) = s.thread
 event_thread (event.ThreadStart thread) = thread
 event_thread (event.ThreadDeath thread) = thread
 event_thread (event.ClassPrepare thread class signature) = thread
 
 abbrev pub is_event_of : Event → ℕ → Bool
+is_event_of (event.SingleStep s) c = s.class == c
+is_event_of (event.Breakpoint s) c = s.class == c
 is_event_of (event.ThreadStart thread) c = false
 is_event_of (event.ThreadDeath thread) c = false
 is_event_of (event.ClassPrepare thread class signature) c = class == c
 
+abbrev inner : List ℕ → List ℕ
+inner signature = drop 1 (take (length signature - 1) signature)
+
 -- a class's name with slashes: its signature without "L" and ";"
 abbrev pub event_name : Event → List ℕ
+event_name (event.SingleStep s) = inner s.signature
+event_name (event.Breakpoint s) = inner s.signature
 event_name (event.ThreadStart thread) = []
 event_name (event.ThreadDeath thread) = []
-event_name (event.ClassPrepare thread class signature) = drop 1 (take (length signature - 1) signature)
+event_name (event.ClassPrepare thread class signature) = inner signature
 
 -- a star, 42, at the beginning or at the end stands for any bytes
 abbrev pub is_match : List ℕ → List ℕ → Bool

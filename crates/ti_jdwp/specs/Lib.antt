@@ -7,6 +7,7 @@ pub mod Modifiers
 pub mod Commands
 pub mod Requests
 pub mod Filters
+pub mod Stops
 pub mod InForce
 pub mod Queues
 pub mod QueueRuns
@@ -25,6 +26,8 @@ pub mod Steps
 pub mod Asking
 pub mod Answered
 pub mod Notes
+pub mod StopNotes
 pub mod SessionRuns
 pub mod SessionHolds
 pub mod SessionStops
+pub mod SessionLets

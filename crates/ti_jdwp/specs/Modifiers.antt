@@ -40,7 +40,9 @@ made number rest start end =
     else (if number == 4 then Ok (modifier.ClassOnly (long_at 0 rest))
     else (if number == 5 then Ok (modifier.ClassMatch (record { start = start + 4; end = end }))
     else (if number == 6 then Ok (modifier.ClassExclude (record { start = start + 4; end = end }))
-    else Ok modifier.Other))))
+    else (if number == 7 then Ok (modifier.LocationOnly (long_at 1 rest) (long_at 9 rest) (long_at 17 rest))
+    else (if number == 10 then Ok (modifier.Step (long_at 0 rest) (int_at 8 rest) (int_at 12 rest))
+    else Ok modifier.Other))))))
 
 -- the modifier with this number whose fields begin the rest, and where the next one begins
 abbrev pub modifier_in : ℕ → List ℕ → ℕ → Result (Modifier × ℕ) JdwpError

@@ -39,6 +39,10 @@ is_over (phase.Undoing p t) = false
 is_over (phase.Settling p) = false
 is_over (phase.Finishing p) = false
 is_over phase.Refusing = false
+is_over (phase.Placing w) = false
+is_over (phase.Locating w) = false
+is_over (phase.Putting w k) = false
+is_over (phase.Denied d) = false
 is_over (phase.Numbered n) = false
 is_over phase.Resuming = false
 is_over phase.Ending = true
@@ -46,6 +50,8 @@ is_over phase.Closed = true
 
 -- the begin and the end of a thread suspend none
 abbrev pub event_policy : Event → Policy → Policy
+event_policy (event.SingleStep s) asked = asked
+event_policy (event.Breakpoint s) asked = asked
 event_policy (event.ThreadStart thread) asked = policy.None
 event_policy (event.ThreadDeath thread) asked = policy.None
 event_policy (event.ClassPrepare thread class signature) asked = asked
@@ -58,6 +64,7 @@ abbrev pub notice_for : Event → Occurrence → Policy → List ℕ → Notice
 notice_for e o asked numbers = record {
   policy = event_policy e asked;
   thread = event_thread e;
+  stop = false;
   body = composite (event_policy e asked) (map (row_of o) numbers);
 }
 

@@ -8,12 +8,10 @@ use Rattle.ti_jdwp.specs.Fields.{int, long, text}
 abbrev pub is_other : ℕ → ℕ → Bool
 is_other number len =
     ((number == 2) && (len == 4))
-    || (((number == 7) && (len == 25))
     || (((number == 8) && (len == 10))
     || (((number == 9) && (len == 16))
-    || (((number == 10) && (len == 16))
     || (((number == 11) && (len == 8))
-    || ((number == 13) && (len == 0)))))))
+    || ((number == 13) && (len == 0)))))
 
 abbrev pub IsOther : ℕ → List ℕ → Type 0
 IsOther number fields = (is_other number (length fields) ≡ true) ⊎ ((number ≡ 12) × ((t : List ℕ) × (length t < 2 ^ 31) × (fields ≡ text t)))
@@ -25,6 +23,9 @@ Says at own (modifier.ThreadOnly id) = (id < 2 ^ 64) × (own ≡ 3 ∷ long id)
 Says at own (modifier.ClassOnly id) = (id < 2 ^ 64) × (own ≡ 4 ∷ long id)
 Says at own (modifier.ClassMatch r) = (t : List ℕ) × (length t < 2 ^ 31) × (own ≡ 5 ∷ text t) × (r ≡ record { start = at + 5; end = at + 5 + length t })
 Says at own (modifier.ClassExclude r) = (t : List ℕ) × (length t < 2 ^ 31) × (own ≡ 6 ∷ text t) × (r ≡ record { start = at + 5; end = at + 5 + length t })
+Says at own (modifier.LocationOnly class method index) =
+    (tag : ℕ) × (class < 2 ^ 64) × (method < 2 ^ 64) × (index < 2 ^ 64) × (own ≡ 7 ∷ tag ∷ long class ++ long method ++ long index)
+Says at own (modifier.Step thread size depth) = (thread < 2 ^ 64) × (size < 2 ^ 32) × (depth < 2 ^ 32) × (own ≡ 10 ∷ long thread ++ int size ++ int depth)
 Says at own modifier.Other = (number : ℕ) × (fields : List ℕ) × IsOther number fields × (own ≡ number ∷ fields)
 
 -- At a place of the data stands a modifier that says this, and the next place is behind it.

@@ -86,7 +86,7 @@ plan_of request.DisposeObjects = plan.Constant constant.Empty
 plan_of request.HoldEvents = plan.Hold
 plan_of request.ReleaseEvents = plan.Release
 plan_of request.CapabilitiesNew = plan.Constant constant.NewCapabilities
-plan_of (request.SetEvent kind policy modifiers count) = plan.Set kind policy modifiers.start count
+plan_of (request.SetEvent kind policy modifiers count) = plan.Set (record { kind = kind; policy = policy; at = modifiers.start; count = count })
 plan_of (request.ClearEvent kind number) = plan.Clear kind number
 plan_of (request.ReferenceType id) = at_object id (plan.Constant constant.ThreadClass)
 plan_of (request.IsCollected id) = at_object id (plan.Constant constant.False)

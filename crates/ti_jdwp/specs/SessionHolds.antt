@@ -8,7 +8,7 @@ use Rattle.ti_jdwp.specs.declared.actions.Posted.{Posted}
 use Rattle.ti_jdwp.specs.declared.actions.Posted.TheVariants as posted
 use Rattle.ti_jdwp.specs.Holds.{is_own}
 use Rattle.ti_jdwp.specs.Talks.{Talk, opened}
-use Rattle.ti_jdwp.specs.SessionRuns.{Call, Fed, PeerEnded, Shut, Went, Failed, Replied, Listed, PostedAs, Settled, Written, Happened, Step}
+use Rattle.ti_jdwp.specs.SessionRuns.{Call, Fed, PeerEnded, Shut, Went, Failed, Replied, Listed, PostedAs, Settled, PlacedAs, LocatedAs, StoppedAt, Written, Happened, Step}
 
 -- the driver posts a suspension of this thread
 abbrev pub posts : Phase → ℕ → Bool
@@ -22,6 +22,10 @@ posts (phase.Undoing p u) t = false
 posts (phase.Settling p) t = false
 posts (phase.Finishing p) t = false
 posts phase.Refusing t = false
+posts (phase.Placing w) t = false
+posts (phase.Locating w) t = false
+posts (phase.Putting w k) t = false
+posts (phase.Denied d) t = false
 posts (phase.Numbered n) t = false
 posts phase.Resuming t = false
 posts phase.Ending t = false
@@ -39,6 +43,10 @@ undoes (phase.Undoing p u) t = u == t
 undoes (phase.Settling p) t = false
 undoes (phase.Finishing p) t = false
 undoes phase.Refusing t = false
+undoes (phase.Placing w) t = false
+undoes (phase.Locating w) t = false
+undoes (phase.Putting w k) t = false
+undoes (phase.Denied d) t = false
 undoes (phase.Numbered n) t = false
 undoes phase.Resuming t = false
 undoes phase.Ending t = false
@@ -55,6 +63,10 @@ is_closed (phase.Undoing p u) = false
 is_closed (phase.Settling p) = false
 is_closed (phase.Finishing p) = false
 is_closed phase.Refusing = false
+is_closed (phase.Placing w) = false
+is_closed (phase.Locating w) = false
+is_closed (phase.Putting w k) = false
+is_closed (phase.Denied d) = false
 is_closed (phase.Numbered n) = false
 is_closed phase.Resuming = false
 is_closed phase.Ending = false
@@ -77,6 +89,9 @@ suspends_it t old (Replied a) = false
 suspends_it t old (Listed threads) = false
 suspends_it t old (PostedAs post) = if is_done post then posts old.phase t else false
 suspends_it t old Settled = false
+suspends_it t old (PlacedAs r) = false
+suspends_it t old (LocatedAs o) = false
+suspends_it t old (StoppedAt x v) = false
 suspends_it t old (Written count) = false
 suspends_it t old (Happened e o result) = false
 
@@ -84,6 +99,9 @@ abbrev pub resumes_by : ℕ → Action → Bool
 resumes_by t action.Again = false
 resumes_by t (action.Ask r) = false
 resumes_by t action.ListThreads = false
+resumes_by t (action.SetBreakpoint k m i) = false
+resumes_by t (action.Locate v) = false
+resumes_by t (action.LetGo v) = false
 resumes_by t (action.Suspend v) = false
 resumes_by t action.Settle = false
 resumes_by t (action.Resume v) = v == t
@@ -102,6 +120,9 @@ resumes_it t (Replied a) = false
 resumes_it t (Listed threads) = false
 resumes_it t (PostedAs post) = false
 resumes_it t Settled = false
+resumes_it t (PlacedAs r) = false
+resumes_it t (LocatedAs o) = false
+resumes_it t (StoppedAt x v) = false
 resumes_it t (Written count) = false
 resumes_it t (Happened e o result) = false
 

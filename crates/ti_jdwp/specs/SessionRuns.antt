@@ -1,17 +1,22 @@
 -- Whole runs of a session, and what goes over its connection.
-use Rattle.std.specs.Prelude.{◌≡◌, ℕ, ◌≤◌, Bool, true, List, [], ◌∷◌, ◌++◌, length, take, min, Some, Result}
+use Rattle.std.specs.Prelude.{◌≡◌, ℕ, ◌≤◌, Bool, true, List, [], ◌∷◌, ◌++◌, length, take, min, Option, Some, Result}
 use Rattle.std.specs.List.{flat_map}
 use Rattle.ti_jdwp.specs.declared.actions.Action.{Action}
 use Rattle.ti_jdwp.specs.declared.actions.Posted.{Posted}
+use Rattle.ti_jdwp.specs.declared.error.JdwpError.{JdwpError}
 use Rattle.ti_jdwp.specs.declared.event.Event.{Event}
+use Rattle.ti_jdwp.specs.declared.event.Spot.{Spot}
 use Rattle.ti_jdwp.specs.declared.event_text.Occurrence.{Occurrence}
 use Rattle.ti_jdwp.specs.declared.packet.Head.TheVariants as head
-use Rattle.ti_jdwp.specs.Answered.{is_asked, listed_in, settled_in, PostedIn}
+use Rattle.ti_jdwp.specs.declared.stops.Standing.{Standing}
+use Rattle.ti_jdwp.specs.declared.stops.Verdict.{Verdict}
+use Rattle.ti_jdwp.specs.Answered.{is_asked, listed_in, settled_in, placed_in, located_in, PostedIn}
 use Rattle.ti_jdwp.specs.Lines.{with_written, handshake}
 use Rattle.ti_jdwp.specs.Notes.{Notes}
 use Rattle.ti_jdwp.specs.Packets.{BeginsWith}
 use Rattle.ti_jdwp.specs.Sent.{reply_packet, event_packet}
 use Rattle.ti_jdwp.specs.Steps.{Goes, Fails}
+use Rattle.ti_jdwp.specs.StopNotes.{Stops}
 use Rattle.ti_jdwp.specs.Talks.{Talk, opened, room_in, fed, replied, closed}
 
 -- A call. Those that fail change nothing, but for `next`.
@@ -25,6 +30,10 @@ pub data Call : Type 0 where
   Listed : List ℕ → Call
   PostedAs : Posted → Call
   Settled : Call
+  PlacedAs : Result (Unit {0}) JdwpError → Call
+  LocatedAs : Option Standing → Call
+  -- a thread stopped at a place
+  StoppedAt : Spot → Verdict → Call
   Written : ℕ → Call
   -- something took place at the service, and was noted or lost
   Happened : Event → Occurrence → Bool → Call
@@ -40,6 +49,9 @@ Step old (Replied a) new = (is_asked old.phase ≡ true) × (new ≡ replied old
 Step old (Listed threads) new = listed_in old.phase threads old ≡ Some new
 Step old (PostedAs posted) new = PostedIn old.phase posted old new
 Step old Settled new = settled_in old.phase old ≡ Some new
+Step old (PlacedAs placed) new = placed_in old.phase placed old ≡ Some new
+Step old (LocatedAs standing) new = located_in old.phase standing old ≡ Some new
+Step old (StoppedAt s verdict) new = Stops s old verdict new
 Step old (Written count) new = new ≡ record old { bytes = with_written old.bytes count }
 Step old (Happened e o result) new = Notes e o old result new
 
@@ -54,6 +66,9 @@ received (Replied a) = []
 received (Listed threads) = []
 received (PostedAs posted) = []
 received Settled = []
+received (PlacedAs r) = []
+received (LocatedAs o) = []
+received (StoppedAt x v) = []
 received (Written count) = []
 received (Happened e o result) = []
 
@@ -68,6 +83,9 @@ taken t (Replied a) = []
 taken t (Listed threads) = []
 taken t (PostedAs posted) = []
 taken t Settled = []
+taken t (PlacedAs r) = []
+taken t (LocatedAs o) = []
+taken t (StoppedAt x v) = []
 taken t (Written count) = take (min count (length t.bytes.output)) t.bytes.output
 taken t (Happened e o result) = []
 

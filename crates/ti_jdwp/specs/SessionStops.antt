@@ -8,7 +8,7 @@ use Rattle.ti_jdwp.specs.declared.notice.Notice.{Notice}
 use Rattle.ti_jdwp.specs.Holds.{held_of}
 use Rattle.ti_jdwp.specs.Steps.{is_all}
 use Rattle.ti_jdwp.specs.Talks.{Talk, opened}
-use Rattle.ti_jdwp.specs.SessionRuns.{Call, Fed, PeerEnded, Shut, Went, Failed, Replied, Listed, PostedAs, Settled, Written, Happened, Runs}
+use Rattle.ti_jdwp.specs.SessionRuns.{Call, Fed, PeerEnded, Shut, Went, Failed, Replied, Listed, PostedAs, Settled, PlacedAs, LocatedAs, StoppedAt, Written, Happened, Runs}
 
 abbrev pub is_event : Purpose → Bool
 is_event purpose.One = false
@@ -28,6 +28,10 @@ is_telling (phase.Undoing p u) = false
 is_telling (phase.Settling p) = false
 is_telling (phase.Finishing p) = is_event p
 is_telling phase.Refusing = false
+is_telling (phase.Placing w) = false
+is_telling (phase.Locating w) = false
+is_telling (phase.Putting w k) = false
+is_telling (phase.Denied d) = false
 is_telling (phase.Numbered n) = false
 is_telling phase.Resuming = false
 is_telling phase.Ending = false
@@ -44,6 +48,10 @@ is_resuming (phase.Undoing p u) = false
 is_resuming (phase.Settling p) = false
 is_resuming (phase.Finishing p) = false
 is_resuming phase.Refusing = false
+is_resuming (phase.Placing w) = false
+is_resuming (phase.Locating w) = false
+is_resuming (phase.Putting w k) = false
+is_resuming (phase.Denied d) = false
 is_resuming (phase.Numbered n) = false
 is_resuming phase.Resuming = true
 is_resuming phase.Ending = false
@@ -64,6 +72,9 @@ tells_event t (Replied a) = false
 tells_event t (Listed threads) = false
 tells_event t (PostedAs post) = false
 tells_event t Settled = false
+tells_event t (PlacedAs r) = false
+tells_event t (LocatedAs o) = false
+tells_event t (StoppedAt x v) = false
 tells_event t (Written count) = false
 tells_event t (Happened e o result) = false
 
@@ -82,6 +93,9 @@ resumes_all old (Replied a) new = false
 resumes_all old (Listed threads) new = false
 resumes_all old (PostedAs post) new = false
 resumes_all old Settled new = false
+resumes_all old (PlacedAs r) new = false
+resumes_all old (LocatedAs o) new = false
+resumes_all old (StoppedAt x v) new = false
 resumes_all old (Written count) new = false
 resumes_all old (Happened e o result) new = false
 

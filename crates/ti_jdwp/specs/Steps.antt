@@ -13,12 +13,15 @@ use Rattle.ti_jdwp.specs.declared.front.Front.{Front}
 use Rattle.ti_jdwp.specs.declared.front.Front.TheVariants as front
 use Rattle.ti_jdwp.specs.declared.notice.Notice.{Notice}
 use Rattle.ti_jdwp.specs.declared.plan.Plan.{Plan}
+use Rattle.ti_jdwp.specs.declared.plan.Wish.{Wish}
 use Rattle.ti_jdwp.specs.declared.plan.Plan.TheVariants as plan
-use Rattle.ti_jdwp.specs.declared.request.EventKind.{EventKind}
 use Rattle.ti_jdwp.specs.declared.request.Policy.{Policy}
 use Rattle.ti_jdwp.specs.declared.request.Policy.TheVariants as policy
 use Rattle.ti_jdwp.specs.declared.request.Request.{Request}
 use Rattle.ti_jdwp.specs.declared.suspensions.Holder.TheVariants as holder
+use Rattle.ti_jdwp.specs.declared.stops.Standing.{Standing}
+use Rattle.ti_jdwp.specs.declared.stops.Target.{Target}
+use Rattle.ti_jdwp.specs.declared.stops.Target.TheVariants as target
 use Rattle.ti_jdwp.specs.Asking.{Reading, filters_in}
 use Rattle.ti_jdwp.specs.Constants.{constant_bytes}
 use Rattle.ti_jdwp.specs.Errors.{number_of}
@@ -30,6 +33,7 @@ use Rattle.ti_jdwp.specs.Plans.{plan_of}
 use Rattle.ti_jdwp.specs.Queues.{may_tell, first, without_first}
 use Rattle.ti_jdwp.specs.Requests.{request_in}
 use Rattle.ti_jdwp.specs.Sent.{event_packet}
+use Rattle.ti_jdwp.specs.Stops.{nowhere}
 use Rattle.ti_jdwp.specs.Talks.{Talk, IsFront, data_of, replied, stopped, starved, greets, after}
 
 -- a call of `next` does this
@@ -89,13 +93,18 @@ tells (Some n) t = record t {
   phase = phase.Ready;
 }
 
+-- A thread that stopped is let go as soon as its event is told. Any other event is written.
+abbrev pub told_by : Option Notice → Action
+told_by None = action.Write
+told_by (Some n) = if n.stop then action.LetGo n.thread else action.Write
+
 abbrev pub suspended_reply : Talk → Talk
 suspended_reply t = record (replied t (if t.short then Err 110 else Ok [])) { short = false }
 
 abbrev pub finishes : Purpose → Talk → Action × Talk
 finishes purpose.One t = (action.Write, suspended_reply t)
 finishes purpose.All t = (action.Write, suspended_reply t)
-finishes purpose.Event t = (action.Write, tells t.notice t)
+finishes purpose.Event t = (told_by t.notice, tells t.notice t)
 finishes purpose.End t = (action.Again, record t { phase = phase.Ending })
 
 -- what an event is to suspend is suspended
@@ -110,18 +119,45 @@ ResumesOne t old act new =
     (told : Bool) × Resumes old.holds t told new.holds × (act ≡ (if told then action.Resume t else action.Write))
     × (new ≡ record (replied old (Ok [])) { holds = new.holds; queue = if held_of new.holds == 0 then record old.queue { stopped = false } else old.queue })
 
--- what the modifiers say of the request that is worked on
-abbrev pub said_in : EventKind → ℕ → ℕ → Talk → Result Reading JdwpError
-said_in kind at count t = filters_in count kind (data_of t.first t.bytes.input) at
+-- what the modifiers say of the request that is worked on, if its thread stands there
+abbrev pub said_in : Wish → Standing → Talk → Result Reading JdwpError
+said_in w from t = filters_in w from (data_of t.first t.bytes.input)
 
--- A request for events is put in force with what its modifiers say, or refused. Where there is no room or no memory, it is refused
--- by that.
-abbrev pub SetsEvent : EventKind → Policy → ℕ → ℕ → Talk → Action → Talk → Type 0
-SetsEvent kind policy at count old action.Again new =
-    (new ≡ record old { phase = phase.Numbered (old.requests.given + 1); requests = new.requests })
-    × ((r : Reading) × (said_in kind at count old ≡ Ok r) × (new.requests ≡ with_request old.requests kind policy r.front r.count r.rest))
-SetsEvent kind policy at count old action.Write new = (e : JdwpError) × (new ≡ replied old (Err (number_of e))) × ((e ≡ error.OutOfMemory) ⊎ (said_in kind at count old ≡ Err e))
-SetsEvent kind policy at count old _ new = ⊥
+-- A request for events is put in force with what its modifiers say. Where there is no room or no memory, it is refused.
+abbrev pub Puts : Wish → Reading → Talk → Action → Talk → Type 0
+Puts w r old action.Again new =
+    new ≡ record old { phase = phase.Numbered (old.requests.given + 1); requests = with_request old.requests w.kind w.policy r.target r.front r.count r.rest }
+Puts w r old action.Write new = new ≡ replied old (Err 110)
+Puts w r old _ new = ⊥
+
+abbrev pub refused : JdwpError → Talk → Action × Talk
+refused e t = (action.Write, replied t (Err (number_of e)))
+
+abbrev pub PutsRead : Result Reading JdwpError → Wish → Talk → Action → Talk → Type 0
+PutsRead (Err e) w old act new = Does (refused e old) act new
+PutsRead (Ok r) w old act new = Puts w r old act new
+
+-- A request of which the driver said what it was asked is put in force. Where there is no memory to read it, it is refused.
+abbrev pub PutsInForce : Wish → Standing → Talk → Action → Talk → Type 0
+PutsInForce w from old act new = PutsRead (said_in w from old) w old act new ⊎ Does (refused error.OutOfMemory old) act new
+
+-- The driver sets the breakpoint of a request first, or says where the thread stands that is to step, if the debugger suspends it.
+abbrev pub SetsFor : Target → Wish → Reading → Talk → Action → Talk → Type 0
+SetsFor target.Anywhere w r old act new = Puts w r old act new
+SetsFor (target.Place class method index) w r old act new = Does (action.SetBreakpoint class method index, record old { phase = phase.Placing w }) act new
+SetsFor (target.Step step) w r old act new =
+    Does (if count_of old.holds step.thread == 0 then refused error.ThreadNotSuspended old else (action.Locate step.thread, record old { phase = phase.Locating w })) act new
+
+abbrev pub Sets : Wish → Reading → Talk → Action → Talk → Type 0
+Sets w r old act new = SetsFor r.target w r old act new
+
+abbrev pub SetsRead : Result Reading JdwpError → Wish → Talk → Action → Talk → Type 0
+SetsRead (Err e) w old act new = Does (refused e old) act new
+SetsRead (Ok r) w old act new = Sets w r old act new
+
+-- A request for events is served. Where there is no memory to read it, it is refused.
+abbrev pub SetsEvent : Wish → Talk → Action → Talk → Type 0
+SetsEvent w old act new = SetsRead (said_in w nowhere old) w old act new ⊎ Does (refused error.OutOfMemory old) act new
 
 abbrev pub clears : ℕ → ℤ → Talk → Talk
 clears kind number t = record (replied t (Ok [])) { requests = without_request t.requests kind (cast_unsigned w32 number) }
@@ -142,7 +178,7 @@ ServesBy plan.SuspendAll r t act new = Does (action.ListThreads, record t { phas
 ServesBy plan.ResumeAll r t act new = Does (action.Again, record t { phase = phase.Resuming; work = held_threads t.holds }) act new
 ServesBy plan.Hold r t act new = Does (action.Write, record (replied t (Ok [])) { queue = record t.queue { held = true } }) act new
 ServesBy plan.Release r t act new = Does (action.Write, record (replied t (Ok [])) { queue = record t.queue { held = false } }) act new
-ServesBy (plan.Set kind policy at count) r t act new = SetsEvent kind policy at count t act new
+ServesBy (plan.Set w) r t act new = SetsEvent w t act new
 ServesBy (plan.Clear kind number) r t act new = Does (action.Write, clears kind number t) act new
 ServesBy plan.Dispose r t act new = Does (action.Again, stopped (replied t (Ok []))) act new
 
@@ -186,6 +222,10 @@ GoesIn (phase.Settling p) old act new = Waits old act new
 GoesIn (phase.Finishing p) old act new = Does (finishes p old) act new
 GoesIn phase.Refusing old act new = Does (action.Write, replied old (Err 10)) act new
 GoesIn (phase.Numbered n) old act new = Does (action.Write, replied old (Ok (int n))) act new
+GoesIn (phase.Placing w) old act new = Waits old act new
+GoesIn (phase.Locating w) old act new = Waits old act new
+GoesIn (phase.Putting w from) old act new = PutsInForce w from old act new
+GoesIn (phase.Denied e) old act new = Does (action.Write, replied old (Err (number_of e))) act new
 GoesIn phase.Resuming old act new = ResumesNext old act new
 GoesIn phase.Ending old act new = EndsBy act old new
 GoesIn phase.Closed old act new = Does (action.Close, old) act new
@@ -214,6 +254,10 @@ is_ready (phase.Undoing p t) = false
 is_ready (phase.Settling p) = false
 is_ready (phase.Finishing p) = false
 is_ready phase.Refusing = false
+is_ready (phase.Placing w) = false
+is_ready (phase.Locating w) = false
+is_ready (phase.Putting w k) = false
+is_ready (phase.Denied d) = false
 is_ready (phase.Numbered n) = false
 is_ready phase.Resuming = false
 is_ready phase.Ending = false

@@ -1,6 +1,9 @@
 //! What a session asks its driver to do, and what the driver says of it.
 
+use crate::error::JdwpError;
+use crate::plan::Wish;
 use crate::request::Request;
+use crate::stops::Standing;
 
 /// What the driver does next. Threads have their numbers.
 #[derive(Clone, Copy, Debug, PartialEq, Eq)]
@@ -17,6 +20,12 @@ pub enum Action {
     Settle,
     /// Resume this thread. There is nothing to say of it.
     Resume(u32),
+    /// Set a breakpoint at this location of a method of a class, and say by `placed` what came of it.
+    SetBreakpoint { class: u32, method: u32, index: u32 },
+    /// Say by `located` where this thread stands.
+    Locate(u32),
+    /// A stop of this thread was told: let it go on, where nothing suspends it. There is nothing to say of it.
+    LetGo(u32),
     /// Write `output` to the socket, and tell how much it took by `written`.
     Write,
     /// Close the socket. Nothing more comes.
@@ -76,6 +85,14 @@ pub(crate) enum Phase {
     Refusing,
     /// A request for events is in force, and its number is to be the reply.
     Numbered(u32),
+    /// The driver sets the breakpoint of a request for events.
+    Placing(Wish),
+    /// The driver says where the thread stands that is to step.
+    Locating(Wish),
+    /// A request for events is to be put in force, for a thread that stands there.
+    Putting { wish: Wish, standing: Standing },
+    /// The request that is worked on is refused by this error.
+    Denied(JdwpError),
     /// The threads in the list are resumed, one after the other.
     Resuming,
     /// What the debugger suspended is resumed, and then the connection closes.

@@ -24,6 +24,9 @@ pub enum JdwpError {
     /// 23 INVALID_METHODID: the id is no method's.
     #[error("the id is no method's")]
     InvalidMethodId,
+    /// 24 INVALID_LOCATION: the method has no such location.
+    #[error("the method has no such location")]
+    InvalidLocation,
     /// 30 INVALID_FRAMEID: the id is no frame's.
     #[error("the id is no frame's")]
     InvalidFrameId,
@@ -68,6 +71,7 @@ impl JdwpError {
             JdwpError::InvalidObject => 20,
             JdwpError::InvalidClass => 21,
             JdwpError::InvalidMethodId => 23,
+            JdwpError::InvalidLocation => 24,
             JdwpError::InvalidFrameId => 30,
             JdwpError::NotImplemented => 99,
             JdwpError::AbsentInformation => 101,

@@ -1,7 +1,7 @@
 //! The body of a composite event: the command Event.Composite, 64/100, which goes to the debugger without a request.
 
 use crate::error::JdwpError;
-use crate::ids::{class_id, thread_id};
+use crate::ids::{class_id, method_id, thread_id};
 use crate::request::{EventKind, Policy};
 use crate::writing::{put_byte, put_count, put_int, put_long, put_text};
 use std::alloc::Global;
@@ -22,6 +22,20 @@ pub enum Occurrence<'a> {
         thread: u32,
         class: u32,
         signature: &'a [u8],
+    },
+    /// A step of a thread ended at a location of a method. All have their numbers.
+    SingleStep {
+        thread: u32,
+        class: u32,
+        method: u32,
+        index: u32,
+    },
+    /// A thread reached a breakpoint at a location of a method. All have their numbers.
+    Breakpoint {
+        thread: u32,
+        class: u32,
+        method: u32,
+        index: u32,
     },
     /// The class with this signature is gone.
     ClassUnload {
@@ -77,6 +91,8 @@ fn kind(occurrence: Occurrence<'_>) -> EventKind
         Occurrence::ThreadStart { .. } => EventKind::ThreadStart,
         Occurrence::ThreadDeath { .. } => EventKind::ThreadDeath,
         Occurrence::ClassPrepare { .. } => EventKind::ClassPrepare,
+        Occurrence::SingleStep { .. } => EventKind::SingleStep,
+        Occurrence::Breakpoint { .. } => EventKind::Breakpoint,
         Occurrence::ClassUnload { .. } => EventKind::ClassUnload,
         Occurrence::VmDeath => EventKind::VmDeath,
     }
@@ -96,9 +112,39 @@ fn put_occurrence(out: &mut Vec<u8>, occurrence: Occurrence<'_>) -> Result<(), J
             class,
             signature,
         } => put_prepared(out, thread, class, signature),
+        Occurrence::SingleStep {
+            thread,
+            class,
+            method,
+            index,
+        } => put_location(out, thread, class, method, index),
+        Occurrence::Breakpoint {
+            thread,
+            class,
+            method,
+            index,
+        } => put_location(out, thread, class, method, index),
         Occurrence::ClassUnload { signature } => put_text(out, signature),
         Occurrence::VmDeath => Ok(()),
     }
+}
+
+fn put_location(
+    out: &mut Vec<u8>,
+    thread: u32,
+    class: u32,
+    method: u32,
+    index: u32,
+) -> Result<(), JdwpError>
+    ensures ok { OnOk result (out.new.items ≡ out.old.items ++ location_fields thread class method index) }
+    ensures memory { IfErr result (λ e. e ≡ OutOfMemory) }
+{
+    put_long(out, thread_id(thread))?;
+    put_byte(out, 1)?;
+    put_long(out, class_id(class))?;
+    put_long(out, method_id(method))?;
+    put_long(out, u64::from(index))?;
+    Ok(())
 }
 
 fn put_prepared(
@@ -120,5 +166,5 @@ fn put_prepared(
 }
 
 ghost use Rattle.std.specs.Prelude.{◌≡◌, ◌<◌, ◌^◌, length, All, ◌++◌, OnOk, IfOk, IfErr};
-ghost use Rattle.ti_jdwp.specs.Composites.{HasShortText, kind_of_occurrence, occurrence_fields, prepared_fields, event_row, composite};
+ghost use Rattle.ti_jdwp.specs.Composites.{HasShortText, kind_of_occurrence, occurrence_fields, location_fields, prepared_fields, event_row, composite};
 ghost use Rattle.ti_jdwp.specs.declared.error.JdwpError.TheVariants.{OutOfMemory};

@@ -20,14 +20,19 @@ impl First {
         length: 0,
     };
 
-    /// The bytes behind the head of the packet, which the input begins with. Without one there are none.
+    /// The bytes behind the head of the packet, which the input begins with, as far as they came.
     pub(crate) fn data(self, input: &[u8]) -> &[u8]
-        ensures { 11 ≤ self.length → self.length ≤ length input.now → result.now ≡ data_of self input.now }
+        ensures { result.now ≡ data_of self input.now }
     {
-        if self.length < HEAD_LEN || self.length > input.len() {
+        if self.length < HEAD_LEN || input.len() < HEAD_LEN {
             return &[];
         }
-        &input[HEAD_LEN..self.length]
+        let behind = &input[HEAD_LEN..];
+        if self.length <= input.len() {
+            &behind[..self.length - HEAD_LEN]
+        } else {
+            behind
+        }
     }
 }
 
@@ -78,5 +83,5 @@ pub(crate) fn front_of(input: &[u8]) -> Front
     }
 }
 
-ghost use Rattle.std.specs.Prelude.{◌≡◌, ◌≤◌, length};
+ghost use Rattle.std.specs.Prelude.{◌≡◌};
 ghost use Rattle.ti_jdwp.specs.Talks.{IsFront, data_of};

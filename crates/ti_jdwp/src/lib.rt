@@ -6,6 +6,7 @@
 //! - Each request gets one reply, with its id, in the order of the requests.
 //! - What the debugger suspended is resumed before the connection closes.
 //! - After an event that stopped all threads no other goes out until all are resumed.
+//! - Each thread that stopped is let go once its stop was told.
 #![tactic(auto)]
 
 mod actions;
@@ -37,6 +38,8 @@ mod session_events;
 mod session_laws;
 mod session_next;
 mod session_requests;
+mod session_stops;
+mod stops;
 mod suspension_laws;
 mod suspensions;
 mod text;
@@ -66,6 +69,9 @@ pub use request::{EventKind, Policy, Range, Request};
 pub use sending::{reply, send_event};
 pub use session::Session;
 pub use session_error::SessionError;
-pub use session_laws::{no_event_while_stopped, nothing_stays_suspended, requests_are_answered};
+pub use session_laws::{
+    no_event_while_stopped, nothing_stays_suspended, requests_are_answered, stops_are_let_go,
+};
+pub use stops::{Standing, Stopped, Verdict};
 pub use suspension_laws::suspensions_are_balanced;
 pub use suspensions::{Holder, LetGo, Suspensions};

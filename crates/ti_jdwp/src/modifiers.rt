@@ -20,7 +20,11 @@ pub enum Modifier {
     ClassMatch(Range),
     /// 6: events of classes whose names do not match the pattern.
     ClassExclude(Range),
-    /// Another one that JDWP has: 2, or 7 to 13.
+    /// 7: breakpoints at this location of a method, by the ids of its class and of it. The tag of the class is not looked at.
+    LocationOnly { class: u64, method: u64, index: u64 },
+    /// 10: steps of the thread with this id. A size of 0 is MIN and 1 LINE. A depth of 0 is INTO, 1 OVER and 2 OUT.
+    Step { thread: u64, size: u32, depth: u32 },
+    /// Another one that JDWP has: 2, 8, 9, or 11 to 13.
     Other,
 }
 
@@ -90,6 +94,16 @@ fn made(number: u8, rest: &[u8], start: usize, end: usize) -> Result<Modifier, J
             start: start + 4,
             end,
         })),
+        7 => Ok(Modifier::LocationOnly {
+            class: long(rest, 1),
+            method: long(rest, 9),
+            index: long(rest, 17),
+        }),
+        10 => Ok(Modifier::Step {
+            thread: long(rest, 0),
+            size: int(rest, 8),
+            depth: int(rest, 12),
+        }),
         _ => Ok(Modifier::Other),
     }
 }

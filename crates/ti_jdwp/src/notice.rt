@@ -10,6 +10,8 @@ pub(crate) struct Notice {
     pub(crate) policy: Policy,
     /// The thread at which it took place.
     pub(crate) thread: u32,
+    /// The thread stopped, and waits until it is told.
+    pub(crate) stop: bool,
     /// The body of the packet that tells it.
     pub(crate) body: Text,
 }

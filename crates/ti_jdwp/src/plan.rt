@@ -32,6 +32,15 @@ pub(crate) enum Constant {
     ThreadGenericSignature,
 }
 
+/// A request for events of a kind. So many modifiers stand in the data of the request from `at` on.
+#[derive(Clone, Copy, Debug, PartialEq, Eq)]
+pub(crate) struct Wish {
+    pub(crate) kind: EventKind,
+    pub(crate) policy: Policy,
+    pub(crate) at: usize,
+    pub(crate) count: u32,
+}
+
 /// What is done with a request. Threads have their numbers.
 #[derive(Clone, Copy, Debug, PartialEq, Eq)]
 pub(crate) enum Plan {
@@ -51,18 +60,10 @@ pub(crate) enum Plan {
     ResumeAll,
     Hold,
     Release,
-    /// Put a request for events in force, whose modifiers stand in the data from `at` on.
-    Set {
-        kind: EventKind,
-        policy: Policy,
-        at: usize,
-        count: u32,
-    },
+    /// Put a request for events in force.
+    Set(Wish),
     /// Take a request for events out of force.
-    Clear {
-        kind: u8,
-        request: i32,
-    },
+    Clear { kind: u8, request: i32 },
     Dispose,
 }
 
@@ -167,12 +168,12 @@ pub(crate) fn plan_of(request: Request) -> Plan
             policy,
             modifiers,
             count,
-        } => Plan::Set {
+        } => Plan::Set(Wish {
             kind,
             policy,
             at: modifiers.start,
             count,
-        },
+        }),
         Request::ClearEvent { kind, request } => Plan::Clear { kind, request },
         Request::ReferenceType(id) => at_object(id, Plan::Constant(Constant::ThreadClass)),
         Request::IsCollected(id) => at_object(id, Plan::Constant(Constant::False)),

@@ -25,6 +25,10 @@ impl Range {
 /// The kinds of events that a debugger can ask for.
 #[derive(Clone, Copy, Debug, PartialEq, Eq)]
 pub enum EventKind {
+    /// 1 SINGLE_STEP.
+    SingleStep,
+    /// 2 BREAKPOINT.
+    Breakpoint,
     /// 6 THREAD_START.
     ThreadStart,
     /// 7 THREAD_DEATH.
@@ -45,6 +49,8 @@ impl EventKind {
         ensures { result ≡ kind_number self }
     {
         match self {
+            EventKind::SingleStep => 1,
+            EventKind::Breakpoint => 2,
             EventKind::ThreadStart => 6,
             EventKind::ThreadDeath => 7,
             EventKind::ClassPrepare => 8,
@@ -62,13 +68,15 @@ impl EventKind {
         ensures { result ≡ kind_of number }
     {
         match number {
+            1 => Ok(EventKind::SingleStep),
+            2 => Ok(EventKind::Breakpoint),
             6 => Ok(EventKind::ThreadStart),
             7 => Ok(EventKind::ThreadDeath),
             8 => Ok(EventKind::ClassPrepare),
             9 => Ok(EventKind::ClassUnload),
             90 => Ok(EventKind::VmStart),
             99 => Ok(EventKind::VmDeath),
-            1..=5 | 10 | 20 | 21 | 30 | 40..=46 => Err(JdwpError::NotImplemented),
+            3..=5 | 10 | 20 | 21 | 30 | 40..=46 => Err(JdwpError::NotImplemented),
             _ => Err(JdwpError::InvalidEventType),
         }
     }

@@ -3,6 +3,7 @@
 use crate::error::JdwpError;
 use crate::event::{Event, Filter, all_pass};
 use crate::request::{EventKind, Policy};
+use crate::stops::{Step, Target};
 use std::alloc::Global;
 use std::marker::Model;
 
@@ -12,9 +13,11 @@ const MAX_IN_FORCE: usize = 1024;
 /// The greatest number of a request, which is an `int`.
 const MAX_NUMBER: u32 = 0x7fff_ffff;
 
-/// The modifiers of a request: those before its count, the count, and those behind it. Without a count all stand before it.
+/// The modifiers of a request: what it is made for, those before its count, the count, and those behind it. Without a count all
+/// stand before it.
 #[derive(Drop)]
 pub(crate) struct Filters {
+    pub(crate) target: Target,
     pub(crate) front: Vec<Filter>,
     pub(crate) count: Option<u32>,
     pub(crate) rest: Vec<Filter>,
@@ -26,6 +29,7 @@ pub(crate) struct InForce {
     number: u32,
     kind: EventKind,
     policy: Policy,
+    target: Target,
     front: Vec<Filter>,
     left: Option<u32>,
     rest: Vec<Filter>,
@@ -40,6 +44,7 @@ impl Model for InForce {
       number = r.number;
       kind = r.kind;
       policy = r.policy;
+      target = r.target;
       front = r.front.items;
       left = r.left;
       rest = r.rest.items;
@@ -66,12 +71,73 @@ impl InForce {
         self.kind.number() == kind && self.number == number
     }
 
+    /// Whether it may still be told of an event.
+    fn is_live(&self) -> bool
+        ensures { result ≡ is_live self.now }
+    {
+        !matches!(self.left, Some(0))
+    }
+
+    /// Whether it waits for a breakpoint at this place.
+    fn wants_breakpoint(&self, class: u32, method: u32, index: u32) -> bool
+        ensures { result ≡ wants_breakpoint class method index self.now }
+    {
+        match self.target {
+            Target::Place {
+                class: own,
+                method: of,
+                index: at,
+            } => own == class && of == method && at == index && self.is_live(),
+            _ => false,
+        }
+    }
+
+    /// The step of this thread for whose end it waits.
+    fn step_of(&self, thread: u32) -> Option<Step>
+        ensures { result ≡ step_of thread self.now }
+    {
+        match self.target {
+            Target::Step(step) if step.thread == thread && self.is_live() => Some(step),
+            _ => None,
+        }
+    }
+
+    /// Whether it waits for the end of a step of this thread.
+    fn steps_at(&self, thread: u32) -> bool
+        ensures { result ≡ steps_at thread self.now }
+    {
+        self.step_of(thread).is_some()
+    }
+
+    /// Whether it waits for no step of this thread, but for one that ends with fewer frames.
+    fn is_above(&self, thread: u32, frames: u32) -> bool
+        ensures { result ≡ is_passed thread frames self.now }
+    {
+        match self.step_of(thread) {
+            Some(step) => step.is_above(frames),
+            None => true,
+        }
+    }
+
+    /// With at most so many frames the step of this thread may end for whose end it waits; 0 without one.
+    fn bound(&self, thread: u32) -> u32
+        ensures { result ≡ bound_at thread self.now }
+    {
+        match self.step_of(thread) {
+            Some(step) => step.bound(),
+            None => 0,
+        }
+    }
+
     /// Whether it is told of the event, which counts if it comes as far as the count.
     fn meets(&mut self, event: &Event) -> bool
         ensures told { result ≡ is_told event.now self.old }
         ensures after { self.new ≡ after event.now self.old }
     {
-        if self.kind.number() != event.kind().number() || !all_pass(self.front.as_slice(), event) {
+        if self.kind.number() != event.kind().number() || !event.is_for(self.target) {
+            return false;
+        }
+        if !all_pass(self.front.as_slice(), event) {
             return false;
         }
         if let Some(left) = self.left {
@@ -85,7 +151,7 @@ impl InForce {
 }
 
 /// The stronger of two policies: ALL before EVENT_THREAD before NONE.
-fn stronger(a: Policy, b: Policy) -> Policy
+pub(crate) fn stronger(a: Policy, b: Policy) -> Policy
     ensures { result ≡ stronger a b }
 {
     if a.number() < b.number() { b } else { a }
@@ -116,6 +182,43 @@ fn tell(list: &mut [InForce], event: &Event, numbers: &mut Vec<u32>) -> Policy
         }
     }
     policy
+}
+
+/// The greatest of the numbers of frames with which steps of this thread may end.
+fn greatest(list: &[InForce], thread: u32) -> u32
+    ensures { result ≡ greatest thread list.now }
+{
+    let mut bound = 0;
+    for request in list {
+        bound = bound.max(request.bound(thread));
+    }
+    bound
+}
+
+/// Whether each waits for no step of this thread, but for one that ends with fewer frames.
+fn are_above(list: &[InForce], thread: u32, frames: u32) -> bool
+    ensures { result ≡ list_all (is_passed thread frames) list.now }
+{
+    list.iter().all(|request| request.is_above(thread, frames))
+}
+
+/// Whether one waits for the end of a step of this thread.
+fn have_step(list: &[InForce], thread: u32) -> bool
+    ensures { result ≡ list_any (steps_at thread) list.now }
+{
+    list.iter().any(|request| request.steps_at(thread))
+}
+
+/// With at most so many frames a step of this thread may end, if requests wait for some and for none that may end with as many
+/// frames as it has.
+fn deeper(list: &[InForce], thread: u32, frames: u32) -> Option<u32>
+    ensures { result ≡ deeper thread frames list.now }
+{
+    if are_above(list, thread, frames) && have_step(list, thread) {
+        Some(greatest(list, thread))
+    } else {
+        None
+    }
 }
 
 /// The requests in force. Numbers count up from 1, and none is used again. Contracts see them as `InForceNow`.
@@ -166,7 +269,7 @@ impl Requests {
         filters: Filters,
     ) -> Result<u32, JdwpError>
         ensures number { IfOk result (λ n. n ≡ self.old.given + 1) }
-        ensures added { OnOk result (self.new ≡ with_request self.old kind policy filters.front.items filters.count filters.rest.items) }
+        ensures added { OnOk result (self.new ≡ with_request self.old kind policy filters.target filters.front.items filters.count filters.rest.items) }
         ensures full { 1024 ≤ length self.old.list → IsErr result }
         ensures memory { IfErr result (λ e. e ≡ OutOfMemory) }
         ensures err { OnErr result (self.new ≡ self.old) }
@@ -180,6 +283,7 @@ impl Requests {
             number,
             kind,
             policy,
+            target: filters.target,
             front: filters.front,
             left: filters.count,
             rest: filters.rest,
@@ -193,6 +297,30 @@ impl Requests {
         ensures { self.new ≡ without_request self.old kind number }
     {
         self.list.retain(|request| !request.is_it(kind, number));
+    }
+
+    /// Whether a request waits for a breakpoint at this place.
+    pub(crate) fn want_breakpoint(&self, class: u32, method: u32, index: u32) -> bool
+        ensures { result ≡ list_any (wants_breakpoint class method index) self.now.list }
+    {
+        self.list
+            .iter()
+            .any(|request| request.wants_breakpoint(class, method, index))
+    }
+
+    /// Whether a request waits for the end of a step of this thread.
+    pub(crate) fn step_at(&self, thread: u32) -> bool
+        ensures { result ≡ list_any (steps_at thread) self.now.list }
+    {
+        have_step(self.list.as_slice(), thread)
+    }
+
+    /// With at most so many frames a step of this thread may end, if requests wait for some and for none that may end with as many
+    /// frames as it has.
+    pub(crate) fn deeper(&self, thread: u32, frames: u32) -> Option<u32>
+        ensures { result ≡ deeper thread frames self.now.list }
+    {
+        deeper(self.list.as_slice(), thread, frames)
     }
 
     /// Tells the requests of an event.
@@ -212,5 +340,6 @@ impl Requests {
 }
 
 ghost use Rattle.std.specs.Prelude.{◌≡◌, ◌+◌, ◌≤◌, ◌++◌, length, map, filter, vec_len, vec_capacity, IsErr, IfOk, IfErr, OnOk, OnErr};
-ghost use Rattle.ti_jdwp.specs.InForce.{is_it, is_told, after, stronger, strongest, no_requests, with_request, without_request, all_after};
+ghost use Rattle.std.specs.List.{list_all, list_any};
+ghost use Rattle.ti_jdwp.specs.InForce.{is_live, wants_breakpoint, step_of, steps_at, is_passed, bound_at, greatest, deeper, is_it, is_told, after, stronger, strongest, no_requests, with_request, without_request, all_after};
 ghost use Rattle.ti_jdwp.specs.declared.error.JdwpError.TheVariants.{OutOfMemory};

@@ -176,7 +176,7 @@ impl Session {
 
     /// The data of the request that is asked, in which its ranges lie.
     pub fn data(&self) -> &[u8]
-        ensures { 11 ≤ self.now.first.length → self.now.first.length ≤ length self.now.bytes.input → result.now ≡ data_of self.now.first self.now.bytes.input }
+        ensures { result.now ≡ data_of self.now.first self.now.bytes.input }
     {
         self.first.data(self.line.input())
     }

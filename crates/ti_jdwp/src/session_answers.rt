@@ -5,6 +5,7 @@ use crate::error::JdwpError;
 use crate::session::Session;
 use crate::session_error::SessionError;
 use crate::session_next::after;
+use crate::stops::{NOWHERE, Standing};
 use crate::suspensions::Holder;
 
 impl Session {
@@ -94,6 +95,45 @@ impl Session {
         Ok(())
     }
 
+    /// Says what came of the breakpoint that was to be set: with an error no request for it is put in force, and the error is the
+    /// reply.
+    ///
+    /// - 112 WRONG_PHASE: no breakpoint was to be set. Nothing changes.
+    pub fn placed(&mut self, placed: Result<(), JdwpError>) -> Result<(), SessionError>
+        ensures ok { OnOk result (placed_in self.old.phase placed self.old ≡ Some self.new) }
+        ensures err { IfErr result (λ e. (e ≡ NotAsked) × (placed_in self.old.phase placed self.old ≡ None) × (self.new ≡ self.old)) }
+    {
+        let Phase::Placing(wish) = self.phase else {
+            return Err(SessionError::NotAsked);
+        };
+        self.phase = match placed {
+            Ok(()) => Phase::Putting {
+                wish,
+                standing: NOWHERE,
+            },
+            Err(error) => Phase::Denied(error),
+        };
+        Ok(())
+    }
+
+    /// Says where the thread stands that was asked for. `None`, 13 THREAD_NOT_SUSPENDED: it is not known, as the thread does not
+    /// stand.
+    ///
+    /// - 112 WRONG_PHASE: no thread was asked for. Nothing changes.
+    pub fn located(&mut self, standing: Option<Standing>) -> Result<(), SessionError>
+        ensures ok { OnOk result (located_in self.old.phase standing self.old ≡ Some self.new) }
+        ensures err { IfErr result (λ e. (e ≡ NotAsked) × (located_in self.old.phase standing self.old ≡ None) × (self.new ≡ self.old)) }
+    {
+        let Phase::Locating(wish) = self.phase else {
+            return Err(SessionError::NotAsked);
+        };
+        self.phase = match standing {
+            Some(standing) => Phase::Putting { wish, standing },
+            None => Phase::Denied(JdwpError::ThreadNotSuspended),
+        };
+        Ok(())
+    }
+
     /// Says that the suspensions stand, or that the second is over.
     ///
     /// - 112 WRONG_PHASE: the session did not ask to wait. Nothing changes.
@@ -112,5 +152,5 @@ impl Session {
 ghost use Rattle.std.specs.Prelude.{◌≡◌, false, Some, None, Ok, Err, IfErr, IsErrOf, OnOk, OnErr};
 ghost use Rattle.ti_jdwp.specs.Errors.{number_of};
 ghost use Rattle.ti_jdwp.specs.Talks.{replied};
-ghost use Rattle.ti_jdwp.specs.Answered.{is_asked, is_posting, listed_in, settled_in, PostedIn};
+ghost use Rattle.ti_jdwp.specs.Answered.{is_asked, is_posting, listed_in, settled_in, placed_in, located_in, PostedIn};
 ghost use Rattle.ti_jdwp.specs.declared.session_error.SessionError.TheVariants.{NotAsked};

@@ -51,7 +51,7 @@ impl Session {
     }
 
     /// Whether the session ends, so that nobody is told of an event.
-    fn is_over(&self) -> bool
+    pub(crate) fn is_over(&self) -> bool
         ensures { result ≡ is_over self.now.phase }
     {
         matches!(self.phase, Phase::Ending | Phase::Closed)
@@ -86,13 +86,13 @@ fn policy_of(event: &Event, asked: Policy) -> Policy
     ensures { result ≡ event_policy event.now asked }
 {
     match event {
-        Event::ClassPrepare { .. } => asked,
-        _ => Policy::None,
+        Event::ThreadStart(_) | Event::ThreadDeath(_) => Policy::None,
+        _ => asked,
     }
 }
 
 /// The rows of a packet, one for each request. 110 OUT_OF_MEMORY if there is no memory for them.
-fn rows_of<'a>(
+pub(crate) fn rows_of<'a>(
     alloc: Global,
     numbers: &[u32],
     occurrence: Occurrence<'a>,
@@ -126,6 +126,7 @@ fn notice_of(
     Ok(Notice {
         policy,
         thread: event.thread(),
+        stop: false,
         body: Text::new(body),
     })
 }

@@ -20,6 +20,13 @@ pub fn no_event_while_stopped()
     ensures { NoEventWhileStopped }
 {}
 
+/// Whatever calls come, in whatever order: each stop whose verdict is that it is told lets its thread go once, in the order of the
+/// stops, but for those that still wait.
+pub fn stops_are_let_go()
+    ensures { StopsAreLetGo }
+{}
+
 ghost use Rattle.ti_jdwp.specs.SessionRuns.{RequestsAreAnswered};
 ghost use Rattle.ti_jdwp.specs.SessionHolds.{NothingStaysSuspended};
 ghost use Rattle.ti_jdwp.specs.SessionStops.{NoEventWhileStopped};
+ghost use Rattle.ti_jdwp.specs.SessionLets.{StopsAreLetGo};

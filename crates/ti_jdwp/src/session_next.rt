@@ -3,6 +3,7 @@
 use crate::actions::{Action, Phase, Purpose};
 use crate::error::JdwpError;
 use crate::front::{Front, front_of};
+use crate::notice::Notice;
 use crate::packet::HANDSHAKE;
 use crate::request::Policy;
 use crate::session::Session;
@@ -28,9 +29,12 @@ impl Session {
         match self.phase {
             Phase::Greeting => self.greet(),
             Phase::Ready => self.go_on(),
-            Phase::Asking | Phase::Listing(_) | Phase::Suspending { .. } | Phase::Settling(_) => Ok(
-                Action::Wait,
-            ),
+            Phase::Asking
+            | Phase::Listing(_)
+            | Phase::Suspending { .. }
+            | Phase::Settling(_)
+            | Phase::Placing(_)
+            | Phase::Locating(_) => Ok(Action::Wait),
             Phase::Stopping(purpose) => Ok(self.suspend_next(purpose)),
             Phase::Undoing { purpose, thread } => {
                 self.phase = after(purpose);
@@ -42,6 +46,11 @@ impl Session {
                 Ok(Action::Write)
             }
             Phase::Numbered(number) => self.number(number),
+            Phase::Putting { wish, standing } => self.put_in_force(wish, standing),
+            Phase::Denied(error) => {
+                self.answer(Err(error))?;
+                Ok(Action::Write)
+            }
             Phase::Resuming => self.resume_next(),
             Phase::Ending | Phase::Closed => Ok(Action::Close),
         }
@@ -234,12 +243,13 @@ impl Session {
         }
     }
 
-    /// Tells the event. After one that stopped all threads no other goes out.
+    /// Tells the event. After one that stopped all threads no other goes out. A thread that waits until it is told is let go.
     fn tell(&mut self) -> Result<Action, SessionError>
-        ensures ok { IfOk result (λ a. Does (Write, tells self.old.notice self.old) a self.new) }
+        ensures ok { IfOk result (λ a. Does (told_by self.old.notice, tells self.old.notice self.old) a self.new) }
         ensures memory { IfErr result (λ e. e ≡ OutOfMemory) }
         ensures err { OnErr result (self.new ≡ self.old) }
     {
+        let action = told_by(&self.notice);
         if let Some(notice) = &self.notice {
             self.line.tell(self.told, notice.body.as_slice())?;
             if notice.policy == Policy::All {
@@ -250,7 +260,17 @@ impl Session {
         self.told = self.told.wrapping_add(1);
         self.short = false;
         self.phase = Phase::Ready;
-        Ok(Action::Write)
+        Ok(action)
+    }
+}
+
+/// What the driver does when an event was told: a thread that stopped is let go, and else the event is written.
+fn told_by(notice: &Option<Notice>) -> Action
+    ensures { result ≡ told_by notice.now }
+{
+    match notice {
+        Some(notice) if notice.stop => Action::LetGo(notice.thread),
+        _ => Action::Write,
     }
 }
 
@@ -266,6 +286,6 @@ pub(crate) fn after(purpose: Purpose) -> Phase
 
 ghost use Rattle.std.specs.Prelude.{◌≡◌, IfOk, IfErr, OnErr};
 ghost use Rattle.ti_jdwp.specs.Talks.{stopped, starved, greets, after};
-ghost use Rattle.ti_jdwp.specs.Steps.{Does, Goes, Fails, EndsBy, GoesOn, Reads, BeginsEvent, SuspendsBy, SuspendsNext, ResumesNext, finishes, tells};
+ghost use Rattle.ti_jdwp.specs.Steps.{Does, Goes, Fails, EndsBy, GoesOn, Reads, BeginsEvent, SuspendsBy, SuspendsNext, ResumesNext, finishes, tells, told_by};
 ghost use Rattle.ti_jdwp.specs.declared.actions.Action.TheVariants.{Again, Write};
 ghost use Rattle.ti_jdwp.specs.declared.session_error.SessionError.TheVariants.{OutOfMemory};

@@ -6,17 +6,17 @@ use crate::bodies::int_body;
 use crate::constants::constant_body;
 use crate::error::JdwpError;
 use crate::front::First;
-use crate::plan::{Plan, plan_of};
+use crate::plan::{Plan, Wish, plan_of};
 use crate::reading::read_request;
-use crate::request::{EventKind, Policy, Request};
+use crate::request::Request;
+use crate::requests_in_force::Filters;
 use crate::session::Session;
 use crate::session_error::SessionError;
+use crate::stops::{NOWHERE, Standing, Target};
 
 impl Session {
     /// Serves the request that stands first in the input.
     pub(crate) fn serve(&mut self, first: First) -> Result<Action, SessionError>
-        requires length { 11 ≤ first.length }
-        requires within { first.length ≤ length self.old.bytes.input }
         ensures ok { IfOk result (λ a. Serves (record self.old { first = first }) a self.new) }
         ensures memory { IfErr result (λ e. e ≡ OutOfMemory) }
         ensures err { OnErr result (self.new ≡ record self.old { first = first }) }
@@ -66,12 +66,7 @@ impl Session {
                 self.events.release();
                 Ok(Action::Write)
             }
-            Plan::Set {
-                kind,
-                policy,
-                at,
-                count,
-            } => self.set_event(kind, policy, at, count),
+            Plan::Set(wish) => self.set_event(wish),
             Plan::Clear { kind, request } => self.clear_event(kind, request),
             Plan::Dispose => {
                 self.answer(Ok(&[]))?;
@@ -124,26 +119,76 @@ impl Session {
         }
     }
 
-    /// Puts a request for events in force.
-    fn set_event(
-        &mut self,
-        kind: EventKind,
-        policy: Policy,
-        at: usize,
-        count: u32,
-    ) -> Result<Action, SessionError>
-        requires length { 11 ≤ self.old.first.length }
-        requires within { self.old.first.length ≤ length self.old.bytes.input }
-        ensures ok { IfOk result (λ a. SetsEvent kind policy at count self.old a self.new) }
+    /// Puts a request for events in force, or asks the driver first: for a breakpoint to set it, and for a step where the thread
+    /// stands. 13 THREAD_NOT_SUSPENDED for a step of a thread that the debugger does not suspend.
+    fn set_event(&mut self, wish: Wish) -> Result<Action, SessionError>
+        ensures ok { IfOk result (λ a. SetsEvent wish self.old a self.new) }
         ensures memory { IfErr result (λ e. e ≡ OutOfMemory) }
         ensures err { OnErr result (self.new ≡ self.old) }
     {
         let bytes = self.first.data(self.line.input());
-        let filters = match read_filters(self.alloc, kind, count, bytes, at) {
+        let filters = match read_filters(self.alloc, wish, NOWHERE, bytes) {
             Ok(filters) => filters,
             Err(error) => return self.refuse_now(error),
         };
-        match self.requests.add(kind, policy, filters) {
+        self.set(wish, filters)
+    }
+
+    /// Puts a request for events in force that says this, or asks the driver first.
+    fn set(&mut self, wish: Wish, filters: Filters) -> Result<Action, SessionError>
+        ensures ok { IfOk result (λ a. Sets wish (reading_of filters) self.old a self.new) }
+        ensures memory { IfErr result (λ e. e ≡ OutOfMemory) }
+        ensures err { OnErr result (self.new ≡ self.old) }
+    {
+        match filters.target {
+            Target::Anywhere => self.put(wish, filters),
+            Target::Place {
+                class,
+                method,
+                index,
+            } => {
+                self.phase = Phase::Placing(wish);
+                Ok(Action::SetBreakpoint {
+                    class,
+                    method,
+                    index,
+                })
+            }
+            Target::Step(step) => {
+                if self.suspensions.count(step.thread) == 0 {
+                    return self.refuse_now(JdwpError::ThreadNotSuspended);
+                }
+                self.phase = Phase::Locating(wish);
+                Ok(Action::Locate(step.thread))
+            }
+        }
+    }
+
+    /// Puts a request for events in force of which the driver said what it was asked. A step begins at `standing`.
+    pub(crate) fn put_in_force(
+        &mut self,
+        wish: Wish,
+        standing: Standing,
+    ) -> Result<Action, SessionError>
+        ensures ok { IfOk result (λ a. PutsInForce wish standing self.old a self.new) }
+        ensures memory { IfErr result (λ e. e ≡ OutOfMemory) }
+        ensures err { OnErr result (self.new ≡ self.old) }
+    {
+        let bytes = self.first.data(self.line.input());
+        let filters = match read_filters(self.alloc, wish, standing, bytes) {
+            Ok(filters) => filters,
+            Err(error) => return self.refuse_now(error),
+        };
+        self.put(wish, filters)
+    }
+
+    /// Puts a request for events in force that says this.
+    fn put(&mut self, wish: Wish, filters: Filters) -> Result<Action, SessionError>
+        ensures ok { IfOk result (λ a. Puts wish (reading_of filters) self.old a self.new) }
+        ensures memory { IfErr result (λ e. e ≡ OutOfMemory) }
+        ensures err { OnErr result (self.new ≡ self.old) }
+    {
+        match self.requests.add(wish.kind, wish.policy, filters) {
             Ok(number) => {
                 self.phase = Phase::Numbered(number);
                 Ok(Action::Again)
@@ -174,11 +219,12 @@ impl Session {
     }
 }
 
-ghost use Rattle.std.specs.Prelude.{◌≡◌, ◌≤◌, length, IfOk, IfErr, OnErr};
+ghost use Rattle.std.specs.Prelude.{◌≡◌, IfOk, IfErr, OnErr};
+ghost use Rattle.ti_jdwp.specs.Asking.{reading_of};
 ghost use Rattle.ti_jdwp.specs.Errors.{number_of};
 ghost use Rattle.ti_jdwp.specs.Fields.{int};
 ghost use Rattle.ti_jdwp.specs.Talks.{replied};
-ghost use Rattle.ti_jdwp.specs.Steps.{Does, Serves, ResumesOne, SetsEvent, clears};
+ghost use Rattle.ti_jdwp.specs.Steps.{Does, Serves, ResumesOne, Puts, PutsInForce, Sets, SetsEvent, clears};
 ghost use Rattle.ti_jdwp.specs.declared.actions.Action.TheVariants.{Ask, Write};
 ghost use Rattle.ti_jdwp.specs.declared.actions.Phase.TheVariants.{Asking};
 ghost use Rattle.ti_jdwp.specs.declared.session_error.SessionError.TheVariants.{OutOfMemory};

@@ -2,6 +2,7 @@ pub mod Views
 pub mod Bits
 pub mod Logs
 pub mod Lives
+pub mod Stopped
 pub mod Steps
 pub mod Places
 pub mod Rows

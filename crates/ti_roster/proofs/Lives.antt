@@ -5,17 +5,18 @@ use Rattle.std.specs.List.{fold, filter}
 use Rattle.std.proofs.lemmas.Bool.{cases_Bool}
 use Rattle.std.proofs.lemmas.List.Sums.{fold-append}
 use Rattle.ti_roster.specs.declared.coming.Coming.{Coming}
-use Rattle.ti_roster.specs.declared.coming.Coming.TheVariants.{Came, Ended, Attached, Met, GaveBack, Disposed}
+use Rattle.ti_roster.specs.declared.coming.Coming.TheVariants.{Came, Ended, Attached, Met, GaveBack, Disposed, Stop}
 use Rattle.ti_roster.specs.declared.life_event.LifeEvent.{LifeEvent}
 use Rattle.ti_roster.specs.declared.life_event.EventAt.TheVariants.{Happened, Lost, NotYet}
 use Rattle.ti_roster.specs.declared.life_event.LifeKind.TheVariants.{ThreadStart, ThreadEnd}
+use Rattle.ti_stops.specs.declared.call.StopCall.{StopCall}
 use Rattle.ti_types.specs.declared.numbers.EnvNo.{EnvNo}
 use Rattle.ti_types.specs.declared.numbers.ThreadNo.{ThreadNo}
 use Rattle.ti_roster.specs.declared.newcomer.Newcomer.{Newcomer}
 use Rattle.ti_roster.specs.Events.{AreEvents, AreInOrder, AreLast, IsAlive, end_of, event_at, kept_at, life_after, life_of, most_kept, start_of}
 use Rattle.ti_roster.specs.Log.{is_other, live, live_after, threads_in}
 use Rattle.ti_roster.specs.Rows.{IsIndex}
-use Rattle.ti_roster.proofs.Logs.{live_more, threads_attached, threads_back, threads_disposed, threads_ended, threads_met, threads_more}
+use Rattle.ti_roster.proofs.Logs.{live_more, threads_attached, threads_back, threads_disposed, threads_ended, threads_met, threads_more, threads_stop}
 use Rattle.ti_roster.proofs.Places.{get_end, get_front, get_last, get_within, is_same, nothing_at}
 
 -- one more event, while there is room
@@ -91,6 +92,7 @@ few_from l (Attached e ∷ xs) = let z = few_from l xs in omega (arith, z)
 few_from l (Met e m ∷ xs) = let z = few_from l xs in omega (arith, z)
 few_from l (GaveBack e t ∷ xs) = let z = few_from l xs in omega (arith, z)
 few_from l (Disposed e ∷ xs) = let z = few_from l xs in omega (arith, z)
+few_from l (Stop o call ∷ xs) = let z = few_from l xs in omega (arith, z)
 
 pub life_few : (xs : List Coming) → length (life_of xs) ≤ length xs
 life_few xs = let z = few_from [] xs in omega (arith, z)
@@ -232,6 +234,9 @@ events_back log events e t a = events_same log events (GaveBack e t) refl refl (
 
 pub events_disposed : (log : List Coming) (events : List LifeEvent) (e : EnvNo) → AreEvents log events → AreEvents (log ++ Disposed e ∷ []) events
 events_disposed log events e a = events_same log events (Disposed e) refl refl (threads_disposed log e) a
+
+pub events_stop : (log : List Coming) (events : List LifeEvent) (o : Option EnvNo) (call : StopCall) → AreEvents log events → AreEvents (log ++ Stop o call ∷ []) events
+events_stop log events o call a = events_same log events (Stop o call) refl refl (threads_stop log o call) a
 
 -- nothing has happened
 events_empty : AreEvents [] []

@@ -3,10 +3,11 @@ use Rattle.std.proofs.Common.{◌≡◌, ℕ, suc, Bool, false, if◌then◌else
 use Rattle.std.specs.List.{fold, filter}
 use Rattle.std.proofs.lemmas.Bool.{cases_Bool}
 use Rattle.std.proofs.lemmas.List.Sums.{fold-append}
+use Rattle.ti_stops.specs.declared.call.StopCall.{StopCall}
 use Rattle.ti_types.specs.declared.numbers.EnvNo.{EnvNo}
 use Rattle.ti_types.specs.declared.numbers.ThreadNo.{ThreadNo}
 use Rattle.ti_roster.specs.declared.coming.Coming.{Coming}
-use Rattle.ti_roster.specs.declared.coming.Coming.TheVariants.{Came, Ended, Attached, Met, GaveBack, Disposed}
+use Rattle.ti_roster.specs.declared.coming.Coming.TheVariants.{Came, Ended, Attached, Met, GaveBack, Disposed, Stop}
 use Rattle.ti_roster.specs.declared.newcomer.Newcomer.{Newcomer}
 use Rattle.ti_roster.specs.Log.{Lies, Unused, came, came_after, is_about, lies, lies_after, live, live_after, mark_after, mark_of, noted, threads_in}
 
@@ -45,6 +46,9 @@ threads_back xs e t = threads_same xs (GaveBack e t) refl
 pub threads_disposed : (xs : List Coming) (e : EnvNo) → threads_in (xs ++ Disposed e ∷ []) ≡ threads_in xs
 threads_disposed xs e = threads_same xs (Disposed e) refl
 
+pub threads_stop : (xs : List Coming) (o : Option EnvNo) (call : StopCall) → threads_in (xs ++ Stop o call ∷ []) ≡ threads_in xs
+threads_stop xs o call = threads_same xs (Stop o call) refl
+
 -- what happened to a place
 
 filter_more : (p : Coming → Bool) (xs : List Coming) (x : Coming) → filter p (xs ++ x ∷ []) ≡ filter p xs ++ filter p (x ∷ [])
@@ -72,6 +76,7 @@ mark_skips e m (Attached f) off = ap (λ (b : Bool). if b then Some 0 else m) of
 mark_skips e m (Met f n) off = ap (λ (b : Bool). if b then Some n else m) off
 mark_skips e m (GaveBack f t) off = ap (λ (b : Bool). if b then Some 0 else m) off
 mark_skips e m (Disposed f) off = ap (λ (b : Bool). if b then None else m) off
+mark_skips e m (Stop o call) off = refl
 
 mark_from : (e : EnvNo) (m : Option ℕ) (xs : List Coming) → fold (mark_after e) m xs ≡ fold (mark_after e) m (noted e xs)
 mark_from e m [] = refl
@@ -93,6 +98,7 @@ lies_skips e t l (Attached f) off = refl
 lies_skips e t l (Met f n) off = grind (arith, off)
 lies_skips e t l (GaveBack f u) off = grind (arith, off)
 lies_skips e t l (Disposed f) off = refl
+lies_skips e t l (Stop o call) off = refl
 
 pub lies_same : (e : EnvNo) (t : ThreadNo) (xs : List Coming) (x : Coming) → is_about e x ≡ false → lies e t (xs ++ x ∷ []) ≡ lies e t xs
 lies_same e t xs x off = lies_more e t xs x ∙ lies_skips e t (lies e t xs) x off

@@ -9,6 +9,7 @@ use Rattle.std.proofs.lemmas.List.{map-append}
 use Rattle.std.proofs.lemmas.List.Elements.{All-append, All-cons, All-nil}
 use Rattle.atomic_table.specs.Seated.{TableId}
 use Rattle.ti_types.specs.declared.limits.Limits.{Limits}
+use Rattle.ti_stops.specs.declared.call.StopCall.{StopCall}
 use Rattle.ti_types.specs.declared.numbers.EnvNo.{EnvNo}
 use Rattle.ti_types.specs.declared.numbers.ThreadNo.{ThreadNo}
 use Rattle.ti_cell.specs.declared.view.Subject.{Subject}
@@ -17,7 +18,7 @@ use Rattle.ti_handshake.specs.Desk.{DeskState}
 use Rattle.ti_handshake.specs.NewDesks.{new_desks, new_desk as unused}
 use Rattle.ti_agent.specs.FreeDesk.{FreeState}
 use Rattle.ti_roster.specs.declared.coming.Coming.{Coming}
-use Rattle.ti_roster.specs.declared.coming.Coming.TheVariants.{Came, Ended, Attached, Met, GaveBack, Disposed}
+use Rattle.ti_roster.specs.declared.coming.Coming.TheVariants.{Came, Ended, Attached, Met, GaveBack, Disposed, Stop}
 use Rattle.ti_roster.specs.declared.newcomer.Newcomer.{Newcomer}
 use Rattle.ti_roster.specs.declared.row.Row.{Row}
 use Rattle.ti_roster.specs.Log.{Lies, Unused, Out, Returned, came, came_after, lies, lies_after, threads_in, mark_after, mark_of, live, live_after, is_other, is_thread}
@@ -271,6 +272,13 @@ rows_attach log limits rows marks e k =
 pub rows_dispose : (log : List Coming) (limits : Limits) (rows : List Row) (marks : List (Option ℕ)) (e : EnvNo) → AreRows log limits rows marks → AreRows (log ++ Disposed e ∷ []) limits rows (slice_set marks e.0 None)
 rows_dispose log limits rows marks e k =
     rows_stay log limits rows marks (slice_set marks e.0 None) (Disposed e) k refl refl (λ f t. refl) (none_passed log limits rows marks e (Disposed e) None k no_zero (λ f. refl)) (length_set marks e.0 None ∙ k.places) (marks_set log limits marks e (Disposed e) None k.places k.marks_are (λ f. refl))
+
+-- and what changes about stops moves nothing
+pub rows_stop : (log : List Coming) (limits : Limits) (rows : List Row) (marks : List (Option ℕ)) (o : Option EnvNo) (call : StopCall) → AreRows log limits rows marks → AreRows (log ++ Stop o call ∷ []) limits rows marks
+rows_stop log limits rows marks o call k =
+    rows_stay log limits rows marks marks (Stop o call) k refl refl (λ f t. refl)
+    (λ e m t is h. k.passed e m t (sym (mark_more e log (Stop o call)) ∙ is) h) k.places
+    (λ p h. k.marks_are p h ∙ ap (λ (m : Option ℕ). Some m) (sym (mark_more (record { 0 = p }) log (Stop o call))))
 
 -- the threads are the same, with desks moved in their rows
 pub rows_meet : (log : List Coming) (limits : Limits) (rows rows' : List Row) (marks : List (Option ℕ)) (e : EnvNo) → AreRows log limits rows marks → e.0 < limits.envs → length rows' ≡ length rows

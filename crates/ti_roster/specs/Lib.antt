@@ -1,4 +1,5 @@
 pub mod Log
+pub mod Stops
 pub mod Events
 pub mod Info
 pub mod Rows

@@ -6,7 +6,7 @@ use Rattle.ti_types.specs.declared.numbers.EnvNo.{EnvNo}
 use Rattle.ti_types.specs.declared.numbers.ThreadNo.{ThreadNo}
 use Rattle.ti_roster.specs.declared.coming.Coming.{Coming}
 use Rattle.ti_roster.specs.declared.newcomer.Newcomer.{Newcomer}
-use Rattle.ti_roster.specs.declared.coming.Coming.TheVariants.{Came, Ended, Attached, Met, GaveBack, Disposed}
+use Rattle.ti_roster.specs.declared.coming.Coming.TheVariants.{Came, Ended, Attached, Met, GaveBack, Disposed, Stop}
 
 -- a roster: what happened, the earliest first, the limits, and whose seat it goes to when it is put back
 pub record Log : Type 0 where
@@ -47,6 +47,7 @@ mark_after e mark (Attached f) = if f.0 == e.0 then Some 0 else mark
 mark_after e mark (Met f m) = if f.0 == e.0 then Some m else mark
 mark_after e mark (GaveBack f t) = if f.0 == e.0 then Some 0 else mark
 mark_after e mark (Disposed f) = if f.0 == e.0 then None else mark
+mark_after e mark (Stop o call) = mark
 
 abbrev pub mark_of : EnvNo → List Coming → Option ℕ
 mark_of e log = fold (mark_after e) None log
@@ -59,6 +60,7 @@ is_about e (Attached f) = f.0 == e.0
 is_about e (Met f m) = f.0 == e.0
 is_about e (GaveBack f t) = f.0 == e.0
 is_about e (Disposed f) = f.0 == e.0
+is_about e (Stop o call) = false
 
 -- all that happened to an environment's place
 abbrev pub noted : EnvNo → List Coming → List Coming
@@ -78,6 +80,7 @@ lies_after e t l (Attached f) = l
 lies_after e t l (Met f m) = if f.0 == e.0 && nat_lt t.0 m then Out else l
 lies_after e t l (GaveBack f u) = if f.0 == e.0 && u.0 == t.0 then Returned else l
 lies_after e t l (Disposed f) = l
+lies_after e t l (Stop o call) = l
 
 abbrev pub lies : EnvNo → ThreadNo → List Coming → Lies
 lies e t log = fold (lies_after e t) Unused log

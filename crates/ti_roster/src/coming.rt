@@ -1,8 +1,9 @@
 //! What happens to a service's threads and environments as a whole.
 use crate::newcomer::Newcomer;
+use ti_stops::StopCall;
 use ti_types::{EnvNo, ThreadNo};
 
-/// A thread or an environment comes or goes, or an environment meets the threads that came.
+/// A thread or an environment comes or goes, an environment meets the threads that came, or something changes about stops.
 #[derive(Drop)]
 pub enum Coming {
     /// A thread is attached.
@@ -17,4 +18,6 @@ pub enum Coming {
     GaveBack(EnvNo, ThreadNo),
     /// An environment is disposed of, and its number is free.
     Disposed(EnvNo),
+    /// An environment, or a runtime's handle, made a call about stops that changed something.
+    Stop(Option<EnvNo>, StopCall),
 }

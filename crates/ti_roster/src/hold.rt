@@ -60,12 +60,14 @@ impl<'a> RosterHold<'a> {
             roster,
         } = self;
         let (count, place, limits) = (roster.len(), roster.user(), roster.limits());
+        let watched = roster.is_watched();
         cell.give(&mut seat, roster);
         RosterSeat {
             seat,
             count,
             place,
             limits,
+            watched,
         }
     }
 }

@@ -60,6 +60,7 @@ impl RosterCell {
                         count: 0,
                         place: None,
                         limits,
+                        watched: false,
                     },
                 ))
             }
@@ -73,13 +74,14 @@ impl RosterCell {
         ensures old { (seat.new.cell ≡ seat.old.cell) × (seat.new.view ≡ splitter seat.old.view) }
         ensures new { (result.cell ≡ self.now) × (result.view ≡ split_off seat.old.view) }
     {
-        let (count, limits) = (seat.count, seat.limits);
+        let (count, limits, watched) = (seat.count, seat.limits, seat.watched);
         let seat = self.table.shared.split_seat::<Splits>(&mut seat.seat);
         RosterSeat {
             seat,
             count,
             place: None,
             limits,
+            watched,
         }
     }
 
@@ -102,6 +104,7 @@ impl RosterCell {
             count: _,
             place,
             limits: _,
+            watched: _,
         } = seat;
         let mut roster = self.take(rt, &mut seat);
         roster.serve(place);
@@ -128,6 +131,7 @@ impl RosterCell {
             count,
             place,
             limits,
+            watched,
         } = seat;
         match self.take_now(&mut seat) {
             Some(mut roster) => {
@@ -143,6 +147,7 @@ impl RosterCell {
                 count,
                 place,
                 limits,
+                watched,
             }),
         }
     }

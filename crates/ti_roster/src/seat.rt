@@ -18,17 +18,21 @@ pub struct RosterSeat {
     /// The environment whose seat it is, if it is one's.
     pub(crate) place: Option<EnvNo>,
     pub(crate) limits: Limits,
+    /// Whether an environment hears of stops, as far as it has seen.
+    pub(crate) watched: bool,
 }
 
 impl Model for RosterSeat {
     ghost use Rattle.std.specs.Prelude.{◌≡◌, [], false, length};
+    ghost use Rattle.ti_stops.specs.Stops.{is_watched};
     ghost use Rattle.ti_roster.specs.Seats.{Sitting};
+    ghost use Rattle.ti_roster.specs.Stops.{stops_of};
 
     ghost Value = { Sitting };
 
     ghost view = { λ s. record { cell = s.seat.table_id; view = s.seat.me.0 } };
 
-    ghost invariant = { λ s. (s.seat.me.1 ≡ []) × (s.seat.me.0.holds ≡ false) × (s.count ≡ length s.seat.me.0.seen) × (s.place ≡ s.seat.me.0.place) × (s.limits ≡ s.seat.me.0.limits) };
+    ghost invariant = { λ s. (s.seat.me.1 ≡ []) × (s.seat.me.0.holds ≡ false) × (s.count ≡ length s.seat.me.0.seen) × (s.place ≡ s.seat.me.0.place) × (s.limits ≡ s.seat.me.0.limits) × (s.watched ≡ is_watched (stops_of s.seat.me.0.seen)) };
 }
 
 impl RosterSeat {
@@ -52,6 +56,16 @@ impl RosterSeat {
     {
         self.place
     }
+
+    /// Whether an environment hears of breakpoints, single steps or pops of frames, as far as the seat has seen. If none does,
+    /// no thread stops.
+    pub fn is_watched(&self) -> bool
+        ensures { result ≡ is_watched (stops_of self.now.view.seen) }
+    {
+        self.watched
+    }
 }
 
 ghost use Rattle.std.specs.Prelude.{◌≡◌, length};
+ghost use Rattle.ti_stops.specs.Stops.{is_watched};
+ghost use Rattle.ti_roster.specs.Stops.{stops_of};

@@ -17,7 +17,7 @@ use Rattle.ti_agent.proofs.SameLimits.{limits_same}
 use Rattle.ti_agent.specs.Env.{Environment}
 use Rattle.ti_agent.specs.FreeDesk.{FreeState}
 use Rattle.ti_roster.specs.declared.coming.Coming.{Coming}
-use Rattle.ti_roster.specs.declared.coming.Coming.TheVariants.{Came, Ended, Attached, Met, GaveBack, Disposed}
+use Rattle.ti_roster.specs.declared.coming.Coming.TheVariants.{Came, Ended, Attached, Met, GaveBack, Disposed, Stop}
 use Rattle.ti_roster.specs.declared.newcomer.Newcomer.{Newcomer}
 use Rattle.ti_roster.specs.declared.view.RosterView.{RosterView}
 use Rattle.ti_roster.specs.Log.{came, came_after}
@@ -41,6 +41,7 @@ come_at l (Attached e ∷ more) i n at = come_at l more i n at
 come_at l (Met e m ∷ more) i n at = come_at l more i n at
 come_at l (GaveBack e t ∷ more) i n at = come_at l more i n at
 come_at l (Disposed e ∷ more) i n at = come_at l more i n at
+come_at l (Stop e call ∷ more) i n at = come_at l more i n at
 
 -- and has come when more has happened
 pub come_later : (seen later : List Coming) (t : ThreadNo) (cell : TableId) → Begins later seen → IsAt t cell seen → IsAt t cell later

@@ -1,24 +1,32 @@
 -- What a handle puts back of the roster.
 use Rattle.std.proofs.Common.{◌≡◌, ℕ, List, [], ◌∷◌, ◌++◌, Option, Some, None, refl, sym, ap, ◌∙◌, append-nil, append_assoc, subst}
-use Rattle.std.specs.Prelude.{All, OnOk, ◌<◌, Result, Ok, Err, IfOk, IfErr, OnErr, reverse}
+use Rattle.std.specs.Prelude.{All, OnOk, ◌<◌, ◌+◌, Bool, true, false, length, Result, Ok, Err, IfOk, IfErr, OnErr, reverse, if◌then◌else◌}
 use Rattle.std.specs.List.{fold}
 use Rattle.std.proofs.lemmas.List.{reverse-append}
 use Rattle.std.proofs.lemmas.List.Elements.{All-weaker}
 use Rattle.std.proofs.lemmas.List.Sums.{fold-append}
 use Rattle.ti_types.specs.declared.error.TiError.{TiError}
+use Rattle.ti_types.specs.declared.limits.Limits.{Limits}
 use Rattle.ti_types.specs.declared.numbers.EnvNo.{EnvNo}
+use Rattle.ti_types.specs.declared.numbers.ThreadNo.{ThreadNo}
 use Rattle.ti_agent.specs.Desks.{with_desk}
 use Rattle.ti_agent.specs.Env.{Environment}
 use Rattle.ti_agent.specs.FreeDesk.{FreeState}
 use Rattle.ti_roster.specs.declared.coming.Coming.{Coming}
-use Rattle.ti_roster.specs.declared.coming.Coming.TheVariants.{Attached, Came, Disposed}
+use Rattle.ti_roster.specs.declared.coming.Coming.TheVariants.{Attached, Came, Disposed, Ended, Stop}
+use Rattle.ti_stops.specs.declared.call.StopCall.{StopCall}
+use Rattle.ti_stops.specs.declared.call.StopReply.{StopReply}
+use Rattle.ti_stops.specs.declared.error.StopError.{StopError}
+use Rattle.ti_stops.specs.Stops.{is_news}
 use Rattle.ti_roster.specs.declared.newcomer.Newcomer.{Newcomer}
 use Rattle.ti_roster.specs.Log.{Log, live, mark_of, threads_in, with_item, with_user}
 use Rattle.ti_roster.specs.Roster.{HasDisposedOf, HasMetOf, IsOwn, MayGoBack, meeting}
 use Rattle.ti_roster.specs.Rows.{AreLeft}
 use Rattle.ti_roster.specs.Rule.{Begins, Claims, Moves}
 use Rattle.ti_roster.specs.Seats.{Sitting}
-use Rattle.ti_roster.proofs.Moving.{may_add, may_attach, may_dispose, may_meet_any, may_stay, other_env, own_then}
+use Rattle.ti_roster.specs.View.{AreWithin, holding, stored}
+use Rattle.ti_roster.specs.declared.view.RosterView.{RosterView}
+use Rattle.ti_roster.proofs.Moving.{MayBe, may_add, may_attach, may_dispose, may_meet_any, may_stay, other_env, own_then}
 use Rattle.ti_roster.proofs.Returning.{backs_own}
 use Rattle.ti_service.specs.Agent.{AgentState, Meets, MeetsSome, Moved, knowing}
 use Rattle.ti_service.proofs.Homes.{own_later}
@@ -38,6 +46,16 @@ pub come_moves : {V : Type 0} (newcomer_of : V → Newcomer) (o : Option EnvNo) 
 come_moves newcomer_of o r r' seen (Ok v) claims user came same = (may_add o r r' seen (Came (newcomer_of v)) claims user (λ e. refl) came).moves
 come_moves newcomer_of o r r' seen (Err e) claims user came same = (may_stay o r r' seen claims user same).moves
 
+-- a call about stops was made, and is added if it changed something
+pub may_stop : (call : StopCall) (o : Option EnvNo) (r r' : Log) (seen : List Coming) (res : Result StopReply StopError) → Claims r.items o seen → r.user ≡ o
+    → IfOk res (λ reply. r' ≡ (if is_news reply then with_item r (Stop r.user call) else r)) → OnErr res (r' ≡ r) → MayBe o r r'
+may_stop call o r r' seen (Ok reply) claims user happened same = by_news (is_news reply) happened
+  where
+    by_news : (b : Bool) → r' ≡ (if b then with_item r (Stop r.user call) else r) → MayBe o r r'
+    by_news true is = may_add o r r' seen (Stop r.user call) claims user (λ e. refl) is
+    by_news false is = may_stay o r r' seen claims user is
+may_stop call o r r' seen (Err e) claims user happened same = may_stay o r r' seen claims user same
+
 met_moves : (u o : Option EnvNo) (r r' : Log) (seen : List Coming) (desks : List FreeState) → Claims r.items o seen → r.user ≡ u → r.user ≡ o → HasMetOf u r r' desks → Moves o r'.user r.items r'.items
 met_moves None o r r' seen desks claims is user met = absurd met
 met_moves (Some e) o r r' seen desks claims is user met = (may_meet_any o r r' seen e claims (sym user ∙ is) user met.2).moves
@@ -46,6 +64,43 @@ pub meet_moves : {V : Type 0} (items : V → List FreeState) (o : Option EnvNo) 
     → IfOk res (λ d. HasMetOf r.user r r' (items d)) → OnErr res (r' ≡ r) → Moves o r'.user r.items r'.items
 meet_moves items o r r' seen (Ok d) claims user met same = met_moves r.user o r r' seen (items d) claims (λ i. r.user) user met
 meet_moves items o r r' seen (Err e) claims user met same = (may_stay o r r' seen claims user same).moves
+
+-- the roster as it is put back begins with what was found
+
+pub come_begins : {V : Type 0} (newcomer_of : V → Newcomer) (r r' : Log) (res : Result V TiError) → IfOk res (λ v. r' ≡ with_item r (Came (newcomer_of v))) → OnErr res (r' ≡ r) → Begins r'.items r.items
+come_begins newcomer_of r r' (Ok v) came same = (Came (newcomer_of v) ∷ [], ap (λ (x : Log). x.items) came)
+come_begins newcomer_of r r' (Err e) came same = ([], ap (λ (x : Log). x.items) same ∙ sym (append-nil r.items))
+
+pub end_begins : (t : ThreadNo) (r r' : Log) (res : Result (Unit {0}) TiError) → OnOk res (r' ≡ with_item r (Ended t)) → OnErr res (r' ≡ r) → Begins r'.items r.items
+end_begins t r r' (Ok d) ended same = (Ended t ∷ [], ap (λ (x : Log). x.items) ended)
+end_begins t r r' (Err e) ended same = ([], ap (λ (x : Log). x.items) same ∙ sym (append-nil r.items))
+
+met_begins : (u : Option EnvNo) (r r' : Log) (desks : List FreeState) → HasMetOf u r r' desks → Begins r'.items r.items
+met_begins None r r' desks met = absurd met
+met_begins (Some e) r r' desks met = (meeting e r.items, ap (λ (x : Log). x.items) met.2)
+
+pub meet_begins : {V : Type 0} (items : V → List FreeState) (r r' : Log) (res : Result V TiError) → IfOk res (λ d. HasMetOf r.user r r' (items d)) → OnErr res (r' ≡ r) → Begins r'.items r.items
+meet_begins items r r' (Ok d) met same = met_begins r.user r r' (items d) met
+meet_begins items r r' (Err e) met same = ([], ap (λ (x : Log). x.items) same ∙ sym (append-nil r.items))
+
+-- the desks that a handle took, in the roster as it was found
+pub took_desks : (u : Option EnvNo) (v h n : RosterView) (r r' : Log) (desks : List FreeState) (next : ℕ) → r.user ≡ u → r.user ≡ v.place → r.limits ≡ v.limits → Begins r.items v.seen → Claims r.items v.place v.seen
+    → AreWithin (length r.items) v.looked → h ≡ holding v r.items → HasMetOf u r r' desks → next ≡ threads_in r.items → n ≡ stored h r' → TakesDesks v n desks next
+took_desks None v h n r r' desks next is placed limits b c l held met nx put = absurd met
+took_desks (Some e) v h n r r' desks next is placed limits b c l held met nx put = record {
+  env = e;
+  place = sym placed ∙ is;
+  found = r.items;
+  hold = record {
+    begins = b;
+    claims = c;
+    looked = l;
+    new_is = put ∙ ((λ j. stored (held j) (met.2 j)) ∙ ap (λ (p : Option EnvNo). record { limits = v.limits; seen = r.items ++ meeting e r.items; found = r.items; looked = v.looked; taken = v.taken + 1; made = v.made; holds = false; place = p }) placed);
+  };
+  desks_are = subst (λ (x : Limits). AreLeft r.items x e (live r.items) desks) limits met.0;
+  own = subst (λ (x : Limits). All (λ f. IsOwn r.items x e f) desks) limits met.1;
+  next_is = nx;
+}
 
 -- The environment of a handle is disposed of
 

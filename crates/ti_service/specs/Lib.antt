@@ -6,3 +6,4 @@ pub mod Leaving
 pub mod LettingGo
 pub mod Memberships
 pub mod Classes
+pub mod Stops

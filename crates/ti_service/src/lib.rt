@@ -14,6 +14,7 @@
 //! - An agent that makes a trace of several threads step by step comes back at its end, with what was read.
 //! - No two agents have one environment's number.
 //! - Agents are told threads' starts and ends in one order, each once. What was lost is counted.
+//! - An agent's breakpoints, steps and pops of frames are its own. A thread that stops for agents waits until each has let it go.
 //! - What is told of a class or a method is what was defined under its number, and never waits.
 //! - The list of who is there is held for each coming, going and meeting, and never while a thread is asked.
 #![tactic(auto)]
@@ -22,17 +23,20 @@ mod agent;
 mod agent_calls;
 mod agent_classes;
 mod agent_desks;
+mod agent_stops;
 mod agent_tries;
 mod laws;
 mod membership;
 mod service;
 mod service_classes;
+mod service_stops;
 mod service_threads;
 mod service_tries;
 
 pub use agent::{Agent, Gathering};
 pub use agent_calls::ServiceCalls;
 pub use agent_classes::ClassCalls;
+pub use agent_stops::StopCalls;
 pub use agent_tries::ServiceTries;
 pub use laws::cleared_words_read_zero;
 pub use membership::Membership;
@@ -40,4 +44,6 @@ pub use service::Service;
 pub use ti_methods::{
     ClassError, ClassInfo, ClassNo, Defined, LineEntry, Lines, MethodInfo, MethodName,
 };
-pub use ti_roster::{LifeEvent, LifeKind, NextEvent, ThreadInfo};
+pub use ti_roster::{
+    LifeEvent, LifeKind, NextEvent, Stop, StopCall, StopError, StopKind, StopReply, ThreadInfo,
+};

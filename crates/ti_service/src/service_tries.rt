@@ -80,10 +80,7 @@ impl Service {
                 let next = roster.next();
                 let desks = roster.meet(alloc);
                 self.seat = Some(hold.store_quietly());
-                match desks {
-                    Ok(desks) => Ok((desks, next)),
-                    Err(error) => Err(error),
-                }
+                Ok((desks?, next))
             }
             Err(seat) => {
                 self.seat = Some(seat);

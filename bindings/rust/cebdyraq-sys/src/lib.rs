@@ -93,6 +93,15 @@ pub struct cq_event {
 
 #[repr(C)]
 #[derive(Clone, Copy, Debug, Default)]
+pub struct cq_stop {
+    pub thread: u32,
+    pub method: u32,
+    pub location: i64,
+    pub why: u32,
+}
+
+#[repr(C)]
+#[derive(Clone, Copy, Debug, Default)]
 pub struct cq_stack_info {
     pub thread: u32,
     pub state: u32,
@@ -177,8 +186,11 @@ codes! {
     CQ_THREAD_NOT_ALIVE = 15
     CQ_INVALID_CLASS = 21
     CQ_INVALID_METHODID = 23
+    CQ_INVALID_LOCATION = 24
     CQ_NO_MORE_FRAMES = 31
     CQ_OPAQUE_FRAME = 32
+    CQ_DUPLICATE = 40
+    CQ_NOT_FOUND = 41
     CQ_NOT_AVAILABLE = 98
     CQ_MUST_POSSESS_CAPABILITY = 99
     CQ_ABSENT_INFORMATION = 101
@@ -245,6 +257,10 @@ extern "C" {
     pub fn cq_frame_count(thread: *mut cq_thread, count: *mut u64) -> u32;
     pub fn cq_take_pops(thread: *mut cq_thread, count: *mut u64) -> u32;
     pub fn cq_poll_clear(thread: *mut cq_thread) -> bool;
+    pub fn cq_may_stop(thread: *mut cq_thread) -> bool;
+    pub fn cq_reached(thread: *mut cq_thread, method: u32, location: u32, stops: *mut bool) -> u32;
+    pub fn cq_leaves(thread: *mut cq_thread, method: u32, location: u32, frames: u32, stops: *mut bool) -> u32;
+    pub fn cq_is_stopped(thread: *mut cq_thread, stops: *mut bool) -> u32;
     pub fn cq_poll(thread: *mut cq_thread) -> u32;
     pub fn cq_native(thread: *mut cq_thread) -> u32;
     pub fn cq_block(thread: *mut cq_thread, reason: u32) -> u32;
@@ -316,6 +332,12 @@ extern "C" {
     pub fn cq_set_environment_local_storage(env: *mut cq_env, word: u64) -> u32;
     pub fn cq_set_event_notification_mode(env: *mut cq_env, enabled: bool) -> u32;
     pub fn cq_next_event(env: *mut cq_env, event: *mut cq_event) -> u32;
+    pub fn cq_set_breakpoint(env: *mut cq_env, method: u32, location: u32) -> u32;
+    pub fn cq_clear_breakpoint(env: *mut cq_env, method: u32, location: u32) -> u32;
+    pub fn cq_set_stop_notification_mode(env: *mut cq_env, enabled: bool, kind: u32, thread: u32) -> u32;
+    pub fn cq_notify_frame_pop(env: *mut cq_env, thread: u32, frames: u32) -> u32;
+    pub fn cq_next_stop(env: *mut cq_env, stop: *mut cq_stop) -> u32;
+    pub fn cq_end_stop(env: *mut cq_env, thread: u32) -> u32;
     pub fn cq_dispose_environment(env: *mut cq_env) -> u32;
 
     pub fn cq_define_class(
@@ -417,6 +439,24 @@ extern "C" {
     pub fn cq_wait_ensure_resumed(env: *mut cq_env, signal: *mut cq_signal, thread: u32, timeout_ns: i64) -> u32;
     pub fn cq_wait_set_event_notification_mode(env: *mut cq_env, signal: *mut cq_signal, enabled: bool) -> u32;
     pub fn cq_wait_dispose_environment(env: *mut cq_env, signal: *mut cq_signal) -> u32;
+    pub fn cq_wait_reached(
+        thread: *mut cq_thread,
+        signal: *mut cq_signal,
+        method: u32,
+        location: u32,
+        stops: *mut bool,
+    ) -> u32;
+    pub fn cq_wait_leaves(
+        thread: *mut cq_thread,
+        signal: *mut cq_signal,
+        method: u32,
+        location: u32,
+        frames: u32,
+        stops: *mut bool,
+    ) -> u32;
+    pub fn cq_wait_stop(thread: *mut cq_thread, signal: *mut cq_signal) -> u32;
+    pub fn cq_wait_next_stop(env: *mut cq_env, signal: *mut cq_signal, timeout_ns: i64, stop: *mut cq_stop) -> u32;
+    pub fn cq_wait_end_stop(env: *mut cq_env, signal: *mut cq_signal, thread: u32) -> u32;
     pub fn cq_wait_next_event(env: *mut cq_env, signal: *mut cq_signal, timeout_ns: i64, event: *mut cq_event) -> u32;
     pub fn cq_wait_get_thread_state(
         env: *mut cq_env,

@@ -93,7 +93,7 @@ impl Parts {
 }
 
 /// Calls again as long as a class is just being defined.
-fn settled(mut call: impl FnMut() -> u32) -> Result<(), Error> {
+pub(crate) fn settled(mut call: impl FnMut() -> u32) -> Result<(), Error> {
     loop {
         match call() {
             sys::CQ_BUSY => yield_now(),

@@ -81,7 +81,7 @@ impl Environment {
         &mut *self.handle
     }
 
-    fn time(&self) -> i64 {
+    pub(crate) fn time(&self) -> i64 {
         nanoseconds(self.timeout)
     }
 

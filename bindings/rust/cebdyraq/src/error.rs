@@ -35,10 +35,16 @@ errors! {
     InvalidClass = CQ_INVALID_CLASS
     /// No method of this number was defined.
     InvalidMethodid = CQ_INVALID_METHODID
+    /// There can be no breakpoint at this location of the method.
+    InvalidLocation = CQ_INVALID_LOCATION
     /// There is no frame at this depth, or there are fewer than two for a pop.
     NoMoreFrames = CQ_NO_MORE_FRAMES
     /// A pop, and one of the two newest frames is native.
     OpaqueFrame = CQ_OPAQUE_FRAME
+    /// The environment has this breakpoint, or asked for this pop, before.
+    Duplicate = CQ_DUPLICATE
+    /// The environment has no such breakpoint.
+    NotFound = CQ_NOT_FOUND
     /// A capability that cannot be had.
     NotAvailable = CQ_NOT_AVAILABLE
     /// The call needs a capability that the environment does not have.

@@ -54,6 +54,7 @@ mod error;
 mod posts;
 mod server;
 mod service;
+mod stops;
 mod thread;
 
 pub use classes::{ClassInfo, Defined, LineEntry, Lines, MethodInfo, MethodName};
@@ -62,4 +63,5 @@ pub use error::Error;
 pub use posts::{Answer, Any, Call, Posted, Ticket};
 pub use server::{ServeError, Server};
 pub use service::Service;
+pub use stops::{Stop, StopKind};
 pub use thread::{Ended, Frame, Fresh, Reason, Running, Safe};

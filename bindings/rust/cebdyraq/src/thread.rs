@@ -104,6 +104,14 @@ impl Fresh {
 }
 
 impl Running {
+    pub(crate) fn handle(&mut self) -> *mut sys::cq_thread {
+        self.0.at()
+    }
+
+    pub(crate) fn signal(&self) -> *mut sys::cq_signal {
+        self.0.signal.at()
+    }
+
     /// Enters a method at location 0.
     pub fn enter(&mut self, method: u32) -> Result<(), Error> {
         // SAFETY: this call alone uses the handle. So it is with each one below.

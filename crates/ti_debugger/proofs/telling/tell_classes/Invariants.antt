@@ -8,4 +8,5 @@ abbrev pub invariant-loop : goal.invariant-loop
 invariant-loop l = record {
   told : ToldBy (classes_of l.desk.agent) l.fn.desk.next_class l.desk.next_class (session_in l.fn.seat) (session_in l.seat);
   resumptions : l.desk.resumptions ≡ l.fn.desk.resumptions;
+  about : l.desk.about ≡ l.fn.desk.about;
 }

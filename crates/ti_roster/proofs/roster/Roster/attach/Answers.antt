@@ -1,4 +1,4 @@
-use Rattle.std.proofs.Common.{◌≡◌, ◌+◌, List, [], ◌∷◌, ◌++◌, length, length-append, Some, ap, sym, ◌∙◌, subst, arith}
+use Rattle.std.proofs.Common.{◌≡◌, ◌+◌, List, [], ◌∷◌, ◌++◌, length, length-append, Some, refl, ap, sym, ◌∙◌, subst, arith}
 use Rattle.std.specs.Prelude.{slice_set}
 use Rattle.ti_types.specs.declared.numbers.EnvNo.{EnvNo}
 use Rattle.ti_roster.specs.declared.coming.Coming.{Coming}
@@ -9,6 +9,7 @@ use Rattle.ti_roster.proofs.Logs.{threads_attached}
 use Rattle.ti_roster.proofs.Rows.{rows_attach}
 use Rattle.ti_roster.specs.Events.{AreEvents}
 use Rattle.ti_roster.proofs.Lives.{events_attached}
+use Rattle.ti_roster.proofs.Stopped.{still_stops}
 use Rattle.ti_roster.proofs.roster.Roster.attach.Goals as goal
 
 pub invariant_of-self : goal.invariant_of-self
@@ -26,4 +27,5 @@ invariant_of-self c =
       c.self.invariant.2 ∙ sym count,
       subst (λ (x : List Coming). AreRows x c.self.inside.limits rows (slice_set marks e.0 (Some 0))) (sym items) after,
       subst (λ (x : List Coming). AreEvents x c.self.inside.life.events) (sym items) (events_attached log c.self.inside.life.events e c.self.invariant.4),
+      still_stops log c.and-self-inside.result.items (Attached e) c.self.inside.stops c.self.inside.stops items c.self.invariant.5 refl,
     )

@@ -1,8 +1,8 @@
-use Rattle.std.proofs.Common.{◌≡◌, ◌+◌, suc, List, [], ◌∷◌, ◌++◌, length, length-append, ap, sym, ◌∙◌, subst, arith, rules}
+use Rattle.std.proofs.Common.{◌≡◌, ◌+◌, suc, List, [], ◌∷◌, ◌++◌, length, length-append, refl, ap, sym, ◌∙◌, subst, arith, rules}
 use Rattle.std.proofs.lemmas.Bool.Decides.{nat_tests}
 use Rattle.ti_types.specs.declared.numbers.ThreadNo.{ThreadNo}
 use Rattle.ti_roster.specs.declared.coming.Coming.{Coming}
-use Rattle.ti_roster.specs.declared.coming.Coming.TheVariants.{Came, Ended, Attached, Met, GaveBack, Disposed}
+use Rattle.ti_roster.specs.declared.coming.Coming.TheVariants.{Came, Ended, Attached, Met, GaveBack, Disposed, Stop}
 use Rattle.ti_roster.specs.declared.newcomer.Newcomer.{Newcomer}
 use Rattle.ti_roster.specs.declared.row.Row.{Row}
 use Rattle.ti_roster.specs.Log.{threads_in}
@@ -12,6 +12,7 @@ use Rattle.ti_roster.proofs.Rows.{rows_come}
 use Rattle.ti_roster.specs.declared.life_event.LifeEvent.{LifeEvent}
 use Rattle.ti_roster.specs.Events.{AreEvents, Lives, start_of}
 use Rattle.ti_roster.proofs.Lives.{events_came, life_few}
+use Rattle.ti_roster.proofs.Stopped.{still_stops}
 use Rattle.ti_roster.proofs.roster.Roster.come.Goals as goal
 
 abbrev newcomer_in : Coming → Newcomer → Newcomer
@@ -21,6 +22,7 @@ newcomer_in (Attached e) d = d
 newcomer_in (Met e m) d = d
 newcomer_in (GaveBack e t) d = d
 newcomer_in (Disposed e) d = d
+newcomer_in (Stop o call) d = d
 
 pub push-requires-2 : goal.push-requires-2
 push-requires-2 c =
@@ -49,4 +51,5 @@ invariant_of-self-2 c =
       grind (arith, nat_tests, count, c.self.invariant.2, c.in-Some.ensures, c.in-Some.is, c.checked_add.ensures),
       subst (λ (x : List Coming × List Row). AreRows x.0 limits x.1 marks) (λ j. (sym items j, sym pushed j)) after,
       subst (λ (x : List Coming × List LifeEvent). AreEvents x.0 x.1) (λ j. (sym items j, sym (ap (λ (l : Lives). l.events) c.push-2.ensures ∙ ap (λ (t : ThreadNo). c.self.inside.life.events ++ start_of t ∷ []) c.thread-thread.ensures) j)) (events_came log c.self.inside.life.events row.newcomer number c.self.invariant.4),
+      still_stops log c.and-log.result.items (Came row.newcomer) c.self.inside.stops c.self.inside.stops items c.self.invariant.5 refl,
     )

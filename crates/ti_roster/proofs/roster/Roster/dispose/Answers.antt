@@ -14,6 +14,7 @@ use Rattle.ti_roster.proofs.Returning.{all_still, back_length, back_limits, back
 use Rattle.ti_roster.proofs.Rows.{rows_dispose}
 use Rattle.ti_roster.specs.Events.{AreEvents}
 use Rattle.ti_roster.proofs.Lives.{events_disposed}
+use Rattle.ti_roster.proofs.Stopped.{still_stops}
 use Rattle.ti_roster.proofs.roster.Roster.dispose.Goals as goal
 
 pub take_back-requires-clause-may : goal.take_back-requires-clause-may
@@ -55,4 +56,5 @@ invariant_of-self c =
       c.self-2.invariant.2 ∙ sym count,
       subst (λ (x : List Coming). AreRows x c.self-2.inside.limits rows (slice_set marks e.0 None)) (sym items) after,
       subst (λ (x : List Coming). AreEvents x c.self-2.inside.life.events) (sym items) (events_disposed log c.self-2.inside.life.events e c.self-2.invariant.4),
+      still_stops log c.and-self-inside.result.items (Disposed e) c.self-2.inside.stops c.leave.new.self items c.self-2.invariant.5 c.leave.ensures,
     )

@@ -13,6 +13,7 @@ use Rattle.ti_roster.proofs.Rows.{rows_count, rows_end, there_live}
 use Rattle.ti_roster.specs.declared.life_event.LifeEvent.{LifeEvent}
 use Rattle.ti_roster.specs.Events.{AreEvents, Lives}
 use Rattle.ti_roster.proofs.Lives.{events_ended, life_few}
+use Rattle.ti_roster.proofs.Stopped.{still_stops}
 use Rattle.ti_roster.proofs.roster.Roster.end.Goals as goal
 
 pub returns-then-self-ge-LAST-clause-refused : goal.returns-then-self-ge-LAST-clause-refused
@@ -50,6 +51,7 @@ invariant_of-self c =
       c.self.invariant.2 ∙ sym count,
       subst (λ (x : List Coming × List Row). AreRows x.0 c.self.inside.limits x.1 marks) (λ j. (sym items j, sym c.remove-row.ensures.items j)) after,
       subst (λ (x : List Coming × List LifeEvent). AreEvents x.0 x.1) (λ j. (sym items j, sym (ap (λ (l : Lives). l.events) c.push.ensures) j)) (events_ended log c.self.inside.life.events c.args.thread c.in-Some.i at c.self.invariant.4),
+      still_stops log c.and-self-inside.result.items (Ended c.args.thread) c.self.inside.stops c.end_thread.new.self items c.self.invariant.5 c.end_thread.ensures,
     )
 
 pub returns-clause-there : goal.returns-clause-there

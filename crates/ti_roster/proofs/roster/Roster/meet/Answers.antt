@@ -1,4 +1,4 @@
-use Rattle.std.proofs.Common.{◌≡◌, ◌+◌, ◌<◌, ℕ, List, [], ◌∷◌, ◌++◌, length, length-append, drop, false, inl, inr, Option, Some, ap, sym, ◌∙◌, subst, arith}
+use Rattle.std.proofs.Common.{◌≡◌, ◌+◌, ◌<◌, ℕ, List, [], ◌∷◌, ◌++◌, length, length-append, drop, false, inl, inr, Option, Some, refl, ap, sym, ◌∙◌, subst, arith}
 use Rattle.std.specs.Prelude.{slice_get, slice_set}
 use Rattle.ti_roster.specs.declared.row.Row.{Row}
 use Rattle.std.proofs.lemmas.Bool.{cases_lt}
@@ -16,6 +16,7 @@ use Rattle.ti_roster.proofs.Rows.{desks_behind, desks_left, left_own, rows_meet,
 use Rattle.ti_roster.proofs.Searching.{live_at}
 use Rattle.ti_roster.specs.Events.{AreEvents}
 use Rattle.ti_roster.proofs.Lives.{events_met}
+use Rattle.ti_roster.proofs.Stopped.{still_stops}
 use Rattle.ti_roster.proofs.roster.Roster.meet.Goals.{After-has_met_all, After-count_below-first, After-take_desks}
 use Rattle.ti_roster.proofs.roster.Roster.meet.Goals as goal
 
@@ -70,6 +71,7 @@ invariant_of-self c =
       next ∙ sym count,
       subst (λ (x : List Coming × ℕ). AreRows x.0 c.self.inside.limits c.take_desks.new.rows (slice_set marks e.0 (Some x.1))) (λ j. (sym items j, sym next j)) after,
       subst (λ (x : List Coming). AreEvents x c.self.inside.life.events) (sym items) (events_met log c.self.inside.life.events e (threads_in log) c.self.invariant.4),
+      still_stops log c.and-self-inside.result.items (Met e (threads_in log)) c.self.inside.stops c.self.inside.stops items c.self.invariant.5 refl,
     )
 
 pub returns-clause-met : goal.returns-clause-met

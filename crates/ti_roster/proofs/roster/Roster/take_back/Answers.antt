@@ -1,4 +1,4 @@
-use Rattle.std.proofs.Common.{◌≡◌, ◌+◌, ◌<◌, ℕ, List, [], ◌∷◌, ◌++◌, length, length-append, Bool, true, false, if◌then◌else◌, Some, ap, sym, ◌∙◌, subst, arith}
+use Rattle.std.proofs.Common.{◌≡◌, ◌+◌, ◌<◌, ℕ, List, [], ◌∷◌, ◌++◌, length, length-append, Bool, true, false, if◌then◌else◌, Some, refl, ap, sym, ◌∙◌, subst, arith}
 use Rattle.std.specs.Prelude.{slice_set}
 use Rattle.ti_types.specs.declared.limits.Limits.{Limits}
 use Rattle.ti_types.specs.declared.numbers.EnvNo.{EnvNo}
@@ -15,6 +15,7 @@ use Rattle.ti_roster.proofs.Returning.{Found, found_row, missed_by_row, returned
 use Rattle.ti_roster.proofs.Rows.{rows_back}
 use Rattle.ti_roster.specs.Events.{AreEvents}
 use Rattle.ti_roster.proofs.Lives.{events_back}
+use Rattle.ti_roster.proofs.Stopped.{still_stops}
 use Rattle.ti_roster.proofs.roster.Roster.take_back.Goals.{After-index, After-has, After-index_mut}
 use Rattle.ti_roster.proofs.roster.Roster.take_back.Goals as goal
 
@@ -80,6 +81,7 @@ invariant_of-self c =
       c.self.invariant.2 ∙ sym count,
       subst (λ (x : List Coming × ℕ × Limits). AreRows x.0 x.2 (slice_set rows c.in-Some.i c.put.new.self) (slice_set marks x.1 (Some 0))) (λ j. (sym now j, (sym c.env-env.ensures j).0, (sym c.self.view_is j).limits)) after,
       subst (λ (x : List Coming). AreEvents x c.self.inside.life.events) (sym items) (events_back log c.self.inside.life.events e c.thread-thread.result c.self.invariant.4),
+      still_stops log c.and-self-inside.result.items (GaveBack e c.thread-thread.result) c.self.inside.stops c.self.inside.stops items c.self.invariant.5 refl,
     )
 
 pub returns : goal.returns

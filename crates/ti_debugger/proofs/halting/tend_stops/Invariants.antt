@@ -1,0 +1,10 @@
+use Rattle.ti_debugger.specs.Desks.{Works}
+use Rattle.ti_debugger.specs.Sessions.{session_in}
+use Rattle.ti_debugger.specs.Told.{ToldOfLives}
+use Rattle.ti_debugger.proofs.halting.tend_stops.Given as goal
+
+abbrev pub invariant-loop-index : goal.invariant-loop-index
+invariant-loop-index l = record {
+  told : ToldOfLives (session_in l.fn.seat) (session_in l.seat);
+  rest : Works l.fn.desk l.desk;
+}

@@ -1,0 +1,257 @@
+//! Breakpoints and steps: what the agent asks of the service, and how threads that stopped go on.
+
+use crate::desk::Desk;
+use crate::halted::Stage;
+use crate::refusal::{Refusal, refusal_of_class};
+use ti_jdwp::{JdwpError, Standing};
+use ti_service::{
+    Agent, ClassCalls, ClassError, ClassNo, LineEntry, Lines, StopCall, StopCalls, StopError,
+    StopKind, StopReply,
+};
+use ti_types::{Answer, Call, MethodNo, Place, ThreadNo};
+
+/// A location of a method at which the agent has a breakpoint.
+#[derive(Clone, Copy, Debug, PartialEq, Eq)]
+pub(crate) struct Spot {
+    pub(crate) class: u32,
+    pub(crate) method: u32,
+    pub(crate) index: u32,
+}
+
+/// What a reply says where a call about stops is refused.
+pub(crate) fn refusal_of_stop(error: StopError) -> Refusal
+    ensures { result ≡ stop_refusal error }
+{
+    match error {
+        StopError::InvalidMethod => Refusal::Error(JdwpError::InvalidMethodId),
+        StopError::InvalidLocation => Refusal::Error(JdwpError::InvalidLocation),
+        StopError::Busy => Refusal::Later,
+        _ => Refusal::Error(JdwpError::OutOfMemory),
+    }
+}
+
+/// The line of a location in a table: that of the last entry that begins there or before. `None` if there is no such entry.
+fn line_in(entries: &[LineEntry], index: u32) -> Option<u32> {
+    let mut found: Option<LineEntry> = None;
+    for entry in entries {
+        let is_nearer = match found {
+            Some(best) => best.start_location <= entry.start_location,
+            None => true,
+        };
+        if entry.start_location <= index && is_nearer {
+            found = Some(*entry);
+        }
+    }
+    let entry = found?;
+    Some(entry.line)
+}
+
+/// Ends a stop of a thread, if the roster is free. It gives whether the thread stops no more.
+fn end_stop(agent: &mut Agent, thread: ThreadNo) -> bool {
+    !matches!(
+        agent.stop_now(StopCall::LetGo(thread)),
+        Err(StopError::Busy)
+    )
+}
+
+impl Desk {
+    /// A call about stops.
+    fn stop(&mut self, call: StopCall) -> Result<StopReply, Refusal>
+        ensures { self.new ≡ record self.old { agent = self.new.agent } }
+    {
+        match self.agent.stop_now(call) {
+            Ok(reply) => Ok(reply),
+            Err(error) => Err(refusal_of_stop(error)),
+        }
+    }
+
+    /// Sets a breakpoint. One that is there already is no error.
+    pub(crate) fn place(&mut self, spot: Spot) -> Result<(), Refusal>
+        ensures { Works self.old self.new }
+    {
+        if self
+            .agent
+            .get_method_declaring_class(MethodNo(spot.method))?
+            != ClassNo(spot.class)
+        {
+            return Err(Refusal::Error(JdwpError::InvalidMethodId));
+        }
+        self.stops.spots.reserve(1)?;
+        self.stop(StopCall::Enable(StopKind::Breakpoint, None))?;
+        self.stops.hears = true;
+        let set = self
+            .agent
+            .set_breakpoint_now(self.alloc, MethodNo(spot.method), spot.index);
+        match set {
+            Ok(()) => {
+                self.stops.spots.push_reserved(spot);
+                Ok(())
+            }
+            Err(StopError::Duplicate) => Ok(()),
+            Err(error) => Err(refusal_of_stop(error)),
+        }
+    }
+
+    /// The line of a location of a method. `None` if it is not known.
+    pub(crate) fn line_at(&mut self, method: MethodNo, index: u32) -> Result<Option<u32>, Refusal>
+        ensures { self.new ≡ record self.old { agent = self.new.agent } }
+    {
+        match self.agent.get_line_number_table(self.alloc, method) {
+            Ok(Lines::Table(entries)) => Ok(line_in(entries.as_slice(), index)),
+            Ok(Lines::Locations) => Ok(Some(index)),
+            Ok(Lines::Absent) | Err(ClassError::AbsentInformation | ClassError::NativeMethod) => {
+                Ok(None)
+            }
+            Err(error) => Err(refusal_of_class(error)),
+        }
+    }
+
+    /// How many frames a thread that stands has.
+    pub(crate) fn frames_at(&mut self, thread: u32) -> Result<u32, Refusal>
+        ensures { self.new ≡ record self.old { agent = self.new.agent } }
+    {
+        match self.ask_now(thread, Call::FrameCount)? {
+            Answer::Count(count) => Ok(count),
+            _ => Err(Refusal::Error(JdwpError::ThreadNotSuspended)),
+        }
+    }
+
+    /// Where a thread stands: its frames, and the method and the line of the newest one.
+    fn standing(&mut self, thread: u32) -> Result<Standing, Refusal>
+        ensures { self.new ≡ record self.old { agent = self.new.agent } }
+    {
+        let frames = self.frames_at(thread)?;
+        let Answer::Location(frame) = self.ask_now(thread, Call::Location { depth: 0 })? else {
+            return Err(Refusal::Error(JdwpError::ThreadNotSuspended));
+        };
+        let line = match frame.place {
+            Place::Java(index) => self.line_at(frame.method, index)?,
+            Place::Native => None,
+        };
+        Ok(Standing {
+            frames,
+            method: frame.method.0,
+            line,
+        })
+    }
+
+    /// Where a suspended thread stands. From now on it makes single steps.
+    pub(crate) fn locate(&mut self, thread: u32) -> Result<Standing, Refusal>
+        ensures { Works self.old self.new }
+    {
+        let standing = self.standing(thread)?;
+        self.stops.steppers.reserve(1)?;
+        self.step(thread)?;
+        self.stop(StopCall::Enable(StopKind::FramePop, Some(ThreadNo(thread))))?;
+        if !self.stops.steppers.contains(&thread) {
+            self.stops.steppers.push_reserved(thread);
+        }
+        Ok(standing)
+    }
+
+    /// Clears a breakpoint. False if the roster is in use.
+    pub(crate) fn clear(&mut self, spot: Spot) -> bool
+        ensures { self.new ≡ record self.old { agent = self.new.agent } }
+    {
+        let cleared = self
+            .agent
+            .clear_breakpoint_now(self.alloc, MethodNo(spot.method), spot.index);
+        !matches!(cleared, Err(StopError::Busy | StopError::OutOfMemory))
+    }
+
+    /// The agent is told of breakpoints no more. False if the roster is in use.
+    pub(crate) fn mute(&mut self) -> bool
+        ensures { self.new ≡ record self.old { agent = self.new.agent } }
+    {
+        self.stop(StopCall::Disable(StopKind::Breakpoint, None))
+            .is_ok()
+    }
+
+    /// A thread makes no single steps any more. False if the roster is in use.
+    pub(crate) fn walk(&mut self, thread: u32) -> bool
+        ensures { self.new ≡ record self.old { agent = self.new.agent } }
+    {
+        let thread = Some(ThreadNo(thread));
+        self.stop(StopCall::Disable(StopKind::SingleStep, thread))
+            .is_ok()
+            && self
+                .stop(StopCall::Disable(StopKind::FramePop, thread))
+                .is_ok()
+    }
+
+    /// A thread makes single steps from now on.
+    pub(crate) fn step(&mut self, thread: u32) -> Result<(), Refusal>
+        ensures { self.new ≡ record self.old { agent = self.new.agent } }
+    {
+        self.stop(StopCall::Enable(StopKind::SingleStep, Some(ThreadNo(thread))))?;
+        Ok(())
+    }
+
+    /// A thread runs without single steps until it is about to have this many frames.
+    fn run_to(&mut self, thread: u32, frames: u32) -> Result<(), Refusal>
+        ensures { self.new ≡ record self.old { agent = self.new.agent } }
+    {
+        let pop = StopCall::NotifyFramePop(ThreadNo(thread), frames.saturating_add(1));
+        match self.agent.stop_now(pop) {
+            Ok(_) | Err(StopError::Duplicate) => (),
+            Err(error) => return Err(refusal_of_stop(error)),
+        }
+        self.stop(StopCall::Disable(StopKind::SingleStep, Some(ThreadNo(thread))))?;
+        Ok(())
+    }
+
+    /// Lets a thread go on that stopped, as far as it can now. What could not be done is done by `tend_stops`.
+    pub(crate) fn let_go(&mut self, thread: u32)
+        ensures { Works self.old self.new }
+    {
+        self.stops.let_go(thread);
+        self.let_go_on();
+    }
+
+    /// Lets all go on that stopped, likewise.
+    pub(crate) fn let_go_of_all(&mut self)
+        ensures rest { self.new ≡ record self.old { agent = self.new.agent; stops = self.new.stops; resumptions = self.new.resumptions } }
+        ensures grows { self.old.resumptions ≤ self.new.resumptions }
+    {
+        self.stops.let_go_of_all();
+        self.let_go_on();
+    }
+
+    /// Lets go on whoever nobody wants to stop any more, as far as the roster is free.
+    pub(crate) fn let_go_on(&mut self)
+        ensures rest { self.new ≡ record self.old { agent = self.new.agent; stops = self.new.stops; resumptions = self.new.resumptions } }
+        ensures grows { self.old.resumptions ≤ self.new.resumptions }
+    {
+        for index in (0..self.stops.halted.len()).rev() {
+            self.let_go_at(index);
+        }
+    }
+
+    /// Lets a thread go on, if nobody wants it to stop any more and the roster is free.
+    fn let_go_at(&mut self, index: usize)
+        ensures rest { self.new ≡ record self.old { agent = self.new.agent; stops = self.new.stops; resumptions = self.new.resumptions } }
+        ensures grows { self.old.resumptions ≤ self.new.resumptions }
+    {
+        let Some(halted) = self.stops.halted.get(index) else {
+            return;
+        };
+        let thread = halted.stop.thread;
+        match halted.stage {
+            Stage::New | Stage::Told => return,
+            Stage::RunsTo(frames) => {
+                if self.run_to(thread.0, frames) == Err(Refusal::Later) {
+                    return;
+                }
+            }
+            Stage::Goes => (),
+        }
+        if end_stop(&mut self.agent, thread) {
+            let _gone = self.stops.halted.remove(index);
+            self.resumptions = self.resumptions.saturating_add(1);
+        }
+    }
+}
+
+ghost use Rattle.std.specs.Prelude.{◌≡◌, ◌≤◌};
+ghost use Rattle.ti_debugger.specs.Desks.{Works};
+ghost use Rattle.ti_debugger.specs.Stopping.{stop_refusal};

@@ -1,0 +1,75 @@
+//! Stops of threads, by a handle of the service: a runtime asks whether its threads have to stop.
+
+use crate::service::Service;
+use std::sync::Wait;
+use ti_cell::Pace;
+use ti_roster::{StopCall, StopError, StopReply};
+
+impl Service {
+    /// Whether a thread of the runtime may have to stop at what it reaches next. It is one load, for a runtime that asks often:
+    /// false exactly if at that load nobody was told of any kind of stop, and no more had happened than the handle had seen.
+    /// If it is true, the runtime says by `stop_now` what the thread reached. Nothing changes but that the handle has looked.
+    pub fn may_stop(&mut self) -> bool
+        ensures tells { TellsWatch self.old self.new result }
+    {
+        let Some(seat) = &mut self.seat else {
+            unreachable!()
+        };
+        self.roster.count(seat) > seat.seen_len() || seat.is_watched()
+    }
+
+    /// A call about stops, which never waits. A runtime's are `Reached`, `Leaves` and `IsStopped`; all others are an environment's
+    /// (`StopCalls`), and 116 INVALID_ENVIRONMENT for a handle that is none's.
+    ///
+    /// A thread for which the reply to `Reached` or `Leaves` is `Stops(true)` waits until `IsStopped` is answered by `Waits(false)`.
+    /// It hands over first, by going into native code, so that its stack can be read meanwhile.
+    ///
+    /// The error is the first of these that fits. Then nothing changes but what the handle has seen:
+    ///
+    /// - 215 `Busy` (this profile): the roster is in use. Nothing changes.
+    /// - What the call is refused by (`StopCall`).
+    /// - 216 `Full` (this profile): there were 2^62 - 1 comings and goings in all.
+    /// - 110 OUT_OF_MEMORY: there is no memory for it.
+    pub fn stop_now(&mut self, call: StopCall) -> Result<StopReply, StopError>
+        ensures cell { self.new.cell ≡ self.old.cell }
+        ensures took { IfOk result (λ r. Calls self.old.view self.new.view call r) }
+        ensures refused { IfErr result (λ e. RefusesCall self.old self.new call e) }
+    {
+        let Some(seat) = self.seat.take() else {
+            unreachable!()
+        };
+        match self.roster.hold_now(seat) {
+            Ok(mut hold) => {
+                let reply = hold.roster().stop(call);
+                self.seat = Some(hold.store_quietly());
+                reply
+            }
+            Err(seat) => {
+                self.seat = Some(seat);
+                Err(StopError::Busy)
+            }
+        }
+    }
+
+    /// The same, once the roster is free. It wakes whoever sleeps until something happens.
+    pub fn stop<R: Wait>(&mut self, rt: &R, call: StopCall) -> Result<StopReply, StopError>
+        ensures cell { self.new.cell ≡ self.old.cell }
+        ensures took { IfOk result (λ r. Calls self.old.view self.new.view call r) }
+        ensures refused { IfErr result (λ e. RefusesHeld self.old self.new call e) }
+    {
+        let pace = Pace::new();
+        for _ in rt.forever() {
+            match self.stop_now(call) {
+                Err(StopError::Busy) => self.roster.await_free(rt, &pace),
+                result => {
+                    self.wake_sleepers();
+                    return result;
+                }
+            }
+        }
+        unreachable!()
+    }
+}
+
+ghost use Rattle.std.specs.Prelude.{◌≡◌, IfErr, IfOk};
+ghost use Rattle.ti_service.specs.Stops.{Calls, RefusesCall, RefusesHeld, TellsWatch};

@@ -1,0 +1,19 @@
+/* stops.h: breakpoints and steps.
+ *
+ * As long as an agent is told of stops, each state of a script has a hook at each line and each return besides that of the
+ * polls. A script notices at a poll that it is so, and at a line that it is so no more. */
+#ifndef STOPS_H
+#define STOPS_H
+
+#include "host.h"
+
+/* The events of the hook that a script's states have between two nudges. */
+int stops_mask(const struct script *script);
+
+/* In a hook: the script stops if an agent wants it to at this line or return. */
+void stops_look(struct script *script, lua_State *L, lua_Debug *ar);
+
+/* On the script's thread: this coroutine is resumed. */
+void stops_enter(struct script *script, lua_State *L);
+
+#endif
