@@ -9,8 +9,8 @@ when its turn comes. The gate tries those of edits/: one for each relation that 
     ci/edits.py --apply           tries none, but looks whether each edit of both folders can be applied
 
 The crates have to be proved. An edit is refused if a function that it changes is not proved then. The others of its crate keep
-their contracts, so edits of different functions are made together, on a copy. Those of edits/ are checked function by function,
-and those of more-edits/ by one check of the crate. An edit that changes more than bodies is tried alone, and one that changes no
+their contracts, so edits of different functions are made together, on a copy. For those of edits/ a check looks at their functions
+alone, for those of more-edits/ at the whole crate. An edit that changes more than bodies is tried alone, and one that changes no
 body by a check of the crate. What does not compile is not refused.
 
 The last line is 'N refused, M not', or 'N passed, M failed' of the last form.
@@ -116,11 +116,6 @@ class Said:
             print(done.stdout[-800:])
         return cls(unproved, callers)
 
-    @classmethod
-    def of_each(cls, folder, functions):
-        said = [cls.of(folder, "--only", function) for function in sorted(functions)]
-        return cls(set().union(*(one.unproved for one in said)), set().union(*(one.callers for one in said)))
-
 
 def link(source, target):
     """Gives a file a second name, or copies it where there is none to be had."""
@@ -178,11 +173,11 @@ class Copy:
         return chosen, texts
 
     def said_of(self, chosen, texts, is_whole):
-        """What a check of the crate says of these edits, or a check of each of their functions."""
+        """What a check of the crate says of these edits, or a check of their functions alone."""
         functions = set().union(*(functions for _, functions in chosen)) - {None}
         for file, text in texts.items():
             (self.folder / file).write_text(text)
-        said = Said.of(self.folder) if is_whole or not functions else Said.of_each(self.folder, functions)
+        said = Said.of(self.folder, *(word for function in sorted(functions) for word in ("--only", function) if not is_whole))
         for file in texts:
             shutil.copy(self.crate / file, self.folder / file)
         return said

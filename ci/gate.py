@@ -6,9 +6,8 @@ Then, on the programs that `rt ci` has built, each case (`ci/cases.py`) and runs
 (`tests/install`), and what the pages show (`ci/snippets.py`).
 
 `rt ci` leaves `tiwalk` and `tilint` in their crates' `out/` as LLVM builds them, and, where Rattle's own compiler took them, as
-that builds them. It builds no static library, so `ci/lib.py` does that, over the libraries that were proved. The output of `rt ci` is passed
-on, but for its last line 'N passed, M failed': what is tried besides is added to those counts, and the sums are the last line
-here.
+that builds them. By `ci/rt_ci.py` it leaves the static library too. The output of `rt ci` is passed on, but for its last line
+'N passed, M failed': what is tried besides is added to those counts, and the sums are the last line here.
 """
 
 import os
@@ -60,7 +59,7 @@ def try_library():
     if not has_compiler():
         print("there is no C compiler: the C programs are not tried")
         return 0, 0, 0
-    if subprocess.run([sys.executable, "ci/lib.py"]).returncode:
+    if subprocess.run([sys.executable, "ci/lib.py", *([lib.ARCHIVE] if lib.ARCHIVE.is_file() else [])]).returncode:
         print("the library for C was not built")
         return 0, 1, 1
     passed, failed, status = counts_of(sys.executable, "tests/c/run.py", lib.ARCHIVE)
@@ -75,7 +74,7 @@ def main():
     well, ill, _ = counts_of(sys.executable, "bench/tibench.py", "--try")
     print(f"the benchmark: {well} passed, {ill} failed", flush=True)
     passed, failed = passed + well, failed + ill
-    well, ill, status = counts_of("rt", "ci")
+    well, ill, status = counts_of(sys.executable, "ci/rt_ci.py")
     passed, failed = passed + well, failed + ill
     others = [program + ".by-rattle" for program in (WALK, LINT) if pathlib.Path(program + ".by-rattle").is_file()]
     for program in (WALK, LINT, *others):
