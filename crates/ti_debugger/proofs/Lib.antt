@@ -2,4 +2,6 @@ pub mod ClassLaws
 pub mod CrowdLaws
 pub mod RefusedLaws
 pub mod RunLaws
+pub mod StackLaws
+pub mod MethodLaws
 pub mod TellLaws

@@ -12,5 +12,7 @@ pub mod Refused
 pub mod Sources
 pub mod Told
 pub mod Desks
+pub mod StackReplies
+pub mod MethodReplies
 pub mod Replies
 pub mod Stopping
