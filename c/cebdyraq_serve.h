@@ -75,7 +75,8 @@ enum { CQ_DOOR_CONNECTIONS = 16 };
 enum {
     CQ_DOOR_WAIT = 0,   /* nothing, until the socket gives more, or the next tick */
     CQ_DOOR_WRITE = 1,  /* write what cq_door_output gives, and tell how much it took by cq_door_written */
-    CQ_DOOR_CLOSE = 2   /* close it, and tell that by cq_door_disconnect */
+    CQ_DOOR_CLOSE = 2,  /* close it, and tell that by cq_door_disconnect */
+    CQ_DOOR_ASK = 3     /* answer the question that cq_door_question gives */
 };
 
 /* Opens a door for HTTP: attaches an environment of its own to the service. `program` is what a profile calls the program, in
@@ -128,6 +129,88 @@ uint32_t cq_door_disconnect(cq_door *door, uint32_t connection);
 /* Does what is due: meets threads, reads stacks, counts, and answers; tells a debugger of events and stops, and undoes suspensions
  * and breakpoints that are not wanted any more. Writes to `deadline` when it is to be called next. Call cq_door_next after it. */
 uint32_t cq_door_tick(cq_door *door, uint64_t now, uint64_t *deadline) CQ_MUST_USE;
+
+/* VARIABLES
+ *
+ * The library knows no variables: at a door for debuggers the runtime tells them. It says that it does by cq_door_tells_variables.
+ * When a debugger wants some, cq_door_next writes CQ_DOOR_ASK, and cq_door_question says which. The runtime answers by one of
+ * cq_door_tell_variables, cq_door_tell_values and cq_door_tell_none, and calls cq_door_next again. Until then the debugger's other
+ * requests wait. At most one question is open. It closes with its answer, and when the connection ends.
+ *
+ * The thread that is asked about stands: the debugger has suspended it, and only the debugger resumes it. No other environment and
+ * no poll of its own moves it before the answer, so the runtime reads its frames as they are.
+ */
+
+/* What is asked. */
+enum {
+    CQ_QUESTION_NONE = 0,      /* nothing */
+    CQ_QUESTION_VARIABLES = 1, /* the names and the scopes of all variables of `method` */
+    CQ_QUESTION_VALUES = 2     /* the values of all variables of the frame at `depth` of `thread`; 0 is the newest frame */
+};
+
+/* A question. What it does not ask about is 0. */
+typedef struct {
+    uint32_t kind;
+    uint32_t method;
+    uint32_t thread;
+    uint32_t depth;
+} cq_question;
+
+/* A variable of a method. It is visible at the locations from `first` to `first` + `count` - 1. */
+typedef struct {
+    uint32_t slot;
+    uint32_t first;
+    uint32_t count;
+    uint32_t name_length;  /* of its name, in bytes */
+} cq_variable;
+
+/* What a value is, and what its bits are. */
+enum {
+    CQ_VALUE_NIL = 0,      /* 0 */
+    CQ_VALUE_BOOLEAN = 1,  /* 0 or 1 */
+    CQ_VALUE_INTEGER = 2,  /* 64 bits, in two's complement */
+    CQ_VALUE_NUMBER = 3,   /* 64 bits of an IEEE 754 double */
+    CQ_VALUE_TEXT = 4,     /* the length of the text in bytes */
+    CQ_VALUE_TABLE = 5,    /* how many entries come right behind it */
+    CQ_VALUE_ENTRY = 6     /* the length of the entry in bytes, such as that of "key = value" */
+};
+
+/* A value, or an entry of the table before it. The slot of an entry is not read. */
+typedef struct {
+    uint32_t slot;
+    uint32_t kind;
+    uint64_t bits;
+} cq_value;
+
+/* Says whether the runtime tells variables: at first it does not. It counts for the requests that come from then on; a question
+ * that is open stays open. Nothing happens at a door for HTTP. */
+uint32_t cq_door_tells_variables(cq_door *door, bool tells);
+
+/* Writes the open question to `question`, one of kind CQ_QUESTION_NONE if there is none, as always at a door for HTTP. */
+uint32_t cq_door_question(cq_door *door, cq_question *question) CQ_MUST_USE;
+
+/* Answers a question of kind CQ_QUESTION_VARIABLES. The names stand one behind the other in `names`, in UTF-8.
+ *
+ *   CQ_NONE 303              no such question is open; nothing changes
+ *   CQ_ILLEGAL_ARGUMENT 103  the lengths do not add up to `length`, or a name is not UTF-8; the question stays open
+ *   CQ_OUT_OF_MEMORY 110     there is no memory; the question stays open */
+uint32_t cq_door_tell_variables(cq_door *door, const cq_variable *variables, size_t count, const uint8_t *names,
+                                size_t length) CQ_MUST_USE;
+
+/* Answers a question of kind CQ_QUESTION_VALUES. Texts and entries stand one behind the other in `texts`, in UTF-8 or not: a debugger
+ * shows bytes that are not as it likes. A debugger may ask about texts and tables again until it goes, so they are kept: at most
+ * 65,536, of 16 MiB. Of two values of one slot the first counts.
+ *
+ *   CQ_NONE 303              no such question is open; nothing changes
+ *   CQ_ILLEGAL_ARGUMENT 103  there is no such kind; a boolean's bits are neither 0 nor 1; an entry does not stand behind its table, or
+ *                            a table has fewer entries; or the lengths do not add up to `length`. The question stays open
+ *   CQ_OUT_OF_MEMORY 110     there is no memory, or no room for what is kept; the question stays open */
+uint32_t cq_door_tell_values(cq_door *door, const cq_value *values, size_t count, const uint8_t *texts,
+                             size_t length) CQ_MUST_USE;
+
+/* Answers a question by an error. The debugger is told 13 (the thread is not suspended) and 110 (there is no memory) as they are, and
+ * 101 (there is no such information) for each other `code`. CQ_NONE 303: no question is open, and nothing changes. */
+uint32_t cq_door_tell_none(cq_door *door, uint32_t code) CQ_MUST_USE;
 
 /* Writes to `count` how many times the door has resumed a thread or let one go on that had stopped, 0 at a door for HTTP. A program whose threads sleep by
  * cebdyraq_wait.h calls cq_wake when it has grown, after cq_door_next, cq_door_disconnect and cq_door_tick. */
