@@ -77,6 +77,10 @@ SIZE(cq_value, 16);
 PLACE(cq_value, slot, 0);
 PLACE(cq_value, kind, 4);
 PLACE(cq_value, bits, 8);
+SIZE(cq_variables, 24);
+PLACE(cq_variables, context, 0);
+PLACE(cq_variables, of_method, 8);
+PLACE(cq_variables, of_frame, 16);
 
 NUMBER(CQ_OK, 0);
 NUMBER(CQ_INVALID_THREAD, 10);
