@@ -16,8 +16,8 @@ struct text {
     bool is_cut;
 };
 
-/* Adds bytes, behind which there is a 0. A byte that is not part of a character of UTF-8 becomes \xE9 (its digits). A text for which
- * there is no room is cut, and ends with "...". */
+/* Adds bytes, behind which there is a 0. A byte that is not part of a character of UTF-8 is written as "\xE9", by its number. A text
+ * that has no room is cut, and ends with "...". */
 void text_add(struct text *to, const char *from, size_t length);
 
 #endif

@@ -43,9 +43,9 @@ struct living {
     size_t count;
 };
 
-/* Values that Lua keeps in registers besides come last. They are told by names such as "(temporary)". */
+/* Behind the variables come values that Lua keeps in registers besides. */
 static bool is_variable(const char *name) {
-    return name && strcmp(name, "(temporary)") != 0 && strcmp(name, "(C temporary)") != 0;
+    return name && strcmp(name, "(temporary)") != 0;
 }
 
 static void read_names(const struct walk *walk, struct living *living) {

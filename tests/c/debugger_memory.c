@@ -90,7 +90,7 @@ static void talk(void) {
     asks_in_the_end(11, 2, SLEEPER);
     asks_in_the_end(11, 6, SLEEPER "00000000 ffffffff");
     asks_in_the_end(6, 5, WORK "0000000600000001");
-    asks_in_the_end(16, 1, SLEEPER "0000000000000000 00000002 00000000 73 00000005 5b");
+    asks_in_the_end(16, 1, SLEEPER "0000000100000000 00000002 00000000 73 00000005 5b");
     asks_in_the_end(10, 1, "0000000a00000000");
     asks_in_the_end(13, 2, "0000000c00000001 00000000 00000002");
     asks_in_the_end(1, 8, "");

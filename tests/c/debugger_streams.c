@@ -82,7 +82,7 @@ static void add_part(char part) {
     static const uint8_t kinds[] = { 6, 6, 6, 6, 7, 7, 7, 7, 8, 8, 8, 8, 9, 90, 99, 1, 2, 40, 0, 200 };
     switch (part) {
     case 't': add_id(1, thread_count); break;
-    case 'f': add_id(0, 3); break;
+    case 'f': add_id((uint64_t)below(thread_count) << 32, 3); break;
     case 'T': add_id(5ULL << 33, 6); break;
     case 'a': add_id(6ULL << 33, 3); break;
     case 's': add_slots(); break;
