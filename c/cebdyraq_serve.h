@@ -137,8 +137,9 @@ uint32_t cq_door_tick(cq_door *door, uint64_t now, uint64_t *deadline) CQ_MUST_U
  * cq_door_tell_variables, cq_door_tell_values and cq_door_tell_none, and calls cq_door_next again. Until then the debugger's other
  * requests wait. At most one question is open. It closes with its answer, and when the connection ends.
  *
- * The thread that is asked about stands: the debugger has suspended it, and only the debugger resumes it. No other environment and
- * no poll of its own moves it before the answer, so the runtime reads its frames as they are.
+ * The thread that is asked about was suspended, and had the frame, when the question was opened, and the debugger resumes it only
+ * after the answer. Another environment may resume it before: a runtime that has such environments lets the thread itself read its
+ * frames, where it is held at its poll, or answers by cq_door_tell_none.
  */
 
 /* What is asked. */
