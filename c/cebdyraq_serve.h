@@ -136,8 +136,9 @@ uint32_t cq_door_tick(cq_door *door, uint64_t now, uint64_t *deadline) CQ_MUST_U
  * that by functions. Until then the debugger's other requests wait. At most one question is open. It closes with its answer, and when
  * the connection ends.
  *
- * The debugger has suspended the thread that is asked about. Another environment may resume it at any time, so the runtime sees to it
- * that the frames stay as they are while it reads them (cq_variables), or answers by 13. */
+ * The thread that is asked about was suspended, and had the frame, when the question was opened. The debugger resumes it only after the
+ * answer, but another environment may resume it before. So the runtime sees to it that the frames stay as they are while it reads them
+ * (cq_variables), or answers by 13. */
 enum {
     CQ_QUESTION_NONE = 0,      /* nothing */
     CQ_QUESTION_VARIABLES = 1, /* the names and the scopes of all variables of `method` */
