@@ -63,6 +63,9 @@ void replied(uint16_t error, const char *data);
 /* Asks, and is replied to at once. */
 void asks(uint8_t set, uint8_t command, const char *data, uint16_t error, const char *reply);
 
+/* Takes the reply to the last request, which is no error. Returns the length of its data, of which there is room for so many bytes. */
+size_t reply_data(uint8_t *data, size_t room);
+
 /* How often the door has resumed a thread. */
 uint64_t resumptions(void);
 
@@ -75,6 +78,12 @@ void tells_what_there_is(void);
 
 /* debugger_suspends.c: suspensions and resumptions. */
 void suspends(void);
+
+/* debugger_variables.c: what the runtime tells of variables. */
+void tells_variables(void);
+
+/* Its functions. They tell of the methods and frames of the runtime above. */
+extern const cq_variables variables;
 
 /* debugger_memory.c: each allocation of a conversation is refused in turn. */
 void lacks_memory(void);

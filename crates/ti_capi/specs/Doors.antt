@@ -141,7 +141,7 @@ RefusesDebugger name path m n e = (NamesOneWrongly name path e × (n ≡ m)) ⊎
 
 -- the version of this library
 abbrev pub version : List ℕ
-version = codes "1.5.0"
+version = codes "1.6.0"
 
 -- debuggers are told this name, this path and this version
 pub record TellsAbout (name path version : List ℕ) (a : About) : Type 0 where
