@@ -133,7 +133,7 @@ FUNCTIONS: Dict[str, List[Any]] = {
     "cq_notify_frame_pop": [NUMBER, NUMBER],
     "cq_wait_next_stop": [AT, I64, AT],
     "cq_wait_end_stop": [AT, NUMBER],
-    "cq_wait_dispose_environment": [AT],
+    "cq_wait_dispose_environment_within": [AT, I64],
     "cq_serve": [AT, AT, ctypes.c_char_p, ctypes.c_char_p],
     "cq_debug_listen": [AT, AT, ctypes.c_char_p, ctypes.c_char_p, ctypes.c_char_p],
     "cq_server_variables": [AT],
