@@ -3,3 +3,5 @@ pub mod CrowdLaws
 pub mod RefusedLaws
 pub mod RunLaws
 pub mod TellLaws
+pub mod TakeLaws
+pub mod VariableLaws

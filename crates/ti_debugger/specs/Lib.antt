@@ -12,5 +12,8 @@ pub mod Refused
 pub mod Sources
 pub mod Told
 pub mod Desks
+pub mod Questions
+pub mod Taking
+pub mod VariableReplies
 pub mod Replies
 pub mod Stopping
