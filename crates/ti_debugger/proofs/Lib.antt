@@ -5,3 +5,5 @@ pub mod RunLaws
 pub mod StackLaws
 pub mod MethodLaws
 pub mod TellLaws
+pub mod TakeLaws
+pub mod VariableLaws

@@ -19,6 +19,7 @@ use Rattle.ti_debugger.specs.Crowds.{alive_in}
 use Rattle.ti_debugger.specs.Sources.{file_in}
 use Rattle.ti_debugger.specs.MethodReplies.{TellsMethods}
 use Rattle.ti_debugger.specs.StackReplies.{IsWatched, TellsDepth, TellsFrames, TellsState}
+use Rattle.ti_debugger.specs.VariableReplies.{TellsClass, TellsEntries, TellsFrame, TellsLength, TellsText, TellsVariables}
 
 abbrev pub version_text : About → List ℕ
 version_text about = text (string_bytes about.description) ++ int 1 ++ int 8 ++ text (string_bytes about.version) ++ text (string_bytes about.name)
@@ -87,4 +88,11 @@ IsBodyOf (request.ClassesBySignature range) bytes old new body = TellsFound (byt
 IsBodyOf (request.Signature id) bytes old new body = TellsOfClass IsSignature (classes_of new.agent) id text body
 IsBodyOf (request.SignatureWithGeneric id) bytes old new body = TellsOfClass IsSignature (classes_of new.agent) id with_generic body
 IsBodyOf (request.SourceFile id) bytes old new body = TellsOfClass IsSourceFile (classes_of new.agent) id file_text body
+IsBodyOf (request.VariableTable class method) bytes old new body = TellsVariables false method old.asked body
+IsBodyOf (request.VariableTableWithGeneric class method) bytes old new body = TellsVariables true method old.asked body
+IsBodyOf (request.FrameValues id frame slots) bytes old new body = (thread : ℕ) × (number_from first_thread id ≡ Some thread) × TellsFrame thread frame (bytes_at slots bytes) old.asked body
+IsBodyOf (request.TextValue id) bytes old new body = TellsText old.objects.list.items id body
+IsBodyOf (request.TableLength id) bytes old new body = TellsLength old.objects.list.items id body
+IsBodyOf (request.TableEntries id start len) bytes old new body = TellsEntries old.objects.list.items id start len body
+IsBodyOf (request.ReferenceType id) bytes old new body = TellsClass old.objects.list.items id body
 IsBodyOf _ bytes old new body = Unit {0}

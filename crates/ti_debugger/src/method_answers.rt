@@ -118,9 +118,10 @@ impl Desk {
         Ok(body_of(self.alloc, known.as_slice())?)
     }
 
-    /// The lines of a method (6/1). One whose lines are not known has none.
-    pub(crate) fn line_table(&mut self, class: u64, method: u64) -> Result<Vec<u8>, Refusal>
-        ensures { self.new ≡ record self.old { agent = self.new.agent } }
+    /// A method of a class. 21 or 23 if the class has no such method.
+    pub(crate) fn method_in(&mut self, class: u64, method: u64) -> Result<MethodNo, Refusal>
+        ensures found { IfOk result (λ m. number_from first_method method ≡ Some m.0) }
+        ensures rest { self.new ≡ record self.old { agent = self.new.agent } }
     {
         let (Some(class), Some(method)) = (class_of(class), method_of(method)) else {
             return Err(Refusal::Error(JdwpError::InvalidMethodId));
@@ -128,14 +129,16 @@ impl Desk {
         if self.agent.get_method_declaring_class(MethodNo(method))? != ClassNo(class) {
             return Err(Refusal::Error(JdwpError::InvalidMethodId));
         }
-        let first = self
-            .agent
-            .get_method_name(self.alloc, MethodNo(method))?
-            .first_line;
-        let lines = match self
-            .agent
-            .get_line_number_table(self.alloc, MethodNo(method))
-        {
+        Ok(MethodNo(method))
+    }
+
+    /// The lines of a method (6/1). One whose lines are not known has none.
+    pub(crate) fn line_table(&mut self, class: u64, method: u64) -> Result<Vec<u8>, Refusal>
+        ensures { self.new ≡ record self.old { agent = self.new.agent } }
+    {
+        let method = self.method_in(class, method)?;
+        let first = self.agent.get_method_name(self.alloc, method)?.first_line;
+        let lines = match self.agent.get_line_number_table(self.alloc, method) {
             Err(ClassError::AbsentInformation) => Lines::Absent,
             told => told?,
         };
@@ -143,8 +146,9 @@ impl Desk {
     }
 }
 
-ghost use Rattle.std.specs.Prelude.{◌≡◌, map, IfOk, OnOk};
+ghost use Rattle.std.specs.Prelude.{◌≡◌, map, Some, IfOk, OnOk};
 ghost use mathlib.Core.List.{IsPrefix};
 ghost use Rattle.ti_jdwp.specs.Bodies.{list};
+ghost use Rattle.ti_jdwp.specs.Ids.{number_from, first_method};
 ghost use Rattle.ti_service.specs.Classes.{classes_of};
 ghost use Rattle.ti_debugger.specs.MethodReplies.{IsKnown, TellsMethods, known_method, method_item};

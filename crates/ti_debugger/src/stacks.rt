@@ -15,7 +15,7 @@ const NATIVE_INDEX: u64 = u64::MAX;
 /// The greatest count of frames that the protocol has.
 const MOST_FRAMES: u32 = 0x7fff_ffff;
 
-/// A part of a stack.
+/// A part of a stack, or of a table.
 #[derive(Clone, Copy, Debug, PartialEq, Eq)]
 pub(crate) struct Part {
     pub(crate) start: i32,
@@ -23,7 +23,7 @@ pub(crate) struct Part {
 }
 
 /// How many frames are asked for from `start` on: `length`, or all that are left for -1.
-fn wanted_of(count: i32, start: i32, length: i32) -> i64
+pub(crate) fn wanted_of(count: i32, start: i32, length: i32) -> i64
     ensures { IsWanted count start length result }
 {
     if length == -1 {
@@ -37,7 +37,7 @@ fn wanted_of(count: i32, start: i32, length: i32) -> i64
 ///
 /// - 503 INVALID_INDEX: the stack has no frame at the start.
 /// - 504 INVALID_LENGTH: it has fewer frames than were asked for.
-fn part_of(count: i32, start: i32, wanted: i64) -> Result<Option<Part>, JdwpError>
+pub(crate) fn part_of(count: i32, start: i32, wanted: i64) -> Result<Option<Part>, JdwpError>
     ensures { IsPart count start wanted result }
 {
     if wanted == 0 {
@@ -151,7 +151,7 @@ impl Desk {
     }
 
     /// How many frames a suspended thread has. 13 THREAD_NOT_SUSPENDED if it has ended or still runs.
-    fn depth(&mut self, thread: u32) -> Result<i32, Refusal>
+    pub(crate) fn depth(&mut self, thread: u32) -> Result<i32, Refusal>
         ensures told { IfOk result (λ n. HasDepth self.old self.new thread n) }
         ensures rest { self.new ≡ record self.old { agent = self.new.agent } }
     {
