@@ -49,7 +49,7 @@ static bool is_variable(const char *name) {
 }
 
 static void read_names(const struct walk *walk, struct living *living) {
-    const char *name;
+    const char *name = NULL;
     while (living->count < MOST_LOCALS && is_variable(name = lua_getlocal(walk->L, &walk->ar, (int)living->count + 1))) {
         lua_pop(walk->L, 1);
         living->names[living->count++] = name;

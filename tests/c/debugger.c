@@ -145,19 +145,6 @@ void asks(uint8_t set, uint8_t command, const char *data, uint16_t error, const 
     SAME(action_now(), CQ_DOOR_WAIT);
 }
 
-size_t reply_data(uint8_t *data, size_t room) {
-    static uint8_t bytes[LONGEST_PACKET];
-    uint64_t count = 0;
-    SAME(action_now(), CQ_DOOR_WRITE);
-    OK(cq_door_output(&door, 0, bytes, sizeof bytes, &count));
-    OK(cq_door_written(&door, 0, count, now));
-    CHECK(count >= HEAD && count - HEAD <= room && number_at(bytes, 4) == count);
-    SAME(number_at(bytes + 4, 4), request_id);
-    SAME(number_at(bytes + 9, 2), 0);
-    memcpy(data, bytes + HEAD, count - HEAD);
-    return count - HEAD;
-}
-
 uint64_t resumptions(void) {
     uint64_t count = 77;
     OK(cq_door_resumptions(&door, &count));

@@ -63,9 +63,6 @@ void replied(uint16_t error, const char *data);
 /* Asks, and is replied to at once. */
 void asks(uint8_t set, uint8_t command, const char *data, uint16_t error, const char *reply);
 
-/* Takes the reply to the last request, which is no error. Returns the length of its data, of which there is room for so many bytes. */
-size_t reply_data(uint8_t *data, size_t room);
-
 /* How often the door has resumed a thread. */
 uint64_t resumptions(void);
 
