@@ -151,18 +151,20 @@ impl Desk {
         if !self.tells {
             return Err(Refusal::Error(JdwpError::NotImplemented));
         }
-        self.ask_values(thread, depth)
+        Err(self.ask_values(thread, depth))
     }
 
-    /// Asks the runtime for the values of a frame that is there.
-    fn ask_values(&mut self, thread: u32, depth: u32) -> Result<Vec<u8>, Refusal>
+    /// Asks the runtime for the values of a frame, if it is there.
+    fn ask_values(&mut self, thread: u32, depth: u32) -> Refusal
         ensures { self.new ≡ record self.old { agent = self.new.agent; asked = self.new.asked } }
     {
-        let count = self.depth(thread)?;
-        if i64::from(depth) >= i64::from(count) {
-            return Err(Refusal::Error(JdwpError::InvalidFrameId));
+        match self.depth(thread) {
+            Ok(count) if i64::from(depth) < i64::from(count) => {
+                self.ask(Question::Values { thread, depth })
+            }
+            Ok(_) => Refusal::Error(JdwpError::InvalidFrameId),
+            Err(refusal) => refusal,
         }
-        Err(self.ask(Question::Values { thread, depth }))
     }
 }
 
