@@ -13,20 +13,16 @@ A file that is not laid out as `rt fmt` does it fails. So does a folder that doe
 tests of a folder. The last line is 'N passed, M failed'.
 """
 
-import os
 import pathlib
 import re
 import subprocess
 import sys
-from concurrent import futures
 
 sys.dont_write_bytecode = True
 
 import unproved
 
 TESTS = pathlib.Path("tests/crates")
-# How many folders are tried at once. A folder keeps one or two processors busy.
-AT_ONCE = max(1, (os.cpu_count() or 1) // 2)
 ENDING = ".rattle"
 SHARED = TESTS / f"made{ENDING}"
 
@@ -51,9 +47,10 @@ def laid_out(folder):
     return [(file, text) for file, text in files if file.read_text() != text]
 
 
-def try_folder(folder):
+def try_folder(root, name):
     """How many tests of a folder passed, and how many did not, with each file that is not laid out."""
-    name, ill_laid = folder.name, laid_out(folder)
+    folder = add(root, name)
+    ill_laid = laid_out(folder)
     for file, _ in ill_laid:
         print(f"{file}: not laid out: ci/unproved_tests.py --fmt does it")
     said, verdicts = unproved.try_tests(folder)
@@ -75,9 +72,7 @@ def main():
                     file.write_text(text)
                     print(f"laid out: {file}")
             return 0
-        folders = [add(root, name) for name in names]
-        with futures.ThreadPoolExecutor(AT_ONCE) as pool:
-            passed, failed = map(sum, zip(*pool.map(try_folder, folders)))
+        passed, failed = map(sum, zip(*(try_folder(root, name) for name in names)))
     print(f"{passed} passed, {failed} failed")
     return 1 if failed else 0
 
