@@ -14,6 +14,8 @@ import tempfile
 CRATES = pathlib.Path("crates")
 LISTED = pathlib.Path("crates.txt")
 LEFT_OUT = ("out", "edits", "more-edits", "must-not-compile")
+# How long the tests of a crate may take. They take seconds, and a minute on a busy machine.
+SECONDS = 240
 
 
 def libraries_of(text):
@@ -66,5 +68,5 @@ def add_program(root, name, text, **modules):
 
 def try_tests(folder, *flags):
     """What the toolchain says of a crate's tests, and whether each passed, by its name."""
-    done = subprocess.run(["rt", "try", "--test", *flags], cwd=folder, stdout=subprocess.PIPE, stderr=subprocess.STDOUT, text=True)
+    done = subprocess.run(["rt", "try", "--test", "--seconds", str(SECONDS), *flags], cwd=folder, stdout=subprocess.PIPE, stderr=subprocess.STDOUT, text=True)
     return done.stdout, {name: verdict == "ok" for name, verdict in re.findall(r"^test (\S+) \.\.\. (\S+)$", done.stdout, re.M)}

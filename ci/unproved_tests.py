@@ -9,8 +9,7 @@ made.rattle. They call nothing with a condition (`requires`), so there is nothin
 calls something with one stands in a crate below crates/, and `rt ci` proves it. The files have an ending of their own because
 `rt ci` refuses a .rt file that it does not read.
 
-A file that is not laid out as `rt fmt` does it fails. So does a folder that does not compile. There are 60 seconds for the
-tests of a folder. The last line is 'N passed, M failed'.
+A file that is not laid out as `rt fmt` does it fails. So does a folder that does not compile. The last line is 'N passed, M failed'.
 """
 
 import pathlib
