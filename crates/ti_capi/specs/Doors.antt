@@ -13,6 +13,7 @@ use Rattle.ti_monitor.specs.Doors.{door_with}
 use Rattle.ti_service.specs.Service.{Member, with_handle}
 use Rattle.ti_debugger.specs.Crowds.{NoneHeld}
 use Rattle.ti_debugger.specs.declared.about.About.{About}
+use Rattle.ti_debugger.specs.declared.asked.Asked.TheVariants as asked
 use Rattle.ti_capi.specs.declared.any_door.AnyDoor.{AnyDoor}
 use Rattle.ti_capi.specs.declared.any_door.AnyDoor.TheVariants.{Http, Debugger}
 use Rattle.ti_capi.specs.declared.held.Held.{Held}
@@ -142,7 +143,7 @@ RefusesDebugger name path m n e = (NamesOneWrongly name path e × (n ≡ m)) ⊎
 
 -- the version of this library
 abbrev pub version : List ℕ
-version = codes "1.5.0"
+version = codes "1.6.0"
 
 -- debuggers are told this name, this path and this version
 pub record TellsAbout (name path version : List ℕ) (a : About) : Type 0 where
@@ -152,9 +153,10 @@ pub record TellsAbout (name path version : List ℕ) (a : About) : Type 0 where
   pub base_is : string_bytes a.base ≡ path
   pub path_is : string_bytes a.path ≡ path
 
--- no debugger is connected, none has suspended a thread, and this is what debuggers are told of the program
+-- No debugger is connected, none has suspended a thread, and this is what debuggers are told of the program. The runtime tells no
+-- variables, no question is open, and no text or table is kept
 abbrev pub Awaits : List ℕ → List ℕ → Option AnyDoor → Type 0
-Awaits name path (Some (Debugger d)) = (d.session ≡ None) × NoneHeld d.watched × TellsAbout name path version d.about
+Awaits name path (Some (Debugger d)) = (d.session ≡ None) × NoneHeld d.watched × TellsAbout name path version d.about × (d.tells ≡ false) × (d.asked ≡ asked.Nothing) × (d.objects ≡ [])
 Awaits name path (Some (Http d)) = ⊥
 Awaits name path None = ⊥
 

@@ -1,6 +1,7 @@
 -- Questions of a door for debuggers, and their answers, as C uses them.
-use Rattle.std.specs.Prelude.{ℕ, ◌≡◌, ◌==◌, ⊤, length, true, false, Bool, List, [], ◌∷◌, Option, None, Some, Result, Ok, Err, if◌then◌else◌}
+use Rattle.std.specs.Prelude.{ℕ, ◌≡◌, ◌==◌, ⊤, length, true, false, Bool, All, List, [], ◌∷◌, Option, None, Some, Result, Ok, Err, if◌then◌else◌}
 use Rattle.std.specs.Int.{w64, cast_signed}
+use Rattle.std.specs.List.{AllZip}
 use Rattle.ti_jdwp.specs.declared.error.JdwpError.{JdwpError}
 use Rattle.ti_jdwp.specs.declared.error.JdwpError.TheVariants as wire
 use Rattle.ti_debugger.specs.Questions.{question_in, read_answer}
@@ -39,14 +40,20 @@ content_of v =
     else (if v.kind == 6 then Ok (content.Entry v.bits)
     else Err error.IllegalArgument))))))
 
--- each value is one, with its slot
-unfoldable pub AreTold : List CqValue → List Told → Type 0
-AreTold [] told = told ≡ []
-AreTold (v ∷ vs) [] = ⊥
-AreTold (v ∷ vs) (t ∷ told) = (t.slot ≡ v.slot) × (content_of v ≡ Ok t.content) × AreTold vs told
+-- a value with its slot
+abbrev pub IsTold : CqValue → Told → Type 0
+IsTold v t = (t.slot ≡ v.slot) × (content_of v ≡ Ok t.content)
+
+-- there is such a kind, and a boolean is 0 or 1
+abbrev pub HasContent : CqValue → Type 0
+HasContent v = (c : Content) × (content_of v ≡ Ok c)
+
+-- each of them, in this order
+abbrev pub AreTold : List CqValue → List Told → Type 0
+AreTold values told = AllZip IsTold values told
 
 abbrev pub HaveTold : List CqValue → Type 0
-HaveTold values = (told : List Told) × AreTold values told
+HaveTold values = All HasContent values
 
 abbrev pub untold : ℕ → JdwpError
 untold code = if code == 13 then wire.ThreadNotSuspended else (if code == 110 then wire.OutOfMemory else wire.AbsentInformation)

@@ -59,7 +59,8 @@ fn question_out(question: Option<Question>) -> CqQuestion
 
 /// What a value of C's has. 103 if there is no such kind, or a boolean is neither 0 nor 1.
 fn content_of(value: CqValue) -> Result<Content, TellError>
-    ensures { result ≡ content_of value }
+    ensures told { result ≡ content_of value }
+    ensures refused { IfErr result (λ e. e ≡ IllegalArgument) }
 {
     match value.kind {
         0 => Ok(Content::Nil),
@@ -77,19 +78,25 @@ fn content_of(value: CqValue) -> Result<Content, TellError>
     }
 }
 
+/// A value with its slot. 103 if it is none.
+fn told_of(value: CqValue) -> Result<Told, TellError>
+    ensures told { IfOk result (IsTold value) }
+    ensures refused { IfErr result (λ e. (e ≡ IllegalArgument) × (HasContent value → ⊥)) }
+{
+    Ok(Told {
+        slot: value.slot,
+        content: content_of(value)?,
+    })
+}
+
 /// The values that C gives. 103 if one is none, 110 if there is no memory.
 fn values_of(alloc: Global, values: &[CqValue]) -> Result<Vec<Told>, TellError>
     ensures same { IfOk result (λ v. AreTold values.now v.items) }
     ensures refused { IfErr result (λ e. (e ≡ OutOfMemory) ⊎ ((e ≡ IllegalArgument) × (HaveTold values.now → ⊥))) }
 {
-    let mut told = Vec::new(alloc);
+    let mut told = Vec::with_capacity(alloc, values.len())?;
     for i in 0..values.len() {
-        let one = Told {
-            slot: values[i].slot,
-            content: content_of(values[i])?,
-        };
-        told.reserve(1)?;
-        told.push_reserved(one);
+        told.push_reserved(told_of(values[i])?);
     }
     Ok(told)
 }
@@ -117,6 +124,13 @@ fn told_code(told: Result<(), TellError>) -> u32
     }
 }
 
+/// Whether this is a question for values.
+fn asks_values(question: Option<Question>) -> bool
+    ensures { result ≡ asks_values question }
+{
+    matches!(question, Some(Question::Values { .. }))
+}
+
 /// Answers a question for values by what C gives. If no such question is open, what C gives is not looked at.
 fn tell_values(
     alloc: Global,
@@ -126,7 +140,7 @@ fn tell_values(
 ) -> Result<(), TellError>
     ensures { TellsValues values.now texts.now door.old door.new result }
 {
-    if !matches!(door.question(), Some(Question::Values { .. })) {
+    if !asks_values(door.question()) {
         return Err(TellError::NotAsked);
     }
     let told = values_of(alloc, values)?;
@@ -216,5 +230,6 @@ pub extern "C" fn cq_door_tell_none(door: &mut CqDoor, code: u32) -> u32
 
 ghost use Rattle.std.specs.Prelude.{◌≡◌, ◌⊎◌, ⊤, IfErr, IfOk};
 ghost use Rattle.ti_capi.specs.Doors.{CallsDoor};
-ghost use Rattle.ti_capi.specs.Questions.{Answers, AreTold, GivesQuestion, HaveTold, SaysTells, TellsNone, TellsValues, TellsVariables, content_of, question_out, told_code, untold};
+ghost use Rattle.ti_capi.specs.Questions.{Answers, AreTold, GivesQuestion, HasContent, HaveTold, IsTold, SaysTells, TellsNone, TellsValues, TellsVariables, content_of, question_out, told_code, untold};
+ghost use Rattle.ti_debugger.specs.VariableReplies.{asks_values};
 ghost use Rattle.ti_debugger.specs.declared.question.TellError.TheVariants.{IllegalArgument, OutOfMemory};
