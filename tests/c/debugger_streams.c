@@ -102,8 +102,9 @@ static void add_part(char part) {
  * Packets.
  */
 
+/* Adds random bytes, as far as there is room. */
 static void add_random(uint32_t count) {
-    for (; count > 0; count--) {
+    for (; count > 0 && made.length < LONGEST_PACKET; count--) {
         add_number(&made, below(256), 1);
     }
 }

@@ -5,7 +5,7 @@ static cq_env guest;
 
 static uint32_t state_of(cq_env *by) {
     uint32_t state = 0;
-    OK(cq_wait_get_thread_state(by, &signal_of_all, 0, 0, &state));
+    OK(cq_wait_get_thread_state(by, &signal_of_all, 0, LONG, &state));
     return state;
 }
 
