@@ -88,7 +88,7 @@ extern "C" {
 
 /* The version of this header. */
 #define CQ_VERSION_MAJOR 1
-#define CQ_VERSION_MINOR 5
+#define CQ_VERSION_MINOR 6
 #define CQ_VERSION_PATCH 0
 
 /* The version of the library that the program runs with, as major * 1,000,000 + minor * 1,000 + patch. */
@@ -686,15 +686,19 @@ uint32_t cq_set_event_notification_mode(cq_env *env, bool enabled) CQ_MUST_USE;
  *   CQ_BUSY 215  the list of threads is in use */
 uint32_t cq_next_event(cq_env *env, cq_event *event) CQ_MUST_USE;
 
-/* DisposeEnvironment. Calls that wait are cancelled, the environment's words are 0 again, another may be attached, and its handle is
- * empty. What its traces have gathered is gone. A thread that it suspended stays suspended, and a cancelled suspension or pop
- * may still take place.
+/* DisposeEnvironment. The environment's words are 0 again, another may be attached, and its handle is empty. What its traces have
+ * gathered is gone. A thread that it suspended stays suspended. No thread is suspended and no frame is popped by it any more:
+ * while it has can_suspend or can_pop_frame, it is not disposed of before all its calls have taken place. The calls of any other
+ * environment only read: those that are out are cancelled.
  *
- * With one of these codes the environment may have left some of its threads. It can only be disposed of then: call again.
+ * With one of these codes the environment stays. With CQ_BUSY because of a call that is out, nothing has changed but that its calls
+ * are cancelled: take a suspension back by cq_ensure_resumed, or call again once the thread has handed over or ended. In the
+ * other cases it may have left some of its threads, and can only be disposed of: call again.
  *
- *   CQ_OUT_OF_MEMORY 110  there is no memory to give a call up
+ *   CQ_OUT_OF_MEMORY 110  there is no memory to cancel a call
  *   CQ_FULL 216           threads and environments have come and gone 2^62 - 1 times
- *   CQ_BUSY 215           a thread or the list of threads is in use */
+ *   CQ_BUSY 215           the environment has one of these capabilities, and a call of it is out at a thread that runs and has
+ *                         not handed over since; or a thread or the list of threads is in use */
 uint32_t cq_dispose_environment(cq_env *env) CQ_MUST_USE;
 
 /* ------------------------------------------------------------------------------------------------------------------

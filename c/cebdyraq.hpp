@@ -16,6 +16,7 @@
 #include <cstddef>
 #include <cstdint>
 #include <memory>
+#include <new>
 #include <stdexcept>
 #include <string>
 #include <string_view>
@@ -552,11 +553,78 @@ private:
     }
 };
 
+/* An answer about variables that is put together (cq_teller). A function is false if there is no room: then this is left out. */
+class teller {
+public:
+    explicit teller(cq_teller *at) noexcept : at_(at) {}
+
+    /* For variables::of_method. */
+    bool variable(std::string_view name, std::uint32_t slot, std::uint32_t first, std::uint32_t count) {
+        return has_room(cq_tell_variable(at_, bytes(name), name.size(), slot, first, count));
+    }
+
+    /* For variables::of_frame. Entries are those of the table that was told last. */
+    bool nil(std::uint32_t slot) { return has_room(cq_tell_nil(at_, slot)); }
+    bool boolean(std::uint32_t slot, bool value) { return has_room(cq_tell_boolean(at_, slot, value)); }
+    bool integer(std::uint32_t slot, std::int64_t value) { return has_room(cq_tell_integer(at_, slot, value)); }
+    bool number(std::uint32_t slot, double value) { return has_room(cq_tell_number(at_, slot, value)); }
+    bool text(std::uint32_t slot, std::string_view value) { return has_room(cq_tell_text(at_, slot, bytes(value), value.size())); }
+    bool table(std::uint32_t slot) { return has_room(cq_tell_table(at_, slot)); }
+    bool entry(std::string_view value) { return has_room(cq_tell_entry(at_, bytes(value), value.size())); }
+
+private:
+    static const std::uint8_t *bytes(std::string_view text) noexcept { return reinterpret_cast<const std::uint8_t *>(text.data()); }
+    static bool has_room(std::uint32_t got) {
+        if (got != CQ_FULL) check(got);
+        return got == CQ_OK;
+    }
+
+    cq_teller *at_;
+};
+
+/* The variables of a runtime (cq_variables). The functions are called on the server's thread, while it serves. If one throws an `error`,
+ * its code is returned; any other exception is told as out_of_memory or absent_information. */
+class variables {
+public:
+    virtual ~variables() = default;
+    virtual void of_method(std::uint32_t method, teller &to) = 0;
+    virtual void of_frame(std::uint32_t thread, std::uint32_t depth, teller &to) = 0;
+
+    /* They live at least as long as what uses the functions. */
+    cq_variables functions() noexcept { return {this, call_of_method, call_of_frame}; }
+
+private:
+    template <class Tell>
+    static std::uint32_t code_of(cq_teller *at, Tell tell) noexcept {
+        try {
+            teller to(at);
+            tell(to);
+            return CQ_OK;
+        } catch (const error &refused) {
+            return std::uint32_t(refused.why());
+        } catch (const std::bad_alloc &) {
+            return CQ_OUT_OF_MEMORY;
+        } catch (...) {
+            return CQ_ABSENT_INFORMATION;
+        }
+    }
+    static std::uint32_t call_of_method(void *self, std::uint32_t method, cq_teller *at) noexcept {
+        return code_of(at, [&](teller &to) { static_cast<variables *>(self)->of_method(method, to); });
+    }
+    static std::uint32_t call_of_frame(void *self, std::uint32_t thread, std::uint32_t depth, cq_teller *at) noexcept {
+        return code_of(at, [&](teller &to) { static_cast<variables *>(self)->of_frame(thread, depth, to); });
+    }
+};
+
 /* What serves a service over HTTP, or listens for debuggers, until it is destroyed. */
 class server : public holder<cq_server> {
 public:
     server(server &&) noexcept = default;
-    server &operator=(server &&) noexcept = default;
+    server &operator=(server &&other) noexcept {
+        holder::operator=(std::move(other));
+        std::swap(variables_, other.variables_);
+        return *this;
+    }
     ~server() {
         if (get() != nullptr) cq_serve_end(get());
     }
@@ -571,6 +639,7 @@ public:
 private:
     friend class service;
     using holder::holder;
+    std::shared_ptr<variables> variables_;  /* which it tells, if there are some */
 };
 
 /* A handle of a service. The service lives as long as one of its handles, threads or environments. */
@@ -618,9 +687,16 @@ public:
         });
     }
 
-    /* Listens for debuggers at an address, as cq_debug_listen does. It throws as `serve` does. */
-    server debug_listen(const std::string &address, const std::string &program, const std::string &path) {
+    /* Listens for debuggers at an address, as cq_debug_listen does, and tells them variables, if there are some. It throws as `serve`
+     * does. */
+    server debug_listen(const std::string &address, const std::string &program, const std::string &path,
+                        std::shared_ptr<variables> told = nullptr) {
         return served(address, [&](server &made) {
+            made.variables_ = std::move(told);
+            if (made.variables_) {
+                cq_variables functions = made.variables_->functions();
+                check(cq_server_variables(made.get(), &functions));
+            }
             return cq_debug_listen(made.get(), get(), signal(), address.c_str(), program.c_str(), path.c_str());
         });
     }

@@ -36,6 +36,7 @@ typedef struct __attribute__((may_alias)) {
     uint64_t rooms[CQ_DOOR_CONNECTIONS];
     uint64_t resumptions;                        /* by the door, for which threads were woken */
     uint64_t greets_by;                          /* when a debugger has to have greeted, or NEVER */
+    cq_variables variables;                      /* by which a debugger's questions are answered, or zeros */
     bool is_for_debuggers;
     bool runs;
 } server;
@@ -126,7 +127,7 @@ static bool write_some(server *s, uint32_t connection) {
     return true;
 }
 
-/* Does what the door wants of a connection, as far as the socket lets it. Returns whether it has written or left. */
+/* Does what the door wants of a connection, as far as the socket lets it. Returns whether it has written, answered or left. */
 static bool go_on(server *s, uint32_t connection) {
     bool moved = false;
     while (s->sockets[connection] >= 0) {
@@ -138,7 +139,9 @@ static bool go_on(server *s, uint32_t connection) {
             leave(s, connection, now_ns());
             return true;
         }
-        if (*action != CQ_DOOR_WRITE || !write_some(s, connection)) {
+        bool is_done = *action == CQ_DOOR_ASK ? cq_door_answer(&s->door, &s->variables) == CQ_OK
+                                              : *action == CQ_DOOR_WRITE && write_some(s, connection);
+        if (!is_done) {
             break;
         }
         moved = true;
@@ -354,6 +357,7 @@ static uint32_t open_door(server *s, cq_service *service, const opening *of) {
         nap();
     }
     wake_all(s);
+    cq_door_tells_variables(&s->door, s->variables.of_method != NULL);
     return code;
 }
 
@@ -405,12 +409,16 @@ static uint32_t start_at(server *s, cq_service *service, const char *address, co
     return code;
 }
 
+static bool serves(const server *s) {
+    return s->runs || s->door.kind != 0;
+}
+
 static uint32_t begin(cq_server *in, cq_service *service, cq_signal *signal, const char *address, const opening *of) {
     server *s = (server *)in;
-    if (s->runs || s->door.kind != 0) {
+    if (serves(s)) {
         return CQ_MISUSED;
     }
-    *s = (server){ .signal = signal, .ending = -1, .greets_by = NEVER, .is_for_debuggers = of->is_for_debuggers };
+    *s = (server){ .signal = signal, .ending = -1, .greets_by = NEVER, .variables = s->variables, .is_for_debuggers = of->is_for_debuggers };
     for (size_t i = 0; i < CQ_DOOR_CONNECTIONS; i++) {
         s->sockets[i] = s->leaving[i] = -1;
     }
@@ -430,6 +438,15 @@ uint32_t cq_debug_listen(cq_server *in, cq_service *service, cq_signal *signal, 
                          const char *path) {
     opening of = { .is_for_debuggers = true, .program = program, .path = path };
     return begin(in, service, signal, address, &of);
+}
+
+uint32_t cq_server_variables(cq_server *in, const cq_variables *variables) {
+    server *s = (server *)in;
+    if (serves(s)) {
+        return CQ_MISUSED;
+    }
+    s->variables = *variables;
+    return CQ_OK;
 }
 
 uint32_t cq_server_port(const cq_server *in, uint16_t *port) {

@@ -34,10 +34,10 @@
  *
  * It speaks the Java Debug Wire Protocol of Java 8, as jdb and the Java debuggers of editors do. It reads threads, stacks, classes,
  * methods and lines, is told of threads that start and end and of classes that come, and suspends and resumes threads. It sets
- * breakpoints and steps, where the runtime says what its threads reach (cq_reached). Variables are refused (99). Its suspensions of a
- * thread nest. When it goes, the threads that it has suspended or stopped go on, and those that another environment has suspended
- * stay so. README.md of crates/ti_jdwp and crates/ti_debugger have all
- * requests and errors.
+ * breakpoints and steps, where the runtime says what its threads reach (cq_reached). It reads variables of suspended threads, where the
+ * runtime tells them (cq_server_variables). Its suspensions of a thread nest. When it goes, the threads that it has suspended or stopped
+ * go on, and those that another environment has suspended stay so. README.md of crates/ti_jdwp and crates/ti_debugger have all requests
+ * and errors.
  *
  * WHO MAY DEBUG
  *
@@ -75,7 +75,8 @@ enum { CQ_DOOR_CONNECTIONS = 16 };
 enum {
     CQ_DOOR_WAIT = 0,   /* nothing, until the socket gives more, or the next tick */
     CQ_DOOR_WRITE = 1,  /* write what cq_door_output gives, and tell how much it took by cq_door_written */
-    CQ_DOOR_CLOSE = 2   /* close it, and tell that by cq_door_disconnect */
+    CQ_DOOR_CLOSE = 2,  /* close it, and tell that by cq_door_disconnect */
+    CQ_DOOR_ASK = 3     /* answer the question that cq_door_question gives */
 };
 
 /* Opens a door for HTTP: attaches an environment of its own to the service. `program` is what a profile calls the program, in
@@ -129,6 +130,139 @@ uint32_t cq_door_disconnect(cq_door *door, uint32_t connection);
  * and breakpoints that are not wanted any more. Writes to `deadline` when it is to be called next. Call cq_door_next after it. */
 uint32_t cq_door_tick(cq_door *door, uint64_t now, uint64_t *deadline) CQ_MUST_USE;
 
+/* What a debugger asks. The library knows no variables: at a door for debuggers the runtime tells them, if it has said so by
+ * cq_door_tells_variables. When a debugger wants some, cq_door_next writes CQ_DOOR_ASK, and cq_door_question says which. The runtime
+ * answers by one of cq_door_tell_variables, cq_door_tell_values and cq_door_tell_none, and calls cq_door_next again. cq_door_answer does
+ * that by functions. Until then the debugger's other requests wait. At most one question is open. It closes with its answer, and when
+ * the connection ends.
+ *
+ * The thread that is asked about was suspended, and had the frame, when the question was opened. The debugger resumes it only after the
+ * answer, but another environment may resume it before. So the runtime sees to it that the frames stay as they are while it reads them
+ * (cq_variables), or answers by 13. */
+enum {
+    CQ_QUESTION_NONE = 0,      /* nothing */
+    CQ_QUESTION_VARIABLES = 1, /* the names and the scopes of all variables of `method` */
+    CQ_QUESTION_VALUES = 2     /* the values of all variables of the frame at `depth` of `thread`; 0 is the newest frame */
+};
+
+/* A question. What it does not ask about is 0. */
+typedef struct {
+    uint32_t kind;
+    uint32_t method;
+    uint32_t thread;
+    uint32_t depth;
+} cq_question;
+
+/* A variable of a method. It is visible at the locations from `first` to `first` + `count` - 1. */
+typedef struct {
+    uint32_t slot;
+    uint32_t first;
+    uint32_t count;
+    uint32_t name_length;  /* of its name, in bytes */
+} cq_variable;
+
+/* What a value is, and what its bits are. */
+enum {
+    CQ_VALUE_NIL = 0,      /* 0 */
+    CQ_VALUE_BOOLEAN = 1,  /* 0 or 1 */
+    CQ_VALUE_INTEGER = 2,  /* 64 bits, in two's complement */
+    CQ_VALUE_NUMBER = 3,   /* 64 bits of an IEEE 754 double */
+    CQ_VALUE_TEXT = 4,     /* the length of the text in bytes */
+    CQ_VALUE_TABLE = 5,    /* how many entries come right behind it */
+    CQ_VALUE_ENTRY = 6     /* the length of the entry in bytes, such as that of "key = value" */
+};
+
+/* A value, or an entry of the table before it. The slot of an entry is not read. */
+typedef struct {
+    uint32_t slot;
+    uint32_t kind;
+    uint64_t bits;
+} cq_value;
+
+/* Says whether the runtime tells variables: at first it does not. It counts for the requests that come from then on; a question
+ * that is open stays open. Nothing happens at a door for HTTP. */
+uint32_t cq_door_tells_variables(cq_door *door, bool tells);
+
+/* Writes the open question to `question`, one of kind CQ_QUESTION_NONE if there is none, as always at a door for HTTP. */
+uint32_t cq_door_question(cq_door *door, cq_question *question) CQ_MUST_USE;
+
+/* Answers a question of kind CQ_QUESTION_VARIABLES. The names stand one behind the other in `names`, in UTF-8.
+ *
+ *   CQ_NONE 303              no such question is open; nothing changes
+ *   CQ_ILLEGAL_ARGUMENT 103  the lengths do not add up to `length`, or a name is not UTF-8; the question stays open
+ *   CQ_OUT_OF_MEMORY 110     there is no memory; the question stays open */
+uint32_t cq_door_tell_variables(cq_door *door, const cq_variable *variables, size_t count, const uint8_t *names,
+                                size_t length) CQ_MUST_USE;
+
+/* Answers a question of kind CQ_QUESTION_VALUES. Texts and entries stand one behind the other in `texts`, in UTF-8 or not: a debugger
+ * shows bytes that are not as it likes. A debugger may ask about texts and tables again until it goes, so they are kept: at most
+ * 65,536, of 16 MiB. Of two values of one slot the first counts.
+ *
+ *   CQ_NONE 303              no such question is open; nothing changes
+ *   CQ_ILLEGAL_ARGUMENT 103  there is no such kind; a boolean's bits are neither 0 nor 1; an entry does not stand behind its table, or
+ *                            a table has fewer entries; or the lengths do not add up to `length`. The question stays open
+ *   CQ_OUT_OF_MEMORY 110     there is no memory, or no room for what is kept; the question stays open */
+uint32_t cq_door_tell_values(cq_door *door, const cq_value *values, size_t count, const uint8_t *texts,
+                             size_t length) CQ_MUST_USE;
+
+/* Answers a question by an error. The debugger is told 13 (the thread is not suspended) and 110 (there is no memory) as they are, and
+ * 101 (there is no such information) for each other `code`. CQ_NONE 303: no question is open, and nothing changes. */
+uint32_t cq_door_tell_none(cq_door *door, uint32_t code) CQ_MUST_USE;
+
+/* An answer that is put together. It is there for one call of a function of cq_variables. */
+typedef struct cq_teller cq_teller;
+
+/* Two functions of the runtime by which cq_door_answer answers a question. Both get `context`. They tell by cq_tell_.. below, and run on
+ * the thread that answers.
+ *
+ * `of_method` tells the variables of a method. `of_frame` tells the values of those that have one in the frame at `depth` of a thread,
+ * by their slots. 0 is the newest of the frames that the thread has given.
+ *
+ * While `of_frame` reads a frame it has to stay as it is, and another environment may resume the thread at any time. So each thread
+ * holds a lock of its own while it runs. It gives the lock up around cq_wait_poll and cq_wait_stop, and after cq_wait_block until
+ * cq_wait_back has returned, if it leaves its frames alone there. `of_frame` tries to take the lock, and returns 13 if it cannot. It
+ * does not wait for the thread.
+ *
+ * What they return:
+ *
+ *   CQ_OK 0                     what was told is the answer
+ *   CQ_THREAD_NOT_SUSPENDED 13  the thread does not stand still
+ *   CQ_OUT_OF_MEMORY 110        there is no memory
+ *   another code                the runtime knows of no variables there. The debugger is told 101 */
+typedef struct {
+    void *context;
+    uint32_t (*of_method)(void *context, uint32_t method, cq_teller *teller);
+    uint32_t (*of_frame)(void *context, uint32_t thread, uint32_t depth, cq_teller *teller);
+} cq_variables;
+
+/* Answers the open question by the runtime's functions, or by 110 if there is no memory. CQ_NONE 303: no question is open, and no
+ * function is called. */
+uint32_t cq_door_answer(cq_door *door, const cq_variables *variables) CQ_MUST_USE;
+
+/* Tells a variable of a method, which is visible at the locations from `first` to `first` + `count` - 1. If a name is not UTF-8, the
+ * debugger is told 101.
+ *
+ * An answer has at most 4,096 variables, or values and entries, and 1 MiB of names or texts. A name or a text that has not enough room
+ * left is cut. It ends with "..." then, as far as there is room for that.
+ *
+ *   CQ_FULL 216     there are 4,096 already: this one is left out
+ *   CQ_MISUSED 304  it is values that are asked for; nothing changes */
+uint32_t cq_tell_variable(cq_teller *teller, const uint8_t *name, size_t length, uint32_t slot, uint32_t first, uint32_t count);
+
+/* These tell the value of a variable. CQ_FULL 216: likewise. CQ_MISUSED 304: it is variables that are asked for; nothing changes. */
+uint32_t cq_tell_nil(cq_teller *teller, uint32_t slot);
+uint32_t cq_tell_boolean(cq_teller *teller, uint32_t slot, bool value);
+uint32_t cq_tell_integer(cq_teller *teller, uint32_t slot, int64_t value);
+uint32_t cq_tell_number(cq_teller *teller, uint32_t slot, double value);
+uint32_t cq_tell_text(cq_teller *teller, uint32_t slot, const uint8_t *text, size_t length);
+
+/* Tells a table that has no entries yet, with the same codes. */
+uint32_t cq_tell_table(cq_teller *teller, uint32_t slot);
+
+/* Tells an entry of the table, such as "key = value". CQ_FULL 216: likewise. CQ_MISUSED 304: what was told last is neither a table nor an
+ * entry; nothing changes. */
+uint32_t cq_tell_entry(cq_teller *teller, const uint8_t *text, size_t length);
+
 /* Writes to `count` how many times the door has resumed a thread or let one go on that had stopped, 0 at a door for HTTP. A program whose threads sleep by
  * cebdyraq_wait.h calls cq_wake when it has grown, after cq_door_next, cq_door_disconnect and cq_door_tick. */
 uint32_t cq_door_resumptions(cq_door *door, uint64_t *count) CQ_MUST_USE;
@@ -163,6 +297,11 @@ uint32_t cq_serve(cq_server *server, cq_service *service, cq_signal *signal, con
  * is also for a `path` that is not UTF-8. */
 uint32_t cq_debug_listen(cq_server *server, cq_service *service, cq_signal *signal, const char *address, const char *program,
                          const char *path) CQ_MUST_USE;
+
+/* Gives a server that does not serve yet the runtime's functions that tell variables. They are called on the server's thread, between
+ * cq_debug_listen and cq_serve_end, whenever it listens from then on. Without them a debugger that asks for variables is told 101.
+ * CQ_MISUSED 304: it serves; nothing changes. */
+uint32_t cq_server_variables(cq_server *server, const cq_variables *variables) CQ_MUST_USE;
 
 /* Writes the port at which it listens to `port`, also where port 0 was asked for. 0 at a Unix socket. CQ_MISUSED 304: it does not
  * serve. */

@@ -373,7 +373,11 @@ uint32_t cq_wait_set_event_notification_mode(cq_env *env, cq_signal *signal, boo
 }
 
 uint32_t cq_wait_dispose_environment(cq_env *env, cq_signal *signal) {
-    waiter w = begin(signal, FOREVER, CQ_BUSY);
+    return cq_wait_dispose_environment_within(env, signal, FOREVER);
+}
+
+uint32_t cq_wait_dispose_environment_within(cq_env *env, cq_signal *signal, int64_t timeout_ns) {
+    waiter w = begin(signal, timeout_ns, CQ_BUSY);
     while (again(&w)) w.code = cq_dispose_environment(env);
     if (w.code == CQ_OK) wake(&signal->threads, FUTEX_BITSET_MATCH_ANY);
     return came_or_went(&w);

@@ -102,7 +102,8 @@ uint32_t cq_wait_end(cq_thread *thread, cq_signal *signal);
 uint32_t cq_wait_detach_thread(cq_thread *thread, cq_signal *signal) CQ_MUST_USE;
 
 /* ------------------------------------------------------------------------------------------------------------------
- * An agent's environment. These wait only while the list of threads or a thread is in use, but for cq_wait_next_event.
+ * An agent's environment. These wait only while the list of threads or a thread is in use, but for cq_wait_next_event,
+ * cq_wait_ensure_resumed and the two that dispose of it.
  */
 
 /* cq_meet. CQ_ILLEGAL_ARGUMENT 103, CQ_OUT_OF_MEMORY 110, CQ_FULL 216. */
@@ -133,8 +134,13 @@ uint32_t cq_wait_ensure_resumed(cq_env *env, cq_signal *signal, uint32_t thread,
 /* cq_set_event_notification_mode. */
 uint32_t cq_wait_set_event_notification_mode(cq_env *env, cq_signal *signal, bool enabled) CQ_MUST_USE;
 
-/* cq_dispose_environment. CQ_OUT_OF_MEMORY 110, CQ_FULL 216. */
+/* cq_dispose_environment. An environment that has can_suspend or can_pop_frame waits for each thread at which a call of it is out, until
+ * the thread hands over or ends. One that runs and does neither keeps it for ever. CQ_OUT_OF_MEMORY 110, CQ_FULL 216. */
 uint32_t cq_wait_dispose_environment(cq_env *env, cq_signal *signal) CQ_MUST_USE;
+
+/* The same, for at most this time. After CQ_TIMED_OUT 214 the environment stays, as after CQ_BUSY of cq_dispose_environment.
+ * CQ_OUT_OF_MEMORY 110, CQ_FULL 216. */
+uint32_t cq_wait_dispose_environment_within(cq_env *env, cq_signal *signal, int64_t timeout_ns) CQ_MUST_USE;
 
 /* cq_next_event. It sleeps until there is an event, and for ever if events are disabled. CQ_TIMED_OUT 214. */
 uint32_t cq_wait_next_event(cq_env *env, cq_signal *signal, int64_t timeout_ns, cq_event *event) CQ_MUST_USE;

@@ -14,6 +14,7 @@ import os
 import pathlib
 import shlex
 import socket
+import struct
 import subprocess
 import sys
 import tempfile
@@ -39,6 +40,35 @@ def build(library, include, folder):
     subprocess.run([*shlex.split(os.environ.get("CC", "cc")), "-shared", "-fPIC", "-O2", "-std=c11", f"-I{include}", "-o", str(made),
                     str(HERE / "runtime.c"), *linked, "-lpthread"], check=True)
     return made
+
+
+class Told:
+    """Variables of method 1 and of all frames. Method 0 has none by a mistake."""
+
+    def __init__(self):
+        self.stands, self.frames = False, set()
+
+    def of_method(self, method):
+        if method != 1:
+            raise Error(Code.NOT_AVAILABLE)
+        return [cebdyraq.Variable(3, "n\u00e4me", 8, 2), cebdyraq.Variable(0, "m", 9, 1)]
+
+    def of_frame(self, thread, depth):
+        self.frames.add((thread, depth))
+        if not self.stands:
+            raise Error(Code.THREAD_NOT_SUSPENDED)
+        return {0: None, 1: True, 2: -2, 3: 1.5, 4: 2**64, 5: [], 6: ["k = 1", b"l = 2"]}
+
+
+def text(words):
+    return struct.pack(">i", len(words.encode())) + words.encode()
+
+
+def ask(debugger, command_set, command, data):
+    """The error and the data of a debugger's reply."""
+    debugger.sendall(struct.pack(">IIBBB", 11 + len(data), 7, 0, command_set, command) + data)
+    length, _, _, error = struct.unpack(">IIBH", debugger.recv(11, socket.MSG_WAITALL))
+    return error, debugger.recv(length - 11, socket.MSG_WAITALL) if length > 11 else b""
 
 
 class WithRuntime(unittest.TestCase):
@@ -289,6 +319,35 @@ class WithRuntime(unittest.TestCase):
         self.assertEqual(debugger.recv(1), b"")
         debugger.close()
         self.assert_code(Code.ILLEGAL_ARGUMENT, cebdyraq.Server, self.library, service, signal, "0.0.0.0:0", "a test", "/src")
+
+    def test_variables_that_debuggers_are_told(self):
+        self.library.runtime_go_native()
+        service, signal = self.library.runtime_service(), self.library.runtime_signal()
+        told = Told()
+        with cebdyraq.Server(self.library, service, signal, "127.0.0.1:0", "a test", "/src", told) as server, \
+                socket.create_connection(("127.0.0.1", server.port), timeout=10) as debugger:
+            debugger.sendall(b"JDWP-Handshake")
+            self.assertEqual(debugger.recv(14, socket.MSG_WAITALL), b"JDWP-Handshake")
+            class_, thread, frame = 4 << 32, 1, 1
+            error, data = ask(debugger, 6, 5, struct.pack(">QQ", class_, 6 << 32 | 1))
+            rows = [(3, "n\u00e4me", 8, 2), (0, "m", 9, 1)]
+            wanted = b"".join(struct.pack(">Q", first) + text(name) + text("Ljava/lang/Object;") + text("") +
+                              struct.pack(">ii", count, slot) for slot, name, first, count in rows)
+            self.assertEqual((error, data), (0, struct.pack(">ii", 0, len(rows)) + wanted))
+            self.assertEqual(ask(debugger, 6, 5, struct.pack(">QQ", class_, 6 << 32)), (101, b""))
+            self.assertEqual(ask(debugger, 11, 2, struct.pack(">Q", thread)), (0, b""))
+            slots = struct.pack(">QQi", thread, frame, 5) + b"".join(struct.pack(">iB", slot, ord("L")) for slot in range(5))
+            self.assertEqual(ask(debugger, 16, 1, slots), (13, b""))
+            told.stands = True
+            wanted = struct.pack(">icQcBcqcd", 5, b"L", 0, b"Z", 1, b"J", -2, b"D", 1.5)
+            error, data = ask(debugger, 16, 1, slots)
+            self.assertEqual((error, data[:-9], data[-9:-8]), (0, wanted, b"s"))
+            self.assertEqual(ask(debugger, 10, 1, data[-8:]), (0, text("18446744073709551616")))
+            for slot, entries in (5, []), (6, ["k = 1", "l = 2"]):
+                error, data = ask(debugger, 16, 1, struct.pack(">QQiiB", thread, frame, 1, slot, ord("[")))
+                self.assertEqual((error, data[:5]), (0, b"\0\0\0\1["))
+                self.assertEqual(ask(debugger, 13, 1, data[5:]), (0, struct.pack(">i", len(entries))))
+            self.assertEqual(told.frames, {(0, 1)})
 
     def end_and_begin(self):
         """The environment keeps the first service alive. The runtime begins again with another."""

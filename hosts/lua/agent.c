@@ -91,7 +91,7 @@ bool agent_look(struct agent *agent, uint32_t thread, struct look *look) {
 }
 
 void agent_close(struct agent *agent) {
-    (void)!cq_wait_dispose_environment(&agent->env, &agent->host->signal);
+    (void)!cq_wait_dispose_environment_within(&agent->env, &agent->host->signal, PATIENCE_NS);
     free(agent->threads);
     free(agent->there);
 }

@@ -57,6 +57,9 @@ bool give_stack(struct script *script, lua_State *L, int level, bool hooked) {
         *--frames = (cq_frame){ METHOD_LATE, -1 };
         count++;
     }
+    script->given = frames;
+    script->given_count = count;
+    script->given_level = level;
     if (complain(script, "the stack", give_newest(script, frames, count)))
         end_inspection(script);
     return script->inspected;

@@ -14,13 +14,32 @@
 #include "links.h"
 #include "nudge.h"
 #include "stops.h"
+#include "variables.h"
 
 /* ------------------------------------------------------------------------------------------------------------------
  * Safepoints.
  */
 
+void script_stand(struct script *script) {
+    if (!script->stands)
+        pthread_mutex_unlock(&script->lock);
+    script->stands = true;
+}
+
+void script_go_on(struct script *script) {
+    pthread_mutex_lock(&script->lock);
+    script->stands = false;
+}
+
 struct script *script_of(lua_State *L) {
     return *(struct script **)lua_getextraspace(L);
+}
+
+static void poll(struct script *script) {
+    script_stand(script);
+    uint32_t code = cq_wait_poll(&script->thread, &script->host->signal);
+    script_go_on(script);
+    complain(script, "a poll", code);
 }
 
 /* The hook: that of the polls, of a nudge, or of a line. The Lua stack is read only when an agent calls for the thread. A
@@ -34,7 +53,7 @@ void script_hook(lua_State *L, lua_Debug *ar) {
     if (!script->inspected || cq_poll_clear(&script->thread))
         nudge_take(script, hooked);
     else if (give_stack(script, L, ar->event == LUA_HOOKCALL, hooked))
-        complain(script, "a poll", cq_wait_poll(&script->thread, &script->host->signal));
+        poll(script);
 }
 
 bool script_native(struct script *script, lua_State *L) {
@@ -48,11 +67,16 @@ bool script_block(struct script *script, lua_State *L, uint32_t reason) {
     if (!script->inspected || script->away || !give_stack(script, L, 0, false))
         return false;
     script->away = !complain(script, "blocking", cq_wait_block(&script->thread, &script->host->signal, reason));
+    if (script->away)
+        script_stand(script);
     return script->away;
 }
 
 void script_back(struct script *script) {
-    complain(script, "the return", cq_wait_back(&script->thread, &script->host->signal, -1));
+    script_stand(script);
+    uint32_t code = cq_wait_back(&script->thread, &script->host->signal, -1);
+    script_go_on(script);
+    complain(script, "the return", code);
     script->away = false;
 }
 
@@ -116,6 +140,7 @@ static bool run_state(struct script *script, lua_State *L) {
     if (code != LUA_OK)
         fprintf(stderr, "cqlua: %s\n", lua_tostring(L, -1));
     nudge_end(script);
+    script->given_count = 0;
     lua_close(L);
     return code == LUA_OK;
 }
@@ -143,6 +168,7 @@ static void *run_script(void *arg) {
     cq_signal *signal = &script->host->signal;
     name_thread(script);
     nudge_thread(script);
+    script_go_on(script);
     if (script->host->inspected)
         script->inspected = !complain(script, "the start", cq_wait_start(&script->thread, signal, -1));
     sem_post(&script->host->alive);
@@ -154,6 +180,7 @@ static void *run_script(void *arg) {
         complain(script, "the end", cq_wait_end(&script->thread, signal));
     if (script->host->inspected)
         complain(script, "the detachment", cq_wait_detach_thread(&script->thread, signal));
+    script_stand(script);
     leave_host(script->host);
     return NULL;
 }
@@ -199,6 +226,7 @@ int host_make(struct host *host, char **paths, size_t count, bool inspected) {
         struct script *script = &host->scripts[i];
         script->host = host;
         script->path = paths[i];
+        pthread_mutex_init(&script->lock, NULL);
         code = inspected ? attach(host, script) : CQ_OK;
         if (code != CQ_OK)
             return refused(script->path, code);
@@ -249,8 +277,11 @@ static void tell_address(enum door door, const char *address, uint16_t port) {
 /* Sources are looked for in the current directory. */
 static uint32_t open_debugger(struct host *host, const char *address) {
     char *path = getcwd(NULL, 0);
-    uint32_t code = CQ_SYSTEM;
-    if (path)
+    cq_variables variables = { host, variables_of_method, variables_of_frame };
+    uint32_t code = cq_server_variables(&host->servers[DOOR_DEBUGGER], &variables);
+    if (!path)
+        code = CQ_SYSTEM;
+    if (code == CQ_OK)
         code = cq_debug_listen(&host->servers[DOOR_DEBUGGER], &host->service, &host->signal, address, "cqlua", path);
     free(path);
     return code;

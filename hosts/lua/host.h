@@ -13,6 +13,7 @@
 #include "cebdyraq.h"
 #include "cebdyraq_serve.h"
 #include "cebdyraq_wait.h"
+#include "links.h"
 #include "methods.h"
 
 enum {
@@ -38,6 +39,8 @@ struct script {
     cq_thread thread;
     bool inspected;           /* it is attached and started */
     bool away;                /* it is in native code or blocked */
+    pthread_mutex_t lock;     /* its thread has it, but where it stands; whoever has it may read its states */
+    bool stands;              /* its thread waits, and leaves its states alone */
     bool stops;               /* its hook is called at each line */
     bool complained;          /* a refusal was told */
     _Atomic(lua_State *) running;  /* the state or coroutine that a nudge reaches, or NULL */
@@ -50,6 +53,9 @@ struct script {
     size_t links;
     struct known known[KNOWN];
     cq_frame frames[FRAMES];
+    const cq_frame *given;    /* those of them that were given: all, if the first says that the stack came late, or all but the first */
+    size_t given_count;       /* 0 if no stack can be read */
+    int given_level;          /* of the newest of them in its state, but for the late one */
 };
 
 /* What others ask the scripts by, at an address. */
@@ -103,6 +109,10 @@ bool script_block(struct script *script, lua_State *L, uint32_t reason);
 /* Returns from there. It sleeps while the script is suspended. */
 void script_back(struct script *script);
 
+/* From here on others may read the script's states, until it goes on. The latter waits for whoever reads. */
+void script_stand(struct script *script);
+void script_go_on(struct script *script);
+
 /* give.c: gives the stack from this level on to the service. `hooked` says that a nudge's hook is called. If the
  * service does not take it, the newest frames are given, with one that says that the stack was cut. Returns whether
  * the script is still inspected: it is not if no stack can be given any more. */
@@ -113,6 +123,9 @@ bool complain(struct script *script, const char *what, uint32_t code);
 
 /* stack.c: writes the stack from this level on, newest frame first, and returns how many there are, at most SHOWN. */
 size_t stack_read(struct script *script, lua_State *L, int level, cq_frame *frames);
+
+/* stack.c: goes to a frame that was given, by its depth, which is below `given_count`. False if it stands for no frame. */
+bool stack_find(struct script *script, uint32_t depth, struct walk *walk);
 
 /* stack.c: the method of the function on the top of the stack, of which `ar` has what "S" gives. */
 uint32_t stack_method(struct script *script, lua_State *L, lua_Debug *ar);

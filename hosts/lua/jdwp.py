@@ -7,6 +7,7 @@ import time
 HANDSHAKE = b"JDWP-Handshake"
 PATIENCE = 60  # seconds
 Frame = collections.namedtuple("Frame", "frame tag class_ method location")
+Variable = collections.namedtuple("Variable", "first name signature generic count slot")
 
 
 class Error(Exception):
@@ -208,3 +209,45 @@ class Wire:
             line = "" if frame.location >= 1 << 63 else f":{frame.location}"
             found.append(f"{name}.{self.methods(frame.class_)[frame.method]}{line}")
         return found
+
+    def variables(self, class_, method):
+        """The variables of a method, in the order in which they come."""
+        data = self.ask(6, 5, ids(class_, method))
+        data.number(4)
+        return data.all(data.items(lambda: Variable(data.number(8), data.text(), data.text(), data.text(), data.number(4), data.number(4))))
+
+    def text(self, number):
+        data = self.ask(10, 1, ids(number))
+        return data.all(data.text())
+
+    def entries(self, number):
+        """All entries of a table."""
+        count = self.ask(13, 1, ids(number)).number(4)
+        data = self.ask(13, 2, ids(number) + struct.pack(">ii", 0, count))
+        data.number(1)
+        found = data.all(data.items(lambda: (data.take(1), data.number(8))))
+        return [self.text(text) for _, text in found]
+
+    def value(self, data):
+        """The next value. A text is a str, a table a list of its entries."""
+        tag = data.take(1)
+        if tag == b"Z":
+            return data.number(1) == 1
+        bits = data.take(8)
+        if tag in b"JD":
+            return struct.unpack(">q" if tag == b"J" else ">d", bits)[0]
+        number = int.from_bytes(bits, "big")
+        return {b"L": lambda _: None, b"s": self.text, b"[": self.entries}[tag](number)
+
+    def values(self, thread, frame, slots):
+        wanted = b"".join(struct.pack(">iB", slot, ord("L")) for slot in slots)
+        data = self.ask(16, 1, ids(thread, frame) + struct.pack(">i", len(slots)) + wanted)
+        return data.all(data.items(lambda: self.value(data)))
+
+    def locals(self, thread, depth):
+        """The visible variables of a suspended thread's frame, and their values. One that begins later hides those of its name."""
+        frame, visible = self.frames(thread)[depth], {}
+        for variable in sorted(self.variables(frame.class_, frame.method), key=lambda variable: variable.first, reverse=True):
+            if variable.first <= frame.location < variable.first + variable.count:
+                visible.setdefault(variable.name, variable.slot)
+        return dict(zip(visible, self.values(thread, frame.frame, list(visible.values()))))

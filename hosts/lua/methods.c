@@ -169,7 +169,7 @@ static bool define(const struct class *class) {
 static bool is_whole(const struct class *class) {
     bool whole = class->signature && class->source && class->methods;
     for (size_t i = 0; i < class->count && whole; i++)
-        whole = class->methods[i].name;
+        whole = class->methods[i].name && (class->methods[i].variables || !class->protos);
     return whole;
 }
 
@@ -183,8 +183,10 @@ static void keep(const struct class *class) {
 }
 
 static void discard(const struct class *class) {
-    for (size_t i = 0; i < class->count && class->methods; i++)
+    for (size_t i = 0; i < class->count && class->methods; i++) {
         free((char *)class->methods[i].name);
+        free((struct variable *)class->methods[i].variables);
+    }
     free(class->methods);
     free(class->source);
 }
@@ -240,11 +242,34 @@ bool methods_are_many(const struct function *f) {
     return many > 1;
 }
 
+static size_t length_of_names(const struct proto *proto) {
+    size_t length = 0;
+    for (size_t i = 0; i < proto->variable_count; i++)
+        length += proto->variables[i].name.length;
+    return length;
+}
+
+/* Copies the variables, with their names behind them. */
+static struct variable *copy_variables(const struct proto *proto) {
+    struct variable *copy = calloc(1, (proto->variable_count + 1) * sizeof *copy + length_of_names(proto));
+    char *name = (char *)(copy + proto->variable_count);
+    for (size_t i = 0; i < proto->variable_count && copy; i++) {
+        const struct variable *v = &proto->variables[i];
+        copy[i] = *v;
+        copy[i].name.at = v->name.length ? memcpy(name, v->name.at, v->name.length) : name;
+        name += v->name.length;
+    }
+    return copy;
+}
+
 static void fill(struct method *m, const struct proto *proto) {
     m->line = proto->line;
     m->last = proto->last;
     m->code = proto->code;
     m->name = strndup(proto->name.at, proto->name.length);
+    m->variables = copy_variables(proto);
+    m->variable_count = proto->variable_count;
+    m->local_count = proto->local_count;
 }
 
 static void define_chunk(const char *source, const struct protos *protos) {

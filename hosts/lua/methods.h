@@ -19,6 +19,8 @@ struct method {
     uint64_t code;       /* a hash of the function, if it belongs to a chunk, or 0 */
     const char *name;
     uint32_t number;
+    const struct variable *variables;  /* as in a struct proto, if it belongs to a chunk */
+    size_t variable_count, local_count;
 };
 
 enum {

@@ -1,11 +1,11 @@
 /* protos.c: see protos.h. */
 #include "protos.h"
 
-#include <limits.h>
 #include <lua.h>
-#include <stdbool.h>
 #include <stdlib.h>
 #include <string.h>
+
+#include "reader.h"
 
 enum { DEEPEST = 250 };  /* functions within functions; Lua itself compiles about 200 */
 
@@ -22,61 +22,6 @@ enum {
 
 /* The kinds of constants. */
 enum { NIL = 0x00, NO = 0x01, YES = 0x11, INTEGER = 0x03, FLOAT = 0x13, SHORT_TEXT = 0x04, LONG_TEXT = 0x14 };
-
-/* ------------------------------------------------------------------------------------------------------------------
- * Bytes, numbers and texts.
- */
-
-struct reader {
-    const unsigned char *at, *end;
-    bool bad;  /* something did not fit. Nothing is left then */
-};
-
-static const unsigned char *take(struct reader *r, size_t count) {
-    const unsigned char *at = r->at;
-    r->bad = r->bad || count > (size_t)(r->end - at);
-    r->at = r->bad ? r->end : at + count;
-    return at;
-}
-
-static unsigned take_byte(struct reader *r) {
-    const unsigned char *byte = take(r, 1);
-    return r->bad ? 0 : *byte;
-}
-
-/* Seven bits in each byte, the highest ones first. The last byte has the eighth bit. */
-static size_t take_size(struct reader *r) {
-    size_t size = 0;
-    unsigned byte = 0;
-    while (!r->bad && !(byte & 0x80)) {
-        byte = take_byte(r);
-        r->bad = r->bad || size > SIZE_MAX >> 7;
-        size = size << 7 | (byte & 0x7f);
-    }
-    return r->bad ? 0 : size;
-}
-
-static int take_line(struct reader *r) {
-    size_t line = take_size(r);
-    r->bad = r->bad || line > INT_MAX;
-    return r->bad ? 0 : (int)line;
-}
-
-static void skip(struct reader *r, size_t count, size_t size) {
-    r->bad = r->bad || count > SIZE_MAX / size;
-    take(r, r->bad ? 0 : count * size);
-}
-
-static struct part take_text(struct reader *r) {
-    size_t size = take_size(r);
-    const unsigned char *at = take(r, size ? size - 1 : 0);
-    return size && !r->bad ? (struct part){ (const char *)at, size - 1 } : (struct part){ NULL, 0 };
-}
-
-static void expect(struct reader *r, const void *bytes, size_t count) {
-    const unsigned char *at = take(r, count);
-    r->bad = r->bad || memcmp(at, bytes, count);
-}
 
 /* ------------------------------------------------------------------------------------------------------------------
  * Parts of a function.
@@ -170,9 +115,9 @@ static size_t in_order(uint32_t *lines, size_t count) {
     return kept;
 }
 
-/* The lines from that of the instruction `first` on, where the function is defined at `line`. */
-static void find_lines(struct reader *r, struct proto *proto, const struct steps *steps, uint32_t line, size_t first) {
-    size_t far = 0, count = 0;
+/* The line of each instruction of a function that is defined at `line`. */
+static uint32_t *lines_of(struct reader *r, const struct steps *steps, uint32_t line) {
+    size_t far = 0;
     uint32_t *lines = calloc(steps->count + 1, sizeof *lines);
     r->bad = r->bad || !lines;
     for (size_t at = 0; at < steps->count && !r->bad; at++) {
@@ -182,11 +127,9 @@ static void find_lines(struct reader *r, struct proto *proto, const struct steps
             line = steps->far[far++];
         else
             r->bad = true;
-        if (at >= first && !r->bad)
-            lines[count++] = line;
+        lines[at] = line;
     }
-    proto->lines = lines;
-    proto->line_count = lines ? in_order(lines, count) : 0;
+    return lines;
 }
 
 struct function {
@@ -194,6 +137,7 @@ struct function {
     size_t code_count;
     struct items constants, locals, upvalues;
     struct steps steps;
+    uint32_t *lines;  /* of its instructions */
 };
 
 /* ------------------------------------------------------------------------------------------------------------------
@@ -286,6 +230,44 @@ static void name_within(struct protos *protos, size_t own, const struct function
 }
 
 /* ------------------------------------------------------------------------------------------------------------------
+ * Lines and variables.
+ */
+
+/* Keeps the lines from that of the instruction `first` on. */
+static void keep_lines(struct proto *proto, struct function *f, size_t first) {
+    size_t left = f->code_count > first ? f->code_count - first : 0;
+    memmove(f->lines, f->lines + (f->code_count - left), left * sizeof *f->lines);
+    proto->line_count = in_order(f->lines, left);
+    proto->lines = f->lines;
+    f->lines = NULL;
+}
+
+/* A variable that lives at these instructions, and the lines of them. */
+static struct variable variable_at(const struct function *f, struct part name, size_t start, size_t end) {
+    struct variable v = { .name = name, .start = start, .end = end, .first = UINT32_MAX };
+    for (size_t at = start; at < end && at < f->code_count; at++) {
+        v.first = f->lines[at] < v.first ? f->lines[at] : v.first;
+        v.last = f->lines[at] > v.last ? f->lines[at] : v.last;
+    }
+    return v;
+}
+
+static void find_variables(struct reader *r, struct proto *proto, const struct function *f) {
+    size_t count = f->locals.count + f->upvalues.count, found = 0;
+    struct variable *all = calloc(count + 1, sizeof *all);
+    r->bad = r->bad || !all;
+    if (!all)
+        return;
+    for (size_t i = 0; i < f->locals.count; i++)
+        all[found++] = variable_at(f, f->locals.at[i].name, f->locals.at[i].start, f->locals.at[i].end);
+    for (size_t i = 0; i < f->upvalues.count; i++)
+        all[found++] = variable_at(f, f->upvalues.at[i].name, 0, f->code_count);
+    proto->variables = all;
+    proto->variable_count = count;
+    proto->local_count = f->locals.count;
+}
+
+/* ------------------------------------------------------------------------------------------------------------------
  * Functions.
  */
 
@@ -331,11 +313,18 @@ static void read_parts(struct reader *r, struct protos *protos, int depth, struc
     f->steps = take_steps(r, f->code_count);
     f->locals = take_items(r, take_local);
     f->upvalues = take_items(r, take_upvalue);
+    if (!r->bad)
+        f->lines = lines_of(r, &f->steps, (uint32_t)line);
     if (r->bad)
         return;
-    struct part name = line ? (struct part){ "function", 8 } : (struct part){ "main", 4 };
-    protos->at[own] = (struct proto){ name, line, last, hash_of(start, r->at), NULL, 0, protos->count };
-    find_lines(r, &protos->at[own], &f->steps, (uint32_t)line, takes_more);
+    struct proto *proto = &protos->at[own];
+    proto->name = line ? (struct part){ "function", 8 } : (struct part){ "main", 4 };
+    proto->line = line;
+    proto->last = last;
+    proto->code = hash_of(start, r->at);
+    proto->next = protos->count;
+    find_variables(r, proto, f);
+    keep_lines(proto, f, takes_more);
     name_within(protos, own, f);
 }
 
@@ -346,6 +335,7 @@ static void read_function(struct reader *r, struct protos *protos, int depth) {
     free(f.locals.at);
     free(f.upvalues.at);
     free(f.steps.far);
+    free(f.lines);
 }
 
 static void read_functions(struct reader *r, struct protos *protos, int depth) {
@@ -379,7 +369,9 @@ int protos_read(const void *dump, size_t size, struct protos *protos) {
 }
 
 void protos_free(struct protos *protos) {
-    for (size_t i = 0; i < protos->count; i++)
+    for (size_t i = 0; i < protos->count; i++) {
         free(protos->at[i].lines);
+        free(protos->at[i].variables);
+    }
     free(protos->at);
 }

@@ -14,6 +14,13 @@ struct part {
     size_t length;
 };
 
+/* A local variable of a function, or an upvalue. The latter lives everywhere. */
+struct variable {
+    struct part name;
+    size_t start, end;     /* the instructions at which it lives: from here to before there */
+    uint32_t first, last;  /* the lowest and the highest line of these. There is none if `first` is the higher one */
+};
+
 /* A function of a chunk. */
 struct proto {
     struct part name;  /* by what the code does with the function that it makes, or "function" */
@@ -22,6 +29,8 @@ struct proto {
     uint64_t code;     /* a hash of all that it is, with the functions within. It is not 0 */
     uint32_t *lines;   /* at which a hook may be called, in rising order. It is NULL if there are none */
     size_t line_count;
+    struct variable *variables;  /* the local ones in the order in which they begin, and then the upvalues by their numbers */
+    size_t variable_count, local_count;
     size_t next;       /* behind the functions within, which follow it */
 };
 

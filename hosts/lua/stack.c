@@ -107,3 +107,34 @@ size_t stack_read(struct script *script, lua_State *L, int level, cq_frame *fram
     }
     return count;
 }
+
+/* Goes from the newest frame of all states to the one that is so many frames older. */
+static bool walk_to(struct script *script, size_t number, struct walk *walk) {
+    int level = script->given_level;
+    for (size_t link = script->links; link-- > 0; level = 0)
+        for (bool there = walk_begin(walk, script->chain[link], level); there; there = walk_on(walk))
+            if (number-- == 0)
+                return true;
+    return false;
+}
+
+/* Goes to one of the frames that add_oldest has put behind the newest. */
+static bool walk_to_oldest(struct script *script, size_t number, struct walk *walk) {
+    lua_Debug oldest[OLDEST];
+    size_t count = (size_t)oldest_frames(script->chain[0], oldest, OLDEST);
+    if (number >= count)
+        return false;
+    walk->L = script->chain[0];
+    walk->ar = oldest[count - 1 - number];
+    return true;
+}
+
+bool stack_find(struct script *script, uint32_t depth, struct walk *walk) {
+    bool late = script->given == script->frames;
+    size_t number = depth - late;
+    if (script->given[depth].method <= METHOD_OWN)
+        return false;
+    if (number > NEWEST && script->given[NEWEST + late].method == METHOD_LEFT_OUT)
+        return walk_to_oldest(script, number - NEWEST - 1, walk);
+    return walk_to(script, number, walk);
+}

@@ -50,6 +50,13 @@ static bool tell(struct script *script, lua_State *L, lua_Debug *ar) {
     return !complain(script, "a line", code) && stops;
 }
 
+static void stop(struct script *script) {
+    script_stand(script);
+    uint32_t code = cq_wait_stop(&script->thread, &script->host->signal);
+    script_go_on(script);
+    complain(script, "a stop", code);
+}
+
 void stops_look(struct script *script, lua_State *L, lua_Debug *ar) {
     bool may = cq_may_stop(&script->thread);
     if (may != script->stops) {
@@ -59,5 +66,5 @@ void stops_look(struct script *script, lua_State *L, lua_Debug *ar) {
     if (!may || (ar->event != LUA_HOOKLINE && ar->event != LUA_HOOKRET))
         return;
     if (tell(script, L, ar) && give_stack(script, L, 0, false))
-        complain(script, "a stop", cq_wait_stop(&script->thread, &script->host->signal));
+        stop(script);
 }

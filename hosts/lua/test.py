@@ -18,10 +18,11 @@ import tests_late
 import tests_prof
 import tests_run
 import tests_serve
+import tests_variables
 from checks import HERE, LUA, check, failed, passed
 
 MODULES = (tests_run, tests_prof, tests_late, tests_deep, tests_end, tests_debug, tests_serve, tests_attach,
-           tests_classes, tests_build)
+           tests_classes, tests_variables, tests_build)
 
 
 def run_test(name, test):

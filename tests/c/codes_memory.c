@@ -190,6 +190,7 @@ static uint32_t dispose_without(void) {
     for (long blocks = 0;; blocks++) {
         world w;
         build(&w, FULL_WINDOW, 2);
+        OK(cq_relinquish_capabilities(&w.env, CQ_CAN_SUSPEND | CQ_CAN_POP_FRAME));
         heap_refuse_after(blocks);
         uint32_t code = cq_dispose_environment(&w.env);
         heap_refuse_after(-1);

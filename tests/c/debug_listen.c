@@ -333,6 +333,7 @@ int main(void) {
     ends_while_all_stands("localhost:0");
     ends_while_one_is_busy();
     listens_at_a_path();
+    tells_variables();
     takes_own_users();
     return 0;
 }

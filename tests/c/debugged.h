@@ -31,4 +31,7 @@ void asks_at(int socket, uint8_t set, uint8_t command, const char *data, uint16_
 /* debug_users.c: who may attach. */
 void takes_own_users(void);
 
+/* debug_variables.c: variables of a runtime whose thread holds a lock while it runs. */
+void tells_variables(void);
+
 #endif

@@ -86,7 +86,7 @@ uint32_t action_now(void) {
     uint32_t action = 77;
     uint64_t room = UINT64_MAX;
     OK(cq_door_next(&door, 0, now, 0, &action, &room));
-    CHECK(action <= CQ_DOOR_CLOSE && room <= LONGEST_PACKET);
+    CHECK(action <= CQ_DOOR_ASK && room <= LONGEST_PACKET);
     return action;
 }
 
@@ -157,6 +157,7 @@ uint64_t resumptions(void) {
 
 static void tells_of_empty_handles(void) {
     cq_door none = { 0 };
+    cq_question question = { .kind = 3 };
     uint32_t number = 7;
     uint64_t count = 5;
     uint8_t byte = 9;
@@ -169,8 +170,14 @@ static void tells_of_empty_handles(void) {
     SAME(cq_door_disconnect(&none, 0), CQ_MISUSED);
     SAME(cq_door_tick(&none, now, &count), CQ_MISUSED);
     SAME(cq_door_resumptions(&none, &count), CQ_MISUSED);
+    SAME(cq_door_tells_variables(&none, true), CQ_MISUSED);
+    SAME(cq_door_question(&none, &question), CQ_MISUSED);
+    SAME(cq_door_tell_variables(&none, NULL, 0, NULL, 0), CQ_MISUSED);
+    SAME(cq_door_tell_values(&none, NULL, 0, NULL, 0), CQ_MISUSED);
+    SAME(cq_door_tell_none(&none, CQ_ABSENT_INFORMATION), CQ_MISUSED);
+    SAME(cq_door_answer(&none, &variables), CQ_MISUSED);
     SAME(cq_close_door(&none), CQ_MISUSED);
-    CHECK(number == 7 && count == 5 && byte == 9);
+    CHECK(number == 7 && count == 5 && byte == 9 && question.kind == 3);
 }
 
 static uint32_t opened(cq_service *of, const char *program, const char *path, cq_door *at) {
@@ -226,13 +233,19 @@ static void has_one_connection(void) {
     has_no_connection(0);
 }
 
-/* A door for HTTP resumes nothing. */
+/* A door for HTTP resumes nothing, and asks nothing. */
 static void tells_of_http(void) {
     cq_door other = { 0 };
+    cq_question question = { .kind = 3 };
     uint64_t count = 7;
     OK(cq_open_door(&service, (const uint8_t *)"tests", 5, 6060, now, &other));
     OK(cq_door_resumptions(&other, &count));
     SAME(count, 0);
+    OK(cq_door_tells_variables(&other, true));
+    OK(cq_door_question(&other, &question));
+    SAME(question.kind, CQ_QUESTION_NONE);
+    SAME(cq_door_answer(&other, &variables), CQ_NONE);
+    SAME(cq_door_tell_none(&other, CQ_ABSENT_INFORMATION), CQ_NONE);
     OK(cq_close_door(&other));
 }
 
@@ -253,6 +266,7 @@ int main(int argc, char **argv) {
     tells_misuse();
     tells_what_there_is();
     suspends();
+    tells_variables();
     lacks_memory();
     debugs_at_random(streams, seed);
     SAME(heap_blocks(), 0);

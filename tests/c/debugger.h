@@ -76,6 +76,12 @@ void tells_what_there_is(void);
 /* debugger_suspends.c: suspensions and resumptions. */
 void suspends(void);
 
+/* debugger_variables.c: what the runtime tells of variables. */
+void tells_variables(void);
+
+/* Its functions. They tell of the methods and frames of the runtime above. */
+extern const cq_variables variables;
+
 /* debugger_memory.c: each allocation of a conversation is refused in turn. */
 void lacks_memory(void);
 

@@ -72,7 +72,7 @@ static void refuses_what_is_not_there(void) {
     asks(11, 6, WORKER "00000000 ffffffff", 13, "");
     asks(11, 7, WORKER, 13, "");
     asks(1, 10, "00000000", 99, "");
-    asks(16, 1, "", 99, "");
+    asks(16, 2, "", 99, "");
     asks(15, 1, "04 02 00000000", 99, "");
     asks(15, 1, "01 02 00000000", 103, "");
     asks(15, 1, "02 02 00000000", 103, "");
@@ -92,6 +92,10 @@ static void refuses_what_is_malformed(void) {
     asks(1, 2, "ffffffff", 103, "");
     asks(1, 2, "7fffffff", 103, "");
     asks(1, 14, "00000001", 103, "");
+    asks(6, 5, WORK, 103, "");
+    asks(16, 1, WORKER OUTER "00000001", 103, "");
+    asks(16, 1, WORKER OUTER "00001001", 103, "");
+    asks(16, 1, WORKER OUTER "ffffffff", 103, "");
     asks(15, 1, "06 00 ffffffff", 103, "");
     asks(15, 1, "06 00 40000000", 103, "");
     asks(15, 1, "06 00 00000001 01 00000000", 103, "");

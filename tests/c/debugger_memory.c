@@ -22,6 +22,7 @@ static packet made;
 
 static void open_in_the_end(void) {
     IN_THE_END(cq_open_debugger(&service, (const uint8_t *)"tests", 5, (const uint8_t *)"/src", 4, now, &door));
+    OK(cq_door_tells_variables(&door, true));
     tick_after(0);
 }
 
@@ -31,12 +32,24 @@ static void feed_in_the_end(const void *bytes, size_t count) {
     SAME(taken, count);
 }
 
+/* What is to be done, once a question is answered. Without memory it is answered too. */
+static uint32_t action_in_the_end(void) {
+    uint32_t action = CQ_DOOR_WAIT;
+    uint64_t unused = 0;
+    IN_THE_END(cq_door_next(&door, 0, now, 0, &action, &unused));
+    if (action == CQ_DOOR_ASK) {
+        OK(cq_door_answer(&door, &variables));
+        IN_THE_END(cq_door_next(&door, 0, now, 0, &action, &unused));
+    }
+    return action;
+}
+
 /* Ticks until there is something to write, and takes all of it. It gives the first bytes. */
 static uint64_t taken_in_the_end(uint8_t *bytes, size_t room) {
     uint32_t action = CQ_DOOR_WAIT;
-    uint64_t count = 0, unused = 0;
+    uint64_t count = 0;
     for (int i = 0; i < MOST_TICKS && action == CQ_DOOR_WAIT; i++) {
-        IN_THE_END(cq_door_next(&door, 0, now, 0, &action, &unused));
+        action = action_in_the_end();
         tick_after(action == CQ_DOOR_WAIT ? 100 * MILLISECOND : 0);
     }
     SAME(action, CQ_DOOR_WRITE);
@@ -45,7 +58,8 @@ static uint64_t taken_in_the_end(uint8_t *bytes, size_t room) {
     return count;
 }
 
-/* Asks. The reply is this request's, and it is right, or says that there is no memory, or that no thread was met for want of it. */
+/* Asks. The reply is this request's, and it is right, or says that there is no memory, or that no thread was met or no value told for
+ * want of it. */
 static void asks_in_the_end(uint8_t set, uint8_t command, const char *data) {
     uint8_t reply[4096];
     make_request(&made, ++request_id, set, command, data);
@@ -55,7 +69,7 @@ static void asks_in_the_end(uint8_t set, uint8_t command, const char *data) {
     SAME(number_at(reply + 4, 4), request_id);
     SAME(reply[8], 0x80);
     uint32_t error = number_at(reply + 9, 2);
-    bool is_lack = error == 110 || error == 10 || error == 13;
+    bool is_lack = error == 110 || error == 10 || error == 13 || error == 20;
     SAME(is_lack ? 0 : error, 0);
     SAME(is_lack ? count : HEAD, HEAD);
 }
@@ -75,6 +89,10 @@ static void talk(void) {
     asks_in_the_end(11, 1, WORKER);
     asks_in_the_end(11, 2, SLEEPER);
     asks_in_the_end(11, 6, SLEEPER "00000000 ffffffff");
+    asks_in_the_end(6, 5, WORK "0000000600000001");
+    asks_in_the_end(16, 1, SLEEPER "0000000100000000 00000002 00000000 73 00000005 5b");
+    asks_in_the_end(10, 1, "0000000a00000000");
+    asks_in_the_end(13, 2, "0000000c00000001 00000000 00000002");
     asks_in_the_end(1, 8, "");
     asks_in_the_end(2, 15, WORK);
     asks_in_the_end(11, 3, SLEEPER);

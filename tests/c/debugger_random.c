@@ -117,6 +117,10 @@ static void take_some(void) {
     written_count += count;
 }
 
+static void answer(void) {
+    OK(below(3) == 0 ? cq_door_tell_none(&door, below(200)) : cq_door_answer(&door, &variables));
+}
+
 static size_t fed(size_t at) {
     size_t left = stream_length - at, count = 1 + below(below(4) == 0 ? 20 : LONGEST_PACKET);
     uint64_t taken = 0;
@@ -146,6 +150,10 @@ static bool run_stream(void) {
         size_t taken = 0;
         if (action == CQ_DOOR_WRITE) {
             take_some();
+            continue;
+        }
+        if (action == CQ_DOOR_ASK) {
+            answer();
             continue;
         }
         if (at < stream_length) {
@@ -213,6 +221,7 @@ static void begin(void) {
     attach_thread(&lazy, "lazy");
     OK(cq_attach_environment(&service, &watcher));
     open_debugger();
+    OK(cq_door_tells_variables(&door, true));
 }
 
 static void finish(void) {

@@ -9,8 +9,8 @@ static packet made;
 static uint32_t thread_count;
 
 /* ------------------------------------------------------------------------------------------------------------------
- * Data. A letter stands for each part of it: a (t)hread, a (c)lass, a (m)ethod, a thread (g)roup, a (n)umber, a te(x)t, a (k)ind of
- * event, a (p)olicy, (M)odifiers.
+ * Data. A letter stands for each part of it: a (t)hread, a (f)rame, a (c)lass, a (m)ethod, a thread (g)roup, a (T)ext or a t(a)ble that
+ * was told, a (n)umber, a te(x)t, a (k)ind of event, a (p)olicy, (M)odifiers, (s)lots.
  */
 
 typedef struct { uint8_t set, command; const char *parts; } shape;
@@ -22,14 +22,16 @@ static const shape SHAPES[] = {
     { 2, 15, "c" }, { 3, 1, "c" }, { 6, 1, "cm" }, { 9, 1, "t" }, { 9, 9, "t" }, { 11, 1, "t" }, { 11, 2, "t" }, { 11, 2, "t" },
     { 11, 3, "t" }, { 11, 3, "t" }, { 11, 4, "t" }, { 11, 5, "t" }, { 11, 6, "tnn" }, { 11, 6, "tnn" }, { 11, 7, "t" },
     { 11, 12, "t" }, { 12, 1, "g" }, { 12, 2, "g" }, { 12, 3, "g" }, { 15, 1, "kpM" }, { 15, 1, "kpM" }, { 15, 2, "kn" },
-    { 15, 3, "" }, { 16, 1, "tcn" }, { 0, 0, "" }, { 255, 255, "n" },
+    { 15, 3, "" }, { 6, 2, "cm" }, { 6, 5, "cm" }, { 16, 1, "tfs" }, { 16, 1, "tfs" }, { 16, 1, "tfn" }, { 16, 3, "tf" }, { 10, 1, "T" },
+    { 13, 1, "a" }, { 13, 2, "ann" }, { 9, 1, "T" }, { 9, 1, "a" }, { 0, 0, "" }, { 255, 255, "n" },
 };
 
 /* One of a list. */
 #define ONE_OF(list) ((list)[below(sizeof(list) / sizeof *(list))])
 
 static uint64_t any_number(void) {
-    static const uint64_t edges[] = { 0, 1, UINT64_MAX, 1ULL << 32, 1ULL << 33, 3ULL << 33, 4ULL << 33, 0x7fffffff, 0x80000000, 0xffffffff };
+    static const uint64_t edges[] = { 0, 1, UINT64_MAX, 1ULL << 32, 1ULL << 33, 3ULL << 33, 4ULL << 33, 5ULL << 33, 6ULL << 33,
+                                       7ULL << 33, 8ULL << 33, 9ULL << 33, 0x7fffffff, 0x80000000, 0xffffffff };
     return ONE_OF(edges);
 }
 
@@ -65,10 +67,25 @@ static void add_modifiers(void) {
     }
 }
 
+/* Slots that the runtime tells, and others. */
+static void add_slots(void) {
+    static const uint32_t counts[] = { 0, 1, 1, 2, 2, 6, 6, 20, 4096 };
+    uint32_t count = ONE_OF(counts);
+    add_number(&made, count, 4);
+    for (uint32_t i = 0; i < count; i++) {
+        add_number(&made, below(10) == 0 ? below(10) : below(6), 4);
+        add_number(&made, 'L', 1);
+    }
+}
+
 static void add_part(char part) {
     static const uint8_t kinds[] = { 6, 6, 6, 6, 7, 7, 7, 7, 8, 8, 8, 8, 9, 90, 99, 1, 2, 40, 0, 200 };
     switch (part) {
     case 't': add_id(1, thread_count); break;
+    case 'f': add_id((uint64_t)below(thread_count) << 32, 3); break;
+    case 'T': add_id(5ULL << 33, 6); break;
+    case 'a': add_id(6ULL << 33, 3); break;
+    case 's': add_slots(); break;
     case 'c': add_id(2ULL << 33, 3); break;
     case 'm': add_id(3ULL << 33, 4); break;
     case 'g': add_id(1ULL << 33, 1); break;
@@ -85,8 +102,9 @@ static void add_part(char part) {
  * Packets.
  */
 
+/* Adds random bytes, as far as there is room. */
 static void add_random(uint32_t count) {
-    for (; count > 0; count--) {
+    for (; count > 0 && made.length < LONGEST_PACKET; count--) {
         add_number(&made, below(256), 1);
     }
 }

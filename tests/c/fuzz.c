@@ -93,12 +93,19 @@ static void end_traces(void) {
     }
 }
 
+/* An environment that may change nothing is disposed of at once, whatever it has out. */
+static void dispose(cq_env *real, cq_env *model) {
+    OK(cq_relinquish_capabilities(real, CQ_CAN_SUSPEND | CQ_CAN_POP_FRAME));
+    OK(cq_dispose_environment(real));
+    OK(model_relinquish_capabilities(model, CQ_CAN_SUSPEND | CQ_CAN_POP_FRAME));
+    OK(model_dispose_environment(model));
+}
+
 static void dispose_all(void) {
     end_traces();
     for (uint32_t i = 0; i < SLOTS; i++) {
         if (env_of(&slots[i].model.env) == NULL) continue;
-        OK(cq_dispose_environment(&slots[i].real.env));
-        OK(model_dispose_environment(&slots[i].model.env));
+        dispose(&slots[i].real.env, &slots[i].model.env);
     }
 }
 
@@ -111,12 +118,11 @@ static void resume(const m_thread *thread) {
     OK(cq_add_capabilities(&agent.real.env, CQ_CAN_SUSPEND));
     OK(cq_meet(&agent.real.env));
     OK(cq_resume_thread(&agent.real.env, thread->number, &answer));
-    OK(cq_dispose_environment(&agent.real.env));
     OK(model_attach_environment(&keepers[i].model.service, &agent.model.env));
     OK(model_add_capabilities(&agent.model.env, CQ_CAN_SUSPEND));
     OK(model_meet(&agent.model.env));
     OK(model_resume_thread(&agent.model.env, thread->number, &answer));
-    OK(model_dispose_environment(&agent.model.env));
+    dispose(&agent.real.env, &agent.model.env);
 }
 
 static void end_thread(slot *s) {

@@ -145,9 +145,21 @@ uint32_t model_next_event(cq_env *env, cq_event *event) {
     return CQ_OK;
 }
 
+/* Whether none of the environment's calls is out at a thread any more. They are cancelled. */
+static bool settles(m_thread *t, uint32_t place) {
+    if (outs(t, place) == 0) return true;
+    give_up_all(t, place);
+    while (throw_first(t, place)) { }
+    return outs(t, place) == 0;
+}
+
 uint32_t model_dispose_environment(cq_env *env) {
     m_env *e = env_of(env);
     if (e == NULL) return CQ_MISUSED;
+    for (uint32_t i = e->capabilities ? e->service->count : 0; i-- > 0;) {
+        m_thread *t = e->service->threads[i];
+        if (t->met[e->place] && !settles(t, e->place)) return CQ_BUSY;
+    }
     for (uint32_t i = 0; i < e->service->count; i++) {
         m_thread *t = e->service->threads[i];
         if (!t->met[e->place]) continue;

@@ -22,7 +22,8 @@ WAIT = [C / "cebdyraq_wait.c"]
 HEAP = [C / "cebdyraq_heap.c"]
 COUNTED_HEAP = [HERE / "counted_heap.c"]
 STRINGS = [C / "cebdyraq_classes.c"]
-SERVE = [C / name for name in ("cebdyraq_serve.c", "cebdyraq_listen.c", "cebdyraq_peer.c")]
+VARIABLES = [C / "cebdyraq_variables.c"]
+SERVE = [C / name for name in ("cebdyraq_serve.c", "cebdyraq_listen.c", "cebdyraq_peer.c")] + VARIABLES
 MODEL = [HERE / name for name in ("model.c", "model_calls.c", "model_envs.c", "model_traces.c")]
 
 PLAIN, ADDRESS, THREAD, VALGRIND = "plain", "address,undefined", "thread", "valgrind"
@@ -43,8 +44,9 @@ class Program:
 
 CLASSES = ["classes.c", "classes_wrong.c", "classes_threads.c"]
 SERVED = ["serve.c", "serve_wrong.c", "serve_many.c", "client.c"]
-DEBUGGER = ["debugger.c", "debugger_asks.c", "debugger_suspends.c", "debugger_memory.c", "debugger_random.c", "debugger_streams.c", "jdwp.c"]
-DEBUGGED = ["debug_listen.c", "debug_users.c", "client.c", "jdwp.c"]
+DEBUGGER = ["debugger.c", "debugger_asks.c", "debugger_suspends.c", "debugger_variables.c", "debugger_memory.c", "debugger_random.c",
+            "debugger_streams.c", "jdwp.c"]
+DEBUGGED = ["debug_listen.c", "debug_users.c", "debug_variables.c", "client.c", "jdwp.c"]
 CODES = ["codes.c", "codes_threads.c", "codes_envs.c", "codes_memory.c", "codes_gather.c"]
 PROGRAMS = [
     Program("two_threads", ["two_threads.c"], HEAP),
@@ -54,7 +56,7 @@ PROGRAMS = [
     Program("pops", ["pops.c", "pops_unwound.c"], COUNTED_HEAP),
     Program("stops", ["stops.c", "stops_threads.c"], COUNTED_HEAP + STRINGS),
     Program("gather", ["gather.c"], COUNTED_HEAP),
-    Program("wait", ["wait.c", "wait_any.c", "wait_resumed.c", "wait_window.c"], HEAP),
+    Program("wait", ["wait.c", "wait_any.c", "wait_dispose.c", "wait_resumed.c", "wait_window.c"], HEAP),
     Program("gather_waits", ["gather_waits.c"], HEAP, {VALGRIND: ["100"]}),
     Program("gather_busy", ["gather_busy.c"], HEAP, wait=[]),
     Program("turns", ["turns.c"], HEAP, {VALGRIND: ["100"]}, wait=[HERE / "slow_wait.c"]),
@@ -62,8 +64,9 @@ PROGRAMS = [
     Program("cxx", ["cxx.cpp"], HEAP),
     Program("door", ["door.c", "door_random.c"], COUNTED_HEAP, {ADDRESS: ["20000"], THREAD: ["5000"], VALGRIND: ["300"]}, wait=[]),
     Program("serve", SERVED, HEAP + STRINGS + SERVE),
-    Program("debugger", DEBUGGER, COUNTED_HEAP + STRINGS, {THREAD: ["5000"], VALGRIND: ["300"]}, wait=[]),
-    Program("debug_listen", DEBUGGED, HEAP + SERVE),
+    Program("tells", ["tells.c"], COUNTED_HEAP + VARIABLES, wait=[]),
+    Program("debugger", DEBUGGER, COUNTED_HEAP + STRINGS + VARIABLES, {THREAD: ["5000"], VALGRIND: ["300"]}, wait=[]),
+    Program("debug_listen", DEBUGGED, HEAP + STRINGS + SERVE),
     Program("fuzz", ["fuzz.c", "fuzz_calls.c"], MODEL + COUNTED_HEAP,
             {ADDRESS: ["1", "20000"], THREAD: ["1", "10000"], VALGRIND: ["1", "500"]}),
     Program("stress", ["stress.c", "stress_agents.c"], COUNTED_HEAP,

@@ -48,7 +48,7 @@ pthread_t run(void *(*body)(void *)) {
 void join(pthread_t id) { SAME(pthread_join(id, NULL), 0); }
 
 static void set_up(void) {
-    OK(cq_make(8, 1, WINDOW, &service));
+    OK(cq_make(8, 2, WINDOW, &service));
     OK(cq_wait_attach_thread(&service, &signal_of_all, (const uint8_t *)"main", 4, 5, &thread));
     OK(cq_wait_attach_environment(&service, &signal_of_all, &env));
     OK(cq_wait_meet(&env, &signal_of_all));
@@ -299,6 +299,7 @@ int main(void) {
     waits_for_any();
     full_windows();
     suspensions_taken_back();
+    environments_disposed_of();
     tear_down();
     return 0;
 }

@@ -36,4 +36,7 @@ void waits_for_any(void);
 /* Suspensions that are taken back. */
 void suspensions_taken_back(void);
 
+/* Environments that are disposed of while a call is out. */
+void environments_disposed_of(void);
+
 #endif

@@ -270,6 +270,50 @@ void test_debugger() {
     EXPECT(refused([&] { service.debug_listen("nowhere", "types", "/src"); }) == cebdyraq::code::illegal_argument);
 }
 
+/* It tells of method 0 and of the newest frame, and refuses others by what it throws. */
+class told_variables : public cebdyraq::variables {
+public:
+    explicit told_variables(bool &is_gone) : is_gone_(is_gone) {}
+    ~told_variables() override { is_gone_ = true; }
+
+    void of_method(std::uint32_t method, cebdyraq::teller &to) override {
+        if (method == 1) throw std::runtime_error("there is no such method");
+        EXPECT(to.variable("n", 3, 9, 4));
+        EXPECT(refused([&] { to.nil(3); }) == cebdyraq::code::misused);
+    }
+    void of_frame(std::uint32_t, std::uint32_t, cebdyraq::teller &) override {
+        throw cebdyraq::error(cebdyraq::code::thread_not_suspended);
+    }
+
+private:
+    bool &is_gone_;
+};
+
+/* A packet of the debug wire protocol: a request with this id, or a reply. */
+std::string packet(char id, const std::string &end_of_head, const std::string &data) {
+    return std::string(3, '\0') + char(11 + data.size()) + std::string(3, '\0') + id + end_of_head + data;
+}
+
+void test_variables() {
+    bool is_gone = false;
+    const std::string method = std::string("\0\0\0\4\0\0\0\0\0\0\0\6\0\0\0", 15);
+    const std::string request("\0\6\5", 3), reply("\x80\0\0", 3), absent("\x80\0\x65", 3);
+    const std::string one = std::string("\0\0\0\0\0\0\0\1\0\0\0\0\0\0\0\x9\0\0\0\1n\0\0\0\x12", 25) + "Ljava/lang/Object;" +
+                            std::string("\0\0\0\0\0\0\0\4\0\0\0\3", 12);
+    const std::string wanted = "JDWP-Handshake" + packet(1, reply, one) + packet(2, absent, "");
+    {
+        cebdyraq::service service(8, 1, 4);
+        service.define_class("Lwork;", "work.x", {{"n", "", 1, cebdyraq::lines_kind::locations, {}},
+                                                  {"m", "", 1, cebdyraq::lines_kind::locations, {}}});
+        auto server = service.debug_listen("127.0.0.1:0", "types", "/src", std::make_shared<told_variables>(is_gone));
+        auto asked = "JDWP-Handshake" + packet(1, request, method + '\0') + packet(2, request, method + '\1');
+        EXPECT(answer_to(server.port(), asked, wanted.size()) == wanted);
+        auto moved = std::move(server);
+        EXPECT(!is_gone);
+    }
+    EXPECT(is_gone);
+}
+
 }  // namespace
 
 int main() {
@@ -282,5 +326,6 @@ int main() {
     test_classes();
     test_server();
     test_debugger();
+    test_variables();
     return failures;
 }

@@ -43,6 +43,10 @@ class Programs(unittest.TestCase):
         with places.scripts("waits", "spins") as host:
             self.run_at(host, "Nesting")
 
+    def test_variables(self):
+        with places.scripts("waits", "spins") as host:
+            self.run_at(host, "Variables")
+
     def test_a_thousand_threads(self):
         with tempfile.TemporaryDirectory() as folder, places.many(folder) as host:
             self.run_at(host, "Many")

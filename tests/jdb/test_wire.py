@@ -13,7 +13,7 @@ THREAD_START = 6
 PATIENCE = 60  # seconds
 # What ids count from, by their kinds.
 GROUP, CLASSES, METHODS = 1 << 33, 2 << 33, 3 << 33
-NOTHING = 0, (1 << 32) + 1, 5 << 33, 1 << 63, (1 << 64) - 1  # ids of no kind
+NOTHING = 0, (1 << 32) + 1, 9 << 33, 1 << 63, (1 << 64) - 1  # ids of no kind
 
 
 def event_request(kind, policy, count, modifiers=b""):

@@ -21,6 +21,7 @@ from ._library import load
 from ._server import Server
 from ._values import (Capability, Code, Error, Event, EventKind, Frame, LineEntry, MethodName, StackInfo, Stop, StopKind, StopReason,
                       ThreadInfo)
+from ._variables import Value, Variable, Variables
 
 __all__ = ["Capability", "Code", "Environment", "Error", "Event", "EventKind", "Frame", "LineEntry", "MethodName", "Posted", "Server",
-           "StackInfo", "Stop", "StopKind", "StopReason", "ThreadInfo", "load"]
+           "StackInfo", "Stop", "StopKind", "StopReason", "ThreadInfo", "Value", "Variable", "Variables", "load"]

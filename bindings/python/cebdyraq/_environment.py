@@ -329,8 +329,9 @@ class Environment(Classes):
     def end_stop(self, thread: int) -> None:
         self._call("cq_wait_end_stop", self._signal, thread)
 
-    def dispose(self) -> None:
-        """DisposeEnvironment. A further call does nothing."""
-        code = self._plain_call("cq_wait_dispose_environment", self._signal)
+    def dispose(self, timeout: Optional[float] = None) -> None:
+        """DisposeEnvironment. A further call does nothing. It waits for calls that are out, at most this time: then it raises TIMED_OUT, and
+        the environment stays."""
+        code = self._plain_call("cq_wait_dispose_environment_within", self._signal, _nanoseconds(timeout))
         if code not in (Code.OK, Code.MISUSED):
             raise Error(code)

@@ -4,7 +4,7 @@ import ctypes
 import os
 from typing import Any, Dict, List, Optional, Sequence, Union
 
-VERSION = (1, 5)
+VERSION = (1, 6)
 
 
 class Handle(ctypes.Structure):
@@ -53,6 +53,14 @@ class LineEntry(ctypes.Structure):
 
 U32, U64, I32, I64, SIZE = ctypes.c_uint32, ctypes.c_uint64, ctypes.c_int32, ctypes.c_int64, ctypes.c_size_t
 BOOL, AT = ctypes.c_bool, ctypes.c_void_p
+
+
+OF_METHOD = ctypes.CFUNCTYPE(U32, AT, U32, AT)
+OF_FRAME = ctypes.CFUNCTYPE(U32, AT, U32, U32, AT)
+
+
+class Variables(ctypes.Structure):
+    _fields_ = [("context", AT), ("of_method", OF_METHOD), ("of_frame", OF_FRAME)]
 
 
 def in_range(kind: Any, least: int, most: int) -> Any:
@@ -125,9 +133,18 @@ FUNCTIONS: Dict[str, List[Any]] = {
     "cq_notify_frame_pop": [NUMBER, NUMBER],
     "cq_wait_next_stop": [AT, I64, AT],
     "cq_wait_end_stop": [AT, NUMBER],
-    "cq_wait_dispose_environment": [AT],
+    "cq_wait_dispose_environment_within": [AT, I64],
     "cq_serve": [AT, AT, ctypes.c_char_p, ctypes.c_char_p],
     "cq_debug_listen": [AT, AT, ctypes.c_char_p, ctypes.c_char_p, ctypes.c_char_p],
+    "cq_server_variables": [AT],
+    "cq_tell_variable": [AT, SIZE, NUMBER, NUMBER, NUMBER],
+    "cq_tell_nil": [NUMBER],
+    "cq_tell_boolean": [NUMBER, BOOL],
+    "cq_tell_integer": [NUMBER, I64],
+    "cq_tell_number": [NUMBER, ctypes.c_double],
+    "cq_tell_text": [NUMBER, AT, SIZE],
+    "cq_tell_table": [NUMBER],
+    "cq_tell_entry": [AT, SIZE],
     "cq_server_port": [AT],
     "cq_serve_end": [],
     "cq_get_loaded_classes": [AT, SIZE, AT],

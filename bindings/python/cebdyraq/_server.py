@@ -7,6 +7,7 @@ from typing import Optional, Type
 
 from . import _library as lib
 from ._values import Code, Error
+from ._variables import Variables, functions
 
 
 class Server:
@@ -14,11 +15,17 @@ class Server:
     instead, which look for source files there. `service` and `signal` are the addresses of the runtime's cq_service and cq_signal;
     the cq_service is used by nobody else while the server is made.
 
+    With `variables` a debugger is told of the runtime's variables, too.
+
     `address` is 127.0.0.1:PORT, [::1]:PORT, localhost:PORT, where port 0 is any free one, or unix:PATH. `program` is what a profile
     or a debugger calls the program. What the operating system refuses is raised as an OSError."""
 
-    def __init__(self, library: ctypes.CDLL, service: int, signal: int, address: str, program: str, path: Optional[str] = None) -> None:
+    def __init__(self, library: ctypes.CDLL, service: int, signal: int, address: str, program: str, path: Optional[str] = None,
+                 variables: Optional[Variables] = None) -> None:
         self._library, self._memory = library, lib.Server()
+        if variables is not None:
+            self._functions = functions(library, variables)
+            library.cq_server_variables(ctypes.byref(self._memory), ctypes.byref(self._functions))
         begin, texts = (library.cq_serve, [address, program]) if path is None else (library.cq_debug_listen, [address, program, path])
         code = begin(ctypes.byref(self._memory), service, signal, *(text.encode() for text in texts))
         if code == Code.SYSTEM:

@@ -43,7 +43,7 @@ some_same x y e = cc
 pub same_spot : (p q : DeskState) → q.cell ≡ p.cell → q.view.subject ≡ p.view.subject → spot_of q ≡ spot_of p
 same_spot p q cell subject = λ j. record { thread = (subject j).thread; cell = cell j }
 
-spots_set : (l : List DeskState) (i : ℕ) (p q : DeskState) → slice_get l i ≡ Some p → spot_of q ≡ spot_of p → spots_of (slice_set l i q) ≡ spots_of l
+pub spots_set : (l : List DeskState) (i : ℕ) (p q : DeskState) → slice_get l i ≡ Some p → spot_of q ≡ spot_of p → spots_of (slice_set l i q) ≡ spots_of l
 spots_set [] i p q at e = refl
 spots_set (x ∷ l) zero p q at e = ap (λ (h : Spot). h ∷ spots_of l) (e ∙ ap spot_of (sym (some_same x p at)))
 spots_set (x ∷ l) (suc i) p q at e = ap (λ (t : List Spot). spot_of x ∷ t) (spots_set l i p q at e)

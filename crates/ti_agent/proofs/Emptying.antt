@@ -1,11 +1,12 @@
 -- How a desk is emptied by one hold, and then leaves.
-use Rattle.std.proofs.Common.{length-set, ◌≡◌, ◌≢◌, ℕ, ◌+◌, ◌<◌, ◌≤◌, List, [], ◌∷◌, ◌++◌, length, remove, refl, ap, sym, ◌∙◌, arith, subst, Some, None, Result, Ok, Err}
+use Rattle.std.proofs.Common.{length-set, true, ◌≡◌, ◌≢◌, ℕ, ◌+◌, ◌<◌, ◌≤◌, List, [], ◌∷◌, ◌++◌, length, remove, refl, ap, sym, ◌∙◌, arith, subst, Some, None, Result, Ok, Err}
 use Rattle.std.specs.Prelude.{slice_get, slice_set, OnOk}
 use Rattle.std.specs.Int.Bits.{and_zero_r, bit_and}
 use Rattle.std.proofs.lemmas.Bool.Decides.{nat_tests}
 use Rattle.ti_types.specs.declared.call.Call.TheVariants.{SetWord}
 use Rattle.ti_types.specs.declared.entry.Entry.{Entry}
 use Rattle.ti_types.specs.declared.error.TiError.{TiError}
+use Rattle.ti_types.specs.declared.event.Ticket.{Ticket}
 use Rattle.ti_types.specs.declared.numbers.ThreadNo.{ThreadNo}
 use Rattle.ti_replay.specs.Legal.{calls_spent}
 use Rattle.ti_cell.specs.declared.view.Subject.{Subject}
@@ -14,7 +15,7 @@ use Rattle.ti_handshake.specs.Call.{Holds, next_call}
 use Rattle.ti_handshake.specs.Desk.{CancelsAll, DeskState, is_out}
 use Rattle.ti_agent.specs.Desks.{IsCleared, IsTaken}
 use Rattle.ti_agent.specs.Emptied.{IsEmptied}
-use Rattle.ti_agent.specs.Env.{Environment, IsDesk, place_in, place_of}
+use Rattle.ti_agent.specs.Env.{Environment, IsDesk, may_change, out_of, outstanding, place_in, place_of}
 use Rattle.ti_agent.specs.FreeDesk.{FreeState, clearing, has_left, word_asked}
 use Rattle.ti_agent.proofs.Clearing.{cleared_word, remove_set}
 use Rattle.ti_agent.proofs.Places.{about_at, place_set}
@@ -35,6 +36,7 @@ emptied s t place p q state desk found at inside less here hold all spend = reco
   subject = hold.waits.goes.subject;
   mine = hold.waits.mine ∙ ap (λ (l : List Entry). p.view.mine ++ l) (sym one);
   cancelled = all;
+  posted = hold.waits.posted;
   spent = (let e = ap (λ (l : List Entry). length l) one in omega (arith, e, more));
   others = ap (λ (z : EnvValue). without_place z x) spend_x ∙ (λ j. record s.state { spent = remove_set s.state.spent x.0 (spent_at s.state x + 1) j });
   no_word = λ left. (λ j. word_asked (here.1 j) (hold.waits.mine j)) ∙ cleared_word p.env p.view.mine _;
@@ -73,6 +75,7 @@ given_up s t place p q (Ok u) desk found at none here hold all = record {
   subject = hold.waits.goes.subject;
   mine = hold.waits.mine ∙ ap (λ (l : List Entry). p.view.mine ++ l) (sym nothing);
   cancelled = all;
+  posted = hold.waits.posted;
   spent = (let e = ap (λ (l : List Entry). length l) nothing in omega (arith, e));
   others = refl;
   no_word = λ left. (let e = ap (λ y. y.calls) limits in absurd (grind (arith, nat_tests, left, e, none_x)));
@@ -101,9 +104,17 @@ emptied_there s mid t e here =
     let long : length mid.desks ≡ length s.desks = ap (λ (x : Environment). length x.desks) e.new_is ∙ length-set s.desks (place_in s.desks t) e.after in
     omega (arith, still, long, here)
 
+-- nothing is out at a thread
+pub none_posted : (s : Environment) (t : ThreadNo) (p : DeskState) → slice_get s.desks (place_in s.desks t) ≡ Some p → outstanding s t ≡ 0 → p.view.posted ≡ []
+none_posted s t p at none = empty p.view.posted (ap out_of (sym at) ∙ none)
+  where
+    empty : (l : List Ticket) → length l ≡ 0 → l ≡ []
+    empty [] e = refl
+    empty (x ∷ l) e = absurd (omega (arith, e))
+
 -- and then it leaves
-pub cleared_then : (s mid new : Environment) (t : ThreadNo) (f : FreeState) → IsEmptied s mid t → IsTaken mid new t f → IsCleared s new t f
-cleared_then s mid new t f e k = record {
+pub cleared_then : (s mid new : Environment) (t : ThreadNo) (f : FreeState) → (may_change s.state.caps ≡ true → outstanding s t ≡ 0) → IsEmptied s mid t → IsTaken mid new t f → IsCleared s new t f
+cleared_then s mid new t f quiet e k = record {
   before = e.before;
   there = e.there;
   about = about_at s.desks t e.before e.there;
@@ -117,6 +128,7 @@ cleared_then s mid new t f e k = record {
     none_out = λ u. ap (λ (x : DeskState). is_out x u) (sym it) ∙ e.cancelled.none_out u;
     no_word = λ left. ap (λ (x : DeskState). word_asked x.env x.view.mine) (sym it) ∙ e.no_word ((λ j. has_left (record { desk = it j; spent = sym spent j })) ∙ left);
   };
+  quiet = λ may. ap (λ (x : DeskState). x.view.posted) (sym it) ∙ e.posted ∙ none_posted s t e.before e.there (quiet may);
   gone = k.gone;
   new_is = k.new_is ∙ (λ j. record { env = env j; state = with_known (state j) (t.0 + 1); desks = less j });
 }

@@ -12,6 +12,7 @@ pub mod Places
 pub mod Clearing
 pub mod Tried
 pub mod Emptying
+pub mod Quiescing
 pub mod StepByStep
 pub mod AtWork
 pub mod Barred

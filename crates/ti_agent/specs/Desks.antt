@@ -1,5 +1,5 @@
 -- Desks that come and go while an environment is at work.
-use Rattle.std.specs.Prelude.{◌≡◌, ◌+◌, ◌==◌, ◌&&◌, not, nat_le, nat_lt, Bool, if◌then◌else◌, [], ◌∷◌, ◌++◌, length, Option, Some, slice_get, remove}
+use Rattle.std.specs.Prelude.{◌≡◌, ◌+◌, ◌==◌, ◌&&◌, not, nat_le, nat_lt, Bool, true, if◌then◌else◌, [], ◌∷◌, ◌++◌, length, Option, Some, slice_get, remove}
 use Rattle.std.specs.List.{list_all}
 use Rattle.ti_types.specs.declared.error.TiError.{TiError}
 use Rattle.ti_types.specs.declared.error.TiError.TheVariants.{InvalidEnvironment, IllegalArgument}
@@ -7,9 +7,10 @@ use Rattle.ti_types.specs.declared.limits.Limits.{Limits}
 use Rattle.ti_types.specs.declared.numbers.ThreadNo.{ThreadNo}
 use Rattle.ti_types.specs.Refusing.{or_else, unless}
 use Rattle.ti_env.specs.Env.{spent_at, place_refusal, with_place, without_place, with_known}
-use Rattle.ti_agent.specs.Env.{Environment, place_in, place_of}
+use Rattle.ti_agent.specs.Env.{Environment, may_change, place_in, place_of}
 use Rattle.ti_handshake.specs.Desk.{DeskState}
 use Rattle.ti_agent.specs.FreeDesk.{FreeState, IsClean, clearing}
+use Rattle.ti_agent.specs.Quiesced.{MayQuiesce}
 
 -- whether a number was no thread's before: it is not below `known`, and above those of all desks
 abbrev pub is_new : Environment → ThreadNo → Bool
@@ -46,8 +47,9 @@ pub record IsTaken (old new : Environment) (t : ThreadNo) (f : FreeState) : Type
   pub gone : place_in new.desks t ≡ length new.desks
   pub new_is : new ≡ without_desk old t
 
--- The desk at a thread left, and nothing is left there of what the environment did. To set the word to 0 was its last call.
--- Nothing else changed, but that the number was a thread once
+-- The desk at a thread left, and nothing is left there of what the environment did. If it could suspend threads or pop frames, none of
+-- its calls is out: each took place. To set the word to 0 was its last call. Nothing else changed, but that the number was a
+-- thread once
 pub record IsCleared (old new : Environment) (t : ThreadNo) (f : FreeState) : Type 0 where
   pub before : DeskState
   pub there : slice_get old.desks (place_in old.desks t) ≡ Some before
@@ -59,5 +61,11 @@ pub record IsCleared (old new : Environment) (t : ThreadNo) (f : FreeState) : Ty
   pub mine : f.desk.view.mine ≡ before.view.mine ++ clearing (record { desk = before; spent = spent_at old.state (place_of old.desks t) })
   pub spent : f.spent ≡ spent_at old.state (place_of old.desks t) + length (clearing (record { desk = before; spent = spent_at old.state (place_of old.desks t) }))
   pub clean : IsClean f
+  pub quiet : may_change old.state.caps ≡ true → f.desk.view.posted ≡ []
   pub gone : place_in new.desks t ≡ length new.desks
   pub new_is : new ≡ without_desk old t
+
+-- First the environment's calls at a thread were answered, if it could change something there. Then the desk there left, and nothing
+-- is left there of what the environment did
+abbrev pub Retires : Environment → Environment → ThreadNo → FreeState → Type 0
+Retires old new t f = (quiet : Environment) × MayQuiesce old quiet t × IsCleared quiet new t f

@@ -18,6 +18,7 @@ pub record IsEmptied (old new : Environment) (t : ThreadNo) : Type 0 where
   pub subject : after.view.subject ≡ before.view.subject
   pub mine : after.view.mine ≡ before.view.mine ++ clearing (record { desk = before; spent = spent_at old.state (place_of old.desks t) })
   pub cancelled : CancelsAll before after
+  pub posted : after.view.posted ≡ before.view.posted
   pub spent : spent_at new.state (place_of old.desks t) ≡ spent_at old.state (place_of old.desks t) + length (clearing (record { desk = before; spent = spent_at old.state (place_of old.desks t) }))
   pub others : without_place new.state (place_of old.desks t) ≡ without_place old.state (place_of old.desks t)
   pub no_word : has_left (record { desk = after; spent = spent_at new.state (place_of old.desks t) }) ≡ true → word_asked after.env after.view.mine ≡ 0

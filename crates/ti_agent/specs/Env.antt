@@ -1,11 +1,13 @@
 -- An environment, with a desk at each of its threads.
-use Rattle.std.specs.Prelude.{ℕ, zero, suc, ◌≡◌, ◌+◌, ◌-◌, ◌<◌, ◌≤◌, ◌==◌, nat_le, nat_lt, Bool, true, false, if◌then◌else◌, List, [], ◌∷◌, length, map, Option, Some, None, slice_get}
+use Rattle.std.specs.Prelude.{ℕ, zero, suc, ◌≡◌, ◌+◌, ◌-◌, ◌<◌, ◌≤◌, ◌==◌, ◌||◌, nat_le, nat_lt, Bool, true, false, if◌then◌else◌, List, [], ◌∷◌, length, map, Option, Some, None, slice_get}
 use Rattle.atomic_table.specs.Seated.{TableId}
 use Rattle.ti_types.specs.declared.numbers.EnvNo.{EnvNo}
 use Rattle.ti_types.specs.declared.numbers.ThreadNo.{ThreadNo}
 use Rattle.ti_types.specs.declared.caps.Caps.{Caps}
-use Rattle.ti_types.specs.Caps.{caps_with}
+use Rattle.ti_types.specs.Caps.{caps_with, has_all}
+use Rattle.ti_types.specs.Call.{needed_by}
 use Rattle.ti_types.specs.declared.call.Call.{Call}
+use Rattle.ti_types.specs.declared.call.Call.TheVariants.{Suspend, Pop}
 use Rattle.ti_types.specs.declared.error.TiError.{TiError}
 use Rattle.ti_types.specs.declared.error.TiError.TheVariants.{InvalidThread, ThreadNotAlive}
 use Rattle.ti_env.specs.Env.{EnvValue, spent_at, call_refusal}
@@ -103,3 +105,7 @@ cells_at desks = map (λ p. p.cell) desks
 -- the capabilities that can be had
 abbrev pub potential_caps : Caps
 potential_caps = caps_with (record { bits = 1 }) (record { bits = 2 })
+
+-- whether calls that these capabilities allow may suspend a thread, or pop a frame
+abbrev pub may_change : Caps → Bool
+may_change caps = has_all caps (needed_by Suspend) || has_all caps (needed_by Pop)

@@ -1,5 +1,5 @@
 -- A desk that no environment has.
-use Rattle.std.specs.Prelude.{ℕ, ◌≡◌, ◌+◌, ◌-◌, ◌≤◌, ◌++◌, ◌==◌, nat_lt, Bool, true, false, if◌then◌else◌, List, [], ◌∷◌, length}
+use Rattle.std.specs.Prelude.{ℕ, ◌≡◌, ◌+◌, ◌-◌, ◌≤◌, ◌==◌, nat_lt, Bool, true, false, if◌then◌else◌, List, [], ◌∷◌, length}
 use Rattle.std.specs.List.{fold}
 use Rattle.ti_types.specs.declared.call.Call.TheVariants.{SetWord}
 use Rattle.ti_types.specs.declared.entry.Entry.{Entry}
@@ -45,14 +45,3 @@ pub record IsClean (f : FreeState) : Type 0 where
 -- the call that sets the word to 0, if one is left
 abbrev pub clearing : FreeState → List Entry
 clearing f = if has_left f then next_call f.desk.view f.desk.env (SetWord 0) ∷ [] else []
-
--- the word was set to 0, if a call was left
-pub record ClearsWord (old new : FreeState) : Type 0 where
-  pub cell : new.desk.cell ≡ old.desk.cell
-  pub env : new.desk.env ≡ old.desk.env
-  pub subject : new.desk.view.subject ≡ old.desk.view.subject
-  pub posted : new.desk.view.posted ≡ old.desk.view.posted
-  pub cancelled : new.desk.cancelled ≡ old.desk.cancelled
-  pub mine : new.desk.view.mine ≡ old.desk.view.mine ++ clearing old
-  pub spent : new.spent ≡ old.spent + length (clearing old)
-  pub no_word : has_left new ≡ true → word_asked new.desk.env new.desk.view.mine ≡ 0

@@ -166,33 +166,37 @@ impl<H: Home> Env<H> {
     }
 
     /// Takes the desk at a thread out of the environment, as `take_desk` does, and leaves nothing there of what the
-    /// environment did (JVM TI 11, DisposeEnvironment). Its calls that are out are cancelled, and each still takes place when
-    /// the thread reaches it. Its word is 0 again, if a call is left there: that costs one.
+    /// environment did (JVM TI 11, DisposeEnvironment). If it may suspend threads or pop frames, it waits until none of its calls is out
+    /// there (`quiesce`). Otherwise those that are out are cancelled. Its word is 0 again, if a call is left there: that costs one.
     ///
-    /// `None` if there is no desk at a thread of this number. The error is 110 OUT_OF_MEMORY if there is no memory to note
-    /// the calls that are cancelled. Then nothing changes.
+    /// `None` if there is no desk at a thread of this number. Then nothing changes. The error is 110 OUT_OF_MEMORY if there is
+    /// no memory to note the calls that are cancelled. Then nothing else changed.
     pub fn clear_desk<R: Wait>(
         &mut self,
         rt: &R,
         alloc: Global,
         thread: ThreadNo,
     ) -> Result<Option<FreeDesk>, TiError>
-        ensures cleared { IfOk result (λ r. IfSome r (λ f. IsCleared self.old.env self.new.env thread f)) }
+        ensures cleared { IfOk result (λ r. IfSome r (λ f. Retires self.old.env self.new.env thread f)) }
         ensures nobody { IfOk result (λ r. IfNone r (length self.old.env.desks ≤ place_in self.old.env.desks thread)) }
-        ensures same { IfOk result (λ r. IfNone r (self.new ≡ self.old)) }
+        ensures same { IfOk result (λ r. IfNone r (MayQuiesce self.old.env self.new.env thread)) }
         ensures memory { IfErr result (λ e. e ≡ OutOfMemory) }
-        ensures unchanged { OnErr result (self.new ≡ self.old) }
+        ensures steps { OnErr result (MayQuiesce self.old.env self.new.env thread) }
         ensures home { self.new.home ≡ self.old.home }
     {
         let pace = Pace::new();
         for _ in rt.forever() {
+            match self.settle(rt, alloc, thread) {
+                Ok(()) => (),
+                Err(error) => return Err(error),
+            }
             match self.clear_desk_now(alloc, thread) {
-                Ok(Some(free)) => {
-                    free.wake_sleepers();
-                    return Ok(Some(free));
+                Ok(cleared) => {
+                    wake_sleepers_of(&cleared);
+                    return Ok(cleared);
                 }
                 Err(TiError::Busy) => self.await_free_at(rt, thread, &pace),
-                result => return result,
+                Err(error) => return Err(error),
             }
         }
         unreachable!()
@@ -205,6 +209,13 @@ impl<H: Home> Env<H> {
         ensures home { self.new.home ≡ self.old.home }
     {
         self.state.know(below);
+    }
+}
+
+/// Wakes whoever sleeps at the thread of a desk and may go on.
+fn wake_sleepers_of(free: &Option<FreeDesk>) {
+    if let Some(free) = free {
+        free.wake_sleepers();
     }
 }
 
@@ -227,4 +238,5 @@ ghost use Rattle.ti_types.specs.declared.error.TiError.TheVariants.{OutOfMemory}
 ghost use Rattle.ti_env.specs.Env.{env_at_no_thread, with_known};
 ghost use Rattle.ti_agent.specs.Env.{outstanding, place_in, thread_at};
 ghost use Rattle.ti_agent.specs.Spots.{spot_of};
-ghost use Rattle.ti_agent.specs.Desks.{are_same, desk_refusal, is_new, with_desk, IsCleared, IsTaken};
+ghost use Rattle.ti_agent.specs.Desks.{are_same, desk_refusal, is_new, with_desk, IsTaken, Retires};
+ghost use Rattle.ti_agent.specs.Quiesced.{MayQuiesce};

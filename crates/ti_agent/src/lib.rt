@@ -27,6 +27,7 @@ mod list_tries;
 mod lists;
 mod manner;
 mod posts;
+mod quiesce;
 mod thread_counts;
 mod traces;
 mod tries;

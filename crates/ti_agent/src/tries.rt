@@ -225,34 +225,39 @@ impl<H: Home> Env<H> {
     }
 
     /// Takes the desk at a thread out of the environment, and leaves nothing there of what the environment did (JVM TI 11,
-    /// DisposeEnvironment). It is the same as `clear_desk`, but tries to hold the thread's cell just once, for all of it.
+    /// DisposeEnvironment). It is the same as `clear_desk`, but never waits: it settles there (`settle_now`), and then tries to hold
+    /// the thread's cell just once.
     ///
-    /// Its calls that are out are cancelled, and each still takes place when the thread reaches it. Its word is 0 again, if a
-    /// call is left there: that costs one.
+    /// If it may suspend threads or pop frames, none of its calls is out there then. Otherwise those that are out are cancelled. Its
+    /// word is 0 again, if a call is left there: that costs one.
     ///
     /// `None` if there is no desk at a thread of this number. Then nothing changes.
     ///
-    /// The error is one of these. Then nothing changes.
+    /// The error is one of these. The calls may be cancelled, and answers may be discarded. Nothing else changed.
     ///
     /// - 110 OUT_OF_MEMORY: there is no memory to note the calls that are cancelled.
-    /// - 215 (this profile: `Busy`): the thread's cell is in use.
+    /// - 215 (this profile: `Busy`): the thread's cell is in use, or a call of the environment's is out there.
     pub fn clear_desk_now(
         &mut self,
         alloc: Global,
         thread: ThreadNo,
     ) -> Result<Option<FreeDesk>, TiError>
-        ensures cleared { IfOk result (λ r. IfSome r (λ f. IsCleared self.old.env self.new.env thread f)) }
+        ensures cleared { IfOk result (λ r. IfSome r (λ f. Retires self.old.env self.new.env thread f)) }
         ensures nobody { IfOk result (λ r. IfNone r (length self.old.env.desks ≤ place_in self.old.env.desks thread)) }
         ensures same { IfOk result (λ r. IfNone r (self.new ≡ self.old)) }
         ensures refused { IfErr result (λ e. (e ≡ OutOfMemory) ⊎ (e ≡ Busy)) }
         ensures there { OnErr result (place_in self.old.env.desks thread < length self.old.env.desks) }
-        ensures unchanged { OnErr result (self.new ≡ self.old) }
+        ensures steps { OnErr result (MayQuiesce self.old.env self.new.env thread) }
         ensures home { self.new.home ≡ self.old.home }
     {
-        let place = self.place_of(thread);
-        if place.0 >= self.desk_count() {
+        if self.place_of(thread).0 >= self.desk_count() {
             return Ok(None);
         }
+        match self.settle_now(alloc, thread) {
+            Ok(()) => (),
+            Err(error) => return Err(error),
+        }
+        let place = self.place_of(thread);
         match self.empty_now(alloc, thread, place) {
             Ok(()) => (),
             Err(error) => return Err(error),
@@ -273,7 +278,8 @@ ghost use Rattle.ti_replay.specs.Admission.{takes_buffer};
 ghost use Rattle.ti_replay.specs.Settling.{waits};
 ghost use Rattle.ti_agent.specs.Buffers.{IsJustBufferOf};
 ghost use Rattle.ti_agent.specs.Deadlines.{Cancels, DiscardsAt};
-ghost use Rattle.ti_agent.specs.Desks.{IsCleared};
+ghost use Rattle.ti_agent.specs.Desks.{Retires};
 ghost use Rattle.ti_agent.specs.Emptied.{IsEmptied};
 ghost use Rattle.ti_agent.specs.Env.{place_in, place_of, thread_refusal, is_full};
 ghost use Rattle.ti_agent.specs.Posts.{posting_refusal, Posts, LooksFor, IsOutIfWaiting};
+ghost use Rattle.ti_agent.specs.Quiesced.{MayQuiesce};

@@ -2,7 +2,7 @@
 use Rattle.std.proofs.Common.{◌≡◌, ℕ, inl, inr, Option, Some, refl, sym, ap, subst, ◌∙◌, arith}
 use Rattle.ti_types.specs.TiError.{number_of}
 use Rattle.ti_types.specs.declared.error.TiError.{TiError}
-use Rattle.ti_service.specs.Leaving.{StaysOn, NotCleared, NotLeft}
+use Rattle.ti_service.specs.Leaving.{StaysOn, NotQuiet, NotCleared, NotLeft}
 use Rattle.ti_service.specs.Memberships.{AgentValue, state_of}
 use Rattle.ti_capi.specs.declared.held.HeldEnv.{HeldEnv}
 use Rattle.ti_capi.specs.declared.held.HeldThread.{HeldThread}
@@ -13,6 +13,8 @@ use Rattle.ti_capi.proofs.Behind.{same_env}
 
 -- a refusal has no code 0
 refused_not_0 : (s n : AgentValue) (e : TiError) → StaysOn (state_of s) (state_of n) e → (code : ℕ) → code ≡ number_of e → code ≡ 0 → ⊥
+refused_not_0 s n e (NotQuiet (inl is) same waiting quiet) code c z = let f = c ∙ ap number_of is in omega (arith, f, z)
+refused_not_0 s n e (NotQuiet (inr is) same waiting quiet) code c z = let f = c ∙ ap number_of is in omega (arith, f, z)
 refused_not_0 s n e (NotCleared (inl is) same all) code c z = let f = c ∙ ap number_of is in omega (arith, f, z)
 refused_not_0 s n e (NotCleared (inr is) same all) code c z = let f = c ∙ ap number_of is in omega (arith, f, z)
 refused_not_0 s n e (NotLeft is over cell looks all) code c z = let f = c ∙ ap number_of is in omega (arith, f, z)

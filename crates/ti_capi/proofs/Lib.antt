@@ -8,3 +8,4 @@ mod Traced
 mod ClassParts
 mod ClassTelling
 mod Stopping
+mod Telling

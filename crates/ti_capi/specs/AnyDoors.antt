@@ -1,21 +1,22 @@
 -- Doors of either kind, as C uses them.
-use Rattle.std.specs.Prelude.{ℕ, ◌≡◌, ◌≤◌, ◌==◌, ◌/◌, ⊤, Bool, true, false, List, is_some, if◌then◌else◌, Option, None, Some, Result, Ok, Err}
+use Rattle.std.specs.Prelude.{ℕ, ◌≡◌, ◌≤◌, ◌==◌, ◌/◌, ⊤, Bool, true, false, List, [], is_some, if◌then◌else◌, Option, None, Some, Result, Ok, Err}
 use Rattle.ti_http.specs.Talks.{Talk, written_from}
 use Rattle.ti_monitor.specs.declared.door_error.DoorError.{DoorError}
 use Rattle.ti_monitor.specs.declared.door_error.DoorError.TheVariants.{NoConnection, OutOfMemory}
-use Rattle.ti_monitor.specs.declared.door_seat.Todo.{Todo}
-use Rattle.ti_monitor.specs.declared.door_seat.Todo.TheVariants.{Close, Wait, Write}
+use Rattle.ti_monitor.specs.declared.door_seat.Todo.{Todo as HttpTodo}
+use Rattle.ti_monitor.specs.declared.door_seat.Todo.TheVariants as http_todo
 use Rattle.ti_monitor.specs.Doors as http
 use Rattle.ti_monitor.specs.Seats as http_seats
 use Rattle.ti_jdwp.specs.Lines.{with_written}
 use Rattle.ti_jdwp.specs.Talks as debugger_talks
 use Rattle.ti_debugger.specs.declared.debugger_error.DebuggerError.{DebuggerError}
 use Rattle.ti_debugger.specs.declared.debugger_error.DebuggerError.TheVariants as debugger_error
-use Rattle.ti_debugger.specs.declared.seat.Todo.{Todo as DebuggerTodo}
-use Rattle.ti_debugger.specs.declared.seat.Todo.TheVariants as debugger_todo
+use Rattle.ti_debugger.specs.declared.seat.Todo.{Todo}
+use Rattle.ti_debugger.specs.declared.seat.Todo.TheVariants as todo
 use Rattle.ti_debugger.specs.Crowds.{NoneHeld}
 use Rattle.ti_debugger.specs.Debuggers.{DebuggerValue, Works}
 use Rattle.ti_debugger.specs.Told.{ToldBy}
+use Rattle.ti_debugger.specs.declared.asked.Asked.TheVariants as asked
 use Rattle.ti_service.specs.Classes.{classes_of}
 use Rattle.ti_service.specs.Leaving.{Disposes}
 use Rattle.ti_service.specs.Memberships.{state_of}
@@ -38,10 +39,10 @@ abbrev pub at_door : DebuggerError → DoorError
 at_door debugger_error.OutOfMemory = OutOfMemory
 at_door debugger_error.NoDebugger = NoConnection
 
-abbrev pub todo_at_door : DebuggerTodo → Todo
-todo_at_door debugger_todo.Wait = Wait
-todo_at_door debugger_todo.Write = Write
-todo_at_door debugger_todo.Close = Close
+abbrev pub todo_at_door : HttpTodo → Todo
+todo_at_door http_todo.Wait = todo.Wait
+todo_at_door http_todo.Write = todo.Write
+todo_at_door http_todo.Close = todo.Close
 
 -- the session of a debugger's connection of this number
 abbrev pub session_at : ℕ → DebuggerValue → Option debugger_talks.Talk
@@ -91,10 +92,10 @@ AllRun _ _ = ⊥
 
 -- the connection goes on by calls, and this is to be done with it
 abbrev pub Goes : ℕ → Todo → AnyDoor → AnyDoor → Type 0
-Goes connection todo (any.Http d) (any.Http n) = http.Changes d n connection (λ t n. http_seats.RunsTo t n × http_seats.Says n todo)
-Goes connection todo (any.Debugger d) (any.Debugger n) =
-    Works d n × (t : DebuggerTodo) × (todo ≡ todo_at_door t) × sessions.Changes (session_at connection d) (session_at connection n) (λ s n. debugger_runs.RunsTo s n × debugger_seats.Says n t)
-Goes connection todo _ _ = ⊥
+Goes connection t (any.Http d) (any.Http n) = (h : HttpTodo) × (t ≡ todo_at_door h) × http.Changes d n connection (λ s n. http_seats.RunsTo s n × http_seats.Says n h)
+Goes connection t (any.Debugger d) (any.Debugger n) =
+    Works d n × sessions.Changes (session_at connection d) (session_at connection n) (λ s s'. debugger_runs.RunsTo s s' × debugger_seats.Says n.asked s' t)
+Goes connection t _ _ = ⊥
 
 -- there is no session, or no memory
 abbrev pub RefusesSession : Option debugger_talks.Talk → DoorError → Type 0
@@ -135,14 +136,14 @@ Writes connection count now _ _ = ⊥
 -- The connection is gone. What a debugger suspended is resumed, or will be
 abbrev pub Disconnects : ℕ → AnyDoor → AnyDoor → Type 0
 Disconnects connection (any.Http d) (any.Http n) = (is_some (http.talk_at d connection) ≡ true) × (n ≡ http.with_talk d connection None)
-Disconnects connection (any.Debugger d) (any.Debugger n) = (is_some (session_at connection d) ≡ true) × (n.session ≡ None) × NoneHeld n.watched × Works d n
+Disconnects connection (any.Debugger d) (any.Debugger n) = (is_some (session_at connection d) ≡ true) × (n.session ≡ None) × NoneHeld n.watched × (n.asked ≡ asked.Nothing) × (n.objects ≡ []) × Works d (record n { objects = d.objects })
 Disconnects connection _ _ = ⊥
 
 -- Each connection goes on, and none opens or closes. A debugger's session is told of events alone
 abbrev pub Ticks : AnyDoor → AnyDoor → Type 0
 Ticks (any.Http d) (any.Http n) = http.AllRun d n
 Ticks (any.Debugger d) (any.Debugger n) =
-    ToldBy (classes_of n.agent) d.next_class n.next_class d.session n.session × (d.resumptions ≤ n.resumptions) × (n.about ≡ d.about)
+    ToldBy (classes_of n.agent) d.next_class n.next_class d.session n.session × (d.resumptions ≤ n.resumptions) × (n.about ≡ d.about) × (n.tells ≡ d.tells) × (n.asked ≡ d.asked) × (n.objects ≡ d.objects)
 Ticks _ _ = ⊥
 
 -- A door for debuggers ends only if no debugger is connected, and no suspension is out or to be undone

@@ -7,12 +7,13 @@ use Rattle.ti_http.specs.declared.hosts.Hosts.{Hosts}
 use Rattle.ti_http.specs.declared.hosts.Hosts.TheVariants as hosts
 use Rattle.ti_monitor.specs.declared.door_error.DoorError.{DoorError}
 use Rattle.ti_monitor.specs.declared.door_error.DoorError.TheVariants as door_error
-use Rattle.ti_monitor.specs.declared.door_seat.Todo.{Todo}
-use Rattle.ti_monitor.specs.declared.door_seat.Todo.TheVariants as todo
+use Rattle.ti_debugger.specs.declared.seat.Todo.{Todo}
+use Rattle.ti_debugger.specs.declared.seat.Todo.TheVariants as todo
 use Rattle.ti_monitor.specs.Doors.{door_with}
 use Rattle.ti_service.specs.Service.{Member, with_handle}
 use Rattle.ti_debugger.specs.Crowds.{NoneHeld}
 use Rattle.ti_debugger.specs.declared.about.About.{About}
+use Rattle.ti_debugger.specs.declared.asked.Asked.TheVariants as asked
 use Rattle.ti_capi.specs.declared.any_door.AnyDoor.{AnyDoor}
 use Rattle.ti_capi.specs.declared.any_door.AnyDoor.TheVariants.{Http, Debugger}
 use Rattle.ti_capi.specs.declared.held.Held.{Held}
@@ -38,6 +39,7 @@ abbrev pub action_of : Todo → ℕ
 action_of todo.Wait = 0
 action_of todo.Write = 1
 action_of todo.Close = 2
+action_of todo.Ask = 3
 
 -- A call at the door in a box. With a door, the call does this to it. With none, nothing is written, and the code is 304
 abbrev pub CallsBox : (AnyDoor → AnyDoor → ℕ → Type 0) → (unwritten : Type 0) → Option AnyDoor → Option AnyDoor → ℕ → Type 0
@@ -141,7 +143,7 @@ RefusesDebugger name path m n e = (NamesOneWrongly name path e × (n ≡ m)) ⊎
 
 -- the version of this library
 abbrev pub version : List ℕ
-version = codes "1.5.0"
+version = codes "1.6.0"
 
 -- debuggers are told this name, this path and this version
 pub record TellsAbout (name path version : List ℕ) (a : About) : Type 0 where
@@ -151,9 +153,10 @@ pub record TellsAbout (name path version : List ℕ) (a : About) : Type 0 where
   pub base_is : string_bytes a.base ≡ path
   pub path_is : string_bytes a.path ≡ path
 
--- no debugger is connected, none has suspended a thread, and this is what debuggers are told of the program
+-- No debugger is connected, none has suspended a thread, and this is what debuggers are told of the program. The runtime tells no
+-- variables, no question is open, and no text or table is kept
 abbrev pub Awaits : List ℕ → List ℕ → Option AnyDoor → Type 0
-Awaits name path (Some (Debugger d)) = (d.session ≡ None) × NoneHeld d.watched × TellsAbout name path version d.about
+Awaits name path (Some (Debugger d)) = (d.session ≡ None) × NoneHeld d.watched × TellsAbout name path version d.about × (d.tells ≡ false) × (d.asked ≡ asked.Nothing) × (d.objects ≡ [])
 Awaits name path (Some (Http d)) = ⊥
 Awaits name path None = ⊥
 

@@ -18,4 +18,5 @@ pub mod Defining
 pub mod Classes
 pub mod AnyDoors
 pub mod Doors
+pub mod Questions
 pub mod Stops

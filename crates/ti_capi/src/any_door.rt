@@ -1,7 +1,8 @@
 //! A door of either kind: for requests of HTTP, or for debuggers.
 
-use ti_debugger::{Debugger, DebuggerError, Todo as DebuggerTodo};
-use ti_monitor::{ConnNo, Door, DoorError, Todo};
+use ti_debugger::{Debugger, DebuggerError, Question, TellError, Todo, Told, Variable};
+use ti_jdwp::JdwpError;
+use ti_monitor::{ConnNo, Door, DoorError, Todo as HttpTodo};
 use ti_service::Service;
 use ti_types::TiError;
 
@@ -34,13 +35,13 @@ fn at_door(error: DebuggerError) -> DoorError
 }
 
 /// What is to be done, by the other door's name.
-fn todo_at_door(todo: DebuggerTodo) -> Todo
+fn todo_at_door(todo: HttpTodo) -> Todo
     ensures { result ≡ todo_at_door todo }
 {
     match todo {
-        DebuggerTodo::Wait => Todo::Wait,
-        DebuggerTodo::Write => Todo::Write,
-        DebuggerTodo::Close => Todo::Close,
+        HttpTodo::Wait => Todo::Wait,
+        HttpTodo::Write => Todo::Write,
+        HttpTodo::Close => Todo::Close,
     }
 }
 
@@ -63,10 +64,10 @@ impl AnyDoor {
         ensures run { OnErr result (AllRun self.old self.new) }
     {
         match self {
-            AnyDoor::Http(door) => door.next(ConnNo(connection), now, unix),
+            AnyDoor::Http(door) => door.next(ConnNo(connection), now, unix).map(todo_at_door),
             AnyDoor::Debugger(debugger) => {
                 only(connection)?;
-                debugger.next(now).map(todo_at_door).map_err(at_door)
+                debugger.next(now).map_err(at_door)
             }
         }
     }
@@ -206,6 +207,60 @@ impl AnyDoor {
         }
     }
 
+    /// Says whether the runtime tells variables. Nothing happens at a door for HTTP.
+    pub(crate) fn tells_variables(&mut self, tells: bool)
+        ensures { SaysTells tells self.old self.new 0 }
+    {
+        match self {
+            AnyDoor::Http(_) => (),
+            AnyDoor::Debugger(debugger) => debugger.tells_variables(tells),
+        }
+    }
+
+    /// The question that is open. At a door for HTTP there is none.
+    pub(crate) fn question(&self) -> Option<Question>
+        ensures { result ≡ question_at self.now }
+    {
+        match self {
+            AnyDoor::Http(_) => None,
+            AnyDoor::Debugger(debugger) => debugger.question(),
+        }
+    }
+
+    /// Answers a question for variables.
+    pub(crate) fn tell_variables(
+        &mut self,
+        variables: &[Variable],
+        names: &[u8],
+    ) -> Result<(), TellError>
+        ensures { TellsVariables variables.now names.now self.old self.new result }
+    {
+        match self {
+            AnyDoor::Http(_) => Err(TellError::NotAsked),
+            AnyDoor::Debugger(debugger) => debugger.tell_variables(variables, names),
+        }
+    }
+
+    /// Answers a question for values.
+    pub(crate) fn tell_values(&mut self, values: &[Told], texts: &[u8]) -> Result<(), TellError>
+        ensures { TellsTold values.now texts.now self.old self.new result }
+    {
+        match self {
+            AnyDoor::Http(_) => Err(TellError::NotAsked),
+            AnyDoor::Debugger(debugger) => debugger.tell_values(values, texts),
+        }
+    }
+
+    /// Answers a question by an error.
+    pub(crate) fn tell_none(&mut self, error: JdwpError) -> Result<(), TellError>
+        ensures { TellsNone error self.old self.new result }
+    {
+        match self {
+            AnyDoor::Http(_) => Err(TellError::NotAsked),
+            AnyDoor::Debugger(debugger) => debugger.tell_none(error),
+        }
+    }
+
     /// Disposes of the environment. With an error the door comes back.
     pub(crate) fn finish(self) -> Result<Service, (TiError, AnyDoor)>
         ensures done { OnOk result (MayEnd self) }
@@ -226,4 +281,5 @@ impl AnyDoor {
 }
 
 ghost use Rattle.std.specs.Prelude.{◌≡◌, IfErr, IfNone, IfOk, IfSome, OnErr, OnOk};
+ghost use Rattle.ti_capi.specs.Questions.{SaysTells, TellsNone, TellsTold, TellsVariables, question_at};
 ghost use Rattle.ti_capi.specs.AnyDoors.{AllRun, Disconnects, Ends, EndsAs, Feeds, Goes, IsAsBefore, IsFull, IsUnknown, MayEnd, Opens, Refuses, StaysAs, Ticks, Writes, at_door, is_there, only, output_at, resumptions, room_at, todo_at_door};

@@ -7,14 +7,14 @@ use crate::held::{Held, HeldDoor};
 use crate::service_calls::{boxed, fill, name_of};
 use crate::writes::write_bytes;
 use std::alloc::Global;
-use ti_debugger::{About, Debugger};
+use ti_debugger::{About, Debugger, Todo};
 use ti_http::Hosts;
-use ti_monitor::{Door, DoorError, Monitor, Todo};
+use ti_monitor::{Door, DoorError, Monitor};
 use ti_service::Service;
 use ti_types::TiError;
 
 /// The version that `/metrics` and a debugger are told, which is that of `cebdyraq.h`.
-const VERSION: &str = "1.5.0";
+const VERSION: &str = "1.6.0";
 
 /// The hosts that are served at a port. Above 65,535 there is no port, and every host is served.
 fn hosts_at(port: u32) -> Hosts
@@ -55,6 +55,7 @@ fn action_of(todo: Todo) -> u32
         Todo::Wait => 0,
         Todo::Write => 1,
         Todo::Close => 2,
+        Todo::Ask => 3,
     }
 }
 

@@ -17,6 +17,7 @@ mod class_reads;
 mod class_values;
 mod class_writes;
 mod codes;
+mod door_questions;
 mod doors;
 mod env_collects;
 mod env_events;
@@ -45,6 +46,7 @@ mod writes;
 
 pub use any_door::AnyDoor;
 pub use class_values::{CqClassRanges, CqLineEntry, CqMethodName, CqMethodRanges, CqRange};
+pub use door_questions::{CqQuestion, CqValue, CqVariable};
 pub use handle::{CqDoor, CqEnv, CqHandle, CqService, CqThread};
 pub use held::{Held, HeldDoor, HeldEnv, HeldThread};
 pub use held_at::HeldAt;

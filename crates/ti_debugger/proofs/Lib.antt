@@ -2,4 +2,8 @@ pub mod ClassLaws
 pub mod CrowdLaws
 pub mod RefusedLaws
 pub mod RunLaws
+pub mod StackLaws
+pub mod MethodLaws
 pub mod TellLaws
+pub mod TakeLaws
+pub mod VariableLaws

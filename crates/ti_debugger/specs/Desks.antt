@@ -13,6 +13,9 @@ debugger_of seat desk = record {
   about = desk.about;
   next_class = desk.next_class;
   resumptions = desk.resumptions;
+  tells = desk.tells;
+  asked = desk.asked;
+  objects = desk.objects.list.items;
 }
 
 -- threads are met, watched and let go of, and no thread is resumed
@@ -20,9 +23,14 @@ pub record Watches (old new : Desk) : Type 0 where
   pub classes : new.next_class ≡ old.next_class
   pub resumptions : new.resumptions ≡ old.resumptions
   pub about : new.about ≡ old.about
+  pub tells : new.tells ≡ old.tells
+  pub asked : new.asked ≡ old.asked
+  pub objects : new.objects ≡ old.objects
 
--- threads are suspended, asked and resumed
+-- threads are suspended, asked and resumed, and the runtime is asked
 pub record Works (old new : Desk) : Type 0 where
   pub classes : new.next_class ≡ old.next_class
   pub resumptions : old.resumptions ≤ new.resumptions
   pub about : new.about ≡ old.about
+  pub tells : new.tells ≡ old.tells
+  pub objects : new.objects ≡ old.objects

@@ -12,5 +12,10 @@ pub mod Refused
 pub mod Sources
 pub mod Told
 pub mod Desks
+pub mod StackReplies
+pub mod MethodReplies
+pub mod Questions
+pub mod Taking
+pub mod VariableReplies
 pub mod Replies
 pub mod Stopping

@@ -1,13 +1,8 @@
 -- What the body of a reply says.
-use Rattle.std.specs.Prelude.{ℕ, suc, ◌≡◌, ◌++◌, ◌==◌, ◌⊎◌, true, false, List, [], ◌∷◌, Option, Some, None, length, map, filter, bytes_eq, codes, string_bytes, slice_get, pos, if◌then◌else◌}
+use Rattle.std.specs.Prelude.{ℕ, suc, ◌≡◌, ◌++◌, ◌==◌, true, false, List, [], ◌∷◌, Option, Some, None, length, map, filter, bytes_eq, codes, string_bytes, if◌then◌else◌}
 use Rattle.std.specs.Fmt.{decimal}
 use mathlib.Core.List.{IsPrefix}
-use Rattle.ti_types.specs.declared.answer.Answer.{Answer}
-use Rattle.ti_types.specs.declared.answer.Answer.TheVariants as answer
-use Rattle.ti_types.specs.declared.call.Call.TheVariants as call
-use Rattle.ti_slot.specs.declared.asked.Asked.TheVariants.{Answered}
-use Rattle.ti_agent.specs.Posts.{Posts}
-use Rattle.ti_jdwp.specs.Bodies.{flag, found_list, list, signed, thread_list}
+use Rattle.ti_jdwp.specs.Bodies.{found_list, list, thread_list}
 use Rattle.ti_jdwp.specs.Fields.{bytes_at, int, long, text}
 use Rattle.ti_jdwp.specs.Ids.{id_from, number_from, first_class, first_thread}
 use Rattle.ti_jdwp.specs.declared.request.Request.{Request}
@@ -21,8 +16,10 @@ use Rattle.ti_debugger.specs.declared.class_answers.Known.{Known}
 use Rattle.ti_debugger.specs.declared.desk.Desk.{Desk}
 use Rattle.ti_debugger.specs.declared.watched.Watched.{Watched}
 use Rattle.ti_debugger.specs.Crowds.{alive_in}
-use Rattle.ti_debugger.specs.Status.{is_suspended, is_terminated, status_of}
 use Rattle.ti_debugger.specs.Sources.{file_in}
+use Rattle.ti_debugger.specs.MethodReplies.{TellsMethods}
+use Rattle.ti_debugger.specs.StackReplies.{IsWatched, TellsDepth, TellsFrames, TellsState}
+use Rattle.ti_debugger.specs.VariableReplies.{TellsClass, TellsEntries, TellsFrame, TellsLength, TellsText, TellsVariables}
 
 abbrev pub version_text : About → List ℕ
 version_text about = text (string_bytes about.description) ++ int 1 ++ int 8 ++ text (string_bytes about.version) ++ text (string_bytes about.name)
@@ -34,32 +31,8 @@ paths_text about = text (string_bytes about.base) ++ int 1 ++ text (string_bytes
 abbrev pub name_in : Watched → List ℕ
 name_in w = if length (string_bytes w.name) == 0 then codes "thread " ++ decimal w.thread.0 else string_bytes w.name
 
--- the thread with this number is watched
-pub record IsWatched (list : List Watched) (thread : ℕ) (one : Watched) : Type 0 where
-  pub place : ℕ
-  pub at : slice_get list place ≡ Some one
-  pub number : one.thread.0 ≡ thread
-
 abbrev pub NamesThread : List Watched → ℕ → List ℕ → Type 0
 NamesThread list thread body = (one : Watched) × IsWatched list thread one × (body ≡ text (name_in one))
-
--- the bits of a thread that told its state, if it has not ended
-abbrev pub bits_in : Answer → Option ℕ
-bits_in (answer.State bits) = if is_terminated bits then None else Some bits
-bits_in _ = None
-
-abbrev pub state_text : Option ℕ → List ℕ
-state_text None = signed (pos 0) ++ int (flag false)
-state_text (Some bits) = signed (status_of bits) ++ int (flag (is_suspended bits))
-
--- a thread that is watched has ended, or it was asked for its state, and told these bits
-abbrev pub HasState : Desk → Desk → ℕ → Option ℕ → Type 0
-HasState old new thread bits =
-    ((one : Watched) × IsWatched old.crowd.list.items thread one × (one.ended ≡ true) × (bits ≡ None))
-    ⊎ ((a : Answer) × Posts old.agent.env new.agent.env (record { 0 = thread }) call.State (Answered a) × (bits ≡ bits_in a))
-
-abbrev pub TellsState : Desk → Desk → ℕ → List ℕ → Type 0
-TellsState old new thread body = (bits : Option ℕ) × HasState old new thread bits × (body ≡ state_text bits)
 
 -- a text that the class with this id has, as it was defined
 abbrev pub TellsOfClass : (List ClassInfo → ClassNo → List ℕ → Type 0) → List ClassInfo → ℕ → (List ℕ → List ℕ) → List ℕ → Type 0
@@ -107,9 +80,19 @@ IsBodyOf request.AllThreads bytes old new body = body ≡ thread_list (alive_in 
 IsBodyOf (request.GroupChildren id) bytes old new body = body ≡ thread_list (alive_in old.crowd.list.items) ++ int 0
 IsBodyOf (request.ThreadName id) bytes old new body = (thread : ℕ) × (number_from first_thread id ≡ Some thread) × NamesThread old.crowd.list.items thread body
 IsBodyOf (request.ThreadStatus id) bytes old new body = (thread : ℕ) × (number_from first_thread id ≡ Some thread) × TellsState old new thread body
+IsBodyOf (request.FrameCount id) bytes old new body = (thread : ℕ) × (number_from first_thread id ≡ Some thread) × TellsDepth old new thread body
+IsBodyOf (request.Frames id start length) bytes old new body = (thread : ℕ) × (number_from first_thread id ≡ Some thread) × TellsFrames old new thread start length body
+IsBodyOf (request.MethodsWithGeneric id) bytes old new body = TellsMethods (classes_of new.agent) id body
 IsBodyOf request.AllClasses bytes old new body = TellsAllClasses (classes_of old.agent) (classes_of new.agent) body
 IsBodyOf (request.ClassesBySignature range) bytes old new body = TellsFound (bytes_at range bytes) (classes_of old.agent) (classes_of new.agent) body
 IsBodyOf (request.Signature id) bytes old new body = TellsOfClass IsSignature (classes_of new.agent) id text body
 IsBodyOf (request.SignatureWithGeneric id) bytes old new body = TellsOfClass IsSignature (classes_of new.agent) id with_generic body
 IsBodyOf (request.SourceFile id) bytes old new body = TellsOfClass IsSourceFile (classes_of new.agent) id file_text body
+IsBodyOf (request.VariableTable class method) bytes old new body = TellsVariables false method old.asked body
+IsBodyOf (request.VariableTableWithGeneric class method) bytes old new body = TellsVariables true method old.asked body
+IsBodyOf (request.FrameValues id frame slots) bytes old new body = (thread : ℕ) × (number_from first_thread id ≡ Some thread) × TellsFrame thread frame (bytes_at slots bytes) old.asked body
+IsBodyOf (request.TextValue id) bytes old new body = TellsText old.objects.list.items id body
+IsBodyOf (request.TableLength id) bytes old new body = TellsLength old.objects.list.items id body
+IsBodyOf (request.TableEntries id start len) bytes old new body = TellsEntries old.objects.list.items id start len body
+IsBodyOf (request.ReferenceType id) bytes old new body = TellsClass old.objects.list.items id body
 IsBodyOf _ bytes old new body = Unit {0}

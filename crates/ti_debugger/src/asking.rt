@@ -34,7 +34,7 @@ impl Desk {
     /// The body of the reply to a request, whose data are these bytes.
     pub(crate) fn answer(&mut self, request: Request, bytes: &[u8]) -> Result<Vec<u8>, Refusal>
         ensures told { IfOk result (λ v. IsBodyOf request bytes.now self.old self.new v.items) }
-        ensures rest { self.new ≡ record self.old { agent = self.new.agent } }
+        ensures rest { self.new ≡ record self.old { agent = self.new.agent; asked = self.new.asked } }
     {
         match request {
             Request::Version => self.version(),
@@ -46,6 +46,24 @@ impl Desk {
             Request::SourceFile(class) => self.source_file(class),
             Request::MethodsWithGeneric(class) => self.methods(class),
             Request::LineTable { class, method } => self.line_table(class, method),
+            Request::VariableTable { class, method } => self.variables(class, method, false),
+            Request::VariableTableWithGeneric { class, method } => {
+                self.variables(class, method, true)
+            }
+            Request::FrameValues {
+                thread,
+                frame,
+                slots,
+            } => self.values(thread_in(thread)?, frame, slots.of(bytes)),
+            Request::ReferenceType(id) => self.class_of_object(id),
+            Request::IsCollected(id) => self.is_collected(id),
+            Request::TextValue(id) => self.text_value(id),
+            Request::TableLength(id) => self.table_length(id),
+            Request::TableEntries {
+                table,
+                start,
+                length,
+            } => self.table_entries(table, start, length),
             _ => self.answer_of_thread(request),
         }
     }

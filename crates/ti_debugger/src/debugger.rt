@@ -23,7 +23,7 @@ const LATER: u64 = 10_000_000;
 pub struct Debugger {
     alloc: Global,
     seat: Option<Seat>,
-    desk: Desk,
+    pub(crate) desk: Desk,
     last_tick: u64,
 }
 
@@ -43,6 +43,7 @@ impl Debugger {
         ensures free { NoneHeld result.watched }
         ensures resumptions { result.resumptions ≡ 0 }
         ensures about { result.about ≡ about }
+        ensures variables { (result.tells ≡ false) × (result.asked ≡ Nothing) × (result.objects ≡ []) }
     {
         Debugger {
             alloc,
@@ -118,15 +119,16 @@ impl Debugger {
         Ok(())
     }
 
-    /// What the caller does next with the connection. Requests are answered here.
+    /// What the caller does next with the connection. Requests are answered here, and while a question is open none is: nothing changes.
     ///
     /// - 112 WRONG_PHASE: no debugger is connected. Nothing changes.
     /// - 110 OUT_OF_MEMORY: there is no memory for a reply, an event, or what a request asks to be kept. What was done before stays
     ///   done, and the rest waits for the next call.
     pub fn next(&mut self, now: u64) -> Result<Todo, DebuggerError>
-        ensures run { IfOk result (λ t. Changes self.old.session self.new.session (λ s s'. RunsTo s s' × Says s' t)) }
+        ensures run { IfOk result (λ t. Changes self.old.session self.new.session (λ s s'. RunsTo s s' × Says self.new.asked s' t)) }
         ensures err { IfErr result (Refuses RunsTo self.old self.new) }
         ensures desk { Works self.old self.new }
+        ensures open { is_some (question_in self.old.asked) ≡ true → self.new ≡ self.old }
     {
         let Some(mut seat) = self.seat.take() else {
             return Err(DebuggerError::NoDebugger);
@@ -167,11 +169,13 @@ impl Debugger {
     pub fn closed(&mut self)
         ensures gone { self.new.session ≡ None }
         ensures free { NoneHeld self.new.watched }
-        ensures desk { Works self.old self.new }
+        ensures variables { (self.new.asked ≡ Nothing) × (self.new.objects ≡ []) }
+        ensures desk { Works self.old (record self.new { objects = self.old.objects }) }
     {
         self.seat = None;
         self.desk.let_go_of_all();
         self.desk.resume_all();
+        self.desk.forget_variables();
     }
 
     /// Does what is due: it meets threads, tells the session of their starts and ends, of their stops and of the classes that were
@@ -180,6 +184,7 @@ impl Debugger {
         ensures told { ToldBy (classes_of self.new.agent) self.old.next_class self.new.next_class self.old.session self.new.session }
         ensures resumptions { self.old.resumptions ≤ self.new.resumptions }
         ensures about { self.new.about ≡ self.old.about }
+        ensures variables { (self.new.tells ≡ self.old.tells) × (self.new.asked ≡ self.old.asked) × (self.new.objects ≡ self.old.objects) }
     {
         self.last_tick = now;
         self.desk.meet_if_due(now);
@@ -259,7 +264,7 @@ impl Debugger {
     }
 }
 
-ghost use Rattle.std.specs.Prelude.{◌≡◌, ◌≤◌, ◌⊎◌, true, false, not, is_some, Some, None, Err, IfOk, IfErr, OnOk, OnErr};
+ghost use Rattle.std.specs.Prelude.{◌≡◌, ◌≤◌, ◌⊎◌, [], true, false, not, is_some, Some, None, Err, IfOk, IfErr, OnOk, OnErr};
 ghost use Rattle.ti_types.specs.declared.error.TiError.TheVariants.{Busy};
 ghost use Rattle.ti_jdwp.specs.Lines.{with_written};
 ghost use Rattle.ti_jdwp.specs.Talks.{opened};
@@ -268,6 +273,8 @@ ghost use Rattle.ti_service.specs.Leaving.{Disposes, StaysOn};
 ghost use Rattle.ti_service.specs.Memberships.{state_of};
 ghost use Rattle.ti_debugger.specs.Crowds.{NoneHeld};
 ghost use Rattle.ti_debugger.specs.Debuggers.{Works};
+ghost use Rattle.ti_debugger.specs.Questions.{question_in};
+ghost use Rattle.ti_debugger.specs.declared.asked.Asked.TheVariants.{Nothing};
 ghost use Rattle.ti_debugger.specs.Runs.{RunsTo};
 ghost use Rattle.ti_debugger.specs.Seats.{Says};
 ghost use Rattle.ti_debugger.specs.Refused.{HasNone, Refuses};

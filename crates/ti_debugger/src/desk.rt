@@ -1,8 +1,10 @@
 //! The agent, with the threads that it watches.
 
 use crate::about::About;
+use crate::asked::Asked;
 use crate::crowd::Crowd;
 use crate::halted::Stops;
+use crate::objects::Objects;
 use std::alloc::Global;
 use ti_service::{Agent, Service, ServiceTries};
 use ti_types::{Caps, TiError};
@@ -25,6 +27,10 @@ pub(crate) struct Desk {
     /// How many times the agent has resumed a thread, or let it go on that had stopped. It stays at 2^64 - 1.
     pub(crate) resumptions: u64,
     pub(crate) stops: Stops,
+    /// The runtime tells variables.
+    pub(crate) tells: bool,
+    pub(crate) asked: Asked,
+    pub(crate) objects: Objects,
 }
 
 impl Desk {
@@ -33,6 +39,7 @@ impl Desk {
         ensures free { result.crowd.list.items ≡ [] }
         ensures resumptions { result.resumptions ≡ 0 }
         ensures about { result.about ≡ about }
+        ensures variables { (result.tells ≡ false) × (result.asked ≡ Nothing) × (result.objects.list.items ≡ []) }
     {
         let mut agent = agent;
         let _it_can_be_had = agent.add_capabilities(Caps::CAN_SUSPEND);
@@ -48,7 +55,20 @@ impl Desk {
             more_classes: false,
             resumptions: 0,
             stops: Stops::new(alloc),
+            tells: false,
+            asked: Asked::Nothing,
+            objects: Objects::new(alloc),
         }
+    }
+
+    /// Nothing is asked any more, and what was told of values is gone.
+    pub(crate) fn forget_variables(&mut self)
+        ensures asked { self.new.asked ≡ Nothing }
+        ensures objects { self.new.objects.list.items ≡ [] }
+        ensures rest { self.new ≡ record self.old { asked = self.new.asked; objects = self.new.objects } }
+    {
+        self.asked = Asked::Nothing;
+        self.objects = Objects::new(self.alloc);
     }
 
     /// Disposes of the agent. The errors are those of `ServiceTries::dispose_now`. Then the threads are watched as before.
@@ -69,6 +89,7 @@ impl Desk {
     }
 }
 
-ghost use Rattle.std.specs.Prelude.{◌≡◌, [], IfOk, IfErr};
+ghost use Rattle.std.specs.Prelude.{◌≡◌, [], false, IfOk, IfErr};
+ghost use Rattle.ti_debugger.specs.declared.asked.Asked.TheVariants.{Nothing};
 ghost use Rattle.ti_service.specs.Leaving.{Disposes, StaysOn};
 ghost use Rattle.ti_service.specs.Memberships.{state_of};

@@ -27,6 +27,7 @@ struct Report {
 pub(crate) fn tend_stops(seat: &mut Option<Seat>, desk: &mut Desk)
     ensures told { ToldOfLives (session_in seat.old) (session_in seat.new) }
     ensures rest { Works desk.old desk.new }
+    ensures asked { desk.new.asked ≡ desk.old.asked }
 {
     if !desk.stops.are_any() {
         return;
@@ -44,6 +45,7 @@ pub(crate) fn tend_stops(seat: &mut Option<Seat>, desk: &mut Desk)
 fn tell_stop(seat: &mut Option<Seat>, desk: &mut Desk, index: usize)
     ensures told { ToldOfLives (session_in seat.old) (session_in seat.new) }
     ensures rest { Works desk.old desk.new }
+    ensures asked { desk.new.asked ≡ desk.old.asked }
 {
     let Some(halted) = desk.stops.halted.get(index) else {
         return;

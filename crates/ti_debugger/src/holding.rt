@@ -163,6 +163,7 @@ impl Desk {
         ensures free { NoneHeld self.old.crowd.list.items → NoneHeld self.new.crowd.list.items }
         ensures rest { Works self.old self.new }
         ensures known { classes_of self.new.agent ≡ classes_of self.old.agent }
+        ensures asked { self.new.asked ≡ self.old.asked }
     {
         for place in 0..self.crowd.list.len() {
             let resumed = settle_at(self.alloc, &mut self.agent, &mut self.crowd.list[place]);

@@ -25,7 +25,9 @@ struct Known {
 }
 
 /// The rows of a list of methods. The error is lack of memory.
-fn body_of(alloc: Global, methods: &[Known]) -> Result<Vec<u8>, JdwpError> {
+fn body_of(alloc: Global, methods: &[Known]) -> Result<Vec<u8>, JdwpError>
+    ensures { IfOk result (λ v. v.items ≡ list method_item (map known_method methods.now)) }
+{
     let mut rows = Vec::new(alloc);
     for known in methods {
         rows.reserve(1)?;
@@ -86,19 +88,23 @@ fn table_of(alloc: Global, lines: Lines, first: u32) -> Result<Vec<u8>, JdwpErro
 impl Desk {
     /// A method with its name.
     fn known_method(&mut self, method: MethodNo) -> Result<Known, ClassError>
-        ensures { self.new ≡ record self.old { agent = self.new.agent } }
+        ensures told { IfOk result (λ k. IsKnown (classes_of self.new.agent) method (known_method k)) }
+        ensures grows { OnOk result (IsPrefix (classes_of self.old.agent) (classes_of self.new.agent)) }
+        ensures rest { self.new ≡ record self.old { agent = self.new.agent } }
     {
         let named = self.agent.get_method_name(self.alloc, method)?;
+        let native = self.agent.is_method_native(method)?;
         Ok(Known {
             method: method.0,
             name: named.name,
-            native: self.agent.is_method_native(method)?,
+            native,
         })
     }
 
     /// The methods of a class (2/15).
     pub(crate) fn methods(&mut self, id: u64) -> Result<Vec<u8>, Refusal>
-        ensures { self.new ≡ record self.old { agent = self.new.agent } }
+        ensures told { IfOk result (λ v. TellsMethods (classes_of self.new.agent) id v.items) }
+        ensures rest { self.new ≡ record self.old { agent = self.new.agent } }
     {
         let Some(class) = class_of(id) else {
             return Err(Refusal::Error(JdwpError::InvalidClass));
@@ -112,9 +118,10 @@ impl Desk {
         Ok(body_of(self.alloc, known.as_slice())?)
     }
 
-    /// The lines of a method (6/1). One whose lines are not known has none.
-    pub(crate) fn line_table(&mut self, class: u64, method: u64) -> Result<Vec<u8>, Refusal>
-        ensures { self.new ≡ record self.old { agent = self.new.agent } }
+    /// A method of a class. 21 or 23 if the class has no such method.
+    pub(crate) fn method_in(&mut self, class: u64, method: u64) -> Result<MethodNo, Refusal>
+        ensures found { IfOk result (λ m. number_from first_method method ≡ Some m.0) }
+        ensures rest { self.new ≡ record self.old { agent = self.new.agent } }
     {
         let (Some(class), Some(method)) = (class_of(class), method_of(method)) else {
             return Err(Refusal::Error(JdwpError::InvalidMethodId));
@@ -122,14 +129,16 @@ impl Desk {
         if self.agent.get_method_declaring_class(MethodNo(method))? != ClassNo(class) {
             return Err(Refusal::Error(JdwpError::InvalidMethodId));
         }
-        let first = self
-            .agent
-            .get_method_name(self.alloc, MethodNo(method))?
-            .first_line;
-        let lines = match self
-            .agent
-            .get_line_number_table(self.alloc, MethodNo(method))
-        {
+        Ok(MethodNo(method))
+    }
+
+    /// The lines of a method (6/1). One whose lines are not known has none.
+    pub(crate) fn line_table(&mut self, class: u64, method: u64) -> Result<Vec<u8>, Refusal>
+        ensures { self.new ≡ record self.old { agent = self.new.agent } }
+    {
+        let method = self.method_in(class, method)?;
+        let first = self.agent.get_method_name(self.alloc, method)?.first_line;
+        let lines = match self.agent.get_line_number_table(self.alloc, method) {
             Err(ClassError::AbsentInformation) => Lines::Absent,
             told => told?,
         };
@@ -137,4 +146,9 @@ impl Desk {
     }
 }
 
-ghost use Rattle.std.specs.Prelude.{◌≡◌};
+ghost use Rattle.std.specs.Prelude.{◌≡◌, map, Some, IfOk, OnOk};
+ghost use mathlib.Core.List.{IsPrefix};
+ghost use Rattle.ti_jdwp.specs.Bodies.{list};
+ghost use Rattle.ti_jdwp.specs.Ids.{number_from, first_method};
+ghost use Rattle.ti_service.specs.Classes.{classes_of};
+ghost use Rattle.ti_debugger.specs.MethodReplies.{IsKnown, TellsMethods, known_method, method_item};

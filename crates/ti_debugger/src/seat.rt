@@ -1,5 +1,6 @@
 //! A session, and what the agent owes it.
 
+use crate::asked::Asked;
 use crate::desk::Desk;
 use crate::due::Due;
 use crate::prepared::Prepared;
@@ -21,6 +22,8 @@ pub enum Todo {
     Close,
     /// Nothing, until the socket gives more or `tick` was called.
     Wait,
+    /// Answer the `question`, by `tell_variables`, `tell_values` or `tell_none`.
+    Ask,
 }
 
 /// A session, and what the agent owes it.
@@ -48,8 +51,12 @@ impl Seat {
     pub(crate) fn next(&mut self, desk: &mut Desk, now: u64) -> Result<Todo, SessionError>
         ensures run { RunsTo self.old.session self.new.session }
         ensures desk { Works desk.old desk.new }
-        ensures says { IfOk result (λ t. Says self.new.session t) }
+        ensures says { IfOk result (λ t. Says desk.new.asked self.new.session t) }
+        ensures open { is_some (question_in desk.old.asked) ≡ true → (self.new.session ≡ self.old.session) × (desk.new ≡ desk.old) }
     {
+        if desk.asked.is_open() {
+            return Ok(self.todo(desk));
+        }
         self.rests = false;
         for _ in 0..STEPS {
             if let Some(todo) = self.step(desk, now)? {
@@ -57,14 +64,14 @@ impl Seat {
             }
         }
         self.rests = true;
-        Ok(self.todo())
+        Ok(self.todo(desk))
     }
 
     /// Takes one step of the session. `None` if there is more to do now. The error is lack of memory.
     fn step(&mut self, desk: &mut Desk, now: u64) -> Result<Option<Todo>, SessionError>
         ensures run { RunsTo self.old.session self.new.session }
         ensures desk { Works desk.old desk.new }
-        ensures says { IfOk result (λ o. IfSome o (λ t. Says self.new.session t)) }
+        ensures says { IfOk result (λ o. IfSome o (λ t. Says desk.new.asked self.new.session t)) }
     {
         let ready = self.settle(desk, now)?;
         self.go_on(desk, ready)
@@ -74,14 +81,14 @@ impl Seat {
     fn go_on(&mut self, desk: &mut Desk, ready: bool) -> Result<Option<Todo>, SessionError>
         ensures run { RunsTo self.old.session self.new.session }
         ensures desk { Works desk.old desk.new }
-        ensures says { IfOk result (λ o. IfSome o (λ t. Says self.new.session t)) }
+        ensures says { IfOk result (λ o. IfSome o (λ t. Says desk.new.asked self.new.session t)) }
     {
         if !ready {
-            return Ok(Some(self.todo()));
+            return Ok(Some(self.todo(desk)));
         }
         match self.advance()? {
             Action::Close => Ok(Some(self.closing())),
-            Action::Write | Action::Wait => Ok(Some(self.todo())),
+            Action::Write | Action::Wait => Ok(Some(self.todo(desk))),
             action => {
                 self.take_up(desk, action);
                 Ok(None)
@@ -96,20 +103,22 @@ impl Seat {
         self.session.next()
     }
 
-    /// Whether there is something to write.
-    fn todo(&self) -> Todo
-        ensures { Says self.now.session result }
+    /// Whether there is something to write, or a question is open.
+    fn todo(&self, desk: &Desk) -> Todo
+        ensures { Says desk.now.asked self.now.session result }
     {
-        if self.session.output().is_empty() {
-            Todo::Wait
-        } else {
+        if !self.session.output().is_empty() {
             Todo::Write
+        } else if desk.asked.is_open() {
+            Todo::Ask
+        } else {
+            Todo::Wait
         }
     }
 
     /// Closes the connection, once all is written.
     fn closing(&self) -> Todo
-        ensures { Says self.now.session result }
+        ensures { (asked : Asked) → Says asked self.now.session result }
     {
         if self.session.output().is_empty() {
             Todo::Close
@@ -157,6 +166,7 @@ impl Seat {
         let given = self.give(desk, due, now)?;
         if given {
             self.due = None;
+            desk.asked = Asked::Nothing;
         }
         Ok(given)
     }
@@ -290,9 +300,11 @@ impl Seat {
     }
 }
 
-ghost use Rattle.std.specs.Prelude.{◌≡◌, string_bytes, IfOk, IfSome};
+ghost use Rattle.std.specs.Prelude.{◌≡◌, true, is_some, string_bytes, IfOk, IfSome};
 ghost use Rattle.ti_jdwp.specs.Talks.{opened};
 ghost use Rattle.ti_debugger.specs.Desks.{Works};
+ghost use Rattle.ti_debugger.specs.Questions.{question_in};
+ghost use Rattle.ti_debugger.specs.declared.asked.Asked.{Asked};
 ghost use Rattle.ti_debugger.specs.Runs.{RunsTo};
 ghost use Rattle.ti_debugger.specs.Seats.{Says};
 ghost use Rattle.ti_debugger.specs.Told.{TellsLives, TellsClass};

@@ -15,7 +15,7 @@ const NATIVE_INDEX: u64 = u64::MAX;
 /// The greatest count of frames that the protocol has.
 const MOST_FRAMES: u32 = 0x7fff_ffff;
 
-/// A part of a stack.
+/// A part of a stack, or of a table.
 #[derive(Clone, Copy, Debug, PartialEq, Eq)]
 pub(crate) struct Part {
     pub(crate) start: i32,
@@ -23,9 +23,8 @@ pub(crate) struct Part {
 }
 
 /// How many frames are asked for from `start` on: `length`, or all that are left for -1.
-fn wanted_of(count: i32, start: i32, length: i32) -> i64
-    ensures all { length ≡ negsuc 0 → result ≡ count -ℤ start }
-    ensures some { length ≢ negsuc 0 → result ≡ length }
+pub(crate) fn wanted_of(count: i32, start: i32, length: i32) -> i64
+    ensures { IsWanted count start length result }
 {
     if length == -1 {
         i64::from(count) - i64::from(start)
@@ -38,7 +37,7 @@ fn wanted_of(count: i32, start: i32, length: i32) -> i64
 ///
 /// - 503 INVALID_INDEX: the stack has no frame at the start.
 /// - 504 INVALID_LENGTH: it has fewer frames than were asked for.
-fn part_of(count: i32, start: i32, wanted: i64) -> Result<Option<Part>, JdwpError>
+pub(crate) fn part_of(count: i32, start: i32, wanted: i64) -> Result<Option<Part>, JdwpError>
     ensures { IsPart count start wanted result }
 {
     if wanted == 0 {
@@ -54,6 +53,16 @@ fn part_of(count: i32, start: i32, wanted: i64) -> Result<Option<Part>, JdwpErro
         start,
         count: wanted as i32,
     }))
+}
+
+/// The call that reads a part of a stack.
+fn trace_of(part: Part) -> Call
+    ensures { result ≡ call.Trace part.start part.count }
+{
+    Call::Trace {
+        start: part.start,
+        max_count: part.count,
+    }
 }
 
 /// Where a frame is in its method.
@@ -76,6 +85,16 @@ fn bits_in(answer: Answer) -> Option<u32>
         } else {
             Some(bits)
         },
+        _ => None,
+    }
+}
+
+/// How many frames a thread told. `None` if it told something else.
+fn count_in(answer: Answer) -> Option<u32>
+    ensures { result ≡ count_in answer }
+{
+    match answer {
+        Answer::Count(count) => Some(count),
         _ => None,
     }
 }
@@ -132,22 +151,25 @@ impl Desk {
     }
 
     /// How many frames a suspended thread has. 13 THREAD_NOT_SUSPENDED if it has ended or still runs.
-    fn depth(&mut self, thread: u32) -> Result<i32, Refusal>
-        ensures { self.new ≡ record self.old { agent = self.new.agent } }
+    pub(crate) fn depth(&mut self, thread: u32) -> Result<i32, Refusal>
+        ensures told { IfOk result (λ n. HasDepth self.old self.new thread n) }
+        ensures rest { self.new ≡ record self.old { agent = self.new.agent } }
     {
         match self.state_bits(thread)? {
             Some(bits) if is_suspended(bits) => (),
             _ => return Err(Refusal::Error(JdwpError::ThreadNotSuspended)),
         }
-        match self.ask_now(thread, Call::FrameCount)? {
-            Answer::Count(count) => Ok(count.min(MOST_FRAMES).cast_signed()),
-            _ => Err(Refusal::Error(JdwpError::ThreadNotSuspended)),
+        let answer = self.ask_now(thread, Call::FrameCount)?;
+        match count_in(answer) {
+            Some(count) => Ok(count.min(MOST_FRAMES).cast_signed()),
+            None => Err(Refusal::Error(JdwpError::ThreadNotSuspended)),
         }
     }
 
     /// The number of frames of a suspended thread (11/7).
     pub(crate) fn frame_count(&mut self, thread: u32) -> Result<Vec<u8>, Refusal>
-        ensures { self.new ≡ record self.old { agent = self.new.agent } }
+        ensures told { IfOk result (λ v. TellsDepth self.old self.new thread v.items) }
+        ensures rest { self.new ≡ record self.old { agent = self.new.agent } }
     {
         let count = self.depth(thread)?;
         Ok(int_body(self.alloc, count)?)
@@ -160,26 +182,32 @@ impl Desk {
         start: i32,
         length: i32,
     ) -> Result<Vec<u8>, Refusal>
-        ensures { self.new ≡ record self.old { agent = self.new.agent } }
+        ensures told { IfOk result (λ v. TellsFrames self.old self.new thread start length v.items) }
+        ensures rest { self.new ≡ record self.old { agent = self.new.agent } }
     {
         let count = self.depth(thread)?;
         let wanted = wanted_of(count, start, length);
-        let Some(part) = part_of(count, start, wanted)? else {
-            return Ok(frames_body(self.alloc, thread, &[])?);
-        };
-        let call = Call::Trace {
-            start: part.start,
-            max_count: part.count,
-        };
+        match part_of(count, start, wanted)? {
+            None => Ok(frames_body(self.alloc, thread, &[])?),
+            Some(part) => self.trace(thread, start.cast_unsigned(), trace_of(part)),
+        }
+    }
+
+    /// The frames that a call reads, the newest of which is at a depth.
+    fn trace(&mut self, thread: u32, depth: u32, call: Call) -> Result<Vec<u8>, Refusal>
+        ensures told { IfOk result (λ v. TellsTrace self.old self.new thread depth call v.items) }
+        ensures rest { self.new ≡ record self.old { agent = self.new.agent } }
+    {
         match self.ask_now(thread, call)? {
-            Answer::Trace(trace) => self.stack(thread, part.start.cast_unsigned(), &trace),
+            Answer::Trace(trace) => self.stack(thread, depth, &trace),
             _ => Err(Refusal::Error(JdwpError::ThreadNotSuspended)),
         }
     }
 
     /// The frames of a trace whose newest frame is at a depth.
     fn stack(&mut self, thread: u32, depth: u32, trace: &TraceBuf) -> Result<Vec<u8>, Refusal>
-        ensures { self.new ≡ record self.old { agent = self.new.agent } }
+        ensures told { IfOk result (λ v. TellsRows (classes_of self.new.agent) thread depth trace.now.frames v.items) }
+        ensures rest { self.new ≡ record self.old { agent = self.new.agent } }
     {
         let mut rows = Vec::new(self.alloc);
         let mut next = depth;
@@ -193,7 +221,9 @@ impl Desk {
 
     /// A frame at a depth. 23 INVALID_METHODID if nobody defined its method.
     fn row(&mut self, depth: u32, frame: Frame) -> Result<FrameRow, Refusal>
-        ensures { self.new ≡ record self.old { agent = self.new.agent } }
+        ensures told { IfOk result (λ r. IsRowOf (classes_of self.new.agent) depth frame r) }
+        ensures grows { IsPrefix (classes_of self.old.agent) (classes_of self.new.agent) }
+        ensures rest { self.new ≡ record self.old { agent = self.new.agent } }
     {
         let class = match self.agent.get_method_declaring_class(frame.method) {
             Ok(class) => class,
@@ -208,8 +238,11 @@ impl Desk {
     }
 }
 
-ghost use Rattle.std.specs.Prelude.{◌≡◌, ◌≢◌, ◌-ℤ◌, negsuc, IfOk};
+ghost use Rattle.std.specs.Prelude.{◌≡◌, IfOk};
+ghost use mathlib.Core.List.{IsPrefix};
+ghost use Rattle.ti_types.specs.declared.call.Call.TheVariants as call;
 ghost use Rattle.ti_slot.specs.declared.asked.Asked.TheVariants.{Answered};
 ghost use Rattle.ti_agent.specs.Posts.{Posts};
-ghost use Rattle.ti_debugger.specs.Replies.{HasState, TellsState, bits_in, state_text};
+ghost use Rattle.ti_service.specs.Classes.{classes_of};
+ghost use Rattle.ti_debugger.specs.StackReplies.{HasDepth, HasState, IsRowOf, IsWanted, TellsDepth, TellsFrames, TellsRows, TellsState, TellsTrace, bits_in, count_in, state_text};
 ghost use Rattle.ti_debugger.specs.Stacks.{IsPart, index_of};

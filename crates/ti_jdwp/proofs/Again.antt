@@ -1,8 +1,8 @@
 -- What is spelled so is read.
-use Rattle.std.proofs.Common.{◌≡◌, ℕ, ◌+◌, ◌*◌, ◌^◌, ◌<◌, ◌≤◌, cond, eqb, leb, List, [], ◌∷◌, ◌++◌, length, get_or, drop, Result, Ok, Err, Option, refl, sym, ap, subst, ◌∙◌, arith, length-append}
+use Rattle.std.proofs.Common.{◌≡◌, ℕ, ℤ, ◌+◌, ◌*◌, ◌^◌, ◌<◌, ◌≤◌, cond, eqb, leb, List, [], ◌∷◌, ◌++◌, length, get_or, drop, Result, Ok, Err, Option, refl, sym, ap, subst, ◌∙◌, arith, length-append, append_assoc}
 use Rattle.std.specs.Int.{w32, cast_signed}
 use Rattle.std.proofs.lemmas.Bool.{eq-eqb, le-leb, and_from}
-use Rattle.std.proofs.lemmas.List.{append-nil, drop_at}
+use Rattle.std.proofs.lemmas.List.{append-nil, drop_at, drop-drop}
 use Rattle.std.proofs.lemmas.Nat.{from_be_bytes-to_be_bytes_4, from_be_bytes-to_be_bytes_8}
 use Rattle.ti_jdwp.specs.declared.error.JdwpError.{JdwpError}
 use Rattle.ti_jdwp.specs.declared.error.JdwpError.TheVariants as error
@@ -16,9 +16,9 @@ use Rattle.ti_jdwp.specs.Fields.{◌>>=◌, int, long, text, int_at, long_at}
 use Rattle.ti_jdwp.specs.Events.{kind_of, kind_number, policy_of, policy_number}
 use Rattle.ti_jdwp.specs.Modifiers.{text_len, modifiers_end}
 use Rattle.ti_jdwp.specs.Patterns.{AreModifiers}
-use Rattle.ti_jdwp.specs.Commands.{Layout, no_fields, of_id, of_method, of_frames, of_signature, of_objects, of_event, of_clear}
+use Rattle.ti_jdwp.specs.Commands.{Layout, no_fields, of_id, of_two_ids, of_part, of_signature, of_objects, of_event, of_clear, of_slots}
 use Rattle.ti_jdwp.specs.Requests.{of_len, read_as, read_if_served, request_in}
-use Rattle.ti_jdwp.proofs.Parts.{taken, then_ok, int_again, int_len, text_len_again}
+use Rattle.ti_jdwp.proofs.Parts.{taken, then_ok, int_again, long_again, int_len, long_len, text_len_again}
 use Rattle.ti_jdwp.proofs.Unpatterned.{ends_again}
 use Rattle.ti_jdwp.specs.Spelled.{Spells, IsRequest}
 
@@ -26,18 +26,18 @@ again_id : (s : ℕ → Request) (id : ℕ) → id < 2 ^ 64 → read_as (of_id s
 unfolding long
 again_id s id fits = ap (λ (n : ℕ). Ok (s n)) (from_be_bytes-to_be_bytes_8 id fits)
 
-again_method : (class method : ℕ) → class < 2 ^ 64 → method < 2 ^ 64 → read_as of_method (long class ++ long method) ≡ Ok (request.LineTable class method)
+again_two_ids : (s : ℕ → ℕ → Request) (first second : ℕ) → first < 2 ^ 64 → second < 2 ^ 64 → read_as (of_two_ids s) (long first ++ long second) ≡ Ok (s first second)
 unfolding long
-again_method class method c m =
-    ap (λ (n : ℕ). Ok (request.LineTable n (long_at 8 (long class ++ long method)))) (from_be_bytes-to_be_bytes_8 class c)
-    ∙ ap (λ (n : ℕ). Ok (request.LineTable class n)) (from_be_bytes-to_be_bytes_8 method m)
+again_two_ids s first second a b =
+    ap (λ (n : ℕ). Ok (s n (long_at 8 (long first ++ long second)))) (from_be_bytes-to_be_bytes_8 first a)
+    ∙ ap (λ (n : ℕ). Ok (s first n)) (from_be_bytes-to_be_bytes_8 second b)
 
-again_frames : (thread start len : ℕ) → thread < 2 ^ 64 → start < 2 ^ 32 → len < 2 ^ 32 → read_as of_frames (long thread ++ int start ++ int len) ≡ Ok (request.Frames thread (cast_signed w32 start) (cast_signed w32 len))
+again_part : (r : ℕ → ℤ → ℤ → Request) (thread start len : ℕ) → thread < 2 ^ 64 → start < 2 ^ 32 → len < 2 ^ 32 → read_as (of_part r) (long thread ++ int start ++ int len) ≡ Ok (r thread (cast_signed w32 start) (cast_signed w32 len))
 unfolding long int
-again_frames thread start len t s l =
-    ap (λ (n : ℕ). Ok (request.Frames n (cast_signed w32 (int_at 8 (long thread ++ int start ++ int len))) (cast_signed w32 (int_at 12 (long thread ++ int start ++ int len))))) (from_be_bytes-to_be_bytes_8 thread t)
-    ∙ ap (λ (n : ℕ). Ok (request.Frames thread (cast_signed w32 n) (cast_signed w32 (int_at 12 (long thread ++ int start ++ int len))))) (from_be_bytes-to_be_bytes_4 start s)
-    ∙ ap (λ (n : ℕ). Ok (request.Frames thread (cast_signed w32 start) (cast_signed w32 n))) (from_be_bytes-to_be_bytes_4 len l)
+again_part r thread start len t s l =
+    ap (λ (n : ℕ). Ok (r n (cast_signed w32 (int_at 8 (long thread ++ int start ++ int len))) (cast_signed w32 (int_at 12 (long thread ++ int start ++ int len))))) (from_be_bytes-to_be_bytes_8 thread t)
+    ∙ ap (λ (n : ℕ). Ok (r thread (cast_signed w32 n) (cast_signed w32 (int_at 12 (long thread ++ int start ++ int len))))) (from_be_bytes-to_be_bytes_4 start s)
+    ∙ ap (λ (n : ℕ). Ok (r thread (cast_signed w32 start) (cast_signed w32 n))) (from_be_bytes-to_be_bytes_4 len l)
 
 again_clear : (kind number : ℕ) → number < 2 ^ 32 → read_as of_clear (kind ∷ int number) ≡ Ok (request.ClearEvent kind (cast_signed w32 number))
 unfolding int
@@ -58,6 +58,22 @@ again_objects bytes rest n fits e many =
     let len : length bytes ≡ 4 + length rest = ap (λ (b : List ℕ). length b) e ∙ length-append (int n) rest ∙ ap (λ (m : ℕ). m + length rest) (int_len n) in
     let is : int_at 0 bytes ≡ n = ap (λ (b : List ℕ). int_at 0 b) e ∙ int_again n rest fits in
     taken _ (Ok request.DisposeObjects) (Err error.IllegalArgument) (and_from _ _ (le-leb 4 (length bytes) (omega arith)) (eq-eqb (length bytes) (4 + 12 * int_at 0 bytes) (omega arith)))
+
+again_values : (bytes rest : List ℕ) (thread frame n : ℕ) → thread < 2 ^ 64 → frame < 2 ^ 64 → n ≤ 4096 → bytes ≡ long thread ++ long frame ++ int n ++ rest → length rest ≡ 5 * n
+    → read_as of_slots bytes ≡ Ok (request.FrameValues thread frame (record { start = 20; end = length bytes }))
+again_values bytes rest thread frame n t f few e many =
+    let flat : bytes ≡ long thread ++ (long frame ++ (int n ++ rest)) = e ∙ append_assoc (long thread ++ long frame) (int n) rest ∙ append_assoc (long thread) (long frame) (int n ++ rest) in
+    let len : length bytes ≡ 20 + 5 * n =
+    ap (λ (b : List ℕ). length b) flat ∙ omega (arith, length-append (long thread) (long frame ++ (int n ++ rest)), length-append (long frame) (int n ++ rest), length-append (int n) rest, long_len thread, long_len frame, int_len n, many) in
+    let first : long_at 0 bytes ≡ thread = ap (λ (b : List ℕ). long_at 0 b) flat ∙ long_again thread (long frame ++ (int n ++ rest)) t in
+    let eight : drop 8 bytes ≡ long frame ++ (int n ++ rest) = ap (λ (b : List ℕ). drop 8 b) flat ∙ drop_at (long thread) (long frame ++ (int n ++ rest)) 8 (long_len thread) in
+    let second : long_at 8 bytes ≡ frame = ap (λ (b : List ℕ). long_at 0 b) eight ∙ long_again frame (int n ++ rest) f in
+    let sixteen : drop 16 bytes ≡ int n ++ rest = sym (drop-drop 8 8 bytes) ∙ ap (λ (b : List ℕ). drop 8 b) eight ∙ drop_at (long frame) (int n ++ rest) 8 (long_len frame) in
+    let third : int_at 16 bytes ≡ n = ap (λ (b : List ℕ). int_at 0 b) sixteen ∙ int_again n rest (omega arith) in
+    let asked : Request = request.FrameValues (long_at 0 bytes) (long_at 8 bytes) (record { start = 20; end = length bytes }) in
+    taken _ (Ok asked) (Err error.IllegalArgument) (and_from _ _ (and_from _ _ (le-leb 20 (length bytes) (omega arith)) (le-leb (int_at 16 bytes) 4096 (omega arith))) (eq-eqb (length bytes) (20 + 5 * int_at 16 bytes) (omega arith)))
+    ∙ ap (λ (m : ℕ). Ok (request.FrameValues m (long_at 8 bytes) (record { start = 20; end = length bytes }))) first
+    ∙ ap (λ (m : ℕ). Ok (request.FrameValues thread m (record { start = 20; end = length bytes }))) second
 
 policy_again : (p : Policy) → policy_of (policy_number p) ≡ Ok p
 policy_again policy.None = refl
@@ -113,12 +129,13 @@ again_event_spelled bytes rest k p count e few are =
 again : (l : Layout) (bytes : List ℕ) (r : Request) → Spells l bytes r → read_as l bytes ≡ Ok r
 again (no_fields s) bytes r h = ap (λ (b : List ℕ). of_len 0 b s) h.0 ∙ ap (λ (q : Request). Ok q) (sym h.1)
 again (of_id s) bytes r h = ap (λ (b : List ℕ). read_as (of_id s) b) h.2 ∙ again_id s h.0 h.1 ∙ ap (λ (q : Request). Ok q) (sym h.3)
-again of_method bytes r h = ap (λ (b : List ℕ). read_as of_method b) h.4 ∙ again_method h.0 h.1 h.2 h.3 ∙ ap (λ (q : Request). Ok q) (sym h.5)
-again of_frames bytes r h = ap (λ (b : List ℕ). read_as of_frames b) h.6 ∙ again_frames h.0 h.1 h.2 h.3 h.4 h.5 ∙ ap (λ (q : Request). Ok q) (sym h.7)
+again (of_two_ids s) bytes r h = ap (λ (b : List ℕ). read_as (of_two_ids s) b) h.4 ∙ again_two_ids s h.0 h.1 h.2 h.3 ∙ ap (λ (q : Request). Ok q) (sym h.5)
+again (of_part s) bytes r h = ap (λ (b : List ℕ). read_as (of_part s) b) h.6 ∙ again_part s h.0 h.1 h.2 h.3 h.4 h.5 ∙ ap (λ (q : Request). Ok q) (sym h.7)
 again of_signature bytes r h = again_signature bytes h.0 h.1 h.2 ∙ ap (λ (q : Request). Ok q) (sym h.3)
 again of_objects bytes r h = again_objects bytes h.1 h.0 h.2 h.3 h.4 ∙ ap (λ (q : Request). Ok q) (sym h.5)
 again of_event bytes r h = again_event_spelled bytes h.3 h.0 h.1 h.2 h.5 h.4 h.6 ∙ ap (λ (q : Request). Ok q) (sym h.7)
 again of_clear bytes r h = ap (λ (b : List ℕ). read_as of_clear b) h.3 ∙ again_clear h.0 h.1 h.2 ∙ ap (λ (q : Request). Ok q) (sym h.4)
+again of_slots bytes r h = again_values bytes h.3 h.0 h.1 h.2 h.4 h.5 h.6 h.7 h.8 ∙ ap (λ (q : Request). Ok q) (sym h.9)
 
 pub is_read : (set command : ℕ) (bytes : List ℕ) (q : Result Request JdwpError) → q ≡ request_in set command bytes → (r : Request) → IsRequest set command bytes r → q ≡ Ok r
 is_read set command bytes q e r h = e ∙ ap (λ (o : Option Layout). read_if_served o bytes) h.1 ∙ again h.0 bytes r h.2

@@ -1,5 +1,5 @@
 -- What is read is spelled so.
-use Rattle.std.proofs.Common.{◌≡◌, ◌⊎◌, ℕ, suc, ◌+◌, ◌*◌, ◌^◌, ◌<◌, ◌≤◌, Bool, true, false, cond, eqb, ltb, leb, ◌&&◌, List, [], ◌∷◌, ◌++◌, length, get_or, drop, Result, Ok, Err, Some, None, Option, refl, sym, ap, subst, ◌∙◌, append_assoc, arith, length-drop, inl, inr}
+use Rattle.std.proofs.Common.{◌≡◌, ◌⊎◌, ℕ, ℤ, suc, ◌+◌, ◌*◌, ◌^◌, ◌<◌, ◌≤◌, Bool, true, false, cond, eqb, ltb, leb, ◌&&◌, List, [], ◌∷◌, ◌++◌, length, get_or, drop, Result, Ok, Err, Some, None, Option, refl, sym, ap, subst, ◌∙◌, append_assoc, arith, length-drop, inl, inr}
 use Rattle.std.specs.Prelude.{IfOk}
 use Rattle.std.specs.Int.{w32, cast_signed}
 use Rattle.std.proofs.lemmas.Bool.{eqb-true, leb-true, ltb-true, and_parts}
@@ -14,9 +14,9 @@ use Rattle.ti_jdwp.specs.declared.request.Request.TheVariants as request
 use Rattle.ti_jdwp.specs.Fields.{◌>>=◌, int, long, int_at, long_at}
 use Rattle.ti_jdwp.specs.Events.{kind_of, kind_number, policy_of, policy_number}
 use Rattle.ti_jdwp.specs.Modifiers.{within, text_len, modifiers_end}
-use Rattle.ti_jdwp.specs.Commands.{Layout, no_fields, of_id, of_method, of_frames, of_signature, of_objects, of_event, of_clear, layout_of}
-use Rattle.ti_jdwp.specs.Requests.{of_len, id_in, read_as, read_if_served, request_in}
-use Rattle.ti_jdwp.specs.Spelled.{Spells, IsMethod, IsFrames, IsSignature, IsObjects, IsEvent, IsClear, IsRequest}
+use Rattle.ti_jdwp.specs.Commands.{Layout, no_fields, of_id, of_two_ids, of_part, of_signature, of_objects, of_event, of_clear, of_slots, layout_of}
+use Rattle.ti_jdwp.specs.Requests.{of_len, id_in, two_ids_in, part_in, read_as, read_if_served, request_in}
+use Rattle.ti_jdwp.specs.Spelled.{Spells, AreTwoIds, IsPart, IsSignature, IsObjects, IsEvent, IsClear, AreValues, IsRequest}
 use Rattle.ti_jdwp.proofs.Bytes.{IsBytes}
 use Rattle.ti_jdwp.specs.Patterns.{AreModifiers}
 use Rattle.ti_jdwp.proofs.Patterned.{are_all}
@@ -36,17 +36,19 @@ found_id s bytes r fits e =
     let whole : bytes ≡ long (long_at 0 bytes) = ended 8 bytes _ (omega arith) f.0.parts in
     (long_at 0 bytes, f.1, whole, sym (ok_is (s b.0) r b.2) ∙ ap s (sym g.1))
 
-found_method : (bytes : List ℕ) (r : Request) → IsBytes bytes → read_as of_method bytes ≡ Ok r → IsMethod bytes r
-found_method bytes r fits e =
-    let g = of_len_ok 16 bytes (request.LineTable (long_at 0 bytes) (long_at 8 bytes)) r e in
+found_two_ids : (s : ℕ → ℕ → Request) (bytes : List ℕ) (r : Request) → IsBytes bytes → read_as (of_two_ids s) bytes ≡ Ok r → AreTwoIds s bytes r
+found_two_ids s bytes r fits e =
+    let p = bind_ok (two_ids_in bytes) (λ ids. Ok (s ids.0 ids.1)) r e in
+    let g = of_len_ok 16 bytes (long_at 0 bytes, long_at 8 bytes) p.0 p.1 in
     let a = long_front bytes (omega arith) fits in
     let b = long_front (drop 8 bytes) (omega (arith, length-drop 8 bytes)) a.0.rest_fits in
     let rest : drop 8 bytes ≡ long (long_at 8 bytes) = ended 8 (drop 8 bytes) (long (long_at 8 bytes)) (omega (arith, length-drop 8 bytes)) b.0.parts in
-    (long_at 0 bytes, long_at 8 bytes, a.1, b.1, parts_2 bytes (long (long_at 0 bytes)) (long (long_at 8 bytes)) (drop 8 bytes) a.0.parts rest, sym g.1)
+    (long_at 0 bytes, long_at 8 bytes, a.1, b.1, parts_2 bytes (long (long_at 0 bytes)) (long (long_at 8 bytes)) (drop 8 bytes) a.0.parts rest, sym (ok_is (s p.0.0 p.0.1) r p.2) ∙ ap (λ (ids : ℕ × ℕ). s ids.0 ids.1) (sym g.1))
 
-found_frames : (bytes : List ℕ) (r : Request) → IsBytes bytes → read_as of_frames bytes ≡ Ok r → IsFrames bytes r
-found_frames bytes r fits e =
-    let g = of_len_ok 16 bytes (request.Frames (long_at 0 bytes) (cast_signed w32 (int_at 8 bytes)) (cast_signed w32 (int_at 12 bytes))) r e in
+found_part : (s : ℕ → ℤ → ℤ → Request) (bytes : List ℕ) (r : Request) → IsBytes bytes → read_as (of_part s) bytes ≡ Ok r → IsPart s bytes r
+found_part s bytes r fits e =
+    let p = bind_ok (part_in bytes) (λ part. Ok (s part.0 part.1 part.2)) r e in
+    let g = of_len_ok 16 bytes (long_at 0 bytes, cast_signed w32 (int_at 8 bytes), cast_signed w32 (int_at 12 bytes)) p.0 p.1 in
     let a = long_front bytes (omega arith) fits in
     let b = int_front (drop 8 bytes) (omega (arith, length-drop 8 bytes)) a.0.rest_fits in
     let twelve : drop 4 (drop 8 bytes) ≡ drop 12 bytes = drop-drop 4 8 bytes in
@@ -55,7 +57,7 @@ found_frames bytes r fits e =
     let third : drop 12 bytes ≡ int (int_at 12 bytes) = ended 4 (drop 12 bytes) (int (int_at 12 bytes)) (omega (arith, length-drop 12 bytes)) d.0.parts in
     let second : drop 8 bytes ≡ int (int_at 8 bytes) ++ int (int_at 12 bytes) = parts_2 (drop 8 bytes) (int (int_at 8 bytes)) (int (int_at 12 bytes)) (drop 4 (drop 8 bytes)) b.0.parts (twelve ∙ third) in
     let first : bytes ≡ long (long_at 0 bytes) ++ (int (int_at 8 bytes) ++ int (int_at 12 bytes)) = parts_2 bytes (long (long_at 0 bytes)) _ (drop 8 bytes) a.0.parts second in
-    (long_at 0 bytes, int_at 8 bytes, int_at 12 bytes, a.1, b.1, d.1, first ∙ sym (append_assoc (long (long_at 0 bytes)) (int (int_at 8 bytes)) (int (int_at 12 bytes))), sym g.1)
+    (long_at 0 bytes, int_at 8 bytes, int_at 12 bytes, a.1, b.1, d.1, first ∙ sym (append_assoc (long (long_at 0 bytes)) (int (int_at 8 bytes)) (int (int_at 12 bytes))), sym (ok_is (s p.0.0 p.0.1 p.0.2) r p.2) ∙ ap (λ (part : ℕ × ℤ × ℤ). s part.0 part.1 part.2) (sym g.1))
 
 found_signature : (bytes : List ℕ) (r : Request) → IsBytes bytes → read_as of_signature bytes ≡ Ok r → IsSignature bytes r
 found_signature bytes r fits e =
@@ -78,6 +80,28 @@ found_objects bytes r fits e =
     let len : length bytes ≡ 4 + 12 * int_at 0 bytes = eqb-true _ _ tests.1 in
     let f = int_front bytes many fits in
     (int_at 0 bytes, drop 4 bytes, f.1, f.0.parts, omega (arith, length-drop 4 bytes), sym g.1)
+
+found_values : (bytes : List ℕ) (r : Request) → IsBytes bytes → read_as of_slots bytes ≡ Ok r → AreValues bytes r
+found_values bytes r fits e =
+    let asked : Request = request.FrameValues (long_at 0 bytes) (long_at 8 bytes) (record { start = 20; end = length bytes }) in
+    let g = guard_ok ((leb 20 (length bytes) && leb (int_at 16 bytes) 4096) && eqb (length bytes) (20 + 5 * int_at 16 bytes)) _ asked r e in
+    let tests = and_parts _ _ g.0 in
+    let bounds = and_parts _ _ tests.0 in
+    let many : 20 ≤ length bytes = leb-true _ _ bounds.0 in
+    let few : int_at 16 bytes ≤ 4096 = leb-true _ _ bounds.1 in
+    let len : length bytes ≡ 20 + 5 * int_at 16 bytes = eqb-true _ _ tests.1 in
+    let a = long_front bytes (omega arith) fits in
+    let b = long_front (drop 8 bytes) (omega (arith, length-drop 8 bytes)) a.0.rest_fits in
+    let sixteen : drop 8 (drop 8 bytes) ≡ drop 16 bytes = drop-drop 8 8 bytes in
+    let more : IsBytes (drop 16 bytes) = subst IsBytes sixteen b.0.rest_fits in
+    let d = int_front (drop 16 bytes) (omega (arith, length-drop 16 bytes)) more in
+    let twenty : drop 4 (drop 16 bytes) ≡ drop 20 bytes = drop-drop 4 16 bytes in
+    let third : drop 16 bytes ≡ int (int_at 16 bytes) ++ drop 20 bytes = d.0.parts ∙ ap (λ (t : List ℕ). int (int_at 16 bytes) ++ t) twenty in
+    let second : drop 8 bytes ≡ long (long_at 8 bytes) ++ (int (int_at 16 bytes) ++ drop 20 bytes) = parts_2 (drop 8 bytes) (long (long_at 8 bytes)) _ (drop 8 (drop 8 bytes)) b.0.parts (sixteen ∙ third) in
+    let first : bytes ≡ long (long_at 0 bytes) ++ (long (long_at 8 bytes) ++ (int (int_at 16 bytes) ++ drop 20 bytes)) = parts_2 bytes (long (long_at 0 bytes)) _ (drop 8 bytes) a.0.parts second in
+    let flat : bytes ≡ long (long_at 0 bytes) ++ long (long_at 8 bytes) ++ int (int_at 16 bytes) ++ drop 20 bytes =
+    first ∙ sym (append_assoc (long (long_at 0 bytes)) (long (long_at 8 bytes)) (int (int_at 16 bytes) ++ drop 20 bytes)) ∙ sym (append_assoc (long (long_at 0 bytes) ++ long (long_at 8 bytes)) (int (int_at 16 bytes)) (drop 20 bytes)) in
+    (long_at 0 bytes, long_at 8 bytes, int_at 16 bytes, drop 20 bytes, a.1, b.1, few, flat, omega (arith, length-drop 20 bytes), sym g.1)
 
 IsBytes-tail : (b : ℕ) (bytes : List ℕ) → IsBytes (b ∷ bytes) → IsBytes bytes
 IsBytes-tail b bytes h i = h (suc i)
@@ -152,12 +176,13 @@ found (no_fields s) bytes r fits e =
     let g = of_len_ok 0 bytes s r e in
     (nil_from_length bytes g.0, sym g.1)
 found (of_id s) bytes r fits e = found_id s bytes r fits e
-found of_method bytes r fits e = found_method bytes r fits e
-found of_frames bytes r fits e = found_frames bytes r fits e
+found (of_two_ids s) bytes r fits e = found_two_ids s bytes r fits e
+found (of_part s) bytes r fits e = found_part s bytes r fits e
 found of_signature bytes r fits e = found_signature bytes r fits e
 found of_objects bytes r fits e = found_objects bytes r fits e
 found of_event bytes r fits e = found_event bytes r fits e
 found of_clear bytes r fits e = found_clear bytes r fits e
+found of_slots bytes r fits e = found_values bytes r fits e
 
 found_served : (o : Option Layout) (bytes : List ℕ) (r : Request) → IsBytes bytes → read_if_served o bytes ≡ Ok r → (l : Layout) × (o ≡ Some l) × Spells l bytes r
 found_served None bytes r fits e = absurd cc

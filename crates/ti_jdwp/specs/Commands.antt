@@ -1,5 +1,5 @@
 -- The commands that are served, each with the layout of its data (JDWP of Java 8).
-use Rattle.std.specs.Prelude.{ℕ, ◌&&◌, List, [], ◌∷◌, Option, Some, None, ◌==◌, if◌then◌else◌}
+use Rattle.std.specs.Prelude.{ℕ, ℤ, ◌&&◌, List, [], ◌∷◌, Option, Some, None, ◌==◌, if◌then◌else◌}
 use Rattle.ti_jdwp.specs.declared.request.Request.{Request}
 use Rattle.ti_jdwp.specs.declared.request.Request.TheVariants as request
 
@@ -9,10 +9,10 @@ pub data Layout : Type 0 where
   no_fields : Request → Layout
   -- an id
   of_id : (ℕ → Request) → Layout
-  -- a class and a method
-  of_method : Layout
-  -- a thread, the first frame and how many
-  of_frames : Layout
+  -- two ids
+  of_two_ids : (ℕ → ℕ → Request) → Layout
+  -- an id, where a part begins, and how long it is
+  of_part : (ℕ → ℤ → ℤ → Request) → Layout
   -- a signature
   of_signature : Layout
   -- how many objects, and an id and a number of references for each
@@ -21,6 +21,8 @@ pub data Layout : Type 0 where
   of_event : Layout
   -- a kind of event, and an event request
   of_clear : Layout
+  -- a thread, a frame, how many variables, and a slot and a tag for each
+  of_slots : Layout
 
 pub record Row : Type 0 where
   pub set : ℕ
@@ -57,22 +59,29 @@ rows =
     ∷ row 2 14 (of_id (λ id. request.Fields id))
     ∷ row 2 15 (of_id (λ id. request.MethodsWithGeneric id))
     ∷ row 3 1 (of_id (λ id. request.Superclass id))
-    ∷ row 6 1 of_method
+    ∷ row 6 1 (of_two_ids (λ class method. request.LineTable class method))
+    ∷ row 6 2 (of_two_ids (λ class method. request.VariableTable class method))
+    ∷ row 6 5 (of_two_ids (λ class method. request.VariableTableWithGeneric class method))
     ∷ row 9 1 (of_id (λ id. request.ReferenceType id))
     ∷ row 9 9 (of_id (λ id. request.IsCollected id))
+    ∷ row 10 1 (of_id (λ id. request.TextValue id))
     ∷ row 11 1 (of_id (λ id. request.ThreadName id))
     ∷ row 11 2 (of_id (λ id. request.Suspend id))
     ∷ row 11 3 (of_id (λ id. request.Resume id))
     ∷ row 11 4 (of_id (λ id. request.ThreadStatus id))
     ∷ row 11 5 (of_id (λ id. request.ThreadGroup id))
-    ∷ row 11 6 of_frames
+    ∷ row 11 6 (of_part (λ id start len. request.Frames id start len))
     ∷ row 11 7 (of_id (λ id. request.FrameCount id))
     ∷ row 11 12 (of_id (λ id. request.SuspendCount id))
     ∷ row 12 1 (of_id (λ id. request.GroupName id))
     ∷ row 12 2 (of_id (λ id. request.GroupParent id))
     ∷ row 12 3 (of_id (λ id. request.GroupChildren id))
+    ∷ row 13 1 (of_id (λ id. request.TableLength id))
+    ∷ row 13 2 (of_part (λ id start len. request.TableEntries id start len))
     ∷ row 15 1 of_event
     ∷ row 15 2 of_clear
+    ∷ row 16 1 of_slots
+    ∷ row 16 3 (of_two_ids (λ thread frame. request.ThisObject thread frame))
     ∷ []
 
 abbrev pub layout_in : ℕ → ℕ → List Row → Option Layout

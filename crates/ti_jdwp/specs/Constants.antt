@@ -13,6 +13,14 @@ group_name = 109 ∷ 97 ∷ 105 ∷ 110 ∷ []
 abbrev pub thread_signature : List ℕ
 thread_signature = 76 ∷ 106 ∷ 97 ∷ 118 ∷ 97 ∷ 47 ∷ 108 ∷ 97 ∷ 110 ∷ 103 ∷ 47 ∷ 84 ∷ 104 ∷ 114 ∷ 101 ∷ 97 ∷ 100 ∷ 59 ∷ []
 
+-- "Ljava/lang/String;"
+abbrev pub text_signature : List ℕ
+text_signature = 76 ∷ 106 ∷ 97 ∷ 118 ∷ 97 ∷ 47 ∷ 108 ∷ 97 ∷ 110 ∷ 103 ∷ 47 ∷ 83 ∷ 116 ∷ 114 ∷ 105 ∷ 110 ∷ 103 ∷ 59 ∷ []
+
+-- an array of these
+abbrev pub table_signature : List ℕ
+table_signature = 91 ∷ text_signature
+
 abbrev pub constant_bytes : Constant → List ℕ
 constant_bytes constant.Empty = []
 constant_bytes constant.IdSizes = int 8 ++ int 8 ++ int 8 ++ int 8 ++ int 8
@@ -29,3 +37,8 @@ constant_bytes constant.Initialized = int 7
 constant_bytes constant.ThreadClass = 1 ∷ long thread_class
 constant_bytes constant.ThreadSignature = text thread_signature
 constant_bytes constant.ThreadGenericSignature = text thread_signature ++ text []
+constant_bytes constant.TextSignature = text text_signature
+constant_bytes constant.TextGenericSignature = text text_signature ++ text []
+constant_bytes constant.TableSignature = text table_signature
+constant_bytes constant.TableGenericSignature = text table_signature ++ text []
+constant_bytes constant.NoObject = 76 ∷ long 0

@@ -13,6 +13,7 @@ number_of error.InvalidClass = 21
 number_of error.InvalidMethodId = 23
 number_of error.InvalidLocation = 24
 number_of error.InvalidFrameId = 30
+number_of error.InvalidSlot = 35
 number_of error.NotImplemented = 99
 number_of error.AbsentInformation = 101
 number_of error.InvalidEventType = 102

@@ -15,6 +15,8 @@ pub mod Holds
 pub mod HoldRuns
 pub mod Sent
 pub mod Bodies
+pub mod Variables
+pub mod Slots
 pub mod Composites
 pub mod Patterns
 pub mod Spelled

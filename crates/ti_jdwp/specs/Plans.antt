@@ -1,5 +1,5 @@
 -- What is done with each request.
-use Rattle.std.specs.Prelude.{ℕ, ◌==◌, Option, Some, None, is_some, not, if◌then◌else◌}
+use Rattle.std.specs.Prelude.{ℕ, ◌==◌, ◌||◌, Option, Some, None, is_some, not, if◌then◌else◌}
 use Rattle.ti_jdwp.specs.declared.error.JdwpError.TheVariants as error
 use Rattle.ti_jdwp.specs.declared.session_error.SessionError.{SessionError}
 use Rattle.ti_jdwp.specs.declared.session_error.SessionError.TheVariants as session_error
@@ -9,7 +9,7 @@ use Rattle.ti_jdwp.specs.declared.plan.Plan.{Plan}
 use Rattle.ti_jdwp.specs.declared.plan.Plan.TheVariants as plan
 use Rattle.ti_jdwp.specs.declared.request.Request.{Request}
 use Rattle.ti_jdwp.specs.declared.request.Request.TheVariants as request
-use Rattle.ti_jdwp.specs.Ids.{number_from, first_thread, first_class, first_method, thread_class, thread_group}
+use Rattle.ti_jdwp.specs.Ids.{number_from, first_thread, first_class, first_method, first_text, first_table, thread_class, text_class, table_class, thread_group}
 
 abbrev pub session_number : SessionError → ℕ
 session_number session_error.OutOfMemory = 110
@@ -30,9 +30,15 @@ abbrev pub at_group : ℕ → Plan → Plan
 at_group id p = if id == thread_group then p else plan.Refuse error.InvalidThreadGroup
 
 abbrev pub at_class : ℕ → Plan → Plan → Plan
-at_class id threads others =
-    if id == thread_class then threads
+at_class id objects others =
+    if (id == thread_class || id == text_class) || id == table_class then objects
     else (if is_some (number_from first_class id) then others else plan.Refuse error.InvalidClass)
+
+abbrev pub signature_of : ℕ → Constant → Constant → Constant → Plan
+signature_of id threads texts tables =
+    if id == text_class then plan.Constant texts
+    else (if id == table_class then plan.Constant tables
+    else at_class id (plan.Constant threads) plan.Ask)
 
 abbrev pub at_each_class : ℕ → Constant → Plan
 at_each_class id c = at_class id (plan.Constant c) (plan.Constant c)
@@ -44,11 +50,19 @@ at_method class method =
     else plan.Ask)
 
 abbrev pub at_object : ℕ → Plan → Plan
-at_object id p = if is_some (number_from first_thread id) then p else plan.Refuse error.InvalidObject
+at_object id threads =
+    if is_some (number_from first_thread id) then threads
+    else (if is_some (number_from first_text id) || is_some (number_from first_table id) then plan.Ask else plan.Refuse error.InvalidObject)
+
+abbrev pub at_text : ℕ → Plan
+at_text id = if is_some (number_from first_text id) then plan.Ask else plan.Refuse error.InvalidObject
+
+abbrev pub at_table : ℕ → Plan
+at_table id = if is_some (number_from first_table id) then plan.Ask else plan.Refuse error.InvalidObject
 
 abbrev pub class_plan : Request → Plan
-class_plan (request.Signature id) = at_class id (plan.Constant constant.ThreadSignature) plan.Ask
-class_plan (request.SignatureWithGeneric id) = at_class id (plan.Constant constant.ThreadGenericSignature) plan.Ask
+class_plan (request.Signature id) = signature_of id constant.ThreadSignature constant.TextSignature constant.TableSignature
+class_plan (request.SignatureWithGeneric id) = signature_of id constant.ThreadGenericSignature constant.TextGenericSignature constant.TableGenericSignature
 class_plan (request.SourceFile id) = at_class id (plan.Refuse error.AbsentInformation) plan.Ask
 class_plan (request.MethodsWithGeneric id) = at_class id (plan.Constant constant.NoItems) plan.Ask
 class_plan (request.ClassLoader id) = at_each_class id constant.NoId
@@ -65,6 +79,8 @@ thread_plan (request.ThreadStatus id) = at_thread id plan.Ask
 thread_plan (request.ThreadGroup id) = at_thread id (plan.Constant constant.GroupId)
 thread_plan (request.Frames id start length) = stack_of id
 thread_plan (request.FrameCount id) = stack_of id
+thread_plan (request.FrameValues thread frame slots) = stack_of thread
+thread_plan (request.ThisObject thread frame) = at_thread thread (plan.Constant constant.NoObject)
 thread_plan (request.SuspendCount id) = for_thread (number_from first_thread id) (λ thread. plan.Count thread)
 thread_plan (request.Suspend id) = for_thread (number_from first_thread id) (λ thread. plan.Suspend thread)
 thread_plan (request.Resume id) = for_thread (number_from first_thread id) (λ thread. plan.Resume thread)
@@ -94,6 +110,11 @@ plan_of (request.GroupName id) = at_group id (plan.Constant constant.GroupName)
 plan_of (request.GroupParent id) = at_group id (plan.Constant constant.NoId)
 plan_of (request.GroupChildren id) = at_group id plan.Ask
 plan_of (request.LineTable class method) = at_method class method
+plan_of (request.VariableTable class method) = at_method class method
+plan_of (request.VariableTableWithGeneric class method) = at_method class method
+plan_of (request.TextValue id) = at_text id
+plan_of (request.TableLength id) = at_table id
+plan_of (request.TableEntries table start length) = at_table table
 plan_of (request.Signature id) = class_plan (request.Signature id)
 plan_of (request.SignatureWithGeneric id) = class_plan (request.SignatureWithGeneric id)
 plan_of (request.ClassLoader id) = class_plan (request.ClassLoader id)
@@ -112,3 +133,5 @@ plan_of (request.ThreadGroup id) = thread_plan (request.ThreadGroup id)
 plan_of (request.Frames id start length) = thread_plan (request.Frames id start length)
 plan_of (request.FrameCount id) = thread_plan (request.FrameCount id)
 plan_of (request.SuspendCount id) = thread_plan (request.SuspendCount id)
+plan_of (request.FrameValues thread frame slots) = thread_plan (request.FrameValues thread frame slots)
+plan_of (request.ThisObject thread frame) = thread_plan (request.ThisObject thread frame)

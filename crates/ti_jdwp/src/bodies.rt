@@ -4,12 +4,15 @@
 //! 2^31 bytes or more.
 
 use crate::error::JdwpError;
-use crate::ids::THREAD_GROUP;
+use crate::ids::{TABLE_CLASS, THREAD_GROUP};
 use crate::writing::{put_byte, put_int, put_long, put_text};
 use std::alloc::Global;
 
 /// The tag of a class beside its id: CLASS.
 const CLASS_TAG: u8 = 1;
+
+/// The tag of a class of arrays: ARRAY.
+const ARRAY_TAG: u8 = 3;
 
 /// One number of four bytes, such as an event request, a count of frames or suspensions, or a class's status or modifiers.
 pub fn int_body(alloc: Global, n: i32) -> Result<Vec<u8>, JdwpError>
@@ -50,6 +53,28 @@ pub fn class_of_object_body(alloc: Global, class: u64) -> Result<Vec<u8>, JdwpEr
     let mut out = Vec::new(alloc);
     put_byte(&mut out, CLASS_TAG)?;
     put_long(&mut out, class)?;
+    Ok(out)
+}
+
+/// The class of all tables, which is one of arrays, with its tag (9/1 of a table).
+pub fn class_of_table_body(alloc: Global) -> Result<Vec<u8>, JdwpError>
+    ensures ok { IfOk result (λ v. v.items ≡ 3 ∷ long table_class) }
+    ensures memory { IfErr result (λ e. e ≡ OutOfMemory) }
+{
+    let mut out = Vec::new(alloc);
+    put_byte(&mut out, ARRAY_TAG)?;
+    put_long(&mut out, TABLE_CLASS)?;
+    Ok(out)
+}
+
+/// The null object, with its tag (16/3): no frame has an object of its own.
+pub fn no_object_body(alloc: Global) -> Result<Vec<u8>, JdwpError>
+    ensures ok { IfOk result (λ v. v.items ≡ 76 ∷ long 0) }
+    ensures memory { IfErr result (λ e. e ≡ OutOfMemory) }
+{
+    let mut out = Vec::new(alloc);
+    put_byte(&mut out, b'L')?;
+    put_long(&mut out, 0)?;
     Ok(out)
 }
 
@@ -179,6 +204,6 @@ pub fn groups_body(alloc: Global) -> Result<Vec<u8>, JdwpError>
 
 ghost use Rattle.std.specs.Prelude.{◌≡◌, ◌<◌, ◌^◌, length, ◌∷◌, [], ◌++◌, IfOk, IfErr, replicate};
 ghost use Rattle.ti_jdwp.specs.Fields.{int, long, text};
-ghost use Rattle.ti_jdwp.specs.Ids.{thread_group};
+ghost use Rattle.ti_jdwp.specs.Ids.{table_class, thread_group};
 ghost use Rattle.ti_jdwp.specs.Bodies.{signed, flag};
 ghost use Rattle.ti_jdwp.specs.declared.error.JdwpError.TheVariants.{OutOfMemory};

@@ -3,7 +3,7 @@
 use crate::bodies::{
     capabilities_body, class_of_object_body, collected_body, empty_list_body,
     generic_signature_body, groups_body, id_body, id_sizes_body, int_body, new_capabilities_body,
-    text_body,
+    no_object_body, text_body,
 };
 use crate::error::JdwpError;
 use crate::ids::{THREAD_CLASS, THREAD_GROUP};
@@ -15,6 +15,12 @@ const GROUP_NAME: &[u8] = b"main";
 
 /// The signature of the class of all thread objects.
 const THREAD_SIGNATURE: &[u8] = b"Ljava/lang/Thread;";
+
+/// The signature of the class of all texts.
+const TEXT_SIGNATURE: &[u8] = b"Ljava/lang/String;";
+
+/// The signature of the class of all tables.
+const TABLE_SIGNATURE: &[u8] = b"[Ljava/lang/String;";
 
 /// The bytes of a body. 110 OUT_OF_MEMORY if there is no memory for them.
 pub(crate) fn constant_body(alloc: Global, constant: Constant) -> Result<Vec<u8>, JdwpError>
@@ -37,6 +43,11 @@ pub(crate) fn constant_body(alloc: Global, constant: Constant) -> Result<Vec<u8>
         Constant::ThreadClass => class_of_object_body(alloc, THREAD_CLASS),
         Constant::ThreadSignature => text_body(alloc, THREAD_SIGNATURE),
         Constant::ThreadGenericSignature => generic_signature_body(alloc, THREAD_SIGNATURE),
+        Constant::TextSignature => text_body(alloc, TEXT_SIGNATURE),
+        Constant::TextGenericSignature => generic_signature_body(alloc, TEXT_SIGNATURE),
+        Constant::TableSignature => text_body(alloc, TABLE_SIGNATURE),
+        Constant::TableGenericSignature => generic_signature_body(alloc, TABLE_SIGNATURE),
+        Constant::NoObject => no_object_body(alloc),
     }
 }
 

@@ -30,10 +30,13 @@ pub enum JdwpError {
     /// 30 INVALID_FRAMEID: the id is no frame's.
     #[error("the id is no frame's")]
     InvalidFrameId,
+    /// 35 INVALID_SLOT: the frame has no variable of this slot.
+    #[error("the frame has no such variable")]
+    InvalidSlot,
     /// 99 NOT_IMPLEMENTED: the command or the kind of event is not served.
     #[error("not implemented")]
     NotImplemented,
-    /// 101 ABSENT_INFORMATION: the class has no source file, or the method no lines.
+    /// 101 ABSENT_INFORMATION: the class has no source file, or the method no lines or no variables.
     #[error("absent information")]
     AbsentInformation,
     /// 102 INVALID_EVENT_TYPE: there is no such kind of event.
@@ -48,11 +51,11 @@ pub enum JdwpError {
     /// 112 VM_DEAD: the session has ended.
     #[error("the session has ended")]
     VmDead,
-    /// 503 INVALID_INDEX: a stack has no frame at the start.
-    #[error("no frame at the start")]
+    /// 503 INVALID_INDEX: a stack has no frame at the start, or a table no entry.
+    #[error("nothing at the start")]
     InvalidIndex,
-    /// 504 INVALID_LENGTH: a stack has fewer frames than were asked for.
-    #[error("fewer frames than asked for")]
+    /// 504 INVALID_LENGTH: a stack has fewer frames than were asked for, or a table fewer entries.
+    #[error("fewer than asked for")]
     InvalidLength,
     /// 511 NATIVE_METHOD: a native method has no lines.
     #[error("a native method has no lines")]
@@ -73,6 +76,7 @@ impl JdwpError {
             JdwpError::InvalidMethodId => 23,
             JdwpError::InvalidLocation => 24,
             JdwpError::InvalidFrameId => 30,
+            JdwpError::InvalidSlot => 35,
             JdwpError::NotImplemented => 99,
             JdwpError::AbsentInformation => 101,
             JdwpError::InvalidEventType => 102,

@@ -7,6 +7,10 @@
 //! | 2 · 2^33 + a class's number | the class |
 //! | 3 · 2^33 + a method's number | the method |
 //! | 4 · 2^33 | the class of all thread objects |
+//! | 5 · 2^33 + a text's number | the text |
+//! | 6 · 2^33 + a table's number | the table, an array of texts |
+//! | 7 · 2^33 | the class of all texts |
+//! | 8 · 2^33 | the class of all tables |
 //!
 //! Frames have ids of a kind of their own: a frame's id is read only beside the id of its thread.
 
@@ -17,7 +21,7 @@ use crate::error::JdwpError;
 pub enum IdKind {
     Thread,
     ThreadGroup,
-    /// A thread, a thread group or another object.
+    /// A thread, a thread group, a text or a table.
     Object,
     Class,
     Method,
@@ -47,9 +51,19 @@ pub const THREAD_GROUP: u64 = 1 << 33;
 /// The id of the class of all thread objects, `Ljava/lang/Thread;`.
 pub const THREAD_CLASS: u64 = 4 << 33;
 
+/// The id of the class of all texts, `Ljava/lang/String;`.
+pub const TEXT_CLASS: u64 = 7 << 33;
+
+/// The id of the class of all tables, `[Ljava/lang/String;`.
+pub const TABLE_CLASS: u64 = 8 << 33;
+
 const FIRST_CLASS: u64 = 2 << 33;
 
 const FIRST_METHOD: u64 = 3 << 33;
+
+const FIRST_TEXT: u64 = 5 << 33;
+
+const FIRST_TABLE: u64 = 6 << 33;
 
 /// The number with this id, if the range of 2^32 ids that begins at `first` has it.
 fn number_from(first: u64, id: u64) -> Option<u32>
@@ -83,7 +97,8 @@ pub fn class_id(class: u32) -> u64
     FIRST_CLASS + u64::from(class)
 }
 
-/// The class with this id. An id of another kind gives none, and [`THREAD_CLASS`] too, which has no number (21 INVALID_CLASS).
+/// The class with this id. An id of another kind gives none, and so do [`THREAD_CLASS`], [`TEXT_CLASS`] and [`TABLE_CLASS`], which
+/// have no number (21 INVALID_CLASS).
 pub fn class_of(id: u64) -> Option<u32>
     ensures { result ≡ number_from first_class id }
 {
@@ -102,6 +117,34 @@ pub fn method_of(id: u64) -> Option<u32>
     ensures { result ≡ number_from first_method id }
 {
     number_from(FIRST_METHOD, id)
+}
+
+/// The id of a text.
+pub fn text_id(text: u32) -> u64
+    ensures { result ≡ id_from first_text text }
+{
+    FIRST_TEXT + u64::from(text)
+}
+
+/// The text with this id. An id of another kind gives none (20 INVALID_OBJECT).
+pub fn text_of(id: u64) -> Option<u32>
+    ensures { result ≡ number_from first_text id }
+{
+    number_from(FIRST_TEXT, id)
+}
+
+/// The id of a table.
+pub fn table_id(table: u32) -> u64
+    ensures { result ≡ id_from first_table table }
+{
+    FIRST_TABLE + u64::from(table)
+}
+
+/// The table with this id. An id of another kind gives none (20 INVALID_OBJECT).
+pub fn table_of(id: u64) -> Option<u32>
+    ensures { result ≡ number_from first_table id }
+{
+    number_from(FIRST_TABLE, id)
 }
 
 /// The id of the frame at this depth of a thread's stack. The newest frame is at depth 0.
@@ -125,14 +168,16 @@ pub fn ids_are_undone()
     ensures threads { IsUndone first_thread }
     ensures classes { IsUndone first_class }
     ensures methods { IsUndone first_method }
+    ensures texts { IsUndone first_text }
+    ensures tables { IsUndone first_table }
     ensures frames { (t d u e : ℕ) → d < 2 ^ 32 → e < 2 ^ 32 → frame_id t d ≡ frame_id u e → (t ≡ u) × (d ≡ e) }
 {}
 
-/// An id of one kind is none of another: no thread, class or method has an id of another kind, of the group or of the class
-/// of threads.
+/// An id of one kind is none of another: no thread, class, method, text or table has an id of another kind, of the group or of
+/// the class of threads, of texts or of tables.
 pub fn kinds_are_apart()
     ensures { (id : ℕ) → AtMostOne (kinds_with id) }
 {}
 
 ghost use Rattle.std.specs.Prelude.{◌≡◌, ◌<◌, ◌^◌, ℕ};
-ghost use Rattle.ti_jdwp.specs.Ids.{unknown_id, number_from, id_from, first_thread, first_class, first_method, frame_id, IsUndone, kinds_with, AtMostOne};
+ghost use Rattle.ti_jdwp.specs.Ids.{unknown_id, number_from, id_from, first_thread, first_class, first_method, first_text, first_table, frame_id, IsUndone, kinds_with, AtMostOne};

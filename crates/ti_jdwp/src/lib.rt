@@ -39,24 +39,27 @@ mod session_laws;
 mod session_next;
 mod session_requests;
 mod session_stops;
+mod slots;
 mod stops;
 mod suspension_laws;
 mod suspensions;
 mod text;
+mod variables;
 mod writing;
 
 pub use actions::{Action, Posted};
 pub use bodies::{
-    capabilities_body, class_of_object_body, class_paths_body, collected_body, empty_list_body,
-    generic_signature_body, groups_body, id_body, id_sizes_body, int_body, new_capabilities_body,
-    status_body, text_body, version_body,
+    capabilities_body, class_of_object_body, class_of_table_body, class_paths_body, collected_body,
+    empty_list_body, generic_signature_body, groups_body, id_body, id_sizes_body, int_body,
+    new_capabilities_body, no_object_body, status_body, text_body, version_body,
 };
 pub use error::JdwpError;
 pub use event_laws::events_are_told_well;
 pub use event_text::{EventRow, Occurrence, composite_body};
 pub use ids::{
-    IdKind, THREAD_CLASS, THREAD_GROUP, class_id, class_of, frame_id, frame_of, ids_are_undone,
-    kinds_are_apart, method_id, method_of, thread_id, thread_of,
+    IdKind, TABLE_CLASS, TEXT_CLASS, THREAD_CLASS, THREAD_GROUP, class_id, class_of, frame_id,
+    frame_of, ids_are_undone, kinds_are_apart, method_id, method_of, table_id, table_of, text_id,
+    text_of, thread_id, thread_of,
 };
 pub use lists::{
     ClassRow, FrameRow, LineRow, MethodRow, classes_body, classes_found_body, frames_body,
@@ -64,7 +67,7 @@ pub use lists::{
 };
 pub use modifiers::{MAX_MODIFIERS, Modifier, read_modifier};
 pub use packet::{HANDSHAKE, HEAD_LEN, Head, MAX_PACKET, read_head};
-pub use reading::read_request;
+pub use reading::{MAX_SLOTS, read_request};
 pub use request::{EventKind, Policy, Range, Request};
 pub use sending::{reply, send_event};
 pub use session::Session;
@@ -72,6 +75,10 @@ pub use session_error::SessionError;
 pub use session_laws::{
     no_event_while_stopped, nothing_stays_suspended, requests_are_answered, stops_are_let_go,
 };
+pub use slots::read_slots;
 pub use stops::{Standing, Stopped, Verdict};
 pub use suspension_laws::suspensions_are_balanced;
 pub use suspensions::{Holder, LetGo, Suspensions};
+pub use variables::{
+    Value, VariableRow, entries_body, generic_variables_body, values_body, variables_body,
+};

@@ -1,7 +1,10 @@
 //! What is done with a request.
 
 use crate::error::JdwpError;
-use crate::ids::{THREAD_CLASS, THREAD_GROUP, class_of, method_of, thread_of};
+use crate::ids::{
+    TABLE_CLASS, TEXT_CLASS, THREAD_CLASS, THREAD_GROUP, class_of, method_of, table_of, text_of,
+    thread_of,
+};
 use crate::request::{EventKind, Policy, Request};
 
 /// The bodies of replies that are always the same.
@@ -30,6 +33,12 @@ pub(crate) enum Constant {
     ThreadClass,
     ThreadSignature,
     ThreadGenericSignature,
+    TextSignature,
+    TextGenericSignature,
+    TableSignature,
+    TableGenericSignature,
+    /// The null object, with its tag.
+    NoObject,
 }
 
 /// A request for events of a kind. So many modifiers stand in the data of the request from `at` on.
@@ -98,17 +107,31 @@ fn at_group(id: u64, plan: Plan) -> Plan
     }
 }
 
-/// A plan for the class with this id: one for the class of all threads, one for all others. 21 INVALID_CLASS if the id is no
-/// class's.
-fn at_class(id: u64, threads: Plan, others: Plan) -> Plan
-    ensures { result ≡ at_class id threads others }
+/// A plan for the class with this id: one for the classes of all threads, texts and tables, one for all others. 21 INVALID_CLASS if
+/// the id is no class's.
+fn at_class(id: u64, objects: Plan, others: Plan) -> Plan
+    ensures { result ≡ at_class id objects others }
 {
-    if id == THREAD_CLASS {
-        threads
+    if id == THREAD_CLASS || id == TEXT_CLASS || id == TABLE_CLASS {
+        objects
     } else if class_of(id).is_some() {
         others
     } else {
         Plan::Refuse(JdwpError::InvalidClass)
+    }
+}
+
+/// The plan for the signature of the class with this id, which is this one for the class of all threads, of all texts and of all
+/// tables. 21 INVALID_CLASS if the id is no class's.
+fn signature_of(id: u64, threads: Constant, texts: Constant, tables: Constant) -> Plan
+    ensures { result ≡ signature_of id threads texts tables }
+{
+    if id == TEXT_CLASS {
+        Plan::Constant(texts)
+    } else if id == TABLE_CLASS {
+        Plan::Constant(tables)
+    } else {
+        at_class(id, Plan::Constant(threads), Plan::Ask)
     }
 }
 
@@ -132,12 +155,36 @@ fn at_method(class: u64, method: u64) -> Plan
     }
 }
 
-/// A plan for an object. The objects are threads. 20 INVALID_OBJECT if the id is no thread's.
-fn at_object(id: u64, plan: Plan) -> Plan
-    ensures { result ≡ at_object id plan }
+/// A plan for an object: this one for a thread, and of a text or a table the driver says whether it is there. 20 INVALID_OBJECT if the
+/// id is none of theirs.
+fn at_object(id: u64, threads: Plan) -> Plan
+    ensures { result ≡ at_object id threads }
 {
-    match thread_of(id) {
-        Some(_) => plan,
+    if thread_of(id).is_some() {
+        threads
+    } else if text_of(id).is_some() || table_of(id).is_some() {
+        Plan::Ask
+    } else {
+        Plan::Refuse(JdwpError::InvalidObject)
+    }
+}
+
+/// The plan for what is asked of a text. 20 INVALID_OBJECT if the id is no text's.
+fn at_text(id: u64) -> Plan
+    ensures { result ≡ at_text id }
+{
+    match text_of(id) {
+        Some(_) => Plan::Ask,
+        None => Plan::Refuse(JdwpError::InvalidObject),
+    }
+}
+
+/// The plan for what is asked of a table. 20 INVALID_OBJECT if the id is no table's.
+fn at_table(id: u64) -> Plan
+    ensures { result ≡ at_table id }
+{
+    match table_of(id) {
+        Some(_) => Plan::Ask,
         None => Plan::Refuse(JdwpError::InvalidObject),
     }
 }
@@ -180,7 +227,12 @@ pub(crate) fn plan_of(request: Request) -> Plan
         Request::GroupName(id) => at_group(id, Plan::Constant(Constant::GroupName)),
         Request::GroupParent(id) => at_group(id, Plan::Constant(Constant::NoId)),
         Request::GroupChildren(id) => at_group(id, Plan::Ask),
-        Request::LineTable { class, method } => at_method(class, method),
+        Request::LineTable { class, method }
+        | Request::VariableTable { class, method }
+        | Request::VariableTableWithGeneric { class, method } => at_method(class, method),
+        Request::TextValue(id) => at_text(id),
+        Request::TableLength(id) => at_table(id),
+        Request::TableEntries { table, .. } => at_table(table),
         Request::Signature(_)
         | Request::SignatureWithGeneric(_)
         | Request::ClassLoader(_)
@@ -198,7 +250,9 @@ pub(crate) fn plan_of(request: Request) -> Plan
         | Request::ThreadGroup(_)
         | Request::Frames { .. }
         | Request::FrameCount(_)
-        | Request::SuspendCount(_) => thread_plan(request),
+        | Request::SuspendCount(_)
+        | Request::FrameValues { .. }
+        | Request::ThisObject { .. } => thread_plan(request),
     }
 }
 
@@ -208,13 +262,19 @@ fn class_plan(request: Request) -> Plan
 {
     match request {
         Request::Signature(id) => {
-            at_class(id, Plan::Constant(Constant::ThreadSignature), Plan::Ask)
+            signature_of(
+                id,
+                Constant::ThreadSignature,
+                Constant::TextSignature,
+                Constant::TableSignature,
+            )
         }
         Request::SignatureWithGeneric(id) => {
-            at_class(
+            signature_of(
                 id,
-                Plan::Constant(Constant::ThreadGenericSignature),
-                Plan::Ask,
+                Constant::ThreadGenericSignature,
+                Constant::TextGenericSignature,
+                Constant::TableGenericSignature,
             )
         }
         Request::SourceFile(id) => {
@@ -243,6 +303,10 @@ fn thread_plan(request: Request) -> Plan
         Request::ThreadGroup(id) => at_thread(id, Plan::Constant(Constant::GroupId)),
         Request::Frames { thread, .. } => stack_of(thread),
         Request::FrameCount(id) => stack_of(id),
+        Request::FrameValues { thread, .. } => stack_of(thread),
+        Request::ThisObject { thread, .. } => {
+            at_thread(thread, Plan::Constant(Constant::NoObject))
+        }
         Request::SuspendCount(id) => match thread_of(id) {
             Some(thread) => Plan::Count(thread),
             None => Plan::Refuse(JdwpError::InvalidThread),
@@ -260,4 +324,4 @@ fn thread_plan(request: Request) -> Plan
 }
 
 ghost use Rattle.std.specs.Prelude.{◌≡◌};
-ghost use Rattle.ti_jdwp.specs.Plans.{at_thread, stack_of, at_group, at_class, at_each_class, at_method, at_object, class_plan, thread_plan, plan_of};
+ghost use Rattle.ti_jdwp.specs.Plans.{at_thread, stack_of, at_group, at_class, signature_of, at_each_class, at_method, at_object, at_text, at_table, class_plan, thread_plan, plan_of};

@@ -4,15 +4,23 @@ use crate::error::JdwpError;
 use crate::fields::{int, long};
 use crate::modifiers::{MAX_MODIFIERS, end_of_modifiers, text_len};
 use crate::request::{EventKind, Policy, Range, Request};
+use crate::slots::SLOT_LEN;
 
 /// Bytes that each object of 1/14 takes: its id, and a count of references.
 const DISPOSED_LEN: usize = 12;
+
+/// Where the slots of 16/1 begin: behind a thread, a frame and a count.
+const SLOTS_AT: usize = 20;
+
+/// The greatest number of slots that is asked for at once.
+pub const MAX_SLOTS: u32 = 4_096;
 
 /// Reads the data of a request with this command set and command. The data is all of the packet behind its head.
 ///
 /// Fails with 99 NOT_IMPLEMENTED if the command is not served, whatever the data. Fails with 103 ILLEGAL_ARGUMENT if the data
 /// is not laid out as the command says, or bytes are left. So do an event request with a policy above 2, one with more than
-/// 64 modifiers or a negative number of them, and one with a modifier that cannot be read ([`read_modifier`]). An event request
+/// 64 modifiers or a negative number of them, one with a modifier that cannot be read ([`read_modifier`]), and a request for more than
+/// 4,096 values or a negative number of them. An event request
 /// whose data is well laid out fails with 99 for a kind of event that is not served, and with 102 INVALID_EVENT_TYPE for a
 /// number that no kind has.
 ///
@@ -38,9 +46,12 @@ fn request_of(set: u8, command: u8, bytes: &[u8]) -> Result<Request, JdwpError>
         3 => class_type(command, bytes),
         6 => method(command, bytes),
         9 => object_reference(command, bytes),
+        10 => string_reference(command, bytes),
         11 => thread_reference(command, bytes),
         12 => thread_group(command, bytes),
+        13 => array_reference(command, bytes),
         15 => event_request(command, bytes),
+        16 => stack_frame(command, bytes),
         _ => Err(JdwpError::NotImplemented),
     }
 }
@@ -98,7 +109,18 @@ fn method(command: u8, bytes: &[u8]) -> Result<Request, JdwpError>
     ensures { result ≡ request_in 6 command bytes.now }
 {
     match command {
-        1 => line_table(bytes),
+        1 => {
+            let (class, method) = two_ids(bytes)?;
+            Ok(Request::LineTable { class, method })
+        }
+        2 => {
+            let (class, method) = two_ids(bytes)?;
+            Ok(Request::VariableTable { class, method })
+        }
+        5 => {
+            let (class, method) = two_ids(bytes)?;
+            Ok(Request::VariableTableWithGeneric { class, method })
+        }
         _ => Err(JdwpError::NotImplemented),
     }
 }
@@ -113,6 +135,15 @@ fn object_reference(command: u8, bytes: &[u8]) -> Result<Request, JdwpError>
     }
 }
 
+fn string_reference(command: u8, bytes: &[u8]) -> Result<Request, JdwpError>
+    ensures { result ≡ request_in 10 command bytes.now }
+{
+    match command {
+        1 => Ok(Request::TextValue(id(bytes)?)),
+        _ => Err(JdwpError::NotImplemented),
+    }
+}
+
 fn thread_reference(command: u8, bytes: &[u8]) -> Result<Request, JdwpError>
     ensures { result ≡ request_in 11 command bytes.now }
 {
@@ -122,7 +153,14 @@ fn thread_reference(command: u8, bytes: &[u8]) -> Result<Request, JdwpError>
         3 => Ok(Request::Resume(id(bytes)?)),
         4 => Ok(Request::ThreadStatus(id(bytes)?)),
         5 => Ok(Request::ThreadGroup(id(bytes)?)),
-        6 => frames(bytes),
+        6 => {
+            let (thread, start, length) = part(bytes)?;
+            Ok(Request::Frames {
+                thread,
+                start,
+                length,
+            })
+        }
         7 => Ok(Request::FrameCount(id(bytes)?)),
         12 => Ok(Request::SuspendCount(id(bytes)?)),
         _ => Err(JdwpError::NotImplemented),
@@ -140,12 +178,42 @@ fn thread_group(command: u8, bytes: &[u8]) -> Result<Request, JdwpError>
     }
 }
 
+fn array_reference(command: u8, bytes: &[u8]) -> Result<Request, JdwpError>
+    ensures { result ≡ request_in 13 command bytes.now }
+{
+    match command {
+        1 => Ok(Request::TableLength(id(bytes)?)),
+        2 => {
+            let (table, start, length) = part(bytes)?;
+            Ok(Request::TableEntries {
+                table,
+                start,
+                length,
+            })
+        }
+        _ => Err(JdwpError::NotImplemented),
+    }
+}
+
 fn event_request(command: u8, bytes: &[u8]) -> Result<Request, JdwpError>
     ensures { result ≡ request_in 15 command bytes.now }
 {
     match command {
         1 => set_event(bytes),
         2 => clear_event(bytes),
+        _ => Err(JdwpError::NotImplemented),
+    }
+}
+
+fn stack_frame(command: u8, bytes: &[u8]) -> Result<Request, JdwpError>
+    ensures { result ≡ request_in 16 command bytes.now }
+{
+    match command {
+        1 => frame_values(bytes),
+        3 => {
+            let (thread, frame) = two_ids(bytes)?;
+            Ok(Request::ThisObject { thread, frame })
+        }
         _ => Err(JdwpError::NotImplemented),
     }
 }
@@ -195,31 +263,50 @@ fn dispose_objects(bytes: &[u8]) -> Result<Request, JdwpError>
     }
 }
 
-fn line_table(bytes: &[u8]) -> Result<Request, JdwpError>
-    ensures { result ≡ read_as of_method bytes.now }
+/// The two ids that are all of the data.
+fn two_ids(bytes: &[u8]) -> Result<(u64, u64), JdwpError>
+    ensures { result ≡ two_ids_in bytes.now }
 {
     if bytes.len() == 16 {
-        Ok(Request::LineTable {
-            class: long(bytes, 0),
-            method: long(bytes, 8),
-        })
+        Ok((long(bytes, 0), long(bytes, 8)))
     } else {
         Err(JdwpError::IllegalArgument)
     }
 }
 
-fn frames(bytes: &[u8]) -> Result<Request, JdwpError>
-    ensures { result ≡ read_as of_frames bytes.now }
+/// An id, a start and a length, which are all of the data.
+fn part(bytes: &[u8]) -> Result<(u64, i32, i32), JdwpError>
+    ensures { result ≡ part_in bytes.now }
 {
     if bytes.len() == 16 {
-        Ok(Request::Frames {
-            thread: long(bytes, 0),
-            start: int(bytes, 8).cast_signed(),
-            length: int(bytes, 12).cast_signed(),
-        })
+        Ok((
+            long(bytes, 0),
+            int(bytes, 8).cast_signed(),
+            int(bytes, 12).cast_signed(),
+        ))
     } else {
         Err(JdwpError::IllegalArgument)
     }
+}
+
+fn frame_values(bytes: &[u8]) -> Result<Request, JdwpError>
+    ensures { result ≡ read_as of_slots bytes.now }
+{
+    if bytes.len() < SLOTS_AT {
+        return Err(JdwpError::IllegalArgument);
+    }
+    let count = int(bytes, 16);
+    if count > MAX_SLOTS || bytes.len() != SLOTS_AT + SLOT_LEN * count as usize {
+        return Err(JdwpError::IllegalArgument);
+    }
+    Ok(Request::FrameValues {
+        thread: long(bytes, 0),
+        frame: long(bytes, 8),
+        slots: Range {
+            start: SLOTS_AT,
+            end: bytes.len(),
+        },
+    })
 }
 
 fn set_event(bytes: &[u8]) -> Result<Request, JdwpError>
@@ -264,5 +351,5 @@ ghost use Rattle.std.specs.Prelude.{◌≡◌, IfOk};
 ghost use Rattle.ti_jdwp.specs.declared.error.JdwpError.TheVariants.{NotImplemented};
 ghost use Rattle.ti_jdwp.specs.Spelled.{IsRequest};
 ghost use Rattle.ti_jdwp.specs.declared.request.Request.{Request};
-ghost use Rattle.ti_jdwp.specs.Requests.{id_in, read_as, request_in};
-ghost use Rattle.ti_jdwp.specs.Commands.{layout_of, no_fields, of_signature, of_objects, of_method, of_frames, of_event, of_clear};
+ghost use Rattle.ti_jdwp.specs.Requests.{id_in, two_ids_in, part_in, read_as, request_in};
+ghost use Rattle.ti_jdwp.specs.Commands.{layout_of, no_fields, of_signature, of_objects, of_event, of_clear, of_slots};

@@ -176,10 +176,22 @@ pub enum Request {
         class: u64,
         method: u64,
     },
+    /// 6/2.
+    VariableTable {
+        class: u64,
+        method: u64,
+    },
+    /// 6/5.
+    VariableTableWithGeneric {
+        class: u64,
+        method: u64,
+    },
     /// 9/1, of an object.
     ReferenceType(u64),
     /// 9/9, of an object.
     IsCollected(u64),
+    /// 10/1, of a text.
+    TextValue(u64),
     /// 11/1, of a thread.
     ThreadName(u64),
     /// 11/2, of a thread.
@@ -206,6 +218,14 @@ pub enum Request {
     GroupParent(u64),
     /// 12/3, of a thread group.
     GroupChildren(u64),
+    /// 13/1, of a table.
+    TableLength(u64),
+    /// 13/2: this many entries of a table from `start` on, the first being 0.
+    TableEntries {
+        table: u64,
+        start: i32,
+        length: i32,
+    },
     /// 15/1, with the number of modifiers. They stand in the range one after the other.
     SetEvent {
         kind: EventKind,
@@ -217,6 +237,17 @@ pub enum Request {
     ClearEvent {
         kind: u8,
         request: i32,
+    },
+    /// 16/1, of variables whose slots stand in the range ([`read_slots`](crate::read_slots)).
+    FrameValues {
+        thread: u64,
+        frame: u64,
+        slots: Range,
+    },
+    /// 16/3.
+    ThisObject {
+        thread: u64,
+        frame: u64,
     },
 }
 

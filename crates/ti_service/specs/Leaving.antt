@@ -15,14 +15,24 @@ use Rattle.ti_types.specs.declared.numbers.ThreadNo.{ThreadNo}
 use Rattle.ti_agent.specs.Desks.{IsCleared}
 use Rattle.ti_agent.specs.Env.{Environment}
 use Rattle.ti_agent.specs.FreeDesk.{FreeState}
+use Rattle.ti_agent.specs.Quiesced.{MayQuiesce}
 use Rattle.ti_roster.specs.Roster.{most_items}
 use Rattle.ti_service.specs.Agent.{AgentState}
 use Rattle.ti_service.specs.Service.{Leaves, Looks, Member}
 
--- one desk after another left the environment, and nothing is left there of what it did
+-- at one thread after another, the environment's calls are cancelled, and those that were answered are out no more
+abbrev pub QuiescesEach : List ThreadNo → Environment → Environment → Type 0
+QuiescesEach [] old new = new ≡ old
+QuiescesEach (t ∷ threads) old new = (mid : Environment) × MayQuiesce old mid t × QuiescesEach threads mid new
+
+abbrev pub Quiets : Environment → Environment → Type 0
+Quiets old new = (threads : List ThreadNo) × QuiescesEach threads old new
+
+-- One desk after another left the environment, and nothing is left there of what it did. If it could suspend threads or pop frames,
+-- none of its calls is out there (`IsCleared`)
 abbrev pub ClearsEach : Environment → Environment → List FreeState → Type 0
-ClearsEach old new [] = new ≡ old
-ClearsEach old new (f ∷ desks) = (t : ThreadNo) × (mid : Environment) × IsCleared old mid t f × ClearsEach mid new desks
+ClearsEach old new [] = Quiets old new
+ClearsEach old new (f ∷ desks) = (quiet : Environment) × Quiets old quiet × (t : ThreadNo) × (mid : Environment) × IsCleared quiet mid t f × ClearsEach mid new desks
 
 -- these desks of the environment are cleared, and wait behind those that waited
 pub record Clears (old new : AgentState) : Type 0 where
@@ -39,9 +49,10 @@ pub record Disposes (a : AgentState) (s : Member) : Type 0 where
   pub cell : s.cell ≡ a.service.cell
   pub leaves : Leaves a.service.view s.view last.waiting
 
--- It was not disposed of: there was no memory to clear all desks, or what it needed was in use; or nothing more could happen to
--- the roster
+-- It was not disposed of. A call of its own is out at a thread, what it needed was in use, or there was no memory to note the calls
+-- that are cancelled: then it has all its desks. Or some desks were cleared. Or nothing more could happen to the roster
 pub data StaysOn (old new : AgentState) (e : TiError) : Type 0 where
+  NotQuiet : (e ≡ OutOfMemory) ⊎ (e ≡ Busy) → new.service ≡ old.service → new.waiting ≡ old.waiting → Quiets old.env new.env → StaysOn old new e
   NotCleared : (e ≡ OutOfMemory) ⊎ (e ≡ Busy) → new.service ≡ old.service → Clears old new → StaysOn old new e
   NotLeft : e ≡ Full → most_items ≤ length new.service.view.seen + length new.waiting → new.service.cell ≡ old.service.cell → Looks old.service.view new.service.view → Clears old new → StaysOn old new e
 

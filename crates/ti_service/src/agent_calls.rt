@@ -97,20 +97,22 @@ pub trait ServiceCalls {
     /// time is over, if the clock can't be read, or if events are disabled.
     fn next_event_within<R: Wait + Clock>(&mut self, rt: &R, time: Duration) -> Option<NextEvent>;
 
-    /// DisposeEnvironment (JVM TI 11): the agent leaves the service, and its number is free for another. At each thread its
-    /// word is 0 again, and its calls that were posted and not collected are cancelled. They still take place: a thread that is
-    /// to be suspended, or was, stays suspended. It has no stop to let go: whoever holds one borrows the environment.
+    /// DisposeEnvironment (JVM TI 11): the agent leaves the service, and its number is free for another. No thread is suspended and no
+    /// frame popped by an agent after it was disposed of. So one that has `can_suspend` or `can_pop_frame` waits until none of its
+    /// calls is out at any thread: a thread that runs has to hand over, or end. The calls of any other only read, and are
+    /// cancelled. Its word at each thread is 0 again. It has no stop to let go: whoever holds one borrows the environment.
     ///
-    /// What is left is a handle, which is no environment's. The next environment of this number is at each thread that is
-    /// there, and finds nothing of what this one did but at the threads themselves: what it suspended and popped.
+    /// What it suspended stays suspended, as JVM TI 11 says, and what it popped is gone. What is left of the agent is a handle,
+    /// which is no environment's. The next environment of this number is at each thread that is there, and finds nothing else of what
+    /// this one did.
     ///
-    /// The error is 110 OUT_OF_MEMORY if there is no memory to give calls up, or 216 `Full` if there were 2^62 - 1 comings and
-    /// goings in all, or there would be with the desks (this profile). Then the agent comes back. It may have left some of its threads already, and can only be disposed of.
+    /// The error is 110 OUT_OF_MEMORY if there is no memory to note the calls that are cancelled, or 216 `Full` if there were 2^62 - 1
+    /// comings and goings in all, or there would be with the desks (this profile). Then the agent comes back. It may have left some of
+    /// its threads already, and can only be disposed of.
     fn dispose<R: Wait>(self, rt: &R, alloc: Global) -> Result<Service, (TiError, Agent)>;
 }
 
-/// Clears the environment's desks: its calls are cancelled, and its words are 0. They wait from then on, behind those that
-/// waited.
+/// Clears the environment's desks, as `Env::clear_desk` does at one thread. The desks wait from then on, behind those that waited.
 ///
 /// 110 OUT_OF_MEMORY if there is no memory for that. Then some of them are cleared, and the others are as they were.
 fn clear<R: Wait>(agent: &mut Agent, rt: &R, alloc: Global) -> Result<(), TiError>

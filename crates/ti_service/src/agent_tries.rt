@@ -54,12 +54,36 @@ pub trait ServiceTries {
     /// The error is 215 `Busy` (this profile) if events are enabled and the roster is in use. Then nothing changes.
     fn next_event_now(&mut self) -> Result<Option<NextEvent>, TiError>;
 
-    /// DisposeEnvironment (JVM TI 11), as `dispose` does it.
+    /// DisposeEnvironment (JVM TI 11), as `dispose` does it. It does not wait for calls that are out.
     ///
-    /// The error is 110 OUT_OF_MEMORY or 216 `Full` as for `dispose`, or 215 `Busy` (this profile) if the cell of a thread or
-    /// the roster is in use. Then the agent comes back. It may have left some of its threads already, and can only be disposed of: by a
-    /// further try, or by `dispose`.
+    /// The error is 110 OUT_OF_MEMORY or 216 `Full` as for `dispose`, or 215 `Busy` (this profile):
+    ///
+    /// - The agent may suspend threads or pop frames, and a call of it is out at a thread that runs and has not handed over since. Then
+    ///   the agent comes back with all its desks, and goes on as before. Only its calls are cancelled. So it can take its suspensions
+    ///   back (`Env::ensure_resumed_now`), or try again once the thread has handed over or ended.
+    /// - The cell of a thread or the roster is in use. Then the agent comes back too. It may have left some of its threads already, and
+    ///   can only be disposed of then: by a further try, or by `dispose`.
     fn dispose_now(self, alloc: Global) -> Result<Service, (TiError, Agent)>;
+}
+
+/// Sees to it that the agent changes nothing of any thread any more, as `Env::settle_now` does at one. It stops at the first thread at
+/// which a call is out.
+///
+/// The error is 110 OUT_OF_MEMORY, or 215 `Busy` if a call is out, or a cell is in use.
+fn settle_each_now(agent: &mut Agent, alloc: Global) -> Result<(), TiError>
+    ensures home { agent.new.home ≡ agent.old.home }
+    ensures quiets { Quiets agent.old.env agent.new.env }
+    ensures refused { IfErr result (λ e. (e ≡ OutOfMemory) ⊎ (e ≡ Busy)) }
+{
+    let mut index = agent.desk_count();
+    while index > 0 {
+        index -= 1;
+        let Some(thread) = agent.thread_at(index) else {
+            unreachable!()
+        };
+        agent.settle_now(alloc, thread)?;
+    }
+    Ok(())
 }
 
 /// Clears the environment's desks, as `clear` does. It tries to hold the cell of each just once.
@@ -171,6 +195,10 @@ impl ServiceTries for Env<Membership> {
         ensures kept { IfErr result (λ r. StaysOn (state_of self) (state_of r.1) r.0) }
         ensures events { IfErr result (λ r. r.1.home.events ≡ self.home.events) }
     {
+        match settle_each_now(&mut self, alloc) {
+            Ok(()) => (),
+            Err(error) => return Err((error, self)),
+        }
         match clear_now(&mut self, alloc) {
             Ok(()) => (),
             Err(error) => return Err((error, self)),
@@ -201,7 +229,7 @@ ghost use Rattle.ti_roster.specs.Log.{live};
 ghost use Rattle.ti_roster.specs.Roster.{IsToldOf};
 ghost use Rattle.ti_service.specs.Service.{Looks, RefusesInfo, TellsNews, roster_seen};
 ghost use Rattle.ti_service.specs.Agent.{AddsWaiting, IsSameBut, Keeps, Meets};
-ghost use Rattle.ti_service.specs.Leaving.{Clears, Disposes, StaysOn};
+ghost use Rattle.ti_service.specs.Leaving.{Clears, Disposes, Quiets, StaysOn};
 ghost use Rattle.ti_service.specs.LettingGo.{LetsGo};
 ghost use Rattle.ti_service.specs.Memberships.{state_of};
 ghost use Rattle.ti_service.specs.Telling.{Enables, TellsNext, with_events};

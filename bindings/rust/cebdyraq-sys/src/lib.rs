@@ -9,7 +9,7 @@ use core::ptr::null_mut;
 
 /// The version whose functions are declared here.
 pub const CQ_VERSION_MAJOR: u32 = 1;
-pub const CQ_VERSION_MINOR: u32 = 4;
+pub const CQ_VERSION_MINOR: u32 = 6;
 
 /// Whether the library that the program runs with has all of them, as `cq_version_fits` of `cebdyraq.h` says.
 pub fn version_fits() -> bool {
@@ -51,6 +51,48 @@ impl cq_server {
     pub const fn empty() -> Self {
         Self { opaque: [0; 96] }
     }
+}
+
+#[repr(C)]
+#[derive(Clone, Copy, Debug, Default, PartialEq, Eq, Hash)]
+pub struct cq_question {
+    pub kind: u32,
+    pub method: u32,
+    pub thread: u32,
+    pub depth: u32,
+}
+
+#[repr(C)]
+#[derive(Clone, Copy, Debug, Default, PartialEq, Eq, Hash)]
+pub struct cq_variable {
+    pub slot: u32,
+    pub first: u32,
+    pub count: u32,
+    pub name_length: u32,
+}
+
+#[repr(C)]
+#[derive(Clone, Copy, Debug, Default, PartialEq, Eq, Hash)]
+pub struct cq_value {
+    pub slot: u32,
+    pub kind: u32,
+    pub bits: u64,
+}
+
+/// An answer that is put together. The library makes it.
+#[repr(C)]
+#[derive(Debug)]
+pub struct cq_teller {
+    opaque: [u8; 0],
+}
+
+/// The functions of a runtime that tells variables.
+#[repr(C)]
+#[derive(Clone, Copy, Debug)]
+pub struct cq_variables {
+    pub context: *mut c_void,
+    pub of_method: unsafe extern "C" fn(*mut c_void, u32, *mut cq_teller) -> u32,
+    pub of_frame: unsafe extern "C" fn(*mut c_void, u32, u32, *mut cq_teller) -> u32,
 }
 
 #[repr(C)]
@@ -439,6 +481,7 @@ extern "C" {
     pub fn cq_wait_ensure_resumed(env: *mut cq_env, signal: *mut cq_signal, thread: u32, timeout_ns: i64) -> u32;
     pub fn cq_wait_set_event_notification_mode(env: *mut cq_env, signal: *mut cq_signal, enabled: bool) -> u32;
     pub fn cq_wait_dispose_environment(env: *mut cq_env, signal: *mut cq_signal) -> u32;
+    pub fn cq_wait_dispose_environment_within(env: *mut cq_env, signal: *mut cq_signal, timeout_ns: i64) -> u32;
     pub fn cq_wait_reached(
         thread: *mut cq_thread,
         signal: *mut cq_signal,
@@ -601,6 +644,39 @@ extern "C" {
     pub fn cq_door_written(door: *mut cq_door, connection: u32, count: u64, now: u64) -> u32;
     pub fn cq_door_disconnect(door: *mut cq_door, connection: u32) -> u32;
     pub fn cq_door_tick(door: *mut cq_door, now: u64, deadline: *mut u64) -> u32;
+    pub fn cq_door_tells_variables(door: *mut cq_door, tells: bool) -> u32;
+    pub fn cq_door_question(door: *mut cq_door, question: *mut cq_question) -> u32;
+    pub fn cq_door_tell_variables(
+        door: *mut cq_door,
+        variables: *const cq_variable,
+        count: usize,
+        names: *const u8,
+        length: usize,
+    ) -> u32;
+    pub fn cq_door_tell_values(
+        door: *mut cq_door,
+        values: *const cq_value,
+        count: usize,
+        texts: *const u8,
+        length: usize,
+    ) -> u32;
+    pub fn cq_door_tell_none(door: *mut cq_door, code: u32) -> u32;
+    pub fn cq_door_answer(door: *mut cq_door, variables: *const cq_variables) -> u32;
+    pub fn cq_tell_variable(
+        teller: *mut cq_teller,
+        name: *const u8,
+        length: usize,
+        slot: u32,
+        first: u32,
+        count: u32,
+    ) -> u32;
+    pub fn cq_tell_nil(teller: *mut cq_teller, slot: u32) -> u32;
+    pub fn cq_tell_boolean(teller: *mut cq_teller, slot: u32, value: bool) -> u32;
+    pub fn cq_tell_integer(teller: *mut cq_teller, slot: u32, value: i64) -> u32;
+    pub fn cq_tell_number(teller: *mut cq_teller, slot: u32, value: f64) -> u32;
+    pub fn cq_tell_text(teller: *mut cq_teller, slot: u32, text: *const u8, length: usize) -> u32;
+    pub fn cq_tell_table(teller: *mut cq_teller, slot: u32) -> u32;
+    pub fn cq_tell_entry(teller: *mut cq_teller, text: *const u8, length: usize) -> u32;
     pub fn cq_door_resumptions(door: *mut cq_door, count: *mut u64) -> u32;
     pub fn cq_close_door(door: *mut cq_door) -> u32;
     pub fn cq_serve(
@@ -618,6 +694,7 @@ extern "C" {
         program: *const c_char,
         path: *const c_char,
     ) -> u32;
+    pub fn cq_server_variables(server: *mut cq_server, variables: *const cq_variables) -> u32;
     pub fn cq_server_port(server: *const cq_server, port: *mut u16) -> u32;
     pub fn cq_serve_end(server: *mut cq_server) -> u32;
 }

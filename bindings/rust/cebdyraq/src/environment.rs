@@ -325,11 +325,14 @@ impl Environment {
         Ok(Event { kind, thread: event.thread, lost: event.lost })
     }
 
-    /// DisposeEnvironment. So does a drop, which has no error.
+    /// DisposeEnvironment. So does a drop, which has no error, and waits as long as it takes. While it may suspend threads or pop frames,
+    /// it waits until each thread has reached the calls that are out there.
     ///
-    /// The environment comes back with the error if there is no memory. It can only be disposed of then.
+    /// The environment comes back with the error. After `TimedOut` it goes on as before. If there is no memory, it can only be
+    /// disposed of then.
     pub fn dispose(mut self) -> Result<(), (Error, Environment)> {
-        match checked(unsafe { sys::cq_wait_dispose_environment(self.at(), self.signal.at()) }) {
+        let time = self.time();
+        match checked(unsafe { sys::cq_wait_dispose_environment_within(self.at(), self.signal.at(), time) }) {
             Ok(()) => Ok(()),
             Err(error) => Err((error, self)),
         }

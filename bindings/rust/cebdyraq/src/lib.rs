@@ -56,6 +56,7 @@ mod server;
 mod service;
 mod stops;
 mod thread;
+mod variables;
 
 pub use classes::{ClassInfo, Defined, LineEntry, Lines, MethodInfo, MethodName};
 pub use environment::{capabilities, Environment, Event, EventKind, StackInfo, ThreadInfo};
@@ -65,3 +66,4 @@ pub use server::{ServeError, Server};
 pub use service::Service;
 pub use stops::{Stop, StopKind};
 pub use thread::{Ended, Frame, Fresh, Reason, Running, Safe};
+pub use variables::{Names, Table, Values, Variables};

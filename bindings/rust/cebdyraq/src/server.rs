@@ -1,5 +1,6 @@
 use crate::error::{checked, Error};
 use crate::service::{Service, Signal};
+use crate::variables::{Told, Variables};
 use cebdyraq_sys as sys;
 use std::ffi::CString;
 use std::sync::Arc;
@@ -40,6 +41,7 @@ pub struct Server {
     // Boxed, since it stays where it is.
     memory: Box<sys::cq_server>,
     _signal: Arc<Signal>,
+    _told: Option<Told>,
 }
 
 // SAFETY: only `port` and `drop` use it from here on, each by one call at a time.
@@ -88,6 +90,32 @@ impl Service {
         })
     }
 
+    /// Listens for debuggers likewise, and tells them variables.
+    pub fn debug_listen_with(
+        &mut self,
+        address: &str,
+        program: &str,
+        path: &str,
+        variables: Box<dyn Variables>,
+    ) -> Result<Server, ServeError> {
+        let (address, program, path) = (c_string(address)?, c_string(program)?, c_string(path)?);
+        let mut told = Told::new(variables);
+        let functions = told.functions();
+        let mut server = self.begin(|memory, service, signal| {
+            // SAFETY: see `begin`, and the texts end with a 0. The server keeps what the functions use for as long as it serves.
+            unsafe {
+                match sys::cq_server_variables(memory, &functions) {
+                    sys::CQ_OK => {
+                        sys::cq_debug_listen(memory, service, signal, address.as_ptr(), program.as_ptr(), path.as_ptr())
+                    }
+                    code => code,
+                }
+            }
+        })?;
+        server._told = Some(told);
+        Ok(server)
+    }
+
     /// Begins to serve by a call that gives a code. Its memory is empty and stays where it is, and the signal lives as long as the
     /// server.
     fn begin(
@@ -100,6 +128,6 @@ impl Service {
             return Err(ServeError::System(io::Error::last_os_error()));
         }
         checked(code)?;
-        Ok(Server { memory, _signal: signal })
+        Ok(Server { memory, _signal: signal, _told: None })
     }
 }

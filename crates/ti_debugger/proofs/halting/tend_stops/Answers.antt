@@ -6,4 +6,5 @@ pub loop-index-preserved : goal.loop-index-preserved
 loop-index-preserved c = record {
   told = λ log n. told_on log n n n _ _ _ (c.loop-index.invariant.told log n) (c.tell_stop.ensures.told log n);
   rest = search rules;
+  asked = search rules;
 }

@@ -1,3 +1,4 @@
+use Rattle.std.specs.Prelude.{◌≡◌}
 use Rattle.ti_debugger.specs.Desks.{Works}
 use Rattle.ti_debugger.specs.Sessions.{session_in}
 use Rattle.ti_debugger.specs.Told.{ToldOfLives}
@@ -7,4 +8,5 @@ abbrev pub invariant-loop-index : goal.invariant-loop-index
 invariant-loop-index l = record {
   told : ToldOfLives (session_in l.fn.seat) (session_in l.seat);
   rest : Works l.fn.desk l.desk;
+  asked : l.desk.asked ≡ l.fn.desk.asked;
 }

@@ -1,23 +1,23 @@
-use Rattle.std.proofs.Common.{◌≡◌, ◌<◌, List, [], ◌∷◌, ◌++◌, length, Option, ap, sym, ◌∙◌, subst, arith}
+use Rattle.std.proofs.Common.{◌≡◌, List, [], ◌∷◌, ◌++◌, length, Option, ap, sym, ◌∙◌, subst, arith}
 use Rattle.std.specs.Prelude.{IfSome}
-use Rattle.std.proofs.lemmas.List.Edits.{length-remove}
-use Rattle.ti_agent.specs.Desks.{IsCleared}
-use Rattle.ti_agent.specs.Env.{Environment, place_in}
+use Rattle.ti_agent.specs.Desks.{Retires}
+use Rattle.ti_agent.specs.Env.{Environment}
 use Rattle.ti_agent.specs.FreeDesk.{FreeState}
 use Rattle.ti_agent.specs.Home.{Housed}
+use Rattle.ti_agent.specs.Quiesced.{MayQuiesce}
 use Rattle.ti_service.specs.Homes.{AreOursOf}
 use Rattle.ti_service.specs.Memberships.{state_of}
 use Rattle.ti_service.specs.Service.{Member}
 use Rattle.ti_service.specs.declared.membership.Membership.{Membership}
 use Rattle.ti_service.proofs.Homes.{home_of_ours, ours_of}
-use Rattle.ti_service.proofs.Leaving.{clears_more, ours_cleared}
+use Rattle.ti_service.proofs.Leaving.{clears_more, clears_quiet, fewer_desks, ours_retired}
 use Rattle.ti_service.proofs.agent_tries.clear_now.Goals.{After-push_reserved}
 use Rattle.ti_service.proofs.agent_tries.clear_now.Goals as goal
 
 -- the desk that was cleared
-cleared : (c : After-push_reserved) → IsCleared (record { env = c.agent.inside.env; state = c.agent.inside.state; desks = c.agent.inside.desks }) c.clear_desk_now.new.self.env c.in-Some.thread c.in-Some-2.desk
+cleared : (c : After-push_reserved) → Retires (record { env = c.agent.inside.env; state = c.agent.inside.state; desks = c.agent.inside.desks }) c.clear_desk_now.new.self.env c.in-Some.thread c.in-Some-2.desk
 cleared c =
-    subst (λ (o : Option FreeState). IfSome o (λ f. IsCleared (record { env = c.agent.inside.env; state = c.agent.inside.state; desks = c.agent.inside.desks }) c.clear_desk_now.new.self.env c.in-Some.thread f)) c.in-Some-2.is
+    subst (λ (o : Option FreeState). IfSome o (λ f. Retires (record { env = c.agent.inside.env; state = c.agent.inside.state; desks = c.agent.inside.desks }) c.clear_desk_now.new.self.env c.in-Some.thread f)) c.in-Some-2.is
     c.in_ok-desk.ensures.cleared
 
 -- it waits behind the others
@@ -36,7 +36,7 @@ invariant_of-agent-in-Some-2 c =
     let t : Environment = record { env = now.env; state = now.state; desks = now.desks } in
     let more = c.push_reserved.new.self.items in
     let o : AreOursOf at.home.service s at.home.waiting.items = ours_of at.home.service s at.home.waiting.items c.agent.invariant.1.0 c.agent.invariant.1.1 in
-    let k : AreOursOf at.home.service c.clear_desk_now.new.self.env more = ours_cleared at.home.service s c.clear_desk_now.new.self.env at.home.waiting.items more c.in-Some.thread c.in-Some-2.desk (cleared here) (waits here) o in
+    let k : AreOursOf at.home.service c.clear_desk_now.new.self.env more = ours_retired at.home.service s c.clear_desk_now.new.self.env at.home.waiting.items more c.in-Some.thread c.in-Some-2.desk (cleared here) (waits here) o in
     let service : now.home.service ≡ at.home.service = ap (λ (x : Housed Membership). x.home.service) c.agent-in-Some.view_is ∙ ap (λ (m : Membership). m.service) c.in_ok-desk.ensures.home in
     let env : t ≡ c.clear_desk_now.new.self.env = ap (λ (x : Housed Membership). x.env) c.agent-in-Some.view_is in
     (c.agent-in-Some.invariant.0, home_of_ours now.home.service t more (subst (λ (x : Member × Environment). AreOursOf x.0 x.1 more) (λ j. (sym service j, sym env j)) k))
@@ -48,8 +48,7 @@ loop-thread-smaller c =
     let k = cleared (goal.at.loop-thread-smaller c).After-push_reserved in
     let s : Environment = record { env = at.env; state = at.state; desks = at.desks } in
     let env : s ≡ c.loop-thread.agent.env = ap (λ (x : Housed Membership). x.env) c.agent.view_is in
-    let there : place_in s.desks c.in-Some.thread < length s.desks = subst (λ (e : Environment). place_in e.desks c.in-Some.thread < length e.desks) (sym env) c.in-Some.ensures.there in
-    omega (arith, ap (λ (e : Environment). length e.desks) k.new_is, length-remove s.desks (place_in s.desks c.in-Some.thread) there, ap (λ (e : Environment). length e.desks) env, ap (λ (x : Housed Membership). length x.env.desks) c.agent-in-Some.view_is)
+    omega (arith, fewer_desks s c.clear_desk_now.new.self.env c.in-Some.thread c.in-Some-2.desk k, ap (λ (e : Environment). length e.desks) env, ap (λ (x : Housed Membership). length x.env.desks) c.agent-in-Some.view_is)
 
 pub loop-thread-preserved : goal.loop-thread-preserved
 loop-thread-preserved c =
@@ -65,6 +64,13 @@ loop-thread-preserved c =
     let last : Housed Membership = record { home = record { service = now.home.service; waiting = c.push_reserved.new.self; events = now.home.events }; env = t } in (
       ap (λ (x : Housed Membership). x.home.service) is ∙ (ap (λ (m : Membership). m.service) home ∙ (ap (λ (x : Housed Membership). x.home.service) was ∙ c.loop-thread.invariant.0)),
       clears_more (state_of c.args.agent.now) (state_of c.loop-thread.agent) (state_of last) c.in-Some.thread c.in-Some-2.desk c.loop-thread.invariant.1
-          (subst (λ (x : Environment × Environment). IsCleared x.0 x.1 c.in-Some.thread c.in-Some-2.desk) (λ j. (env j, sym env' j)) (cleared here)) (waits here ∙ ap (λ (x : Housed Membership). x.home.waiting.items ++ c.in-Some-2.desk ∷ []) was),
+          (subst (λ (x : Environment × Environment). Retires x.0 x.1 c.in-Some.thread c.in-Some-2.desk) (λ j. (env j, sym env' j)) (cleared here)) (waits here ∙ ap (λ (x : Housed Membership). x.home.waiting.items ++ c.in-Some-2.desk ∷ []) was),
       ap (λ (x : Housed Membership). x.home.events) is ∙ (ap (λ (m : Membership). m.events) home ∙ (ap (λ (x : Housed Membership). x.home.events) was ∙ c.loop-thread.invariant.2)),
     )
+
+pub returns-in_err-desk-clause-cleared : goal.returns-in_err-desk-clause-cleared
+returns-in_err-desk-clause-cleared c =
+    let was = c.agent.view_is in
+    let steps = subst (λ (e : Environment). MayQuiesce e c.clear_desk_now.new.self.env c.in-Some.thread) (ap (λ (x : Housed Membership). x.env) was) c.in_err-desk.ensures.steps in
+    let waits = ap (λ (m : Membership). m.waiting.items) c.in_err-desk.ensures.home ∙ (c.reserve.ensures.items ∙ ap (λ (x : Housed Membership). x.home.waiting.items) was) in
+    clears_quiet (state_of c.args.agent.now) (state_of c.loop-thread.agent) (state_of c.clear_desk_now.new.self) c.in-Some.thread c.loop-thread.invariant.1 steps waits

@@ -10,4 +10,5 @@ invariant-loop-place l = record {
   free : NoneHeld l.fn.self.crowd.list.items → NoneHeld l.self.crowd.list.items;
   rest : Works l.fn.self l.self;
   known : classes_of l.self.agent ≡ classes_of l.fn.self.agent;
+  asked : l.self.asked ≡ l.fn.self.asked;
 }

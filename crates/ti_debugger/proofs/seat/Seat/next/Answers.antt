@@ -1,5 +1,5 @@
-use Rattle.std.proofs.Common.{rules}
-use Rattle.ti_debugger.proofs.RunLaws.{runs_more}
+use Rattle.std.proofs.Common.{refl, rules}
+use Rattle.ti_debugger.proofs.RunLaws.{runs_more, runs_none}
 use Rattle.ti_debugger.proofs.seat.Seat.next.Goals as goal
 
 pub returns-in_err-todo-clause-run : goal.returns-in_err-todo-clause-run
@@ -13,3 +13,6 @@ loop-preserved c = record {
   run = runs_more _ c.loop.self.session _ c.loop.invariant.run c.step.ensures.run;
   desk = search rules;
 }
+
+pub returns-then-is_open-clause-run : goal.returns-then-is_open-clause-run
+returns-then-is_open-clause-run c = runs_none _ _ refl

@@ -1,0 +1,155 @@
+//! The bodies of replies about variables.
+//!
+//! Each function gives the bytes of one body. It fails with 110 OUT_OF_MEMORY alone: if there is no memory, or if a list or a
+//! text has 2^31 items or bytes or more.
+
+use crate::error::JdwpError;
+use crate::ids::{table_id, text_id};
+use crate::writing::{put_byte, put_count, put_int, put_long, put_text};
+use std::alloc::Global;
+
+/// What each variable is declared as: it may have values of any kind.
+const SIGNATURE: &[u8] = b"Ljava/lang/Object;";
+
+/// A variable of a method, which is there at this many locations from `first` on.
+#[derive(Clone, Copy, Debug)]
+pub struct VariableRow<'a> {
+    pub first: u32,
+    pub count: u32,
+    pub name: &'a [u8],
+    pub slot: u32,
+}
+
+/// The value of a variable. Texts and tables have their numbers.
+#[derive(Clone, Copy, Debug, PartialEq, Eq)]
+pub enum Value {
+    /// The null object.
+    Nil,
+    Boolean(bool),
+    Integer(i64),
+    /// The bits of an IEEE 754 double.
+    Number(u64),
+    Text(u32),
+    /// An array of texts.
+    Table(u32),
+}
+
+fn put_variable(out: &mut Vec<u8>, row: VariableRow<'_>) -> Result<(), JdwpError>
+    ensures ok { OnOk result (out.new.items ≡ out.old.items ++ variable_row row.entry) }
+    ensures fits { OnOk result (length row.entry.name.now < 2 ^ 31) }
+    ensures memory { IfErr result (λ e. e ≡ OutOfMemory) }
+{
+    put_long(out, u64::from(row.first))?;
+    put_text(out, row.name)?;
+    put_text(out, SIGNATURE)?;
+    put_int(out, row.count)?;
+    put_int(out, row.slot)?;
+    Ok(())
+}
+
+/// The variables of a method (6/2). None is told as an argument.
+pub fn variables_body(alloc: Global, variables: &[VariableRow<'_>]) -> Result<Vec<u8>, JdwpError>
+    ensures ok { IfOk result (λ v. v.items ≡ variable_list variables.now) }
+    ensures fits { IfOk result (λ _. (length variables.now < 2 ^ 31) × All (λ r. length r.name.now < 2 ^ 31) variables.now) }
+    ensures memory { IfErr result (λ e. e ≡ OutOfMemory) }
+{
+    let mut out = Vec::new(alloc);
+    put_int(&mut out, 0)?;
+    put_count(&mut out, variables.len())?;
+    for row in variables {
+        put_variable(&mut out, *row)?;
+    }
+    Ok(out)
+}
+
+fn put_generic_variable(out: &mut Vec<u8>, row: VariableRow<'_>) -> Result<(), JdwpError>
+    ensures ok { OnOk result (out.new.items ≡ out.old.items ++ generic_variable_row row.entry) }
+    ensures fits { OnOk result (length row.entry.name.now < 2 ^ 31) }
+    ensures memory { IfErr result (λ e. e ≡ OutOfMemory) }
+{
+    put_long(out, u64::from(row.first))?;
+    put_text(out, row.name)?;
+    put_text(out, SIGNATURE)?;
+    put_text(out, &[])?;
+    put_int(out, row.count)?;
+    put_int(out, row.slot)?;
+    Ok(())
+}
+
+/// The variables of a method, with the empty text for each generic signature (6/5). None is told as an argument.
+pub fn generic_variables_body(
+    alloc: Global,
+    variables: &[VariableRow<'_>],
+) -> Result<Vec<u8>, JdwpError>
+    ensures ok { IfOk result (λ v. v.items ≡ generic_variable_list variables.now) }
+    ensures fits { IfOk result (λ _. (length variables.now < 2 ^ 31) × All (λ r. length r.name.now < 2 ^ 31) variables.now) }
+    ensures memory { IfErr result (λ e. e ≡ OutOfMemory) }
+{
+    let mut out = Vec::new(alloc);
+    put_int(&mut out, 0)?;
+    put_count(&mut out, variables.len())?;
+    for row in variables {
+        put_generic_variable(&mut out, *row)?;
+    }
+    Ok(out)
+}
+
+fn put_value(out: &mut Vec<u8>, value: Value) -> Result<(), JdwpError>
+    ensures ok { OnOk result (out.new.items ≡ out.old.items ++ value_bytes value) }
+    ensures memory { IfErr result (λ e. e ≡ OutOfMemory) }
+{
+    match value {
+        Value::Nil => put_tagged(out, b'L', 0),
+        Value::Boolean(is) => {
+            put_byte(out, b'Z')?;
+            put_byte(out, u8::from(is))
+        }
+        Value::Integer(number) => put_tagged(out, b'J', number.cast_unsigned()),
+        Value::Number(bits) => put_tagged(out, b'D', bits),
+        Value::Text(text) => put_tagged(out, b's', text_id(text)),
+        Value::Table(table) => put_tagged(out, b'[', table_id(table)),
+    }
+}
+
+/// Writes a tag, and eight bytes.
+fn put_tagged(out: &mut Vec<u8>, tag: u8, bits: u64) -> Result<(), JdwpError>
+    ensures ok { OnOk result (out.new.items ≡ out.old.items ++ tag ∷ long bits) }
+    ensures memory { IfErr result (λ e. e ≡ OutOfMemory) }
+{
+    put_byte(out, tag)?;
+    put_long(out, bits)
+}
+
+/// The values of variables (16/1), with their tags.
+pub fn values_body(alloc: Global, values: &[Value]) -> Result<Vec<u8>, JdwpError>
+    ensures ok { IfOk result (λ v. v.items ≡ value_list values.now) }
+    ensures fits { IfOk result (λ _. length values.now < 2 ^ 31) }
+    ensures memory { IfErr result (λ e. e ≡ OutOfMemory) }
+{
+    let mut out = Vec::new(alloc);
+    put_count(&mut out, values.len())?;
+    for value in values {
+        put_value(&mut out, *value)?;
+    }
+    Ok(out)
+}
+
+/// Entries of a table (13/2): the tag of all, and each text by its number, with its own tag.
+pub fn entries_body(alloc: Global, texts: &[u32]) -> Result<Vec<u8>, JdwpError>
+    ensures ok { IfOk result (λ v. v.items ≡ entry_list texts.now) }
+    ensures fits { IfOk result (λ _. length texts.now < 2 ^ 31) }
+    ensures memory { IfErr result (λ e. e ≡ OutOfMemory) }
+{
+    let mut out = Vec::new(alloc);
+    put_byte(&mut out, b's')?;
+    put_count(&mut out, texts.len())?;
+    for text in texts {
+        put_tagged(&mut out, b's', text_id(*text))?;
+    }
+    Ok(out)
+}
+
+ghost use Rattle.std.specs.Prelude.{◌≡◌, ◌<◌, ◌^◌, length, All, ◌∷◌, ◌++◌, OnOk, IfOk, IfErr};
+ghost use Rattle.ti_jdwp.specs.Fields.{long};
+ghost use Rattle.ti_jdwp.specs.Variables.{variable_row, variable_list, generic_variable_row, generic_variable_list, value_bytes, value_list, entry_list};
+ghost use Rattle.ti_jdwp.specs.declared.error.JdwpError.TheVariants.{OutOfMemory};
