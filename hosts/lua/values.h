@@ -17,7 +17,7 @@ struct telling {
     int entries;
 };
 
-/* Tells the value on the top as that of a variable. Of a long text, and of a table with many entries, the beginning is told. */
+/* Tells the value on the top as that of a variable. A long text is cut, and so is a table with many entries. */
 void value_tell(lua_State *L, uint32_t slot, struct telling *to);
 
 #endif
