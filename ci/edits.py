@@ -30,8 +30,8 @@ from concurrent import futures
 
 CRATES = pathlib.Path("crates")
 LEFT_BEHIND = ("edits", "more-edits", "must-not-compile", "out")
-# How many crates are tried at once, each in a tree of its own. A check keeps a processor busy, takes up to 3 GB, and sometimes keeps two busy.
-AT_ONCE = max(1, (os.cpu_count() or 1) - 1)
+# How many crates are tried at once, each in a tree of its own. A check keeps a processor busy, and takes up to 3 GB.
+AT_ONCE = len(os.sched_getaffinity(0))
 
 
 class Misfit(Exception):

@@ -4,12 +4,13 @@
     ci/unproved_tests.py [NAME..]        of these folders, or of all
     ci/unproved_tests.py --fmt           lays their files out, and runs none
 
-Each folder tests/crates/NAME is the source of a crate of tests, with a module for each file NAME/*.rattle. Several share the module
+Each folder tests/crates/NAME has the tests of a crate, with a module for each file NAME/*.rattle. Several share the module
 made.rattle. They call nothing with a condition (`requires`), so there is nothing to prove of them (`ci/unproved.py`). A test that
 calls something with one stands in a crate below crates/, and `rt ci` proves it. The files have an ending of their own because
 `rt ci` refuses a .rt file that it does not read.
 
-A file that is not laid out as `rt fmt` does it fails. So does a folder that does not compile. The last line is 'N passed, M failed'.
+All folders are compiled as one crate, so that the crates below are compiled once. A file that is not laid out as `rt fmt` does it
+fails. The last line is 'N passed, M failed'.
 """
 
 import pathlib
@@ -24,6 +25,9 @@ import unproved
 TESTS = pathlib.Path("tests/crates")
 ENDING = ".rattle"
 SHARED = TESTS / f"made{ENDING}"
+# The crate of all tests. A module of a folder has the folder's name before its own there.
+ALL = "tests"
+BETWEEN = "__"
 
 
 def files_of(name):
@@ -35,43 +39,50 @@ def files_of(name):
 
 
 def add(root, name):
-    """Adds a folder of tests to a copy of the crates. It gives the crate's folder."""
+    """Adds a folder of tests to a copy of the crates, as a crate of its own. It gives the crate's folder."""
     return unproved.add(root, name, {file.stem: file.read_text() for file in files_of(name)})
 
 
-def laid_out(folder):
+def modules_of(name):
+    """The modules of a folder in the crate of all tests: the text of each, by its name."""
+    return {f"{name}{BETWEEN}{file.stem}": re.sub(r"\bcrate::", f"crate::{name}{BETWEEN}", file.read_text()) for file in files_of(name)}
+
+
+def ill_laid(root, name):
     """The files of a folder of tests that are not laid out, with the text that they should have."""
+    folder = add(root, name)
     subprocess.run(["rt", "fmt"], cwd=folder, check=True, stdout=subprocess.DEVNULL)
-    files = ((file, (folder / "src" / f"{file.stem}.rt").read_text()) for file in files_of(folder.name))
+    files = ((file, (folder / "src" / f"{file.stem}.rt").read_text()) for file in files_of(name))
     return [(file, text) for file, text in files if file.read_text() != text]
 
 
-def try_folder(root, name):
-    """How many tests of a folder passed, and how many did not, with each file that is not laid out."""
-    folder = add(root, name)
-    ill_laid = laid_out(folder)
-    for file, _ in ill_laid:
-        print(f"{file}: not laid out: ci/unproved_tests.py --fmt does it")
-    said, verdicts = unproved.try_tests(folder)
-    passed = sum(verdicts.values())
-    failed = len(verdicts) - passed or int(not verdicts)
+def try_all(root, names):
+    """How many tests of these folders passed, and how many did not. All count as one that did not if they do not compile."""
+    said, verdicts = unproved.try_tests(unproved.add(root, ALL, {module: text for name in names for module, text in modules_of(name).items()}))
+    passed = failed = 0
+    for name in names:
+        own = [verdict for test, verdict in verdicts.items() if test.startswith(f"{name}{BETWEEN}")]
+        print(f"{TESTS / name}: {sum(own)} passed, {len(own) - sum(own)} failed", flush=True)
+        passed, failed = passed + sum(own), failed + (len(own) - sum(own) if own else 1)
     if failed:
-        print(re.sub(rf"^(\S*\b{name}/)?src/(\w+)\.rt", rf"{TESTS}/{name}/\2{ENDING}", said, flags=re.M), end="")
-    print(f"{TESTS / name}: {passed} passed, {failed} failed", flush=True)
-    return passed, failed + len(ill_laid)
+        print(re.sub(rf"^\S*\bsrc/(\w+?){BETWEEN}(\w+)\.rt", rf"{TESTS}/\1/\2{ENDING}", said, flags=re.M), end="")
+    return passed, failed
 
 
 def main():
     words = sys.argv[1:]
     names = [word for word in words if word != "--fmt"] or sorted(folder.name for folder in TESTS.iterdir() if folder.is_dir())
     with unproved.copy_of_crates() as root:
+        ill = [pair for name in names for pair in ill_laid(root, name)]
         if "--fmt" in words:
-            for name in names:
-                for file, text in laid_out(add(root, name)):
-                    file.write_text(text)
-                    print(f"laid out: {file}")
+            for file, text in ill:
+                file.write_text(text)
+                print(f"laid out: {file}")
             return 0
-        passed, failed = map(sum, zip(*(try_folder(root, name) for name in names)))
+        for file, _ in ill:
+            print(f"{file}: not laid out: ci/unproved_tests.py --fmt does it")
+        passed, failed = try_all(root, names)
+    failed += len(ill)
     print(f"{passed} passed, {failed} failed")
     return 1 if failed else 0
 
