@@ -227,30 +227,11 @@ impl Stops {
         ensures refused { IfErr result (λ e. e ≡ OutOfMemory) }
         ensures unchanged { OnErr result (self.new ≡ self.old) }
     {
-        let arrival = Arrival {
+        Ok(StopReply::Stops(self.arrive(Arrival {
             thread,
             at,
             leaves: None,
-        };
-        if !stops_for(
-            &self.modes,
-            &self.breakpoints,
-            &self.pops,
-            arrival,
-            &self.envs,
-        ) {
-            return Ok(StopReply::Stops(false));
-        }
-        self.waiting.reserve(self.envs.len())?;
-        add_stops(
-            &self.modes,
-            &self.breakpoints,
-            &self.pops,
-            arrival,
-            &self.envs,
-            &mut self.waiting,
-        );
-        Ok(StopReply::Stops(true))
+        })?))
     }
 
     fn leaves(&mut self, thread: ThreadNo, at: Frame, frames: u32) -> Result<StopReply, StopError>
@@ -259,11 +240,25 @@ impl Stops {
         ensures refused { IfErr result (λ e. e ≡ OutOfMemory) }
         ensures unchanged { OnErr result (self.new ≡ self.old) }
     {
-        let arrival = Arrival {
+        let stops = self.arrive(Arrival {
             thread,
             at,
             leaves: Some(frames),
-        };
+        })?;
+        if stops {
+            drop_left(&mut self.pops, thread, frames);
+        }
+        Ok(StopReply::Stops(stops))
+    }
+
+    /// A thread comes somewhere, and waits for each environment that wants it to stop there. Whether there is one. 110 OUT_OF_MEMORY if
+    /// there is no memory to note it. Then nothing changes.
+    fn arrive(&mut self, arrival: Arrival) -> Result<bool, StopError>
+        ensures stops { IfOk result (λ b. b ≡ stops_for (stop_in self.old arrival) self.old.envs) }
+        ensures after { IfOk result (λ b. self.new ≡ (if b then arrived self.old arrival else self.old)) }
+        ensures refused { IfErr result (λ e. e ≡ OutOfMemory) }
+        ensures unchanged { OnErr result (self.new ≡ self.old) }
+    {
         if !stops_for(
             &self.modes,
             &self.breakpoints,
@@ -271,7 +266,7 @@ impl Stops {
             arrival,
             &self.envs,
         ) {
-            return Ok(StopReply::Stops(false));
+            return Ok(false);
         }
         self.waiting.reserve(self.envs.len())?;
         add_stops(
@@ -282,8 +277,7 @@ impl Stops {
             &self.envs,
             &mut self.waiting,
         );
-        drop_left(&mut self.pops, thread, frames);
-        Ok(StopReply::Stops(true))
+        Ok(true)
     }
 
     /// An environment is disposed of: nothing that it asked for is left, and nobody waits for it.
@@ -311,4 +305,5 @@ ghost use Rattle.std.specs.Prelude.{◌≡◌, ◌⊎◌, if◌then◌else◌, I
 ghost use Rattle.ti_stops.specs.declared.error.StopError.TheVariants.{OutOfMemory};
 ghost use Rattle.ti_stops.specs.declared.call.StopCall.TheVariants.{ClearBreakpoint, Disable, Enable, LetGo, Next, NotifyFramePop, SetBreakpoint};
 ghost use Rattle.ti_stops.specs.declared.call.StopReply.TheVariants as reply;
+ghost use Rattle.ti_stops.specs.Arrivals.{arrived, stop_in};
 ghost use Rattle.ti_stops.specs.Stops.{after, is_news, is_watched, left_by, no_stops, outcome, reached_by, stops_for, with_left, with_reached, without_env, without_thread};
