@@ -6,7 +6,7 @@ when its turn comes. The gate tries those of edits/: one for each relation that 
 
     ci/edits.py [NAME..]          the edits of edits/, of these crates or of all
     ci/edits.py --more [NAME..]   those of more-edits/
-    ci/edits.py --apply           tries none, but looks whether each edit of both folders can be applied
+    ci/edits.py --apply [NAME..]  tries none, but looks whether each edit of both folders can be applied
 
 The crates have to be proved. An edit is refused if a function that it changes is not proved then. The others of its crate keep
 their contracts, so edits of different functions are made together, on a copy. For those of edits/ a check looks at their functions
@@ -199,9 +199,14 @@ def edits_of(crate, folder):
     return [Edit.read(path) for path in sorted((crate / folder).glob("*.edit"))]
 
 
-def apply_all():
+def crates_of(names):
+    """The folders of these crates, or of all."""
+    return sorted(crate for crate in CRATES.iterdir() if not names or crate.name in names)
+
+
+def apply_all(names):
     passed = failed = 0
-    for crate in sorted(CRATES.iterdir()):
+    for crate in crates_of(names):
         for edit in edits_of(crate, "edits") + edits_of(crate, "more-edits"):
             try:
                 edit.applied((crate / edit.file).read_text())
@@ -225,7 +230,7 @@ def try_crate(tree, crate, edits, is_whole):
 
 
 def try_all(folder, names):
-    work = [(crate, edits) for crate in sorted(CRATES.iterdir()) if (not names or crate.name in names) and (edits := edits_of(crate, folder))]
+    work = [(crate, edits) for crate in crates_of(names) if (edits := edits_of(crate, folder))]
     trees = queue.SimpleQueue()
 
     def tried(crate, edits):
@@ -246,9 +251,10 @@ def try_all(folder, names):
 
 def main():
     words = sys.argv[1:]
-    if words == ["--apply"]:
-        return apply_all()
-    return try_all("more-edits" if "--more" in words else "edits", [word for word in words if word != "--more"])
+    names = [word for word in words if not word.startswith("--")]
+    if "--apply" in words:
+        return apply_all(names)
+    return try_all("more-edits" if "--more" in words else "edits", names)
 
 
 if __name__ == "__main__":
