@@ -9,6 +9,7 @@
 #include <netinet/tcp.h>
 #include <poll.h>
 #include <pthread.h>
+#include <semaphore.h>
 #include <signal.h>
 #include <string.h>
 #include <sys/eventfd.h>
@@ -35,8 +36,10 @@ typedef struct __attribute__((may_alias)) {
     uint32_t actions[CQ_DOOR_CONNECTIONS];       /* what is to be done with each */
     uint64_t rooms[CQ_DOOR_CONNECTIONS];
     uint64_t resumptions;                        /* by the door, for which threads were woken */
+    sem_t resumed;                               /* above 0 once there was one, or the server ended */
     uint64_t greets_by;                          /* when a debugger has to have greeted, or NEVER */
     cq_variables variables;                      /* by which a debugger's questions are answered, or zeros */
+    bool starts_suspended;                       /* the first debugger finds all threads suspended */
     bool is_for_debuggers;
     bool runs;
 } server;
@@ -291,6 +294,9 @@ static void wake_all(const server *s) {
 static void wake_resumed(server *s) {
     uint64_t count = 0;
     if (cq_door_resumptions(&s->door, &count) == CQ_OK && count != s->resumptions) {
+        if (s->resumptions == 0) {
+            sem_post(&s->resumed);
+        }
         s->resumptions = count;
         wake_all(s);
     }
@@ -358,6 +364,7 @@ static uint32_t open_door(server *s, cq_service *service, const opening *of) {
     }
     wake_all(s);
     cq_door_tells_variables(&s->door, s->variables.of_method != NULL);
+    cq_door_starts_suspended(&s->door, s->starts_suspended);
     return code;
 }
 
@@ -418,7 +425,9 @@ static uint32_t begin(cq_server *in, cq_service *service, cq_signal *signal, con
     if (serves(s)) {
         return CQ_MISUSED;
     }
-    *s = (server){ .signal = signal, .ending = -1, .greets_by = NEVER, .variables = s->variables, .is_for_debuggers = of->is_for_debuggers };
+    *s = (server){ .signal = signal, .ending = -1, .greets_by = NEVER, .variables = s->variables,
+                   .starts_suspended = s->starts_suspended, .is_for_debuggers = of->is_for_debuggers };
+    sem_init(&s->resumed, 0, 0);
     for (size_t i = 0; i < CQ_DOOR_CONNECTIONS; i++) {
         s->sockets[i] = s->leaving[i] = -1;
     }
@@ -449,6 +458,26 @@ uint32_t cq_server_variables(cq_server *in, const cq_variables *variables) {
     return CQ_OK;
 }
 
+uint32_t cq_server_starts_suspended(cq_server *in, bool suspended) {
+    server *s = (server *)in;
+    if (serves(s)) {
+        return CQ_MISUSED;
+    }
+    s->starts_suspended = suspended;
+    return CQ_OK;
+}
+
+uint32_t cq_server_await_resumption(cq_server *in) {
+    server *s = (server *)in;
+    if (!s->is_for_debuggers) {
+        return CQ_MISUSED;
+    }
+    while (sem_wait(&s->resumed) && errno == EINTR) {
+    }
+    sem_post(&s->resumed);
+    return CQ_OK;
+}
+
 uint32_t cq_server_port(const cq_server *in, uint16_t *port) {
     const server *s = (const server *)in;
     if (!s->runs) {
@@ -464,6 +493,7 @@ uint32_t cq_serve_end(cq_server *in) {
         while (eventfd_write(s->ending, 1) && errno == EINTR) {
         }
         pthread_join(s->thread, NULL);
+        sem_post(&s->resumed);
         s->runs = false;
         close_all(s);
     }

@@ -179,6 +179,11 @@ typedef struct {
     uint64_t bits;
 } cq_value;
 
+/* Says whether the runtime waits for its first debugger: at first it does not. At a door for debuggers the next one that connects while a
+ * thread is there is told by VM_START that the runtime begins, and finds all threads suspended, as by a request of its own. Those
+ * that come after it are not. Nothing happens at a door for HTTP. */
+uint32_t cq_door_starts_suspended(cq_door *door, bool suspended);
+
 /* Says whether the runtime tells variables: at first it does not. It counts for the requests that come from then on; a question
  * that is open stays open. Nothing happens at a door for HTTP. */
 uint32_t cq_door_tells_variables(cq_door *door, bool tells);
@@ -302,6 +307,15 @@ uint32_t cq_debug_listen(cq_server *server, cq_service *service, cq_signal *sign
  * cq_debug_listen and cq_serve_end, whenever it listens from then on. Without them a debugger that asks for variables is told 101.
  * CQ_MISUSED 304: it serves; nothing changes. */
 uint32_t cq_server_variables(cq_server *server, const cq_variables *variables) CQ_MUST_USE;
+
+/* Says of a server that does not serve yet whether the runtime waits for its first debugger, as cq_door_starts_suspended does, whenever
+ * it listens for debuggers from then on. The runtime starts its threads before it listens. Each of them goes into native code before
+ * its first step, and comes back after cq_server_await_resumption. CQ_MISUSED 304: it serves; nothing changes. */
+uint32_t cq_server_starts_suspended(cq_server *server, bool suspended) CQ_MUST_USE;
+
+/* Sleeps until a debugger has resumed a thread, or the server has ended. A debugger that goes has resumed what it suspended. CQ_MISUSED
+ * 304: it has never listened for debuggers. */
+uint32_t cq_server_await_resumption(cq_server *server) CQ_MUST_USE;
 
 /* Writes the port at which it listens to `port`, also where port 0 was asked for. 0 at a Unix socket. CQ_MISUSED 304: it does not
  * serve. */

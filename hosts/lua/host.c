@@ -90,11 +90,8 @@ static int add_traceback(lua_State *L) {
     return 1;
 }
 
-/* Calls the chunk on the top, if it was loaded. The message of an error, with its traceback, is left there. */
-static int call(lua_State *L, int loaded) {
-    if (loaded != LUA_OK)
-        return loaded;
-    chunk_learn(L);
+/* Calls the chunk on the top. The message of an error, with its traceback, is left there. */
+static int call(lua_State *L) {
     lua_pushcfunction(L, add_traceback);
     lua_insert(L, -2);
     int code = lua_pcall(L, 0, 0, -2);
@@ -102,12 +99,47 @@ static int call(lua_State *L, int loaded) {
     return code;
 }
 
+/* Sleeps until a debugger has resumed the script, if it begins suspended. Returns whether it may begin. */
+static bool await_debugger(struct script *script, lua_State *L) {
+    struct host *host = script->host;
+    if (!host->suspended_at)
+        return true;
+    bool away = script_native(script, L);
+    while (sem_wait(&host->listening))
+        continue;
+    sem_post(&host->listening);
+    if (host->listens)
+        complain(script, "the wait for a debugger", cq_server_await_resumption(&host->servers[DOOR_DEBUGGER]));
+    if (away)
+        script_back(script);
+    return host->listens;
+}
+
+static int run_statement(lua_State *L, const char *statement) {
+    int code = luaL_loadbuffer(L, statement, strlen(statement), "=(command line)");
+    if (code != LUA_OK)
+        return code;
+    chunk_learn(L);
+    return call(L);
+}
+
+/* Runs the file of the script, whose functions a debugger knows before it begins. */
+static int run_file(struct script *script, lua_State *L) {
+    int code = luaL_loadfile(L, script->path);
+    if (code != LUA_OK)
+        return code;
+    chunk_learn(L);
+    if (!await_debugger(script, L)) {
+        lua_pushliteral(L, "no debugger can attach");
+        return LUA_ERRRUN;
+    }
+    return call(L);
+}
+
 static int run_statements(lua_State *L, const struct host *host) {
     int code = LUA_OK;
-    for (size_t i = 0; i < host->statement_count && code == LUA_OK; i++) {
-        const char *statement = host->statements[i];
-        code = call(L, luaL_loadbuffer(L, statement, strlen(statement), "=(command line)"));
-    }
+    for (size_t i = 0; i < host->statement_count && code == LUA_OK; i++)
+        code = run_statement(L, host->statements[i]);
     return code;
 }
 
@@ -136,7 +168,7 @@ static bool run_state(struct script *script, lua_State *L) {
     if (code == LUA_OK)
         code = run_statements(L, script->host);
     if (code == LUA_OK)
-        code = call(L, luaL_loadfile(L, script->path));
+        code = run_file(script, L);
     if (code != LUA_OK)
         fprintf(stderr, "cqlua: %s\n", lua_tostring(L, -1));
     nudge_end(script);
@@ -213,7 +245,7 @@ int host_make(struct host *host, char **paths, size_t count, bool inspected) {
     uint32_t code = inspected ? cq_make(FRAMES, 1 + DOORS, 8, &host->service) : CQ_OK;
     if (code != CQ_OK)
         return refused("the service", code);
-    if (!host->scripts || host->ended < 0 || sem_init(&host->alive, 0, 0)
+    if (!host->scripts || host->ended < 0 || sem_init(&host->alive, 0, 0) || sem_init(&host->listening, 0, 0)
         || methods_make(inspected ? &host->service : NULL)) {
         perror("cqlua");
         return -1;
@@ -234,6 +266,13 @@ int host_make(struct host *host, char **paths, size_t count, bool inspected) {
     return 0;
 }
 
+/* Opens the door for debuggers, for which the scripts wait. */
+static int open_suspended(struct host *host) {
+    host->listens = !host_open(host, DOOR_DEBUGGER, host->suspended_at);
+    sem_post(&host->listening);
+    return host->listens ? 0 : -1;
+}
+
 int host_start(struct host *host) {
     for (; host->started < host->count; host->started++) {
         struct script *script = &host->scripts[host->started];
@@ -246,7 +285,7 @@ int host_start(struct host *host) {
     for (size_t i = 0; i < host->count; i++)
         while (sem_wait(&host->alive))
             continue;
-    return 0;
+    return host->suspended_at ? open_suspended(host) : 0;
 }
 
 bool host_join(struct host *host) {
@@ -279,6 +318,8 @@ static uint32_t open_debugger(struct host *host, const char *address) {
     char *path = getcwd(NULL, 0);
     cq_variables variables = { host, variables_of_method, variables_of_frame };
     uint32_t code = cq_server_variables(&host->servers[DOOR_DEBUGGER], &variables);
+    if (code == CQ_OK)
+        code = cq_server_starts_suspended(&host->servers[DOOR_DEBUGGER], host->suspended_at);
     if (!path)
         code = CQ_SYSTEM;
     if (code == CQ_OK)
@@ -314,5 +355,6 @@ void host_free(struct host *host) {
         cq_free(&host->service);
     close(host->ended);
     sem_destroy(&host->alive);
+    sem_destroy(&host->listening);
     free(host->scripts);
 }

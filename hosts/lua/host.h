@@ -70,6 +70,9 @@ struct host {
     cq_signal signal;
     cq_server servers[DOORS];   /* zeros where none listens */
     bool inspected;             /* there is a service */
+    const char *suspended_at;   /* the scripts begin once a debugger that attached at this address has resumed them; or NULL */
+    sem_t listening;            /* above 0 once that door is open, or could not be opened */
+    bool listens;               /* it is open */
     const char **statements;    /* what each script runs first */
     size_t statement_count;
     struct script *scripts;
@@ -86,7 +89,8 @@ int host_make(struct host *host, char **paths, size_t count, bool inspected);
 /* Opens a door at an address, until host_free. Returns 0, or -1 with a message. */
 int host_open(struct host *host, enum door door, const char *address);
 
-/* Starts all scripts, and waits until they are alive. Returns 0, or -1 with a message if some could not be started. */
+/* Starts all scripts, and waits until they are alive. If they begin suspended, the door for debuggers opens then. Returns 0, or -1 with a
+ * message if some could not be started, or the door could not be opened. */
 int host_start(struct host *host);
 
 /* Waits for the scripts that were started. Returns whether one failed. */

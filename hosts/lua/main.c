@@ -16,6 +16,7 @@ static const char USAGE[] =
     "  -e STATEMENT     runs it in each script's state first\n"
     "  --serve ADDRESS  serves profiles, stacks and counters over HTTP\n"
     "  --debug ADDRESS  lets debuggers for Java attach, such as jdb\n"
+    "  --suspend        with --debug: a script begins when a debugger resumes it\n"
     "An ADDRESS is 127.0.0.1:PORT, [::1]:PORT, localhost:PORT or unix:PATH.\n";
 
 struct arguments {
@@ -23,6 +24,7 @@ struct arguments {
     struct prof_options prof;
     bool inspected;
     const char *addresses[DOORS];  /* where each door listens, or NULL */
+    bool suspends;
     const char **statements;
     size_t statement_count;
     char **scripts;
@@ -50,6 +52,10 @@ static size_t read_option(struct arguments *a, char **at) {
             a->addresses[i] = at[1];
             return 2;
         }
+    if (!strcmp(at[0], "--suspend")) {
+        a->suspends = true;
+        return 1;
+    }
     if (run && !strcmp(at[0], "--no-service")) {
         a->inspected = false;
         return 1;
@@ -101,7 +107,7 @@ static bool read_arguments(struct arguments *a, char **argv) {
     a->scripts = &argv[at];
     while (argv[at + a->script_count])
         a->script_count++;
-    return a->script_count > 0 && (a->inspected || !has_door(a));
+    return a->script_count > 0 && (a->inspected || !has_door(a)) && (!a->suspends || a->addresses[DOOR_DEBUGGER]);
 }
 
 static int run_command(const struct arguments *a, struct host *host) {
@@ -118,10 +124,11 @@ static int run(const struct arguments *a) {
     static struct host host;
     host.statements = a->statements;
     host.statement_count = a->statement_count;
+    host.suspended_at = a->suspends ? a->addresses[DOOR_DEBUGGER] : NULL;
     if (host_make(&host, a->scripts, a->script_count, a->inspected))
         return 1;
     for (size_t i = 0; i < DOORS; i++)
-        if (a->addresses[i] && host_open(&host, (enum door)i, a->addresses[i]))
+        if (a->addresses[i] && !(i == DOOR_DEBUGGER && a->suspends) && host_open(&host, (enum door)i, a->addresses[i]))
             return 1;
     bool failed = run_command(a, &host);
     failed = host_join(&host) || failed;

@@ -40,7 +40,7 @@ use Rattle.ti_jdwp.specs.Fields.{int}
 use Rattle.ti_jdwp.specs.Holds.{held_threads, held_of, count_of}
 use Rattle.ti_jdwp.specs.InForce.{Asked, is_told}
 use Rattle.ti_jdwp.specs.Lines.{handshake, without_input}
-use Rattle.ti_jdwp.specs.Notes.{is_over, queue_with, NotesIn}
+use Rattle.ti_jdwp.specs.Notes.{is_over, queue_with, start_notice, BeginsIn, NotesIn}
 use Rattle.ti_jdwp.specs.Plans.{plan_of}
 use Rattle.ti_jdwp.specs.Queues.{Queue, may_tell, first, without_first}
 use Rattle.ti_jdwp.specs.Requests.{request_in}
@@ -48,9 +48,9 @@ use Rattle.ti_jdwp.specs.StopNotes.{stop_for, StopsBy, StopsIn}
 use Rattle.ti_jdwp.specs.Stops.{nowhere}
 use Rattle.ti_jdwp.specs.Talks.{Talk, opened, data_of, replied, stopped, starved, greeted, after, closing}
 use Rattle.ti_jdwp.specs.Steps.{Does, EndsBy, SuspendsBy, SuspendsNext, ResumesNext, tells, told_by, finishes, is_all, BeginsEvent, said_in, refused, Puts, PutsRead, PutsInForce, SetsFor, SetsRead, SetsEvent, clears, suspended_reply, asks, ServesBy, ServesRead, ReadsBy, GoesOnWith, GoesIn, writes_first, GoesFirst}
-use Rattle.ti_jdwp.specs.SessionRuns.{Call, Fed, PeerEnded, Shut, Went, Failed, Replied, Listed, PostedAs, Settled, PlacedAs, LocatedAs, StoppedAt, Written, Happened, Step, Runs}
+use Rattle.ti_jdwp.specs.SessionRuns.{Call, Fed, PeerEnded, Shut, Went, Failed, Replied, Listed, PostedAs, Settled, PlacedAs, LocatedAs, StoppedAt, Written, Happened, Began, Step, Runs}
 use Rattle.ti_jdwp.specs.SessionLets.{waits_by, stopped_by, lets_go, let_go_by, waits_for, first_waits, waiting, StopsAreLetGo}
-use Rattle.ti_jdwp.proofs.Noting.{keeps, stops_keep}
+use Rattle.ti_jdwp.proofs.Noting.{begins_keep, keeps, stops_keep}
 
 never : {X : Type 0} → false ≡ true → X
 never h = absurd (true≢false (sym h))
@@ -549,6 +549,11 @@ notes false false e o old new s = elim s [
   | inr a ↦ ap (λ (x : Talk). flat_map waits_for x.queue.waiting) a
 ]
 
+start_notes : (b result : Bool) (v : ℕ) (old new : Talk) → BeginsIn b v old result new → flat_map waits_for new.queue.waiting ≡ flat_map waits_for old.queue.waiting
+start_notes true result v old new s = ap (λ (x : Talk). flat_map waits_for x.queue.waiting) s.1
+start_notes false true v old new s = ap (λ (x : Talk). flat_map waits_for x.queue.waiting) s ∙ one_more old.queue.waiting (start_notice v) ∙ append-nil (flat_map waits_for old.queue.waiting)
+start_notes false false v old new s = ap (λ (x : Talk). flat_map waits_for x.queue.waiting) s
+
 stops_by : (v : Verdict) (x : Spot) (old new : Talk) → StopsBy v x old new → flat_map waits_for new.queue.waiting ≡ flat_map waits_for old.queue.waiting ++ waits_by v x.thread
 stops_by verdict.Told x old new s = ap (λ (t : Talk). flat_map waits_for t.queue.waiting) s.1 ∙ one_more old.queue.waiting (stop_for x old.requests)
 stops_by verdict.Passed x old new s = elim s [
@@ -584,6 +589,7 @@ step old new (StoppedAt x v) idle s =
     }
 step old new (Written count) idle s = keep old new old.phase (ap (λ (x : Talk). x.phase) s) idle (ap (λ (x : Talk). x.notice) s) (ap (λ (x : Talk). x.queue.waiting) s)
 step old new (Happened e o result) idle s = let k = keeps e o result old new s in same old new old.phase k.phase idle k.notice (notes (is_over old.phase) result e o old new s)
+step old new (Began v result) idle s = let k = begins_keep v result old new s in same old new old.phase k.phase idle k.notice (start_notes (is_over old.phase) result v old new s)
 
 runs : (old end : Talk) (calls : List Call) (sent : List ℕ) → Idle old → Runs old calls sent end → waiting old ++ flat_map stopped_by calls ≡ flat_map let_go_by calls ++ waiting end
 runs old end [] sent idle run = append-nil (waiting old) ∙ ap (λ (x : Talk). waiting x) run.0

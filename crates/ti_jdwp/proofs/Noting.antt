@@ -1,5 +1,5 @@
 -- An event that takes place changes what is kept of events alone.
-use Rattle.std.proofs.Common.{◌≡◌, Bool, true, false, List, [], ◌∷◌, filter, refl, sym, subst, inl, inr}
+use Rattle.std.proofs.Common.{◌≡◌, ℕ, Bool, true, false, List, [], ◌∷◌, filter, refl, sym, subst, inl, inr}
 use Rattle.ti_jdwp.specs.declared.event.Event.{Event}
 use Rattle.ti_jdwp.specs.declared.event.Spot.{Spot}
 use Rattle.ti_jdwp.specs.declared.event_text.Occurrence.{Occurrence}
@@ -7,7 +7,7 @@ use Rattle.ti_jdwp.specs.declared.stops.Verdict.{Verdict}
 use Rattle.ti_jdwp.specs.declared.stops.Verdict.TheVariants as verdict
 use Rattle.ti_jdwp.specs.InForce.{Asked, is_told, all_after}
 use Rattle.ti_jdwp.specs.Queues.{Queue, with_event, with_loss}
-use Rattle.ti_jdwp.specs.Notes.{is_over, queue_with, noted, NotesIn, Notes}
+use Rattle.ti_jdwp.specs.Notes.{is_over, queue_with, noted, start_notice, BeginsIn, Begins, NotesIn, Notes}
 use Rattle.ti_jdwp.specs.StopNotes.{after_stop, stop_for, StopsBy, StopsIn, Stops}
 use Rattle.ti_jdwp.specs.Talks.{Talk}
 
@@ -36,6 +36,14 @@ keeps_in false false e o old new h = elim h [
 
 pub keeps : (e : Event) (o : Occurrence) (result : Bool) (old new : Talk) → Notes e o old result new → Keeps old new
 keeps e o result old new h = keeps_in (is_over old.phase) result e o old new h
+
+begins_keep_in : (b result : Bool) (t : ℕ) (old new : Talk) → BeginsIn b t old result new → Keeps old new
+begins_keep_in true result t old new h = as_said old new old h.1 (record { bytes = refl; first = refl; phase = refl; holds = refl; notice = refl; stopped = refl })
+begins_keep_in false true t old new h = as_said old new (record old { queue = with_event old.queue (start_notice t) }) h (record { bytes = refl; first = refl; phase = refl; holds = refl; notice = refl; stopped = refl })
+begins_keep_in false false t old new h = as_said old new (record old { queue = with_loss old.queue }) h (record { bytes = refl; first = refl; phase = refl; holds = refl; notice = refl; stopped = refl })
+
+pub begins_keep : (t : ℕ) (result : Bool) (old new : Talk) → Begins t old result new → Keeps old new
+begins_keep t result old new h = begins_keep_in (is_over old.phase) result t old new h
 
 stops_keep_by : (v : Verdict) (s : Spot) (old new : Talk) → StopsBy v s old new → Keeps old new
 stops_keep_by verdict.Told s old new h =

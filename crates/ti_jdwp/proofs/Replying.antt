@@ -40,8 +40,8 @@ use Rattle.ti_jdwp.specs.Requests.{request_in}
 use Rattle.ti_jdwp.specs.Sent.{event_packet}
 use Rattle.ti_jdwp.specs.Talks.{Talk, opened, IsFront, data_of, replied, stopped, starved, greeted, after, closing}
 use Rattle.ti_jdwp.specs.Steps.{Does, EndsBy, SuspendsBy, SuspendsNext, ResumesNext, tells, finishes, BeginsEvent, said_in, refused, Puts, PutsRead, PutsInForce, SetsFor, SetsRead, SetsEvent, asks, ServesBy, ServesRead, ReadsBy, GoesOnWith, GoesIn, writes_first, GoesFirst, is_ready, Fails}
-use Rattle.ti_jdwp.specs.SessionRuns.{Call, Fed, PeerEnded, Shut, Went, Failed, Replied, Listed, PostedAs, Settled, PlacedAs, LocatedAs, StoppedAt, Written, Happened, Step, received, taken, Runs, RequestsAreAnswered}
-use Rattle.ti_jdwp.proofs.Noting.{keeps, stops_keep}
+use Rattle.ti_jdwp.specs.SessionRuns.{Call, Fed, PeerEnded, Shut, Went, Failed, Replied, Listed, PostedAs, Settled, PlacedAs, LocatedAs, StoppedAt, Written, Happened, Began, Step, received, taken, Runs, RequestsAreAnswered}
+use Rattle.ti_jdwp.proofs.Noting.{begins_keep, keeps, stops_keep}
 use Rattle.ti_jdwp.proofs.Pieces.{Stands, stands_more, Goes-well, quietly, comes, goes_out, replies, passes, and_then}
 use Rattle.ti_jdwp.proofs.Pieces as pieces
 
@@ -544,6 +544,7 @@ step_well old new (Written count) h s =
     subst (λ t. Well old.bytes t [] (take (min count (length old.bytes.output)) old.bytes.output)) (sym s)
     (record { goes = goes_out old.bytes (min count (length old.bytes.output)); works = h })
 step_well old new (Happened e o result) h s = let k = keeps e o result old new s in kept old new old.phase k.bytes k.first k.phase h
+step_well old new (Began v result) h s = let k = begins_keep v result old new s in kept old new old.phase k.bytes k.first k.phase h
 
 run_well : (old end : Talk) (calls : List Call) (sent : List ℕ) → Works old → Runs old calls sent end → Goes-well old.bytes end.bytes (flat_map received calls) sent
 run_well old end [] sent h run =

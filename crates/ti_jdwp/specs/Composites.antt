@@ -18,6 +18,7 @@ kind_of_occurrence (occurrence.ClassPrepare thread class signature) = kind.Class
 kind_of_occurrence (occurrence.SingleStep thread class method index) = kind.SingleStep
 kind_of_occurrence (occurrence.Breakpoint thread class method index) = kind.Breakpoint
 kind_of_occurrence (occurrence.ClassUnload signature) = kind.ClassUnload
+kind_of_occurrence (occurrence.VmStart thread) = kind.VmStart
 kind_of_occurrence occurrence.VmDeath = kind.VmDeath
 
 -- a thread, a tag for a class, its id, its signature, and a status
@@ -35,6 +36,7 @@ occurrence_fields (occurrence.ClassPrepare thread class signature) = prepared_fi
 occurrence_fields (occurrence.SingleStep thread class method index) = location_fields thread class method index
 occurrence_fields (occurrence.Breakpoint thread class method index) = location_fields thread class method index
 occurrence_fields (occurrence.ClassUnload signature) = text signature.now
+occurrence_fields (occurrence.VmStart thread) = long (id_from first_thread thread)
 occurrence_fields occurrence.VmDeath = []
 
 -- its signature, if it has one, has fewer than 2 ^ 31 bytes
@@ -45,6 +47,7 @@ HasShortText (occurrence.ClassPrepare thread class signature) = length signature
 HasShortText (occurrence.SingleStep thread class method index) = Unit {0}
 HasShortText (occurrence.Breakpoint thread class method index) = Unit {0}
 HasShortText (occurrence.ClassUnload signature) = length signature.now < 2 ^ 31
+HasShortText (occurrence.VmStart thread) = Unit {0}
 HasShortText occurrence.VmDeath = Unit {0}
 
 -- the kind, the event request, and what the kind has

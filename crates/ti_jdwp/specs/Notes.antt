@@ -91,3 +91,24 @@ NotesIn false e o old result new = NotesBy result e o old new
 
 abbrev pub Notes : Event → Occurrence → Talk → Bool → Talk → Type 0
 Notes e o old result new = NotesIn (is_over old.phase) e o old result new
+
+-- the event of the request 0 that the runtime began with this thread, which suspends all
+abbrev pub start_notice : ℕ → Notice
+start_notice t = record {
+  policy = policy.All;
+  thread = t;
+  stop = false;
+  body = composite policy.All (map (row_of (occurrence.VmStart t)) (0 ∷ []));
+}
+
+abbrev pub BeginsBy : Bool → ℕ → Talk → Talk → Type 0
+BeginsBy true thread old new = new ≡ record old { queue = with_event old.queue (start_notice thread) }
+BeginsBy false thread old new = new ≡ record old { queue = with_loss old.queue }
+
+abbrev pub BeginsIn : Bool → ℕ → Talk → Bool → Talk → Type 0
+BeginsIn true thread old result new = (result ≡ true) × (new ≡ old)
+BeginsIn false thread old result new = BeginsBy result thread old new
+
+-- The runtime began: the event waits, or it is lost.
+abbrev pub Begins : ℕ → Talk → Bool → Talk → Type 0
+Begins thread old result new = BeginsIn (is_over old.phase) thread old result new

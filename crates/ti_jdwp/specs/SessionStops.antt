@@ -8,7 +8,7 @@ use Rattle.ti_jdwp.specs.declared.notice.Notice.{Notice}
 use Rattle.ti_jdwp.specs.Holds.{held_of}
 use Rattle.ti_jdwp.specs.Steps.{is_all}
 use Rattle.ti_jdwp.specs.Talks.{Talk, opened}
-use Rattle.ti_jdwp.specs.SessionRuns.{Call, Fed, PeerEnded, Shut, Went, Failed, Replied, Listed, PostedAs, Settled, PlacedAs, LocatedAs, StoppedAt, Written, Happened, Runs}
+use Rattle.ti_jdwp.specs.SessionRuns.{Call, Fed, PeerEnded, Shut, Went, Failed, Replied, Listed, PostedAs, Settled, PlacedAs, LocatedAs, StoppedAt, Written, Happened, Began, Runs}
 
 abbrev pub is_event : Purpose → Bool
 is_event purpose.One = false
@@ -77,6 +77,7 @@ tells_event t (LocatedAs o) = false
 tells_event t (StoppedAt x v) = false
 tells_event t (Written count) = false
 tells_event t (Happened e o result) = false
+tells_event t (Began v result) = false
 
 -- and it stopped all threads
 abbrev pub stops_all : Talk → Call → Bool
@@ -98,6 +99,7 @@ resumes_all old (LocatedAs o) new = false
 resumes_all old (StoppedAt x v) new = false
 resumes_all old (Written count) new = false
 resumes_all old (Happened e o result) new = false
+resumes_all old (Began v result) new = false
 
 -- whether all threads stand by an event after this call
 abbrev pub stands_after : Bool → Talk → Call → Talk → Bool

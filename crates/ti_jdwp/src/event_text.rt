@@ -41,6 +41,10 @@ pub enum Occurrence<'a> {
     ClassUnload {
         signature: &'a [u8],
     },
+    /// The runtime began. The thread, by its number, is its first.
+    VmStart {
+        thread: u32,
+    },
     /// The runtime ends.
     VmDeath,
 }
@@ -94,6 +98,7 @@ fn kind(occurrence: Occurrence<'_>) -> EventKind
         Occurrence::SingleStep { .. } => EventKind::SingleStep,
         Occurrence::Breakpoint { .. } => EventKind::Breakpoint,
         Occurrence::ClassUnload { .. } => EventKind::ClassUnload,
+        Occurrence::VmStart { .. } => EventKind::VmStart,
         Occurrence::VmDeath => EventKind::VmDeath,
     }
 }
@@ -104,9 +109,9 @@ fn put_occurrence(out: &mut Vec<u8>, occurrence: Occurrence<'_>) -> Result<(), J
     ensures memory { IfErr result (λ e. e ≡ OutOfMemory) }
 {
     match occurrence {
-        Occurrence::ThreadStart { thread } | Occurrence::ThreadDeath { thread } => {
-            put_long(out, thread_id(thread))
-        }
+        Occurrence::ThreadStart { thread }
+        | Occurrence::ThreadDeath { thread }
+        | Occurrence::VmStart { thread } => put_long(out, thread_id(thread)),
         Occurrence::ClassPrepare {
             thread,
             class,

@@ -50,6 +50,24 @@ impl Session {
         self.note(event, occurrence)
     }
 
+    /// The runtime began, and this is its first thread. The debugger is told without having asked (VM_START, of the request 0), and
+    /// all threads are suspended for it. It gives whether the event is told; else it is lost, since 4,096 events wait or there is no
+    /// memory.
+    pub fn began(&mut self, thread: u32) -> bool
+        ensures { Begins thread self.old result self.new }
+    {
+        if self.is_over() {
+            return true;
+        }
+        match start_notice(self.alloc, thread) {
+            Ok(notice) => self.events.note(notice),
+            Err(_) => {
+                self.events.lose();
+                false
+            }
+        }
+    }
+
     /// Whether the session ends, so that nobody is told of an event.
     pub(crate) fn is_over(&self) -> bool
         ensures { result ≡ is_over self.now.phase }
@@ -110,6 +128,21 @@ pub(crate) fn rows_of<'a>(
     Ok(rows)
 }
 
+/// All that is told of the beginning of the runtime. 110 OUT_OF_MEMORY if there is no memory for it.
+fn start_notice(alloc: Global, thread: u32) -> Result<Notice, JdwpError>
+    ensures ok { IfOk result (λ n. n ≡ start_notice thread) }
+    ensures memory { IfErr result (λ e. e ≡ OutOfMemory) }
+{
+    let rows = rows_of(alloc, &[0], Occurrence::VmStart { thread })?;
+    let body = composite_body(alloc, Policy::All, rows.as_slice())?;
+    Ok(Notice {
+        policy: Policy::All,
+        thread,
+        stop: false,
+        body: Text::new(body),
+    })
+}
+
 /// All that is told of an event. 110 OUT_OF_MEMORY if there is no memory for it.
 fn notice_of(
     alloc: Global,
@@ -132,6 +165,6 @@ fn notice_of(
 }
 
 ghost use Rattle.std.specs.Prelude.{◌≡◌, map, IfOk, IfErr};
-ghost use Rattle.ti_jdwp.specs.Notes.{Notes, is_over, event_policy, notice_for, row_of, starts, ends, prepares};
+ghost use Rattle.ti_jdwp.specs.Notes.{Begins, Notes, is_over, event_policy, notice_for, row_of, start_notice, starts, ends, prepares};
 ghost use Rattle.ti_jdwp.specs.declared.error.JdwpError.TheVariants.{OutOfMemory};
 ghost use Rattle.ti_jdwp.specs.declared.event.Event.TheVariants.{ThreadStart, ThreadDeath, ClassPrepare};

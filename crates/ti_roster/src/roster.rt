@@ -1,5 +1,7 @@
 //! The roster itself.
 
+mod stops;
+
 use crate::coming::Coming;
 use crate::info::ThreadInfo;
 use crate::life::Life;
@@ -10,7 +12,7 @@ use std::marker::Model;
 use ti_agent::FreeDesk;
 use ti_chunked::Chunked;
 use ti_handshake::Fresh;
-use ti_stops::{StopCall, StopError, StopReply, Stops};
+use ti_stops::Stops;
 use ti_trail::GhostList;
 use ti_types::{EnvNo, Limits, ThreadNo, TiError};
 
@@ -42,7 +44,6 @@ impl Model for Roster {
     ghost use Rattle.ti_roster.specs.Events.{AreEvents};
     ghost use Rattle.ti_roster.specs.Log.{Log, threads_in};
     ghost use Rattle.ti_roster.specs.Rows.{AreRows};
-    ghost use Rattle.ti_roster.specs.Stops.{stops_of};
 
     ghost Value = { Log };
 
@@ -404,45 +405,6 @@ impl Roster {
         self.user = None;
         Ok(())
     }
-
-    /// One call about stops, by whoever the roster serves: an environment, or any other user. `StopCall` says what each call
-    /// does.
-    ///
-    /// An `Err` changes nothing:
-    ///
-    /// - 13 THREAD_NOT_SUSPENDED: at `LetGo`, the thread does not wait for the environment, or the environment was not told of
-    ///   it yet.
-    /// - 40 DUPLICATE: the environment has this breakpoint, or waits for this pop already.
-    /// - 41 NOT_FOUND: at `ClearBreakpoint`, the environment has no such breakpoint.
-    /// - 110 OUT_OF_MEMORY: there is no memory for it.
-    /// - 116 INVALID_ENVIRONMENT: the call is an environment's, and the roster serves none.
-    /// - 216 `Full` (this profile): there were 2^62 - 1 comings and goings in all.
-    ///
-    /// An answer that is no news (`StopReply::is_news`) changes nothing either.
-    pub fn stop(&mut self, call: StopCall) -> Result<StopReply, StopError>
-        ensures outcome { IfOk result (λ r. outcome (stops_of self.old.items) self.old.user call ≡ Ok r) }
-        ensures happened { IfOk result (λ r. self.new ≡ (if is_news r then with_item self.old (Stop self.old.user call) else self.old)) }
-        ensures refused { IfErr result (λ e. (e ≡ stop_error.OutOfMemory) ⊎ (e ≡ stop_error.Full) × (most_items ≤ length self.old.items) ⊎ (outcome (stops_of self.old.items) self.old.user call ≡ Err e)) }
-        ensures unchanged { OnErr result (self.new ≡ self.old) }
-    {
-        if self.len >= LAST {
-            return Err(StopError::Full);
-        }
-        let user = self.user;
-        let reply = self.stops.call(user, call)?;
-        if reply.is_news() {
-            self.log = self.log.and(&Coming::Stop(user, call));
-            self.len += 1;
-        }
-        Ok(reply)
-    }
-
-    /// Whether an environment hears of breakpoints, single steps or pops of frames. If none does, no thread stops.
-    pub fn is_watched(&self) -> bool
-        ensures { result ≡ is_watched (stops_of self.now.items) }
-    {
-        self.stops.is_watched()
-    }
 }
 
 /// Takes the desks of an environment out of the rows from an index on, in which there is room for it.
@@ -464,16 +426,13 @@ fn take_desks(rows: &mut Chunked<Row>, start: usize, env: EnvNo, desks: &mut Vec
 /// How much may happen at most.
 const LAST: u64 = (1 << 62) - 1;
 
-ghost use Rattle.std.specs.Prelude.{◌≡◌, ◌⊎◌, ◌<◌, ◌≤◌, ◌^◌, ◌+◌, ◌++◌, ◌∷◌, [], ℕ, All, true, false, drop, length, map, nat_lt, slice_get, vec_capacity, None, Some, IfOk, IfErr, IfSome, IfNone, OnOk, OnErr, if◌then◌else◌};
+ghost use Rattle.std.specs.Prelude.{◌≡◌, ◌<◌, ◌≤◌, ◌^◌, ◌+◌, ◌++◌, ◌∷◌, [], ℕ, All, true, false, drop, length, map, nat_lt, slice_get, vec_capacity, None, Some, IfOk, IfErr, IfSome, IfNone, OnOk, OnErr, if◌then◌else◌};
 ghost use Rattle.ti_types.specs.declared.error.TiError.TheVariants.{Full, InvalidEnvironment, InvalidThread, OutOfMemory, ThreadNotAlive};
 ghost use Rattle.ti_cell.specs.View.{newcomer, subject_of};
-ghost use Rattle.ti_roster.specs.declared.coming.Coming.TheVariants.{Came, Ended, Attached, Stop};
-ghost use Rattle.ti_stops.specs.declared.error.StopError.TheVariants as stop_error;
-ghost use Rattle.ti_stops.specs.Stops.{is_news, is_watched, outcome};
+ghost use Rattle.ti_roster.specs.declared.coming.Coming.TheVariants.{Came, Ended, Attached};
 ghost use Rattle.ti_roster.specs.Log.{Out, lies, threads_in, mark_of, live, is_live, with_item, with_user};
 ghost use Rattle.ti_types.specs.declared.numbers.ThreadNo.{ThreadNo};
 ghost use Rattle.ti_roster.specs.declared.newcomer.Newcomer.{Newcomer};
 ghost use Rattle.ti_roster.specs.declared.row.Row.{Row};
 ghost use Rattle.ti_roster.specs.Roster.{AreTaken, HasDisposed, HasMet, IsListed, IsPlaceless, IsToldOf, MayGoBack, and_back, coming_refusal, end_refusal, has_met_all, info_refusal, meeting_refusal, most_items, serves};
 ghost use Rattle.ti_roster.specs.Rows.{IsIndex, IsTaken, desks_in};
-ghost use Rattle.ti_roster.specs.Stops.{stops_of};
