@@ -37,6 +37,7 @@ typedef struct __attribute__((may_alias)) {
     uint64_t resumptions;                        /* by the door, for which threads were woken */
     uint64_t greets_by;                          /* when a debugger has to have greeted, or NEVER */
     cq_variables variables;                      /* by which a debugger's questions are answered, or zeros */
+    bool pops_frames;                            /* a debugger may pop frames */
     bool is_for_debuggers;
     bool runs;
 } server;
@@ -358,6 +359,7 @@ static uint32_t open_door(server *s, cq_service *service, const opening *of) {
     }
     wake_all(s);
     cq_door_tells_variables(&s->door, s->variables.of_method != NULL);
+    cq_door_pops_frames(&s->door, s->pops_frames);
     return code;
 }
 
@@ -418,7 +420,8 @@ static uint32_t begin(cq_server *in, cq_service *service, cq_signal *signal, con
     if (serves(s)) {
         return CQ_MISUSED;
     }
-    *s = (server){ .signal = signal, .ending = -1, .greets_by = NEVER, .variables = s->variables, .is_for_debuggers = of->is_for_debuggers };
+    *s = (server){ .signal = signal, .ending = -1, .greets_by = NEVER, .variables = s->variables, .pops_frames = s->pops_frames,
+                   .is_for_debuggers = of->is_for_debuggers };
     for (size_t i = 0; i < CQ_DOOR_CONNECTIONS; i++) {
         s->sockets[i] = s->leaving[i] = -1;
     }
@@ -446,6 +449,15 @@ uint32_t cq_server_variables(cq_server *in, const cq_variables *variables) {
         return CQ_MISUSED;
     }
     s->variables = *variables;
+    return CQ_OK;
+}
+
+uint32_t cq_server_pops_frames(cq_server *in, bool pops) {
+    server *s = (server *)in;
+    if (serves(s)) {
+        return CQ_MISUSED;
+    }
+    s->pops_frames = pops;
     return CQ_OK;
 }
 
