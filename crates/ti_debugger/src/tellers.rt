@@ -18,7 +18,7 @@ impl Debugger {
 
     /// Says whether threads of the runtime go on without the frames that were popped. At first they do not. It counts for requests
     /// that come from then on: only if they do, debuggers are told that frames can be popped, and may pop some. The agent has the
-    /// capability `can_pop_frame` from then on, or gives it up. Where the service does not let it have it, nothing changes.
+    /// capability `can_pop_frame` from then on, or gives it up.
     pub fn pops_frames(&mut self, pops: bool)
         ensures { self.new ≡ record self.old { agent = with_pops self.old.agent pops } }
     {
