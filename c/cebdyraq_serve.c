@@ -39,6 +39,7 @@ typedef struct __attribute__((may_alias)) {
     sem_t resumed;                               /* above 0 once there was one, or the server ended */
     uint64_t greets_by;                          /* when a debugger has to have greeted, or NEVER */
     cq_variables variables;                      /* by which a debugger's questions are answered, or zeros */
+    bool pops_frames;                            /* a debugger may pop frames */
     bool starts_suspended;                       /* the first debugger finds all threads suspended */
     bool is_for_debuggers;
     bool runs;
@@ -364,6 +365,7 @@ static uint32_t open_door(server *s, cq_service *service, const opening *of) {
     }
     wake_all(s);
     cq_door_tells_variables(&s->door, s->variables.of_method != NULL);
+    cq_door_pops_frames(&s->door, s->pops_frames);
     cq_door_starts_suspended(&s->door, s->starts_suspended);
     return code;
 }
@@ -425,7 +427,7 @@ static uint32_t begin(cq_server *in, cq_service *service, cq_signal *signal, con
     if (serves(s)) {
         return CQ_MISUSED;
     }
-    *s = (server){ .signal = signal, .ending = -1, .greets_by = NEVER, .variables = s->variables,
+    *s = (server){ .signal = signal, .ending = -1, .greets_by = NEVER, .variables = s->variables, .pops_frames = s->pops_frames,
                    .starts_suspended = s->starts_suspended, .is_for_debuggers = of->is_for_debuggers };
     sem_init(&s->resumed, 0, 0);
     for (size_t i = 0; i < CQ_DOOR_CONNECTIONS; i++) {
@@ -455,6 +457,15 @@ uint32_t cq_server_variables(cq_server *in, const cq_variables *variables) {
         return CQ_MISUSED;
     }
     s->variables = *variables;
+    return CQ_OK;
+}
+
+uint32_t cq_server_pops_frames(cq_server *in, bool pops) {
+    server *s = (server *)in;
+    if (serves(s)) {
+        return CQ_MISUSED;
+    }
+    s->pops_frames = pops;
     return CQ_OK;
 }
 

@@ -35,9 +35,9 @@
  * It speaks the Java Debug Wire Protocol of Java 8, as jdb and the Java debuggers of editors do. It reads threads, stacks, classes,
  * methods and lines, is told of threads that start and end and of classes that come, and suspends and resumes threads. It sets
  * breakpoints and steps, where the runtime says what its threads reach (cq_reached). It reads variables of suspended threads, where the
- * runtime tells them (cq_server_variables). Its suspensions of a thread nest. When it goes, the threads that it has suspended or stopped
- * go on, and those that another environment has suspended stay so. README.md of crates/ti_jdwp and crates/ti_debugger have all requests
- * and errors.
+ * runtime tells them (cq_server_variables), and pops frames of them, where the runtime's threads go on without (cq_server_pops_frames).
+ * Its suspensions of a thread nest. When it goes, the threads that it has suspended or stopped go on, and those that another environment
+ * has suspended stay so. README.md of crates/ti_jdwp and crates/ti_debugger have all requests and errors.
  *
  * WHO MAY DEBUG
  *
@@ -188,6 +188,11 @@ uint32_t cq_door_starts_suspended(cq_door *door, bool suspended);
  * that is open stays open. Nothing happens at a door for HTTP. */
 uint32_t cq_door_tells_variables(cq_door *door, bool tells);
 
+/* Says whether the runtime's threads go on without the frames that were popped (cq_take_pops): at first they do not. A debugger is told
+ * that it may pop frames only if they do, and pops some of a thread that it suspends. It counts for the requests that come from then
+ * on. The door's environment has CQ_CAN_POP_FRAME from then on, or gives it up. Nothing happens at a door for HTTP. */
+uint32_t cq_door_pops_frames(cq_door *door, bool pops);
+
 /* Writes the open question to `question`, one of kind CQ_QUESTION_NONE if there is none, as always at a door for HTTP. */
 uint32_t cq_door_question(cq_door *door, cq_question *question) CQ_MUST_USE;
 
@@ -307,6 +312,10 @@ uint32_t cq_debug_listen(cq_server *server, cq_service *service, cq_signal *sign
  * cq_debug_listen and cq_serve_end, whenever it listens from then on. Without them a debugger that asks for variables is told 101.
  * CQ_MISUSED 304: it serves; nothing changes. */
 uint32_t cq_server_variables(cq_server *server, const cq_variables *variables) CQ_MUST_USE;
+
+/* Says of a server that does not serve yet whether the runtime's threads go on without the frames that were popped, as
+ * cq_door_pops_frames does, whenever it listens for debuggers from then on. CQ_MISUSED 304: it serves; nothing changes. */
+uint32_t cq_server_pops_frames(cq_server *server, bool pops) CQ_MUST_USE;
 
 /* Says of a server that does not serve yet whether the runtime waits for its first debugger, as cq_door_starts_suspended does, whenever
  * it listens for debuggers from then on. The runtime starts its threads before it listens. Each of them goes into native code before

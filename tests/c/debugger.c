@@ -171,6 +171,7 @@ static void tells_of_empty_handles(void) {
     SAME(cq_door_tick(&none, now, &count), CQ_MISUSED);
     SAME(cq_door_resumptions(&none, &count), CQ_MISUSED);
     SAME(cq_door_tells_variables(&none, true), CQ_MISUSED);
+    SAME(cq_door_pops_frames(&none, true), CQ_MISUSED);
     SAME(cq_door_question(&none, &question), CQ_MISUSED);
     SAME(cq_door_tell_variables(&none, NULL, 0, NULL, 0), CQ_MISUSED);
     SAME(cq_door_tell_values(&none, NULL, 0, NULL, 0), CQ_MISUSED);
@@ -242,6 +243,7 @@ static void tells_of_http(void) {
     OK(cq_door_resumptions(&other, &count));
     SAME(count, 0);
     OK(cq_door_tells_variables(&other, true));
+    OK(cq_door_pops_frames(&other, true));
     OK(cq_door_question(&other, &question));
     SAME(question.kind, CQ_QUESTION_NONE);
     SAME(cq_door_answer(&other, &variables), CQ_NONE);
@@ -267,6 +269,7 @@ int main(int argc, char **argv) {
     tells_what_there_is();
     suspends();
     tells_variables();
+    pops_for_debuggers();
     lacks_memory();
     debugs_at_random(streams, seed);
     SAME(heap_blocks(), 0);

@@ -82,6 +82,9 @@ void tells_variables(void);
 /* Its functions. They tell of the methods and frames of the runtime above. */
 extern const cq_variables variables;
 
+/* debugger_pops.c: frames that are popped. */
+void pops_for_debuggers(void);
+
 /* debugger_memory.c: each allocation of a conversation is refused in turn. */
 void lacks_memory(void);
 

@@ -222,6 +222,7 @@ static void begin(void) {
     OK(cq_attach_environment(&service, &watcher));
     open_debugger();
     OK(cq_door_tells_variables(&door, true));
+    OK(cq_door_pops_frames(&door, true));
 }
 
 static void finish(void) {

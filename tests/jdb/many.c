@@ -59,11 +59,13 @@ static void end(cq_thread *thread) {
     must("a detachment", cq_wait_detach_thread(thread, &signal));
 }
 
-/* A thread that runs, and polls each millisecond. */
+/* A thread that runs, and polls each millisecond. It goes on without the frames that were popped. */
 static void *run(void *arg) {
     const struct timespec millisecond = { 0, 1000000 };
+    uint64_t popped;
     while (!atomic_load(&over)) {
         must("a poll", cq_wait_poll(arg, &signal));
+        must("pops", cq_take_pops(arg, &popped));
         nanosleep(&millisecond, NULL);
     }
     end(arg);
@@ -111,6 +113,7 @@ static uint16_t listen_here(void) {
     uint16_t port;
     if (!getcwd(path, sizeof path))
         exit(1);
+    must("pops", cq_server_pops_frames(&server, true));
     must("the debugger's door", cq_debug_listen(&server, &service, &signal, "127.0.0.1:0", "many", path));
     must("the port", cq_server_port(&server, &port));
     return port;

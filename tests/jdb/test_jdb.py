@@ -169,3 +169,17 @@ class AtAThousandThreads(unittest.TestCase):
             jdb.say_until("threads", r"\A((?! late )[\s\S])*\Z")
             host.process.stdin.close()
             self.assertEqual(host.process.wait(PATIENCE), 0)
+
+    def test_pop(self):
+        with tempfile.TemporaryDirectory() as folder, places.many(folder) as host, attach(host.port) as jdb:
+            self.assertEqual(jdb.say("suspend"), "All threads suspended.\n")
+            jdb.say("thread 1")
+            rest, work = "many.Threads.rest (threads.txt:21)\n", "many.Threads.work (threads.txt:11)\n"
+            self.assertEqual(jdb.say("where"), f"  [1] {rest}  [2] {work}")
+            self.assertNotIn("Error", jdb.say("pop"))
+            self.assertEqual(jdb.say("where"), f"  [1] {work}")
+            self.assertIn("Error popping frame", jdb.say("pop"))
+            self.assertEqual(jdb.say("where"), f"  [1] {work}")
+            self.assertEqual(jdb.say("resume"), "All threads resumed.\n")
+            host.process.stdin.close()
+            self.assertEqual(host.process.wait(PATIENCE), 0)

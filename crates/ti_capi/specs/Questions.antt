@@ -4,6 +4,7 @@ use Rattle.std.specs.Int.{w64, cast_signed}
 use Rattle.std.specs.List.{AllZip}
 use Rattle.ti_jdwp.specs.declared.error.JdwpError.{JdwpError}
 use Rattle.ti_jdwp.specs.declared.error.JdwpError.TheVariants as wire
+use Rattle.ti_debugger.specs.Pops.{with_pops}
 use Rattle.ti_debugger.specs.Questions.{question_in, read_answer}
 use Rattle.ti_debugger.specs.VariableReplies as debugger
 use Rattle.ti_debugger.specs.declared.question.Content.{Content}
@@ -69,6 +70,12 @@ abbrev pub SaysTells : Bool → AnyDoor → AnyDoor → ℕ → Type 0
 SaysTells tells (any.Http d) (any.Http n) code = (code ≡ 0) × (n ≡ d)
 SaysTells tells (any.Debugger d) (any.Debugger n) code = (code ≡ 0) × (n ≡ record d { tells = tells })
 SaysTells tells _ _ code = ⊥
+
+-- a debugger's agent may pop frames from now on, or may not
+abbrev pub SaysPops : Bool → AnyDoor → AnyDoor → ℕ → Type 0
+SaysPops pops (any.Http d) (any.Http n) code = (code ≡ 0) × (n ≡ d)
+SaysPops pops (any.Debugger d) (any.Debugger n) code = (code ≡ 0) × (n ≡ record d { agent = with_pops d.agent pops })
+SaysPops pops _ _ code = ⊥
 
 abbrev pub question_at : AnyDoor → Option Question
 question_at (any.Http d) = None

@@ -1,6 +1,7 @@
 pub mod ClassLaws
 pub mod CrowdLaws
 pub mod RefusedLaws
+pub mod PopLaws
 pub mod RunLaws
 pub mod StackLaws
 pub mod MethodLaws

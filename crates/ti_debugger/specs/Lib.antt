@@ -17,5 +17,6 @@ pub mod MethodReplies
 pub mod Questions
 pub mod Taking
 pub mod VariableReplies
+pub mod Pops
 pub mod Replies
 pub mod Stopping

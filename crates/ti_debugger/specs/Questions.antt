@@ -23,6 +23,7 @@ question_in (asked.Open q) = Some q
 question_in (asked.Variables method variables) = None
 question_in (asked.Values thread depth rows) = None
 question_in (asked.Untold q e) = None
+question_in (asked.Popping p) = None
 
 -- a variable with its name
 abbrev pub named : Variable → List ℕ → Named

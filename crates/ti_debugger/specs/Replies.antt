@@ -18,6 +18,7 @@ use Rattle.ti_debugger.specs.declared.watched.Watched.{Watched}
 use Rattle.ti_debugger.specs.Crowds.{alive_in}
 use Rattle.ti_debugger.specs.Sources.{file_in}
 use Rattle.ti_debugger.specs.MethodReplies.{TellsMethods}
+use Rattle.ti_debugger.specs.Pops.{PopsFrames, can_pop, capabilities_text}
 use Rattle.ti_debugger.specs.StackReplies.{IsWatched, TellsDepth, TellsFrames, TellsState}
 use Rattle.ti_debugger.specs.VariableReplies.{TellsClass, TellsEntries, TellsFrame, TellsLength, TellsText, TellsVariables}
 
@@ -91,6 +92,8 @@ IsBodyOf (request.SourceFile id) bytes old new body = TellsOfClass IsSourceFile 
 IsBodyOf (request.VariableTable class method) bytes old new body = TellsVariables false method old.asked body
 IsBodyOf (request.VariableTableWithGeneric class method) bytes old new body = TellsVariables true method old.asked body
 IsBodyOf (request.FrameValues id frame slots) bytes old new body = (thread : ℕ) × (number_from first_thread id ≡ Some thread) × TellsFrame thread frame (bytes_at slots bytes) old.asked body
+IsBodyOf request.CapabilitiesNew bytes old new body = body ≡ capabilities_text (can_pop old.agent)
+IsBodyOf (request.PopFrames id frame) bytes old new body = (thread : ℕ) × (number_from first_thread id ≡ Some thread) × PopsFrames old new thread frame × (body ≡ [])
 IsBodyOf (request.TextValue id) bytes old new body = TellsText old.objects.list.items id body
 IsBodyOf (request.TableLength id) bytes old new body = TellsLength old.objects.list.items id body
 IsBodyOf (request.TableEntries id start len) bytes old new body = TellsEntries old.objects.list.items id start len body

@@ -20,7 +20,16 @@ pub(crate) struct Row {
     pub(crate) value: Value,
 }
 
-/// How far a question is. There is one at most.
+/// Frames of a thread that are popped for a request, one after the other: the one at this depth and all newer ones.
+#[derive(Clone, Copy, Debug, PartialEq, Eq)]
+pub(crate) struct Popping {
+    pub(crate) thread: u32,
+    pub(crate) depth: u32,
+    /// How many are yet to be popped.
+    pub(crate) left: u32,
+}
+
+/// How far the answer to a request is that takes more than one call: a question, or frames that are popped. There is one at most.
 #[derive(Drop)]
 pub(crate) enum Asked {
     /// Nothing is asked.
@@ -43,6 +52,8 @@ pub(crate) enum Asked {
         question: Question,
         error: JdwpError,
     },
+    /// A thread's cell was in use while its frames were popped.
+    Popping(Popping),
 }
 
 impl Asked {

@@ -55,6 +55,8 @@ impl Desk {
                 frame,
                 slots,
             } => self.values(thread_in(thread)?, frame, slots.of(bytes)),
+            Request::CapabilitiesNew => self.capabilities(),
+            Request::PopFrames { thread, frame } => self.pop_frames(thread_in(thread)?, frame),
             Request::ReferenceType(id) => self.class_of_object(id),
             Request::IsCollected(id) => self.is_collected(id),
             Request::TextValue(id) => self.text_value(id),

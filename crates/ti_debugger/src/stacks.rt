@@ -56,7 +56,7 @@ pub(crate) fn part_of(count: i32, start: i32, wanted: i64) -> Result<Option<Part
 }
 
 /// The call that reads a part of a stack.
-fn trace_of(part: Part) -> Call
+pub(crate) fn trace_of(part: Part) -> Call
     ensures { result ≡ call.Trace part.start part.count }
 {
     Call::Trace {

@@ -6,6 +6,7 @@ use crate::desk::Desk;
 use crate::question::{Question, TellError, Told, Variable};
 use crate::taking::{named_in, read_answer};
 use ti_jdwp::JdwpError;
+use ti_types::Caps;
 
 impl Debugger {
     /// Says whether the runtime tells variables. At first it does not. It counts for requests that come from then on.
@@ -13,6 +14,19 @@ impl Debugger {
         ensures { self.new ≡ record self.old { tells = tells } }
     {
         self.desk.tells = tells;
+    }
+
+    /// Says whether threads of the runtime go on without the frames that were popped. At first they do not. It counts for requests
+    /// that come from then on: only if they do, debuggers are told that frames can be popped, and may pop some. The agent has the
+    /// capability `can_pop_frame` from then on, or gives it up.
+    pub fn pops_frames(&mut self, pops: bool)
+        ensures { self.new ≡ record self.old { agent = with_pops self.old.agent pops } }
+    {
+        let _it_can_be_had = if pops {
+            self.desk.agent.add_capabilities(Caps::CAN_POP_FRAME)
+        } else {
+            self.desk.agent.relinquish_capabilities(Caps::CAN_POP_FRAME)
+        };
     }
 
     /// The question that is open.
@@ -89,6 +103,7 @@ impl Debugger {
 }
 
 ghost use Rattle.std.specs.Prelude.{◌≡◌, None, IfErr, OnErr, OnOk};
+ghost use Rattle.ti_debugger.specs.Pops.{with_pops};
 ghost use Rattle.ti_debugger.specs.Questions.{question_in};
 ghost use Rattle.ti_debugger.specs.VariableReplies.{RefusesThese, RefusesValues, TellsNone, TellsThese, TellsValuesOf};
 ghost use Rattle.ti_debugger.specs.declared.question.TellError.TheVariants.{NotAsked};

@@ -82,6 +82,7 @@ rows =
     ∷ row 15 2 of_clear
     ∷ row 16 1 of_slots
     ∷ row 16 3 (of_two_ids (λ thread frame. request.ThisObject thread frame))
+    ∷ row 16 4 (of_two_ids (λ thread frame. request.PopFrames thread frame))
     ∷ []
 
 abbrev pub layout_in : ℕ → ℕ → List Row → Option Layout

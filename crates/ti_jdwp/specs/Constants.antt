@@ -25,7 +25,6 @@ abbrev pub constant_bytes : Constant → List ℕ
 constant_bytes constant.Empty = []
 constant_bytes constant.IdSizes = int 8 ++ int 8 ++ int 8 ++ int 8 ++ int 8
 constant_bytes constant.Capabilities = replicate 7 0
-constant_bytes constant.NewCapabilities = replicate 10 0 ++ 0 ∷ replicate 21 0
 constant_bytes constant.Groups = int 1 ++ long thread_group
 constant_bytes constant.GroupName = text group_name
 constant_bytes constant.GroupId = long thread_group

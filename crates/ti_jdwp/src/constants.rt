@@ -2,8 +2,8 @@
 
 use crate::bodies::{
     capabilities_body, class_of_object_body, collected_body, empty_list_body,
-    generic_signature_body, groups_body, id_body, id_sizes_body, int_body, new_capabilities_body,
-    no_object_body, text_body,
+    generic_signature_body, groups_body, id_body, id_sizes_body, int_body, no_object_body,
+    text_body,
 };
 use crate::error::JdwpError;
 use crate::ids::{THREAD_CLASS, THREAD_GROUP};
@@ -31,7 +31,6 @@ pub(crate) fn constant_body(alloc: Global, constant: Constant) -> Result<Vec<u8>
         Constant::Empty => Ok(Vec::new(alloc)),
         Constant::IdSizes => id_sizes_body(alloc),
         Constant::Capabilities => capabilities_body(alloc),
-        Constant::NewCapabilities => new_capabilities_body(alloc, false),
         Constant::Groups => groups_body(alloc),
         Constant::GroupName => text_body(alloc, GROUP_NAME),
         Constant::GroupId => id_body(alloc, THREAD_GROUP),

@@ -30,6 +30,12 @@ pub enum JdwpError {
     /// 30 INVALID_FRAMEID: the id is no frame's.
     #[error("the id is no frame's")]
     InvalidFrameId,
+    /// 31 NO_MORE_FRAMES: the oldest frame of a stack is not popped.
+    #[error("the oldest frame is not popped")]
+    NoMoreFrames,
+    /// 32 OPAQUE_FRAME: a native frame is not popped, nor one that it called.
+    #[error("a native frame is in the way")]
+    OpaqueFrame,
     /// 35 INVALID_SLOT: the frame has no variable of this slot.
     #[error("the frame has no such variable")]
     InvalidSlot,
@@ -76,6 +82,8 @@ impl JdwpError {
             JdwpError::InvalidMethodId => 23,
             JdwpError::InvalidLocation => 24,
             JdwpError::InvalidFrameId => 30,
+            JdwpError::NoMoreFrames => 31,
+            JdwpError::OpaqueFrame => 32,
             JdwpError::InvalidSlot => 35,
             JdwpError::NotImplemented => 99,
             JdwpError::AbsentInformation => 101,

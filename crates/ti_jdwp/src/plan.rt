@@ -14,7 +14,6 @@ pub(crate) enum Constant {
     Empty,
     IdSizes,
     Capabilities,
-    NewCapabilities,
     /// The one thread group.
     Groups,
     GroupName,
@@ -199,7 +198,8 @@ pub(crate) fn plan_of(request: Request) -> Plan
         | Request::ClassesBySignature(_)
         | Request::AllClasses
         | Request::AllThreads
-        | Request::ClassPaths => Plan::Ask,
+        | Request::ClassPaths
+        | Request::CapabilitiesNew => Plan::Ask,
         Request::TopLevelThreadGroups => Plan::Constant(Constant::Groups),
         Request::Dispose => Plan::Dispose,
         Request::IdSizes => Plan::Constant(Constant::IdSizes),
@@ -209,7 +209,6 @@ pub(crate) fn plan_of(request: Request) -> Plan
         Request::DisposeObjects => Plan::Constant(Constant::Empty),
         Request::HoldEvents => Plan::Hold,
         Request::ReleaseEvents => Plan::Release,
-        Request::CapabilitiesNew => Plan::Constant(Constant::NewCapabilities),
         Request::SetEvent {
             kind,
             policy,
@@ -252,7 +251,8 @@ pub(crate) fn plan_of(request: Request) -> Plan
         | Request::FrameCount(_)
         | Request::SuspendCount(_)
         | Request::FrameValues { .. }
-        | Request::ThisObject { .. } => thread_plan(request),
+        | Request::ThisObject { .. }
+        | Request::PopFrames { .. } => thread_plan(request),
     }
 }
 
@@ -304,6 +304,7 @@ fn thread_plan(request: Request) -> Plan
         Request::Frames { thread, .. } => stack_of(thread),
         Request::FrameCount(id) => stack_of(id),
         Request::FrameValues { thread, .. } => stack_of(thread),
+        Request::PopFrames { thread, .. } => stack_of(thread),
         Request::ThisObject { thread, .. } => {
             at_thread(thread, Plan::Constant(Constant::NoObject))
         }

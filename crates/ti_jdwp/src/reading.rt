@@ -214,6 +214,10 @@ fn stack_frame(command: u8, bytes: &[u8]) -> Result<Request, JdwpError>
             let (thread, frame) = two_ids(bytes)?;
             Ok(Request::ThisObject { thread, frame })
         }
+        4 => {
+            let (thread, frame) = two_ids(bytes)?;
+            Ok(Request::PopFrames { thread, frame })
+        }
         _ => Err(JdwpError::NotImplemented),
     }
 }

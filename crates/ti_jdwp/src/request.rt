@@ -249,6 +249,11 @@ pub enum Request {
         thread: u64,
         frame: u64,
     },
+    /// 16/4: the frame goes, and all newer ones.
+    PopFrames {
+        thread: u64,
+        frame: u64,
+    },
 }
 
 ghost use Rattle.std.specs.Prelude.{◌≡◌};

@@ -645,6 +645,7 @@ extern "C" {
     pub fn cq_door_disconnect(door: *mut cq_door, connection: u32) -> u32;
     pub fn cq_door_tick(door: *mut cq_door, now: u64, deadline: *mut u64) -> u32;
     pub fn cq_door_tells_variables(door: *mut cq_door, tells: bool) -> u32;
+    pub fn cq_door_pops_frames(door: *mut cq_door, pops: bool) -> u32;
     pub fn cq_door_question(door: *mut cq_door, question: *mut cq_question) -> u32;
     pub fn cq_door_tell_variables(
         door: *mut cq_door,
@@ -695,6 +696,7 @@ extern "C" {
         path: *const c_char,
     ) -> u32;
     pub fn cq_server_variables(server: *mut cq_server, variables: *const cq_variables) -> u32;
+    pub fn cq_server_pops_frames(server: *mut cq_server, pops: bool) -> u32;
     pub fn cq_server_port(server: *const cq_server, port: *mut u16) -> u32;
     pub fn cq_serve_end(server: *mut cq_server) -> u32;
 }
