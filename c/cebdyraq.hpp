@@ -636,10 +636,21 @@ public:
         return number;
     }
 
+    /* Sleeps until a debugger has resumed a thread. Threads that wait for their first debugger call it in native code, before their
+     * first step. */
+    void await_resumption() { check(cq_server_await_resumption(get())); }
+
 private:
     friend class service;
     using holder::holder;
     std::shared_ptr<variables> variables_;  /* which it tells, if there are some */
+};
+
+/* What debuggers may do beside reading stacks, suspensions, breakpoints and steps. */
+struct debug_options {
+    std::shared_ptr<variables> told = nullptr;  /* they are told these variables */
+    bool pops_frames = false;                   /* they may pop frames: threads go on without those that were popped */
+    bool starts_suspended = false;              /* the first of them finds all threads suspended (server::await_resumption) */
 };
 
 /* A handle of a service. The service lives as long as one of its handles, threads or environments. */
@@ -687,16 +698,17 @@ public:
         });
     }
 
-    /* Listens for debuggers at an address, as cq_debug_listen does, and tells them variables, if there are some. It throws as `serve`
-     * does. */
+    /* Listens for debuggers at an address, as cq_debug_listen does. It throws as `serve` does. */
     server debug_listen(const std::string &address, const std::string &program, const std::string &path,
-                        std::shared_ptr<variables> told = nullptr) {
+                        debug_options options = {}) {
         return served(address, [&](server &made) {
-            made.variables_ = std::move(told);
+            made.variables_ = std::move(options.told);
             if (made.variables_) {
                 cq_variables functions = made.variables_->functions();
                 check(cq_server_variables(made.get(), &functions));
             }
+            check(cq_server_pops_frames(made.get(), options.pops_frames));
+            check(cq_server_starts_suspended(made.get(), options.starts_suspended));
             return cq_debug_listen(made.get(), get(), signal(), address.c_str(), program.c_str(), path.c_str());
         });
     }

@@ -305,7 +305,7 @@ void test_variables() {
         cebdyraq::service service(8, 1, 4);
         service.define_class("Lwork;", "work.x", {{"n", "", 1, cebdyraq::lines_kind::locations, {}},
                                                   {"m", "", 1, cebdyraq::lines_kind::locations, {}}});
-        auto server = service.debug_listen("127.0.0.1:0", "types", "/src", std::make_shared<told_variables>(is_gone));
+        auto server = service.debug_listen("127.0.0.1:0", "types", "/src", {std::make_shared<told_variables>(is_gone)});
         auto asked = "JDWP-Handshake" + packet(1, request, method + '\0') + packet(2, request, method + '\1');
         EXPECT(answer_to(server.port(), asked, wanted.size()) == wanted);
         auto moved = std::move(server);

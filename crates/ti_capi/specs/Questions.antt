@@ -77,6 +77,12 @@ SaysPops pops (any.Http d) (any.Http n) code = (code ≡ 0) × (n ≡ d)
 SaysPops pops (any.Debugger d) (any.Debugger n) code = (code ≡ 0) × (n ≡ record d { agent = with_pops d.agent pops })
 SaysPops pops _ _ code = ⊥
 
+-- the runtime waits for its first debugger from now on, or does not
+abbrev pub SaysStarts : Bool → AnyDoor → AnyDoor → ℕ → Type 0
+SaysStarts suspended (any.Http d) (any.Http n) code = (code ≡ 0) × (n ≡ d)
+SaysStarts suspended (any.Debugger d) (any.Debugger n) code = (code ≡ 0) × (n ≡ record d { starts = suspended })
+SaysStarts suspended _ _ code = ⊥
+
 abbrev pub question_at : AnyDoor → Option Question
 question_at (any.Http d) = None
 question_at (any.Debugger d) = question_in d.asked

@@ -217,6 +217,16 @@ impl AnyDoor {
         }
     }
 
+    /// Says whether the runtime waits for its first debugger. Nothing happens at a door for HTTP.
+    pub(crate) fn starts_suspended(&mut self, suspended: bool)
+        ensures { SaysStarts suspended self.old self.new 0 }
+    {
+        match self {
+            AnyDoor::Http(_) => (),
+            AnyDoor::Debugger(debugger) => debugger.starts_suspended(suspended),
+        }
+    }
+
     /// Says whether threads of the runtime go on without the frames that were popped. Nothing happens at a door for HTTP.
     pub(crate) fn pops_frames(&mut self, pops: bool)
         ensures { SaysPops pops self.old self.new 0 }
@@ -291,5 +301,5 @@ impl AnyDoor {
 }
 
 ghost use Rattle.std.specs.Prelude.{◌≡◌, IfErr, IfNone, IfOk, IfSome, OnErr, OnOk};
-ghost use Rattle.ti_capi.specs.Questions.{SaysPops, SaysTells, TellsNone, TellsTold, TellsVariables, question_at};
+ghost use Rattle.ti_capi.specs.Questions.{SaysPops, SaysStarts, SaysTells, TellsNone, TellsTold, TellsVariables, question_at};
 ghost use Rattle.ti_capi.specs.AnyDoors.{AllRun, Disconnects, Ends, EndsAs, Feeds, Goes, IsAsBefore, IsFull, IsUnknown, MayEnd, Opens, Refuses, StaysAs, Ticks, Writes, at_door, is_there, only, output_at, resumptions, room_at, todo_at_door};

@@ -162,6 +162,21 @@ pub extern "C" fn cq_door_tells_variables(door: &mut CqDoor, tells: bool) -> u32
     CQ_OK
 }
 
+/// Says whether the runtime waits for its first debugger.
+#[unsafe(no_mangle)]
+pub extern "C" fn cq_door_starts_suspended(door: &mut CqDoor, suspended: bool) -> u32
+    ensures { CallsDoor (SaysStarts suspended) ⊤ door.old door.new result }
+{
+    let Some(held) = door.held_door() else {
+        return CQ_MISUSED;
+    };
+    let Some(door) = &mut held.door else {
+        return CQ_MISUSED;
+    };
+    door.starts_suspended(suspended);
+    CQ_OK
+}
+
 /// Says whether threads of the runtime go on without the frames that were popped.
 #[unsafe(no_mangle)]
 pub extern "C" fn cq_door_pops_frames(door: &mut CqDoor, pops: bool) -> u32
@@ -245,6 +260,6 @@ pub extern "C" fn cq_door_tell_none(door: &mut CqDoor, code: u32) -> u32
 
 ghost use Rattle.std.specs.Prelude.{◌≡◌, ◌⊎◌, ⊤, IfErr, IfOk};
 ghost use Rattle.ti_capi.specs.Doors.{CallsDoor};
-ghost use Rattle.ti_capi.specs.Questions.{Answers, AreTold, GivesQuestion, HasContent, HaveTold, IsTold, SaysPops, SaysTells, TellsNone, TellsValues, TellsVariables, content_of, question_out, told_code, untold};
+ghost use Rattle.ti_capi.specs.Questions.{Answers, AreTold, GivesQuestion, HasContent, HaveTold, IsTold, SaysPops, SaysStarts, SaysTells, TellsNone, TellsValues, TellsVariables, content_of, question_out, told_code, untold};
 ghost use Rattle.ti_debugger.specs.VariableReplies.{asks_values};
 ghost use Rattle.ti_debugger.specs.declared.question.TellError.TheVariants.{IllegalArgument, OutOfMemory};

@@ -17,6 +17,7 @@ pub record DebuggerValue : Type 0 where
   pub about : About
   pub next_class : ℕ
   pub resumptions : ℕ
+  pub starts : Bool
   pub tells : Bool
   pub asked : Asked
   pub objects : List Object
@@ -26,5 +27,6 @@ pub record Works (old new : DebuggerValue) : Type 0 where
   pub classes : new.next_class ≡ old.next_class
   pub resumptions : old.resumptions ≤ new.resumptions
   pub about : new.about ≡ old.about
+  pub starts : new.starts ≡ old.starts
   pub tells : new.tells ≡ old.tells
   pub objects : new.objects ≡ old.objects

@@ -13,6 +13,7 @@ debugger_of seat desk = record {
   about = desk.about;
   next_class = desk.next_class;
   resumptions = desk.resumptions;
+  starts = desk.starts;
   tells = desk.tells;
   asked = desk.asked;
   objects = desk.objects.list.items;
@@ -23,6 +24,7 @@ pub record Watches (old new : Desk) : Type 0 where
   pub classes : new.next_class ≡ old.next_class
   pub resumptions : new.resumptions ≡ old.resumptions
   pub about : new.about ≡ old.about
+  pub starts : new.starts ≡ old.starts
   pub tells : new.tells ≡ old.tells
   pub asked : new.asked ≡ old.asked
   pub objects : new.objects ≡ old.objects
@@ -32,5 +34,6 @@ pub record Works (old new : Desk) : Type 0 where
   pub classes : new.next_class ≡ old.next_class
   pub resumptions : old.resumptions ≤ new.resumptions
   pub about : new.about ≡ old.about
+  pub starts : new.starts ≡ old.starts
   pub tells : new.tells ≡ old.tells
   pub objects : new.objects ≡ old.objects

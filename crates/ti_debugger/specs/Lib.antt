@@ -8,6 +8,7 @@ pub mod Runs
 pub mod Seats
 pub mod Sessions
 pub mod Debuggers
+pub mod Opening
 pub mod Refused
 pub mod Sources
 pub mod Told

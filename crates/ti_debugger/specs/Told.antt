@@ -15,6 +15,7 @@ Follows log n (occurrence.ClassPrepare t c s) is_noted m = (c ≡ n) × IsSignat
 Follows log n (occurrence.SingleStep t c k i) is_noted m = ⊥
 Follows log n (occurrence.Breakpoint t c k i) is_noted m = ⊥
 Follows log n (occurrence.ClassUnload s) is_noted m = ⊥
+Follows log n (occurrence.VmStart t) is_noted m = ⊥
 Follows log n occurrence.VmDeath is_noted m = ⊥
 
 -- the session is told of an event or of a stop, and asked for nothing

@@ -21,7 +21,6 @@ const LATER: u64 = 10_000_000;
 /// `DebuggerValue`: its session as `ti_jdwp` sees it, the threads that it watches, and its environment.
 #[derive(Drop)]
 pub struct Debugger {
-    alloc: Global,
     seat: Option<Seat>,
     pub(crate) desk: Desk,
     last_tick: u64,
@@ -43,27 +42,36 @@ impl Debugger {
         ensures free { NoneHeld result.watched }
         ensures resumptions { result.resumptions ≡ 0 }
         ensures about { result.about ≡ about }
+        ensures starts { result.starts ≡ false }
         ensures variables { (result.tells ≡ false) × (result.asked ≡ Nothing) × (result.objects ≡ []) }
     {
         Debugger {
-            alloc,
             seat: None,
             desk: Desk::new(alloc, agent, about, now),
             last_tick: now,
         }
     }
 
-    /// Begins the session of a debugger that has connected. False while there is one: then nothing changes.
+    /// Says whether the runtime waits for its first debugger: at first it does not. The next debugger that connects while a thread is
+    /// there is told that the runtime begins, and all threads are suspended for it. Those that come after it are not told.
+    pub fn starts_suspended(&mut self, suspended: bool)
+        ensures { self.new ≡ record self.old { starts = suspended } }
+    {
+        self.desk.starts = suspended;
+    }
+
+    /// Begins the session of a debugger that has connected. False while there is one: then nothing changes. If the runtime waits for
+    /// its first debugger, the session is told of its beginning; if that is lost, for lack of memory, the runtime waits for the next.
     pub fn connect(&mut self, now: u64) -> bool
         ensures told { result ≡ not (is_some self.old.session) }
-        ensures opened { result ≡ true → self.new.session ≡ Some opened }
+        ensures opened { result ≡ true → Opens self.old.starts (first (alive_in self.old.watched)) self.new }
         ensures there { result ≡ false → self.new ≡ self.old }
-        ensures desk { self.new ≡ record self.old { session = self.new.session } }
+        ensures desk { self.new ≡ record self.old { session = self.new.session; starts = self.new.starts } }
     {
         if self.seat.is_some() {
             return false;
         }
-        self.seat = Some(Seat::new(self.alloc));
+        self.seat = Some(Seat::open(&mut self.desk));
         self.last_tick = now;
         true
     }
@@ -244,7 +252,6 @@ impl Debugger {
             return Err((TiError::Busy, self));
         }
         let Debugger {
-            alloc,
             seat,
             desk,
             last_tick,
@@ -254,7 +261,6 @@ impl Debugger {
             Err((error, desk)) => Err((
                 error,
                 Debugger {
-                    alloc,
                     seat,
                     desk,
                     last_tick,
@@ -267,12 +273,12 @@ impl Debugger {
 ghost use Rattle.std.specs.Prelude.{◌≡◌, ◌≤◌, ◌⊎◌, [], true, false, not, is_some, Some, None, Err, IfOk, IfErr, OnOk, OnErr};
 ghost use Rattle.ti_types.specs.declared.error.TiError.TheVariants.{Busy};
 ghost use Rattle.ti_jdwp.specs.Lines.{with_written};
-ghost use Rattle.ti_jdwp.specs.Talks.{opened};
 ghost use Rattle.ti_service.specs.Classes.{classes_of};
 ghost use Rattle.ti_service.specs.Leaving.{Disposes, StaysOn};
 ghost use Rattle.ti_service.specs.Memberships.{state_of};
-ghost use Rattle.ti_debugger.specs.Crowds.{NoneHeld};
+ghost use Rattle.ti_debugger.specs.Crowds.{NoneHeld, alive_in, first};
 ghost use Rattle.ti_debugger.specs.Debuggers.{Works};
+ghost use Rattle.ti_debugger.specs.Opening.{Opens};
 ghost use Rattle.ti_debugger.specs.Questions.{question_in};
 ghost use Rattle.ti_debugger.specs.declared.asked.Asked.TheVariants.{Nothing};
 ghost use Rattle.ti_debugger.specs.Runs.{RunsTo};

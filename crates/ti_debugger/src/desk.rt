@@ -27,6 +27,8 @@ pub(crate) struct Desk {
     /// How many times the agent has resumed a thread, or let it go on that had stopped. It stays at 2^64 - 1.
     pub(crate) resumptions: u64,
     pub(crate) stops: Stops,
+    /// The runtime waits for its first debugger.
+    pub(crate) starts: bool,
     /// The runtime tells variables.
     pub(crate) tells: bool,
     pub(crate) asked: Asked,
@@ -39,6 +41,7 @@ impl Desk {
         ensures free { result.crowd.list.items ≡ [] }
         ensures resumptions { result.resumptions ≡ 0 }
         ensures about { result.about ≡ about }
+        ensures starts { result.starts ≡ false }
         ensures variables { (result.tells ≡ false) × (result.asked ≡ Nothing) × (result.objects.list.items ≡ []) }
     {
         let mut agent = agent;
@@ -55,6 +58,7 @@ impl Desk {
             more_classes: false,
             resumptions: 0,
             stops: Stops::new(alloc),
+            starts: false,
             tells: false,
             asked: Asked::Nothing,
             objects: Objects::new(alloc),

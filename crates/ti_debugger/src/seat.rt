@@ -6,7 +6,6 @@ use crate::due::Due;
 use crate::prepared::Prepared;
 use crate::refusal::Refusal;
 use crate::stopping::Spot;
-use std::alloc::Global;
 use ti_jdwp::{Action, JdwpError, Request, Session, SessionError};
 use ti_service::{LifeEvent, LifeKind};
 
@@ -36,12 +35,20 @@ pub(crate) struct Seat {
 }
 
 impl Seat {
-    /// A session that waits for the handshake.
-    pub(crate) fn new(alloc: Global) -> Seat
-        ensures { result.session ≡ opened }
+    /// The session of a debugger that has connected, which waits for the handshake. If the runtime waits for its first debugger, and
+    /// a thread is there, it is told that the runtime begins.
+    pub(crate) fn open(desk: &mut Desk) -> Seat
+        ensures opened { OpensAs desk.old.starts (first (alive_in desk.old.crowd.list.items)) result.session desk.new.starts }
+        ensures rest { desk.new ≡ record desk.old { starts = desk.new.starts } }
     {
+        let mut session = Session::new(desk.alloc);
+        if desk.starts {
+            if let Some(thread) = desk.crowd.first_alive() {
+                desk.starts = !session.began(thread);
+            }
+        }
         Seat {
-            session: Session::new(alloc),
+            session,
             due: None,
             rests: false,
         }
@@ -301,8 +308,9 @@ impl Seat {
 }
 
 ghost use Rattle.std.specs.Prelude.{◌≡◌, true, is_some, string_bytes, IfOk, IfSome};
-ghost use Rattle.ti_jdwp.specs.Talks.{opened};
+ghost use Rattle.ti_debugger.specs.Crowds.{alive_in, first};
 ghost use Rattle.ti_debugger.specs.Desks.{Works};
+ghost use Rattle.ti_debugger.specs.Opening.{OpensAs};
 ghost use Rattle.ti_debugger.specs.Questions.{question_in};
 ghost use Rattle.ti_debugger.specs.declared.asked.Asked.{Asked};
 ghost use Rattle.ti_debugger.specs.Runs.{RunsTo};

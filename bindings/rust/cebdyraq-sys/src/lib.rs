@@ -646,6 +646,7 @@ extern "C" {
     pub fn cq_door_tick(door: *mut cq_door, now: u64, deadline: *mut u64) -> u32;
     pub fn cq_door_tells_variables(door: *mut cq_door, tells: bool) -> u32;
     pub fn cq_door_pops_frames(door: *mut cq_door, pops: bool) -> u32;
+    pub fn cq_door_starts_suspended(door: *mut cq_door, suspended: bool) -> u32;
     pub fn cq_door_question(door: *mut cq_door, question: *mut cq_question) -> u32;
     pub fn cq_door_tell_variables(
         door: *mut cq_door,
@@ -697,6 +698,8 @@ extern "C" {
     ) -> u32;
     pub fn cq_server_variables(server: *mut cq_server, variables: *const cq_variables) -> u32;
     pub fn cq_server_pops_frames(server: *mut cq_server, pops: bool) -> u32;
+    pub fn cq_server_starts_suspended(server: *mut cq_server, suspended: bool) -> u32;
+    pub fn cq_server_await_resumption(server: *mut cq_server) -> u32;
     pub fn cq_server_port(server: *const cq_server, port: *mut u16) -> u32;
     pub fn cq_serve_end(server: *mut cq_server) -> u32;
 }

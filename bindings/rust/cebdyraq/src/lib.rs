@@ -62,7 +62,7 @@ pub use classes::{ClassInfo, Defined, LineEntry, Lines, MethodInfo, MethodName};
 pub use environment::{capabilities, Environment, Event, EventKind, StackInfo, ThreadInfo};
 pub use error::Error;
 pub use posts::{Answer, Any, Call, Posted, Ticket};
-pub use server::{ServeError, Server};
+pub use server::{DebugOptions, ServeError, Server};
 pub use service::Service;
 pub use stops::{Stop, StopKind};
 pub use thread::{Ended, Frame, Fresh, Reason, Running, Safe};

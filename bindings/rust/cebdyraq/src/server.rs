@@ -34,6 +34,17 @@ impl From<Error> for ServeError {
     }
 }
 
+/// What debuggers may do beside reading stacks, suspensions, breakpoints and steps.
+#[derive(Default)]
+pub struct DebugOptions {
+    /// They are told these variables.
+    pub variables: Option<Box<dyn Variables>>,
+    /// They may pop frames: the runtime's threads go on without those that were popped.
+    pub pops_frames: bool,
+    /// The first of them finds all threads suspended. See [`Server::await_resumption`].
+    pub starts_suspended: bool,
+}
+
 /// A service at a socket (`cebdyraq_serve.h`): over HTTP, for `go tool pprof` and Prometheus, or for debuggers. It serves until it is
 /// dropped.
 #[derive(Debug)]
@@ -44,8 +55,9 @@ pub struct Server {
     _told: Option<Told>,
 }
 
-// SAFETY: only `port` and `drop` use it from here on, each by one call at a time.
+// SAFETY: only `drop` changes it from here on, and nothing else is called then.
 unsafe impl Send for Server {}
+unsafe impl Sync for Server {}
 
 impl Server {
     /// The port at which it listens, or 0 at a Unix socket.
@@ -55,6 +67,13 @@ impl Server {
         let code = unsafe { sys::cq_server_port(&*self.memory, &mut port) };
         debug_assert_eq!(code, sys::CQ_OK);
         port
+    }
+
+    /// Sleeps until a debugger has resumed a thread. Threads that wait for their first debugger call it in native code, before their
+    /// first step. [`Error::Misused`] if it serves HTTP.
+    pub fn await_resumption(&self) -> Result<(), Error> {
+        // SAFETY: the server's memory is where it was until it is dropped. This call changes nothing of it but by atomic operations.
+        checked(unsafe { sys::cq_server_await_resumption(&raw const *self.memory as *mut sys::cq_server) })
     }
 }
 
@@ -83,36 +102,32 @@ impl Service {
     /// Listens for debuggers, such as `jdb -attach`, at an address as for [`Service::serve`]. They are told the name of the program,
     /// and look for source files in `path`. One of them at a time may attach, if it belongs to this process's user or to root.
     pub fn debug_listen(&mut self, address: &str, program: &str, path: &str) -> Result<Server, ServeError> {
-        let (address, program, path) = (c_string(address)?, c_string(program)?, c_string(path)?);
-        self.begin(|memory, service, signal| {
-            // SAFETY: see `begin`, and the texts end with a 0.
-            unsafe { sys::cq_debug_listen(memory, service, signal, address.as_ptr(), program.as_ptr(), path.as_ptr()) }
-        })
+        self.debug_listen_with(address, program, path, DebugOptions::default())
     }
 
-    /// Listens for debuggers likewise, and tells them variables.
+    /// Listens for debuggers likewise, with options.
     pub fn debug_listen_with(
         &mut self,
         address: &str,
         program: &str,
         path: &str,
-        variables: Box<dyn Variables>,
+        options: DebugOptions,
     ) -> Result<Server, ServeError> {
         let (address, program, path) = (c_string(address)?, c_string(program)?, c_string(path)?);
-        let mut told = Told::new(variables);
-        let functions = told.functions();
+        let mut told = options.variables.map(Told::new);
         let mut server = self.begin(|memory, service, signal| {
-            // SAFETY: see `begin`, and the texts end with a 0. The server keeps what the functions use for as long as it serves.
+            // SAFETY: see `begin`, and the texts end with a 0. The server does not serve yet, so that it takes the options. It keeps what
+            // the functions use for as long as it serves.
             unsafe {
-                match sys::cq_server_variables(memory, &functions) {
-                    sys::CQ_OK => {
-                        sys::cq_debug_listen(memory, service, signal, address.as_ptr(), program.as_ptr(), path.as_ptr())
-                    }
-                    code => code,
+                if let Some(told) = &mut told {
+                    sys::cq_server_variables(memory, &told.functions());
                 }
+                sys::cq_server_pops_frames(memory, options.pops_frames);
+                sys::cq_server_starts_suspended(memory, options.starts_suspended);
+                sys::cq_debug_listen(memory, service, signal, address.as_ptr(), program.as_ptr(), path.as_ptr())
             }
         })?;
-        server._told = Some(told);
+        server._told = told;
         Ok(server)
     }
 

@@ -1,6 +1,6 @@
 //! Variables that a server tells a debugger, which speaks the debug wire protocol here.
 
-use cebdyraq::{ClassInfo, Error, Frame, Lines, MethodInfo, Names, Reason, Server, Service, Values, Variables};
+use cebdyraq::{ClassInfo, DebugOptions, Error, Frame, Lines, MethodInfo, Names, Reason, Server, Service, Values, Variables};
 use std::io::{Read, Write};
 use std::net::TcpStream;
 use std::sync::atomic::{AtomicBool, Ordering::SeqCst};
@@ -84,7 +84,8 @@ fn a_debugger_is_told_of_variables() {
     running.set_frames(&[Frame { method: 0, location: 9 }]).unwrap();
     let Ok(safe) = running.block(Reason::Sleep) else { panic!("nothing bars it") };
     let work = Work { stands: stands.clone(), _kept: kept.clone() };
-    let server = service.debug_listen_with("127.0.0.1:0", "test", "/src", Box::new(work)).unwrap();
+    let options = DebugOptions { variables: Some(Box::new(work)), ..DebugOptions::default() };
+    let server = service.debug_listen_with("127.0.0.1:0", "test", "/src", options).unwrap();
     let mut debugger = Debugger::attach(&server);
 
     let row = [&[0, 0, 0, 0, 0, 0, 0, 1, 0, 0, 0, 0, 0, 0, 0, 9, 0, 0, 0, 5][..], "näme".as_bytes(), &[0, 0, 0, 18]];
