@@ -334,6 +334,7 @@ int main(void) {
     ends_while_one_is_busy();
     listens_at_a_path();
     tells_variables();
+    starts_suspended();
     takes_own_users();
     return 0;
 }

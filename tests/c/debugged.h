@@ -34,4 +34,7 @@ void takes_own_users(void);
 /* debug_variables.c: variables of a runtime whose thread holds a lock while it runs. */
 void tells_variables(void);
 
+/* debug_starts.c: a runtime that waits for its first debugger. */
+void starts_suspended(void);
+
 #endif

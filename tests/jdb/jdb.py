@@ -15,7 +15,7 @@ class Jdb:
     def __init__(self, port):
         self.process = subprocess.Popen(["jdb", "-attach", f"127.0.0.1:{port}"], stdin=subprocess.PIPE,
                                         stdout=subprocess.PIPE, stderr=subprocess.STDOUT)
-        self.read(PROMPT)
+        self.greeting = self.read(PROMPT)
 
     def __enter__(self):
         return self

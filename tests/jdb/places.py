@@ -43,13 +43,14 @@ class Host:
 
 
 @contextlib.contextmanager
-def scripts(*names, statement=""):
-    """A host that runs these scripts, from their folder. Each has begun: the first word that it writes is its name."""
-    words = [cqlua, "run", "-e", statement, "--debug", "127.0.0.1:0", *(f"{name}.lua" for name in names)]
+def scripts(*names, statement="", suspended=False):
+    """A host that runs these scripts, from their folder. Each has begun, unless they begin suspended: the first word that it writes is
+    its name."""
+    words = [cqlua, "run", "-e", statement, "--debug", "127.0.0.1:0", *["--suspend"] * suspended, *(f"{name}.lua" for name in names)]
     with subprocess.Popen(words, cwd=SCRIPTS, stderr=subprocess.PIPE, stdout=subprocess.PIPE, text=True) as process:
         try:
             host, begun = Host(process, process.stderr.readline()), set()
-            while host.runs() and not begun.issuperset(names):
+            while host.runs() and not suspended and not begun.issuperset(names):
                 begun.add(process.stdout.readline().partition("\t")[0].strip())
             yield host
         finally:

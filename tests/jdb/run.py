@@ -15,6 +15,7 @@ import places
 import test_jdb
 import test_jdi
 import test_stops
+import test_suspended
 import test_variables
 import test_wire
 
@@ -29,7 +30,7 @@ class Counted(unittest.TextTestResult):
 
 def tests():
     loader = unittest.defaultTestLoader
-    return unittest.TestSuite(loader.loadTestsFromModule(module) for module in (test_wire, test_jdb, test_stops, test_variables, test_jdi))
+    return unittest.TestSuite(loader.loadTestsFromModule(module) for module in (test_wire, test_jdb, test_stops, test_suspended, test_variables, test_jdi))
 
 
 def main():

@@ -44,6 +44,7 @@ impl Model for Roster {
     ghost use Rattle.ti_roster.specs.Events.{AreEvents};
     ghost use Rattle.ti_roster.specs.Log.{Log, threads_in};
     ghost use Rattle.ti_roster.specs.Rows.{AreRows};
+    ghost use Rattle.ti_roster.specs.Stops.{stops_of};
 
     ghost Value = { Log };
 
