@@ -1,5 +1,6 @@
--- One more pop, and what is looked at before the first.
-use Rattle.std.proofs.Common.{◌≡◌, ◌+◌, ℕ, ℤ, pos, suc, false, Ok, refl, sym, ap, subst, ◌∙◌}
+-- One more pop, what is looked at before the first, and frames that are gone.
+use Rattle.std.proofs.Common.{◌≡◌, ◌+◌, ◌-◌, ◌≤◌, ℕ, ℤ, pos, zero, suc, false, Ok, sym, ap, subst, ◌∙◌, arith}
+use Rattle.std.proofs.Math.Logic.{∥∥₁_map}
 use Rattle.std.proofs.Math.Numerals.{add-one}
 use Rattle.ti_types.specs.Frames.{Trace}
 use Rattle.ti_types.specs.declared.answer.Answer.{Answer}
@@ -12,11 +13,34 @@ use Rattle.ti_agent.specs.Env.{Environment}
 use Rattle.ti_agent.specs.Posts.{Posts}
 use Rattle.ti_debugger.specs.declared.desk.Desk.{Desk}
 use Rattle.ti_debugger.specs.declared.stacks.Part.{Part}
+use Rattle.ti_debugger.specs.Gone.{AreGone}
 use Rattle.ti_debugger.specs.Pops.{CanPop, IsPopped, Pops, any_native}
 use Rattle.ti_debugger.specs.StackReplies.{HasDepth}
 
 pub pops_more : (t : ThreadNo) (n : ℕ) (old mid new : Environment) → Pops t n old mid → Posts mid new t call.Pop (Answered answer.Done) → Pops t (n + 1) old new
 pops_more t n old mid new before one = subst (λ (k : ℕ). Pops t k old new) (sym (add-one n)) (mid, before, one)
+
+-- pops after others
+gone_more : (t : ThreadNo) (m n : ℕ) (old new : Environment) → AreGone t m → Pops t n old new → AreGone t (n + m)
+gone_more t m zero old new gone pops = gone
+gone_more t m (suc n) old new gone pops = (gone_more t m n old pops.0 gone pops.1, pops.0, new, pops.2)
+
+pub gone_first : (t : ThreadNo) (depth left : ℕ) → left ≡ depth + 1 → ∥ AreGone t (depth + 1 - left) ∥₁
+gone_first t depth left is =
+    let none : 0 ≡ depth + 1 - left = omega (arith, is) in
+    subst (λ (n : ℕ). ∥ AreGone t n ∥₁) none ∣ tt ∣₁
+
+-- those that went before, and now
+pub gone_rest : (t : ThreadNo) (depth left done rest : ℕ) (old new : Environment) → left ≤ depth + 1 → done ≤ left → rest ≡ left - done → ∥ AreGone t (depth + 1 - left) ∥₁ → Pops t done old new → ∥ AreGone t (depth + 1 - rest) ∥₁
+gone_rest t depth left done rest old new within fewer is gone pops =
+    let all : done + (depth + 1 - left) ≡ depth + 1 - rest = omega (arith, within, fewer, is) in
+    subst (λ (n : ℕ). ∥ AreGone t n ∥₁) all (∥∥₁_map gone (λ (g : AreGone t (depth + 1 - left)). gone_more t (depth + 1 - left) done old new g pops))
+
+pub gone_all : (t : ThreadNo) (depth left : ℕ) (old new : Environment) → left ≤ depth + 1 → ∥ AreGone t (depth + 1 - left) ∥₁ → Pops t left old new → ∥ AreGone t (depth + 1) ∥₁
+gone_all t depth left old new within gone pops =
+    let none : 0 ≡ left - left = omega arith in
+    let same : left ≤ left = omega arith in
+    gone_rest t depth left left 0 old new within same none gone pops
 
 -- what was told of the frames that go, and of their caller
 pub can_pop_told : (old mid new : Desk) (thread depth : ℕ) (count : ℤ) (p : Part) (c : Call) (a : Answer) (t : Trace) → HasDepth old mid thread count → IsPopped count depth (Ok p)

@@ -18,6 +18,7 @@ pub mod MethodReplies
 pub mod Questions
 pub mod Taking
 pub mod VariableReplies
+pub mod Gone
 pub mod Pops
 pub mod Replies
 pub mod Stopping

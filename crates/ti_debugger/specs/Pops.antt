@@ -25,6 +25,7 @@ use Rattle.ti_debugger.specs.declared.asked.Asked.TheVariants as asked
 use Rattle.ti_debugger.specs.declared.asked.Popping.{Popping}
 use Rattle.ti_debugger.specs.declared.desk.Desk.{Desk}
 use Rattle.ti_debugger.specs.declared.stacks.Part.{Part}
+use Rattle.ti_debugger.specs.Gone.{AreGone}
 use Rattle.ti_debugger.specs.StackReplies.{HasDepth}
 
 -- the agent may pop frames
@@ -88,10 +89,17 @@ abbrev pub PopsAll : Desk → Desk → Popping → Type 0
 PopsAll old new p = Pops (record { 0 = p.thread }) p.left old.agent.env new.agent.env
 
 -- so many were popped, and those that are left are kept
-abbrev pub PopsSome : Desk → Desk → Popping → Type 0
-PopsSome old new p = (done : ℕ) × (done < p.left) × Pops (record { 0 = p.thread }) done old.agent.env new.agent.env × (new.asked ≡ asked.Popping (record p { left = p.left - done }))
+pub record PopsSome (old new : Desk) (p : Popping) : Type 0 where
+  pub done : ℕ
+  pub fewer : done < p.left
+  pub pops : Pops (record { 0 = p.thread }) done old.agent.env new.agent.env
+  pub rest : Popping
+  pub thread : rest.thread ≡ p.thread
+  pub depth : rest.depth ≡ p.depth
+  pub left : rest.left ≡ p.left - done
+  pub keeps : new.asked ≡ asked.Popping rest
 
--- the frame and all newer ones are gone: as many as were left of them were popped
+-- The frame and all newer ones are gone: as many as were left of them were popped, one after the other
 pub record PopsFrames (old new : Desk) (thread frame : ℕ) : Type 0 where
   pub told : Desk
   pub popping : Popping
@@ -99,6 +107,8 @@ pub record PopsFrames (old new : Desk) (thread frame : ℕ) : Type 0 where
   pub at : frame_id thread popping.depth ≡ frame
   pub is : IsToPop old told popping
   pub all : PopsAll told new popping
+  -- with those of earlier tries
+  pub gone : ∥ AreGone (record { 0 = thread }) (popping.depth + 1) ∥₁
 
 -- nothing was popped yet, or so many were
 abbrev pub WaitsToPop : Desk → Desk → ℕ → ℕ → Type 0
