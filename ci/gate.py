@@ -7,12 +7,14 @@ Then, on the programs that `rt ci` has built, each case (`ci/cases.py`) and runs
 
 `rt ci` leaves `tiwalk` and `tilint` in their crates' `out/` as LLVM builds them, and, where Rattle's own compiler took them, as
 that builds them. By `ci/rt_ci.py` it leaves the static library too. The output of `rt ci` is passed on, but for its last line
-'N passed, M failed': what is tried besides is added to those counts, and the sums are the last line here.
+'N passed, M failed': what is tried besides is added to those counts, and the sums are the last line here. The line before it has
+the processor time that all of this took.
 """
 
 import os
 import pathlib
 import re
+import resource
 import shutil
 import subprocess
 import sys
@@ -99,6 +101,8 @@ def main():
         well, ill, _ = counts_of(sys.executable, "ci/snippets.py")
         print(f"snippets: {well} passed, {ill} failed")
         passed, failed = passed + well, failed + ill
+    used = resource.getrusage(resource.RUSAGE_CHILDREN)
+    print(f"it took {(used.ru_utime + used.ru_stime) / 60:.0f} processor minutes")
     print(f"{passed} passed, {failed} failed")
     return 1 if failed or status else 0
 
