@@ -1,5 +1,5 @@
 -- How frames are popped for a debugger.
-use Rattle.std.specs.Prelude.{ℕ, zero, suc, ℤ, pos, ◌≡◌, ◌+◌, ◌-◌, ◌<◌, ◌⊎◌, ◌≤ℤ◌, ◌++◌, ⊥, Bool, true, false, if◌then◌else◌, List, [], ◌∷◌, replicate, Result, Ok, Err}
+use Rattle.std.specs.Prelude.{ℕ, zero, suc, ℤ, pos, ◌≡◌, ◌+◌, ◌-◌, ◌<◌, ◌⊎◌, ◌≤ℤ◌, ◌++◌, Bool, true, false, if◌then◌else◌, List, [], ◌∷◌, replicate, Result, Ok, Err}
 use Rattle.std.specs.List.{list_any}
 use Rattle.ti_types.specs.Call.{needed_by}
 use Rattle.ti_types.specs.Caps.{caps_with, caps_without, has_all}
@@ -12,7 +12,6 @@ use Rattle.ti_types.specs.declared.error.TiError.{TiError}
 use Rattle.ti_types.specs.declared.error.TiError.TheVariants as error
 use Rattle.ti_types.specs.declared.numbers.ThreadNo.{ThreadNo}
 use Rattle.ti_types.specs.declared.place.Frame.{Frame}
-use Rattle.ti_env.specs.Env.{with_caps}
 use Rattle.ti_slot.specs.declared.asked.Asked.TheVariants.{Answered}
 use Rattle.ti_agent.specs.Env.{Environment}
 use Rattle.ti_agent.specs.Posts.{Posts}
@@ -22,7 +21,7 @@ use Rattle.ti_jdwp.specs.Ids.{frame_id}
 use Rattle.ti_jdwp.specs.declared.error.JdwpError.{JdwpError}
 use Rattle.ti_jdwp.specs.declared.error.JdwpError.TheVariants as wire
 use Rattle.ti_debugger.specs.declared.asked.Asked.TheVariants as asked
-use Rattle.ti_debugger.specs.declared.asked.Popping.{Popping}
+use Rattle.ti_debugger.specs.declared.popping.Popping.{Popping}
 use Rattle.ti_debugger.specs.declared.desk.Desk.{Desk}
 use Rattle.ti_debugger.specs.declared.stacks.Part.{Part}
 use Rattle.ti_debugger.specs.Gone.{AreGone}
@@ -33,7 +32,7 @@ abbrev pub can_pop : AgentValue → Bool
 can_pop a = has_all a.env.state.caps (needed_by call.Pop)
 
 abbrev with_caps_of : AgentValue → Caps → AgentValue
-with_caps_of a caps = record { home = a.home; env = record { env = a.env.env; state = with_caps a.env.state caps; desks = a.env.desks } }
+with_caps_of a caps = record a { env = record a.env { state = record a.env.state { caps = caps } } }
 
 -- from now on it may, or may not
 abbrev pub with_pops : AgentValue → Bool → AgentValue

@@ -1,6 +1,7 @@
 //! How far a question is.
 
 use crate::bytes::Bytes;
+use crate::popping::Popping;
 use crate::question::Question;
 use ti_jdwp::{JdwpError, Value};
 
@@ -18,18 +19,6 @@ pub(crate) struct Named {
 pub(crate) struct Row {
     pub(crate) slot: u32,
     pub(crate) value: Value,
-}
-
-/// Frames of a thread that are popped for a request, one after the other: the one at this depth and all newer ones.
-#[derive(Clone, Copy)]
-pub(crate) struct Popping {
-    pub(crate) thread: u32,
-    pub(crate) depth: u32,
-    /// How many are yet to be popped.
-    pub(crate) left: u32,
-    ghost within: { left ≤ depth + 1 },
-    // The others are gone.
-    ghost gone: { ∥ AreGone (record { 0 = thread }) (depth + 1 - left) ∥₁ },
 }
 
 /// How far the answer to a request is that takes more than one call: a question, or frames that are popped. There is one at most.
@@ -78,6 +67,5 @@ impl Asked {
     }
 }
 
-ghost use Rattle.std.specs.Prelude.{◌≡◌, ◌≤◌, ◌+◌, ◌-◌, is_some};
-ghost use Rattle.ti_debugger.specs.Gone.{AreGone};
+ghost use Rattle.std.specs.Prelude.{◌≡◌, is_some};
 ghost use Rattle.ti_debugger.specs.Questions.{question_in};

@@ -24,6 +24,7 @@ mod meeting;
 mod method_answers;
 mod object_answers;
 mod objects;
+mod popping;
 mod pops;
 mod prepared;
 mod question;

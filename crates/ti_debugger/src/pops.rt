@@ -1,7 +1,8 @@
 //! How frames are popped for a debugger.
 
-use crate::asked::{Asked, Popping};
+use crate::asked::Asked;
 use crate::desk::Desk;
+use crate::popping::Popping;
 use crate::refusal::Refusal;
 use crate::stacks::{Part, trace_of};
 use ti_jdwp::{JdwpError, frame_of, new_capabilities_body};
