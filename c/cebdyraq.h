@@ -55,7 +55,8 @@
  * LIMITS
  *
  *   threads attached to a service in its life       2^32 - 1. No number is used again
- *   threads that an environment has met at once     65,536. One that it has let go of does not count
+ *   threads that an environment has met at once     65,536. One that it has let go of does not count, and one that was
+ *                                                   given back makes room, unless a call is out there
  *   environments of a service at once               `envs` of cq_make, at most 32
  *   frames of a thread                              `depth` of cq_make, at most 65,536
  *   calls of an environment that are out at a thread  `window` of cq_make, at most 1,024
@@ -415,22 +416,24 @@ uint32_t cq_detach_thread(cq_thread *thread) CQ_MUST_USE;
 
 /* Meets the threads that were attached since the environment last met them. Its calls reach these from now on.
  *
- * With a code other than CQ_OK it may have met some of them. The next meeting has the others.
+ * If it has met 65,536 threads that it has not let go of, it first lets go of all that were given back and at which none of its
+ * calls is out, as cq_let_go does. With a code other than CQ_OK it may have met some of the threads, and let go of some. The next
+ * meeting has the others, and until then cq_has_news is true.
  *
  *   CQ_ILLEGAL_ARGUMENT 103  an earlier cq_dispose_environment has left some threads, so that there is no meeting any more
  *   CQ_OUT_OF_MEMORY 110     there is no memory to meet a thread
- *   CQ_FULL 216              it has met 65,536 threads that it has not let go of, or threads and environments have come and
- *                            gone 2^62 - 1 times
+ *   CQ_FULL 216              it has met 65,536 threads that are there or at which its calls are out, or threads and
+ *                            environments have come and gone 2^62 - 1 times
  *   CQ_BUSY 215              the list of threads is in use */
 uint32_t cq_meet(cq_env *env) CQ_MUST_USE;
 
 /* Whether threads or environments have come or gone, or another environment has met threads, since the environment last
- * looked at the list. It is one load. It is false of a handle that is misused. An environment that was just attached has
+ * looked at the list, or its last cq_meet failed. It is one load. It is false of a handle that is misused. An environment that was just attached has
  * looked, and has met no thread: it meets once without news. */
 bool cq_has_news(cq_env *env);
 
 /* Lets go of a thread that was given back, so that its memory can be freed, and writes to `gone` whether it did. It does not
- * while the thread is there or a call is out at it, and not if it was let go of before. The environment's word at the thread is
+ * while the thread is there or a call is out at it, and not if it was let go of before, by a meeting too. The environment's word at the thread is
  * gone then, and a call there is CQ_THREAD_NOT_ALIVE 15. What traces have gathered stays.
  *
  *   CQ_BUSY 215  the list of threads is in use */

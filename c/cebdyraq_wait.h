@@ -239,7 +239,8 @@ uint32_t cq_wait_get_thread_list_stack_traces(cq_env *env, cq_signal *signal, co
  * `which` the index of the call, and returns the call's code. If several answers are there, it takes one of them.
  *
  * It gives the news again and again until the environment looks: by cq_meet or, if events are enabled, by cq_next_event. So take
- * events until there is none: one that is left is no news.
+ * events until there is none: one that is left is no news. After a cq_meet that failed it gives the news until one succeeds. So a
+ * program that cannot meet for lack of room or memory waits for calls alone, by cq_wait_collect, before it tries again.
  *
  *   CQ_NONE 303       no answer is there, and threads or environments have come or gone. Nothing is written
  *   CQ_TIMED_OUT 214  the calls are out as before */

@@ -61,6 +61,7 @@ PROGRAMS = [
     Program("gather_busy", ["gather_busy.c"], HEAP, wait=[]),
     Program("turns", ["turns.c"], HEAP, {VALGRIND: ["100"]}, wait=[HERE / "slow_wait.c"]),
     Program("green", ["green.c"], COUNTED_HEAP, {THREAD: ["512"], VALGRIND: ["128"]}),
+    Program("meet_on", ["meet_on.c"], COUNTED_HEAP, {VALGRIND: ["1"]}, wait=[]),
     Program("cxx", ["cxx.cpp"], HEAP),
     Program("door", ["door.c", "door_random.c"], COUNTED_HEAP, {ADDRESS: ["20000"], THREAD: ["5000"], VALGRIND: ["300"]}, wait=[]),
     Program("serve", SERVED, HEAP + STRINGS + SERVE),

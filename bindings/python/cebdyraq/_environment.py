@@ -116,11 +116,13 @@ class Environment(Classes):
     # Threads.
 
     def meet(self) -> None:
-        """Meets the threads that were attached since the last meeting."""
+        """Meets the threads that were attached since the last meeting. If it has met 65,536, it first lets go of those that were
+        given back."""
         self._call("cq_wait_meet", self._signal)
 
     def has_news(self) -> bool:
-        """Says whether others came, went or met threads since it last looked. Meet once before: attaching is a look."""
+        """Says whether others came, went or met threads since it last looked, or its last meeting failed. Meet once before:
+        attaching is a look."""
         return bool(self._plain_call("cq_has_news"))
 
     def let_go(self, thread: int) -> bool:

@@ -14,10 +14,11 @@ use Rattle.ti_roster.specs.Log.{live}
 use Rattle.ti_roster.specs.Roster.{IsToldOf}
 use Rattle.ti_roster.specs.declared.info.ThreadInfo.{ThreadInfo}
 use Rattle.ti_roster.specs.declared.life_event.NextEvent.{NextEvent}
-use Rattle.ti_service.specs.Agent.{AddsWaiting, IsSameBut, Keeps, Meets}
+use Rattle.ti_service.specs.Agent.{IsSameBut}
 use Rattle.ti_service.specs.LettingGo.{LetsGo}
+use Rattle.ti_service.specs.Meeting.{KeepsNow, Meets, TellsAgentNews}
 use Rattle.ti_service.specs.Memberships.{AgentValue, state_of}
-use Rattle.ti_service.specs.Service.{Looks, RefusesInfo, TellsNews, roster_seen}
+use Rattle.ti_service.specs.Service.{Looks, RefusesInfo, roster_seen}
 use Rattle.ti_service.specs.Telling.{Enables, TellsNext, with_events}
 use Rattle.ti_capi.specs.declared.values.CqEvent.{CqEvent}
 use Rattle.ti_capi.specs.declared.values.CqThreadInfo.{CqThreadInfo}
@@ -61,13 +62,13 @@ pub data DiscardsBy (t : ThreadNo) (b0 b1 : Bool) (s n : AgentValue) (code : ℕ
 
 -- threads are met (`ti_service`, `meet_now`)
 pub data MeetsBy (s n : AgentValue) (code : ℕ) : Type 0 where
-  Met : code ≡ 0 → Meets (state_of s) (state_of n) → n.home.events ≡ s.home.events → MeetsBy s n code
-  NotMet : (e : TiError) → code ≡ number_of e → Keeps (state_of s) (state_of n) e ⊎ ((e ≡ Busy) × AddsWaiting (state_of s) (state_of n)) → n.home.events ≡ s.home.events → MeetsBy s n code
+  Met : code ≡ 0 → Meets (state_of s) (state_of n) → MeetsBy s n code
+  NotMet : (e : TiError) → code ≡ number_of e → KeepsNow (state_of s) (state_of n) e → MeetsBy s n code
 
 -- Whether there is news: the environment looked, and that is all that changes (`ti_service`, `has_news`). If there is no
 -- environment, there is no news
 abbrev pub TellsNewsOf : Option AgentValue → Option AgentValue → Bool → Type 0
-TellsNewsOf (Some s) (Some n) news = IsSameBut (state_of s) (state_of n) × TellsNews s.home.service n.home.service news
+TellsNewsOf (Some s) (Some n) news = TellsAgentNews (state_of s) (state_of n) news
 TellsNewsOf (Some s) None news = ⊥
 TellsNewsOf None n news = (n ≡ None) × (news ≡ false)
 

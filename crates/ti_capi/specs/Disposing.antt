@@ -14,12 +14,12 @@ use Rattle.ti_capi.specs.Handles.{Handle, env_held_with, env_in, with_held_env}
 pub data DisposesIn (old new : HeldEnv) (code : ℕ) : Type 0 where
   NoEnvironment : code ≡ misused → old.agent ≡ None → new ≡ old → DisposesIn old new code
   DisposedIn : (s : AgentValue) → (m : Member) → code ≡ 0 → old.agent ≡ Some s → new ≡ env_held_with old None → Disposes (state_of s) m → DisposesIn old new code
-  StaysIn : (s n : AgentValue) → (e : TiError) → code ≡ number_of e → old.agent ≡ Some s → new ≡ env_held_with old (Some n) → StaysOn (state_of s) (state_of n) e → n.home.events ≡ s.home.events → DisposesIn old new code
+  StaysIn : (s n : AgentValue) → (e : TiError) → code ≡ number_of e → old.agent ≡ Some s → new ≡ env_held_with old (Some n) → StaysOn (state_of s) (state_of n) e → (n.home.events ≡ s.home.events) × (n.home.unmet ≡ s.home.unmet) → DisposesIn old new code
 
 -- the same behind a handle
 pub data DisposesBehind (s : AgentValue) (old new : Handle) (code : ℕ) : Type 0 where
   Disposed : (m : Member) → code ≡ 0 → new.kind ≡ 0 → Disposes (state_of s) m → DisposesBehind s old new code
-  StaysBehind : (h : HeldEnv) → (n : AgentValue) → (e : TiError) → code ≡ number_of e → env_in old ≡ Some h → new ≡ with_held_env old (env_held_with h (Some n)) → StaysOn (state_of s) (state_of n) e → n.home.events ≡ s.home.events
+  StaysBehind : (h : HeldEnv) → (n : AgentValue) → (e : TiError) → code ≡ number_of e → env_in old ≡ Some h → new ≡ with_held_env old (env_held_with h (Some n)) → StaysOn (state_of s) (state_of n) e → (n.home.events ≡ s.home.events) × (n.home.unmet ≡ s.home.unmet)
       → DisposesBehind s old new code
 
 abbrev pub DisposesBy : Option AgentValue → Handle → Handle → ℕ → Type 0

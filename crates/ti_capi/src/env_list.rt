@@ -8,7 +8,8 @@ use std::alloc::Global;
 use ti_service::ServiceTries;
 use ti_types::ThreadNo;
 
-/// Meets the threads that were attached since the environment last did.
+/// Meets the threads that were attached since the environment last did. If it has no room for one, it lets go of threads that were
+/// given back.
 #[unsafe(no_mangle)]
 pub extern "C" fn cq_meet(alloc: Global, env: &mut CqEnv) -> u32
     ensures { Calls MeetsBy ⊤ env.old env.new result }
@@ -25,8 +26,8 @@ pub extern "C" fn cq_meet(alloc: Global, env: &mut CqEnv) -> u32
     }
 }
 
-/// Whether threads or environments have come or gone since the environment last held the list, by one load. No of a handle
-/// without an environment.
+/// Whether threads or environments have come or gone since the environment last held the list, by one load, or its last meeting
+/// failed. No of a handle without an environment.
 #[unsafe(no_mangle)]
 pub extern "C" fn cq_has_news(env: &mut CqEnv) -> bool
     ensures { HasNews env.old env.new result }

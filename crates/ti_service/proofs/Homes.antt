@@ -1,5 +1,5 @@
 -- An agent's desks stay at the threads of its service.
-use Rattle.std.proofs.Common.{◌≡◌, ◌==◌, ◌&&◌, ◌<◌, Bool, true, eq-eqb, ℕ, List, [], ◌∷◌, ◌++◌, refl, ap, sym, ◌∙◌, subst, append-nil, append_assoc, Option, Some, None}
+use Rattle.std.proofs.Common.{◌≡◌, ◌==◌, ◌&&◌, ◌<◌, Bool, true, false, eq-eqb, ℕ, List, [], ◌∷◌, ◌++◌, refl, ap, sym, ◌∙◌, subst, append-nil, append_assoc, Option, Some, None}
 use Rattle.std.specs.Prelude.{All, slice_get}
 use Rattle.std.specs.List.{fold}
 use Rattle.std.proofs.lemmas.List.Sums.{fold-append}
@@ -57,11 +57,11 @@ own_later seen later limits e f b o = record { at = come_later seen later f.desk
 -- An agent's desks
 
 abbrev pub agent_of : Member → Environment → List FreeState → AgentState
-agent_of service env waiting = record { service = service; env = env; waiting = waiting; events = None }
+agent_of service env waiting = record { service = service; env = env; waiting = waiting; events = None; unmet = false }
 
--- with the next event that it is to be told
-abbrev pub agent_with : Member → Environment → List FreeState → Option ℕ → AgentState
-agent_with service env waiting events = record { service = service; env = env; waiting = waiting; events = events }
+-- with the next event that it is to be told, and whether its last meeting failed
+abbrev pub agent_with : Member → Environment → List FreeState → Option ℕ → Bool → AgentState
+agent_with service env waiting events unmet = record { service = service; env = env; waiting = waiting; events = events; unmet = unmet }
 
 -- the handle has seen more
 pub ours_later : (old new : Member) (env : Environment) (waiting : List FreeState) → Begins new.view.seen old.view.seen → new.view.place ≡ old.view.place → new.view.limits ≡ old.view.limits → AreOurs (agent_of old env waiting) → AreOurs (agent_of new env waiting)

@@ -166,16 +166,16 @@ last_there l i (Some t) is there = let z = place_before l i there in let e = ap 
 -- Threads that an agent lets go of
 
 pub goes : (old : AgentState) (service : Member) (env : Environment) (t : ThreadNo) (r : Option FreeState) (gone : Bool) → gone ≡ is_some r → outstanding old.env t ≡ 0 → Looks old.service.view service.view → service.cell ≡ old.service.cell → is_live t service.view.seen ≡ false
-    → IfSome r (λ f. IsTaken old.env env t f) → IfNone r (length old.env.desks ≤ place_in old.env.desks t) → IfNone r (env ≡ old.env) → LetsGo old (agent_with service env old.waiting old.events) t gone
-goes old service env t None gone is none looks cell live taken nobody same = NoDesk is looks (cell, same, refl, refl) nobody
-goes old service env t (Some f) gone is none looks cell live taken nobody same = Gone is none looks cell refl refl live f taken
+    → IfSome r (λ f. IsTaken old.env env t f) → IfNone r (length old.env.desks ≤ place_in old.env.desks t) → IfNone r (env ≡ old.env) → LetsGo old (agent_with service env old.waiting old.events old.unmet) t gone
+goes old service env t None gone is none looks cell live taken nobody same = NoDesk is looks (cell, same, refl, refl, refl) nobody
+goes old service env t (Some f) gone is none looks cell live taken nobody same = Gone is none looks cell refl refl refl live f taken
 
 -- at most one desk leaves
 pub one_goes : (old new : AgentState) (t : ThreadNo) (gone : Bool) → LetsGo old new t gone → length old.env.desks ≤ suc (length new.env.desks)
 one_goes old new t gone (CallsOut off out same) = let e = ap (λ (a : AgentState). length a.env.desks) same in omega (arith, e)
 one_goes old new t gone (StillThere off looks same live) = let e = ap (λ (s : Environment). length s.desks) same.1 in omega (arith, e)
 one_goes old new t gone (NoDesk off looks same nobody) = let e = ap (λ (s : Environment). length s.desks) same.1 in omega (arith, e)
-one_goes old new t gone (Gone is none looks cell waits kept live f k) =
+one_goes old new t gone (Gone is none looks cell waits kept still live f k) =
     let e = ap (λ (s : Environment). length s.desks) k.new_is in
     let h = within old.env.desks (place_in old.env.desks t) f.desk k.there in
     let l = length-remove old.env.desks (place_in old.env.desks t) h in

@@ -1,16 +1,11 @@
 -- What a handle puts back of the roster.
 use Rattle.std.proofs.Common.{◌≡◌, ℕ, List, [], ◌∷◌, ◌++◌, Option, Some, None, refl, sym, ap, ◌∙◌, append-nil, append_assoc, subst}
-use Rattle.std.specs.Prelude.{All, OnOk, ◌<◌, ◌+◌, Bool, true, false, length, Result, Ok, Err, IfOk, IfErr, OnErr, reverse, if◌then◌else◌}
-use Rattle.std.specs.List.{fold}
-use Rattle.std.proofs.lemmas.List.{reverse-append}
+use Rattle.std.specs.Prelude.{All, OnOk, ◌<◌, ◌+◌, Bool, true, false, length, Result, Ok, Err, IfOk, IfErr, OnErr, if◌then◌else◌}
 use Rattle.std.proofs.lemmas.List.Elements.{All-weaker}
-use Rattle.std.proofs.lemmas.List.Sums.{fold-append}
 use Rattle.ti_types.specs.declared.error.TiError.{TiError}
 use Rattle.ti_types.specs.declared.limits.Limits.{Limits}
 use Rattle.ti_types.specs.declared.numbers.EnvNo.{EnvNo}
 use Rattle.ti_types.specs.declared.numbers.ThreadNo.{ThreadNo}
-use Rattle.ti_agent.specs.Desks.{with_desk}
-use Rattle.ti_agent.specs.Env.{Environment}
 use Rattle.ti_agent.specs.FreeDesk.{FreeState}
 use Rattle.ti_roster.specs.declared.coming.Coming.{Coming}
 use Rattle.ti_roster.specs.declared.coming.Coming.TheVariants.{Attached, Came, Disposed, Ended, Stop}
@@ -28,9 +23,8 @@ use Rattle.ti_roster.specs.View.{AreWithin, holding, stored}
 use Rattle.ti_roster.specs.declared.view.RosterView.{RosterView}
 use Rattle.ti_roster.proofs.Moving.{MayBe, may_add, may_attach, may_dispose, may_meet_any, may_stay, other_env, own_then}
 use Rattle.ti_roster.proofs.Returning.{backs_own}
-use Rattle.ti_service.specs.Agent.{AgentState, Meets, MeetsSome, Moved, knowing}
 use Rattle.ti_service.proofs.Homes.{own_later}
-use Rattle.ti_service.specs.Service.{Base, Holds, Member, TakesDesks, member_in}
+use Rattle.ti_service.specs.Service.{Base, Member, TakesDesks, member_in}
 
 -- what a handle's seat knows is what the handle knows
 pub seat_view : (cell : Base) (o : Option Sitting) (s : Sitting) (m : Member) → member_in cell o ≡ m → o ≡ Some s → s.view ≡ m.view
@@ -137,63 +131,6 @@ disposed_begins (Some e) r r' desks is may gone =
 pub leave_begins : {V : Type 0} (r r' : Log) (desks : List FreeState) (res : Result (Unit {0}) V) → All (λ f. MayGoBack r f) desks → OnOk res (HasDisposedOf r.user r r' desks) → OnErr res (r' ≡ r) → Begins r'.items r.items
 leave_begins r r' desks (Ok d) may gone same = disposed_begins r.user r r' desks refl may gone
 leave_begins r r' desks (Err e) may gone same = ([], ap (λ (x : Log). x.items) same ∙ sym (append-nil r.items))
-
--- Desks that wait
-
-pub reverse_twice : {A : Type 0} (l : List A) → reverse (reverse l) ≡ l
-reverse_twice [] = refl
-reverse_twice (x ∷ l) = ap reverse (reverse-append (x ∷ []) l) ∙ (reverse-append (reverse l) (x ∷ []) ∙ ap (λ k. x ∷ k) (reverse_twice l))
-
--- one desk more was added
-pub moved_one : (old at now : AgentState) (f : FreeState) → Moved old at [] → reverse at.waiting ≡ f ∷ reverse now.waiting → now.env ≡ with_desk at.env f → Moved old now []
-moved_one old at now f m back is = record {
-  added = m.added ++ f ∷ [];
-  all = m.all ∙ (ap (λ l. m.added ++ l) back ∙ sym (append_assoc m.added (f ∷ []) (reverse now.waiting)));
-  env = is ∙ (ap (λ (s : Environment). with_desk s f) m.env ∙ sym (fold-append with_desk old.env m.added (f ∷ [])));
-}
-
--- these waited after those that had waited before
-pub moved_on : (old mid more_of new : AgentState) (more : List FreeState) → Moved old mid [] → mid.waiting ≡ [] → more_of.env ≡ mid.env → more_of.waiting ≡ reverse more → Moved more_of new [] → Moved old new more
-moved_on old mid more_of new more m none env waits n = record {
-  added = m.added ++ n.added;
-  all =
-      ap (λ l. l ++ more) (sym (append-nil (reverse old.waiting)) ∙ (m.all ∙ (ap (λ l. m.added ++ reverse l) none ∙ append-nil m.added)))
-      ∙ (ap (λ l. m.added ++ l) (sym (ap reverse waits ∙ reverse_twice more) ∙ (sym (append-nil (reverse more_of.waiting)) ∙ n.all)) ∙ sym (append_assoc m.added n.added (reverse new.waiting)));
-  env = n.env ∙ (ap (λ (s : Environment). fold with_desk s n.added) (env ∙ m.env) ∙ sym (fold-append with_desk old.env m.added n.added));
-}
-
--- A meeting: the desks that waited were added, the new ones were taken, and some of them were added
-pub meets_some : (old first taken new : AgentState) (desks : List FreeState) (next : ℕ) → Moved old first [] → first.service ≡ old.service → first.waiting ≡ [] → taken.env ≡ first.env → taken.waiting ≡ reverse desks
-    → TakesDesks first.service.view taken.service.view desks next → Moved taken new [] → new.service ≡ taken.service → new.service.cell ≡ old.service.cell → (k : MeetsSome old new) × (next ≡ threads_in k.found)
-meets_some old first taken new desks next m same none env waits t n service cell =
-    let left = subst (λ (x : Member). AreLeft t.found x.view.limits t.env (live t.found) desks) same t.desks_are in (
-      record {
-        env = t.env;
-        place = ap (λ (x : Member). x.view.place) (sym same) ∙ t.place;
-        cell = cell;
-        found = t.found;
-        hold = subst (λ (x : Member × Member). Holds x.0.view x.1.view t.found (meeting t.env t.found)) (λ j. (same j, sym service j)) t.hold;
-        taken = desks;
-        left = left;
-        moved = moved_on old first taken new desks m none env waits n;
-      },
-      t.next_is,
-    )
-
--- all of them were added
-pub meets_all : (old new last : AgentState) → (k : MeetsSome old new) → new.waiting ≡ [] → last.service ≡ new.service → last.waiting ≡ [] → last.env ≡ knowing new.env (threads_in k.found) → Meets old last
-meets_all old new last k none service last_none env =
-    let added : k.moved.added ≡ reverse old.waiting ++ k.taken = sym (k.moved.all ∙ (ap (λ (l : List FreeState). k.moved.added ++ reverse l) none ∙ append-nil k.moved.added)) in record {
-      env = k.env;
-      place = k.place;
-      cell = ap (λ (x : Member). x.cell) service ∙ k.cell;
-      found = k.found;
-      hold = subst (λ (x : Member). Holds old.service.view x.view k.found (meeting k.env k.found)) (sym service) k.hold;
-      taken = k.taken;
-      left = k.left;
-      env_is = env ∙ ap (λ (s : Environment). knowing s (threads_in k.found)) (k.moved.env ∙ ap (λ (l : List FreeState). fold with_desk old.env l) added);
-      none_waits = last_none;
-    }
 
 pub if_err : {A E : Type 0} (P : E → Type 0) (r : Result A E) (e : E) → r ≡ Err e → P e → IfErr r P
 if_err P r e is p = subst (λ x. IfErr x P) (sym is) p

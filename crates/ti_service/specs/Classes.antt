@@ -17,3 +17,4 @@ pub record SeesClasses (old new : AgentValue) : Type 0 where
   pub env : new.env ≡ old.env
   pub waiting : new.home.waiting ≡ old.home.waiting
   pub events : new.home.events ≡ old.home.events
+  pub unmet : new.home.unmet ≡ old.home.unmet

@@ -1,5 +1,5 @@
 -- An agent that lets go of threads that were given back.
-use Rattle.std.specs.Prelude.{ℕ, zero, suc, ◌≡◌, ◌<◌, ◌≤◌, Bool, true, false, length}
+use Rattle.std.specs.Prelude.{ℕ, zero, suc, ◌≡◌, ◌<◌, ◌≤◌, Bool, true, false, length, List, [], ◌∷◌}
 use Rattle.ti_types.specs.declared.numbers.ThreadNo.{ThreadNo}
 use Rattle.ti_agent.specs.Desks.{IsTaken}
 use Rattle.ti_agent.specs.Env.{outstanding, place_in, thread_at}
@@ -14,10 +14,18 @@ pub data LetsGo (old new : AgentState) (t : ThreadNo) (gone : Bool) : Type 0 whe
   CallsOut : gone ≡ false → 0 < outstanding old.env t → new ≡ old → LetsGo old new t gone
   StillThere : gone ≡ false → Looks old.service.view new.service.view → IsSameBut old new → is_live t new.service.view.seen ≡ true → LetsGo old new t gone
   NoDesk : gone ≡ false → Looks old.service.view new.service.view → IsSameBut old new → length old.env.desks ≤ place_in old.env.desks t → LetsGo old new t gone
-  Gone : gone ≡ true → outstanding old.env t ≡ 0 → Looks old.service.view new.service.view → new.service.cell ≡ old.service.cell → new.waiting ≡ old.waiting → new.events ≡ old.events → is_live t new.service.view.seen ≡ false
+  Gone : gone ≡ true → outstanding old.env t ≡ 0 → Looks old.service.view new.service.view → new.service.cell ≡ old.service.cell → new.waiting ≡ old.waiting → new.events ≡ old.events → new.unmet ≡ old.unmet → is_live t new.service.view.seen ≡ false
       → (f : FreeState) → IsTaken old.env new.env t f → LetsGo old new t gone
 
 -- the same for the desks before an index, the last one first
 abbrev pub LetsGoBelow : ℕ → AgentState → AgentState → Type 0
 LetsGoBelow zero old new = new ≡ old
 LetsGoBelow (suc n) old new = (mid : AgentState) × (gone : Bool) × LetsGo old mid (thread_at old.env.desks n) gone × LetsGoBelow n mid new
+
+-- some threads, one after another
+abbrev pub LetsGoOfEach : List ThreadNo → AgentState → AgentState → Type 0
+LetsGoOfEach [] old new = new ≡ old
+LetsGoOfEach (t ∷ threads) old new = (mid : AgentState) × (gone : Bool) × LetsGo old mid t gone × LetsGoOfEach threads mid new
+
+abbrev pub LetsGoOfSome : AgentState → AgentState → Type 0
+LetsGoOfSome old new = (threads : List ThreadNo) × LetsGoOfEach threads old new

@@ -4,6 +4,7 @@ pub mod Telling
 pub mod Homes
 pub mod Leaving
 pub mod LettingGo
+pub mod Meeting
 pub mod Memberships
 pub mod Classes
 pub mod Stops

@@ -10,7 +10,7 @@ AgentValue = Housed Membership
 
 -- what it has, side by side
 abbrev pub state_of : AgentValue → AgentState
-state_of a = record { service = a.home.service; env = a.env; waiting = a.home.waiting.items; events = a.home.events }
+state_of a = record { service = a.home.service; env = a.env; waiting = a.home.waiting.items; events = a.home.events; unmet = a.home.unmet }
 
 -- a trace of several threads that an agent makes step by step
 abbrev pub TraceValue : Type 0

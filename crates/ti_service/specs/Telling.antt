@@ -9,7 +9,7 @@ use Rattle.ti_service.specs.Service.{Looks}
 
 -- the agent that is to be told of the event with this index next, or of none
 abbrev pub with_events : AgentState → Option ℕ → AgentState
-with_events a events = record { service = a.service; env = a.env; waiting = a.waiting; events = events }
+with_events a events = record { service = a.service; env = a.env; waiting = a.waiting; events = events; unmet = a.unmet }
 
 -- One hold, from which on the agent is told what happens: what had happened before is not told
 pub record Enables (old new : AgentState) : Type 0 where
@@ -18,6 +18,7 @@ pub record Enables (old new : AgentState) : Type 0 where
   pub env : new.env ≡ old.env
   pub waiting : new.waiting ≡ old.waiting
   pub events : new.events ≡ Some (length (life_of new.service.view.seen))
+  pub unmet : new.unmet ≡ old.unmet
 
 -- the index behind the event that was told
 abbrev pub index_after : ℕ → Option NextEvent → ℕ
@@ -34,6 +35,7 @@ pub record Tells (from : ℕ) (old new : AgentState) (told : Option NextEvent) :
   pub told_is : told ≡ next_event (life_of new.service.view.seen) from
   pub events : new.events ≡ Some (index_after from told)
   pub order : AreInOrder (life_of new.service.view.seen)
+  pub unmet : new.unmet ≡ old.unmet
 
 -- an agent whose events are disabled is told of none
 abbrev pub TellsFrom : Option ℕ → AgentState → AgentState → Option NextEvent → Type 0

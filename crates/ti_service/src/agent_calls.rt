@@ -1,7 +1,8 @@
 //! What an agent does at its service.
 
 use crate::agent::Agent;
-use crate::agent_desks::{add_waiting, last_thread};
+use crate::agent_desks::last_thread;
+use crate::agent_meetings::{add_all, begin_meeting, end_meeting, take_desks};
 use crate::membership::Membership;
 use crate::service::Service;
 use std::alloc::Global;
@@ -21,15 +22,19 @@ pub trait ServiceCalls {
     /// Meets the threads that came since the agent last met them, and are there: from now on the environment has a desk at
     /// each. Its calls at a number that was a thread, and has no desk, are answered 15 from now on.
     ///
+    /// The environment has desks at 65,536 threads at most. If there is no room for one more, the meeting lets go of all threads
+    /// that were given back, as `let_go_of_all` does, and goes on. As long as there is room it lets go of none.
+    ///
     /// The error is the first of these that fits:
     ///
     /// - 103 ILLEGAL_ARGUMENT: a desk's number is not above those before it. The service gives no such desk. But its list
     ///   does not say so yet, so the contract allows it.
-    /// - 216 `Full` (this profile): the environment has a desk at 65,536 threads, or there were 2^62 - 1 comings and goings in
-    ///   all.
+    /// - 216 `Full` (this profile): the environment has a desk at 65,536 threads, and at each of them a call of the agent's is
+    ///   out or the thread is there. Or there were 2^62 - 1 comings and goings in all.
     /// - 110 OUT_OF_MEMORY: there is no memory for the desks.
     ///
-    /// Then no desk is lost: those that could not be added are added by the next meeting.
+    /// Then no desk is lost: those that could not be added are added by the next meeting. `has_news` says yes until a meeting
+    /// succeeds.
     fn meet<R: Wait>(&mut self, rt: &R, alloc: Global) -> Result<(), TiError>;
 
     /// GetAllThreads (JVM TI 11), as a service's handle gives it.
@@ -118,6 +123,7 @@ pub trait ServiceCalls {
 fn clear<R: Wait>(agent: &mut Agent, rt: &R, alloc: Global) -> Result<(), TiError>
     ensures service { agent.new.home.service ≡ agent.old.home.service }
     ensures events { agent.new.home.events ≡ agent.old.home.events }
+    ensures unmet { agent.new.home.unmet ≡ agent.old.home.unmet }
     ensures cleared { Clears (state_of agent.old) (state_of agent.new) }
     ensures done { OnOk result (agent.new.env.desks ≡ []) }
     ensures memory { IfErr result (λ e. e ≡ OutOfMemory) }
@@ -146,14 +152,12 @@ impl ServiceCalls for Env<Membership> {
     fn meet<R: Wait>(&mut self, rt: &R, alloc: Global) -> Result<(), TiError>
         ensures met { OnOk result (Meets (state_of self.old) (state_of self.new)) }
         ensures kept { IfErr result (λ e. Keeps (state_of self.old) (state_of self.new) e) }
-        ensures events { self.new.home.events ≡ self.old.home.events }
     {
-        add_waiting(self)?;
-        let (desks, next) = self.home.service.meet(rt, alloc)?;
-        self.home.waiting = desks;
-        self.home.waiting.reverse();
-        add_waiting(self)?;
-        self.know_threads(u64::from(next));
+        begin_meeting(self);
+        add_all(self, rt)?;
+        let next = take_desks(self, rt, alloc)?;
+        add_all(self, rt)?;
+        end_meeting(self, next);
         Ok(())
     }
 
@@ -247,6 +251,7 @@ impl ServiceCalls for Env<Membership> {
         ensures refused { IfErr result (λ r. (r.0 ≡ OutOfMemory) ⊎ (r.0 ≡ Full)) }
         ensures kept { IfErr result (λ r. StaysOn (state_of self) (state_of r.1) r.0) }
         ensures events { IfErr result (λ r. r.1.home.events ≡ self.home.events) }
+        ensures unmet { IfErr result (λ r. r.1.home.unmet ≡ self.home.unmet) }
     {
         match clear(&mut self, rt, alloc) {
             Ok(()) => (),
@@ -257,6 +262,7 @@ impl ServiceCalls for Env<Membership> {
             mut service,
             waiting,
             events,
+            unmet,
         } = home;
         match service.leave(rt, waiting) {
             Ok(()) => Ok(service),
@@ -265,6 +271,7 @@ impl ServiceCalls for Env<Membership> {
                     service,
                     waiting,
                     events,
+                    unmet,
                 };
                 Err((error, Env::come_home(home, env)))
             }
@@ -277,8 +284,9 @@ ghost use Rattle.ti_types.specs.declared.error.TiError.TheVariants.{Full, OutOfM
 ghost use Rattle.ti_roster.specs.Log.{live};
 ghost use Rattle.ti_roster.specs.Roster.{IsToldOf, info_refusal};
 ghost use Rattle.ti_service.specs.Service.{Looks, roster_seen};
-ghost use Rattle.ti_service.specs.Agent.{IsSameBut, Keeps, Meets};
+ghost use Rattle.ti_service.specs.Agent.{IsSameBut};
 ghost use Rattle.ti_service.specs.Leaving.{Clears, Disposes, StaysOn};
 ghost use Rattle.ti_service.specs.LettingGo.{LetsGo, LetsGoBelow};
+ghost use Rattle.ti_service.specs.Meeting.{Keeps, Meets};
 ghost use Rattle.ti_service.specs.Memberships.{state_of};
 ghost use Rattle.ti_service.specs.Telling.{Enables, TellsInTime, TellsNext, with_events};

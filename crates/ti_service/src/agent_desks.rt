@@ -5,9 +5,7 @@ use ti_types::{ThreadNo, TiError};
 
 /// Adds the desks that wait to the environment, the lowest number first.
 pub(crate) fn add_waiting(agent: &mut Agent) -> Result<(), TiError>
-    ensures service { agent.new.home.service ≡ agent.old.home.service }
-    ensures events { agent.new.home.events ≡ agent.old.home.events }
-    ensures moved { Moved (state_of agent.old) (state_of agent.new) [] }
+    ensures adds { Adds (state_of agent.old) (state_of agent.new) }
     ensures done { OnOk result (agent.new.home.waiting.items ≡ []) }
     ensures refused { IfErr result (λ e. IsWhyNot (state_of agent.new) e) }
 {
@@ -37,5 +35,6 @@ pub(crate) fn last_thread(agent: &Agent) -> Option<ThreadNo>
 
 ghost use Rattle.std.specs.Prelude.{◌≡◌, ◌<◌, [], length, IfErr, IfSome, IfNone, OnOk};
 ghost use Rattle.ti_agent.specs.Env.{place_in};
-ghost use Rattle.ti_service.specs.Agent.{IsWhyNot, Moved};
+ghost use Rattle.ti_service.specs.Agent.{IsWhyNot};
+ghost use Rattle.ti_service.specs.Meeting.{Adds};
 ghost use Rattle.ti_service.specs.Memberships.{state_of};

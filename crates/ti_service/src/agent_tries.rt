@@ -1,7 +1,8 @@
 //! What an agent does at its service, without a wait.
 
 use crate::agent::Agent;
-use crate::agent_desks::{add_waiting, last_thread};
+use crate::agent_desks::last_thread;
+use crate::agent_meetings::{add_all_now, begin_meeting, end_meeting, take_desks_now};
 use crate::membership::Membership;
 use crate::service::Service;
 use std::alloc::Global;
@@ -14,17 +15,18 @@ use ti_types::{ThreadNo, TiError};
 /// library that may not do so uses this trait alone.
 pub trait ServiceTries {
     /// Whether threads or environments have come or gone, or another agent has met threads that came, since this one last held
-    /// the list. It is one load, and true exactly if more had happened at that load than the agent has seen. Attaching holds
-    /// the list too, so an agent meets once without news. Nothing changes but that its handle has looked.
+    /// the list, or the agent's last meeting failed. It is one load, and true exactly if more had happened at that load than the
+    /// agent has seen, or no meeting has succeeded since one failed. Attaching holds the list too, so an agent meets once without
+    /// news. Nothing changes but that its handle has looked.
     fn has_news(&mut self) -> bool;
 
     /// Meets the threads that came since the agent last met them, as `meet` does.
     ///
-    /// The error is the first of these that fits:
+    /// The error is one of these. No desk is lost, and `has_news` says yes until a meeting succeeds.
     ///
-    /// - 103 ILLEGAL_ARGUMENT, 110 OUT_OF_MEMORY, 216 `Full` (this profile): as for `meet`. No desk is lost.
-    /// - 215 `Busy` (this profile): the roster is in use. Desks that waited are the environment's now. Nothing else has
-    ///   changed.
+    /// - 103 ILLEGAL_ARGUMENT, 110 OUT_OF_MEMORY, 216 `Full` (this profile): as for `meet`.
+    /// - 215 `Busy` (this profile): the roster is in use. Desks that waited are the environment's now. If it was in use while
+    ///   the agent let go of threads, some of them were let go of, and some desks wait.
     fn meet_now(&mut self, alloc: Global) -> Result<(), TiError>;
 
     /// GetAllThreads (JVM TI 11), as a service's handle gives it by `get_all_threads_now`.
@@ -42,6 +44,11 @@ pub trait ServiceTries {
     /// The error is 215 `Busy` (this profile) if no call of the agent's is out there, and the roster is in use. Then nothing
     /// changes.
     fn let_go_now(&mut self, thread: ThreadNo) -> Result<bool, TiError>;
+
+    /// Lets go of all threads that were given back, as `let_go_of_all` does.
+    ///
+    /// The error is 215 `Busy` (this profile) if the roster is in use. Then some of them were let go of.
+    fn let_go_of_all_now(&mut self) -> Result<(), TiError>;
 
     /// SetEventNotificationMode (JVM TI 11), as `set_event_notification_mode` sets it.
     ///
@@ -90,6 +97,7 @@ fn settle_each_now(agent: &mut Agent, alloc: Global) -> Result<(), TiError>
 fn clear_now(agent: &mut Agent, alloc: Global) -> Result<(), TiError>
     ensures service { agent.new.home.service ≡ agent.old.home.service }
     ensures events { agent.new.home.events ≡ agent.old.home.events }
+    ensures unmet { agent.new.home.unmet ≡ agent.old.home.unmet }
     ensures cleared { Clears (state_of agent.old) (state_of agent.new) }
     ensures done { OnOk result (agent.new.env.desks ≡ []) }
     ensures refused { IfErr result (λ e. (e ≡ OutOfMemory) ⊎ (e ≡ Busy)) }
@@ -106,23 +114,21 @@ fn clear_now(agent: &mut Agent, alloc: Global) -> Result<(), TiError>
 
 impl ServiceTries for Env<Membership> {
     fn has_news(&mut self) -> bool
-        ensures rest { IsSameBut (state_of self.old) (state_of self.new) }
-        ensures tells { TellsNews self.old.home.service self.new.home.service result }
+        ensures tells { TellsAgentNews (state_of self.old) (state_of self.new) result }
     {
-        self.home.service.has_news()
+        let looked = self.home.service.has_news();
+        looked || self.home.unmet
     }
 
     fn meet_now(&mut self, alloc: Global) -> Result<(), TiError>
         ensures met { OnOk result (Meets (state_of self.old) (state_of self.new)) }
-        ensures kept { IfErr result (λ e. Keeps (state_of self.old) (state_of self.new) e ⊎ ((e ≡ Busy) × AddsWaiting (state_of self.old) (state_of self.new))) }
-        ensures events { self.new.home.events ≡ self.old.home.events }
+        ensures kept { IfErr result (λ e. KeepsNow (state_of self.old) (state_of self.new) e) }
     {
-        add_waiting(self)?;
-        let (desks, next) = self.home.service.meet_now(alloc)?;
-        self.home.waiting = desks;
-        self.home.waiting.reverse();
-        add_waiting(self)?;
-        self.know_threads(u64::from(next));
+        begin_meeting(self);
+        add_all_now(self)?;
+        let next = take_desks_now(self, alloc)?;
+        add_all_now(self)?;
+        end_meeting(self, next);
         Ok(())
     }
 
@@ -162,6 +168,21 @@ impl ServiceTries for Env<Membership> {
         Ok(self.take_desk(thread).is_some())
     }
 
+    fn let_go_of_all_now(&mut self) -> Result<(), TiError>
+        ensures steps { OnOk result (LetsGoBelow (length self.old.env.desks) (state_of self.old) (state_of self.new)) }
+        ensures busy { IfErr result (λ e. (e ≡ Busy) × LetsGoOfSome (state_of self.old) (state_of self.new)) }
+    {
+        let mut index = self.desk_count();
+        while index > 0 {
+            index -= 1;
+            let Some(thread) = self.thread_at(index) else {
+                unreachable!()
+            };
+            let _gone = self.let_go_now(thread)?;
+        }
+        Ok(())
+    }
+
     fn set_event_notification_mode_now(&mut self, enabled: bool) -> Result<(), TiError>
         ensures disables { OnOk result (enabled ≡ false → state_of self.new ≡ with_events (state_of self.old) None) }
         ensures stays { OnOk result (enabled ≡ true → is_some self.old.home.events ≡ true → self.new ≡ self.old) }
@@ -194,6 +215,7 @@ impl ServiceTries for Env<Membership> {
         ensures disposed { IfOk result (λ s. Disposes (state_of self) s) }
         ensures kept { IfErr result (λ r. StaysOn (state_of self) (state_of r.1) r.0) }
         ensures events { IfErr result (λ r. r.1.home.events ≡ self.home.events) }
+        ensures unmet { IfErr result (λ r. r.1.home.unmet ≡ self.home.unmet) }
     {
         match settle_each_now(&mut self, alloc) {
             Ok(()) => (),
@@ -208,6 +230,7 @@ impl ServiceTries for Env<Membership> {
             mut service,
             waiting,
             events,
+            unmet,
         } = home;
         match service.leave_now(waiting) {
             Ok(()) => Ok(service),
@@ -216,6 +239,7 @@ impl ServiceTries for Env<Membership> {
                     service,
                     waiting,
                     events,
+                    unmet,
                 };
                 Err((error, Env::come_home(home, env)))
             }
@@ -223,13 +247,14 @@ impl ServiceTries for Env<Membership> {
     }
 }
 
-ghost use Rattle.std.specs.Prelude.{◌≡◌, ◌⊎◌, true, false, [], is_some, map, None, IfOk, IfErr, OnOk};
+ghost use Rattle.std.specs.Prelude.{◌≡◌, ◌⊎◌, true, false, [], is_some, length, map, None, IfOk, IfErr, OnOk};
 ghost use Rattle.ti_types.specs.declared.error.TiError.TheVariants.{Busy, OutOfMemory};
 ghost use Rattle.ti_roster.specs.Log.{live};
 ghost use Rattle.ti_roster.specs.Roster.{IsToldOf};
-ghost use Rattle.ti_service.specs.Service.{Looks, RefusesInfo, TellsNews, roster_seen};
-ghost use Rattle.ti_service.specs.Agent.{AddsWaiting, IsSameBut, Keeps, Meets};
+ghost use Rattle.ti_service.specs.Service.{Looks, RefusesInfo, roster_seen};
+ghost use Rattle.ti_service.specs.Agent.{IsSameBut};
 ghost use Rattle.ti_service.specs.Leaving.{Clears, Disposes, Quiets, StaysOn};
-ghost use Rattle.ti_service.specs.LettingGo.{LetsGo};
+ghost use Rattle.ti_service.specs.LettingGo.{LetsGo, LetsGoBelow, LetsGoOfSome};
+ghost use Rattle.ti_service.specs.Meeting.{TellsAgentNews, KeepsNow, Meets};
 ghost use Rattle.ti_service.specs.Memberships.{state_of};
 ghost use Rattle.ti_service.specs.Telling.{Enables, TellsNext, with_events};

@@ -8,7 +8,8 @@
 //! has an environment's calls. It promises:
 //!
 //! - No two threads have one number, and none is used again.
-//! - An environment that meets the threads has a desk at each thread that came since it last did and is still there.
+//! - An environment that meets the threads has a desk at each thread that came since it last did and is still there. If it has no
+//!   room for one, it lets go of threads that were given back.
 //! - A desk at a thread is at the cell that the thread itself has, from the day it was attached.
 //! - An agent's calls reach threads of its own service alone.
 //! - An agent that makes a trace of several threads step by step comes back at its end, with what was read.
@@ -23,6 +24,7 @@ mod agent;
 mod agent_calls;
 mod agent_classes;
 mod agent_desks;
+mod agent_meetings;
 mod agent_stops;
 mod agent_tries;
 mod laws;

@@ -61,6 +61,7 @@ impl Service {
             service,
             waiting: Vec::new(alloc),
             events: None,
+            unmet: false,
         };
         Ok(Env::at_home(alloc, home, env, limits))
     }

@@ -88,13 +88,14 @@ impl Environment {
     // SAFETY of all calls below: the environment is borrowed, so that this call alone uses the handle. Each pointer
     // leads to memory of the size that is given, which nothing else leads to.
 
-    /// Meets the threads that were attached since it last did. Its calls reach these from now on.
+    /// Meets the threads that were attached since it last did. Its calls reach these from now on. If it has met 65,536 threads, it
+    /// first lets go of those that were given back.
     pub fn meet(&mut self) -> Result<(), Error> {
         checked(unsafe { sys::cq_wait_meet(self.at(), self.signal.at()) })
     }
 
     /// Whether threads or environments have come or gone, or another environment has met threads that came, since it last
-    /// looked. It is one load. An environment that was just attached has looked, and has met no thread: it meets once
+    /// looked, or its last meeting failed. It is one load. An environment that was just attached has looked, and has met no thread: it meets once
     /// without news.
     pub fn has_news(&mut self) -> bool {
         unsafe { sys::cq_has_news(self.at()) }

@@ -9,4 +9,4 @@ returns-in-Ok c = DisposedIn c.in-Some.agent c.in-Ok._service refl (sym c.take.e
 pub returns-in-Err : goal.returns-in-Err
 returns-in-Err c =
     let e = c.in-Err.ensures in
-    StaysIn c.in-Some.agent c.in-Err.agent c.in-Err.error c.number.ensures (sym c.take.ensures.value ∙ c.in-Some.is) refl e.kept e.events
+    StaysIn c.in-Some.agent c.in-Err.agent c.in-Err.error c.number.ensures (sym c.take.ensures.value ∙ c.in-Some.is) refl e.kept (e.events, e.unmet)

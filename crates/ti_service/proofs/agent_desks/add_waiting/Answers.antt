@@ -10,7 +10,7 @@ use Rattle.ti_service.specs.Homes.{AreOursOf}
 use Rattle.ti_service.specs.Memberships.{state_of}
 use Rattle.ti_service.specs.declared.membership.Membership.{Membership}
 use Rattle.ti_service.proofs.Homes.{last_ours, ours_of, why_not}
-use Rattle.ti_service.proofs.Moves.{moved_one}
+use Rattle.ti_service.proofs.Meetings.{adds_one}
 use Rattle.ti_service.proofs.agent_desks.add_waiting.Goals.{After-pop}
 use Rattle.ti_service.proofs.agent_desks.add_waiting.Goals as goal
 
@@ -36,11 +36,10 @@ loop-desk-preserved c =
     let home = c.add_desk.ensures.home in
     let was = c.agent.view_is in
     let back : reverse c.loop-desk.agent.home.waiting.items ≡ f ∷ reverse c.add_desk.new.self.home.waiting.items =
-    ap (λ (x : Housed Membership). reverse x.home.waiting.items) (sym was) ∙ (ap reverse left ∙ (reverse-append rest (f ∷ []) ∙ ap (λ (m : Membership). f ∷ reverse m.waiting.items) (sym home))) in (
-      ap (λ (m : Membership). m.service) home ∙ (ap (λ (x : Housed Membership). x.home.service) was ∙ c.loop-desk.invariant.0),
-      moved_one _ (state_of c.loop-desk.agent) (state_of c.add_desk.new.self) f c.loop-desk.invariant.1 back (c.in-Ok.ensures.added ∙ ap (λ (x : Housed Membership). with_desk x.env f) was),
-      ap (λ (m : Membership). m.events) home ∙ (ap (λ (x : Housed Membership). x.home.events) was ∙ c.loop-desk.invariant.2),
-    )
+    ap (λ (x : Housed Membership). reverse x.home.waiting.items) (sym was) ∙ (ap reverse left ∙ (reverse-append rest (f ∷ []) ∙ ap (λ (m : Membership). f ∷ reverse m.waiting.items) (sym home))) in
+    adds_one _ (state_of c.loop-desk.agent) (state_of c.add_desk.new.self) f c.loop-desk.invariant back (c.in-Ok.ensures.added ∙ ap (λ (x : Housed Membership). with_desk x.env f) was)
+    (ap (λ (m : Membership). m.service) home ∙ ap (λ (x : Housed Membership). x.home.service) was) (ap (λ (m : Membership). m.events) home ∙ ap (λ (x : Housed Membership). x.home.events) was)
+    (ap (λ (m : Membership). m.unmet) home ∙ ap (λ (x : Housed Membership). x.home.unmet) was)
 
 pub returns-in-Err-clause-refused : goal.returns-in-Err-clause-refused
 returns-in-Err-clause-refused c =

@@ -61,11 +61,12 @@ loop-thread-preserved c =
     let home = c.in_ok-desk.ensures.home in
     let env = ap (λ (x : Housed Membership). x.env) was in
     let env' = ap (λ (x : Housed Membership). x.env) is in
-    let last : Housed Membership = record { home = record { service = now.home.service; waiting = c.push_reserved.new.self; events = now.home.events }; env = t } in (
+    let last : Housed Membership = record { home = record { service = now.home.service; waiting = c.push_reserved.new.self; events = now.home.events; unmet = now.home.unmet }; env = t } in (
       ap (λ (x : Housed Membership). x.home.service) is ∙ (ap (λ (m : Membership). m.service) home ∙ (ap (λ (x : Housed Membership). x.home.service) was ∙ c.loop-thread.invariant.0)),
       clears_more (state_of c.args.agent.now) (state_of c.loop-thread.agent) (state_of last) c.in-Some.thread c.in-Some-2.desk c.loop-thread.invariant.1
           (subst (λ (x : Environment × Environment). Retires x.0 x.1 c.in-Some.thread c.in-Some-2.desk) (λ j. (env j, sym env' j)) (cleared here)) (waits here ∙ ap (λ (x : Housed Membership). x.home.waiting.items ++ c.in-Some-2.desk ∷ []) was),
       ap (λ (x : Housed Membership). x.home.events) is ∙ (ap (λ (m : Membership). m.events) home ∙ (ap (λ (x : Housed Membership). x.home.events) was ∙ c.loop-thread.invariant.2)),
+      ap (λ (x : Housed Membership). x.home.unmet) is ∙ (ap (λ (m : Membership). m.unmet) home ∙ (ap (λ (x : Housed Membership). x.home.unmet) was ∙ c.loop-thread.invariant.3)),
     )
 
 pub returns-in_err-desk-clause-cleared : goal.returns-in_err-desk-clause-cleared

@@ -51,7 +51,7 @@ returns-in-Err-leave_now-clause-kept c =
     let home = c.leave_home-home.ensures.home in
     let e = c.in-Err-leave_now.error in
     let now : Member = c.leave_now.new.self in
-    let new : AgentValue = record { home = record { service = now; waiting = c.in-Err-leave_now.waiting; events = m.events }; env = c.leave_home-home.result.1.env } in
+    let new : AgentValue = record { home = record { service = now; waiting = c.in-Err-leave_now.waiting; events = m.events; unmet = m.unmet }; env = c.leave_home-home.result.1.env } in
     let why = subst (λ (x : Membership). (((e ≡ Full) × (most_items ≤ length now.view.seen + length x.waiting.items)) × Looks x.service.view now.view) ⊎ ((e ≡ Busy) × (now ≡ x.service))) home left.refused in
     subst (λ (x : AgentValue). StaysOn (state_of c.args.self) (state_of x) e) (sym c.come_home.ensures)
     (not_left (state_of c.args.self) (state_of c.clear_now.new.agent) (state_of new) e (clears c.args.self c.settle_each_now.new.agent c.clear_now.new.agent first.quiets first.home next.cleared)

@@ -8,4 +8,4 @@ invariant_of-self c =
     let s : Environment = record { env = at.env; state = at.state; desks = at.desks } in
     let waits = at.home.waiting.items in
     let ours = ours_of at.home.service s waits c.self.invariant.1.0 c.self.invariant.1.1 in
-    (c.self.invariant.0, home_of_ours c.has_news.new.self s waits (looked_at at.home.service c.has_news.new.self s waits c.has_news.result c.has_news.ensures.tells ours))
+    (c.self.invariant.0, home_of_ours c.has_news-looked.new.self s waits (looked_at at.home.service c.has_news-looked.new.self s waits c.has_news-looked.result c.has_news-looked.ensures.tells ours))

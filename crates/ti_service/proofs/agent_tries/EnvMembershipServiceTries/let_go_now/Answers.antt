@@ -39,7 +39,7 @@ returns-clause-steps c =
     let none : outstanding s c.args.thread ≡ 0 = omega (arith, c.if-out_at-gt0.false, c.out_at.ensures, ap (λ (e : Environment). outstanding e c.args.thread) (same_env c.self.view_is)) in
     let waits = at.home.waiting.items in
     let left = c.take_desk.ensures in
-    let goes_on = goes (agent_with at.home.service s waits at.home.events) live.new.self c.take_desk.new.self.env c.args.thread c.take_desk.result c.is_some.result c.is_some.ensures none c.in_ok-there.ensures.hold c.in_ok-there.ensures.cell (sym c.in_ok-there.ensures.live ∙ c.if-there.false) left.taken left.nobody (same_if_none _ _ c.take_desk.result left.unchanged) in
+    let goes_on = goes (agent_with at.home.service s waits at.home.events at.home.unmet) live.new.self c.take_desk.new.self.env c.args.thread c.take_desk.result c.is_some.result c.is_some.ensures none c.in_ok-there.ensures.hold c.in_ok-there.ensures.cell (sym c.in_ok-there.ensures.live ∙ c.if-there.false) left.taken left.nobody (same_if_none _ _ c.take_desk.result left.unchanged) in
     let home : Membership = c.take_desk.new.self.home in
-    let from = subst (λ (m : Membership). LetsGo (agent_with at.home.service s waits at.home.events) (agent_with m.service c.take_desk.new.self.env m.waiting.items m.events) c.args.thread c.is_some.result) (sym left.home) goes_on in
+    let from = subst (λ (m : Membership). LetsGo (agent_with at.home.service s waits at.home.events at.home.unmet) (agent_with m.service c.take_desk.new.self.env m.waiting.items m.events m.unmet) c.args.thread c.is_some.result) (sym left.home) goes_on in
     subst (λ (x : Housed Membership). LetsGo (state_of x) (state_of c.take_desk.new.self) c.args.thread c.is_some.result) c.self.view_is from

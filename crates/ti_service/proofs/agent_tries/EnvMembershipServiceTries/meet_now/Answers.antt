@@ -1,70 +1,52 @@
-use Rattle.std.proofs.Common.{rules, ◌≡◌, ◌⊎◌, inl, ℕ, ap, ◌∙◌, subst}
-use Rattle.std.proofs.lemmas.List.Sorted.{All-permutation}
+use Rattle.std.proofs.Common.{rules, ◌≡◌, ◌⊎◌, inl, inr, ap, subst}
 use Rattle.ti_types.specs.declared.error.TiError.{TiError}
 use Rattle.ti_types.specs.declared.error.TiError.TheVariants.{Busy}
-use Rattle.ti_agent.specs.Env.{Environment}
-use Rattle.ti_agent.specs.Home.{Housed}
-use Rattle.ti_roster.specs.Log.{threads_in}
-use Rattle.ti_roster.specs.Roster.{IsOwn}
-use Rattle.ti_service.specs.Agent.{AddsWaiting, AgentState, Keeps, MeetsSome, knowing}
-use Rattle.ti_service.specs.Agent.Keeps.{TookSome}
-use Rattle.ti_service.specs.Memberships.{state_of}
-use Rattle.ti_service.specs.Service.{Member, TakesDesks}
-use Rattle.ti_service.specs.declared.membership.Membership.{Membership}
-use Rattle.ti_service.proofs.Homes.{home_of_ours, ours_of, ours_took}
-use Rattle.ti_service.proofs.Moves.{if_err, meets_all, meets_some}
-use Rattle.ti_service.proofs.Tries.{either_way, looked_home}
+use Rattle.ti_service.specs.Agent.{AgentState}
+use Rattle.ti_service.specs.Meeting.{AddsAll, AddsNot, KeepsNow, StopsAmid, TakesNone}
+use Rattle.ti_service.specs.Memberships.{AgentValue, state_of}
+use Rattle.ti_service.proofs.Meetings.{first_kept, last_kept, took_none}
+use Rattle.ti_service.proofs.Moves.{if_err}
 use Rattle.ti_service.proofs.agent_tries.EnvMembershipServiceTries.meet_now.Goals as goal
 
-pub invariant_of-self : goal.invariant_of-self
-invariant_of-self c =
-    let at = c.self.inside in
-    let s : Environment = record { env = at.env; state = at.state; desks = at.desks } in
-    let waits = at.home.waiting.items in
-    (c.self.invariant.0, looked_home at.home.service c.meet_now.new.self s waits (either_way c.in_err-desks.ensures.refused) c.self.invariant.1)
-
-pub invariant_of-self-2 : goal.invariant_of-self-2
-invariant_of-self-2 c =
-    let at = c.self.inside in
-    let s : Environment = record { env = at.env; state = at.state; desks = at.desks } in
-    let waits = at.home.waiting.items in
-    let back = c.reverse.new.self.items in
-    let o = ours_of at.home.service s waits c.self.invariant.1.0 c.self.invariant.1.1 in (
-      c.self.invariant.0,
-      home_of_ours c.meet_now.new.self s back
-          (ours_took at.home.service c.meet_now.new.self s waits c.in_ok-desks.desks.items back c.in_ok-desks.next c.in_ok-desks.ensures.taken
-          (All-permutation (IsOwn c.meet_now.new.self.view.seen c.meet_now.new.self.view.limits at.env) c.in_ok-desks.desks.items back c.reverse.ensures.permutation) o),
-    )
-
-pub returns-in_err-add_waiting-2-clause-kept : goal.returns-in_err-add_waiting-2-clause-kept
-returns-in_err-add_waiting-2-clause-kept c =
-    let at = c.self.inside in
-    let old : AgentState = state_of c.args.self.now in
-    let first : AgentState = state_of c.add_waiting.new.agent in
-    let taken : AgentState = record { service = c.meet_now.new.self; env = record { env = at.env; state = at.state; desks = at.desks }; waiting = c.reverse.new.self.items; events = at.home.events } in
-    let last : AgentState = state_of c.add_waiting-2.new.agent in
-    let t : TakesDesks first.service.view c.meet_now.new.self.view c.in_ok-desks.desks.items c.in_ok-desks.next =
-    subst (λ (x : Housed Membership). TakesDesks x.home.service.view c.meet_now.new.self.view c.in_ok-desks.desks.items c.in_ok-desks.next) c.self.view_is c.in_ok-desks.ensures.taken in
-    let some : (k : MeetsSome old last) × (c.in_ok-desks.next ≡ threads_in k.found) =
-    meets_some old first taken last c.in_ok-desks.desks.items c.in_ok-desks.next c.in_ok-add_waiting.ensures.moved c.in_ok-add_waiting.ensures.service c.in_ok-add_waiting.ensures.done
-    (ap (λ (x : Housed Membership). x.env) c.self.view_is) c.reverse.ensures.items t c.in_err-add_waiting-2.ensures.moved c.in_err-add_waiting-2.ensures.service
-    (ap (λ (x : Member). x.cell) c.in_err-add_waiting-2.ensures.service ∙ (c.in_ok-desks.ensures.cell ∙ (ap (λ (x : Housed Membership). x.home.service.cell) c.self.view_is ∙ ap (λ (x : Member). x.cell) c.in_ok-add_waiting.ensures.service))) in
-    if_err (λ (e : TiError). Keeps old last e ⊎ ((e ≡ Busy) × AddsWaiting old last)) c.from_residual-in_err-add_waiting-2.result c.in_err-add_waiting-2.field-0.0 (search rules) (inl (TookSome some.0 c.in_err-add_waiting-2.ensures.refused))
-
 pub returns-clause-met : goal.returns-clause-met
-returns-clause-met c =
-    let at = c.self.inside in
+returns-clause-met c = record {
+  first = state_of c.add_all_now.new.agent;
+  adds = subst (λ (a : AgentState). AddsAll a (state_of c.add_all_now.new.agent)) c.begin_meeting.ensures c.in_ok-add_all_now.ensures.added;
+  taken = state_of c.take_desks_now.new.agent;
+  next = c.in_ok-next.next;
+  takes = c.in_ok-next.ensures.taken;
+  last = state_of c.add_all_now-2.new.agent;
+  adds_taken = c.in_ok-add_all_now-2.ensures.added;
+  new_is = c.end_meeting.ensures;
+}
+
+pub returns-in_err-add_all_now-clause-kept : goal.returns-in_err-add_all_now-clause-kept
+returns-in_err-add_all_now-clause-kept c =
     let old : AgentState = state_of c.args.self.now in
-    let first : AgentState = state_of c.add_waiting.new.agent in
-    let taken : AgentState = record { service = c.meet_now.new.self; env = record { env = at.env; state = at.state; desks = at.desks }; waiting = c.reverse.new.self.items; events = at.home.events } in
-    let new : AgentState = state_of c.add_waiting-2.new.agent in
-    let t : TakesDesks first.service.view c.meet_now.new.self.view c.in_ok-desks.desks.items c.in_ok-desks.next =
-    subst (λ (x : Housed Membership). TakesDesks x.home.service.view c.meet_now.new.self.view c.in_ok-desks.desks.items c.in_ok-desks.next) c.self.view_is c.in_ok-desks.ensures.taken in
-    let some : (k : MeetsSome old new) × (c.in_ok-desks.next ≡ threads_in k.found) =
-    meets_some old first taken new c.in_ok-desks.desks.items c.in_ok-desks.next c.in_ok-add_waiting.ensures.moved c.in_ok-add_waiting.ensures.service c.in_ok-add_waiting.ensures.done
-    (ap (λ (x : Housed Membership). x.env) c.self.view_is) c.reverse.ensures.items t c.in_ok-add_waiting-2.ensures.moved c.in_ok-add_waiting-2.ensures.service
-    (ap (λ (x : Member). x.cell) c.in_ok-add_waiting-2.ensures.service ∙ (c.in_ok-desks.ensures.cell ∙ (ap (λ (x : Housed Membership). x.home.service.cell) c.self.view_is ∙ ap (λ (x : Member). x.cell) c.in_ok-add_waiting.ensures.service))) in
-    let below : c.from.result ≡ c.in_ok-desks.next = search rules in
-    let home = c.know_threads.ensures.home in
-    meets_all old new (state_of c.know_threads.new.self) some.0 c.in_ok-add_waiting-2.ensures.done (ap (λ (m : Membership). m.service) home) (ap (λ (m : Membership). m.waiting.items) home ∙ c.in_ok-add_waiting-2.ensures.done)
-    (c.know_threads.ensures.called ∙ ap (λ (n : ℕ). knowing new.env n) (below ∙ some.1))
+    let new : AgentState = state_of c.add_all_now.new.agent in
+    let e : TiError = c.in_err-add_all_now.field-0.0 in
+    if_err (λ (e : TiError). KeepsNow old new e) c.from_residual.result e (search rules)
+    (first_kept old new e (subst (λ (a : AgentState). AddsNot a new e ⊎ ((e ≡ Busy) × StopsAmid a new)) c.begin_meeting.ensures c.in_err-add_all_now.ensures.refused))
+
+pub returns-in_err-next-clause-kept : goal.returns-in_err-next-clause-kept
+returns-in_err-next-clause-kept c =
+    let old : AgentState = state_of c.args.self.now in
+    let first : AgentState = state_of c.add_all_now.new.agent in
+    let new : AgentState = state_of c.take_desks_now.new.agent in
+    let e : TiError = c.in_err-next.field-0.0 in
+    let adds = subst (λ (a : AgentState). AddsAll a first) c.begin_meeting.ensures c.in_ok-add_all_now.ensures.added in
+    if_err (λ (e : TiError). KeepsNow old new e) c.from_residual-in_err-next.result e (search rules) (took_none old first new e adds (as_state c.add_all_now.new.agent c.take_desks_now.new.agent e c.in_err-next.ensures.refused))
+  where
+    as_state : (a b : AgentValue) (e : TiError) → TakesNone (state_of a) (state_of b) e ⊎ ((e ≡ Busy) × (b ≡ a)) → TakesNone (state_of a) (state_of b) e ⊎ ((e ≡ Busy) × (state_of b ≡ state_of a))
+    as_state a b e (inl none) = inl none
+    as_state a b e (inr busy) = inr (busy.0, ap state_of busy.1)
+
+pub returns-in_err-add_all_now-2-clause-kept : goal.returns-in_err-add_all_now-2-clause-kept
+returns-in_err-add_all_now-2-clause-kept c =
+    let old : AgentState = state_of c.args.self.now in
+    let first : AgentState = state_of c.add_all_now.new.agent in
+    let taken : AgentState = state_of c.take_desks_now.new.agent in
+    let new : AgentState = state_of c.add_all_now-2.new.agent in
+    let e : TiError = c.in_err-add_all_now-2.field-0.0 in
+    let adds = subst (λ (a : AgentState). AddsAll a first) c.begin_meeting.ensures c.in_ok-add_all_now.ensures.added in
+    if_err (λ (e : TiError). KeepsNow old new e) c.from_residual-in_err-add_all_now-2.result e (search rules) (last_kept old first taken new c.in_ok-next.next e adds c.in_ok-next.ensures.taken c.in_err-add_all_now-2.ensures.refused)
