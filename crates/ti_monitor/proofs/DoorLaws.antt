@@ -1,24 +1,47 @@
 -- Connections that go on by calls.
 use Rattle.std.proofs.Common.{◌≡◌, ℕ, zero, suc, ◌≤◌, Bool, true, false, List, [], ◌∷◌, length, map, Option, Some, None, refl, sym, ap, subst, ◌∙◌, arith}
+use Rattle.std.specs.String.{string_bytes}
 use Rattle.std.specs.Prelude.{nat_lt, slice_get, slice_set, if◌then◌else◌, Result, Ok, Err, IfErr, OnErr}
 use Rattle.std.specs.Result.{IsErrAnd}
 use Rattle.std.proofs.lemmas.Bool.Decides.{nat_tests}
 use Rattle.ti_http.specs.declared.hosts.Hosts.{Hosts}
 use Rattle.ti_http.specs.Talks.{Talk}
+use Rattle.ti_service.specs.Memberships.{AgentValue}
+use Rattle.ti_monitor.specs.declared.door_desk.Desk.{Desk}
 use Rattle.ti_monitor.specs.declared.door_error.DoorError.{DoorError}
 use Rattle.ti_monitor.specs.declared.door_error.DoorError.TheVariants.{OutOfMemory}
 use Rattle.ti_monitor.specs.declared.door_seat.Seat.{Seat}
-use Rattle.ti_monitor.specs.Doors.{AllRun, Changes, DoorValue, OneRuns, Refuses, TalksRun, door_with, opened_in, talk_at, with_talk}
+use Rattle.ti_monitor.specs.Doors.{AllRun, Changes, DoorValue, GoesOn, OneRuns, Refuses, TalksRun, door_with, opened_in, talk_at, with_talk}
+use Rattle.ti_monitor.specs.Desks.{Keeps}
 use Rattle.ti_monitor.specs.SeatLists.{door_of, seat_at, talk_of, without}
 use Rattle.ti_monitor.specs.Seats.{RunsTo}
 use Rattle.ti_monitor.proofs.SeatLaws.{runs_more, runs_none}
 
 -- ---- what contracts see of the connections
 
-pub talk_at_of : (hosts : Hosts) (seats : List (Option Seat)) (i : ℕ) → talk_at (door_of hosts seats) i ≡ talk_of (seat_at seats i)
-talk_at_of hosts [] i = refl
-talk_at_of hosts (o ∷ seats) zero = refl
-talk_at_of hosts (o ∷ seats) (suc i) = talk_at_of hosts seats i
+pub talk_at_of : (hosts : Hosts) (desk : Desk) (seats : List (Option Seat)) (i : ℕ) → talk_at (door_of hosts seats desk) i ≡ talk_of (seat_at seats i)
+talk_at_of hosts desk [] i = refl
+talk_at_of hosts desk (o ∷ seats) zero = refl
+talk_at_of hosts desk (o ∷ seats) (suc i) = talk_at_of hosts desk seats i
+
+-- the door with these connections
+abbrev pub with_list : Hosts → Desk → List (Option Talk) → DoorValue
+with_list hosts desk talks = door_with hosts talks (string_bytes desk.monitor.program) (string_bytes desk.version) desk.monitor.agent
+
+-- a desk that keeps what it tells leaves all but the environment
+pub desk_on : (hosts : Hosts) (old new : Desk) (seats : List (Option Seat)) (d : DoorValue) → door_of hosts seats old ≡ d → Keeps old new
+    → door_of hosts seats new ≡ record d { agent = new.monitor.agent }
+desk_on hosts old new seats d is keeps =
+    ap (λ p. door_with hosts (map talk_of seats) (string_bytes p) (string_bytes new.version) new.monitor.agent) keeps.program
+    ∙ ap (λ v. door_with hosts (map talk_of seats) (string_bytes old.monitor.program) (string_bytes v) new.monitor.agent) keeps.version
+    ∙ ap (λ (x : DoorValue). record x { agent = new.monitor.agent }) is
+
+-- one that keeps its environment too leaves the door as it was
+pub desk_same : (hosts : Hosts) (old new : Desk) (seats : List (Option Seat)) (d : DoorValue) → door_of hosts seats old ≡ d → Keeps old new
+    → new.monitor.agent ≡ old.monitor.agent → door_of hosts seats new ≡ d
+desk_same hosts old new seats d is keeps same =
+    desk_on hosts old new seats d is keeps
+    ∙ ap (λ (a : AgentValue). record d { agent = a }) (same ∙ ap (λ (x : DoorValue). x.agent) is)
 
 pub map_set : (seats : List (Option Seat)) (i : ℕ) (o : Option Seat) → map talk_of (slice_set seats i o) ≡ slice_set (map talk_of seats) i (talk_of o)
 map_set [] i o = refl
@@ -45,28 +68,34 @@ put_back : (old taken new : List (Option Seat)) (conn : ℕ) (o : Option Seat) �
 put_back old taken new conn o t n = n ∙ ap (λ xs. slice_set xs conn o) t ∙ set_without (nat_lt conn (length old)) old conn o
 
 -- the door behind it
-pub put_talk : (hosts : Hosts) (old taken new : List (Option Seat)) (conn : ℕ) (o : Option Seat) → taken ≡ without old conn → new ≡ slice_set taken conn o
-    → door_of hosts new ≡ with_talk (door_of hosts old) conn (talk_of o)
-put_talk hosts old taken new conn o t n = ap (door_of hosts) (put_back old taken new conn o t n) ∙ ap (door_with hosts) (map_set old conn o)
+pub put_talk : (hosts : Hosts) (desk : Desk) (old taken new : List (Option Seat)) (conn : ℕ) (o : Option Seat) → taken ≡ without old conn → new ≡ slice_set taken conn o
+    → door_of hosts new desk ≡ with_talk (door_of hosts old desk) conn (talk_of o)
+put_talk hosts desk old taken new conn o t n = ap (λ xs. door_of hosts xs desk) (put_back old taken new conn o t n) ∙ ap (with_list hosts desk) (map_set old conn o)
 
-pub changed : (P : Talk → Talk → Type 0) (hosts : Hosts) (old taken new : List (Option Seat)) (d : DoorValue) (conn : ℕ) (s s' : Seat) → door_of hosts old ≡ d
-    → seat_at old conn ≡ Some s → taken ≡ without old conn → new ≡ slice_set taken conn (Some s') → P s.connection s'.connection → Changes d (door_of hosts new) conn P
-changed P hosts old taken new d conn s s' is was t n p =
-    subst (λ (x : DoorValue). Changes x (door_of hosts new) conn P) is
-    (s.connection, s'.connection, talk_at_of hosts old conn ∙ ap talk_of was, put_talk hosts old taken new conn (Some s') t n, p)
+pub changed : (P : Talk → Talk → Type 0) (hosts : Hosts) (desk : Desk) (old taken new : List (Option Seat)) (d : DoorValue) (conn : ℕ) (s s' : Seat) → door_of hosts old desk ≡ d
+    → seat_at old conn ≡ Some s → taken ≡ without old conn → new ≡ slice_set taken conn (Some s') → P s.connection s'.connection → Changes d (door_of hosts new desk) conn P
+changed P hosts desk old taken new d conn s s' is was t n p =
+    subst (λ (x : DoorValue). Changes x (door_of hosts new desk) conn P) is
+    (s.connection, s'.connection, talk_at_of hosts desk old conn ∙ ap talk_of was, put_talk hosts desk old taken new conn (Some s') t n, p)
+
+-- the same with a desk that goes on
+pub went_on : (P : Talk → Talk → Type 0) (hosts : Hosts) (desk desk' : Desk) (old taken new : List (Option Seat)) (d : DoorValue) (conn : ℕ) (s s' : Seat) → door_of hosts old desk ≡ d
+    → seat_at old conn ≡ Some s → taken ≡ without old conn → new ≡ slice_set taken conn (Some s') → Keeps desk desk' → P s.connection s'.connection → GoesOn d (door_of hosts new desk') conn P
+went_on P hosts desk desk' old taken new d conn s s' is was t n keeps p =
+    changed P hosts desk' old taken new (record d { agent = desk'.monitor.agent }) conn s s' (desk_on hosts desk desk' old d is keeps) was t n p
 
 -- one that is as it was leaves the door as it was
-pub unchanged : (hosts : Hosts) (old taken new : List (Option Seat)) (d : DoorValue) (conn : ℕ) (s s' : Seat) → door_of hosts old ≡ d → seat_at old conn ≡ Some s
-    → taken ≡ without old conn → new ≡ slice_set taken conn (Some s') → s'.connection ≡ s.connection → door_of hosts new ≡ d
-unchanged hosts old taken new d conn s s' is was t n same =
-    put_talk hosts old taken new conn (Some s') t n
-    ∙ ap (door_with hosts) (set_same old conn (Some s') (ap talk_of was ∙ ap (λ (x : Talk). Some x) (sym same)))
+pub unchanged : (hosts : Hosts) (desk : Desk) (old taken new : List (Option Seat)) (d : DoorValue) (conn : ℕ) (s s' : Seat) → door_of hosts old desk ≡ d → seat_at old conn ≡ Some s
+    → taken ≡ without old conn → new ≡ slice_set taken conn (Some s') → s'.connection ≡ s.connection → door_of hosts new desk ≡ d
+unchanged hosts desk old taken new d conn s s' is was t n same =
+    put_talk hosts desk old taken new conn (Some s') t n
+    ∙ ap (with_list hosts desk) (set_same old conn (Some s') (ap talk_of was ∙ ap (λ (x : Talk). Some x) (sym same)))
     ∙ is
 
 -- the connection of a number
-pub talk_is : (hosts : Hosts) (seats : List (Option Seat)) (d : DoorValue) (conn : ℕ) (o : Option Seat) → door_of hosts seats ≡ d → seat_at seats conn ≡ o
+pub talk_is : (hosts : Hosts) (desk : Desk) (seats : List (Option Seat)) (d : DoorValue) (conn : ℕ) (o : Option Seat) → door_of hosts seats desk ≡ d → seat_at seats conn ≡ o
     → talk_at d conn ≡ talk_of o
-talk_is hosts seats d conn o is at = subst (λ (x : DoorValue). talk_at x conn ≡ talk_of o) is (talk_at_of hosts seats conn ∙ ap talk_of at)
+talk_is hosts desk seats d conn o is at = subst (λ (x : DoorValue). talk_at x conn ≡ talk_of o) is (talk_at_of hosts desk seats conn ∙ ap talk_of at)
 
 set_none : (seats : List (Option Seat)) (i : ℕ) → seat_at seats i ≡ None → slice_set seats i None ≡ seats
 set_none [] i h = refl
@@ -95,16 +124,21 @@ cond_set : (within : Bool) (seats : List (Option Seat)) (i : ℕ) → nat_lt i (
 cond_set true seats i h = refl
 cond_set false seats i h = sym (set_beyond seats i (grind (arith, nat_tests, h)))
 
-pub gone : (hosts : Hosts) (old taken : List (Option Seat)) (d : DoorValue) (conn : ℕ) → door_of hosts old ≡ d → taken ≡ without old conn
-    → door_of hosts taken ≡ with_talk d conn None
-gone hosts old taken d conn is t =
-    ap (door_of hosts) (t ∙ cond_set (nat_lt conn (length old)) old conn refl) ∙ ap (door_with hosts) (map_set old conn None)
+pub gone : (hosts : Hosts) (desk : Desk) (old taken : List (Option Seat)) (d : DoorValue) (conn : ℕ) → door_of hosts old desk ≡ d → taken ≡ without old conn
+    → door_of hosts taken desk ≡ with_talk d conn None
+gone hosts desk old taken d conn is t =
+    ap (λ xs. door_of hosts xs desk) (t ∙ cond_set (nat_lt conn (length old)) old conn refl) ∙ ap (with_list hosts desk) (map_set old conn None)
     ∙ ap (λ (x : DoorValue). with_talk x conn None) is
 
 -- nothing was there to be taken
-pub kept : (hosts : Hosts) (old taken : List (Option Seat)) (d : DoorValue) (conn : ℕ) → door_of hosts old ≡ d → taken ≡ without old conn → seat_at old conn ≡ None
-    → door_of hosts taken ≡ d
-kept hosts old taken d conn is t none = ap (door_of hosts) (t ∙ without_none old conn none) ∙ is
+pub kept : (hosts : Hosts) (desk : Desk) (old taken : List (Option Seat)) (d : DoorValue) (conn : ℕ) → door_of hosts old desk ≡ d → taken ≡ without old conn → seat_at old conn ≡ None
+    → door_of hosts taken desk ≡ d
+kept hosts desk old taken d conn is t none = ap (λ xs. door_of hosts xs desk) (t ∙ without_none old conn none) ∙ is
+
+-- other connections leave the rest of the door
+pub rest_stays : (hosts : Hosts) (desk : Desk) (old new : List (Option Seat)) (d : DoorValue) → door_of hosts old desk ≡ d
+    → door_of hosts new desk ≡ record d { talks = map talk_of new }
+rest_stays hosts desk old new d is = ap (λ (x : DoorValue). record x { talks = map talk_of new }) is
 
 -- ---- what is told where a call fails
 
@@ -129,6 +163,10 @@ talks_same (o ∷ talks) = (one_same o, talks_same talks)
 pub all_same : (d : DoorValue) → AllRun d d
 all_same d = (refl, talks_same d.talks)
 
+-- only the environment goes on
+pub desk_ran : (hosts : Hosts) (old new : Desk) (seats : List (Option Seat)) (d : DoorValue) → door_of hosts seats old ≡ d → Keeps old new → AllRun d (door_of hosts seats new)
+desk_ran hosts old new seats d is keeps = subst (AllRun d) (sym (desk_on hosts old new seats d is keeps)) (refl, talks_same d.talks)
+
 -- one of them goes on
 one_set : (talks : List (Option Talk)) (i : ℕ) (t t' : Talk) → opened_in (slice_get talks i) ≡ Some t → RunsTo t t' → TalksRun talks (slice_set talks i (Some t'))
 one_set [] i t t' h run = tt
@@ -138,6 +176,9 @@ one_set (o ∷ talks) (suc i) t t' h run = (one_same o, one_set talks i t t' h r
 pub one_ran : (old new : DoorValue) (conn : ℕ) (P : Talk → Talk → Type 0) → ((t t' : Talk) → P t t' → RunsTo t t') → Changes old new conn P → AllRun old new
 one_ran old new conn P runs c =
     subst (AllRun old) (sym c.3) (refl, one_set old.talks conn c.0 c.1 c.2 (runs c.0 c.1 c.4))
+
+pub one_went : (old new : DoorValue) (conn : ℕ) (P : Talk → Talk → Type 0) → ((t t' : Talk) → P t t' → RunsTo t t') → GoesOn old new conn P → AllRun old new
+one_went old new conn P runs c = one_ran (record old { agent = new.agent }) new conn P runs c
 
 one_trans : (a b c : Option Talk) → OneRuns a b → OneRuns b c → OneRuns a c
 one_trans None None None h k = tt
@@ -156,4 +197,5 @@ talks_trans (x ∷ a) (y ∷ b) [] h k = absurd k
 talks_trans (x ∷ a) (y ∷ b) (z ∷ c) h k = (one_trans x y z h.0 k.0, talks_trans a b c h.1 k.1)
 
 pub all_trans : (a b c : DoorValue) → AllRun a b → AllRun b c → AllRun a c
-all_trans a b c h k = (k.0 ∙ h.0, talks_trans a.talks b.talks c.talks h.1 k.1)
+all_trans a b c h k =
+    (k.0 ∙ ap (λ (x : DoorValue). record x { talks = c.talks; agent = c.agent }) h.0, talks_trans a.talks b.talks c.talks h.1 k.1)

@@ -10,3 +10,4 @@ pub mod SeatLaws
 pub mod DoorLaws
 pub mod OpenLaws
 pub mod TextLaws
+pub mod EnableLaws

@@ -4,15 +4,20 @@ use Rattle.ti_http.specs.declared.hosts.Hosts.{Hosts}
 use Rattle.ti_http.specs.Talks.{Talk, fed, opened, room_in}
 use Rattle.ti_monitor.specs.declared.door_error.DoorError.{DoorError}
 use Rattle.ti_monitor.specs.declared.door_error.DoorError.TheVariants as error
+use Rattle.ti_service.specs.Memberships.{AgentValue}
 use Rattle.ti_monitor.specs.Seats.{RunsTo}
 
--- a door, as contracts see it: the hosts that it serves, and its connections
+-- A door, as contracts see it: the hosts that it serves, its connections, the name of the program and the version that it tells, as
+-- bytes, and its environment
 pub record DoorValue : Type 0 where
   pub hosts : Hosts
   pub talks : List (Option Talk)
+  pub program : List ℕ
+  pub version : List ℕ
+  pub agent : AgentValue
 
-abbrev pub door_with : Hosts → List (Option Talk) → DoorValue
-door_with hosts talks = record { hosts = hosts; talks = talks }
+abbrev pub door_with : Hosts → List (Option Talk) → List ℕ → List ℕ → AgentValue → DoorValue
+door_with hosts talks program version agent = record { hosts = hosts; talks = talks; program = program; version = version; agent = agent }
 
 -- the connection of this number, if it is open
 abbrev pub opened_in : Option (Option Talk) → Option Talk
@@ -24,11 +29,15 @@ talk_at d conn = opened_in (slice_get d.talks conn)
 
 -- the door with this at a number
 abbrev pub with_talk : DoorValue → ℕ → Option Talk → DoorValue
-with_talk d conn t = door_with d.hosts (slice_set d.talks conn t)
+with_talk d conn t = record d { talks = slice_set d.talks conn t }
 
 -- the connection of this number became another, and nothing else changed
 abbrev pub Changes : DoorValue → DoorValue → ℕ → (Talk → Talk → Type 0) → Type 0
 Changes old new conn P = (t : Talk) × (t' : Talk) × (talk_at old conn ≡ Some t) × (new ≡ with_talk old conn (Some t')) × P t t'
+
+-- the same, and the environment of the door may go on
+abbrev pub GoesOn : DoorValue → DoorValue → ℕ → (Talk → Talk → Type 0) → Type 0
+GoesOn old new conn P = Changes (record old { agent = new.agent }) new conn P
 
 -- the connection takes bytes, as many as it has room for
 abbrev pub Feeds : List ℕ → ℕ → ℕ → Talk → Talk → Type 0
@@ -41,7 +50,7 @@ with_new talks conn t = if nat_lt conn (length talks) then slice_set talks conn 
 -- a number that was free has a new connection
 abbrev pub Opens : DoorValue → DoorValue → ℕ → ℕ → Type 0
 Opens old new conn now =
-    (conn < 16) × (conn ≤ length old.talks) × (talk_at old conn ≡ None) × (new ≡ door_with old.hosts (with_new old.talks conn (opened old.hosts now)))
+    (conn < 16) × (conn ≤ length old.talks) × (talk_at old conn ≡ None) × (new ≡ record old { talks = with_new old.talks conn (opened old.hosts now) })
 
 -- there is no connection of this number
 abbrev pub IsUnknown : DoorValue → ℕ → DoorError → Type 0
@@ -74,5 +83,6 @@ TalksRun [] (b ∷ new) = ⊥
 TalksRun (a ∷ old) [] = ⊥
 TalksRun (a ∷ old) (b ∷ new) = OneRuns a b × TalksRun old new
 
+-- the same, and nothing else changed but the environment of the door, which may go on
 abbrev pub AllRun : DoorValue → DoorValue → Type 0
-AllRun old new = (new.hosts ≡ old.hosts) × TalksRun old.talks new.talks
+AllRun old new = (new ≡ record old { talks = new.talks; agent = new.agent }) × TalksRun old.talks new.talks

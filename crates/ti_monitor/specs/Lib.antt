@@ -16,6 +16,7 @@ pub mod Exposition
 pub mod Threads
 pub mod Json
 pub mod Door
+pub mod Desks
 pub mod SeatLists
 pub mod Seats
 pub mod Doors

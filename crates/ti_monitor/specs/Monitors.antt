@@ -1,11 +1,17 @@
 -- The readings of a monitor.
 use Rattle.std.specs.Prelude.{ℕ, ◌≡◌, ◌≤◌, ◌⊎◌, ◌==◌, Bool, true, false, List, [], ◌∷◌, ◌++◌, Option, Some, None, is_some, length, if◌then◌else◌}
 use Rattle.std.specs.List.{sum_by}
+use Rattle.ti_service.specs.Agent.{AgentState}
+use Rattle.ti_service.specs.Telling.{Enables}
 use Rattle.ti_pprof.specs.declared.counting.Counts.{Counts}
 use Rattle.ti_monitor.specs.declared.monitor.ReadingNo.{ReadingNo}
 use Rattle.ti_monitor.specs.declared.reading.Order.{Order}
 use Rattle.ti_monitor.specs.declared.running.Running.{Running}
 use Rattle.ti_monitor.specs.Orders.{profile_count}
+
+-- the environment is as it was, or was enabled to be told of threads that start and end
+abbrev pub MayEnable : AgentState → AgentState → Type 0
+MayEnable old new = (new ≡ old) ⊎ Enables old new
 
 -- the reading of a number, if there is one
 abbrev pub reading_in : List Running → ReadingNo → Option Running

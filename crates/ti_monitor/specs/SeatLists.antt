@@ -1,7 +1,9 @@
--- The connections that a door keeps, and what contracts see of them.
+-- The connections and the desk of a door, and what contracts see of them.
 use Rattle.std.specs.Prelude.{ℕ, List, length, map, nat_lt, slice_get, slice_set, Option, Some, None, if◌then◌else◌}
+use Rattle.std.specs.String.{string_bytes}
 use Rattle.ti_http.specs.declared.hosts.Hosts.{Hosts}
 use Rattle.ti_http.specs.Talks.{Talk}
+use Rattle.ti_monitor.specs.declared.door_desk.Desk.{Desk}
 use Rattle.ti_monitor.specs.declared.door_seat.Seat.{Seat}
 use Rattle.ti_monitor.specs.Doors.{DoorValue, door_with}
 
@@ -22,5 +24,5 @@ abbrev pub talk_of : Option Seat → Option Talk
 talk_of None = None
 talk_of (Some s) = Some s.connection
 
-abbrev pub door_of : Hosts → List (Option Seat) → DoorValue
-door_of hosts seats = door_with hosts (map talk_of seats)
+abbrev pub door_of : Hosts → List (Option Seat) → Desk → DoorValue
+door_of hosts seats desk = door_with hosts (map talk_of seats) (string_bytes desk.monitor.program) (string_bytes desk.version) desk.monitor.agent

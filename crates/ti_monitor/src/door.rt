@@ -13,7 +13,7 @@ use ti_service::Service;
 use ti_types::TiError;
 
 /// Connections that ask a monitor. Times are nanoseconds of a clock that never goes back. Contracts see a door as a `DoorValue`: the
-/// hosts that it serves, and each connection as `ti_http` sees it.
+/// hosts that it serves, each connection as `ti_http` sees it, the program's name and the version that it tells, and its environment.
 #[derive(Drop)]
 pub struct Door {
     alloc: Global,
@@ -28,13 +28,13 @@ impl Model for Door {
 
     ghost Value = { DoorValue };
 
-    ghost view = { λ d. door_of d.hosts d.seats.list.items };
+    ghost view = { λ d. door_of d.hosts d.seats.list.items d.desk };
 }
 
 impl Door {
-    /// A door without connections. `version` is what `/metrics` names.
+    /// A door without connections. `version` is what `/metrics` names. Profiles name the program of the monitor.
     pub fn new(alloc: Global, monitor: Monitor, hosts: Hosts, version: String) -> Door
-        ensures { result ≡ door_with hosts [] }
+        ensures { result ≡ door_with hosts [] (string_bytes monitor.program) (string_bytes version) monitor.agent }
     {
         Door {
             alloc,
@@ -55,6 +55,7 @@ impl Door {
         ensures opened { IfSome result (λ c. Opens self.old self.new c.0 (now / 1000000)) }
         ensures full { IfNone result (AllRun self.old self.new) }
         ensures few { length self.new.talks ≤ 16 }
+        ensures rest { self.new ≡ record self.old { talks = self.new.talks } }
     {
         let seat = Seat::new(self.alloc, self.hosts, now);
         if let Some(conn) = self.seats.free() {
@@ -72,6 +73,7 @@ impl Door {
     fn make_room(&mut self)
         ensures run { AllRun self.old self.new }
         ensures few { length self.new.talks ≡ length self.old.talks }
+        ensures rest { self.new ≡ record self.old { talks = self.new.talks } }
     {
         if self.seats.is_any_leaving() {
             return;
@@ -135,7 +137,7 @@ impl Door {
     ///
     /// - 103 ILLEGAL_ARGUMENT: there is no such connection. Nothing changes.
     pub fn end(&mut self, conn: ConnNo, now: u64) -> Result<(), DoorError>
-        ensures ended { OnOk result (Changes self.old self.new conn.0 (λ t t'. RunsTo t t' × (t'.ended ≡ true))) }
+        ensures ended { OnOk result (GoesOn self.old self.new conn.0 (λ t t'. RunsTo t t' × (t'.ended ≡ true))) }
         ensures unknown { IfErr result (IsUnknown self.old conn.0) }
         ensures kept { OnErr result (self.new ≡ self.old) }
     {
@@ -152,7 +154,7 @@ impl Door {
     /// - 103 ILLEGAL_ARGUMENT: there is no such connection. Nothing changes.
     /// - 110 OUT_OF_MEMORY: there is no memory for the answer to a request that is refused. It waits for the next call.
     pub fn next(&mut self, conn: ConnNo, now: u64, unix: u64) -> Result<Todo, DoorError>
-        ensures told { IfOk result (λ todo. Changes self.old self.new conn.0 (λ t t'. RunsTo t t' × Says t' todo)) }
+        ensures told { IfOk result (λ todo. GoesOn self.old self.new conn.0 (λ t t'. RunsTo t t' × Says t' todo)) }
         ensures refused { IfErr result (Refuses (talk_at self.old conn.0)) }
         ensures run { OnErr result (AllRun self.old self.new) }
     {
@@ -205,7 +207,7 @@ impl Door {
     pub fn tick(&mut self, now: u64)
         ensures run { AllRun self.old self.new }
     {
-        self.desk.monitor.tick(now);
+        self.desk.tick(now);
         for place in 0..16 {
             self.tick_one(ConnNo(place), now);
         }
@@ -226,9 +228,15 @@ impl Door {
         self.desk.monitor.deadline().min(self.seats.deadline())
     }
 
-    /// Disposes of the monitor. Its connections are gone. The errors are those of `Monitor::end`; then the door comes back.
+    /// Disposes of the monitor's agent. The connections are gone. With an error the door comes back as it was, but for its agent.
+    ///
+    /// - 110 OUT_OF_MEMORY, 215 `Busy` and 216 `Full` (this profile), as `Monitor::end`. The agent may have left some of its threads
+    ///   already, and can only be disposed of.
     pub fn finish(self) -> Result<Service, (TiError, Door)>
-        ensures { IfErr result (λ p. p.1 ≡ self) }
+        ensures disposed { IfOk result (λ s. Disposes (state_of self.agent) s) }
+        ensures refused { IfErr result (λ r. StaysOn (state_of self.agent) (state_of r.1.agent) r.0) }
+        ensures events { IfErr result (λ r. r.1.agent.home.events ≡ self.agent.home.events) }
+        ensures rest { IfErr result (λ r. r.1 ≡ record self { agent = r.1.agent }) }
     {
         let Door {
             alloc,
@@ -266,7 +274,10 @@ impl Door {
 }
 
 ghost use Rattle.std.specs.Prelude.{◌≡◌, ◌≤◌, ◌/◌, [], is_some, length, true, Err, IfErr, IfNone, IfOk, IfSome, None, OnErr, OnOk};
+ghost use Rattle.std.specs.String.{string_bytes};
 ghost use Rattle.ti_http.specs.Talks.{written_from};
 ghost use Rattle.ti_monitor.specs.declared.door_error.DoorError.TheVariants.{NoConnection};
-ghost use Rattle.ti_monitor.specs.Doors.{AllRun, Changes, Feeds, IsUnknown, Opens, Refuses, door_with, output_of, room_of, talk_at, with_talk};
+ghost use Rattle.ti_service.specs.Leaving.{Disposes, StaysOn};
+ghost use Rattle.ti_service.specs.Memberships.{state_of};
+ghost use Rattle.ti_monitor.specs.Doors.{AllRun, Changes, Feeds, GoesOn, IsUnknown, Opens, Refuses, door_with, output_of, room_of, talk_at, with_talk};
 ghost use Rattle.ti_monitor.specs.Seats.{RunsTo, Says};

@@ -53,7 +53,9 @@ impl Desk {
     }
 
     /// Begins the reading that a request asks for. If it cannot begin, the client is told when to try again.
-    pub(crate) fn begin(&mut self, target: Target, moment: Moment) -> Due {
+    pub(crate) fn begin(&mut self, target: Target, moment: Moment) -> Due
+        ensures { Keeps self.old self.new }
+    {
         match self
             .monitor
             .begin(order_of(target), moment.now, moment.unix)
@@ -66,8 +68,18 @@ impl Desk {
         }
     }
 
+    /// Does what is due of the monitor.
+    pub(crate) fn tick(&mut self, now: u64)
+        ensures { Keeps self.old self.new }
+    {
+        self.monitor.tick(now);
+    }
+
     /// Gives a reading up, if there is one.
-    pub(crate) fn forget(&mut self, reading: Option<ReadingNo>) {
+    pub(crate) fn forget(&mut self, reading: Option<ReadingNo>)
+        ensures keeps { Keeps self.old self.new }
+        ensures agent { self.new.monitor.agent ≡ self.old.monitor.agent }
+    {
         if let Some(reading) = reading {
             self.monitor.forget(reading);
         }
@@ -79,7 +91,10 @@ impl Desk {
         &mut self,
         reading: ReadingNo,
         target: Target,
-    ) -> Result<Option<Vec<u8>>, AllocError> {
+    ) -> Result<Option<Vec<u8>>, AllocError>
+        ensures keeps { Keeps self.old self.new }
+        ensures body { IfOk result (λ b. IfSome b (λ v. IsBodyOf (string_bytes self.old.monitor.program) target v.items)) }
+    {
         match self.monitor.take(reading) {
             Ok(Some(read)) => Ok(Some(body_of(self.alloc, target, &read)?)),
             Ok(None) => Ok(None),
@@ -91,7 +106,9 @@ impl Desk {
     }
 }
 
-ghost use Rattle.std.specs.Prelude.{◌≡◌, IfOk};
+ghost use Rattle.std.specs.Prelude.{◌≡◌, IfOk, IfSome};
 ghost use Rattle.std.specs.String.{string_bytes};
+ghost use Rattle.ti_monitor.specs.Door.{IsBodyOf};
 ghost use Rattle.ti_monitor.specs.Exposition.{metrics_lines};
+ghost use Rattle.ti_monitor.specs.Desks.{Keeps};
 ghost use Rattle.ti_monitor.specs.Texts.{text_of};

@@ -153,6 +153,7 @@ impl Seat {
         ensures run { RunsTo self.old.connection self.new.connection }
         ensures ended { self.new.connection.ended ≡ true }
         ensures stays { self.new.leaving ≡ self.old.leaving }
+        ensures desk { Keeps desk.old desk.new }
     {
         self.connection.end();
         if let Some(reading) = self.profile() {
@@ -174,6 +175,7 @@ impl Seat {
         ensures run { RunsTo self.old.connection self.new.connection }
         ensures ended { self.new.connection.ended ≡ self.old.connection.ended }
         ensures stays { self.new.leaving ≡ self.old.leaving }
+        ensures desk { Keeps desk.old desk.new }
     {
         match self
             .connection
@@ -195,6 +197,7 @@ impl Seat {
         ensures run { RunsTo self.old.connection self.new.connection }
         ensures ended { self.new.connection.ended ≡ self.old.connection.ended }
         ensures stays { self.new.leaving ≡ self.old.leaving }
+        ensures desk { Keeps desk.old desk.new }
     {
         let status = Status::ServiceUnavailable {
             retry_after: seconds,
@@ -208,6 +211,7 @@ impl Seat {
         ensures run { RunsTo self.old.connection self.new.connection }
         ensures ended { self.new.connection.ended ≡ self.old.connection.ended }
         ensures stays { self.new.leaving ≡ self.old.leaving }
+        ensures desk { Keeps desk.old desk.new }
     {
         match desk.take(reading, target) {
             Ok(Some(body)) => self.give(desk, Status::Ok, content_type(target), &body, now),
@@ -227,6 +231,7 @@ impl Seat {
         ensures run { RunsTo self.old.connection self.new.connection }
         ensures ended { self.new.connection.ended ≡ self.old.connection.ended }
         ensures stays { self.new.leaving ≡ self.old.leaving }
+        ensures desk { Keeps desk.old desk.new }
     {
         self.settle_reading(desk, now);
         self.settle_later(desk, now);
@@ -237,6 +242,7 @@ impl Seat {
         ensures run { RunsTo self.old.connection self.new.connection }
         ensures ended { self.new.connection.ended ≡ self.old.connection.ended }
         ensures stays { self.new.leaving ≡ self.old.leaving }
+        ensures desk { Keeps desk.old desk.new }
     {
         if let Some(Due::Reading { reading, target }) = self.due {
             if desk.monitor.has_ended(reading) {
@@ -250,6 +256,7 @@ impl Seat {
         ensures run { RunsTo self.old.connection self.new.connection }
         ensures ended { self.new.connection.ended ≡ self.old.connection.ended }
         ensures stays { self.new.leaving ≡ self.old.leaving }
+        ensures desk { Keeps desk.old desk.new }
     {
         if let Some(Due::Later { seconds }) = self.due {
             self.give_later(desk, seconds, now);
@@ -261,6 +268,7 @@ impl Seat {
         requires { waits self.old.connection ≡ true }
         ensures run { RunsTo self.old.connection self.new.connection }
         ensures stays { self.new.leaving ≡ self.old.leaving }
+        ensures desk { Keeps desk.old desk.new }
     {
         self.answer_or_begin(desk, request, moment);
         self.settle(desk, moment.now);
@@ -271,6 +279,7 @@ impl Seat {
         requires { waits self.old.connection ≡ true }
         ensures run { RunsTo self.old.connection self.new.connection }
         ensures stays { self.new.leaving ≡ self.old.leaving }
+        ensures desk { Keeps desk.old desk.new }
     {
         let target = request.target;
         let kind = content_type(target);
@@ -294,6 +303,7 @@ impl Seat {
         ensures asks { IfOk result (λ a. asks_one a ≡ true → waits self.new.connection ≡ true) }
         ensures shut { IfOk result (λ a. a ≡ Close → is_shut (state_of self.new.connection.phase) ≡ true) }
         ensures stays { self.new.leaving ≡ self.old.leaving }
+        ensures desk { Keeps desk.old desk.new }
     {
         let (_, before) = self.connection.counts();
         let action = self.connection.next(now / MILLI)?;
@@ -312,6 +322,7 @@ impl Seat {
         ensures run { RunsTo self.old.connection self.new.connection }
         ensures says { IfOk result (λ t. Says self.new.connection t) }
         ensures stays { self.new.leaving ≡ self.old.leaving }
+        ensures desk { Keeps desk.old desk.new }
     {
         self.settle(desk, moment.now);
         match self.step(desk, moment.now)? {
@@ -339,6 +350,7 @@ impl Seat {
     pub(crate) fn tick(&mut self, desk: &mut Desk, now: u64)
         ensures run { RunsTo self.old.connection self.new.connection }
         ensures stays { self.new.leaving ≡ self.old.leaving }
+        ensures desk { Keeps desk.old desk.new }
     {
         self.settle(desk, now);
         let (_, before) = self.connection.counts();
@@ -357,4 +369,5 @@ ghost use Rattle.ti_http.specs.declared.connection.Action.TheVariants.{Close};
 ghost use Rattle.ti_http.specs.declared.error.HttpError.TheVariants.{OutOfMemory};
 ghost use Rattle.ti_http.specs.Runs.{is_shut, state_of};
 ghost use Rattle.ti_http.specs.Talks.{deadline_of, ended_by_peer, fed, opened, room_in, written_from};
+ghost use Rattle.ti_monitor.specs.Desks.{Keeps};
 ghost use Rattle.ti_monitor.specs.Seats.{QuietIn, RunsTo, Says, asks_one, idle_until, in_nanos, is_due, profile_of, reading_of, waits};

@@ -45,7 +45,10 @@ pub struct Monitor {
 
 impl Monitor {
     /// A monitor over this agent. `program` is the name that profiles have. It takes no memory.
-    pub fn new(alloc: Global, agent: Agent, program: String, now: u64) -> Monitor {
+    pub fn new(alloc: Global, agent: Agent, program: String, now: u64) -> Monitor
+        ensures program { result.program ≡ program }
+        ensures agent { MayEnable (state_of agent) (state_of result.agent) }
+    {
         let mut agent = agent;
         let _later_if_busy = agent.set_event_notification_mode_now(true);
         Monitor {
@@ -76,6 +79,8 @@ impl Monitor {
         ensures number { IfOk result (λ no. (no.0 ≡ self.old.begun) × (self.new.begun ≡ no.0 + 1)) }
         ensures refused { IfErr result (λ e. ((e ≡ Full) × HasNoRoom self.old.readings.running.items self.old.begun order) ⊎ (e ≡ OutOfMemory)) }
         ensures kept { OnErr result (self.new.readings.running.items ≡ self.old.readings.running.items) }
+        ensures program { self.new.program ≡ self.old.program }
+        ensures agent { self.new.agent ≡ self.old.agent }
     {
         if self.begun == u64::MAX || !self.readings.have_room(order) {
             return Err(TiError::Full);
@@ -90,7 +95,9 @@ impl Monitor {
     }
 
     /// Does what is due: it meets threads and lets them go, probes states, collects answers, and takes the ticks of readings.
-    pub fn tick(&mut self, now: u64) {
+    pub fn tick(&mut self, now: u64)
+        ensures program { self.new.program ≡ self.old.program }
+    {
         self.last_tick = now;
         self.readings.collect_all(
             self.alloc,
@@ -117,7 +124,9 @@ impl Monitor {
     }
 
     /// Meets threads, if that is due or there is news. False if it could not, since the roster is in use.
-    fn meet_if_due(&mut self, now: u64) -> bool {
+    fn meet_if_due(&mut self, now: u64) -> bool
+        ensures program { self.new.program ≡ self.old.program }
+    {
         let is_due = now >= self.next_meeting;
         if !self.agent.has_news() && !is_due {
             return true;
@@ -128,7 +137,9 @@ impl Monitor {
     }
 
     /// Meets the threads that came, counts the events, and lets go of threads that were given back. False if the roster is in use.
-    fn meet(&mut self) -> bool {
+    fn meet(&mut self) -> bool
+        ensures program { self.new.program ≡ self.old.program }
+    {
         let enabled = self.agent.set_event_notification_mode_now(true);
         let met = self.agent.meet_now(self.alloc);
         let first = count_events(&mut self.agent, &mut self.metrics);
@@ -145,7 +156,9 @@ impl Monitor {
     }
 
     /// Probes the states of all threads, if that is due.
-    fn probe_if_due(&mut self, now: u64) {
+    fn probe_if_due(&mut self, now: u64)
+        ensures program { self.new.program ≡ self.old.program }
+    {
         if now < self.next_probe {
             return;
         }
@@ -182,7 +195,10 @@ impl Monitor {
     }
 
     /// Ends a reading now, with what is there. Nothing happens if it has ended, or if there is no such reading.
-    pub fn hurry(&mut self, reading: ReadingNo, now: u64) {
+    pub fn hurry(&mut self, reading: ReadingNo, now: u64)
+        ensures program { self.new.program ≡ self.old.program }
+        ensures agent { self.new.agent ≡ self.old.agent }
+    {
         if let Some(place) = self.readings.place_of(reading) {
             end(
                 &mut self.readings.running[place],
@@ -198,8 +214,10 @@ impl Monitor {
     pub fn take(&mut self, reading: ReadingNo) -> Result<Option<Reading>, TiError>
         ensures counts { IfOk result (λ t. IfSome t (λ r. AreCountsOf (reading_in self.old.readings.running.items reading) r.counts)) }
         ensures none { IfOk result (λ t. IfNone t (has_ended (reading_in self.old.readings.running.items reading) ≡ false)) }
+        ensures about { IfOk result (λ t. IfSome t (λ r. string_bytes r.about.program ≡ string_bytes self.old.program)) }
         ensures memory { IfErr result (λ e. e ≡ OutOfMemory) }
         ensures kept { OnErr result (self.new.readings.running.items ≡ self.old.readings.running.items) }
+        ensures program { self.new.program ≡ self.old.program }
     {
         let Some(place) = self.readings.place_of(reading) else {
             return Ok(None);
@@ -229,7 +247,10 @@ impl Monitor {
     }
 
     /// Gives a reading up. Nothing happens if there is no such reading.
-    pub fn forget(&mut self, reading: ReadingNo) {
+    pub fn forget(&mut self, reading: ReadingNo)
+        ensures program { self.new.program ≡ self.old.program }
+        ensures agent { self.new.agent ≡ self.old.agent }
+    {
         if let Some(place) = self.readings.place_of(reading) {
             self.readings.running.remove(place);
         }
@@ -242,9 +263,16 @@ impl Monitor {
         &self.metrics
     }
 
-    /// Disposes of the agent: 215 `Busy` and 110 as `ServiceTries::dispose_now`, then the monitor comes back. Calls that are out are
-    /// given up.
-    pub fn end(self) -> Result<Service, (TiError, Monitor)> {
+    /// Disposes of the agent. Calls that are out are given up. With an error the monitor comes back with all that it has.
+    ///
+    /// - 110 OUT_OF_MEMORY, 215 `Busy` and 216 `Full` (this profile), as `ServiceTries::dispose_now`. The agent may have left some of
+    ///   its threads already, and can only be disposed of.
+    pub fn end(self) -> Result<Service, (TiError, Monitor)>
+        ensures disposed { IfOk result (λ s. Disposes (state_of self.agent) s) }
+        ensures refused { IfErr result (λ r. StaysOn (state_of self.agent) (state_of r.1.agent) r.0) }
+        ensures events { IfErr result (λ r. r.1.agent.home.events ≡ self.agent.home.events) }
+        ensures rest { IfErr result (λ r. r.1 ≡ record self { agent = r.1.agent }) }
+    {
         let mut rest = self;
         let alloc = rest.alloc;
         match rest.agent.dispose_now(alloc) {
@@ -258,5 +286,8 @@ impl Monitor {
 }
 
 ghost use Rattle.std.specs.Prelude.{◌≡◌, ◌+◌, ◌⊎◌, false, IfOk, IfErr, IfSome, IfNone, OnErr};
+ghost use Rattle.std.specs.String.{string_bytes};
 ghost use Rattle.ti_types.specs.declared.error.TiError.TheVariants.{Full, OutOfMemory};
-ghost use Rattle.ti_monitor.specs.Monitors.{AreCountsOf, Begins, HasNoRoom, has_ended, reading_in};
+ghost use Rattle.ti_service.specs.Leaving.{Disposes, StaysOn};
+ghost use Rattle.ti_service.specs.Memberships.{state_of};
+ghost use Rattle.ti_monitor.specs.Monitors.{AreCountsOf, Begins, HasNoRoom, MayEnable, has_ended, reading_in};

@@ -134,12 +134,10 @@ fn comment_of(alloc: Global, reading: &Running) -> Result<String, AllocError> {
     )
 }
 
-/// When and how a reading was made. The error is lack of memory.
-pub(crate) fn about_of(
-    alloc: Global,
-    program: &str,
-    reading: &Running,
-) -> Result<About, AllocError> {
+/// When and how a reading was made, and of which program. The error is lack of memory.
+pub(crate) fn about_of(alloc: Global, program: &str, reading: &Running) -> Result<About, AllocError>
+    ensures { IfOk result (λ a. string_bytes a.program ≡ program.now) }
+{
     let mut comments = Vec::new(alloc);
     comments.push(comment_of(alloc, reading)?)?;
     Ok(About {
@@ -150,3 +148,6 @@ pub(crate) fn about_of(
         comments,
     })
 }
+
+ghost use Rattle.std.specs.Prelude.{◌≡◌, IfOk};
+ghost use Rattle.std.specs.String.{string_bytes};

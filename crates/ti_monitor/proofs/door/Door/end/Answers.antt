@@ -1,13 +1,13 @@
 use Rattle.std.proofs.Common.{◌≡◌, ◌∙◌, true}
 use Rattle.ti_monitor.specs.Seats.{RunsTo}
-use Rattle.ti_monitor.proofs.DoorLaws.{changed, kept}
+use Rattle.ti_monitor.proofs.DoorLaws.{kept, went_on}
 use Rattle.ti_monitor.proofs.door.Door.end.Goals as goal
 
 pub returns-clause-ended : goal.returns-clause-ended
 returns-clause-ended c =
-    changed (λ t t'. RunsTo t t' × (t'.ended ≡ true)) c.self.inside.hosts c.self.inside.seats.list.items c.take.new.self.list.items c.put.new.self.list.items c.args.self.now c.args.conn.0 c.in-Some.seat c.end.new.self c.self.view_is
-    c.in-Some.ensures.was c.in-Some.ensures.taken c.put.ensures (c.end.ensures.run, c.end.ensures.ended)
+    went_on (λ t t'. RunsTo t t' × (t'.ended ≡ true)) c.self.inside.hosts c.self.inside.desk c.end.new.desk c.self.inside.seats.list.items c.take.new.self.list.items c.put.new.self.list.items c.args.self.now c.args.conn.0 c.in-Some.seat c.end.new.self c.self.view_is
+    c.in-Some.ensures.was c.in-Some.ensures.taken c.put.ensures c.end.ensures.desk (c.end.ensures.run, c.end.ensures.ended)
 
 pub returns-in_default-clause-kept : goal.returns-in_default-clause-kept
 returns-in_default-clause-kept c =
-    kept c.self.inside.hosts c.self.inside.seats.list.items c.take.new.self.list.items c.args.self.now c.args.conn.0 c.self.view_is c.take.ensures.taken (c.take.ensures.was ∙ c.in_default.is)
+    kept c.self.inside.hosts c.self.inside.desk c.self.inside.seats.list.items c.take.new.self.list.items c.args.self.now c.args.conn.0 c.self.view_is c.take.ensures.taken (c.take.ensures.was ∙ c.in_default.is)
