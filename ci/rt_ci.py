@@ -9,12 +9,15 @@ compiles programs. The archive is `rt lib`'s, crates/NAME/out/libNAME.a. Where t
 
 import importlib.machinery
 import importlib.util
+import inspect
 import os
 import shutil
 import sys
 import tempfile
 
 sys.dont_write_bytecode = True
+
+WORDS = ["ci"]
 
 
 def load(name, path):
@@ -52,11 +55,12 @@ def main():
     try:
         rt = load("rt", path)
         rt.Crate = keeping_archives(rt)
-        ci, _ = rt.ci, (rt.KIT, rt.rtlib.RATTLE)
-    except (AttributeError, ImportError, OSError, SyntaxError) as why:
+        inspect.signature(rt.main).bind(WORDS)
+        _ = rt.KIT, rt.rtlib.RATTLE
+    except (AttributeError, ImportError, OSError, SyntaxError, TypeError) as why:
         print(f"no static library is kept: {why}", flush=True)
-        os.execv(path, [path, "ci"])
-    return ci()
+        os.execv(path, [path, *WORDS])
+    return rt.main(WORDS)
 
 
 if __name__ == "__main__":
