@@ -172,6 +172,7 @@ static void tells_of_empty_handles(void) {
     SAME(cq_door_resumptions(&none, &count), CQ_MISUSED);
     SAME(cq_door_tells_variables(&none, true), CQ_MISUSED);
     SAME(cq_door_pops_frames(&none, true), CQ_MISUSED);
+    SAME(cq_door_starts_suspended(&none, true), CQ_MISUSED);
     SAME(cq_door_question(&none, &question), CQ_MISUSED);
     SAME(cq_door_tell_variables(&none, NULL, 0, NULL, 0), CQ_MISUSED);
     SAME(cq_door_tell_values(&none, NULL, 0, NULL, 0), CQ_MISUSED);
@@ -244,6 +245,7 @@ static void tells_of_http(void) {
     SAME(count, 0);
     OK(cq_door_tells_variables(&other, true));
     OK(cq_door_pops_frames(&other, true));
+    OK(cq_door_starts_suspended(&other, true));
     OK(cq_door_question(&other, &question));
     SAME(question.kind, CQ_QUESTION_NONE);
     SAME(cq_door_answer(&other, &variables), CQ_NONE);
