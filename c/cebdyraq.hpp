@@ -636,8 +636,8 @@ public:
         return number;
     }
 
-    /* Sleeps until a debugger has resumed a thread. Threads that wait for their first debugger call it in native code, before their
-     * first step. */
+    /* Sleeps until a debugger has resumed a thread. Threads that wait for their first debugger call it while they block, before
+     * their first step. */
     void await_resumption() { check(cq_server_await_resumption(get())); }
 
 private:

@@ -320,6 +320,24 @@ class WithRuntime(unittest.TestCase):
         debugger.close()
         self.assert_code(Code.ILLEGAL_ARGUMENT, cebdyraq.Server, self.library, service, signal, "0.0.0.0:0", "a test", "/src")
 
+    def test_threads_wait_for_the_first_debugger(self):
+        self.library.runtime_go_native()
+        service, signal = self.library.runtime_service(), self.library.runtime_signal()
+        with cebdyraq.Server(self.library, service, signal, "127.0.0.1:0", "a test", "/src", starts_suspended=True) as server, \
+                socket.create_connection(("127.0.0.1", server.port), timeout=10) as debugger:
+            waiter = threading.Thread(target=server.await_resumption)
+            waiter.start()
+            debugger.sendall(b"JDWP-Handshake")
+            self.assertEqual(debugger.recv(14, socket.MSG_WAITALL), b"JDWP-Handshake")
+            began = struct.pack(">BiBiQ", 2, 1, 90, 0, 1)
+            self.assertEqual(debugger.recv(11 + len(began), socket.MSG_WAITALL)[11:], began)
+            self.assertTrue(waiter.is_alive())
+            self.assertEqual(ask(debugger, 1, 9, b""), (0, b""))
+            waiter.join(timeout=10)
+            self.assertFalse(waiter.is_alive())
+        with cebdyraq.Server(self.library, service, signal, "127.0.0.1:0", "a test") as server:
+            self.assert_code(Code.MISUSED, server.await_resumption)
+
     def test_variables_that_debuggers_are_told(self):
         self.library.runtime_go_native()
         service, signal = self.library.runtime_service(), self.library.runtime_signal()

@@ -104,7 +104,7 @@ static bool await_debugger(struct script *script, lua_State *L) {
     struct host *host = script->host;
     if (!host->suspended_at)
         return true;
-    bool away = script_native(script, L);
+    bool away = script_block(script, L, CQ_PARK);
     while (sem_wait(&host->listening))
         continue;
     sem_post(&host->listening);

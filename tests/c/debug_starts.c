@@ -13,7 +13,7 @@ static cq_service service;
 static cq_signal all_signal;
 static cq_thread thread;
 static pthread_t id;
-static sem_t is_native, listening, over;
+static sem_t stands, listening, over;
 static atomic_bool began;
 
 /* ------------------------------------------------------------------------------------------------------------------
@@ -27,8 +27,8 @@ static void await(sem_t *what) {
 
 static void *work(void *unused) {
     OK(cq_wait_start(&thread, &all_signal, -1));
-    OK(cq_wait_native(&thread, &all_signal));
-    sem_post(&is_native);
+    OK(cq_wait_block(&thread, &all_signal, CQ_PARK));
+    sem_post(&stands);
     await(&listening);
     OK(cq_server_await_resumption(&server));
     OK(cq_wait_back(&thread, &all_signal, -1));
@@ -42,13 +42,13 @@ static void *work(void *unused) {
 
 static void begin(void) {
     atomic_store(&began, false);
-    sem_init(&is_native, 0, 0);
+    sem_init(&stands, 0, 0);
     sem_init(&listening, 0, 0);
     sem_init(&over, 0, 0);
     OK(cq_make(8, 2, 4, &service));
     OK(cq_wait_attach_thread(&service, &all_signal, (const uint8_t *)"worker", 6, 5, &thread));
     SAME(pthread_create(&id, NULL, work, NULL), 0);
-    await(&is_native);
+    await(&stands);
     OK(cq_server_starts_suspended(&server, true));
     OK(cq_debug_listen(&server, &service, &all_signal, "127.0.0.1:0", "tests", "/src"));
     sem_post(&listening);

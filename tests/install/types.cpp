@@ -314,6 +314,20 @@ void test_variables() {
     EXPECT(is_gone);
 }
 
+/* A thread waits until its first debugger has resumed it, or has gone. */
+void test_first_debugger() {
+    cebdyraq::service service(8, 1, 4);
+    auto thread = service.attach_thread("", 5);
+    thread.start();
+    auto away = thread.block(cebdyraq::reason::sleep);
+    auto server = service.debug_listen("127.0.0.1:0", "types", "/src", {nullptr, false, true});
+    std::thread waiter([&] { server.await_resumption(); });
+    const std::string began = std::string("\2\0\0\0\1\x5a\0\0\0\0\0\0\0\0\0\0\0\1", 18);
+    auto told = answer_to(server.port(), "JDWP-Handshake", 14 + 11 + began.size());
+    EXPECT(told.size() == 43 && told.substr(25) == began);
+    waiter.join();
+}
+
 }  // namespace
 
 int main() {
@@ -327,5 +341,6 @@ int main() {
     test_server();
     test_debugger();
     test_variables();
+    test_first_debugger();
     return failures;
 }

@@ -52,8 +52,8 @@ class Server:
         return found.value
 
     def await_resumption(self) -> None:
-        """Sleeps until a debugger has resumed a thread. Threads that wait for their first debugger call it in native code, before their
-        first step."""
+        """Sleeps until a debugger has resumed a thread. Threads that wait for their first debugger call it while they block, before
+        their first step."""
         code = self._library.cq_server_await_resumption(ctypes.byref(self._memory))
         if code != Code.OK:
             raise Error(code)

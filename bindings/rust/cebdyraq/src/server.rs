@@ -69,8 +69,8 @@ impl Server {
         port
     }
 
-    /// Sleeps until a debugger has resumed a thread. Threads that wait for their first debugger call it in native code, before their
-    /// first step. [`Error::Misused`] if it serves HTTP.
+    /// Sleeps until a debugger has resumed a thread. Threads that wait for their first debugger call it while they block, before
+    /// their first step. [`Error::Misused`] if it serves HTTP.
     pub fn await_resumption(&self) -> Result<(), Error> {
         // SAFETY: the server's memory is where it was until it is dropped. This call changes nothing of it but by atomic operations.
         checked(unsafe { sys::cq_server_await_resumption(&raw const *self.memory as *mut sys::cq_server) })

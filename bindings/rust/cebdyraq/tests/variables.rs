@@ -1,4 +1,4 @@
-//! Variables that a server tells a debugger, which speaks the debug wire protocol here.
+//! Variables that a server tells a debugger, and threads that wait for it. It speaks the debug wire protocol here.
 
 use cebdyraq::{ClassInfo, DebugOptions, Error, Frame, Lines, MethodInfo, Names, Reason, Server, Service, Values, Variables};
 use std::io::{Read, Write};
@@ -10,6 +10,7 @@ const THREAD: [u8; 8] = [0, 0, 0, 0, 0, 0, 0, 1];
 const CLASS: [u8; 8] = [0, 0, 0, 4, 0, 0, 0, 0];
 const OBJECT: &str = "Ljava/lang/Object;";
 const VARIABLES: (u8, u8) = (6, 5);
+const RESUME: (u8, u8) = (1, 9);
 const SUSPEND: (u8, u8) = (11, 2);
 const VALUES: (u8, u8) = (16, 1);
 
@@ -104,5 +105,26 @@ fn a_debugger_is_told_of_variables() {
 
     drop(server);
     assert_eq!(Arc::strong_count(&kept), 1);
+    drop(safe);
+}
+
+#[test]
+fn threads_wait_for_their_first_debugger() {
+    let mut service = service();
+    let running = service.attach_thread("main", 5).unwrap().start();
+    let Ok(safe) = running.block(Reason::Sleep) else { panic!("nothing bars it") };
+    let options = DebugOptions { starts_suspended: true, ..DebugOptions::default() };
+    let server = service.debug_listen_with("127.0.0.1:0", "test", "/src", options).unwrap();
+    std::thread::scope(|scope| {
+        let waiter = scope.spawn(|| server.await_resumption());
+        let mut debugger = Debugger::attach(&server);
+        let mut began = [0; 29];
+        debugger.0.read_exact(&mut began).unwrap();
+        assert_eq!(began[11..], [2, 0, 0, 0, 1, 90, 0, 0, 0, 0, 0, 0, 0, 0, 0, 0, 0, 1]);
+        assert!(!waiter.is_finished());
+        assert_eq!(debugger.ask(RESUME, &[]), (0, vec![]));
+        waiter.join().unwrap().unwrap();
+    });
+    drop(server);
     drop(safe);
 }
