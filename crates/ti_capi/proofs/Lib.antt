@@ -9,3 +9,4 @@ mod ClassParts
 mod ClassTelling
 mod Stopping
 mod Telling
+mod Serving

@@ -1,6 +1,7 @@
 -- Doors of either kind, as C uses them.
 use Rattle.std.specs.Prelude.{ℕ, ◌≡◌, ◌≤◌, ◌==◌, ◌/◌, ⊤, Bool, true, false, List, [], is_some, if◌then◌else◌, Option, None, Some, Result, Ok, Err}
 use Rattle.ti_http.specs.Talks.{Talk, written_from}
+use Rattle.ti_types.specs.declared.error.TiError.{TiError}
 use Rattle.ti_monitor.specs.declared.door_error.DoorError.{DoorError}
 use Rattle.ti_monitor.specs.declared.door_error.DoorError.TheVariants.{NoConnection, OutOfMemory}
 use Rattle.ti_monitor.specs.declared.door_seat.Todo.{Todo as HttpTodo}
@@ -18,8 +19,8 @@ use Rattle.ti_debugger.specs.Debuggers.{DebuggerValue, Works}
 use Rattle.ti_debugger.specs.Told.{ToldBy}
 use Rattle.ti_debugger.specs.declared.asked.Asked.TheVariants as asked
 use Rattle.ti_service.specs.Classes.{classes_of}
-use Rattle.ti_service.specs.Leaving.{Disposes}
-use Rattle.ti_service.specs.Memberships.{state_of}
+use Rattle.ti_service.specs.Leaving.{Disposes, StaysOn}
+use Rattle.ti_service.specs.Memberships.{AgentValue, state_of}
 use Rattle.ti_service.specs.Service.{Member}
 use Rattle.ti_debugger.specs.Runs as debugger_runs
 use Rattle.ti_debugger.specs.Seats as debugger_seats
@@ -72,7 +73,7 @@ Opens now c _ _ = ⊥
 
 -- there is no room for one more connection
 abbrev pub IsFull : AnyDoor → AnyDoor → Type 0
-IsFull (any.Http d) (any.Http n) = http.AllRun d n
+IsFull (any.Http d) (any.Http n) = (n ≡ record d { talks = n.talks }) × http.AllRun d n
 IsFull (any.Debugger d) (any.Debugger n) = (is_some d.session ≡ true) × (n ≡ d)
 IsFull _ _ = ⊥
 
@@ -83,8 +84,8 @@ SessionRuns None (Some s) = ⊥
 SessionRuns (Some s) None = ⊥
 SessionRuns (Some s) (Some n) = debugger_runs.RunsTo s n
 
--- Each connection goes on by calls, and none opens or closes. A door for debuggers tells the same of the program,
--- and has resumed no fewer threads
+-- Each connection goes on by calls, and none opens or closes. The door tells the same of the program, and one for debuggers has
+-- resumed no fewer threads
 abbrev pub AllRun : AnyDoor → AnyDoor → Type 0
 AllRun (any.Http d) (any.Http n) = http.AllRun d n
 AllRun (any.Debugger d) (any.Debugger n) = SessionRuns d.session n.session × Works d n
@@ -92,7 +93,7 @@ AllRun _ _ = ⊥
 
 -- the connection goes on by calls, and this is to be done with it
 abbrev pub Goes : ℕ → Todo → AnyDoor → AnyDoor → Type 0
-Goes connection t (any.Http d) (any.Http n) = (h : HttpTodo) × (t ≡ todo_at_door h) × http.Changes d n connection (λ s n. http_seats.RunsTo s n × http_seats.Says n h)
+Goes connection t (any.Http d) (any.Http n) = (h : HttpTodo) × (t ≡ todo_at_door h) × http.GoesOn d n connection (λ s n. http_seats.RunsTo s n × http_seats.Says n h)
 Goes connection t (any.Debugger d) (any.Debugger n) =
     Works d n × sessions.Changes (session_at connection d) (session_at connection n) (λ s s'. debugger_runs.RunsTo s s' × debugger_seats.Says n.asked s' t)
 Goes connection t _ _ = ⊥
@@ -111,10 +112,6 @@ Refuses connection (any.Debugger d) e = RefusesSession (session_at connection d)
 abbrev pub IsUnknown : ℕ → AnyDoor → AnyDoor → DoorError → Type 0
 IsUnknown connection d n e = (e ≡ NoConnection) × (is_there connection d ≡ false) × (n ≡ d)
 
--- the door is as before
-abbrev pub IsAsBefore : AnyDoor → AnyDoor → Type 0
-IsAsBefore d n = n ≡ d
-
 -- the connection takes so many of these bytes, as many as it has room for
 abbrev pub Feeds : ℕ → List ℕ → ℕ → ℕ → AnyDoor → AnyDoor → Type 0
 Feeds connection bytes now count (any.Http d) (any.Http n) = http.Changes d n connection (http.Feeds bytes count (millis now))
@@ -123,7 +120,7 @@ Feeds connection bytes now count _ _ = ⊥
 
 -- the peer of the connection sends no more
 abbrev pub Ends : ℕ → AnyDoor → AnyDoor → Type 0
-Ends connection (any.Http d) (any.Http n) = http.Changes d n connection (λ t n. http_seats.RunsTo t n × (n.ended ≡ true))
+Ends connection (any.Http d) (any.Http n) = http.GoesOn d n connection (λ t n. http_seats.RunsTo t n × (n.ended ≡ true))
 Ends connection (any.Debugger d) (any.Debugger n) = (n ≡ record d { session = n.session }) × sessions.Changes (session_at connection d) (session_at connection n) (λ s n. n ≡ record s { ended = true })
 Ends connection _ _ = ⊥
 
@@ -151,13 +148,20 @@ abbrev pub MayEnd : AnyDoor → Type 0
 MayEnd (any.Http d) = ⊤
 MayEnd (any.Debugger d) = sessions.is_idle d.session d.watched ≡ true
 
--- The environment of a door for debuggers is disposed of, and its handle of the service is left. Of a door for HTTP nothing is said
-abbrev pub EndsAs : AnyDoor → Member → Type 0
-EndsAs (any.Http d) s = ⊤
-EndsAs (any.Debugger d) s = Disposes (state_of d.agent) s
+abbrev pub agent_at : AnyDoor → AgentValue
+agent_at (any.Http d) = d.agent
+agent_at (any.Debugger d) = d.agent
 
--- a door that does not end is as it was, but for its environment, which may have left some of its threads
-abbrev pub StaysAs : AnyDoor → AnyDoor → Type 0
-StaysAs (any.Http d) (any.Http n) = n ≡ d
-StaysAs (any.Debugger d) (any.Debugger n) = n ≡ record d { agent = n.agent }
-StaysAs _ _ = ⊥
+-- the environment of the door is disposed of, and its handle of the service is left
+abbrev pub EndsAs : AnyDoor → Member → Type 0
+EndsAs d s = Disposes (state_of (agent_at d)) s
+
+-- The environment was not disposed of for this error, and may have left some of its threads. It is told of the same events
+abbrev pub RemainsFor : TiError → AgentValue → AgentValue → Type 0
+RemainsFor e a b = StaysOn (state_of a) (state_of b) e × (b.home.events ≡ a.home.events)
+
+-- A door that does not end is as it was, but for its environment. That of a door for HTTP was not disposed of for this error
+abbrev pub StaysAs : TiError → AnyDoor → AnyDoor → Type 0
+StaysAs e (any.Http d) (any.Http n) = (n ≡ record d { agent = n.agent }) × RemainsFor e d.agent n.agent
+StaysAs e (any.Debugger d) (any.Debugger n) = n ≡ record d { agent = n.agent }
+StaysAs e _ _ = ⊥

@@ -9,7 +9,10 @@ use Rattle.ti_monitor.specs.declared.door_error.DoorError.{DoorError}
 use Rattle.ti_monitor.specs.declared.door_error.DoorError.TheVariants as door_error
 use Rattle.ti_debugger.specs.declared.seat.Todo.{Todo}
 use Rattle.ti_debugger.specs.declared.seat.Todo.TheVariants as todo
-use Rattle.ti_monitor.specs.Doors.{door_with}
+use Rattle.ti_monitor.specs.Doors.{DoorValue}
+use Rattle.ti_monitor.specs.Monitors.{MayEnable}
+use Rattle.ti_service.specs.Agent.{IsNewAgent}
+use Rattle.ti_service.specs.Memberships.{AgentValue, state_of}
 use Rattle.ti_service.specs.Service.{Member, with_handle}
 use Rattle.ti_debugger.specs.Crowds.{NoneHeld}
 use Rattle.ti_debugger.specs.declared.about.About.{About}
@@ -19,7 +22,7 @@ use Rattle.ti_capi.specs.declared.any_door.AnyDoor.TheVariants.{Http, Debugger}
 use Rattle.ti_capi.specs.declared.held.Held.{Held}
 use Rattle.ti_capi.specs.Codes.{misused, none_told}
 use Rattle.ti_capi.specs.declared.held.HeldDoor.{HeldDoor}
-use Rattle.ti_capi.specs.AnyDoors.{AllRun, EndsAs, Feeds, Goes, IsAsBefore, IsFull, MayEnd, Opens, Refuses, StaysAs, Ticks, is_there, output_at, resumptions, room_at}
+use Rattle.ti_capi.specs.AnyDoors.{AllRun, EndsAs, Feeds, Goes, IsFull, MayEnd, Opens, Refuses, StaysAs, Ticks, is_there, output_at, resumptions, room_at}
 use Rattle.ti_capi.specs.Handles.{Handle, door_box_in, door_of, service_in, with_door_box}
 use Rattle.ti_capi.specs.Services.{Fills, FillsBy, NamesWrongly, RefusesEnv}
 use Rattle.ti_capi.specs.Values.{over}
@@ -74,7 +77,7 @@ Tells connection action room unwritten d n code = ((code ≡ 0) × TellsNext con
 -- the connection takes so many of the bytes, or all are as before
 abbrev pub Takes : ℕ → List ℕ → ℕ → ℕ → ℕ → AnyDoor → AnyDoor → ℕ → Type 0
 Takes connection bytes now c c' d n code =
-    ((code ≡ 0) × Feeds connection bytes now c' d n) ⊎ (RefusesAt d connection code × IsAsBefore d n × (c' ≡ c))
+    ((code ≡ 0) × Feeds connection bytes now c' d n) ⊎ (RefusesAt d connection code × (n ≡ d) × (c' ≡ c))
 
 -- the connection becomes another so, or there is none of this number, and the door is as it was
 abbrev pub ChangesOne : ℕ → (AnyDoor → AnyDoor → Type 0) → AnyDoor → AnyDoor → ℕ → Type 0
@@ -98,7 +101,7 @@ TellsResumptions count d n code = (code ≡ 0) × (n ≡ d) × (count ≡ resump
 
 -- the code tells why the environment of a door stays, and so does the door. An empty box has none
 abbrev pub StaysIn : Option AnyDoor → Option AnyDoor → ℕ → Type 0
-StaysIn (Some d) (Some n) code = (e : TiError) × (code ≡ number_of e) × StaysAs d n
+StaysIn (Some d) (Some n) code = (e : TiError) × (code ≡ number_of e) × StaysAs e d n
 StaysIn (Some d) None code = ⊥
 StaysIn None after code = (after ≡ None) × (code ≡ misused)
 
@@ -124,12 +127,29 @@ ClosesDoor old new code = ClosesBehind (door_box_in old) (door_box_in new) old n
 abbrev pub RefusesDoor : List ℕ → Member → Member → TiError → Type 0
 RefusesDoor name m n e = (NamesWrongly name e × (n ≡ m)) ⊎ RefusesEnv m n e
 
--- a door without connections, which serves these hosts
-abbrev pub HasDoor : ℕ → Option Held → Type 0
-HasDoor port held = door_of held ≡ Some (Http (door_with (hosts_at port) []))
+-- the version of this library
+abbrev pub version : List ℕ
+version = codes "1.6.0"
+
+-- A door without connections, with an environment of its own that came by this handle of the service. It serves the hosts of the
+-- port, and tells this name and this version
+pub record Serves (name version : List ℕ) (port : ℕ) (m : Member) (d : DoorValue) : Type 0 where
+  pub hosts_are : d.hosts ≡ hosts_at port
+  pub talks_are : d.talks ≡ []
+  pub program_is : d.program ≡ name
+  pub version_is : d.version ≡ version
+  pub agent_is : (a : AgentValue) × IsNewAgent m (state_of a) × MayEnable (state_of a) (state_of d.agent)
+
+abbrev pub ServesAt : List ℕ → ℕ → Member → Option AnyDoor → Type 0
+ServesAt name port m (Some (Http d)) = Serves name version port m d
+ServesAt name port m (Some (Debugger d)) = ⊥
+ServesAt name port m None = ⊥
+
+abbrev pub HasDoor : List ℕ → ℕ → Member → Option Held → Type 0
+HasDoor name port m held = ServesAt name port m (door_of held)
 
 abbrev pub OpensFor : List ℕ → ℕ → Member → Member → Handle → Handle → ℕ → Type 0
-OpensFor name port m n old new code = Fills (n ≡ m) (λ x. (n ≡ with_handle m) × HasDoor port x) (RefusesDoor name m n) old new code
+OpensFor name port m n old new code = Fills (n ≡ m) (λ x. (n ≡ with_handle m) × HasDoor name port m x) (RefusesDoor name m n) old new code
 
 abbrev pub OpensDoor : List ℕ → ℕ → Handle → Handle → Handle → Handle → ℕ → Type 0
 OpensDoor name port s0 s1 old new code = FillsBy (OpensFor name port) (service_in s0) (service_in s1) s0 s1 old new code
@@ -140,10 +160,6 @@ NamesOneWrongly name path e = NamesWrongly name e ⊎ NamesWrongly path e
 
 abbrev pub RefusesDebugger : List ℕ → List ℕ → Member → Member → TiError → Type 0
 RefusesDebugger name path m n e = (NamesOneWrongly name path e × (n ≡ m)) ⊎ RefusesEnv m n e
-
--- the version of this library
-abbrev pub version : List ℕ
-version = codes "1.6.0"
 
 -- debuggers are told this name, this path and this version
 pub record TellsAbout (name path version : List ℕ) (a : About) : Type 0 where

@@ -91,7 +91,7 @@ impl AnyDoor {
     ) -> Result<usize, DoorError>
         ensures fed { IfOk result (λ n. Feeds connection bytes.now now n self.old self.new) }
         ensures refused { IfErr result (Refuses connection self.old) }
-        ensures kept { OnErr result (IsAsBefore self.old self.new) }
+        ensures kept { OnErr result (self.new ≡ self.old) }
     {
         match self {
             AnyDoor::Http(door) => door.feed(ConnNo(connection), bytes, now),
@@ -285,7 +285,7 @@ impl AnyDoor {
     pub(crate) fn finish(self) -> Result<Service, (TiError, AnyDoor)>
         ensures done { OnOk result (MayEnd self) }
         ensures disposed { IfOk result (EndsAs self) }
-        ensures stays { IfErr result (λ p. StaysAs self p.1) }
+        ensures stays { IfErr result (λ p. StaysAs p.0 self p.1) }
     {
         match self {
             AnyDoor::Http(door) => match door.finish() {
@@ -302,4 +302,4 @@ impl AnyDoor {
 
 ghost use Rattle.std.specs.Prelude.{◌≡◌, IfErr, IfNone, IfOk, IfSome, OnErr, OnOk};
 ghost use Rattle.ti_capi.specs.Questions.{SaysPops, SaysStarts, SaysTells, TellsNone, TellsTold, TellsVariables, question_at};
-ghost use Rattle.ti_capi.specs.AnyDoors.{AllRun, Disconnects, Ends, EndsAs, Feeds, Goes, IsAsBefore, IsFull, IsUnknown, MayEnd, Opens, Refuses, StaysAs, Ticks, Writes, at_door, is_there, only, output_at, resumptions, room_at, todo_at_door};
+ghost use Rattle.ti_capi.specs.AnyDoors.{AllRun, Disconnects, Ends, EndsAs, Feeds, Goes, IsFull, IsUnknown, MayEnd, Opens, Refuses, StaysAs, Ticks, Writes, at_door, is_there, only, output_at, resumptions, room_at, todo_at_door};

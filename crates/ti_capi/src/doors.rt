@@ -64,11 +64,11 @@ fn open(
     alloc: Global,
     service: &mut Service,
     program: &[u8],
-    hosts: Hosts,
+    port: u32,
     now: u64,
 ) -> Result<Box<Held>, TiError>
     ensures made { OnOk result (service.new ≡ with_handle service.old) }
-    ensures opened { IfOk result (λ b. door_of (Some b.value) ≡ Some (Http (door_with hosts []))) }
+    ensures opened { IfOk result (λ b. HasDoor program.now port service.old (Some b.value)) }
     ensures refused { IfErr result (λ e. RefusesDoor program.now service.old service.new e) }
 {
     let program = name_of(alloc, program)?;
@@ -76,8 +76,9 @@ fn open(
     let mut held = boxed(alloc, Held::Door(HeldDoor { door: None }))?;
     let agent = service.attach_environment_now(alloc)?;
     let monitor = Monitor::new(alloc, agent, program, now);
+    let door = Door::new(alloc, monitor, hosts_at(port), version);
     *held = Held::Door(HeldDoor {
-        door: Some(AnyDoor::Http(Door::new(alloc, monitor, hosts, version))),
+        door: Some(AnyDoor::Http(door)),
     });
     Ok(held)
 }
@@ -100,7 +101,7 @@ pub extern "C" fn cq_open_door(
     if !door.is_empty() {
         return CQ_MISUSED;
     }
-    fill(door, open(alloc, service, program, hosts_at(port), now))
+    fill(door, open(alloc, service, program, port, now))
 }
 
 /// What a debugger is told of the runtime.
@@ -363,10 +364,7 @@ fn close(held: &mut HeldDoor) -> u32
     }
 }
 
-ghost use Rattle.std.specs.Prelude.{◌≡◌, [], ⊤, IfErr, IfOk, OnOk, Some, string_bytes};
-ghost use Rattle.ti_monitor.specs.Doors.{door_with};
+ghost use Rattle.std.specs.Prelude.{◌≡◌, ⊤, IfErr, IfOk, OnOk, Some, string_bytes};
 ghost use Rattle.ti_capi.specs.AnyDoors.{Disconnects, Ends, Writes};
-ghost use Rattle.ti_capi.specs.Doors.{AwaitsDebugger, CallsDoor, ChangesOne, Closes, ClosesDoor, Connects, GivesOutput, IsTicked, NamesOneWrongly, OpensDebugger, OpensDoor, RefusesDebugger, RefusesDoor, Takes, Tells, TellsAbout, TellsResumptions, action_of, code_done, code_refused, hosts_at};
-ghost use Rattle.ti_capi.specs.Handles.{door_of};
-ghost use Rattle.ti_capi.specs.declared.any_door.AnyDoor.TheVariants.{Http};
+ghost use Rattle.ti_capi.specs.Doors.{AwaitsDebugger, CallsDoor, ChangesOne, Closes, ClosesDoor, Connects, GivesOutput, HasDoor, IsTicked, NamesOneWrongly, OpensDebugger, OpensDoor, RefusesDebugger, RefusesDoor, Takes, Tells, TellsAbout, TellsResumptions, action_of, code_done, code_refused, hosts_at};
 ghost use Rattle.ti_service.specs.Service.{with_handle};
