@@ -14,7 +14,7 @@ use Rattle.ti_debugger.specs.declared.debugger_error.DebuggerError.{DebuggerErro
 use Rattle.ti_debugger.specs.declared.debugger_error.DebuggerError.TheVariants as debugger_error
 use Rattle.ti_debugger.specs.declared.seat.Todo.{Todo}
 use Rattle.ti_debugger.specs.declared.seat.Todo.TheVariants as todo
-use Rattle.ti_debugger.specs.Crowds.{NoneHeld}
+use Rattle.ti_debugger.specs.Crowds.{NoneHeld, alive_in, first}
 use Rattle.ti_debugger.specs.Debuggers.{DebuggerValue, Works}
 use Rattle.ti_debugger.specs.Told.{ToldBy}
 use Rattle.ti_debugger.specs.declared.asked.Asked.TheVariants as asked
@@ -22,6 +22,7 @@ use Rattle.ti_service.specs.Classes.{classes_of}
 use Rattle.ti_service.specs.Leaving.{Disposes, StaysOn}
 use Rattle.ti_service.specs.Memberships.{AgentValue, state_of}
 use Rattle.ti_service.specs.Service.{Member}
+use Rattle.ti_debugger.specs.Opening as opening
 use Rattle.ti_debugger.specs.Runs as debugger_runs
 use Rattle.ti_debugger.specs.Seats as debugger_seats
 use Rattle.ti_debugger.specs.Sessions as sessions
@@ -68,7 +69,7 @@ resumptions (any.Debugger d) = d.resumptions
 -- a connection of this number is taken in at this time
 abbrev pub Opens : ℕ → ℕ → AnyDoor → AnyDoor → Type 0
 Opens now c (any.Http d) (any.Http n) = http.Opens d n c (millis now)
-Opens now c (any.Debugger d) (any.Debugger n) = (c ≡ 0) × (d.session ≡ None) × (n.session ≡ Some debugger_talks.opened) × (n ≡ record d { session = n.session })
+Opens now c (any.Debugger d) (any.Debugger n) = (c ≡ 0) × (d.session ≡ None) × opening.Opens d.starts (first (alive_in d.watched)) n × (n ≡ record d { session = n.session; starts = n.starts })
 Opens now c _ _ = ⊥
 
 -- there is no room for one more connection
@@ -140,7 +141,7 @@ Disconnects connection _ _ = ⊥
 abbrev pub Ticks : AnyDoor → AnyDoor → Type 0
 Ticks (any.Http d) (any.Http n) = http.AllRun d n
 Ticks (any.Debugger d) (any.Debugger n) =
-    ToldBy (classes_of n.agent) d.next_class n.next_class d.session n.session × (d.resumptions ≤ n.resumptions) × (n.about ≡ d.about) × (n.tells ≡ d.tells) × (n.asked ≡ d.asked) × (n.objects ≡ d.objects)
+    ToldBy (classes_of n.agent) d.next_class n.next_class d.session n.session × (d.resumptions ≤ n.resumptions) × (n.about ≡ d.about) × (n.starts ≡ d.starts) × (n.tells ≡ d.tells) × (n.asked ≡ d.asked) × (n.objects ≡ d.objects)
 Ticks _ _ = ⊥
 
 -- A door for debuggers ends only if no debugger is connected, and no suspension is out or to be undone

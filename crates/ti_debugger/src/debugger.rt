@@ -192,6 +192,7 @@ impl Debugger {
         ensures told { ToldBy (classes_of self.new.agent) self.old.next_class self.new.next_class self.old.session self.new.session }
         ensures resumptions { self.old.resumptions ≤ self.new.resumptions }
         ensures about { self.new.about ≡ self.old.about }
+        ensures starts { self.new.starts ≡ self.old.starts }
         ensures variables { (self.new.tells ≡ self.old.tells) × (self.new.asked ≡ self.old.asked) × (self.new.objects ≡ self.old.objects) }
     {
         self.last_tick = now;
@@ -202,8 +203,8 @@ impl Debugger {
         self.desk.settle_all();
     }
 
-    /// How many times it has resumed a thread of the service, or has let one go on that had stopped, since it was made. The count never goes back, and stays at 2^64 - 1. When
-    /// it has grown, wake the threads that sleep.
+    /// How many times it has resumed a thread of the service, or has let one go on that had stopped, since it was made. The count never
+    /// goes back, and stays at 2^64 - 1. When it has grown, wake the threads that sleep.
     pub fn resumptions(&self) -> u64
         ensures { result ≡ self.now.resumptions }
     {
