@@ -34,6 +34,7 @@ pub(crate) fn tell_classes(seat: &mut Option<Seat>, desk: &mut Desk)
     ensures told { ToldBy (classes_of desk.new.agent) desk.old.next_class desk.new.next_class (session_in seat.old) (session_in seat.new) }
     ensures resumptions { desk.new.resumptions ≡ desk.old.resumptions }
     ensures about { desk.new.about ≡ desk.old.about }
+    ensures starts { desk.new.starts ≡ desk.old.starts }
     ensures variables { (desk.new.tells ≡ desk.old.tells) × (desk.new.asked ≡ desk.old.asked) × (desk.new.objects ≡ desk.old.objects) }
 {
     desk.more_classes = false;

@@ -10,6 +10,7 @@ loop-preserved c = record {
   told = told_on _ _ _ _ _ _ _ (told_more _ _ _ _ _ _ c.tell_class.ensures.known c.loop.invariant.told) c.tell_class.ensures.told;
   resumptions = search rules;
   about = search rules;
+  starts = search rules;
   tells = search rules;
   asked = search rules;
   objects = search rules;

@@ -9,6 +9,7 @@ invariant-loop l = record {
   told : ToldBy (classes_of l.desk.agent) l.fn.desk.next_class l.desk.next_class (session_in l.fn.seat) (session_in l.seat);
   resumptions : l.desk.resumptions ≡ l.fn.desk.resumptions;
   about : l.desk.about ≡ l.fn.desk.about;
+  starts : l.desk.starts ≡ l.fn.desk.starts;
   tells : l.desk.tells ≡ l.fn.desk.tells;
   asked : l.desk.asked ≡ l.fn.desk.asked;
   objects : l.desk.objects ≡ l.fn.desk.objects;
