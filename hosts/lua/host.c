@@ -112,6 +112,8 @@ static bool await_debugger(struct script *script, lua_State *L) {
         complain(script, "the wait for a debugger", cq_server_await_resumption(&host->servers[DOOR_DEBUGGER]));
     if (away)
         script_back(script);
+    if (script->inspected)
+        stops_notice(script, L);
     return host->listens;
 }
 

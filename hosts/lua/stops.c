@@ -57,12 +57,17 @@ static void stop(struct script *script) {
     complain(script, "a stop", code);
 }
 
-void stops_look(struct script *script, lua_State *L, lua_Debug *ar) {
+bool stops_notice(struct script *script, lua_State *L) {
     bool may = cq_may_stop(&script->thread);
     if (may != script->stops) {
         script->stops = may;
         set_hook(script, L);
     }
+    return may;
+}
+
+void stops_look(struct script *script, lua_State *L, lua_Debug *ar) {
+    bool may = stops_notice(script, L);
     if (!may || (ar->event != LUA_HOOKLINE && ar->event != LUA_HOOKRET))
         return;
     if (tell(script, L, ar) && give_stack(script, L, 0, false))

@@ -10,6 +10,9 @@
 /* The events of the hook that a script's states have between two nudges. */
 int stops_mask(const struct script *script);
 
+/* On the script's thread: whether an agent is told of stops. If so, the hook is called at each line from now on. */
+bool stops_notice(struct script *script, lua_State *L);
+
 /* In a hook: the script stops if an agent wants it to at this line or return. */
 void stops_look(struct script *script, lua_State *L, lua_Debug *ar);
 
