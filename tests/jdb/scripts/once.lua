@@ -3,4 +3,4 @@ local total = 0
 for i = 1, 3 do
     total = total + i
 end
-print("once", total)
+io.write("once\t" .. total .. "\n")
