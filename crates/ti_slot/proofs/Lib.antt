@@ -5,4 +5,5 @@ pub mod CallStatusLaws
 pub mod TicketLaws
 pub mod TellLaws
 pub mod OpenLaws
+pub mod HandOverLaws
 pub mod WholeLaws

@@ -2,6 +2,7 @@ pub mod Condition
 pub mod Waiting
 pub mod Thread
 pub mod Slot
-pub mod Inside
 pub mod Refusal
 pub mod Tickets
+pub mod HandOvers
+pub mod Inside

@@ -51,6 +51,8 @@ pub struct Slot {
     pub(crate) history: Record<Entry>,
     /// What the thread has spent of its own entries.
     pub(crate) own: u64,
+    /// How often the thread has handed over.
+    pub(crate) handed: u64,
     pub(crate) ops: PendingOps,
     /// `None` exactly while the thread runs, which has them then.
     pub(crate) frames: Option<Frames>,
@@ -98,6 +100,7 @@ impl Slot {
             frames: Some(frames),
             log: Some(log),
             own: 0,
+            handed: 0,
             ops,
             history,
         })
@@ -265,6 +268,35 @@ impl Slot {
         self.limits.own - self.own
     }
 
+    /// How often the thread has handed over, in native code, blocked or at a poll. A hand-over that was refused does not
+    /// count, and neither does the thread's end.
+    ///
+    /// # Examples
+    ///
+    /// ```rattle
+    /// # use ti_slot::Slot;
+    /// # use ti_types::{Kind, Limits, Safe, ThreadNo};
+    /// # let limits = Limits::new(1, 1, 4, 16, 8).ok_or("the limits are in range")?;
+    /// let mut slot = Slot::new(rt.alloc(), limits, ThreadNo(0))?;
+    /// let (frames, mut log) = slot.start()?;
+    /// assert!(rt; slot.hand_overs() == 0);
+    /// // No frame is native, so the thread does not hand over to native code.
+    /// let Err((_, frames)) = slot.hand_over(frames, &mut log, Safe::Native) else {
+    ///     return Err("the newest frame is not native".into());
+    /// };
+    /// assert!(rt; slot.hand_overs() == 0);
+    /// let handed_over = slot.hand_over(frames, &mut log, Safe::Blocked(Kind::Sleep));
+    /// assert!(rt; handed_over.is_ok() && slot.hand_overs() == 1);
+    /// let frames = slot.back()?;
+    /// slot.end(frames, &mut log);
+    /// assert!(rt; slot.hand_overs() == 1);
+    /// ```
+    pub fn hand_overs(&self) -> u64
+        ensures { result ≡ hand_overs self.now.history }
+    {
+        self.handed
+    }
+
     /// Whether the thread has to hand over at its next poll: a waiting call is unanswered, or a stop is in force.
     pub fn armed(&self) -> bool
         ensures { result ≡ is_armed self.now.limits self.now.history }
@@ -333,6 +365,7 @@ impl Slot {
             frames: _,
             log: _,
             own: _,
+            handed: _,
             ops: _,
             history,
         } = self;
@@ -359,3 +392,4 @@ ghost use Rattle.ti_types.specs.declared.numbers.EnvNo.{EnvNo};
 ghost use Rattle.std.specs.Prelude.{◌&&◌, ◌==◌, nat_lt};
 ghost use Rattle.ti_replay.specs.Tickets.{reply_to};
 ghost use Rattle.ti_slot.specs.Waiting.{IsBufferOf, HasRoomFor};
+ghost use Rattle.ti_slot.specs.HandOvers.{hand_overs};

@@ -105,6 +105,7 @@ impl Slot {
         push(&mut self.history, Entry::Hand(safe));
         log.clear();
         self.own = own + own_cost(Entry::Hand(safe));
+        self.handed += 1;
         self.condition.mode = Mode::AtSafe(safe);
         let mut frames = frames;
         serve(

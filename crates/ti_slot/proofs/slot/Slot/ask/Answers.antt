@@ -1,7 +1,9 @@
-use Rattle.std.proofs.Common.{arith, sym, ◌∙◌}
+use Rattle.std.proofs.Common.{refl, arith, sym, ◌∙◌}
+use Rattle.ti_types.specs.declared.entry.Entry.TheVariants.{Asked}
 use Rattle.ti_slot.proofs.CallLaws.{may_call}
 use Rattle.ti_slot.proofs.WholeLaws.{Asks, asks_here, lists_here, now_whole, now_told, later_whole, later_told}
 use Rattle.ti_slot.proofs.slot.Slot.ask.Goals.{After-asked-no}
+use Rattle.ti_slot.proofs.HandOverLaws.{count_stays}
 use Rattle.ti_slot.proofs.slot.Slot.ask.Goals as goal
 
 pub asked-no-requires : goal.asked-no-requires
@@ -21,8 +23,10 @@ push-requires c = (asks (goal.at.push-requires c).After-asked-no).comes.room
 
 pub invariant_of-self : goal.invariant_of-self
 invariant_of-self c =
+    let whole =
     later_whole c.self.inside _ c.args.env c.asked-no.result c.args.call c.args.buf c.push.new.history c.post.new.self c.self.invariant c.self.view_is (asks (goal.at.invariant_of-self c).After-asked-no)
-    (sym c.is_put_off.ensures ∙ c.if-is_put_off.true) c.push.ensures.items c.push.ensures.shelf c.post.ensures c.requires.buf
+    (sym c.is_put_off.ensures ∙ c.if-is_put_off.true) c.push.ensures.items c.push.ensures.shelf c.post.ensures c.requires.buf in
+    (whole.0, whole.1, count_stays c.self.inside (Asked c.args.env c.asked-no.result c.args.call) c.push.new.history.items c.self.invariant refl c.push.ensures.items)
 
 pub returns-then-is_put_off-clause-asked : goal.returns-then-is_put_off-clause-asked
 returns-then-is_put_off-clause-asked c =
@@ -46,8 +50,10 @@ push-requires-else-is_put_off c = (asks (goal.at.push-requires-else-is_put_off c
 pub invariant_of-self-else-is_put_off : goal.invariant_of-self-else-is_put_off
 invariant_of-self-else-is_put_off c =
     let push = c.push-else-is_put_off in
+    let whole =
     now_whole c.self.inside c.args.env c.asked-no.result c.args.call push.new.history c.take_at_once.new.condition c.take_at_once.new.frames c.pass.new.self c.self.invariant (asks (goal.at.invariant_of-self-else-is_put_off c).After-asked-no)
-    (sym c.is_put_off.ensures ∙ c.if-is_put_off.false) push.ensures.items push.ensures.shelf c.take_at_once.ensures.view c.take_at_once.ensures.home c.pass.ensures
+    (sym c.is_put_off.ensures ∙ c.if-is_put_off.false) push.ensures.items push.ensures.shelf c.take_at_once.ensures.view c.take_at_once.ensures.home c.pass.ensures in
+    (whole.0, whole.1, count_stays c.self.inside (Asked c.args.env c.asked-no.result c.args.call) push.new.history.items c.self.invariant refl push.ensures.items)
 
 pub returns-else-is_put_off-clause-asked : goal.returns-else-is_put_off-clause-asked
 returns-else-is_put_off-clause-asked c =

@@ -3,6 +3,7 @@ use Rattle.ti_types.specs.declared.entry.Entry.TheVariants.{Back}
 use Rattle.ti_slot.proofs.CallLaws.{Comes, back_comes, returned, frames_go, runs_returned}
 use Rattle.ti_slot.proofs.WholeLaws.{plain_after, plain_thread}
 use Rattle.ti_slot.proofs.slot.Slot.back.Goals.{Else-is_some}
+use Rattle.ti_slot.proofs.HandOverLaws.{count_stays}
 use Rattle.ti_slot.proofs.slot.Slot.back.Goals as goal
 
 comes_back : (c : Else-is_some) → Comes c.self.inside Back
@@ -15,6 +16,7 @@ pub invariant_of-self : goal.invariant_of-self
 invariant_of-self c = (
   rw c.take.ensures.after (returned c.self.inside c.push.new.history c.self.invariant.0 (comes_back (goal.at.invariant_of-self c).Else-is_some).may (sym c.is_safe.ensures ∙ c.if-not-is_safe.false) c.push.ensures.items c.push.ensures.shelf),
   plain_after c.self.inside Back c.push.new.history.items c.self.invariant refl c.push.ensures.items,
+  count_stays c.self.inside Back c.push.new.history.items c.self.invariant refl c.push.ensures.items,
 )
 
 pub returns-clause-frames : goal.returns-clause-frames

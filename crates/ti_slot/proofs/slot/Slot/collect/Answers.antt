@@ -13,6 +13,7 @@ invariant_of-self c =
     let i = c.self.inside in (
       less_stands i c.collect.new.self _ c.self.invariant.0 c.collect.ensures.statuses,
       less_after i c.args.ticket c.collect.new.self c.collect.result c.self.invariant c.collect.ensures.answer c.collect.ensures.statuses,
+      c.self.invariant.2,
     )
 
 pub returns-clause-answer : goal.returns-clause-answer

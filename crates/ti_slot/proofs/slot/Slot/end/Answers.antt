@@ -7,6 +7,7 @@ use Rattle.ti_slot.specs.Thread.{Thread}
 use Rattle.ti_slot.proofs.CallLaws.{Runs, runs_on, ran_room, room_behind, entry_behind, may_end}
 use Rattle.ti_slot.proofs.WholeLaws.{end_whole, served_thread, awaited_here}
 use Rattle.ti_slot.proofs.slot.Slot.end.Goals.{After-len, After-push}
+use Rattle.ti_slot.proofs.HandOverLaws.{count_stays_behind}
 use Rattle.ti_slot.proofs.slot.Slot.end.Goals as goal
 
 -- the thread goes on by its logged steps, and may end then
@@ -39,9 +40,11 @@ pub invariant_of-self : goal.invariant_of-self
 invariant_of-self c =
     let i = c.self.inside in
     let p = goal.at.invariant_of-self c in
+    let whole =
     end_whole i _ c.args.log.now.steps c.args.frames c.clear.new.self c.serve.new.frames c.push.new.history c.serve.new.condition (i.own + c.len.result) c.serve.new.ops c.self.invariant c.self.view_is (runs p.After-len).ran (may p.After-len)
     (pushed p.After-push) (c.push.ensures.shelf ∙ c.push_steps.ensures.shelf) c.clear.ensures c.serve.ensures.depth (omega (arith, c.len.ensures.len))
-    c.serve.ensures.view c.serve.ensures.waiting c.serve.ensures.given c.serve.ensures.window
+    c.serve.ensures.view c.serve.ensures.waiting c.serve.ensures.given c.serve.ensures.window in
+    (whole.0, whole.1, count_stays_behind i c.args.log.now.steps End c.push.new.history.items c.self.invariant refl (pushed p.After-push))
 
 pub returns-clause-legal : goal.returns-clause-legal
 returns-clause-legal c = (invariant_of-self c).0.legal

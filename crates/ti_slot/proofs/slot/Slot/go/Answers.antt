@@ -4,6 +4,7 @@ use Rattle.ti_types.specs.declared.event.Event.TheVariants as event
 use Rattle.ti_slot.proofs.CallLaws.{Comes, go_comes, let_go, view_is}
 use Rattle.ti_slot.proofs.WholeLaws.{plain_after, held_thread}
 use Rattle.ti_slot.proofs.slot.Slot.go.Goals.{Else-not-held}
+use Rattle.ti_slot.proofs.HandOverLaws.{count_stays}
 use Rattle.ti_slot.proofs.slot.Slot.go.Goals as goal
 
 goes : (c : Else-not-held) → Comes c.self.inside (Go c.args.env)
@@ -16,6 +17,7 @@ pub invariant_of-self : goal.invariant_of-self
 invariant_of-self c = (
   let_go c.self.inside c.args.env c.push.new.history c.self.invariant.0 (goes (goal.at.invariant_of-self c).Else-not-held).may c.push.ensures.items c.push.ensures.shelf,
   plain_after c.self.inside (Go c.args.env) c.push.new.history.items c.self.invariant refl c.push.ensures.items,
+  count_stays c.self.inside (Go c.args.env) c.push.new.history.items c.self.invariant refl c.push.ensures.items,
 )
 
 pub returns-clause-legal : goal.returns-clause-legal

@@ -7,6 +7,7 @@ use Rattle.ti_slot.specs.Thread.{Thread}
 use Rattle.ti_slot.proofs.CallLaws.{Runs, runs_on, ran_room, room_behind, entry_behind, refusal_is, Hands, hands_here}
 use Rattle.ti_slot.proofs.WholeLaws.{hand_whole, served_thread, awaited_here}
 use Rattle.ti_slot.proofs.slot.Slot.hand_over.Goals.{After-len, After-refusal_of_hand, In_default, After-push}
+use Rattle.ti_slot.proofs.HandOverLaws.{one_more, count_bounded}
 use Rattle.ti_slot.proofs.slot.Slot.hand_over.Goals as goal
 
 -- the thread goes on by its logged steps
@@ -51,13 +52,18 @@ push-requires c =
 pub overflow_add-self : goal.overflow_add-self
 overflow_add-self c = omega (arith, (runs (goal.at.overflow_add-self c).After-len).few, c.len.ensures.len, c.self.inside.limits.in_range, c.own_cost.ensures.small)
 
+pub overflow_add-self-2 : goal.overflow_add-self-2
+overflow_add-self-2 c = omega (arith, count_bounded c.self.inside c.self.invariant)
+
 pub invariant_of-self : goal.invariant_of-self
 invariant_of-self c =
     let i = c.self.inside in
     let p = goal.at.invariant_of-self c in
+    let whole =
     hand_whole i _ c.args.log.now.steps c.args.safe c.args.frames c.serve.new.frames c.push.new.history c.serve.new.condition (i.own + c.len.result + c.own_cost.result) c.serve.new.ops c.self.invariant c.self.view_is (hands p.In_default)
     (pushed p.After-push) (c.push.ensures.shelf ∙ c.push_steps.ensures.shelf) c.serve.ensures.depth (omega (arith, c.len.ensures.len, c.own_cost.ensures.cost))
-    c.serve.ensures.view c.serve.ensures.waiting c.serve.ensures.given c.serve.ensures.window
+    c.serve.ensures.view c.serve.ensures.waiting c.serve.ensures.given c.serve.ensures.window in
+    (whole.0, whole.1, one_more i c.args.log.now.steps c.args.safe c.push.new.history.items c.self.invariant (pushed p.After-push))
 
 pub returns-clause-when : goal.returns-clause-when
 returns-clause-when c = refused (goal.at.returns-clause-when c).After-refusal_of_hand ∙ c.in_default.is

@@ -1,4 +1,4 @@
-use Rattle.std.proofs.Common.{◌≡◌, ◌∙◌, arith}
+use Rattle.std.proofs.Common.{◌≡◌, refl, ◌∙◌, arith}
 use Rattle.ti_slot.specs.Slot.{room_of}
 use Rattle.ti_slot.proofs.SlotLaws.{new_stands}
 use Rattle.ti_slot.proofs.WholeLaws.{tells_nothing}
@@ -16,4 +16,5 @@ invariant_of-result c =
           (λ i. record { room = room i; kept = kept i }) c.in_ok-words.ensures c.in_ok-frames.ensures.frames c.in_ok-frames.ensures.depth c.in_ok-log.ensures.steps c.in_ok-log.ensures.room (c.in_ok-log.ensures.kept ∙ c.of-recording.ensures)
           o.waiting o.window,
       rw (c.in_ok-history.ensures.items, o.waiting, o.statuses) (tells_nothing limits c.args.number),
+      rw c.in_ok-history.ensures.items refl,
     )

@@ -7,6 +7,7 @@ use Rattle.ti_slot.specs.Condition.{view_of}
 use Rattle.ti_slot.proofs.AskLaws.{Reads, reads_here, was_read, read_told}
 use Rattle.ti_slot.proofs.WholeLaws.{plain_after, held_thread}
 use Rattle.ti_slot.proofs.slot.Slot.read.Goals.{In-Some, After-push}
+use Rattle.ti_slot.proofs.HandOverLaws.{count_stays}
 use Rattle.ti_slot.proofs.slot.Slot.read.Goals as goal
 
 reads : (c : In-Some) → Reads c.self.inside c.args.env c.args.max_count
@@ -28,6 +29,7 @@ invariant_of-self c =
     let p = (goal.at.invariant_of-self c).In-Some in (
       was_read i c.args.env c.args.max_count c.push.new.history c.self.invariant.0 (reads p).comes.may (pushed c) c.push.ensures.shelf,
       plain_after i (Read c.args.env c.args.max_count) c.push.new.history.items c.self.invariant refl (pushed c),
+      count_stays i (Read c.args.env c.args.max_count) c.push.new.history.items c.self.invariant refl (pushed c),
     )
 
 pub returns-clause-answer : goal.returns-clause-answer

@@ -3,6 +3,7 @@ use Rattle.ti_types.specs.declared.entry.Entry.TheVariants.{Start}
 use Rattle.ti_slot.proofs.CallLaws.{Comes, start_comes, started, frames_go, runs_started}
 use Rattle.ti_slot.proofs.WholeLaws.{plain_after, plain_thread}
 use Rattle.ti_slot.proofs.slot.Slot.start.Goals.{Else-is_some}
+use Rattle.ti_slot.proofs.HandOverLaws.{count_stays}
 use Rattle.ti_slot.proofs.slot.Slot.start.Goals as goal
 
 starts : (c : Else-is_some) → Comes c.self.inside Start
@@ -15,6 +16,7 @@ pub invariant_of-self : goal.invariant_of-self
 invariant_of-self c = (
   rw (c.take.ensures.after, c.take-2.ensures.after) (started c.self.inside c.push.new.history c.self.invariant.0 (starts (goal.at.invariant_of-self c).Else-is_some).may c.push.ensures.items c.push.ensures.shelf),
   plain_after c.self.inside Start c.push.new.history.items c.self.invariant refl c.push.ensures.items,
+  count_stays c.self.inside Start c.push.new.history.items c.self.invariant refl c.push.ensures.items,
 )
 
 pub returns-clause-frames : goal.returns-clause-frames
