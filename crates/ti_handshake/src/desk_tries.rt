@@ -7,6 +7,15 @@ use crate::desk::{Desk, collect_own, is_own_out};
 use ti_slot::Asked;
 use ti_types::{Answer, Call, TiError, Ticket, TraceBuf};
 
+/// What one hold sees of a thread.
+#[derive(Drop)]
+struct Looked {
+    /// Whether the stop of the desk's environment is in force and the thread does not run.
+    standing: bool,
+    /// How often the thread has handed over.
+    hand_overs: u64,
+}
+
 impl Desk {
     /// Makes a call at the thread as `post` does, but tries to hold the cell just once. It costs one call.
     ///
@@ -235,6 +244,36 @@ impl Desk {
         }
     }
 
+    /// Looks at the thread, and tries to hold the cell just once. It adds nothing.
+    ///
+    /// The error is `Busy` (215) if the cell is in use. Then nothing changes.
+    fn look_now(&mut self) -> Result<Looked, TiError>
+        ensures same { IsSame self.old self.new }
+        ensures hold { OnOk result (Holds self.old.view self.new.view []) }
+        ensures standing { IfOk result (λ l. l.standing ≡ is_standing self.old.view.subject.limits self.new.view.seen self.old.env) }
+        ensures hand_overs { IfOk result (λ l. l.hand_overs ≡ hand_overs self.new.view.seen) }
+        ensures busy { IfErr result (λ e. (e ≡ Busy) × (self.new ≡ self.old)) }
+    {
+        let Some(seat) = self.seat.take() else {
+            unreachable!()
+        };
+        match self.cell.hold_now(seat) {
+            Ok(mut hold) => {
+                let slot = hold.slot();
+                let looked = Looked {
+                    standing: slot.standing(self.env),
+                    hand_overs: slot.hand_overs(),
+                };
+                self.seat = Some(hold.store_quietly());
+                Ok(looked)
+            }
+            Err(seat) => {
+                self.seat = Some(seat);
+                Err(TiError::Busy)
+            }
+        }
+    }
+
     /// Whether this environment's stop is in force and the thread does not run. It is the same as `standing`, but tries to
     /// hold the cell just once. It adds nothing.
     ///
@@ -245,19 +284,49 @@ impl Desk {
         ensures standing { IfOk result (λ s. s ≡ is_standing self.old.view.subject.limits self.new.view.seen self.old.env) }
         ensures busy { IfErr result (λ e. (e ≡ Busy) × (self.new ≡ self.old)) }
     {
-        let Some(seat) = self.seat.take() else {
-            unreachable!()
-        };
-        match self.cell.hold_now(seat) {
-            Ok(mut hold) => {
-                let standing = hold.slot().standing(self.env);
-                self.seat = Some(hold.store_quietly());
-                Ok(standing)
-            }
-            Err(seat) => {
-                self.seat = Some(seat);
-                Err(TiError::Busy)
-            }
+        match self.look_now() {
+            Ok(looked) => Ok(looked.standing),
+            Err(error) => Err(error),
+        }
+    }
+
+    /// How often the thread has handed over so far, in native code, blocked or at a poll (this profile). A hand-over that
+    /// was refused does not count, and neither does the thread's end. It tries to hold the cell just once, and adds nothing.
+    ///
+    /// The error is `Busy` (215) if the cell is in use (this profile). Then nothing changes.
+    ///
+    /// # Examples
+    ///
+    /// ```rattle
+    /// # use ti_handshake::SharedCell;
+    /// # use ti_types::{Kind, Limits, ThreadNo, TiError};
+    /// # let limits = Limits::new(1, 2, 4, 16, 8).ok_or("the limits are in range")?;
+    /// # let (cell, fresh, mut desks) = SharedCell::make(rt.alloc(), limits, ThreadNo(0))?;
+    /// # let other = desks.pop().ok_or("there are two environments")?.into_seat();
+    /// # let mut desk = desks.pop().ok_or("there are two environments")?;
+    /// let running = fresh.start(&rt);
+    /// assert!(rt; desk.hand_overs_now()? == 0);
+    /// let Ok(asleep) = running.block(&rt, Kind::Sleep) else {
+    ///     return Err("there is enough left to spend".into());
+    /// };
+    /// assert!(rt; desk.hand_overs_now()? == 1);
+    /// // A return is no hand-over.
+    /// let _running = asleep.back(&rt);
+    /// assert!(rt; desk.hand_overs_now()? == 1);
+    /// // While another user holds the cell, the count is not told.
+    /// let hold = cell.hold(&rt, other);
+    /// assert!(rt; matches!(desk.hand_overs_now(), Err(TiError::Busy)));
+    /// let _other = hold.store();
+    /// ```
+    pub fn hand_overs_now(&mut self) -> Result<u64, TiError>
+        ensures same { IsSame self.old self.new }
+        ensures hold { OnOk result (Holds self.old.view self.new.view []) }
+        ensures hand_overs { IfOk result (λ n. n ≡ hand_overs self.new.view.seen) }
+        ensures busy { IfErr result (λ e. (e ≡ Busy) × (self.new ≡ self.old)) }
+    {
+        match self.look_now() {
+            Ok(looked) => Ok(looked.hand_overs),
+            Err(error) => Err(error),
         }
     }
 }
@@ -274,6 +343,7 @@ ghost use Rattle.ti_replay.specs.Replies.{reply};
 ghost use Rattle.ti_replay.specs.Settling.{waits};
 ghost use Rattle.ti_replay.specs.Standing.{is_standing};
 ghost use Rattle.ti_replay.specs.Tickets.{reply_to};
+ghost use Rattle.ti_slot.specs.HandOvers.{hand_overs};
 ghost use Rattle.ti_slot.specs.Thread.{IsLate, read_answer};
 ghost use Rattle.ti_slot.specs.Tickets.{has, without_ticket};
 ghost use Rattle.ti_slot.specs.Waiting.{HasRoomFor, IsBufferOf};
