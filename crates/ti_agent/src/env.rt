@@ -146,7 +146,7 @@ impl<H: Home> Env<H> {
 
     /// What is told of a number that has no desk: 15 in place of 10, if there was a thread of this number once. Any other
     /// error stays.
-    fn map_error(&self, thread: ThreadNo, error: TiError) -> TiError
+    pub(crate) fn map_error(&self, thread: ThreadNo, error: TiError) -> TiError
         ensures { result ≡ map_error (nat_lt thread.0 self.now.env.state.known) error }
     {
         match error {

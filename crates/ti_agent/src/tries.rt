@@ -199,6 +199,53 @@ impl<H: Home> Env<H> {
         self.desks[at].discard_now()
     }
 
+    /// How often a thread has handed over so far, in native code, blocked or at a poll (this profile). A hand-over that was
+    /// refused does not count, and neither does the thread's end. A thread that ended still tells its count. It tries to hold
+    /// the thread's cell just once, adds nothing to the thread's history, spends no call, and needs no capability.
+    ///
+    /// The error is the first of these that fits:
+    ///
+    /// - 10 INVALID_THREAD: there is no desk at a thread of this number. But 15 THREAD_NOT_ALIVE if there was a thread of this
+    ///   number once.
+    /// - 215 (this profile: `Busy`): the thread's cell is in use.
+    ///
+    /// Then nothing changes.
+    ///
+    /// # Examples
+    ///
+    /// ```rattle
+    /// # use ti_agent::{Env, FreeDesk};
+    /// # use ti_handshake::SharedCell;
+    /// # use ti_types::{EnvNo, Kind, Limits, ThreadNo, TiError};
+    /// # let (alloc, thread) = (rt.alloc(), ThreadNo(0));
+    /// # let limits = Limits::new(1, 1, 4, 16, 8).ok_or("the limits are in range")?;
+    /// # let (_cell, fresh, mut desks) = SharedCell::make(alloc, limits, thread)?;
+    /// # let desk = desks.pop().ok_or("there is one environment")?;
+    /// # let free = FreeDesk::new(desk).ok().ok_or("the desk is new")?;
+    /// # let mut env = Env::with_no_desks(alloc, EnvNo(0), limits);
+    /// # assert!(rt; env.add_desk(free).is_ok());
+    /// let Ok(asleep) = fresh.start(&rt).block(&rt, Kind::Sleep) else {
+    ///     return Err("there is enough left to spend".into());
+    /// };
+    /// assert!(rt; env.hand_overs_now(thread)? == 1);
+    /// let _running = asleep.back(&rt);
+    /// assert!(rt; env.hand_overs_now(thread)? == 1);
+    /// assert!(rt; matches!(env.hand_overs_now(ThreadNo(1)), Err(TiError::InvalidThread)));
+    /// ```
+    pub fn hand_overs_now(&mut self, thread: ThreadNo) -> Result<u64, TiError>
+        ensures admitted { OnOk result (absence_refusal self.old.env thread ≡ None) }
+        ensures counts { IfOk result (λ n. CountsHandOvers self.old.env self.new.env thread n) }
+        ensures refused { IfErr result (λ e. (absence_refusal self.old.env thread ≡ Some e) ⊎ ((e ≡ Busy) × (absence_refusal self.old.env thread ≡ None))) }
+        ensures unchanged { OnErr result (self.new ≡ self.old) }
+        ensures home { self.new.home ≡ self.old.home }
+    {
+        let at = self.place_of(thread).0 as usize;
+        if at >= self.desks.len() {
+            return Err(self.map_error(thread, TiError::InvalidThread));
+        }
+        self.desks[at].hand_overs_now()
+    }
+
     /// Cancels all calls that are out at a thread, and sets the environment's word there to 0, if a call is left. It tries to
     /// hold the thread's cell just once, for both. The place is the thread's, and there is a desk.
     ///
@@ -281,5 +328,6 @@ ghost use Rattle.ti_agent.specs.Deadlines.{Cancels, DiscardsAt};
 ghost use Rattle.ti_agent.specs.Desks.{Retires};
 ghost use Rattle.ti_agent.specs.Emptied.{IsEmptied};
 ghost use Rattle.ti_agent.specs.Env.{place_in, place_of, thread_refusal, is_full};
+ghost use Rattle.ti_agent.specs.HandOvers.{absence_refusal, CountsHandOvers};
 ghost use Rattle.ti_agent.specs.Posts.{posting_refusal, Posts, LooksFor, IsOutIfWaiting};
 ghost use Rattle.ti_agent.specs.Quiesced.{MayQuiesce};
