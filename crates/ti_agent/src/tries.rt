@@ -200,8 +200,9 @@ impl<H: Home> Env<H> {
     }
 
     /// How often a thread has handed over so far, in native code, blocked or at a poll (this profile). A hand-over that was
-    /// refused does not count, and neither does the thread's end. A thread that ended still tells its count. It tries to hold
-    /// the thread's cell just once, adds nothing to the thread's history, spends no call, and needs no capability.
+    /// refused does not count, and neither does the thread's end. The count of a thread that ended is told as long as there is a
+    /// desk at it. The call tries to hold the thread's cell just once, adds nothing to the thread's history, spends no call,
+    /// and needs no capability.
     ///
     /// The error is the first of these that fits:
     ///
