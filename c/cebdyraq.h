@@ -89,7 +89,7 @@ extern "C" {
 
 /* The version of this header. */
 #define CQ_VERSION_MAJOR 1
-#define CQ_VERSION_MINOR 6
+#define CQ_VERSION_MINOR 7
 #define CQ_VERSION_PATCH 0
 
 /* The version of the library that the program runs with, as major * 1,000,000 + minor * 1,000 + patch. */

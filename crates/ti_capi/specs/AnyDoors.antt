@@ -1,7 +1,8 @@
 -- Doors of either kind, as C uses them.
-use Rattle.std.specs.Prelude.{ℕ, ◌≡◌, ◌≤◌, ◌==◌, ◌/◌, ⊤, Bool, true, false, List, [], is_some, if◌then◌else◌, Option, None, Some, Result, Ok, Err}
+use Rattle.std.specs.Prelude.{ℕ, ◌≡◌, ◌≤◌, ◌==◌, ◌/◌, ◌⊎◌, ⊤, Bool, true, false, List, [], is_some, if◌then◌else◌, Option, None, Some, Result, Ok, Err}
 use Rattle.ti_http.specs.Talks.{Talk, written_from}
 use Rattle.ti_types.specs.declared.error.TiError.{TiError}
+use Rattle.ti_types.specs.declared.error.TiError.TheVariants.{Busy}
 use Rattle.ti_monitor.specs.declared.door_error.DoorError.{DoorError}
 use Rattle.ti_monitor.specs.declared.door_error.DoorError.TheVariants.{NoConnection, OutOfMemory}
 use Rattle.ti_monitor.specs.declared.door_seat.Todo.{Todo as HttpTodo}
@@ -25,6 +26,7 @@ use Rattle.ti_service.specs.Service.{Member}
 use Rattle.ti_debugger.specs.Opening as opening
 use Rattle.ti_debugger.specs.Runs as debugger_runs
 use Rattle.ti_debugger.specs.Seats as debugger_seats
+use Rattle.ti_debugger.specs.Serving as serving
 use Rattle.ti_debugger.specs.Sessions as sessions
 use Rattle.ti_capi.specs.declared.any_door.AnyDoor.{AnyDoor}
 use Rattle.ti_capi.specs.declared.any_door.AnyDoor.TheVariants as any
@@ -96,7 +98,7 @@ AllRun _ _ = ⊥
 abbrev pub Goes : ℕ → Todo → AnyDoor → AnyDoor → Type 0
 Goes connection t (any.Http d) (any.Http n) = (h : HttpTodo) × (t ≡ todo_at_door h) × http.GoesOn d n connection (λ s n. http_seats.RunsTo s n × http_seats.Says n h)
 Goes connection t (any.Debugger d) (any.Debugger n) =
-    Works d n × sessions.Changes (session_at connection d) (session_at connection n) (λ s s'. debugger_runs.RunsTo s s' × debugger_seats.Says n.asked s' t)
+    Works d n × (is_some d.session ≡ true → serving.IsServed d n) × sessions.Changes (session_at connection d) (session_at connection n) (λ s s'. debugger_runs.RunsTo s s' × debugger_seats.Says n.asked s' t)
 Goes connection t _ _ = ⊥
 
 -- there is no session, or no memory
@@ -134,14 +136,14 @@ Writes connection count now _ _ = ⊥
 -- The connection is gone. What a debugger suspended is resumed, or will be
 abbrev pub Disconnects : ℕ → AnyDoor → AnyDoor → Type 0
 Disconnects connection (any.Http d) (any.Http n) = (is_some (http.talk_at d connection) ≡ true) × (n ≡ http.with_talk d connection None)
-Disconnects connection (any.Debugger d) (any.Debugger n) = (is_some (session_at connection d) ≡ true) × (n.session ≡ None) × NoneHeld n.watched × (n.asked ≡ asked.Nothing) × (n.objects ≡ []) × Works d (record n { objects = d.objects })
+Disconnects connection (any.Debugger d) (any.Debugger n) = (is_some (session_at connection d) ≡ true) × (n.session ≡ None) × (n.due ≡ None) × NoneHeld n.watched × (n.asked ≡ asked.Nothing) × (n.objects ≡ []) × Works d (record n { objects = d.objects })
 Disconnects connection _ _ = ⊥
 
 -- Each connection goes on, and none opens or closes. A debugger's session is told of events alone
 abbrev pub Ticks : AnyDoor → AnyDoor → Type 0
 Ticks (any.Http d) (any.Http n) = http.AllRun d n
 Ticks (any.Debugger d) (any.Debugger n) =
-    ToldBy (classes_of n.agent) d.next_class n.next_class d.session n.session × (d.resumptions ≤ n.resumptions) × (n.about ≡ d.about) × (n.starts ≡ d.starts) × (n.tells ≡ d.tells) × (n.asked ≡ d.asked) × (n.objects ≡ d.objects)
+    ToldBy (classes_of n.agent) d.next_class n.next_class d.session n.session × (n.due ≡ d.due) × (d.resumptions ≤ n.resumptions) × (n.about ≡ d.about) × (n.starts ≡ d.starts) × (n.tells ≡ d.tells) × (n.asked ≡ d.asked) × (n.objects ≡ d.objects)
 Ticks _ _ = ⊥
 
 -- A door for debuggers ends only if no debugger is connected, and no suspension is out or to be undone
@@ -161,8 +163,12 @@ EndsAs d s = Disposes (state_of (agent_at d)) s
 abbrev pub RemainsFor : TiError → AgentValue → AgentValue → Type 0
 RemainsFor e a b = StaysOn (state_of a) (state_of b) e × (b.home.events ≡ a.home.events)
 
--- A door that does not end is as it was, but for its environment. That of a door for HTTP was not disposed of for this error
+-- a debugger is connected, or a suspension is out or to be undone, and nothing changes
+abbrev IsBusy : TiError → DebuggerValue → DebuggerValue → Type 0
+IsBusy e d n = (sessions.is_idle d.session d.watched ≡ false) × (e ≡ Busy) × (n ≡ d)
+
+-- A door that does not end is as it was, but for its environment, which was not disposed of for this error
 abbrev pub StaysAs : TiError → AnyDoor → AnyDoor → Type 0
 StaysAs e (any.Http d) (any.Http n) = (n ≡ record d { agent = n.agent }) × RemainsFor e d.agent n.agent
-StaysAs e (any.Debugger d) (any.Debugger n) = n ≡ record d { agent = n.agent }
+StaysAs e (any.Debugger d) (any.Debugger n) = (n ≡ record d { agent = n.agent }) × (IsBusy e d n ⊎ RemainsFor e d.agent n.agent)
 StaysAs e _ _ = ⊥

@@ -3,8 +3,11 @@ pub mod CrowdLaws
 pub mod RefusedLaws
 pub mod PopLaws
 pub mod RunLaws
+pub mod ServingLaws
 pub mod StackLaws
+pub mod SuspendLaws
 pub mod MethodLaws
+pub mod LineLaws
 pub mod TellLaws
 pub mod TakeLaws
 pub mod VariableLaws

@@ -34,7 +34,7 @@ goes_run t m a goes = (Went a ∷ [], refl, (m, [], goes, refl, (refl, refl)))
 pub fails_run : (t m : Talk) → Fails t m → RunsTo t m
 fails_run t m fails = (Failed ∷ [], refl, (m, [], fails, refl, (refl, refl)))
 
-asked_of : (r : Result (Unit {0}) SessionError) (b : Bool) (x : Unit {0}) → r ≡ Ok x → (b ≡ false → r ≡ Err NotAsked) → b ≡ true
+pub asked_of : (r : Result (Unit {0}) SessionError) (b : Bool) (x : Unit {0}) → r ≡ Ok x → (b ≡ false → r ≡ Err NotAsked) → b ≡ true
 asked_of r true x is h = refl
 asked_of r false x is h = absurd (cc (is, h refl))
 

@@ -53,7 +53,7 @@ still (Some c) a b method class at pre there =
     subst (λ (f : ℕ). (f ≤ method.0) × (method.0 < f + count c)) first there in
     record { there = subst (λ (o : Option ClassInfo). IsSomeAnd o (λ c. (first_of b class.0 ≤ method.0) × (method.0 < first_of b class.0 + count c))) (sym found) range }
 
-declared_still : (a b : List ClassInfo) (method : MethodNo) (class : ClassNo) → IsPrefix a b → IsDeclaredBy a method class → IsDeclaredBy b method class
+pub declared_still : (a b : List ClassInfo) (method : MethodNo) (class : ClassNo) → IsPrefix a b → IsDeclaredBy a method class → IsDeclaredBy b method class
 declared_still a b method class pre is = still (slice_get a class.0) a b method class refl pre is.there
 
 rows_still : (a b : List ClassInfo) (depth : ℕ) (frames : List Frame) (rows : List FrameRow) → IsPrefix a b → AreRowsOf a depth frames rows → AreRowsOf b depth frames rows

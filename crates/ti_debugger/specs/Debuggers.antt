@@ -4,14 +4,16 @@ use Rattle.ti_jdwp.specs.Talks.{Talk}
 use Rattle.ti_service.specs.Memberships.{AgentValue}
 use Rattle.ti_debugger.specs.declared.about.About.{About}
 use Rattle.ti_debugger.specs.declared.asked.Asked.{Asked}
+use Rattle.ti_debugger.specs.declared.due.Due.{Due}
 use Rattle.ti_debugger.specs.declared.objects.Object.{Object}
 use Rattle.ti_debugger.specs.declared.watched.Watched.{Watched}
 
--- the session of the debugger that is connected, the threads that are watched, the environment, what is told of the runtime, the
--- class that is told next, how many times a thread was resumed, whether the runtime tells variables, how far a question is, and the
--- texts and tables that were told
+-- the session of the debugger that is connected and what it waits for, the threads that are watched, the environment, what is told
+-- of the runtime, the class that is told next, how many times a thread was resumed, whether the runtime waits for its first debugger
+-- and tells variables, how far a question is, and the texts and tables that were told
 pub record DebuggerValue : Type 0 where
   pub session : Option Talk
+  pub due : Option Due
   pub watched : List Watched
   pub agent : AgentValue
   pub about : About

@@ -3,11 +3,12 @@ use Rattle.std.specs.Prelude.{◌≡◌, ◌≤◌, Option}
 use Rattle.ti_debugger.specs.declared.desk.Desk.{Desk}
 use Rattle.ti_debugger.specs.declared.seat.Seat.{Seat}
 use Rattle.ti_debugger.specs.Debuggers.{DebuggerValue}
-use Rattle.ti_debugger.specs.Sessions.{session_in}
+use Rattle.ti_debugger.specs.Sessions.{due_in, session_in}
 
 abbrev pub debugger_of : Option Seat → Desk → DebuggerValue
 debugger_of seat desk = record {
   session = session_in seat;
+  due = due_in seat;
   watched = desk.crowd.list.items;
   agent = desk.agent;
   about = desk.about;

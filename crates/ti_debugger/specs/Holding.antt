@@ -2,13 +2,14 @@
 use Rattle.std.specs.Prelude.{ℕ, ◌≡◌, ◌⊎◌, Bool, true, false, ◌&&◌, nat_lt, Option, Some, None, if◌then◌else◌}
 use Rattle.ti_types.specs.declared.answer.Answer.{Answer}
 use Rattle.ti_types.specs.declared.answer.Answer.TheVariants as answer
+use Rattle.ti_types.specs.declared.error.TiError.{TiError}
 use Rattle.ti_types.specs.declared.error.TiError.TheVariants as error
 use Rattle.ti_types.specs.declared.call.Call.TheVariants as call
 use Rattle.ti_types.specs.declared.event.Ticket.{Ticket}
 use Rattle.ti_types.specs.declared.numbers.ThreadNo.{ThreadNo}
 use Rattle.ti_slot.specs.declared.asked.Asked.TheVariants.{Answered, Waiting}
 use Rattle.ti_agent.specs.Env.{Environment}
-use Rattle.ti_agent.specs.Posts.{Posts}
+use Rattle.ti_agent.specs.Posts.{Posts, posting_refusal}
 use Rattle.ti_jdwp.specs.declared.actions.Posted.{Posted}
 use Rattle.ti_jdwp.specs.declared.actions.Posted.TheVariants as posted
 use Rattle.ti_debugger.specs.declared.hold.Hold.{Hold}
@@ -74,9 +75,20 @@ IsPostedAs (Some posted.Suspended) old new = is_wanted new ≡ true
 IsPostedAs (Some posted.ByAnother) old new = new ≡ hold.Another
 IsPostedAs _ old new = new ≡ old
 
+-- the service did not suspend the thread: it answered so, or refused the call
+abbrev pub is_done : Answer → Bool
+is_done answer.Done = true
+is_done _ = false
+
+abbrev pub RefusesThread : Environment → Environment → ThreadNo → Type 0
+RefusesThread old new thread =
+    ((a : Answer) × Posts old new thread call.Suspend (Answered a) × (is_done a ≡ false))
+    ⊎ ((e : TiError) × (posting_refusal old thread call.Suspend ≡ Some e) × (new ≡ old))
+
 -- and it is what the service answered: it took place, or will; or another environment had suspended the thread
 abbrev pub PostsAs : Option Posted → Environment → Environment → ThreadNo → Type 0
 PostsAs (Some posted.Suspended) old new thread = Posts old new thread call.Suspend (Answered answer.Done) ⊎ ((ticket : Ticket) × Posts old new thread call.Suspend (Waiting ticket))
 PostsAs (Some posted.ByAnother) old new thread = Posts old new thread call.Suspend (Answered (answer.Refused error.ThreadSuspended))
-PostsAs (Some _) old new thread = Unit {0}
+PostsAs (Some posted.NotAlive) old new thread = RefusesThread old new thread
+PostsAs (Some posted.Unknown) old new thread = (posting_refusal old thread call.Suspend ≡ Some error.InvalidThread) × (new ≡ old)
 PostsAs None old new thread = new ≡ old

@@ -15,6 +15,7 @@ pub mod Told
 pub mod Desks
 pub mod StackReplies
 pub mod MethodReplies
+pub mod LineReplies
 pub mod Questions
 pub mod Taking
 pub mod VariableReplies
@@ -22,3 +23,5 @@ pub mod Gone
 pub mod Pops
 pub mod Replies
 pub mod Stopping
+pub mod Suspending
+pub mod Serving

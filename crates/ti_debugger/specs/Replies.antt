@@ -17,6 +17,7 @@ use Rattle.ti_debugger.specs.declared.desk.Desk.{Desk}
 use Rattle.ti_debugger.specs.declared.watched.Watched.{Watched}
 use Rattle.ti_debugger.specs.Crowds.{alive_in}
 use Rattle.ti_debugger.specs.Sources.{file_in}
+use Rattle.ti_debugger.specs.LineReplies.{TellsLines}
 use Rattle.ti_debugger.specs.MethodReplies.{TellsMethods}
 use Rattle.ti_debugger.specs.Pops.{PopsFrames, can_pop, capabilities_text}
 use Rattle.ti_debugger.specs.StackReplies.{IsWatched, TellsDepth, TellsFrames, TellsState}
@@ -84,6 +85,7 @@ IsBodyOf (request.ThreadStatus id) bytes old new body = (thread : ℕ) × (numbe
 IsBodyOf (request.FrameCount id) bytes old new body = (thread : ℕ) × (number_from first_thread id ≡ Some thread) × TellsDepth old new thread body
 IsBodyOf (request.Frames id start length) bytes old new body = (thread : ℕ) × (number_from first_thread id ≡ Some thread) × TellsFrames old new thread start length body
 IsBodyOf (request.MethodsWithGeneric id) bytes old new body = TellsMethods (classes_of new.agent) id body
+IsBodyOf (request.LineTable class method) bytes old new body = TellsLines (classes_of new.agent) class method body
 IsBodyOf request.AllClasses bytes old new body = TellsAllClasses (classes_of old.agent) (classes_of new.agent) body
 IsBodyOf (request.ClassesBySignature range) bytes old new body = TellsFound (bytes_at range bytes) (classes_of old.agent) (classes_of new.agent) body
 IsBodyOf (request.Signature id) bytes old new body = TellsOfClass IsSignature (classes_of new.agent) id text body

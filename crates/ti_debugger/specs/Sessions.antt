@@ -1,6 +1,7 @@
 -- The session of the debugger that is connected.
 use Rattle.std.specs.Prelude.{◌≡◌, ℕ, Bool, ◌&&◌, not, is_some, List, [], length, min, take, Option, Some, None}
 use Rattle.ti_jdwp.specs.Talks.{Talk, fed, room_in}
+use Rattle.ti_debugger.specs.declared.due.Due.{Due}
 use Rattle.ti_debugger.specs.declared.seat.Seat.{Seat}
 use Rattle.ti_debugger.specs.declared.watched.Watched.{Watched}
 use Rattle.ti_debugger.specs.Crowds.{any_open}
@@ -8,6 +9,11 @@ use Rattle.ti_debugger.specs.Crowds.{any_open}
 abbrev pub session_in : Option Seat → Option Talk
 session_in None = None
 session_in (Some s) = Some s.session
+
+-- what it waits for
+abbrev pub due_in : Option Seat → Option Due
+due_in None = None
+due_in (Some s) = s.due
 
 abbrev pub room_of : Option Talk → ℕ
 room_of None = 0

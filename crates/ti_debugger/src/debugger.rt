@@ -38,7 +38,7 @@ impl Model for Debugger {
 impl Debugger {
     /// An agent with no debugger. It takes the capability to suspend threads. `about` is what debuggers are told of the runtime.
     pub fn new(alloc: Global, agent: Agent, about: About, now: u64) -> Debugger
-        ensures none { result.session ≡ None }
+        ensures none { (result.session ≡ None) × (result.due ≡ None) }
         ensures free { NoneHeld result.watched }
         ensures resumptions { result.resumptions ≡ 0 }
         ensures about { result.about ≡ about }
@@ -135,6 +135,7 @@ impl Debugger {
     pub fn next(&mut self, now: u64) -> Result<Todo, DebuggerError>
         ensures run { IfOk result (λ t. Changes self.old.session self.new.session (λ s s'. RunsTo s s' × Says self.new.asked s' t)) }
         ensures err { IfErr result (Refuses RunsTo self.old self.new) }
+        ensures served { is_some self.old.session ≡ true → IsServed self.old self.new }
         ensures desk { Works self.old self.new }
         ensures open { is_some (question_in self.old.asked) ≡ true → self.new ≡ self.old }
     {
@@ -175,7 +176,7 @@ impl Debugger {
     /// Says that the socket is gone. The session is over, and all that its debugger suspended is resumed, now or by `tick`. Nothing
     /// happens if no debugger is connected.
     pub fn closed(&mut self)
-        ensures gone { self.new.session ≡ None }
+        ensures gone { (self.new.session ≡ None) × (self.new.due ≡ None) }
         ensures free { NoneHeld self.new.watched }
         ensures variables { (self.new.asked ≡ Nothing) × (self.new.objects ≡ []) }
         ensures desk { Works self.old (record self.new { objects = self.old.objects }) }
@@ -190,6 +191,7 @@ impl Debugger {
     /// defined, collects what threads answered, and undoes suspensions and stops that are not wanted any more. Call `next` after it.
     pub fn tick(&mut self, now: u64)
         ensures told { ToldBy (classes_of self.new.agent) self.old.next_class self.new.next_class self.old.session self.new.session }
+        ensures due { self.new.due ≡ self.old.due }
         ensures resumptions { self.old.resumptions ≤ self.new.resumptions }
         ensures about { self.new.about ≡ self.old.about }
         ensures starts { self.new.starts ≡ self.old.starts }
@@ -247,6 +249,7 @@ impl Debugger {
         ensures idle { is_idle self.session self.watched ≡ false → result ≡ Err (Busy, self) }
         ensures disposed { IfOk result (λ s. Disposes (state_of self.agent) s) }
         ensures refused { IfErr result (λ r. (is_idle self.session self.watched ≡ false) ⊎ StaysOn (state_of self.agent) (state_of r.1.agent) r.0) }
+        ensures events { IfErr result (λ r. r.1.agent.home.events ≡ self.agent.home.events) }
         ensures rest { IfErr result (λ r. r.1 ≡ record self { agent = r.1.agent }) }
     {
         if !self.is_idle() {
@@ -284,6 +287,7 @@ ghost use Rattle.ti_debugger.specs.Questions.{question_in};
 ghost use Rattle.ti_debugger.specs.declared.asked.Asked.TheVariants.{Nothing};
 ghost use Rattle.ti_debugger.specs.Runs.{RunsTo};
 ghost use Rattle.ti_debugger.specs.Seats.{Says};
+ghost use Rattle.ti_debugger.specs.Serving.{IsServed};
 ghost use Rattle.ti_debugger.specs.Refused.{HasNone, Refuses};
 ghost use Rattle.ti_debugger.specs.Sessions.{room_of, output_of, Changes, Feeds, is_idle};
 ghost use Rattle.ti_debugger.specs.Told.{ToldBy};

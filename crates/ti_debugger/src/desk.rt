@@ -79,6 +79,7 @@ impl Desk {
     pub(crate) fn dispose(self) -> Result<Service, (TiError, Desk)>
         ensures disposed { IfOk result (λ s. Disposes (state_of self.agent) s) }
         ensures refused { IfErr result (λ r. StaysOn (state_of self.agent) (state_of r.1.agent) r.0) }
+        ensures events { IfErr result (λ r. r.1.agent.home.events ≡ self.agent.home.events) }
         ensures rest { IfErr result (λ r. r.1 ≡ record self { agent = r.1.agent }) }
     {
         let mut rest = self;

@@ -26,6 +26,7 @@ struct Report {
 /// taken back.
 pub(crate) fn tend_stops(seat: &mut Option<Seat>, desk: &mut Desk)
     ensures told { ToldOfLives (session_in seat.old) (session_in seat.new) }
+    ensures due { due_in seat.new ≡ due_in seat.old }
     ensures rest { Works desk.old desk.new }
     ensures asked { desk.new.asked ≡ desk.old.asked }
 {
@@ -44,6 +45,7 @@ pub(crate) fn tend_stops(seat: &mut Option<Seat>, desk: &mut Desk)
 /// Tells the session, if there is one, of a stop that it was not told. Without one the thread goes on.
 fn tell_stop(seat: &mut Option<Seat>, desk: &mut Desk, index: usize)
     ensures told { ToldOfLives (session_in seat.old) (session_in seat.new) }
+    ensures due { due_in seat.new ≡ due_in seat.old }
     ensures rest { Works desk.old desk.new }
     ensures asked { desk.new.asked ≡ desk.old.asked }
 {
@@ -239,5 +241,5 @@ fn stage_by(verdict: Verdict) -> Stage {
 
 ghost use Rattle.std.specs.Prelude.{◌≡◌};
 ghost use Rattle.ti_debugger.specs.Desks.{Works};
-ghost use Rattle.ti_debugger.specs.Sessions.{session_in};
+ghost use Rattle.ti_debugger.specs.Sessions.{due_in, session_in};
 ghost use Rattle.ti_debugger.specs.Told.{TellsLives, ToldOfLives};

@@ -16,6 +16,7 @@ const PATIENCE: u64 = 1_000_000_000;
 fn post(alloc: Global, agent: &mut Agent, one: &mut Watched, now: u64) -> Option<Posted>
     ensures hold { IsPostedAs result one.old.hold one.new.hold }
     ensures answer { PostsAs result agent.old.env agent.new.env one.old.thread }
+    ensures rest { one.new ≡ record one.old { hold = one.new.hold } }
 {
     match agent.post_now(alloc, one.thread, Call::Suspend) {
         Ok(Asked::Answered(Answer::Done)) => {
@@ -43,7 +44,7 @@ fn post(alloc: Global, agent: &mut Agent, one: &mut Watched, now: u64) -> Option
 
 /// Suspends a thread that the debugger does not suspend. `None` if its cell is in use.
 fn suspend_at(alloc: Global, agent: &mut Agent, one: &mut Watched, now: u64) -> Option<Posted>
-    ensures { IsPostedAs result one.old.hold one.new.hold }
+    ensures { IsSuspendedAs result agent.old.env agent.new.env one.old one.new }
 {
     if one.ended {
         return Some(Posted::NotAlive);
@@ -60,6 +61,7 @@ fn suspend_at(alloc: Global, agent: &mut Agent, one: &mut Watched, now: u64) -> 
 /// Collects the answer to a suspension that is out.
 fn collect_at(agent: &mut Agent, one: &mut Watched)
     ensures free { is_let_go one.old.hold ≡ true → is_let_go one.new.hold ≡ true }
+    ensures rest { one.new ≡ record one.old { hold = one.new.hold } }
     ensures home { agent.new.home ≡ agent.old.home }
 {
     let Hold::Out { ticket, wanted, .. } = one.hold else {
@@ -75,6 +77,7 @@ fn collect_at(agent: &mut Agent, one: &mut Watched)
 fn undo_at(alloc: Global, agent: &mut Agent, one: &mut Watched) -> bool
     ensures resumed { result ≡ true → (one.old.hold ≡ Owed) × (one.new.hold ≡ Free) × Posts agent.old.env agent.new.env one.old.thread call.Resume (Answered answer.Done) }
     ensures free { is_let_go one.old.hold ≡ true → is_let_go one.new.hold ≡ true }
+    ensures rest { one.new ≡ record one.old { hold = one.new.hold } }
     ensures home { agent.new.home ≡ agent.old.home }
 {
     if one.hold != Hold::Owed {
@@ -96,6 +99,7 @@ fn undo_at(alloc: Global, agent: &mut Agent, one: &mut Watched) -> bool
 /// Does what is open at a thread. It gives whether the thread was resumed.
 fn settle_at(alloc: Global, agent: &mut Agent, one: &mut Watched) -> bool
     ensures free { is_let_go one.old.hold ≡ true → is_let_go one.new.hold ≡ true }
+    ensures rest { one.new ≡ record one.old { hold = one.new.hold } }
     ensures home { agent.new.home ≡ agent.old.home }
 {
     collect_at(agent, one);
@@ -104,7 +108,7 @@ fn settle_at(alloc: Global, agent: &mut Agent, one: &mut Watched) -> bool
 
 /// Resumes a thread, as far as it can be now. It gives whether the thread was resumed.
 fn resume_at(alloc: Global, agent: &mut Agent, one: &mut Watched) -> bool
-    ensures { is_let_go one.new.hold ≡ true }
+    ensures { IsResumed one.old one.new }
 {
     one.hold = one.hold.let_go();
     settle_at(alloc, agent, one)
@@ -113,7 +117,8 @@ fn resume_at(alloc: Global, agent: &mut Agent, one: &mut Watched) -> bool
 impl Desk {
     /// Suspends a thread, and says what came of it. `None` if the thread's cell is in use: then it is tried again soon.
     pub(crate) fn suspend(&mut self, thread: u32, now: u64) -> Option<Posted>
-        ensures { Works self.old self.new }
+        ensures suspends { Suspends thread result self.old self.new }
+        ensures rest { Works self.old self.new }
     {
         let Some(place) = self.crowd.place_of(thread) else {
             return Some(Posted::Unknown);
@@ -128,7 +133,8 @@ impl Desk {
 
     /// Resumes a thread. What could not be undone is undone by `settle_all`.
     pub(crate) fn resume(&mut self, thread: u32)
-        ensures { Works self.old self.new }
+        ensures resumes { Resumes thread self.old self.new }
+        ensures rest { Works self.old self.new }
     {
         let Some(place) = self.crowd.place_of(thread) else {
             return;
@@ -202,3 +208,4 @@ ghost use Rattle.ti_service.specs.Classes.{classes_of};
 ghost use Rattle.ti_debugger.specs.Crowds.{NoneHeld, any_awaited, any_open};
 ghost use Rattle.ti_debugger.specs.Desks.{Works};
 ghost use Rattle.ti_debugger.specs.Holding.{IsPostedAs, PostsAs, is_let_go};
+ghost use Rattle.ti_debugger.specs.Suspending.{IsResumed, IsSuspendedAs, Resumes, Suspends};

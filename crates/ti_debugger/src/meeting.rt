@@ -27,19 +27,34 @@ fn watched_at(alloc: Global, agent: &mut Agent, thread: ThreadNo) -> Result<Watc
     }
 }
 
+/// Whether a thread was given back, so far as that is known.
+fn is_given_back(alloc: Global, agent: &mut Agent, one: &Watched) -> bool {
+    one.ended
+        || matches!(
+            agent.get_thread_info_now(alloc, one.thread),
+            Err(TiError::InvalidThread | TiError::ThreadNotAlive)
+        )
+}
+
+/// Lets go of a thread, if it was given back and no call is out there. The agent may have let go of it before, by a meeting that had no
+/// room. False if the roster is in use.
+fn let_go_at(alloc: Global, agent: &mut Agent, one: &mut Watched) -> bool {
+    let Ok(gone) = agent.let_go_now(one.thread) else {
+        return false;
+    };
+    if gone || (agent.out_at(one.thread) == 0 && is_given_back(alloc, agent, one)) {
+        one.gone = true;
+        one.ended = true;
+    }
+    true
+}
+
 /// Lets go of those that have ended, or looks at all of them. Whether all have to be looked at again, since the roster is in use.
-fn let_go_of(agent: &mut Agent, list: &mut [Watched], all: bool) -> bool {
+fn let_go_of(alloc: Global, agent: &mut Agent, list: &mut [Watched], all: bool) -> bool {
     let mut again = false;
     for one in list.iter_mut() {
-        if !one.gone && (one.ended || all) {
-            match agent.let_go_now(one.thread) {
-                Ok(true) => {
-                    one.gone = true;
-                    one.ended = true;
-                }
-                Ok(false) => (),
-                Err(_) => again = again || all,
-            }
+        if !one.gone && (one.ended || all) && !let_go_at(alloc, agent, one) {
+            again = again || all;
         }
     }
     again
@@ -108,7 +123,12 @@ impl Desk {
     fn let_go_of_ended(&mut self)
         ensures { Watches self.old self.new }
     {
-        self.lost = let_go_of(&mut self.agent, self.crowd.list.as_mut_slice(), self.lost);
+        self.lost = let_go_of(
+            self.alloc,
+            &mut self.agent,
+            self.crowd.list.as_mut_slice(),
+            self.lost,
+        );
     }
 
     /// The next start or end of a thread that is to be told. `None` if there is none, or if the roster is in use.

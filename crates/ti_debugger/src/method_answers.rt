@@ -42,17 +42,23 @@ fn body_of(alloc: Global, methods: &[Known]) -> Result<Vec<u8>, JdwpError>
 }
 
 /// The lines from this one on, 1 if it is not known. The error is lack of memory.
-fn lines_from(alloc: Global, first: u32) -> Result<Vec<u32>, AllocError> {
+fn lines_from(alloc: Global, first: u32) -> Result<Vec<u32>, AllocError>
+    ensures { IfOk result (λ v. v.items ≡ lines_for (max first 1) 4096) }
+{
     let mut lines = Vec::new(alloc);
     let from = first.max(1);
     for more in 0..MOST_LINES {
-        lines.push(from.saturating_add(more))?;
+        lines.reserve(1)?;
+        lines.push_reserved(from.saturating_add(more));
     }
     Ok(lines)
 }
 
 /// The rows of a table, in the order of their locations. The error is lack of memory.
-fn rows_of(alloc: Global, entries: &[LineEntry]) -> Result<Vec<LineRow>, AllocError> {
+fn rows_of(alloc: Global, entries: &[LineEntry]) -> Result<Vec<LineRow>, AllocError>
+    ensures same { IfOk result (λ v. IsPermutation (map row_of entries.now) v.items) }
+    ensures order { IfOk result (λ v. IsNonDecreasingBy index_of v.items) }
+{
     let mut rows = Vec::new(alloc);
     for entry in entries {
         rows.reserve(1)?;
@@ -67,7 +73,9 @@ fn rows_of(alloc: Global, entries: &[LineEntry]) -> Result<Vec<LineRow>, AllocEr
 
 /// The lines of a method whose first line is this one (6/1). The range of the table begins with its first location, which is that of
 /// the method.
-fn table_of(alloc: Global, lines: Lines, first: u32) -> Result<Vec<u8>, JdwpError> {
+fn table_of(alloc: Global, lines: Lines, first: u32) -> Result<Vec<u8>, JdwpError>
+    ensures { IfOk result (λ v. TellsTable lines first v.items) }
+{
     match lines {
         Lines::Absent => identity_lines_body(alloc, &[]),
         Lines::Locations => {
@@ -121,6 +129,7 @@ impl Desk {
     /// A method of a class. 21 or 23 if the class has no such method.
     pub(crate) fn method_in(&mut self, class: u64, method: u64) -> Result<MethodNo, Refusal>
         ensures found { IfOk result (λ m. number_from first_method method ≡ Some m.0) }
+        ensures declared { IfOk result (λ m. Declares (classes_of self.new.agent) class m) }
         ensures rest { self.new ≡ record self.old { agent = self.new.agent } }
     {
         let (Some(class), Some(method)) = (class_of(class), method_of(method)) else {
@@ -132,23 +141,36 @@ impl Desk {
         Ok(MethodNo(method))
     }
 
+    /// The lines of a method, if they are known.
+    fn lines_of(&mut self, method: MethodNo) -> Result<Lines, ClassError>
+        ensures told { IfOk result (λ l. HasLines (classes_of self.new.agent) method l) }
+        ensures grows { OnOk result (IsPrefix (classes_of self.old.agent) (classes_of self.new.agent)) }
+        ensures rest { self.new ≡ record self.old { agent = self.new.agent } }
+    {
+        match self.agent.get_line_number_table(self.alloc, method) {
+            Ok(lines) => Ok(lines),
+            Err(ClassError::AbsentInformation) => Ok(Lines::Absent),
+            Err(error) => Err(error),
+        }
+    }
+
     /// The lines of a method (6/1). One whose lines are not known has none.
     pub(crate) fn line_table(&mut self, class: u64, method: u64) -> Result<Vec<u8>, Refusal>
-        ensures { self.new ≡ record self.old { agent = self.new.agent } }
+        ensures told { IfOk result (λ v. TellsLines (classes_of self.new.agent) class method v.items) }
+        ensures rest { self.new ≡ record self.old { agent = self.new.agent } }
     {
         let method = self.method_in(class, method)?;
         let first = self.agent.get_method_name(self.alloc, method)?.first_line;
-        let lines = match self.agent.get_line_number_table(self.alloc, method) {
-            Err(ClassError::AbsentInformation) => Lines::Absent,
-            told => told?,
-        };
+        let lines = self.lines_of(method)?;
         Ok(table_of(self.alloc, lines, first)?)
     }
 }
 
-ghost use Rattle.std.specs.Prelude.{◌≡◌, map, Some, IfOk, OnOk};
+ghost use Rattle.std.specs.Prelude.{◌≡◌, map, max, Some, IfOk, OnOk};
+ghost use Rattle.std.specs.List.Sorted.{IsNonDecreasingBy, IsPermutation};
 ghost use mathlib.Core.List.{IsPrefix};
 ghost use Rattle.ti_jdwp.specs.Bodies.{list};
 ghost use Rattle.ti_jdwp.specs.Ids.{number_from, first_method};
 ghost use Rattle.ti_service.specs.Classes.{classes_of};
+ghost use Rattle.ti_debugger.specs.LineReplies.{Declares, HasLines, TellsLines, TellsTable, index_of, lines_for, row_of};
 ghost use Rattle.ti_debugger.specs.MethodReplies.{IsKnown, TellsMethods, known_method, method_item};

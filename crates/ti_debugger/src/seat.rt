@@ -39,6 +39,7 @@ impl Seat {
     /// a thread is there, it is told that the runtime begins.
     pub(crate) fn open(desk: &mut Desk) -> Seat
         ensures opened { OpensAs desk.old.starts (first (alive_in desk.old.crowd.list.items)) result.session desk.new.starts }
+        ensures due { result.due ≡ None }
         ensures rest { desk.new ≡ record desk.old { starts = desk.new.starts } }
     {
         let mut session = Session::new(desk.alloc);
@@ -56,10 +57,10 @@ impl Seat {
 
     /// What the caller does next. What the session asks for is done here, as far as it can be now. The error is lack of memory.
     pub(crate) fn next(&mut self, desk: &mut Desk, now: u64) -> Result<Todo, SessionError>
-        ensures run { RunsTo self.old.session self.new.session }
+        ensures served { Serving self.old.session self.old.due desk.old self.new.session self.new.due desk.new }
         ensures desk { Works desk.old desk.new }
         ensures says { IfOk result (λ t. Says desk.new.asked self.new.session t) }
-        ensures open { is_some (question_in desk.old.asked) ≡ true → (self.new.session ≡ self.old.session) × (desk.new ≡ desk.old) }
+        ensures open { is_some (question_in desk.old.asked) ≡ true → (self.new.session ≡ self.old.session) × (self.new.due ≡ self.old.due) × (desk.new ≡ desk.old) }
     {
         if desk.asked.is_open() {
             return Ok(self.todo(desk));
@@ -76,7 +77,7 @@ impl Seat {
 
     /// Takes one step of the session. `None` if there is more to do now. The error is lack of memory.
     fn step(&mut self, desk: &mut Desk, now: u64) -> Result<Option<Todo>, SessionError>
-        ensures run { RunsTo self.old.session self.new.session }
+        ensures served { Serving self.old.session self.old.due desk.old self.new.session self.new.due desk.new }
         ensures desk { Works desk.old desk.new }
         ensures says { IfOk result (λ o. IfSome o (λ t. Says desk.new.asked self.new.session t)) }
     {
@@ -86,28 +87,27 @@ impl Seat {
 
     /// Takes up what the session says next, if it waits for nothing. `None` if there is more to do now. The error is lack of memory.
     fn go_on(&mut self, desk: &mut Desk, ready: bool) -> Result<Option<Todo>, SessionError>
-        ensures run { RunsTo self.old.session self.new.session }
+        ensures served { Serving self.old.session self.old.due desk.old self.new.session self.new.due desk.new }
         ensures desk { Works desk.old desk.new }
         ensures says { IfOk result (λ o. IfSome o (λ t. Says desk.new.asked self.new.session t)) }
     {
         if !ready {
             return Ok(Some(self.todo(desk)));
         }
-        match self.advance()? {
-            Action::Close => Ok(Some(self.closing())),
-            Action::Write | Action::Wait => Ok(Some(self.todo(desk))),
-            action => {
-                self.take_up(desk, action);
-                Ok(None)
-            }
-        }
+        let action = self.session.next()?;
+        self.take_up(desk, action);
+        Ok(self.todo_after(desk, action))
     }
 
-    /// What the session says next. The error is lack of memory.
-    fn advance(&mut self) -> Result<Action, SessionError>
-        ensures { RunsTo self.old.session self.new.session }
+    /// What the caller does once the session said this. `None` if there is more to do now.
+    fn todo_after(&self, desk: &Desk, action: Action) -> Option<Todo>
+        ensures { IfSome result (λ t. Says desk.now.asked self.now.session t) }
     {
-        self.session.next()
+        match action {
+            Action::Close => Some(self.closing()),
+            Action::Write | Action::Wait => Some(self.todo(desk)),
+            _ => None,
+        }
     }
 
     /// Whether there is something to write, or a question is open.
@@ -137,6 +137,8 @@ impl Seat {
     /// Takes up what the session asks for.
     fn take_up(&mut self, desk: &mut Desk, action: Action)
         ensures session { self.new.session ≡ self.old.session }
+        ensures due { self.new.due ≡ due_by action self.old.due }
+        ensures undertakes { Undertakes action desk.old desk.new }
         ensures desk { Works desk.old desk.new }
     {
         match action {
@@ -164,7 +166,7 @@ impl Seat {
 
     /// Gives the session what it waits for. Whether it waits for nothing any more. The error is lack of memory.
     fn settle(&mut self, desk: &mut Desk, now: u64) -> Result<bool, SessionError>
-        ensures run { RunsTo self.old.session self.new.session }
+        ensures served { Serving self.old.session self.old.due desk.old self.new.session self.new.due desk.new }
         ensures desk { Works desk.old desk.new }
     {
         let Some(due) = self.due else {
@@ -180,7 +182,8 @@ impl Seat {
 
     /// Gives the session this. Whether it was there. The error is lack of memory.
     fn give(&mut self, desk: &mut Desk, due: Due, now: u64) -> Result<bool, SessionError>
-        ensures run { RunsTo self.old.session self.new.session }
+        ensures gave { Given due self.old.session desk.old self.new.session desk.new result }
+        ensures due { self.new.due ≡ self.old.due }
         ensures desk { Works desk.old desk.new }
     {
         match due {
@@ -195,35 +198,27 @@ impl Seat {
 
     /// Replies to a request, if the answer is there.
     fn give_answer(&mut self, desk: &mut Desk, request: Request) -> Result<bool, SessionError>
-        ensures run { RunsTo self.old.session self.new.session }
+        ensures gave { Given (Answer request) self.old.session desk.old self.new.session desk.new result }
+        ensures due { self.new.due ≡ self.old.due }
         ensures desk { Works desk.old desk.new }
     {
         match desk.answer(request, self.session.data()) {
-            Ok(body) => self.reply(body.as_slice()),
-            Err(Refusal::Error(error)) => self.refuse(error),
+            Ok(body) => {
+                self.session.reply(body.as_slice())?;
+                Ok(true)
+            }
+            Err(Refusal::Error(error)) => {
+                self.session.refuse(error)?;
+                Ok(true)
+            }
             Err(Refusal::Later) => Ok(false),
         }
     }
 
-    /// Replies to a request.
-    fn reply(&mut self, body: &[u8]) -> Result<bool, SessionError>
-        ensures { RunsTo self.old.session self.new.session }
-    {
-        self.session.reply(body)?;
-        Ok(true)
-    }
-
-    /// Replies to a request with an error.
-    fn refuse(&mut self, error: JdwpError) -> Result<bool, SessionError>
-        ensures { RunsTo self.old.session self.new.session }
-    {
-        self.session.refuse(error)?;
-        Ok(true)
-    }
-
     /// Lists the threads that are there.
     fn give_list(&mut self, desk: &Desk) -> Result<bool, SessionError>
-        ensures { RunsTo self.old.session self.new.session }
+        ensures gave { Given List self.old.session desk.now self.new.session desk.now result }
+        ensures due { self.new.due ≡ self.old.due }
     {
         let threads = match desk.crowd.alive(desk.alloc) {
             Ok(threads) => threads,
@@ -235,7 +230,8 @@ impl Seat {
 
     /// Suspends a thread, if its cell is free.
     fn give_posted(&mut self, desk: &mut Desk, thread: u32, now: u64) -> Result<bool, SessionError>
-        ensures run { RunsTo self.old.session self.new.session }
+        ensures gave { Given (Post thread) self.old.session desk.old self.new.session desk.new result }
+        ensures due { self.new.due ≡ self.old.due }
         ensures desk { Works desk.old desk.new }
     {
         match desk.suspend(thread, now) {
@@ -249,7 +245,8 @@ impl Seat {
 
     /// Says that the suspensions stand, if they do or the second is over.
     fn give_settled(&mut self, desk: &mut Desk, now: u64) -> Result<bool, SessionError>
-        ensures run { RunsTo self.old.session self.new.session }
+        ensures gave { Given Settle self.old.session desk.old self.new.session desk.new result }
+        ensures due { self.new.due ≡ self.old.due }
         ensures desk { Works desk.old desk.new }
     {
         desk.settle_all();
@@ -262,7 +259,8 @@ impl Seat {
 
     /// Sets a breakpoint, if the roster is free.
     fn give_placed(&mut self, desk: &mut Desk, spot: Spot) -> Result<bool, SessionError>
-        ensures run { RunsTo self.old.session self.new.session }
+        ensures gave { Given (Place spot) self.old.session desk.old self.new.session desk.new result }
+        ensures due { self.new.due ≡ self.old.due }
         ensures desk { Works desk.old desk.new }
     {
         let came = match desk.place(spot) {
@@ -276,7 +274,8 @@ impl Seat {
 
     /// Says where a thread stands that is to step, if its cell and the roster are free.
     fn give_located(&mut self, desk: &mut Desk, thread: u32) -> Result<bool, SessionError>
-        ensures run { RunsTo self.old.session self.new.session }
+        ensures gave { Given (Locate thread) self.old.session desk.old self.new.session desk.new result }
+        ensures due { self.new.due ≡ self.old.due }
         ensures desk { Works desk.old desk.new }
     {
         let standing = match desk.locate(thread) {
@@ -290,7 +289,8 @@ impl Seat {
 
     /// Tells the session of the start or the end of a thread.
     pub(crate) fn tell(&mut self, life: LifeEvent)
-        ensures { TellsLives self.old.session self.new.session }
+        ensures told { TellsLives self.old.session self.new.session }
+        ensures due { self.new.due ≡ self.old.due }
     {
         let _it_counts_what_is_lost = match life.kind {
             LifeKind::ThreadStart => self.session.thread_started(life.thread.0),
@@ -300,19 +300,21 @@ impl Seat {
 
     /// Tells the session of a class that was defined, as one of this thread. False if it is lost, and is to be told again.
     pub(crate) fn tell_class(&mut self, thread: u32, prepared: &Prepared) -> bool
-        ensures { TellsClass prepared.now.class (string_bytes prepared.now.signature) self.old.session result self.new.session }
+        ensures told { TellsClass prepared.now.class (string_bytes prepared.now.signature) self.old.session result self.new.session }
+        ensures due { self.new.due ≡ self.old.due }
     {
         self.session
             .class_prepared(thread, prepared.class, prepared.signature.as_bytes())
     }
 }
 
-ghost use Rattle.std.specs.Prelude.{◌≡◌, true, is_some, string_bytes, IfOk, IfSome};
+ghost use Rattle.std.specs.Prelude.{◌≡◌, true, None, is_some, string_bytes, IfOk, IfSome};
 ghost use Rattle.ti_debugger.specs.Crowds.{alive_in, first};
 ghost use Rattle.ti_debugger.specs.Desks.{Works};
 ghost use Rattle.ti_debugger.specs.Opening.{OpensAs};
 ghost use Rattle.ti_debugger.specs.Questions.{question_in};
 ghost use Rattle.ti_debugger.specs.declared.asked.Asked.{Asked};
-ghost use Rattle.ti_debugger.specs.Runs.{RunsTo};
 ghost use Rattle.ti_debugger.specs.Seats.{Says};
+ghost use Rattle.ti_debugger.specs.Serving.{Given, Serving, Undertakes, due_by};
+ghost use Rattle.ti_debugger.specs.declared.due.Due.TheVariants.{Answer, List, Post, Settle, Place, Locate};
 ghost use Rattle.ti_debugger.specs.Told.{TellsLives, TellsClass};

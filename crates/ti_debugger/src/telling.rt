@@ -10,6 +10,7 @@ const EVENTS: u32 = 4_096;
 /// Tells the session, if there is one, of the starts and ends of threads.
 pub(crate) fn tell_lives(seat: &mut Option<Seat>, desk: &mut Desk)
     ensures told { ToldOfLives (session_in seat.old) (session_in seat.new) }
+    ensures due { due_in seat.new ≡ due_in seat.old }
     ensures rest { Watches desk.old desk.new }
 {
     for _ in 0..EVENTS {
@@ -22,7 +23,8 @@ pub(crate) fn tell_lives(seat: &mut Option<Seat>, desk: &mut Desk)
 
 /// Tells the session, if there is one, of the start or the end of a thread.
 fn tell_life(seat: &mut Option<Seat>, life: LifeEvent)
-    ensures { ToldOfLives (session_in seat.old) (session_in seat.new) }
+    ensures told { ToldOfLives (session_in seat.old) (session_in seat.new) }
+    ensures due { due_in seat.new ≡ due_in seat.old }
 {
     if let Some(seat) = seat {
         seat.tell(life);
@@ -32,6 +34,7 @@ fn tell_life(seat: &mut Option<Seat>, life: LifeEvent)
 /// Tells the session, if there is one, of the classes that were defined. Without one they are passed over.
 pub(crate) fn tell_classes(seat: &mut Option<Seat>, desk: &mut Desk)
     ensures told { ToldBy (classes_of desk.new.agent) desk.old.next_class desk.new.next_class (session_in seat.old) (session_in seat.new) }
+    ensures due { due_in seat.new ≡ due_in seat.old }
     ensures resumptions { desk.new.resumptions ≡ desk.old.resumptions }
     ensures about { desk.new.about ≡ desk.old.about }
     ensures starts { desk.new.starts ≡ desk.old.starts }
@@ -49,6 +52,7 @@ pub(crate) fn tell_classes(seat: &mut Option<Seat>, desk: &mut Desk)
 /// Tells the session, if there is one, of the next class. False if there is none, or if it is told later.
 fn tell_class(seat: &mut Option<Seat>, desk: &mut Desk) -> bool
     ensures told { ToldBy (classes_of desk.new.agent) desk.old.next_class desk.new.next_class (session_in seat.old) (session_in seat.new) }
+    ensures due { due_in seat.new ≡ due_in seat.old }
     ensures known { IsPrefix (classes_of desk.old.agent) (classes_of desk.new.agent) }
     ensures rest { desk.new ≡ record desk.old { agent = desk.new.agent; next_class = desk.new.next_class } }
     ensures more { desk.new.next_class ≡ (if result then desk.old.next_class + 1 else desk.old.next_class) }
@@ -72,5 +76,5 @@ ghost use Rattle.std.specs.Prelude.{◌≡◌, ◌+◌, if◌then◌else◌};
 ghost use mathlib.Core.List.{IsPrefix};
 ghost use Rattle.ti_service.specs.Classes.{classes_of};
 ghost use Rattle.ti_debugger.specs.Desks.{Watches};
-ghost use Rattle.ti_debugger.specs.Sessions.{session_in};
+ghost use Rattle.ti_debugger.specs.Sessions.{due_in, session_in};
 ghost use Rattle.ti_debugger.specs.Told.{ToldBy, ToldOfLives};

@@ -1,4 +1,4 @@
-use Rattle.std.proofs.Common.{rules}
+use Rattle.std.proofs.Common.{rules, ◌∙◌}
 use Rattle.ti_debugger.proofs.TellLaws.{told_on}
 use Rattle.ti_debugger.proofs.halting.tend_stops.Goals as goal
 
@@ -7,4 +7,5 @@ loop-index-preserved c = record {
   told = λ log n. told_on log n n n _ _ _ (c.loop-index.invariant.told log n) (c.tell_stop.ensures.told log n);
   rest = search rules;
   asked = search rules;
+  due = c.tell_stop.ensures.due ∙ c.loop-index.invariant.due;
 }

@@ -1,4 +1,4 @@
-use Rattle.std.proofs.Common.{rules}
+use Rattle.std.proofs.Common.{rules, ◌∙◌}
 use Rattle.ti_debugger.proofs.TellLaws.{told_on, told_more}
 use Rattle.ti_debugger.proofs.telling.tell_classes.Goals as goal
 
@@ -14,4 +14,5 @@ loop-preserved c = record {
   tells = search rules;
   asked = search rules;
   objects = search rules;
+  due = c.tell_class.ensures.due ∙ c.loop.invariant.due;
 }

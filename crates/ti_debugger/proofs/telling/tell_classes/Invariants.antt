@@ -1,6 +1,6 @@
 use Rattle.std.specs.Prelude.{◌≡◌}
 use Rattle.ti_service.specs.Classes.{classes_of}
-use Rattle.ti_debugger.specs.Sessions.{session_in}
+use Rattle.ti_debugger.specs.Sessions.{due_in, session_in}
 use Rattle.ti_debugger.specs.Told.{ToldBy}
 use Rattle.ti_debugger.proofs.telling.tell_classes.Given as goal
 
@@ -13,4 +13,5 @@ invariant-loop l = record {
   tells : l.desk.tells ≡ l.fn.desk.tells;
   asked : l.desk.asked ≡ l.fn.desk.asked;
   objects : l.desk.objects ≡ l.fn.desk.objects;
+  due : due_in l.seat ≡ due_in l.fn.seat;
 }

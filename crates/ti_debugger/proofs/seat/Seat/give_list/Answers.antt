@@ -1,5 +1,6 @@
-use Rattle.ti_debugger.proofs.RunLaws.{listed_run}
+use Rattle.std.proofs.Common.{refl, rules}
+use Rattle.ti_jdwp.specs.SessionRuns.{Listed}
 use Rattle.ti_debugger.proofs.seat.Seat.give_list.Goals as goal
 
-pub returns : goal.returns
-returns c = listed_run c.threads.result _ _ c.as_slice.result.now c.threads.ensures.ok c.threads.ensures.err
+pub returns-clause-gave : goal.returns-clause-gave
+returns-clause-gave c = (Listed c.as_slice.result.now, c.in_ok-threads.ensures.ok, (refl, refl, search rules))

@@ -1,5 +1,6 @@
-use Rattle.ti_debugger.proofs.RunLaws.{located_run}
+use Rattle.std.proofs.Common.{refl}
+use Rattle.ti_jdwp.specs.SessionRuns.{LocatedAs}
 use Rattle.ti_debugger.proofs.seat.Seat.give_located.Goals as goal
 
-pub returns-clause-run : goal.returns-clause-run
-returns-clause-run c = located_run _ _ _ c.in_ok-located.ensures.ok
+pub returns-clause-gave : goal.returns-clause-gave
+returns-clause-gave c = (LocatedAs _, c.in_ok-located.ensures.ok, (c.args.thread, refl, refl))

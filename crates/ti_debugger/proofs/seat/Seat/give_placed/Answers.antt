@@ -1,5 +1,6 @@
-use Rattle.ti_debugger.proofs.RunLaws.{placed_run}
+use Rattle.std.proofs.Common.{refl}
+use Rattle.ti_jdwp.specs.SessionRuns.{PlacedAs}
 use Rattle.ti_debugger.proofs.seat.Seat.give_placed.Goals as goal
 
-pub returns-clause-run : goal.returns-clause-run
-returns-clause-run c = placed_run _ _ _ c.in_ok-placed.ensures.ok
+pub returns-clause-gave : goal.returns-clause-gave
+returns-clause-gave c = (PlacedAs _, c.in_ok-placed.ensures.ok, (c.args.spot, refl, refl))

@@ -1,5 +1,6 @@
-use Rattle.ti_debugger.proofs.RunLaws.{settled_run}
+use Rattle.std.proofs.Common.{refl}
+use Rattle.ti_jdwp.specs.SessionRuns.{Settled}
 use Rattle.ti_debugger.proofs.seat.Seat.give_settled.Goals as goal
 
-pub returns-clause-run : goal.returns-clause-run
-returns-clause-run c = settled_run _ _ c.in_ok-settled.ensures.ok
+pub returns-clause-gave : goal.returns-clause-gave
+returns-clause-gave c = (Settled, c.in_ok-settled.ensures.ok, (refl, refl))
