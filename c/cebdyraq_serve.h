@@ -326,6 +326,22 @@ uint32_t cq_server_starts_suspended(cq_server *server, bool suspended) CQ_MUST_U
  * 304: it has never listened for debuggers. */
 uint32_t cq_server_await_resumption(cq_server *server) CQ_MUST_USE;
 
+/* Tells the debugger of the classes that were defined before, and sleeps until that is done. Debuggers set breakpoints in a class when they
+ * are told of it, and suspend all threads until then. So a thread that has defined a class blocks (cq_wait_block, with CQ_PARK), calls
+ * this, and comes back (cq_wait_back) before it runs a method of the class. What the debugger wants suspended for the class is asked to
+ * be by then, so the thread stays until it is resumed.
+ *
+ * It waits for the server's thread, and for no debugger. Without one, or once the server ends, it returns at once, after one lock of a
+ * mutex. It is not for the functions of cq_variables, nor for a thread with a lock that these take.
+ *
+ * The server's thread ticks until the door has nothing more to do soon, at least twice. While there is a breakpoint or a step the door
+ * always has, so there are 16 ticks at the most, some 50 us apart. They tell up to 65,536 classes. Those that are left come with later
+ * ticks, as do classes behind one that another thread is just defining. An event that comes while all threads stand is sent once they are
+ * resumed. It names the first thread that is there, and with the policy EVENT_THREAD no other is suspended.
+ *
+ * CQ_MISUSED 304: it has never listened for debuggers. */
+uint32_t cq_server_tell_classes(cq_server *server) CQ_MUST_USE;
+
 /* Writes the port at which it listens to `port`, also where port 0 was asked for. 0 at a Unix socket. CQ_MISUSED 304: it does not
  * serve. */
 uint32_t cq_server_port(const cq_server *server, uint16_t *port) CQ_MUST_USE;
