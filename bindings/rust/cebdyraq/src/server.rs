@@ -55,7 +55,7 @@ pub struct Server {
     _told: Option<Told>,
 }
 
-// SAFETY: only `drop` changes it from here on, and nothing else is called then.
+// SAFETY: only `drop` changes it from here on, but for what is under its lock, and nothing else is called then.
 unsafe impl Send for Server {}
 unsafe impl Sync for Server {}
 
@@ -70,7 +70,11 @@ impl Server {
     }
 
     /// Sleeps until a debugger has resumed a thread. Threads that wait for their first debugger call it while they block, before
-    /// their first step. [`Error::Misused`] if it serves HTTP.
+    /// their first step.
+    ///
+    /// # Panics
+    ///
+    /// If it serves HTTP.
     pub fn await_resumption(&self) -> Result<(), Error> {
         // SAFETY: the server's memory is where it was until it is dropped. This call changes nothing of it but under its lock.
         checked(unsafe { sys::cq_server_await_resumption(&raw const *self.memory as *mut sys::cq_server) })
@@ -78,7 +82,10 @@ impl Server {
 
     /// Tells the debugger of the classes that were defined before. A thread that has defined one calls it while it blocks, before it
     /// runs a method of the class: it stays blocked until breakpoints are set there. Without a debugger it returns at once.
-    /// [`Error::Misused`] if it serves HTTP.
+    ///
+    /// # Panics
+    ///
+    /// If it serves HTTP.
     pub fn tell_classes(&self) -> Result<(), Error> {
         // SAFETY: as in `await_resumption`.
         checked(unsafe { sys::cq_server_tell_classes(&raw const *self.memory as *mut sys::cq_server) })

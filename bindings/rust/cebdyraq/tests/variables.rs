@@ -151,8 +151,5 @@ fn classes_are_told_before_their_thread_goes_on() {
     assert_eq!(debugger.ask(STATUS, &[&THREAD]).1[4..], [0, 0, 0, 1]);
     assert_eq!(debugger.ask(RESUME, &[]), (0, vec![]));
     drop(server);
-    let server = service.serve("127.0.0.1:0", "test").unwrap();
-    assert_eq!(server.tell_classes(), Err(Error::Misused));
-    drop(server);
     drop(safe);
 }
