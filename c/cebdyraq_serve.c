@@ -40,6 +40,7 @@ typedef struct __attribute__((may_alias)) {
     pthread_cond_t news;                         /* one of these has changed */
     uint64_t asked;                              /* how many calls have asked that classes be told */
     uint64_t told;                               /* for how many of them it was done */
+    uint32_t waiting;                            /* threads that wait for news, but for the server's */
     bool is_resumed;                             /* a debugger has resumed a thread */
     bool is_ending;                              /* the server ends, or did not begin */
     uint64_t greets_by;                          /* when a debugger has to have greeted, or NEVER */
@@ -560,6 +561,16 @@ uint32_t cq_server_starts_suspended(cq_server *in, bool suspended) {
     return CQ_OK;
 }
 
+/* Waits with the lock. The last one that has waited wakes who ends the server. */
+static void await_news(server *s) {
+    s->waiting++;
+    pthread_cond_wait(&s->news, &s->lock);
+    s->waiting--;
+    if (s->waiting == 0) {
+        pthread_cond_broadcast(&s->news);
+    }
+}
+
 uint32_t cq_server_await_resumption(cq_server *in) {
     server *s = (server *)in;
     if (!s->is_for_debuggers) {
@@ -567,7 +578,7 @@ uint32_t cq_server_await_resumption(cq_server *in) {
     }
     pthread_mutex_lock(&s->lock);
     while (!s->is_resumed && !s->is_ending) {
-        pthread_cond_wait(&s->news, &s->lock);
+        await_news(s);
     }
     pthread_mutex_unlock(&s->lock);
     return CQ_OK;
@@ -587,7 +598,7 @@ uint32_t cq_server_tell_classes(cq_server *in) {
         uint64_t call = ++s->asked;
         wake_thread(s);
         while (s->told < call && has_debugger(s)) {
-            pthread_cond_wait(&s->news, &s->lock);
+            await_news(s);
         }
     }
     pthread_mutex_unlock(&s->lock);
@@ -603,20 +614,23 @@ uint32_t cq_server_port(const cq_server *in, uint16_t *port) {
     return CQ_OK;
 }
 
-/* Wakes the thread, so that it ends, and all who wait. */
-static void begin_to_end(server *s) {
+/* Ends the thread. Who waits for news goes on, and has left before this returns. */
+static void end_thread(server *s) {
     pthread_mutex_lock(&s->lock);
     s->is_ending = true;
     wake_thread(s);
     pthread_cond_broadcast(&s->news);
+    while (s->waiting > 0) {
+        pthread_cond_wait(&s->news, &s->lock);
+    }
     pthread_mutex_unlock(&s->lock);
+    pthread_join(s->thread, NULL);
 }
 
 uint32_t cq_serve_end(cq_server *in) {
     server *s = (server *)in;
     if (s->runs) {
-        begin_to_end(s);
-        pthread_join(s->thread, NULL);
+        end_thread(s);
         s->runs = false;
         close_all(s);
     }
