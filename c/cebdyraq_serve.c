@@ -42,12 +42,12 @@ typedef struct __attribute__((may_alias)) {
     uint64_t told;                               /* for how many of them it was done */
     uint32_t waiting;                            /* threads that wait for news, but for the server's */
     bool is_resumed;                             /* a debugger has resumed a thread */
-    bool is_ending;                              /* the server ends, or did not begin */
+    bool is_ending;                              /* the server ends */
     uint64_t greets_by;                          /* when a debugger has to have greeted, or NEVER */
     cq_variables variables;                      /* by which a debugger's questions are answered, or zeros */
     bool pops_frames;                            /* a debugger may pop frames */
     bool starts_suspended;                       /* the first debugger finds all threads suspended */
-    bool is_for_debuggers;
+    bool is_for_debuggers;                       /* it listens for them, or did so last */
     bool runs;
 } server;
 _Static_assert(sizeof(server) <= sizeof(cq_server), "it fits");
@@ -343,7 +343,7 @@ typedef struct {
     uint32_t quiet;   /* the last of them, whose deadlines did not come soon */
 } telling;
 
-enum { QUIET_PASSES = 2, MOST_PASSES = 16 };
+enum { QUIET_PASSES = 2, MOST_PASSES = 8 };
 
 static void wake_thread(const server *s) {
     while (eventfd_write(s->waker, 1) && errno == EINTR) {
@@ -517,7 +517,7 @@ static uint32_t begin(cq_server *in, cq_service *service, cq_signal *signal, con
     }
     uint32_t code = start_at(s, service, address, of);
     if (code != CQ_OK) {
-        s->is_ending = true;
+        s->is_for_debuggers = false;
         close_all(s);
     }
     return code;

@@ -339,6 +339,8 @@ static void refuses_servers_for_others(void) {
     SAME(cq_server_tell_classes(&http), CQ_MISUSED);
     OK(cq_serve_end(&http));
     SAME(cq_server_tell_classes(&http), CQ_MISUSED);
+    SAME(cq_debug_listen(&none, &service, NULL, "unix:/no/such/folder/at/all", "tests", "/src"), CQ_SYSTEM);
+    SAME(cq_server_tell_classes(&none), CQ_MISUSED);
     OK(cq_free(&service));
 }
 

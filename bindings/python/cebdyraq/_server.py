@@ -60,7 +60,8 @@ class Server:
 
     def tell_classes(self) -> None:
         """Tells the debugger of the classes that were defined before. A thread that has defined one calls it while it blocks, before
-        it runs a method of the class: it stays blocked until breakpoints are set there. Without a debugger it returns at once."""
+        it runs a method of the class. It comes back once the debugger, which may set breakpoints there, has resumed it. Without a
+        debugger it returns at once."""
         code = self._library.cq_server_tell_classes(ctypes.byref(self._memory))
         if code != Code.OK:
             raise Error(code)

@@ -81,7 +81,8 @@ impl Server {
     }
 
     /// Tells the debugger of the classes that were defined before. A thread that has defined one calls it while it blocks, before it
-    /// runs a method of the class: it stays blocked until breakpoints are set there. Without a debugger it returns at once.
+    /// runs a method of the class. It comes back once the debugger, which may set breakpoints there, has resumed it. Without a
+    /// debugger it returns at once.
     ///
     /// # Panics
     ///
