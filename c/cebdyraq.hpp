@@ -640,6 +640,11 @@ public:
      * their first step. */
     void await_resumption() { check(cq_server_await_resumption(get())); }
 
+    /* Tells the debugger of the classes that were defined before. A thread that has defined one calls it while it blocks, before it
+     * runs a method of the class. It comes back once the debugger, which may set breakpoints there, has resumed it. Without a debugger
+     * it returns at once. */
+    void tell_classes() { check(cq_server_tell_classes(get())); }
+
 private:
     friend class service;
     using holder::holder;

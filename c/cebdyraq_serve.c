@@ -9,7 +9,6 @@
 #include <netinet/tcp.h>
 #include <poll.h>
 #include <pthread.h>
-#include <semaphore.h>
 #include <signal.h>
 #include <string.h>
 #include <sys/eventfd.h>
@@ -21,6 +20,7 @@ static const uint64_t LINGER_NS = 1000000000;  /* how long a peer may send after
 static const uint64_t GREETING_NS = 2000000000;  /* how long a debugger may take to greet */
 static const uint64_t NEVER = UINT64_MAX;
 static const uint64_t NAP_NS = 50000;          /* between two tries of what another uses */
+static const uint64_t SOON_NS = 1000000;       /* after a tick the door is due within it if there may be more to do */
 static const uint64_t REFUSED_NS = 100000000;  /* before connections are taken in again after the system refused one */
 
 /* What lies in a cq_server. */
@@ -29,19 +29,25 @@ typedef struct __attribute__((may_alias)) {
     cq_signal *signal;
     pthread_t thread;
     listener listener;
-    int ending;                                  /* an eventfd */
-    int sockets[CQ_DOOR_CONNECTIONS];            /* by connection, or -1 */
+    int waker;                                   /* an eventfd, by which the thread is woken */
+    int sockets[CQ_DOOR_CONNECTIONS];            /* by connection, or -1; the thread alone changes them, with the lock */
     int leaving[CQ_DOOR_CONNECTIONS];            /* sockets of connections that ended, whose peers may still send */
     uint64_t leaving_since[CQ_DOOR_CONNECTIONS];
     uint32_t actions[CQ_DOOR_CONNECTIONS];       /* what is to be done with each */
     uint64_t rooms[CQ_DOOR_CONNECTIONS];
     uint64_t resumptions;                        /* by the door, for which threads were woken */
-    sem_t resumed;                               /* above 0 once there was one, or the server ended */
+    pthread_mutex_t lock;                        /* of what others than the thread use: the sockets, and down to is_ending */
+    pthread_cond_t news;                         /* one of these has changed */
+    uint64_t asked;                              /* how many calls have asked that classes be told */
+    uint64_t told;                               /* for how many of them it was done */
+    uint32_t waiting;                            /* threads that wait for news, but for the server's */
+    bool is_resumed;                             /* a debugger has resumed a thread */
+    bool is_ending;                              /* the server ends */
     uint64_t greets_by;                          /* when a debugger has to have greeted, or NEVER */
     cq_variables variables;                      /* by which a debugger's questions are answered, or zeros */
     bool pops_frames;                            /* a debugger may pop frames */
     bool starts_suspended;                       /* the first debugger finds all threads suspended */
-    bool is_for_debuggers;
+    bool is_for_debuggers;                       /* it listens for them, or did so last */
     bool runs;
 } server;
 _Static_assert(sizeof(server) <= sizeof(cq_server), "it fits");
@@ -100,16 +106,26 @@ static void see_off(int *socket, uint64_t since, uint64_t now) {
     }
 }
 
+/* Sets a connection's socket, or -1, and gives the one before. Who waits for a debugger that goes is woken. */
+static int set_socket(server *s, uint32_t connection, int socket) {
+    pthread_mutex_lock(&s->lock);
+    int before = s->sockets[connection];
+    s->sockets[connection] = socket;
+    pthread_cond_broadcast(&s->news);
+    pthread_mutex_unlock(&s->lock);
+    return before;
+}
+
 static void drop(server *s, uint32_t connection) {
     cq_door_disconnect(&s->door, connection);
-    close_socket(&s->sockets[connection]);
+    int socket = set_socket(s, connection, -1);
+    close_socket(&socket);
 }
 
 /* Ends a connection that the door has closed. */
 static void leave(server *s, uint32_t connection, uint64_t now) {
     cq_door_disconnect(&s->door, connection);
-    let_leave(s, s->sockets[connection], now);
-    s->sockets[connection] = -1;
+    let_leave(s, set_socket(s, connection, -1), now);
 }
 
 /* Writes what is to be written. Returns whether the socket took some. */
@@ -177,7 +193,7 @@ static bool is_welcome(const server *s, int socket) {
 static void settle_in(server *s, uint32_t connection, int socket) {
     int yes = 1;
     setsockopt(socket, IPPROTO_TCP, TCP_NODELAY, &yes, sizeof yes);
-    s->sockets[connection] = socket;
+    set_socket(s, connection, socket);
     s->greets_by = s->is_for_debuggers ? now_ns() + GREETING_NS : NEVER;
     go_on(s, connection);
 }
@@ -215,7 +231,7 @@ static bool take_in(server *s) {
  * The thread.
  */
 
-enum { LISTENER = 0, ENDING = 1, FIRST = 2, LEAVING = FIRST + CQ_DOOR_CONNECTIONS, ALL = LEAVING + CQ_DOOR_CONNECTIONS };
+enum { LISTENER = 0, WAKER = 1, FIRST = 2, LEAVING = FIRST + CQ_DOOR_CONNECTIONS, ALL = LEAVING + CQ_DOOR_CONNECTIONS };
 
 static short wanted(const server *s, uint32_t connection) {
     return (short)((s->rooms[connection] > 0 ? POLLIN : 0) | (s->actions[connection] == CQ_DOOR_WRITE ? POLLOUT : 0));
@@ -223,7 +239,7 @@ static short wanted(const server *s, uint32_t connection) {
 
 static void list_sockets(const server *s, bool takes, struct pollfd *all) {
     all[LISTENER] = (struct pollfd){ takes ? s->listener.socket : -1, POLLIN, 0 };
-    all[ENDING] = (struct pollfd){ s->ending, POLLIN, 0 };
+    all[WAKER] = (struct pollfd){ s->waker, POLLIN, 0 };
     for (uint32_t i = 0; i < CQ_DOOR_CONNECTIONS; i++) {
         all[FIRST + i] = (struct pollfd){ s->sockets[i], s->sockets[i] >= 0 ? wanted(s, i) : 0, 0 };
         all[LEAVING + i] = (struct pollfd){ s->leaving[i], POLLIN, 0 };
@@ -240,7 +256,7 @@ static uint64_t before_leaving(const server *s, uint64_t until) {
     return until;
 }
 
-/* Sleeps until a socket has something, the server is to end, or this time has come. */
+/* Sleeps until a socket has something, the thread is woken, or this time has come. */
 static void rest(struct pollfd *all, uint64_t until) {
     uint64_t now = now_ns(), left = until > now ? until - now : 0;
     struct timespec time = { (time_t)(left / 1000000000), (long)(left % 1000000000) };
@@ -291,14 +307,19 @@ static void wake_all(const server *s) {
     }
 }
 
+static void note_resumption(server *s) {
+    pthread_mutex_lock(&s->lock);
+    s->is_resumed = true;
+    pthread_cond_broadcast(&s->news);
+    pthread_mutex_unlock(&s->lock);
+}
+
 /* Wakes the threads that the door has resumed. */
 static void wake_resumed(server *s) {
     uint64_t count = 0;
     if (cq_door_resumptions(&s->door, &count) == CQ_OK && count != s->resumptions) {
-        if (s->resumptions == 0) {
-            sem_post(&s->resumed);
-        }
         s->resumptions = count;
+        note_resumption(s);
         wake_all(s);
     }
 }
@@ -309,15 +330,75 @@ static uint64_t next_time(const server *s, uint64_t deadline, bool takes, uint64
     return takes || until < again ? until : again;
 }
 
+/* The classes that the thread was asked to tell, and the passes that it has made for them. A pass is a tick, and then all that the
+ * connection has to do (cq_door_next), such as to suspend what an event suspends.
+ *
+ * A tick tells at most 4,096 classes, and a thread that is to be suspended may be in use. The door says that such things are left only by
+ * a deadline that comes soon after a tick. So passes go on until two ticks in a row have no such deadline: with the first of them all
+ * classes are told, and at the second no suspension is left. While there is a breakpoint or a step each deadline comes soon. So there are
+ * MOST_PASSES at the most. */
+typedef struct {
+    uint64_t asked;   /* by the calls up to this one, or 0 for none */
+    uint32_t passes;
+    uint32_t quiet;   /* the last of them, whose deadlines did not come soon */
+} telling;
+
+enum { QUIET_PASSES = 2, MOST_PASSES = 8 };
+
+static void wake_thread(const server *s) {
+    while (eventfd_write(s->waker, 1) && errno == EINTR) {
+    }
+}
+
+/* Takes what others have asked of the thread, after it was woken or not. Returns whether it goes on. */
+static bool take_orders(server *s, bool is_woken, telling *t) {
+    eventfd_t count;
+    while (is_woken && eventfd_read(s->waker, &count) && errno == EINTR) {
+    }
+    pthread_mutex_lock(&s->lock);
+    bool goes_on = !s->is_ending;
+    if (t->asked == 0 && s->asked != s->told) {
+        t->asked = s->asked;
+    }
+    pthread_mutex_unlock(&s->lock);
+    return goes_on;
+}
+
+/* Wakes those whose classes were told. Returns whether others have asked meanwhile. */
+static bool note_told(server *s, uint64_t asked) {
+    pthread_mutex_lock(&s->lock);
+    s->told = asked;
+    bool is_asked = s->asked != asked;
+    pthread_cond_broadcast(&s->news);
+    pthread_mutex_unlock(&s->lock);
+    return is_asked;
+}
+
+/* Counts a pass. Returns when the next one is to be, or NEVER if nobody asks for one. */
+static uint64_t next_pass(server *s, telling *t, uint64_t deadline) {
+    uint64_t now = now_ns(), asked = t->asked;
+    if (asked == 0) {
+        return NEVER;
+    }
+    t->passes++;
+    t->quiet = deadline <= now + SOON_NS ? 0 : t->quiet + 1;
+    if (t->quiet < QUIET_PASSES && t->passes < MOST_PASSES) {
+        return t->quiet > 0 ? now : now + NAP_NS;
+    }
+    *t = (telling){ 0 };
+    return note_told(s, asked) ? now : NEVER;
+}
+
 /* If a connection cannot be taken in, all are served once more, since one of them may have to leave. Then it takes until one has,
  * or for a while. */
 static void *run(void *arg) {
     server *s = arg;
     struct pollfd all[ALL];
+    telling classes = { 0 };
     uint64_t refused = 0;
     bool takes = true;
     list_sockets(s, takes, all);
-    while (!(all[ENDING].revents & POLLIN)) {
+    while (take_orders(s, all[WAKER].revents & POLLIN, &classes)) {
         bool moved = serve_all(s, all), is_refused = takes && all[LISTENER].revents && !take_in(s);
         drop_silent(s);
         uint64_t deadline = tick(s);
@@ -326,7 +407,8 @@ static void *run(void *arg) {
         refused = is_refused ? now_ns() : refused;
         takes = (takes && !is_refused) || moved || wrote || now_ns() - refused >= REFUSED_NS;
         list_sockets(s, takes, all);
-        rest(all, wrote || is_refused ? 0 : next_time(s, deadline, takes, refused));
+        uint64_t pass = next_pass(s, &classes, deadline), until = next_time(s, deadline, takes, refused);
+        rest(all, wrote || is_refused ? 0 : pass < until ? pass : until);
     }
     return NULL;
 }
@@ -338,7 +420,7 @@ static void *run(void *arg) {
 static void close_all(server *s) {
     int kept = errno;
     close_listener(&s->listener);
-    close_socket(&s->ending);
+    close_socket(&s->waker);
     for (uint32_t i = 0; i < CQ_DOOR_CONNECTIONS; i++) {
         if (s->sockets[i] >= 0) {
             drop(s, i);
@@ -392,8 +474,8 @@ static uint32_t close_door(server *s) {
 /* Starts the thread, to which no signal of the program's comes. */
 static bool start(server *s) {
     sigset_t all, kept;
-    s->ending = eventfd(0, EFD_CLOEXEC | EFD_NONBLOCK);
-    if (s->ending < 0) {
+    s->waker = eventfd(0, EFD_CLOEXEC | EFD_NONBLOCK);
+    if (s->waker < 0) {
         return false;
     }
     sigfillset(&all);
@@ -427,14 +509,15 @@ static uint32_t begin(cq_server *in, cq_service *service, cq_signal *signal, con
     if (serves(s)) {
         return CQ_MISUSED;
     }
-    *s = (server){ .signal = signal, .ending = -1, .greets_by = NEVER, .variables = s->variables, .pops_frames = s->pops_frames,
+    *s = (server){ .signal = signal, .waker = -1, .lock = PTHREAD_MUTEX_INITIALIZER, .news = PTHREAD_COND_INITIALIZER,
+                   .greets_by = NEVER, .variables = s->variables, .pops_frames = s->pops_frames,
                    .starts_suspended = s->starts_suspended, .is_for_debuggers = of->is_for_debuggers };
-    sem_init(&s->resumed, 0, 0);
     for (size_t i = 0; i < CQ_DOOR_CONNECTIONS; i++) {
         s->sockets[i] = s->leaving[i] = -1;
     }
     uint32_t code = start_at(s, service, address, of);
     if (code != CQ_OK) {
+        s->is_for_debuggers = false;
         close_all(s);
     }
     return code;
@@ -478,14 +561,47 @@ uint32_t cq_server_starts_suspended(cq_server *in, bool suspended) {
     return CQ_OK;
 }
 
+/* Waits with the lock. The last one that has waited wakes who ends the server. */
+static void await_news(server *s) {
+    s->waiting++;
+    pthread_cond_wait(&s->news, &s->lock);
+    s->waiting--;
+    if (s->waiting == 0) {
+        pthread_cond_broadcast(&s->news);
+    }
+}
+
 uint32_t cq_server_await_resumption(cq_server *in) {
     server *s = (server *)in;
     if (!s->is_for_debuggers) {
         return CQ_MISUSED;
     }
-    while (sem_wait(&s->resumed) && errno == EINTR) {
+    pthread_mutex_lock(&s->lock);
+    while (!s->is_resumed && !s->is_ending) {
+        await_news(s);
     }
-    sem_post(&s->resumed);
+    pthread_mutex_unlock(&s->lock);
+    return CQ_OK;
+}
+
+static bool has_debugger(const server *s) {
+    return !s->is_ending && s->sockets[0] >= 0;
+}
+
+uint32_t cq_server_tell_classes(cq_server *in) {
+    server *s = (server *)in;
+    if (!s->is_for_debuggers) {
+        return CQ_MISUSED;
+    }
+    pthread_mutex_lock(&s->lock);
+    if (has_debugger(s)) {
+        uint64_t call = ++s->asked;
+        wake_thread(s);
+        while (s->told < call && has_debugger(s)) {
+            await_news(s);
+        }
+    }
+    pthread_mutex_unlock(&s->lock);
     return CQ_OK;
 }
 
@@ -498,13 +614,23 @@ uint32_t cq_server_port(const cq_server *in, uint16_t *port) {
     return CQ_OK;
 }
 
+/* Ends the thread. Who waits for news goes on, and has left before this returns. */
+static void end_thread(server *s) {
+    pthread_mutex_lock(&s->lock);
+    s->is_ending = true;
+    wake_thread(s);
+    pthread_cond_broadcast(&s->news);
+    while (s->waiting > 0) {
+        pthread_cond_wait(&s->news, &s->lock);
+    }
+    pthread_mutex_unlock(&s->lock);
+    pthread_join(s->thread, NULL);
+}
+
 uint32_t cq_serve_end(cq_server *in) {
     server *s = (server *)in;
     if (s->runs) {
-        while (eventfd_write(s->ending, 1) && errno == EINTR) {
-        }
-        pthread_join(s->thread, NULL);
-        sem_post(&s->resumed);
+        end_thread(s);
         s->runs = false;
         close_all(s);
     }

@@ -326,6 +326,22 @@ uint32_t cq_server_starts_suspended(cq_server *server, bool suspended) CQ_MUST_U
  * 304: it has never listened for debuggers. */
 uint32_t cq_server_await_resumption(cq_server *server) CQ_MUST_USE;
 
+/* Tells the debugger of the classes that were defined before the call, and sleeps until that is done. A debugger that wants a breakpoint
+ * in a class which is not there yet sets it when it is told of the class, and has all threads suspended meanwhile. So a thread that has
+ * defined a class blocks (cq_wait_block, with CQ_PARK), calls this, and comes back (cq_wait_back) before it runs a method of the class.
+ * When this returns, the suspension has been asked for, and the thread comes back once the debugger has resumed it.
+ *
+ * It waits for the server's thread, and never for the debugger. If none is connected, or the server ends, it returns at once: that costs
+ * one lock of a mutex. Do not call it in the functions of cq_variables, nor with a lock that they take.
+ *
+ * The server's thread ticks until the door has nothing to do soon, at least twice. While there is a breakpoint or a step the door always
+ * has: then it ticks 8 times, some 50 us apart, and tells up to 32,768 classes. Classes beyond these are told later, and so are those
+ * behind one that another thread is just defining. An event that comes while all threads are suspended for an earlier one is sent after
+ * they were resumed. The event's thread is the first that is there, so with the policy EVENT_THREAD that one alone is suspended.
+ *
+ * CQ_MISUSED 304: it has never listened for debuggers. */
+uint32_t cq_server_tell_classes(cq_server *server) CQ_MUST_USE;
+
 /* Writes the port at which it listens to `port`, also where port 0 was asked for. 0 at a Unix socket. CQ_MISUSED 304: it does not
  * serve. */
 uint32_t cq_server_port(const cq_server *server, uint16_t *port) CQ_MUST_USE;

@@ -96,6 +96,12 @@ static void define_classes(void) {
     expect(cq_define_class_strings(&service, "many", NULL, many, MANY, &class_no, &first));
 }
 
+/* One more class, which is number 2. */
+void runtime_define_late(void) {
+    uint32_t class_no, first;
+    expect(cq_define_class_strings(&service, "Llate;", NULL, NULL, 0, &class_no, &first));
+}
+
 uint64_t runtime_pops(void) { return __atomic_load_n(&popped, __ATOMIC_SEQ_CST); }
 
 void runtime_begin(void) {

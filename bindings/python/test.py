@@ -338,6 +338,24 @@ class WithRuntime(unittest.TestCase):
         with cebdyraq.Server(self.library, service, signal, "127.0.0.1:0", "a test") as server:
             self.assert_code(Code.MISUSED, server.await_resumption)
 
+    def test_classes_are_told_before_their_thread_goes_on(self):
+        self.library.runtime_go_native()
+        service, signal = self.library.runtime_service(), self.library.runtime_signal()
+        with cebdyraq.Server(self.library, service, signal, "127.0.0.1:0", "a test", "/src") as server:
+            server.tell_classes()
+            with socket.create_connection(("127.0.0.1", server.port), timeout=10) as debugger:
+                debugger.sendall(b"JDWP-Handshake")
+                self.assertEqual(debugger.recv(14, socket.MSG_WAITALL), b"JDWP-Handshake")
+                self.assertEqual(ask(debugger, 15, 1, struct.pack(">BBi", 8, 2, 0)), (0, struct.pack(">i", 1)))
+                self.library.runtime_define_late()
+                server.tell_classes()
+                told = struct.pack(">BiBiQBQi6si", 2, 1, 8, 1, 1, 1, 4 << 32 | 2, 6, b"Llate;", 7)
+                self.assertEqual(debugger.recv(11 + len(told), socket.MSG_WAITALL)[11:], told)
+                self.assertEqual(ask(debugger, 11, 4, struct.pack(">Q", 1)), (0, struct.pack(">ii", 1, 1)))
+                self.assertEqual(ask(debugger, 1, 9, b""), (0, b""))
+        with cebdyraq.Server(self.library, service, signal, "127.0.0.1:0", "a test") as server:
+            self.assert_code(Code.MISUSED, server.tell_classes)
+
     def test_variables_that_debuggers_are_told(self):
         self.library.runtime_go_native()
         service, signal = self.library.runtime_service(), self.library.runtime_signal()

@@ -54,6 +54,7 @@ void chunk_learn(lua_State *L) {
     if (read_top(L, &dump, &protos))
         methods_define(source_of(&ar), &protos);
     forget(&dump, &protos);
+    script_tell_classes(script_of(L), L);
 }
 
 uint64_t chunk_code(lua_State *L) {

@@ -6,8 +6,9 @@
 #include <lua.h>
 #include <stdint.h>
 
-/* Defines the class of the chunk that was just loaded, and is on the top. It stays there. Where its functions cannot be
- * read, as those of a stripped chunk, each is a class of its own once it is met. */
+/* Defines the class of the chunk that was just loaded, and is on the top. It stays there. A debugger that is told of it may set
+ * breakpoints before this returns. Where its functions cannot be read, as those of a stripped chunk, each is a class of its own once it
+ * is met. */
 void chunk_learn(lua_State *L);
 
 /* The hash of the Lua function on the top, which tells it from others of the same lines. 0 if there is no memory. */

@@ -16,6 +16,7 @@ static int resume_by(lua_CFunction own, lua_State *L, lua_State *coroutine) {
     nudge_at(script, coroutine);
     stops_enter(script, coroutine);
     int results = own(L);
+    stops_enter(script, L);
     nudge_back_at(script, L);
     script->links = links;
     return results;

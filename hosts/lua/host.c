@@ -80,6 +80,23 @@ void script_back(struct script *script) {
     script->away = false;
 }
 
+/* Returns from where it was away, if it was. Breakpoints that were set meanwhile are noticed at the next line. */
+static void come_back(struct script *script, lua_State *L, bool away) {
+    if (away)
+        script_back(script);
+    if (script->inspected)
+        stops_notice(script, L);
+}
+
+void script_tell_classes(struct script *script, lua_State *L) {
+    struct host *host = script->host;
+    if (!script->inspected || !atomic_load(&host->listens))
+        return;
+    bool away = script_block(script, L, CQ_PARK);
+    complain(script, "what a debugger is told", cq_server_tell_classes(&host->servers[DOOR_DEBUGGER]));
+    come_back(script, L, away);
+}
+
 /* ------------------------------------------------------------------------------------------------------------------
  * A script's run.
  */
@@ -108,13 +125,11 @@ static bool await_debugger(struct script *script, lua_State *L) {
     while (sem_wait(&host->listening))
         continue;
     sem_post(&host->listening);
-    if (host->listens)
+    bool listens = atomic_load(&host->listens);
+    if (listens)
         complain(script, "the wait for a debugger", cq_server_await_resumption(&host->servers[DOOR_DEBUGGER]));
-    if (away)
-        script_back(script);
-    if (script->inspected)
-        stops_notice(script, L);
-    return host->listens;
+    come_back(script, L, away);
+    return listens;
 }
 
 static int run_statement(lua_State *L, const char *statement) {
@@ -270,9 +285,9 @@ int host_make(struct host *host, char **paths, size_t count, bool inspected) {
 
 /* Opens the door for debuggers, for which the scripts wait. */
 static int open_suspended(struct host *host) {
-    host->listens = !host_open(host, DOOR_DEBUGGER, host->suspended_at);
+    int opened = host_open(host, DOOR_DEBUGGER, host->suspended_at);
     sem_post(&host->listening);
-    return host->listens ? 0 : -1;
+    return opened;
 }
 
 int host_start(struct host *host) {
@@ -344,6 +359,8 @@ int host_open(struct host *host, enum door door, const char *address) {
     }
     if (code != CQ_OK || (code = cq_server_port(&host->servers[door], &port)) != CQ_OK)
         return refused(address, code);
+    if (door == DOOR_DEBUGGER)
+        atomic_store(&host->listens, true);
     tell_address(door, address, port);
     return 0;
 }

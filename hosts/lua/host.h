@@ -72,7 +72,7 @@ struct host {
     bool inspected;             /* there is a service */
     const char *suspended_at;   /* the scripts begin once a debugger that attached at this address has resumed them; or NULL */
     sem_t listening;            /* above 0 once that door is open, or could not be opened */
-    bool listens;               /* it is open */
+    atomic_bool listens;        /* the door for debuggers is open */
     const char **statements;    /* what each script runs first */
     size_t statement_count;
     struct script *scripts;
@@ -112,6 +112,10 @@ bool script_block(struct script *script, lua_State *L, uint32_t reason);
 
 /* Returns from there. It sleeps while the script is suspended. */
 void script_back(struct script *script);
+
+/* On the script's thread: tells a debugger, if there is one, of the classes that were defined. It returns once the debugger has resumed
+ * the script, if it has suspended it for that, and notices breakpoints from the next line on. */
+void script_tell_classes(struct script *script, lua_State *L);
 
 /* From here on others may read the script's states, until it goes on. The latter waits for whoever reads. */
 void script_stand(struct script *script);

@@ -13,7 +13,7 @@ static void set_hook(struct script *script, lua_State *L) {
 }
 
 void stops_enter(struct script *script, lua_State *L) {
-    if (script->stops)
+    if (script->stops && lua_gethookmask(L) != stops_mask(script))
         set_hook(script, L);
 }
 

@@ -16,7 +16,7 @@ bool stops_notice(struct script *script, lua_State *L);
 /* In a hook: the script stops if an agent wants it to at this line or return. */
 void stops_look(struct script *script, lua_State *L, lua_Debug *ar);
 
-/* On the script's thread: this coroutine is resumed. */
+/* On the script's thread: this state or coroutine runs from now on. */
 void stops_enter(struct script *script, lua_State *L);
 
 #endif

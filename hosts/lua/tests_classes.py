@@ -1,10 +1,12 @@
 """The classes of scripts: which functions they have, how they are named, and when there is a new one."""
 import contextlib
 import pathlib
+import struct
+import subprocess
 import time
 
-from checks import SLEEPER, check, script, served
-from jdwp import PATIENCE
+from checks import CQLUA, SLEEPER, check, script, served
+from jdwp import PATIENCE, ids
 from tests_attach import attach
 
 # Functions by all forms that name one, and below them the names in the order of the source.
@@ -32,6 +34,10 @@ function M.field() end
 M[key] = function() end
 """
 MANY_NAMES = ["main", "global", "field", "function"]
+# How a file is loaded and run, by its name.
+LOADS = {"required": "require('required')", "done": "dofile('done.lua')", "loaded": "loadfile('loaded.lua')()",
+         "named": "local file = io.open('named.lua') load(file:read('a'), '@named.lua')()"}
+CLASS_PREPARE, BREAKPOINT, ALL = 8, 2, 2
 
 
 class Debugger:
@@ -50,6 +56,21 @@ class Debugger:
     def names(self, signature, count=1):
         """The names of each such class's methods, once there are so many classes."""
         return [list(self.wire.methods(class_).values()) for class_ in self.classes(signature, count)]
+
+    def wants(self, kind, modifier):
+        """Asks for an event that suspends all threads, and gives the number of the request."""
+        return self.wire.ask(15, 1, struct.pack(">BBi", kind, ALL, 1) + modifier).number(4)
+
+    def wants_class(self, name):
+        return self.wants(CLASS_PREPARE, struct.pack(">Bi", 5, len(name)) + name.encode())
+
+    def event(self):
+        """The kind and the number of the next event that has one, and the rest of its data."""
+        while not self.wire.events:
+            self.wire.read()
+        data = self.wire.events.pop(0)
+        data.take(5)
+        return data.number(1), data.number(4), data
 
     def stack(self, name, newest):
         """The stack of a thread as soon as this is its newest function."""
@@ -134,3 +155,37 @@ def test_classes_of_stripped_chunks(folder):
     with debugged(folder, "strip.lua") as debugger:
         stack = debugger.stack("strip.lua", "C.sleep.sleep")
         check("a stripped function", stack == ["C.sleep.sleep", "_.stripped:0", "strip.main:4"], stack)
+
+
+def test_classes_are_told_before_they_run(folder):
+    """A debugger has time to set a breakpoint in a file that is loaded, and the hook notices it at the next line."""
+    for name in LOADS:
+        script(folder, f"{name}.lua", f"io.open('ran-{name}', 'w'):close()\nlocal n = 1\nreturn n")
+    script(folder, "main.lua", "package.path = './?.lua' repeat sleep(0.01) local file = io.open('go') until file\n" +
+           "\n".join(LOADS.values()) + SLEEPER)
+    with debugged(folder, "main.lua") as debugger:
+        wanted = {name: debugger.wants_class(name) for name in LOADS}
+        pathlib.Path(folder, "go").touch()
+        for name, number in wanted.items():
+            ran = pathlib.Path(folder, f"ran-{name}")
+            kind, found, data = debugger.event()
+            thread, _, class_ = data.number(8), data.number(1), data.number(8)
+            check(f"a debugger is told of {name}", (kind, found) == (CLASS_PREPARE, number), (kind, found))
+            time.sleep(0.1)
+            check(f"{name} waits", not ran.exists() and debugger.wire.status(thread)[1] == 1)
+            main = next(iter(debugger.wire.methods(class_)))
+            placed = debugger.wants(BREAKPOINT, struct.pack(">BB", 7, 1) + ids(class_, main, 2))
+            debugger.wire.resume()
+            kind, found, _ = debugger.event()
+            check(f"{name} stops at its second line", (kind, found) == (BREAKPOINT, placed) and ran.exists(), (kind, found))
+            debugger.wire.ask(15, 2, struct.pack(">Bi", BREAKPOINT, placed))
+            debugger.wire.resume()
+
+
+def test_classes_are_told_to_nobody(folder):
+    """Without a debugger a script does not wait for the door's next look, which comes each 100 ms."""
+    script(folder, "part.lua", "return 1")
+    main = script(folder, "main.lua", "for i = 1, 1000 do dofile('part.lua') end print('loaded')")
+    start = time.monotonic()
+    done = subprocess.run([CQLUA, "run", "--debug", "127.0.0.1:0", main], cwd=folder, capture_output=True, text=True, timeout=60)
+    check("a thousand files are loaded at once", done.stdout == "loaded\n" and time.monotonic() - start < 20, done)

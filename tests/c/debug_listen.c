@@ -335,6 +335,7 @@ int main(void) {
     listens_at_a_path();
     tells_variables();
     starts_suspended();
+    tells_classes();
     takes_own_users();
     return 0;
 }

@@ -128,6 +128,8 @@ static void refuses_servers_for_others(void) {
     OK(cq_serve(&http, &service, NULL, "127.0.0.1:0", "tests"));
     SAME(cq_server_await_resumption(&http), CQ_MISUSED);
     OK(cq_serve_end(&http));
+    SAME(cq_debug_listen(&none, &service, NULL, "unix:/no/such/folder/at/all", "tests", "/src"), CQ_SYSTEM);
+    SAME(cq_server_await_resumption(&none), CQ_MISUSED);
     OK(cq_free(&service));
 }
 

@@ -22,7 +22,7 @@ static cq_signal all_signal;
 static cq_thread thread;
 static pthread_t id;
 static pthread_mutex_t lock = PTHREAD_MUTEX_INITIALIZER;
-static atomic_bool over;
+static atomic_bool has_begun, over;
 static atomic_ulong told;
 static struct { int64_t n, twice; } frame;  /* the worker's, under the lock */
 
@@ -43,6 +43,7 @@ static void poll_it(void) {
 static void *work(void *unused) {
     pthread_mutex_lock(&lock);
     OK(cq_wait_start(&thread, &all_signal, -1));
+    atomic_store(&has_begun, true);
     while (!atomic_load(&over)) {
         frame.n++;
         frame.twice = 2 * frame.n;
@@ -80,6 +81,10 @@ static void begin(void) {
     OK(cq_wait_attach_thread(&service, &all_signal, (const uint8_t *)"worker", 6, 5, &thread));
     atomic_store(&over, false);
     SAME(pthread_create(&id, NULL, work, NULL), 0);
+    for (int i = 0; i < 20000 && !atomic_load(&has_begun); i++) {
+        usleep(1000);
+    }
+    CHECK(atomic_load(&has_begun));
 }
 
 static void finish(void) {

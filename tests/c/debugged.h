@@ -37,4 +37,7 @@ void tells_variables(void);
 /* debug_starts.c: a runtime that waits for its first debugger. */
 void starts_suspended(void);
 
+/* debug_classes.c: threads that define a class, and run it once the debugger has been told of it. */
+void tells_classes(void);
+
 #endif

@@ -254,6 +254,7 @@ void test_server() {
     auto thread = service.attach_thread("one", 5);
     auto server = service.serve("127.0.0.1:0", "types");
     EXPECT(answer_of(server.port(), "/threads").find("\"one\" #0 prio=5 new\n") != std::string::npos);
+    EXPECT(refused([&] { server.tell_classes(); }) == cebdyraq::code::misused);
     EXPECT(refused([&] { service.serve("nowhere", "types"); }) == cebdyraq::code::illegal_argument);
     try {
         service.serve("127.0.0.1:" + std::to_string(server.port()), "types");
@@ -328,6 +329,27 @@ void test_first_debugger() {
     waiter.join();
 }
 
+/* A class is told before the thread that has defined it goes on. */
+void test_told_classes() {
+    cebdyraq::service service(8, 1, 4);
+    auto thread = service.attach_thread("", 5);
+    thread.start();
+    auto server = service.debug_listen("127.0.0.1:0", "types", "/src");
+    server.tell_classes();
+    int debugger = dial(server.port());
+    auto asked = "JDWP-Handshake" + packet(1, std::string("\0\xf\1", 3), std::string("\x08\2\0\0\0\0", 6));
+    EXPECT(send(debugger, asked.data(), asked.size(), 0) == ssize_t(asked.size()));
+    char some[64] = {};
+    EXPECT(recv(debugger, some, 14 + 15, MSG_WAITALL) == 29 && std::string(some + 25, 4) == std::string("\0\0\0\1", 4));
+    service.define_class("Llate;", "", {});
+    {
+        auto away = thread.block(cebdyraq::reason::park);
+        server.tell_classes();
+        EXPECT(recv(debugger, some, 52, MSG_WAITALL) == 52 && std::string(some + 42, 6) == "Llate;");
+        close(debugger);
+    }
+}
+
 }  // namespace
 
 int main() {
@@ -342,5 +364,6 @@ int main() {
     test_debugger();
     test_variables();
     test_first_debugger();
+    test_told_classes();
     return failures;
 }

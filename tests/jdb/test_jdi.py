@@ -18,10 +18,13 @@ class Programs(unittest.TestCase):
         cls.room = room.name
         subprocess.run(["javac", "-Xlint:all", "-Werror", "-d", cls.room, *(places.HERE / "jdi").glob("*.java")], check=True)
 
-    def run_at(self, host, program):
+    def ends_well(self, host, program):
         words = ["java", "-cp", self.room, program, str(host.port)]
         done = subprocess.run(words, capture_output=True, text=True, timeout=PATIENCE)
         self.assertEqual((done.stdout, done.returncode), ("ok\n", 0), done.stderr)
+
+    def run_at(self, host, program):
+        self.ends_well(host, program)
         self.assertTrue(host.runs())
 
     def events_at(self, host, *steps):
@@ -46,6 +49,11 @@ class Programs(unittest.TestCase):
     def test_variables(self):
         with places.scripts("waits", "spins") as host:
             self.run_at(host, "Variables")
+
+    def test_a_breakpoint_in_a_class_that_comes_later(self):
+        with places.scripts("loads", suspended=True) as host:
+            self.ends_well(host, "Deferred")
+            self.assertEqual((host.process.wait(PATIENCE), host.process.stdout.read()), (0, "loads\tall\n"))
 
     def test_a_thousand_threads(self):
         with tempfile.TemporaryDirectory() as folder, places.many(folder) as host:

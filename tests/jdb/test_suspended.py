@@ -38,6 +38,32 @@ class FirstDebugger(unittest.TestCase):
             jdb.process.stdin.flush()
             self.ends(host, ["once\t6"])
 
+    def go_on(self, jdb):
+        jdb.process.stdin.write(b"cont\n")
+        jdb.process.stdin.flush()
+
+    def test_stops_in_files_that_are_loaded_later(self):
+        files = ("required", "done", "loaded", "named", "yielded")
+        with places.scripts("loads", suspended=True) as host, attached(host) as jdb:
+            for file in files:
+                self.assertIn(f"Deferring breakpoint deep.{file}:2", jdb.say(f"stop at deep.{file}:2"))
+            for file in files:
+                self.go_on(jdb)
+                self.assertEqual(told(jdb.read(STOPPED)), hit(f"deep.{file}.main", 2, "loads.lua"))
+                self.assertIn(f"Removed: breakpoint deep.{file}:2", jdb.say(f"clear deep.{file}:2"))
+            self.go_on(jdb)
+            self.ends(host, ["loads\tall"])
+
+    def test_each_script_stops_in_a_file_that_both_load(self):
+        with places.scripts("loads", "./loads", suspended=True) as host, attached(host) as jdb:
+            jdb.say("stop at deep.required:2")
+            for _ in range(2):
+                self.go_on(jdb)
+                self.assertEqual(told(jdb.read(STOPPED)), hit("deep.required.main", 2, "loads.lua"))
+            jdb.say("clear deep.required:2")
+            self.go_on(jdb)
+            self.ends(host, ["loads\tall", "loads\tall"])
+
     def test_all_scripts_wait(self):
         with places.scripts("once", "./once", suspended=True) as host, attached(host) as jdb:
             self.assertEqual(len(re.findall(r"once\.lua", jdb.say("threads"))), 2)

@@ -140,6 +140,7 @@ FUNCTIONS: Dict[str, List[Any]] = {
     "cq_server_pops_frames": [BOOL],
     "cq_server_starts_suspended": [BOOL],
     "cq_server_await_resumption": [],
+    "cq_server_tell_classes": [],
     "cq_tell_variable": [AT, SIZE, NUMBER, NUMBER, NUMBER],
     "cq_tell_nil": [NUMBER],
     "cq_tell_boolean": [NUMBER, BOOL],

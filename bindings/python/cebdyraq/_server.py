@@ -58,6 +58,14 @@ class Server:
         if code != Code.OK:
             raise Error(code)
 
+    def tell_classes(self) -> None:
+        """Tells the debugger of the classes that were defined before. A thread that has defined one calls it while it blocks, before
+        it runs a method of the class. It comes back once the debugger, which may set breakpoints there, has resumed it. Without a
+        debugger it returns at once."""
+        code = self._library.cq_server_tell_classes(ctypes.byref(self._memory))
+        if code != Code.OK:
+            raise Error(code)
+
     def end(self) -> None:
         """Ends it. It may be called again."""
         code = self._library.cq_serve_end(ctypes.byref(self._memory))

@@ -700,6 +700,7 @@ extern "C" {
     pub fn cq_server_pops_frames(server: *mut cq_server, pops: bool) -> u32;
     pub fn cq_server_starts_suspended(server: *mut cq_server, suspended: bool) -> u32;
     pub fn cq_server_await_resumption(server: *mut cq_server) -> u32;
+    pub fn cq_server_tell_classes(server: *mut cq_server) -> u32;
     pub fn cq_server_port(server: *const cq_server, port: *mut u16) -> u32;
     pub fn cq_serve_end(server: *mut cq_server) -> u32;
 }

@@ -55,7 +55,7 @@ pub struct Server {
     _told: Option<Told>,
 }
 
-// SAFETY: only `drop` changes it from here on, and nothing else is called then.
+// SAFETY: only `drop` changes it from here on, but for what is under its lock, and nothing else is called then.
 unsafe impl Send for Server {}
 unsafe impl Sync for Server {}
 
@@ -70,10 +70,26 @@ impl Server {
     }
 
     /// Sleeps until a debugger has resumed a thread. Threads that wait for their first debugger call it while they block, before
-    /// their first step. [`Error::Misused`] if it serves HTTP.
+    /// their first step.
+    ///
+    /// # Panics
+    ///
+    /// If it serves HTTP.
     pub fn await_resumption(&self) -> Result<(), Error> {
-        // SAFETY: the server's memory is where it was until it is dropped. This call changes nothing of it but by atomic operations.
+        // SAFETY: the server's memory is where it was until it is dropped. This call changes nothing of it but under its lock.
         checked(unsafe { sys::cq_server_await_resumption(&raw const *self.memory as *mut sys::cq_server) })
+    }
+
+    /// Tells the debugger of the classes that were defined before. A thread that has defined one calls it while it blocks, before it
+    /// runs a method of the class. It comes back once the debugger, which may set breakpoints there, has resumed it. Without a
+    /// debugger it returns at once.
+    ///
+    /// # Panics
+    ///
+    /// If it serves HTTP.
+    pub fn tell_classes(&self) -> Result<(), Error> {
+        // SAFETY: as in `await_resumption`.
+        checked(unsafe { sys::cq_server_tell_classes(&raw const *self.memory as *mut sys::cq_server) })
     }
 }
 

@@ -1,4 +1,4 @@
-//! Variables that a server tells a debugger, and threads that wait for it. It speaks the debug wire protocol here.
+//! Variables and classes that a server tells a debugger, and threads that wait for it. It speaks the debug wire protocol here.
 
 use cebdyraq::{ClassInfo, DebugOptions, Error, Frame, Lines, MethodInfo, Names, Reason, Server, Service, Values, Variables};
 use std::io::{Read, Write};
@@ -12,6 +12,8 @@ const OBJECT: &str = "Ljava/lang/Object;";
 const VARIABLES: (u8, u8) = (6, 5);
 const RESUME: (u8, u8) = (1, 9);
 const SUSPEND: (u8, u8) = (11, 2);
+const STATUS: (u8, u8) = (11, 4);
+const WANT: (u8, u8) = (15, 1);
 const VALUES: (u8, u8) = (16, 1);
 
 /// The variables of a function `work`, and of one that panics.
@@ -125,6 +127,29 @@ fn threads_wait_for_their_first_debugger() {
         assert_eq!(debugger.ask(RESUME, &[]), (0, vec![]));
         waiter.join().unwrap().unwrap();
     });
+    drop(server);
+    drop(safe);
+}
+
+#[test]
+fn classes_are_told_before_their_thread_goes_on() {
+    let mut service = service();
+    let running = service.attach_thread("main", 5).unwrap().start();
+    let Ok(safe) = running.block(Reason::Sleep) else { panic!("nothing bars it") };
+    let server = service.debug_listen("127.0.0.1:0", "test", "/src").unwrap();
+    server.tell_classes().unwrap();
+    let mut debugger = Debugger::attach(&server);
+    assert_eq!(debugger.ask(WANT, &[&[8, 2, 0, 0, 0, 0]]), (0, vec![0, 0, 0, 1]));
+    let late = ClassInfo { signature: "Llate;".into(), source_file: None, methods: vec![] };
+    service.define_class(&late).unwrap();
+    server.tell_classes().unwrap();
+    let mut told = [0; 52];
+    debugger.0.read_exact(&mut told).unwrap();
+    let head = [&[2, 0, 0, 0, 1, 8, 0, 0, 0, 1][..], &THREAD, &[1, 0, 0, 0, 4, 0, 0, 0, 1, 0, 0, 0, 6]].concat();
+    assert_eq!(told[11..42], head);
+    assert_eq!(told[42..], *b"Llate;\0\0\0\x07");
+    assert_eq!(debugger.ask(STATUS, &[&THREAD]).1[4..], [0, 0, 0, 1]);
+    assert_eq!(debugger.ask(RESUME, &[]), (0, vec![]));
     drop(server);
     drop(safe);
 }

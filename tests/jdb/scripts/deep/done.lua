@@ -1,0 +1,3 @@
+-- By dofile.
+local n = 1
+return n

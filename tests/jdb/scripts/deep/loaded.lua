@@ -1,0 +1,3 @@
+-- By loadfile.
+local n = 1
+return n

@@ -1,0 +1,3 @@
+-- By require.
+local n = 1
+return n

@@ -1,0 +1,3 @@
+-- By loadfile in a coroutine, and run behind it.
+local n = 1
+return n
