@@ -4,7 +4,7 @@ import ctypes
 import os
 from typing import Any, Dict, List, Optional, Sequence, Union
 
-VERSION = (1, 6)
+VERSION = (1, 7)
 
 
 class Handle(ctypes.Structure):

@@ -9,7 +9,7 @@ use core::ptr::null_mut;
 
 /// The version whose functions are declared here.
 pub const CQ_VERSION_MAJOR: u32 = 1;
-pub const CQ_VERSION_MINOR: u32 = 6;
+pub const CQ_VERSION_MINOR: u32 = 7;
 
 /// Whether the library that the program runs with has all of them, as `cq_version_fits` of `cebdyraq.h` says.
 pub fn version_fits() -> bool {
