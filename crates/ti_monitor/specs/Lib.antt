@@ -17,6 +17,7 @@ pub mod Threads
 pub mod Json
 pub mod Door
 pub mod Desks
+pub mod Serving
 pub mod SeatLists
 pub mod Seats
 pub mod Doors

@@ -199,7 +199,7 @@ impl Door {
         let Some(seat) = self.seats.take(conn) else {
             return Err(DoorError::NoConnection);
         };
-        self.desk.forget(seat.reading());
+        self.desk.forget(seat.due());
         Ok(())
     }
 
