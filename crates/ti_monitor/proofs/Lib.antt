@@ -11,3 +11,5 @@ pub mod DoorLaws
 pub mod OpenLaws
 pub mod TextLaws
 pub mod EnableLaws
+pub mod BookLaws
+pub mod ServeLaws

@@ -1,6 +1,5 @@
 -- What a door answers, and with what.
 use Rattle.std.specs.Prelude.{ℕ, ◌≡◌, ◌+◌, ◌*◌, ◌-◌, ◌^◌, ◌==◌, List, [], ◌∷◌, length, min, nat_lt, slice_index, if◌then◌else◌}
-use Rattle.std.specs.String.{string_bytes}
 use Rattle.serde_json.specs.Written.{compact_text}
 use Rattle.ti_http.specs.declared.answers.ContentType.{ContentType}
 use Rattle.ti_http.specs.declared.answers.ContentType.TheVariants as content
@@ -73,10 +72,6 @@ body_of target.Threads r = text_of (threads_lines r)
 body_of target.ThreadsJson r = compact_text (threads_data r)
 body_of (target.ThreadsProfile d) r = body_in d r
 body_of (target.Profile seconds rate labels) r = profile_of r
-
--- the body of the answer to a target that some reading was made for, which names this program
-abbrev pub IsBodyOf : List ℕ → Target → List ℕ → Type 0
-IsBodyOf program target bytes = (r : Reading) × (string_bytes r.about.program ≡ program) × (bytes ≡ body_of target r)
 
 -- ---- counts by status
 

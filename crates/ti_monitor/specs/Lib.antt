@@ -17,6 +17,8 @@ pub mod Threads
 pub mod Json
 pub mod Door
 pub mod Desks
+pub mod Serving
+pub mod Keeping
 pub mod SeatLists
 pub mod Seats
 pub mod Doors

@@ -1,12 +1,14 @@
 -- The readings of a monitor.
-use Rattle.std.specs.Prelude.{ℕ, ◌≡◌, ◌≤◌, ◌⊎◌, ◌==◌, Bool, true, false, List, [], ◌∷◌, ◌++◌, Option, Some, None, is_some, length, if◌then◌else◌}
-use Rattle.std.specs.List.{sum_by}
+use Rattle.std.specs.Prelude.{ℕ, ◌≡◌, ◌≤◌, ◌⊎◌, ◌==◌, Bool, true, false, List, [], ◌∷◌, ◌++◌, Option, Some, None, is_some, length, slice_get, if◌then◌else◌}
+use Rattle.std.specs.List.{remove, sum_by}
 use Rattle.ti_service.specs.Agent.{AgentState}
 use Rattle.ti_service.specs.Telling.{Enables}
 use Rattle.ti_pprof.specs.declared.counting.Counts.{Counts}
+use Rattle.ti_monitor.specs.declared.metrics.Metrics.{Metrics}
 use Rattle.ti_monitor.specs.declared.monitor.ReadingNo.{ReadingNo}
 use Rattle.ti_monitor.specs.declared.reading.Order.{Order}
 use Rattle.ti_monitor.specs.declared.running.Running.{Running}
+use Rattle.ti_monitor.specs.Histograms.{added}
 use Rattle.ti_monitor.specs.Orders.{profile_count}
 
 -- the environment is as it was, or was enabled to be told of threads that start and end
@@ -43,3 +45,15 @@ HasNoRoom readings begun order = IsFull readings order ⊎ (begun ≡ 1844674407
 -- one more reading was begun, behind the others
 abbrev pub Begins : List Running → List Running → ReadingNo → Order → Type 0
 Begins old new number order = (r : Running) × (new ≡ old ++ r ∷ []) × (r.no ≡ number) × (r.order ≡ order)
+
+-- the readings without the first one of a number
+abbrev pub IsWithout : ReadingNo → List Running → List Running → Type 0
+IsWithout number old new = (place : ℕ) × (slice_get old place ≡ reading_in old number) × (new ≡ remove old place)
+
+-- the same, or there was none
+abbrev pub MayBeWithout : ReadingNo → List Running → List Running → Type 0
+MayBeWithout number old new = (new ≡ old) ⊎ IsWithout number old new
+
+-- one more profile was begun, if it is one
+abbrev pub begun_in : Order → Metrics → Metrics
+begun_in order m = if profile_count order == 1 then record m { profiles = added m.profiles 1 } else m

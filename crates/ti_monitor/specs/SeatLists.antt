@@ -4,7 +4,9 @@ use Rattle.std.specs.String.{string_bytes}
 use Rattle.ti_http.specs.declared.hosts.Hosts.{Hosts}
 use Rattle.ti_http.specs.Talks.{Talk}
 use Rattle.ti_monitor.specs.declared.door_desk.Desk.{Desk}
+use Rattle.ti_monitor.specs.declared.door_desk.Due.{Due}
 use Rattle.ti_monitor.specs.declared.door_seat.Seat.{Seat}
+use Rattle.ti_monitor.specs.Keeping.{Kept, kept}
 use Rattle.ti_monitor.specs.Doors.{DoorValue, door_with}
 
 -- the connection of this number, if it is open
@@ -24,5 +26,15 @@ abbrev pub talk_of : Option Seat → Option Talk
 talk_of None = None
 talk_of (Some s) = Some s.connection
 
+-- what its request waits for
+abbrev pub due_of : Option Seat → Option Due
+due_of None = None
+due_of (Some s) = s.due
+
+-- what is seen of the books
+abbrev pub kept_of : Desk → Kept
+kept_of d = kept d.monitor.metrics d.tally.rows
+
 abbrev pub door_of : Hosts → List (Option Seat) → Desk → DoorValue
-door_of hosts seats desk = door_with hosts (map talk_of seats) (string_bytes desk.monitor.program) (string_bytes desk.version) desk.monitor.agent
+door_of hosts seats desk =
+    door_with hosts (map talk_of seats) (string_bytes desk.monitor.program) (string_bytes desk.version) desk.monitor.agent (map due_of seats) (kept_of desk)

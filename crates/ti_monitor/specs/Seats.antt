@@ -31,13 +31,19 @@ QuietIn p output = (is_waiting (state_of p) ≡ true → output ≡ []) × (is_s
 abbrev pub RunsTo : Talk → Talk → Type 0
 RunsTo old new = (calls : List Call) × Runs old calls new
 
--- the reading that a request waits for
-abbrev pub reading_of : Option Due → Option ReadingNo
-reading_of None = None
-reading_of (Some (due.Reading reading target)) = Some reading
-reading_of (Some (due.Later seconds)) = None
+-- the seconds after which the client is to try again, if that is due
+abbrev pub seconds_of : Option Due → Option ℕ
+seconds_of None = None
+seconds_of (Some (due.Reading request reading)) = None
+seconds_of (Some (due.Later request seconds)) = Some seconds
 
--- the same if the reading goes on for some seconds
+-- the same request is to be told to try again after a second
+abbrev pub postponed : Option Due → Option Due
+postponed None = None
+postponed (Some (due.Reading request reading)) = Some (due.Later request 1)
+postponed (Some (due.Later request seconds)) = Some (due.Later request 1)
+
+-- the reading that a request waits for, if it goes on for some seconds
 abbrev pub profile_in : ReadingNo → Target → Option ReadingNo
 profile_in reading target.Index = None
 profile_in reading target.Metrics = None
@@ -48,8 +54,8 @@ profile_in reading (target.Profile seconds rate labels) = Some reading
 
 abbrev pub profile_of : Option Due → Option ReadingNo
 profile_of None = None
-profile_of (Some (due.Reading reading target)) = profile_in reading target
-profile_of (Some (due.Later seconds)) = None
+profile_of (Some (due.Reading request reading)) = profile_in reading request.target
+profile_of (Some (due.Later request seconds)) = None
 
 -- no request waits, no part of one came, and nothing is to be written
 abbrev pub is_idle : Talk → Bool

@@ -13,7 +13,8 @@ use ti_service::Service;
 use ti_types::TiError;
 
 /// Connections that ask a monitor. Times are nanoseconds of a clock that never goes back. Contracts see a door as a `DoorValue`: the
-/// hosts that it serves, each connection as `ti_http` sees it, the program's name and the version that it tells, and its environment.
+/// hosts that it serves, each connection as `ti_http` sees it, the program's name and the version that it tells, its environment, what
+/// the request of each connection waits for, the monitor's metrics, and how many answers had each status.
 #[derive(Drop)]
 pub struct Door {
     alloc: Global,
@@ -34,7 +35,7 @@ impl Model for Door {
 impl Door {
     /// A door without connections. `version` is what `/metrics` names. Profiles name the program of the monitor.
     pub fn new(alloc: Global, monitor: Monitor, hosts: Hosts, version: String) -> Door
-        ensures { result ≡ door_with hosts [] (string_bytes monitor.program) (string_bytes version) monitor.agent }
+        ensures { result ≡ door_with hosts [] (string_bytes monitor.program) (string_bytes version) monitor.agent [] (kept monitor.metrics no_answers) }
     {
         Door {
             alloc,
@@ -55,7 +56,7 @@ impl Door {
         ensures opened { IfSome result (λ c. Opens self.old self.new c.0 (now / 1000000)) }
         ensures full { IfNone result (AllRun self.old self.new) }
         ensures few { length self.new.talks ≤ 16 }
-        ensures rest { self.new ≡ record self.old { talks = self.new.talks } }
+        ensures rest { IfNone result (self.new ≡ record self.old { talks = self.new.talks }) }
     {
         let seat = Seat::new(self.alloc, self.hosts, now);
         if let Some(conn) = self.seats.free() {
@@ -138,6 +139,7 @@ impl Door {
     /// - 103 ILLEGAL_ARGUMENT: there is no such connection. Nothing changes.
     pub fn end(&mut self, conn: ConnNo, now: u64) -> Result<(), DoorError>
         ensures ended { OnOk result (GoesOn self.old self.new conn.0 (λ t t'. RunsTo t t' × (t'.ended ≡ true))) }
+        ensures serves { OnOk result (ServesAt self.old self.new conn.0) }
         ensures unknown { IfErr result (IsUnknown self.old conn.0) }
         ensures kept { OnErr result (self.new ≡ self.old) }
     {
@@ -155,6 +157,7 @@ impl Door {
     /// - 110 OUT_OF_MEMORY: there is no memory for the answer to a request that is refused. It waits for the next call.
     pub fn next(&mut self, conn: ConnNo, now: u64, unix: u64) -> Result<Todo, DoorError>
         ensures told { IfOk result (λ todo. GoesOn self.old self.new conn.0 (λ t t'. RunsTo t t' × Says t' todo)) }
+        ensures serves { ServesOne self.old self.new conn.0 }
         ensures refused { IfErr result (Refuses (talk_at self.old conn.0)) }
         ensures run { OnErr result (AllRun self.old self.new) }
     {
@@ -191,7 +194,7 @@ impl Door {
     ///
     /// - 103 ILLEGAL_ARGUMENT: there is no such connection. Nothing changes.
     pub fn closed(&mut self, conn: ConnNo) -> Result<(), DoorError>
-        ensures gone { OnOk result (self.new ≡ with_talk self.old conn.0 None) }
+        ensures gone { OnOk result (Closes self.old self.new conn.0) }
         ensures known { talk_at self.old conn.0 ≡ None → result ≡ Err NoConnection }
         ensures unknown { IfErr result (IsUnknown self.old conn.0) }
         ensures kept { OnErr result (self.new ≡ self.old) }
@@ -199,13 +202,14 @@ impl Door {
         let Some(seat) = self.seats.take(conn) else {
             return Err(DoorError::NoConnection);
         };
-        self.desk.forget(seat.reading());
+        self.desk.forget(seat.due());
         Ok(())
     }
 
     /// Does what is due: the monitor's part, answers that are there, and connections whose peers take too long.
     pub fn tick(&mut self, now: u64)
         ensures run { AllRun self.old self.new }
+        ensures serves { IsTicked self.old self.new }
     {
         self.desk.tick(now);
         for place in 0..16 {
@@ -216,6 +220,7 @@ impl Door {
     /// Does what is due at one connection, if it is open.
     fn tick_one(&mut self, conn: ConnNo, now: u64)
         ensures run { AllRun self.old self.new }
+        ensures serves { ServesOne self.old self.new conn.0 }
     {
         if let Some(mut seat) = self.seats.take(conn) {
             seat.tick(&mut self.desk, now);
@@ -279,5 +284,7 @@ ghost use Rattle.ti_http.specs.Talks.{written_from};
 ghost use Rattle.ti_monitor.specs.declared.door_error.DoorError.TheVariants.{NoConnection};
 ghost use Rattle.ti_service.specs.Leaving.{Disposes, StaysOn};
 ghost use Rattle.ti_service.specs.Memberships.{state_of};
-ghost use Rattle.ti_monitor.specs.Doors.{AllRun, Changes, Feeds, GoesOn, IsUnknown, Opens, Refuses, door_with, output_of, room_of, talk_at, with_talk};
+ghost use Rattle.ti_monitor.specs.Doors.{AllRun, Changes, Closes, Feeds, GoesOn, IsTicked, IsUnknown, Opens, Refuses, ServesAt, ServesOne, door_with, output_of, room_of, talk_at};
+ghost use Rattle.ti_monitor.specs.Door.{no_answers};
+ghost use Rattle.ti_monitor.specs.Keeping.{kept};
 ghost use Rattle.ti_monitor.specs.Seats.{RunsTo, Says};

@@ -5,16 +5,40 @@ use crate::door_tally::Tally;
 use crate::monitor::{Monitor, ReadingNo};
 use crate::prometheus::metrics_text;
 use std::alloc::{AllocError, Global};
-use ti_http::Target;
+use ti_http::{Request, Target};
 use ti_types::TiError;
 
-/// What a request waits for.
+/// A request that waits, and what it waits for.
 #[derive(Clone, Copy)]
 pub(crate) enum Due {
     /// What this reading gives.
-    Reading { reading: ReadingNo, target: Target },
+    Reading {
+        request: Request,
+        reading: ReadingNo,
+    },
     /// The answer that the client may try again after so many seconds.
-    Later { seconds: u32 },
+    Later {
+        request: Request,
+        seconds: u32,
+    },
+}
+
+/// The same request, which is to be told to try again after a second.
+pub(crate) fn postponed(due: Option<Due>) -> Option<Due>
+    ensures later { result ≡ postponed due }
+    ensures waits { is_due result ≡ is_due due }
+{
+    match due {
+        Some(Due::Reading { request, .. }) => Some(Due::Later {
+            request,
+            seconds: 1,
+        }),
+        Some(Due::Later { request, .. }) => Some(Due::Later {
+            request,
+            seconds: 1,
+        }),
+        None => None,
+    }
 }
 
 /// The monitor, and what is counted of all connections.
@@ -53,34 +77,49 @@ impl Desk {
     }
 
     /// Begins the reading that a request asks for. If it cannot begin, the client is told when to try again.
-    pub(crate) fn begin(&mut self, target: Target, moment: Moment) -> Due
-        ensures { Keeps self.old self.new }
+    pub(crate) fn begin(&mut self, request: Request, moment: Moment) -> Due
+        ensures keeps { Keeps self.old self.new }
+        ensures starts { Starts request (books_of self.old) result (books_of self.new) }
     {
         match self
             .monitor
-            .begin(order_of(target), moment.now, moment.unix)
+            .begin(order_of(request.target), moment.now, moment.unix)
         {
-            Ok(reading) => Due::Reading { reading, target },
+            Ok(reading) => Due::Reading { request, reading },
             Err(TiError::Full) => Due::Later {
-                seconds: retry_after(target),
+                request,
+                seconds: retry_after(request.target),
             },
-            Err(_) => Due::Later { seconds: 1 },
+            Err(_) => Due::Later {
+                request,
+                seconds: 1,
+            },
         }
+    }
+
+    /// Ends a reading now, with what is there.
+    pub(crate) fn hurry(&mut self, reading: ReadingNo, now: u64)
+        ensures keeps { Keeps self.old self.new }
+        ensures books { ReadingsGoOn (books_of self.old) (books_of self.new) }
+    {
+        self.monitor.hurry(reading, now);
     }
 
     /// Does what is due of the monitor.
     pub(crate) fn tick(&mut self, now: u64)
-        ensures { Keeps self.old self.new }
+        ensures keeps { Keeps self.old self.new }
+        ensures books { ReadingsGoOn (books_of self.old) (books_of self.new) }
     {
         self.monitor.tick(now);
     }
 
-    /// Gives a reading up, if there is one.
-    pub(crate) fn forget(&mut self, reading: Option<ReadingNo>)
+    /// Gives up the reading that a request waited for, if it waited for one.
+    pub(crate) fn forget(&mut self, due: Option<Due>)
         ensures keeps { Keeps self.old self.new }
         ensures agent { self.new.monitor.agent ≡ self.old.monitor.agent }
+        ensures left { MayLeave due (books_of self.old) (books_of self.new) }
     {
-        if let Some(reading) = reading {
+        if let Some(Due::Reading { reading, .. }) = due {
             self.monitor.forget(reading);
         }
     }
@@ -93,7 +132,10 @@ impl Desk {
         target: Target,
     ) -> Result<Option<Vec<u8>>, AllocError>
         ensures keeps { Keeps self.old self.new }
-        ensures body { IfOk result (λ b. IfSome b (λ v. IsBodyOf (string_bytes self.old.monitor.program) target v.items)) }
+        ensures body { IfOk result (λ b. IfSome b (λ v. IsBodyOf (string_bytes self.old.monitor.program) (books_of self.old).readings reading target v.items)) }
+        ensures left { IfOk result (λ b. IfSome b (λ v. TakesOut reading (books_of self.old) (books_of self.new))) }
+        ensures none { IfOk result (λ b. IfNone b (has_ended (reading_in (books_of self.old).readings reading) ≡ false)) }
+        ensures lost { OnErr result (MayTakeOut reading (books_of self.old) (books_of self.new)) }
     {
         match self.monitor.take(reading) {
             Ok(Some(read)) => Ok(Some(body_of(self.alloc, target, &read)?)),
@@ -106,9 +148,11 @@ impl Desk {
     }
 }
 
-ghost use Rattle.std.specs.Prelude.{◌≡◌, IfOk, IfSome};
+ghost use Rattle.std.specs.Prelude.{◌≡◌, false, IfNone, IfOk, IfSome, OnErr};
 ghost use Rattle.std.specs.String.{string_bytes};
-ghost use Rattle.ti_monitor.specs.Door.{IsBodyOf};
 ghost use Rattle.ti_monitor.specs.Exposition.{metrics_lines};
-ghost use Rattle.ti_monitor.specs.Desks.{Keeps};
+ghost use Rattle.ti_monitor.specs.Desks.{Keeps, books_of};
+ghost use Rattle.ti_monitor.specs.Monitors.{has_ended, reading_in};
+ghost use Rattle.ti_monitor.specs.Serving.{IsBodyOf, MayLeave, MayTakeOut, ReadingsGoOn, Starts, TakesOut};
 ghost use Rattle.ti_monitor.specs.Texts.{text_of};
+ghost use Rattle.ti_monitor.specs.Seats.{is_due, postponed};

@@ -1,7 +1,7 @@
 //! One connection of a door, and the answer that its request waits for.
 
 use crate::door_answers::{LATER, LOST, content_type};
-use crate::door_desk::{Desk, Due, Moment};
+use crate::door_desk::{Desk, Due, Moment, postponed};
 use crate::index::INDEX;
 use crate::monitor::ReadingNo;
 use std::alloc::Global;
@@ -36,9 +36,12 @@ pub(crate) struct Seat {
 }
 
 impl Seat {
+    ghost use Rattle.ti_monitor.specs.Desks.{Gives, Keeps, SeatServes, ServesWith, books_of};
+
     /// A connection that waits for its first request.
     pub(crate) fn new(alloc: Global, hosts: Hosts, now: u64) -> Seat
         ensures connection { result.connection ≡ opened hosts (now / 1000000) }
+        ensures due { result.due ≡ None }
         ensures stays { result.leaving ≡ false }
     {
         Seat {
@@ -123,14 +126,11 @@ impl Seat {
         self.connection.end();
     }
 
-    /// The reading that its request waits for.
-    pub(crate) fn reading(&self) -> Option<ReadingNo>
-        ensures { result ≡ reading_of self.now.due }
+    /// What its request waits for.
+    pub(crate) fn due(&self) -> Option<Due>
+        ensures { result ≡ self.now.due }
     {
-        match self.due {
-            Some(Due::Reading { reading, .. }) => Some(reading),
-            _ => None,
-        }
+        self.due
     }
 
     /// The reading that its request waits for, if it goes on for some seconds.
@@ -140,8 +140,11 @@ impl Seat {
         match self.due {
             Some(
                 Due::Reading {
+                    request: Request {
+                        target: Target::Profile { .. },
+                        ..
+                    },
                     reading,
-                    target: Target::Profile { .. },
                 },
             ) => Some(reading),
             _ => None,
@@ -151,13 +154,14 @@ impl Seat {
     /// The peer sends no more. A profile that it waits for ends now, with what is there. What takes a moment goes on.
     pub(crate) fn end(&mut self, desk: &mut Desk, now: u64)
         ensures run { RunsTo self.old.connection self.new.connection }
+        ensures serves { SeatServes self.old desk.old self.new desk.new }
         ensures ended { self.new.connection.ended ≡ true }
         ensures stays { self.new.leaving ≡ self.old.leaving }
         ensures desk { Keeps desk.old desk.new }
     {
         self.connection.end();
         if let Some(reading) = self.profile() {
-            desk.monitor.hurry(reading, now);
+            desk.hurry(reading, now);
             self.settle(desk, now);
         }
     }
@@ -173,6 +177,7 @@ impl Seat {
     )
         requires { waits self.old.connection ≡ true }
         ensures run { RunsTo self.old.connection self.new.connection }
+        ensures serves { Gives (response status content_type body.now) self.old desk.old self.new desk.new }
         ensures ended { self.new.connection.ended ≡ self.old.connection.ended }
         ensures stays { self.new.leaving ≡ self.old.leaving }
         ensures desk { Keeps desk.old desk.new }
@@ -186,15 +191,17 @@ impl Seat {
                 desk.tally.add(status.code());
             }
             Err(_) => {
-                self.due = Some(Due::Later { seconds: 1 });
+                self.due = postponed(self.due);
             }
         }
     }
 
     /// Tells the client to try again after so many seconds.
     fn give_later(&mut self, desk: &mut Desk, seconds: u32, now: u64)
-        requires { waits self.old.connection ≡ true }
+        requires waits { waits self.old.connection ≡ true }
+        requires due { seconds_of self.old.due ≡ Some seconds }
         ensures run { RunsTo self.old.connection self.new.connection }
+        ensures serves { SeatServes self.old desk.old self.new desk.new }
         ensures ended { self.new.connection.ended ≡ self.old.connection.ended }
         ensures stays { self.new.leaving ≡ self.old.leaving }
         ensures desk { Keeps desk.old desk.new }
@@ -206,13 +213,17 @@ impl Seat {
     }
 
     /// Answers with what a reading gives, which has ended.
-    fn give_reading(&mut self, desk: &mut Desk, reading: ReadingNo, target: Target, now: u64)
-        requires { waits self.old.connection ≡ true }
+    fn give_reading(&mut self, desk: &mut Desk, reading: ReadingNo, request: Request, now: u64)
+        requires waits { waits self.old.connection ≡ true }
+        requires due { self.old.due ≡ Some (due.Reading request reading) }
+        requires over { has_ended (reading_in (books_of desk.old).readings reading) ≡ true }
         ensures run { RunsTo self.old.connection self.new.connection }
+        ensures serves { SeatServes self.old desk.old self.new desk.new }
         ensures ended { self.new.connection.ended ≡ self.old.connection.ended }
         ensures stays { self.new.leaving ≡ self.old.leaving }
         ensures desk { Keeps desk.old desk.new }
     {
+        let target = request.target;
         match desk.take(reading, target) {
             Ok(Some(body)) => self.give(desk, Status::Ok, content_type(target), &body, now),
             Ok(None) => self.give(
@@ -222,13 +233,19 @@ impl Seat {
                 LOST,
                 now,
             ),
-            Err(_) => self.due = Some(Due::Later { seconds: 1 }),
+            Err(_) => {
+                self.due = Some(Due::Later {
+                    request,
+                    seconds: 1,
+                })
+            }
         }
     }
 
     /// Answers the request that waits, if its answer is there.
     pub(crate) fn settle(&mut self, desk: &mut Desk, now: u64)
         ensures run { RunsTo self.old.connection self.new.connection }
+        ensures serves { SeatServes self.old desk.old self.new desk.new }
         ensures ended { self.new.connection.ended ≡ self.old.connection.ended }
         ensures stays { self.new.leaving ≡ self.old.leaving }
         ensures desk { Keeps desk.old desk.new }
@@ -240,13 +257,14 @@ impl Seat {
     /// Answers the request that waits, if its reading has ended.
     fn settle_reading(&mut self, desk: &mut Desk, now: u64)
         ensures run { RunsTo self.old.connection self.new.connection }
+        ensures serves { SeatServes self.old desk.old self.new desk.new }
         ensures ended { self.new.connection.ended ≡ self.old.connection.ended }
         ensures stays { self.new.leaving ≡ self.old.leaving }
         ensures desk { Keeps desk.old desk.new }
     {
-        if let Some(Due::Reading { reading, target }) = self.due {
+        if let Some(Due::Reading { request, reading }) = self.due {
             if desk.monitor.has_ended(reading) {
-                self.give_reading(desk, reading, target, now);
+                self.give_reading(desk, reading, request, now);
             }
         }
     }
@@ -254,19 +272,22 @@ impl Seat {
     /// Tells the client to try again, if that is due.
     fn settle_later(&mut self, desk: &mut Desk, now: u64)
         ensures run { RunsTo self.old.connection self.new.connection }
+        ensures serves { SeatServes self.old desk.old self.new desk.new }
         ensures ended { self.new.connection.ended ≡ self.old.connection.ended }
         ensures stays { self.new.leaving ≡ self.old.leaving }
         ensures desk { Keeps desk.old desk.new }
     {
-        if let Some(Due::Later { seconds }) = self.due {
+        if let Some(Due::Later { seconds, .. }) = self.due {
             self.give_later(desk, seconds, now);
         }
     }
 
     /// Takes a request up: it answers now, or begins the reading that the answer needs.
     fn take_up(&mut self, desk: &mut Desk, request: Request, moment: Moment)
-        requires { waits self.old.connection ≡ true }
+        requires waits { waits self.old.connection ≡ true }
+        requires due { self.old.due ≡ Some (due.Later request 1) }
         ensures run { RunsTo self.old.connection self.new.connection }
+        ensures serves { ServesWith moment.connections self.old desk.old self.new desk.new }
         ensures stays { self.new.leaving ≡ self.old.leaving }
         ensures desk { Keeps desk.old desk.new }
     {
@@ -276,8 +297,10 @@ impl Seat {
 
     /// Answers a request that needs no reading, or begins its reading.
     fn answer_or_begin(&mut self, desk: &mut Desk, request: Request, moment: Moment)
-        requires { waits self.old.connection ≡ true }
+        requires waits { waits self.old.connection ≡ true }
+        requires due { self.old.due ≡ Some (due.Later request 1) }
         ensures run { RunsTo self.old.connection self.new.connection }
+        ensures serves { ServesWith moment.connections self.old desk.old self.new desk.new }
         ensures stays { self.new.leaving ≡ self.old.leaving }
         ensures desk { Keeps desk.old desk.new }
     {
@@ -293,14 +316,16 @@ impl Seat {
             _ if request.method == Method::Head => {
                 self.give(desk, Status::Ok, kind, b"", moment.now);
             }
-            _ => self.due = Some(desk.begin(target, moment)),
+            _ => self.due = Some(desk.begin(request, moment)),
         }
     }
 
     /// What the connection does next by itself. A request that it gives waits, to be told to try again until it is taken up.
     fn step(&mut self, desk: &mut Desk, now: u64) -> Result<Action, HttpError>
         ensures run { RunsTo self.old.connection self.new.connection }
+        ensures serves { SeatServes self.old desk.old self.new desk.new }
         ensures asks { IfOk result (λ a. asks_one a ≡ true → waits self.new.connection ≡ true) }
+        ensures due { IfOk result (λ a. self.new.due ≡ due_after a self.old.due) }
         ensures shut { IfOk result (λ a. a ≡ Close → is_shut (state_of self.new.connection.phase) ≡ true) }
         ensures stays { self.new.leaving ≡ self.old.leaving }
         ensures desk { Keeps desk.old desk.new }
@@ -308,11 +333,12 @@ impl Seat {
         let (_, before) = self.connection.counts();
         let action = self.connection.next(now / MILLI)?;
         let (_, after) = self.connection.counts();
-        if before < after {
-            desk.tally.add_answer(self.connection.output());
-        }
-        if let Action::Ask(_) = action {
-            self.due = Some(Due::Later { seconds: 1 });
+        desk.tally.add_told(before, after, self.connection.output());
+        if let Action::Ask(request) = action {
+            self.due = Some(Due::Later {
+                request,
+                seconds: 1,
+            });
         }
         Ok(action)
     }
@@ -320,6 +346,7 @@ impl Seat {
     /// What the caller does next. Requests are taken up here.
     pub(crate) fn next(&mut self, desk: &mut Desk, moment: Moment) -> Result<Todo, HttpError>
         ensures run { RunsTo self.old.connection self.new.connection }
+        ensures serves { ServesWith moment.connections self.old desk.old self.new desk.new }
         ensures says { IfOk result (λ t. Says self.new.connection t) }
         ensures stays { self.new.leaving ≡ self.old.leaving }
         ensures desk { Keeps desk.old desk.new }
@@ -349,25 +376,28 @@ impl Seat {
     /// Gives an answer that is there, and gives up on a peer that takes too long.
     pub(crate) fn tick(&mut self, desk: &mut Desk, now: u64)
         ensures run { RunsTo self.old.connection self.new.connection }
+        ensures serves { SeatServes self.old desk.old self.new desk.new }
         ensures stays { self.new.leaving ≡ self.old.leaving }
         ensures desk { Keeps desk.old desk.new }
     {
         self.settle(desk, now);
         let (_, before) = self.connection.counts();
-        if self.connection.tick(now / MILLI).is_err() {
-            return;
-        }
-        let (_, after) = self.connection.counts();
-        if before < after {
-            desk.tally.add_answer(self.connection.output());
+        match self.connection.tick(now / MILLI) {
+            Ok(()) => {
+                let (_, after) = self.connection.counts();
+                desk.tally.add_told(before, after, self.connection.output());
+            }
+            Err(_) => (),
         }
     }
 }
 
-ghost use Rattle.std.specs.Prelude.{◌≡◌, ◌≤◌, ◌/◌, false, length, min, take, true, IfErr, IfOk, OnErr};
+ghost use Rattle.std.specs.Prelude.{◌≡◌, ◌≤◌, ◌/◌, false, length, min, take, true, IfErr, IfOk, None, OnErr, Some};
 ghost use Rattle.ti_http.specs.declared.connection.Action.TheVariants.{Close};
 ghost use Rattle.ti_http.specs.declared.error.HttpError.TheVariants.{OutOfMemory};
 ghost use Rattle.ti_http.specs.Runs.{is_shut, state_of};
 ghost use Rattle.ti_http.specs.Talks.{deadline_of, ended_by_peer, fed, opened, room_in, written_from};
-ghost use Rattle.ti_monitor.specs.Desks.{Keeps};
-ghost use Rattle.ti_monitor.specs.Seats.{QuietIn, RunsTo, Says, asks_one, idle_until, in_nanos, is_due, profile_of, reading_of, waits};
+ghost use Rattle.ti_monitor.specs.declared.door_desk.Due.TheVariants as due;
+ghost use Rattle.ti_monitor.specs.Monitors.{has_ended, reading_in};
+ghost use Rattle.ti_monitor.specs.Seats.{QuietIn, RunsTo, Says, asks_one, idle_until, in_nanos, is_due, profile_of, seconds_of, waits};
+ghost use Rattle.ti_monitor.specs.Serving.{due_after, response};

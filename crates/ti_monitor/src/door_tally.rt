@@ -40,11 +40,13 @@ impl Tally {
         }
     }
 
-    /// Counts the answer that these bytes begin with.
-    pub(crate) fn add_answer(&mut self, answer: &[u8])
-        ensures { self.new.rows ≡ map (counted (code_in answer.now)) self.old.rows }
+    /// Counts the answer that these bytes begin with, if more were answered after than before.
+    pub(crate) fn add_told(&mut self, before: u32, after: u32, answer: &[u8])
+        ensures { self.new.rows ≡ rows_after before after answer.now self.old.rows }
     {
-        self.add(code_in(answer));
+        if before < after {
+            self.add(code_in(answer));
+        }
     }
 
     /// Each code with how many answers had it.
@@ -86,3 +88,4 @@ fn code_in(answer: &[u8]) -> u16
 
 ghost use Rattle.std.specs.Prelude.{◌≡◌, ◌<◌, map};
 ghost use Rattle.ti_monitor.specs.Door.{code_in, counted, digit, no_answers};
+ghost use Rattle.ti_monitor.specs.Serving.{rows_after};

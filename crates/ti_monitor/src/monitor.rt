@@ -79,6 +79,8 @@ impl Monitor {
         ensures number { IfOk result (λ no. (no.0 ≡ self.old.begun) × (self.new.begun ≡ no.0 + 1)) }
         ensures refused { IfErr result (λ e. ((e ≡ Full) × HasNoRoom self.old.readings.running.items self.old.begun order) ⊎ (e ≡ OutOfMemory)) }
         ensures kept { OnErr result (self.new.readings.running.items ≡ self.old.readings.running.items) }
+        ensures counted { IfOk result (λ no. self.new.metrics ≡ begun_in order self.old.metrics) }
+        ensures uncounted { OnErr result ((self.new.metrics ≡ self.old.metrics) × (self.new.begun ≡ self.old.begun)) }
         ensures program { self.new.program ≡ self.old.program }
         ensures agent { self.new.agent ≡ self.old.agent }
     {
@@ -96,6 +98,7 @@ impl Monitor {
 
     /// Does what is due: it meets threads and lets them go, probes states, collects answers, and takes the ticks of readings.
     pub fn tick(&mut self, now: u64)
+        ensures begun { self.new.begun ≡ self.old.begun }
         ensures program { self.new.program ≡ self.old.program }
     {
         self.last_tick = now;
@@ -125,6 +128,7 @@ impl Monitor {
 
     /// Meets threads, if that is due or there is news. False if it could not, since the roster is in use.
     fn meet_if_due(&mut self, now: u64) -> bool
+        ensures begun { self.new.begun ≡ self.old.begun }
         ensures program { self.new.program ≡ self.old.program }
     {
         let is_due = now >= self.next_meeting;
@@ -138,6 +142,7 @@ impl Monitor {
 
     /// Meets the threads that came, counts the events, and lets go of threads that were given back. False if the roster is in use.
     fn meet(&mut self) -> bool
+        ensures begun { self.new.begun ≡ self.old.begun }
         ensures program { self.new.program ≡ self.old.program }
     {
         let enabled = self.agent.set_event_notification_mode_now(true);
@@ -157,6 +162,7 @@ impl Monitor {
 
     /// Probes the states of all threads, if that is due.
     fn probe_if_due(&mut self, now: u64)
+        ensures begun { self.new.begun ≡ self.old.begun }
         ensures program { self.new.program ≡ self.old.program }
     {
         if now < self.next_probe {
@@ -196,6 +202,7 @@ impl Monitor {
 
     /// Ends a reading now, with what is there. Nothing happens if it has ended, or if there is no such reading.
     pub fn hurry(&mut self, reading: ReadingNo, now: u64)
+        ensures begun { self.new.begun ≡ self.old.begun }
         ensures program { self.new.program ≡ self.old.program }
         ensures agent { self.new.agent ≡ self.old.agent }
     {
@@ -216,7 +223,11 @@ impl Monitor {
         ensures none { IfOk result (λ t. IfNone t (has_ended (reading_in self.old.readings.running.items reading) ≡ false)) }
         ensures about { IfOk result (λ t. IfSome t (λ r. string_bytes r.about.program ≡ string_bytes self.old.program)) }
         ensures memory { IfErr result (λ e. e ≡ OutOfMemory) }
+        ensures left { IfOk result (λ t. IfSome t (λ r. IsWithout reading self.old.readings.running.items self.new.readings.running.items)) }
+        ensures untaken { IfOk result (λ t. IfNone t (self.new.readings.running.items ≡ self.old.readings.running.items)) }
         ensures kept { OnErr result (self.new.readings.running.items ≡ self.old.readings.running.items) }
+        ensures metrics { self.new.metrics ≡ self.old.metrics }
+        ensures begun { self.new.begun ≡ self.old.begun }
         ensures program { self.new.program ≡ self.old.program }
     {
         let Some(place) = self.readings.place_of(reading) else {
@@ -248,6 +259,9 @@ impl Monitor {
 
     /// Gives a reading up. Nothing happens if there is no such reading.
     pub fn forget(&mut self, reading: ReadingNo)
+        ensures left { MayBeWithout reading self.old.readings.running.items self.new.readings.running.items }
+        ensures metrics { self.new.metrics ≡ self.old.metrics }
+        ensures begun { self.new.begun ≡ self.old.begun }
         ensures program { self.new.program ≡ self.old.program }
         ensures agent { self.new.agent ≡ self.old.agent }
     {
@@ -290,4 +304,4 @@ ghost use Rattle.std.specs.String.{string_bytes};
 ghost use Rattle.ti_types.specs.declared.error.TiError.TheVariants.{Full, OutOfMemory};
 ghost use Rattle.ti_service.specs.Leaving.{Disposes, StaysOn};
 ghost use Rattle.ti_service.specs.Memberships.{state_of};
-ghost use Rattle.ti_monitor.specs.Monitors.{AreCountsOf, Begins, HasNoRoom, MayEnable, has_ended, reading_in};
+ghost use Rattle.ti_monitor.specs.Monitors.{AreCountsOf, Begins, HasNoRoom, IsWithout, MayBeWithout, MayEnable, begun_in, has_ended, reading_in};
