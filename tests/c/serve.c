@@ -148,6 +148,7 @@ static void counts(void) {
     SAME(number_of(&got, "\ncebdyraq_threads{state=\"blocked\"} "), 0);
     SAME(number_of(&got, "\ncebdyraq_threads_attached_total "), 2);
     SAME(number_of(&got, "\ncebdyraq_threads_detached_total "), 0);
+    CHECK(number_of(&got, "\ncebdyraq_handovers_total ") >= 1);
     CHECK(number_of(&got, "\ncebdyraq_http_requests_total{code=\"200\"} ") >= 4);
     CHECK(number_of(&got, "\ncebdyraq_thread_seconds_total{state=\"sleeping\"} ") > 0);
     CHECK(!has_text(&got, "\r"));

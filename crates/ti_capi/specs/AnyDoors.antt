@@ -96,7 +96,7 @@ AllRun _ _ = ⊥
 
 -- the connection goes on by calls, and this is to be done with it
 abbrev pub Goes : ℕ → Todo → AnyDoor → AnyDoor → Type 0
-Goes connection t (any.Http d) (any.Http n) = (h : HttpTodo) × (t ≡ todo_at_door h) × http.GoesOn d n connection (λ s n. http_seats.RunsTo s n × http_seats.Says n h)
+Goes connection t (any.Http d) (any.Http n) = (h : HttpTodo) × (t ≡ todo_at_door h) × http.ServesOne d n connection × http.GoesOn d n connection (λ s n. http_seats.RunsTo s n × http_seats.Says n h)
 Goes connection t (any.Debugger d) (any.Debugger n) =
     Works d n × (is_some d.session ≡ true → serving.IsServed d n) × sessions.Changes (session_at connection d) (session_at connection n) (λ s s'. debugger_runs.RunsTo s s' × debugger_seats.Says n.asked s' t)
 Goes connection t _ _ = ⊥
@@ -135,13 +135,13 @@ Writes connection count now _ _ = ⊥
 
 -- The connection is gone. What a debugger suspended is resumed, or will be
 abbrev pub Disconnects : ℕ → AnyDoor → AnyDoor → Type 0
-Disconnects connection (any.Http d) (any.Http n) = (is_some (http.talk_at d connection) ≡ true) × (n ≡ http.with_talk d connection None)
+Disconnects connection (any.Http d) (any.Http n) = http.Closes d n connection
 Disconnects connection (any.Debugger d) (any.Debugger n) = (is_some (session_at connection d) ≡ true) × (n.session ≡ None) × (n.due ≡ None) × NoneHeld n.watched × (n.asked ≡ asked.Nothing) × (n.objects ≡ []) × Works d (record n { objects = d.objects })
 Disconnects connection _ _ = ⊥
 
 -- Each connection goes on, and none opens or closes. A debugger's session is told of events alone
 abbrev pub Ticks : AnyDoor → AnyDoor → Type 0
-Ticks (any.Http d) (any.Http n) = http.AllRun d n
+Ticks (any.Http d) (any.Http n) = http.AllRun d n × http.IsTicked d n
 Ticks (any.Debugger d) (any.Debugger n) =
     ToldBy (classes_of n.agent) d.next_class n.next_class d.session n.session × (n.due ≡ d.due) × (d.resumptions ≤ n.resumptions) × (n.about ≡ d.about) × (n.starts ≡ d.starts) × (n.tells ≡ d.tells) × (n.asked ≡ d.asked) × (n.objects ≡ d.objects)
 Ticks _ _ = ⊥

@@ -17,6 +17,7 @@ pub record KeepsOthers (old new : Metrics) : Type 0 where
   pub attached : new.attached ≡ old.attached
   pub detached : new.detached ≡ old.detached
   pub events_lost : new.events_lost ≡ old.events_lost
+  pub hand_overs : new.hand_overs ≡ old.hand_overs
   pub answers : new.answers ≡ old.answers
   pub calls_out : new.calls_out ≡ old.calls_out
   pub profiles : new.profiles ≡ old.profiles
@@ -34,6 +35,7 @@ with_calls m n = record {
   attached = m.attached;
   detached = m.detached;
   events_lost = m.events_lost;
+  hand_overs = m.hand_overs;
   state_time = m.state_time;
   suspended_time = m.suspended_time;
   answers = m.answers;

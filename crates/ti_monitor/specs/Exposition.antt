@@ -103,7 +103,8 @@ abbrev pub life_lines : Metrics → List (List ℕ)
 life_lines m =
     single (codes "threads_attached_total") counter (codes "Threads that were attached.") (decimal m.attached)
     ++ (single (codes "threads_detached_total") counter (codes "Threads that were given back.") (decimal m.detached)
-    ++ single (codes "thread_events_lost_total") counter (codes "Thread events that were overwritten before they were read.") (decimal m.events_lost))
+    ++ (single (codes "thread_events_lost_total") counter (codes "Thread events that were overwritten before they were read.") (decimal m.events_lost)
+    ++ single (codes "handovers_total") counter (codes "Times that threads handed over, in native code, blocked or at a poll.") (decimal m.hand_overs)))
 
 abbrev pub time_lines : Metrics → List (List ℕ)
 time_lines m =

@@ -5,6 +5,7 @@ pub mod Labels
 pub mod Watching
 pub mod Lines
 pub mod Counters
+pub mod HandOvers
 pub mod Counting
 pub mod Accounts
 pub mod Runs

@@ -21,6 +21,7 @@ mod door_seats;
 mod door_tally;
 mod frames_text;
 mod groups_text;
+mod hand_overs;
 mod index;
 mod json;
 mod json_frames;

@@ -106,6 +106,8 @@ pub struct Metrics {
     pub detached: u64,
     /// Events of threads that were overwritten before the monitor was told.
     pub events_lost: u64,
+    /// How often threads that were met have handed over, in native code, blocked or at a poll.
+    pub hand_overs: u64,
     /// The time that threads were in each state, in nanoseconds, by probes.
     pub state_time: [u64; STATES],
     /// The time that threads were suspended, in nanoseconds, by probes.
@@ -134,6 +136,7 @@ impl Metrics {
             attached: 0,
             detached: 0,
             events_lost: 0,
+            hand_overs: 0,
             state_time: [0; STATES],
             suspended_time: 0,
             answers: Histogram::new(),

@@ -1,6 +1,7 @@
 //! The agent that reads the threads.
 
 use crate::asking::probe;
+use crate::hand_overs::count_hand_overs;
 use crate::meeting::{count_earlier, count_events, let_go_of_ended, watch_new};
 use crate::metrics::Metrics;
 use crate::naming::{about_of, names_of, seen_of};
@@ -153,6 +154,7 @@ impl Monitor {
             count_earlier(&self.watched, first, &mut self.metrics);
             self.has_met = true;
         }
+        count_hand_overs(&mut self.agent, &mut self.watched, &mut self.metrics);
         let_go_of_ended(&mut self.agent, &mut self.watched);
         if self.readings.running.is_empty() {
             self.watched.retain(|one: &Watched| !one.gone);

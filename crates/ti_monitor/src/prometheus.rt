@@ -101,6 +101,14 @@ fn push_lives(out: &mut Vec<u8>, metrics: &Metrics) -> Result<(), AllocError>
         "Thread events that were overwritten before they were read.",
         Unit::Count,
         metrics.events_lost,
+    )?;
+    push_single(
+        out,
+        "handovers_total",
+        COUNTER,
+        "Times that threads handed over, in native code, blocked or at a poll.",
+        Unit::Count,
+        metrics.hand_overs,
     )
 }
 

@@ -21,6 +21,8 @@ pub(crate) struct Watched {
     pub(crate) out: Option<Out>,
     /// Whether it was let go of. Then it is asked nothing more.
     pub(crate) gone: bool,
+    /// How often it had handed over when it last told that.
+    pub(crate) handed: u64,
     /// The place of its state when it was last seen, below 9.
     state: usize,
     suspended: bool,
@@ -39,6 +41,7 @@ impl Watched {
         ensures priority { result.priority ≡ priority }
         ensures out { result.out ≡ None }
         ensures gone { result.gone ≡ false }
+        ensures handed { result.handed ≡ 0 }
         ensures state { result.state ≡ 0 }
         ensures suspended { result.suspended ≡ false }
     {
@@ -48,6 +51,7 @@ impl Watched {
             priority,
             out: None,
             gone: false,
+            handed: 0,
             state: 0,
             suspended: false,
         }
@@ -62,6 +66,7 @@ impl Watched {
         ensures priority { self.new.priority ≡ self.old.priority }
         ensures out { self.new.out ≡ self.old.out }
         ensures gone { self.new.gone ≡ self.old.gone }
+        ensures handed { self.new.handed ≡ self.old.handed }
     {
         self.state = state_place(bits);
         self.suspended = is_suspended(bits);

@@ -14,4 +14,4 @@ returns-in_err-agent-clause-refused c =
 pub returns-clause-opened : goal.returns-clause-opened
 returns-clause-opened c =
     let named = ap (λ s. string_bytes s) c.new-monitor.ensures.program ∙ c.in_ok-program.ensures.same in
-    serves _ _ _ c.in_ok-agent.agent _ _ _ _ _ c.new-door.ensures c.hosts_at.ensures named c.in_ok-version.ensures.ok c.in_ok-agent.ensures.attached c.new-monitor.ensures.agent
+    serves _ _ _ c.in_ok-agent.agent _ _ _ _ _ _ c.new-door.ensures c.hosts_at.ensures named c.in_ok-version.ensures.ok c.in_ok-agent.ensures.attached c.new-monitor.ensures.agent

@@ -1,0 +1,34 @@
+//! How often threads hand over.
+
+use crate::metrics::Metrics;
+use crate::watched::Watched;
+use ti_service::Agent;
+
+/// How often a thread has handed over since it last told that. 0 if its cell is in use, or it is not there any more.
+fn more_at(agent: &mut Agent, one: &mut Watched) -> u64
+    ensures told { TellsHandOvers agent.old agent.new one.old.thread one.old.handed one.new.handed result }
+    ensures rest { one.new ≡ record one.old { handed = one.new.handed } }
+{
+    let Ok(handed) = agent.hand_overs_now(one.thread) else {
+        return 0;
+    };
+    let more = handed.saturating_sub(one.handed);
+    one.handed = handed;
+    more
+}
+
+/// Counts how often the threads that are there have handed over since they last told that.
+pub(crate) fn count_hand_overs(agent: &mut Agent, watched: &mut [Watched], metrics: &mut Metrics)
+    ensures grows { metrics.old.hand_overs ≤ metrics.new.hand_overs }
+    ensures rest { metrics.new ≡ record metrics.old { hand_overs = metrics.new.hand_overs } }
+{
+    for place in 0..watched.len() {
+        if !watched[place].gone {
+            let more = more_at(agent, &mut watched[place]);
+            metrics.hand_overs = metrics.hand_overs.saturating_add(more);
+        }
+    }
+}
+
+ghost use Rattle.std.specs.Prelude.{◌≡◌, ◌≤◌};
+ghost use Rattle.ti_monitor.specs.HandOvers.{TellsHandOvers};
