@@ -3,18 +3,25 @@
 use crate::metrics::Metrics;
 use crate::watched::Watched;
 use ti_service::Agent;
+use ti_types::TiError;
 
-/// How often a thread has handed over since it last told that. 0 if its cell is in use, or it is not there any more.
+/// How often a thread has handed over since it last told that. 0 if its cell is in use, or if the agent has let go of it, by a meeting
+/// that had no room: then it is gone.
 fn more_at(agent: &mut Agent, one: &mut Watched) -> u64
-    ensures told { TellsHandOvers agent.old agent.new one.old.thread one.old.handed one.new.handed result }
-    ensures rest { one.new ≡ record one.old { handed = one.new.handed } }
+    ensures { TellsHandOvers agent.old agent.new one.old one.new result }
 {
-    let Ok(handed) = agent.hand_overs_now(one.thread) else {
-        return 0;
-    };
-    let more = handed.saturating_sub(one.handed);
-    one.handed = handed;
-    more
+    match agent.hand_overs_now(one.thread) {
+        Ok(handed) => {
+            let more = handed.saturating_sub(one.handed);
+            one.handed = handed;
+            more
+        }
+        Err(TiError::InvalidThread | TiError::ThreadNotAlive) => {
+            one.gone = one.gone || one.out.is_none();
+            0
+        }
+        Err(_) => 0,
+    }
 }
 
 /// Counts how often the threads that are there have handed over since they last told that.
