@@ -1,5 +1,5 @@
 -- The threads that are watched.
-use Rattle.std.specs.Prelude.{ℕ, ◌≡◌, Bool, true, not, List, [], ◌∷◌, Option, Some, None, map, filter, slice_get, All}
+use Rattle.std.specs.Prelude.{ℕ, ◌≡◌, ◌==◌, Bool, true, not, List, [], ◌∷◌, Option, Some, None, map, filter, slice_get, All}
 use Rattle.std.specs.List.{list_any}
 use Rattle.ti_debugger.specs.declared.watched.Watched.{Watched}
 use Rattle.ti_debugger.specs.Holding.{is_awaited, is_open, is_let_go}
@@ -11,6 +11,10 @@ number_of (Some w) = Some w.thread.0
 -- the number of the thread at a place
 abbrev pub number_at : List Watched → ℕ → Option ℕ
 number_at list place = number_of (slice_get list place)
+
+-- the threads with this number
+abbrev pub watched_in : ℕ → List Watched → List Watched
+watched_in thread list = filter (λ (w : Watched). w.thread.0 == thread) list
 
 -- the numbers of the threads that are there
 abbrev pub alive_in : List Watched → List ℕ

@@ -1,10 +1,11 @@
 -- How a thread is suspended for a session, and resumed.
-use Rattle.std.specs.Prelude.{ℕ, ◌≡◌, ◌⊎◌, true, is_some, List, Option, Some, slice_get, slice_set}
+use Rattle.std.specs.Prelude.{ℕ, ◌≡◌, ◌⊎◌, true, is_some, List, [], Option, Some, slice_get, slice_set}
 use Rattle.ti_agent.specs.Env.{Environment}
 use Rattle.ti_jdwp.specs.declared.actions.Posted.{Posted}
 use Rattle.ti_jdwp.specs.declared.actions.Posted.TheVariants as posted
 use Rattle.ti_debugger.specs.declared.desk.Desk.{Desk}
 use Rattle.ti_debugger.specs.declared.watched.Watched.{Watched}
+use Rattle.ti_debugger.specs.Crowds.{watched_in}
 use Rattle.ti_debugger.specs.Holding.{IsPostedAs, PostsAs, again, is_let_go}
 
 -- the thread with this number is another, and no other thread is
@@ -26,7 +27,7 @@ IsSuspendedAs p old new one one' = (one' ≡ record one { hold = one'.hold }) ×
 -- A thread that is watched is suspended, and the session is told what came of it. Where none is, nothing changes.
 abbrev pub Suspends : ℕ → Option Posted → Desk → Desk → Type 0
 Suspends thread p old new =
-    ((p ≡ Some posted.Unknown) × (new ≡ old))
+    ((p ≡ Some posted.Unknown) × (watched_in thread old.crowd.list.items ≡ []) × (new ≡ old))
     ⊎ AtThread thread old.crowd.list.items new.crowd.list.items (IsSuspendedAs p old.agent.env new.agent.env)
 
 -- what the agent has at the thread is undone, or will be
@@ -35,4 +36,4 @@ IsResumed one one' = (one' ≡ record one { hold = one'.hold }) × (is_let_go on
 
 -- A thread that is watched is resumed. Where none is, nothing changes.
 abbrev pub Resumes : ℕ → Desk → Desk → Type 0
-Resumes thread old new = (new ≡ old) ⊎ AtThread thread old.crowd.list.items new.crowd.list.items IsResumed
+Resumes thread old new = ((watched_in thread old.crowd.list.items ≡ []) × (new ≡ old)) ⊎ AtThread thread old.crowd.list.items new.crowd.list.items IsResumed

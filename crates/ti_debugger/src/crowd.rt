@@ -27,6 +27,7 @@ impl Crowd {
     pub(crate) fn place_of(&self, thread: u32) -> Option<usize>
         ensures within { IfSome result (λ place. place < length self.now.list.items) }
         ensures found { IfSome result (λ place. number_at self.now.list.items place ≡ Some thread) }
+        ensures none { IfNone result (watched_in thread self.now.list.items ≡ []) }
     {
         let mut low = 0;
         let mut high = self.list.len();
@@ -40,6 +41,20 @@ impl Crowd {
                 low = middle + 1;
             } else {
                 high = middle;
+            }
+        }
+        self.look_for(thread)
+    }
+
+    /// The place of a thread, by a look at each. The numbers rise, so a binary search has found it before, if it is there.
+    fn look_for(&self, thread: u32) -> Option<usize>
+        ensures within { IfSome result (λ place. place < length self.now.list.items) }
+        ensures found { IfSome result (λ place. number_at self.now.list.items place ≡ Some thread) }
+        ensures none { IfNone result (watched_in thread self.now.list.items ≡ []) }
+    {
+        for place in 0..self.list.len() {
+            if self.list[place].thread.0 == thread {
+                return Some(place);
             }
         }
         None
@@ -100,5 +115,5 @@ impl Crowd {
     }
 }
 
-ghost use Rattle.std.specs.Prelude.{◌≡◌, ◌<◌, ◌≤◌, [], Some, length, IfOk, IfSome};
-ghost use Rattle.ti_debugger.specs.Crowds.{number_at, alive_in, first};
+ghost use Rattle.std.specs.Prelude.{◌≡◌, ◌<◌, ◌≤◌, [], Some, length, IfOk, IfSome, IfNone};
+ghost use Rattle.ti_debugger.specs.Crowds.{number_at, alive_in, first, watched_in};
