@@ -337,7 +337,8 @@ uint32_t cq_server_await_resumption(cq_server *server) CQ_MUST_USE;
  * The server's thread ticks until the door has nothing to do soon, at least twice. While there is a breakpoint or a step the door always
  * has: then it ticks 8 times, some 50 us apart, and tells up to 32,768 classes. Classes beyond these are told later, and so are those
  * behind one that another thread is just defining. An event that comes while all threads are suspended for an earlier one is sent after
- * they were resumed. The event's thread is the first that is there, so with the policy EVENT_THREAD that one alone is suspended.
+ * they were resumed: until they are suspended for it, its thread may run on. The event's thread is the first that is there, so with the
+ * policy EVENT_THREAD that one alone is suspended.
  *
  * CQ_MISUSED 304: it has never listened for debuggers. */
 uint32_t cq_server_tell_classes(cq_server *server) CQ_MUST_USE;
