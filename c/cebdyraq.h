@@ -89,7 +89,7 @@ extern "C" {
 
 /* The version of this header. */
 #define CQ_VERSION_MAJOR 1
-#define CQ_VERSION_MINOR 7
+#define CQ_VERSION_MINOR 8
 #define CQ_VERSION_PATCH 0
 
 /* The version of the library that the program runs with, as major * 1,000,000 + minor * 1,000 + patch. */
@@ -252,6 +252,15 @@ uint32_t cq_set_heap(void *(*allocate)(size_t size), void *(*resize)(void *block
  *   CQ_ILLEGAL_ARGUMENT 103  a number is out of its range
  *   CQ_OUT_OF_MEMORY 110     there is no memory for a service */
 uint32_t cq_make(uint32_t depth, uint32_t envs, uint32_t window, cq_service *service) CQ_MUST_USE;
+
+/* cq_make for a runtime that says which capabilities environments can have: `capabilities` is a sum of CQ_CAN_SUSPEND and
+ * CQ_CAN_POP_FRAME, or 0. cq_make's can have both. A runtime whose threads cannot go on without frames that were popped
+ * (cq_take_pops) leaves CQ_CAN_POP_FRAME out. Then nobody pops a frame.
+ *
+ * The codes are those of cq_make, and
+ *   CQ_NOT_AVAILABLE 98  there is no such capability. It comes behind CQ_ILLEGAL_ARGUMENT */
+uint32_t cq_make_with(uint32_t depth, uint32_t envs, uint32_t window, uint32_t capabilities,
+                      cq_service *service) CQ_MUST_USE;
 
 /* Fills `other` with one more handle of the same service, for another thread of the operating system.
  *
@@ -668,7 +677,7 @@ uint32_t cq_relinquish_capabilities(cq_env *env, uint32_t capabilities);
 /* GetCapabilities. Writes those that the environment has. */
 uint32_t cq_get_capabilities(cq_env *env, uint32_t *capabilities);
 
-/* GetPotentialCapabilities. Writes those that can be had: both. */
+/* GetPotentialCapabilities. Writes those that can be had: both, or those that cq_make_with was given. */
 uint32_t cq_get_potential_capabilities(cq_env *env, uint32_t *capabilities);
 
 /* GetEnvironmentLocalStorage. Writes the environment's own word, 0 at first. */

@@ -661,13 +661,16 @@ struct debug_options {
 /* A handle of a service. The service lives as long as one of its handles, threads or environments. */
 class service : public holder<cq_service> {
 public:
-    /* Throws std::runtime_error if the library does not fit the header (cq_version_fits). */
-    service(std::uint32_t depth, std::uint32_t envs, std::uint32_t window) : holder(std::make_shared<cq_signal>()) {
+    /* Environments can have these capabilities (cq_make_with). Throws std::runtime_error if the library does not fit the header
+     * (cq_version_fits). */
+    service(std::uint32_t depth, std::uint32_t envs, std::uint32_t window,
+            std::uint32_t capabilities = CQ_CAN_SUSPEND | CQ_CAN_POP_FRAME)
+        : holder(std::make_shared<cq_signal>()) {
         if (!cq_version_fits()) {
             throw std::runtime_error("libcebdyraq has the version " + std::to_string(cq_version()) +
                                      ", which does not fit the header");
         }
-        check(cq_make(depth, envs, window, get()));
+        check(cq_make_with(depth, envs, window, capabilities, get()));
     }
     service(service &&) noexcept = default;
     service &operator=(service &&) noexcept = default;

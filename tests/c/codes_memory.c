@@ -9,6 +9,7 @@ enum { MOST_BLOCKS = 100 };
 static const cq_frame TWO[] = { { 1, 5 }, { 2, -1 } };
 
 static uint32_t make(world *w) { return cq_make(4, 2, 2, &w->no_service); }
+static uint32_t make_with(world *w) { return cq_make_with(4, 2, 2, 0, &w->no_service); }
 static uint32_t share(world *w) { return cq_share(&w->service, &w->no_service); }
 static uint32_t attach_thread(world *w) {
     return cq_attach_thread(&w->service, (const uint8_t *)"t", 1, 5, &w->no_thread);
@@ -64,7 +65,7 @@ static uint32_t gather_and_give_up(world *w) {
 
 /* The code here is that of the success. */
 static const row WITH_MEMORY[] = {
-    { "cq_make", CQ_OK, RUNS, make }, { "cq_share", CQ_OK, RUNS, share },
+    { "cq_make", CQ_OK, RUNS, make }, { "cq_make_with", CQ_OK, RUNS, make_with }, { "cq_share", CQ_OK, RUNS, share },
     { "cq_attach_thread", CQ_OK, RUNS, attach_thread },
     { "cq_attach_environment", CQ_OK, RUNS, attach_environment }, { "cq_set_frames", CQ_OK, IN_METHOD, set_frames },
     { "cq_set_newest_frames", CQ_OK, IN_METHOD, set_newest_frames },

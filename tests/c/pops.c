@@ -254,6 +254,27 @@ static void order_of_codes(void) {
     end_and_finish();
 }
 
+/* A runtime that cannot go on after a pop says so. Then nobody has the capability. */
+static void cannot_be_had(void) {
+    uint32_t found = 7;
+    OK(cq_make_with(4, 1, 4, CQ_CAN_SUSPEND, &service));
+    OK(cq_attach_thread(&service, (const uint8_t *)"main", 4, 5, &thread));
+    OK(cq_attach_environment(&service, &env));
+    OK(cq_meet(&env));
+    OK(cq_get_potential_capabilities(&env, &found));
+    SAME(found, CQ_CAN_SUSPEND);
+    SAME(cq_add_capabilities(&env, CQ_CAN_SUSPEND | CQ_CAN_POP_FRAME), CQ_NOT_AVAILABLE);
+    OK(cq_get_capabilities(&env, &found));
+    SAME(found, 0);
+    OK(cq_add_capabilities(&env, CQ_CAN_SUSPEND));
+    SAME(cq_add_capabilities(&env, CQ_CAN_POP_FRAME), CQ_NOT_AVAILABLE);
+    SAME(pop(&env), CQ_MUST_POSSESS_CAPABILITY);
+    OK(cq_detach_thread(&thread));
+    OK(cq_dispose_environment(&env));
+    OK(cq_free(&service));
+    SAME(heap_blocks(), 0);
+}
+
 /* What is misused or does not run writes nothing. */
 static void misuse(void) {
     cq_thread none = { 0, NULL };
@@ -288,6 +309,7 @@ int main(void) {
     steps_are_not_refused();
     nothing_is_popped();
     order_of_codes();
+    cannot_be_had();
     misuse();
     unwind_own_stack();
     return 0;

@@ -4,7 +4,7 @@ import ctypes
 import os
 from typing import Any, Dict, List, Optional, Sequence, Union
 
-VERSION = (1, 7)
+VERSION = (1, 8)
 
 
 class Handle(ctypes.Structure):

@@ -395,15 +395,18 @@ impl<H: Home> Env<H> {
         Ok(())
     }
 
-    /// AddCapabilities (JVM TI 11): adds all of these capabilities. 98 NOT_AVAILABLE if one of them cannot be had. Then
-    /// nothing changes.
+    /// AddCapabilities (JVM TI 11): adds all of these capabilities. 98 NOT_AVAILABLE if one of them cannot be had, or not at
+    /// the environment's home. Then nothing changes.
     pub fn add_capabilities(&mut self, caps: Caps) -> Result<(), TiError>
-        ensures available { IsOk result ↔ (can_be_had caps ≡ true) }
+        ensures available { IsOk result ↔ ((has_all (H.potential self.old.home) caps && can_be_had caps) ≡ true) }
         ensures added { OnOk result (self.new.env ≡ record { env = self.old.env.env; state = with_caps self.old.env.state (caps_with self.old.env.state.caps caps); desks = self.old.env.desks }) }
         ensures refused { IfErr result (λ e. e ≡ NotAvailable) }
         ensures unchanged { OnErr result (self.new ≡ self.old) }
         ensures home { self.new.home ≡ self.old.home }
     {
+        if !self.home.potential().has(caps) {
+            return Err(TiError::NotAvailable);
+        }
         self.state.add(caps)
     }
 
@@ -418,12 +421,12 @@ impl<H: Home> Env<H> {
         Ok(())
     }
 
-    /// GetPotentialCapabilities (JVM TI 11): the capabilities that can be had: `can_suspend` and `can_pop_frame`. It has no
-    /// error.
+    /// GetPotentialCapabilities (JVM TI 11): the capabilities that can be had. Those are `can_suspend` and `can_pop_frame`, or
+    /// what the environment's home says. It has no error.
     pub fn get_potential_capabilities(&self) -> Result<Caps, TiError>
-        ensures { result ≡ Ok potential_caps }
+        ensures { result ≡ Ok (H.potential self.now.home) }
     {
-        Ok(Caps::CAN_SUSPEND.add(Caps::CAN_POP_FRAME))
+        Ok(self.home.potential())
     }
 
     /// GetCapabilities (JVM TI 11): the capabilities that the environment has. It has no error.
@@ -434,7 +437,7 @@ impl<H: Home> Env<H> {
     }
 }
 
-ghost use Rattle.std.specs.Prelude.{◌≡◌, ◌↔◌, ◌<◌, nat_lt, length, true, false, None, Some, Ok, IfOk, IfErr, OnOk, OnErr, IsOk};
+ghost use Rattle.std.specs.Prelude.{◌≡◌, ◌↔◌, ◌<◌, ◌&&◌, nat_lt, length, true, false, None, Some, Ok, IfOk, IfErr, OnOk, OnErr, IsOk};
 ghost use Rattle.ti_types.specs.Answer.{said};
 ghost use Rattle.ti_types.specs.Caps.{caps_with, caps_without, can_be_had, has_all};
 ghost use Rattle.ti_types.specs.declared.call.Call.TheVariants as call;
@@ -442,5 +445,5 @@ ghost use Rattle.ti_types.specs.declared.error.TiError.TheVariants.{NotAvailable
 ghost use Rattle.ti_env.specs.Env.{with_caps, with_word};
 ghost use Rattle.ti_replay.specs.Admission.{takes_buffer};
 ghost use Rattle.ti_agent.specs.Buffers.{IsJustBufferOf};
-ghost use Rattle.ti_agent.specs.Env.{Environment, AreNewDesks, place_in, place_of, potential_caps, thread_refusal, map_error};
+ghost use Rattle.ti_agent.specs.Env.{Environment, AreNewDesks, place_in, place_of, thread_refusal, map_error};
 ghost use Rattle.ti_agent.specs.Asks.{Went, IsCalled, IsKind, is_for_memory, in_state, in_count, in_word, in_location, in_trace, in_done};

@@ -4,13 +4,14 @@ use crate::env::Env;
 use std::alloc::Global;
 use ti_chunked::Chunked;
 use ti_env::EnvState;
-use ti_types::{EnvNo, Limits};
+use ti_types::{Caps, EnvNo, Limits};
 
 /// What an environment belongs to: a service, or nothing (`Alone`). It goes where the environment goes, so whoever puts one
 /// environment in the place of another moves both.
 ///
 /// The environment always belongs there: `about` holds of its number and its limits, and `holds` of each of its desks.
 pub trait Home: Drop {
+    ghost use Rattle.ti_types.specs.declared.caps.Caps.{Caps as CapsOf};
     ghost use Rattle.ti_types.specs.declared.limits.Limits.{Limits};
     ghost use Rattle.ti_types.specs.declared.numbers.EnvNo.{EnvNo};
     ghost use Rattle.ti_agent.specs.Spots.{Spot};
@@ -20,6 +21,13 @@ pub trait Home: Drop {
 
     /// Whether a desk of an environment there may be at this cell, at a thread of this number.
     ghost holds: { Self → Spot → Type 0 };
+
+    /// The capabilities that environments there can have.
+    ghost potential: { Self → CapsOf };
+
+    /// The capabilities that environments there can have (JVM TI 11, GetPotentialCapabilities).
+    fn potential(&self) -> Caps
+        ensures can_be_had { result ≡ potential self.now };
 }
 
 /// The home of an environment that belongs to nothing.
@@ -27,9 +35,17 @@ pub trait Home: Drop {
 pub struct Alone;
 
 impl Home for Alone {
+    ghost use Rattle.ti_agent.specs.Env.{potential_caps};
+
     ghost about = { λ h e l. Unit {0} };
 
     ghost holds = { λ h s. Unit {0} };
+
+    ghost potential = { λ h. potential_caps };
+
+    fn potential(&self) -> Caps {
+        Caps::CAN_SUSPEND.add(Caps::CAN_POP_FRAME)
+    }
 }
 
 impl<H: Home> Env<H> {

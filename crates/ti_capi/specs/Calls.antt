@@ -1,7 +1,7 @@
 -- Calls of an environment, as C makes them.
-use Rattle.std.specs.Prelude.{ℕ, ◌≡◌, ◌<◌, ◌≤◌, ◌⊎◌, Bool, true, false, is_some, List, length, map, Option, Some, None, bit_and}
+use Rattle.std.specs.Prelude.{ℕ, ◌≡◌, ◌<◌, ◌≤◌, ◌⊎◌, ◌&&◌, nat_lt, Bool, true, false, is_some, List, length, map, Option, Some, None, bit_and}
 use Rattle.std.specs.String.{string_bytes}
-use Rattle.ti_types.specs.Caps.{caps_with, caps_without}
+use Rattle.ti_types.specs.Caps.{caps_with, caps_without, has_all}
 use Rattle.ti_types.specs.TiError.{number_of}
 use Rattle.ti_types.specs.declared.error.TiError.{TiError}
 use Rattle.ti_types.specs.declared.error.TiError.TheVariants.{Busy, NotAvailable, OutOfMemory}
@@ -117,10 +117,14 @@ pub data TellsEventBy (e0 e1 : CqEvent) (s n : AgentValue) (code : ℕ) : Type 0
   NoEvent : code ≡ none_told → TellsNext (state_of s) (state_of n) None → e1 ≡ e0 → TellsEventBy e0 e1 s n code
   EventBusy : code ≡ number_of Busy → is_some s.home.events ≡ true → n ≡ s → e1 ≡ e0 → TellsEventBy e0 e1 s n code
 
+-- whether the environment can have these capabilities
+abbrev pub may_have : AgentValue → ℕ → Bool
+may_have s bits = nat_lt bits 4 && has_all s.home.service.cell.potential (record { bits = bits })
+
 -- capabilities are added, all or none
 pub data AddsBy (bits : ℕ) (s n : AgentValue) (code : ℕ) : Type 0 where
-  Added : code ≡ 0 → bits < 4 → n.home ≡ s.home → n.env ≡ env_with s.env (with_caps s.env.state (caps_with s.env.state.caps (record { bits = bits }))) → AddsBy bits s n code
-  NotAdded : code ≡ number_of NotAvailable → 4 ≤ bits → n ≡ s → AddsBy bits s n code
+  Added : code ≡ 0 → may_have s bits ≡ true → n.home ≡ s.home → n.env ≡ env_with s.env (with_caps s.env.state (caps_with s.env.state.caps (record { bits = bits }))) → AddsBy bits s n code
+  NotAdded : code ≡ number_of NotAvailable → may_have s bits ≡ false → n ≡ s → AddsBy bits s n code
 
 -- capabilities are taken away
 abbrev pub RelinquishesBy : ℕ → AgentValue → AgentValue → ℕ → Type 0

@@ -4,7 +4,9 @@ use Rattle.std.specs.Int.{w64, cast_signed}
 use Rattle.std.specs.List.{AllZip}
 use Rattle.ti_jdwp.specs.declared.error.JdwpError.{JdwpError}
 use Rattle.ti_jdwp.specs.declared.error.JdwpError.TheVariants as wire
-use Rattle.ti_debugger.specs.Pops.{with_pops}
+use Rattle.ti_types.specs.TiError.{number_of}
+use Rattle.ti_types.specs.declared.error.TiError.TheVariants.{NotAvailable}
+use Rattle.ti_debugger.specs.Pops.{may_say_pops, with_pops}
 use Rattle.ti_debugger.specs.Questions.{question_in, read_answer}
 use Rattle.ti_debugger.specs.VariableReplies as debugger
 use Rattle.ti_debugger.specs.declared.question.Content.{Content}
@@ -71,10 +73,11 @@ SaysTells tells (any.Http d) (any.Http n) code = (code ≡ 0) × (n ≡ d)
 SaysTells tells (any.Debugger d) (any.Debugger n) code = (code ≡ 0) × (n ≡ record d { tells = tells })
 SaysTells tells _ _ code = ⊥
 
--- a debugger's agent may pop frames from now on, or may not
+-- A debugger's agent may pop frames from now on, or may not. It is refused if the service's environments cannot have that
+-- capability
 abbrev pub SaysPops : Bool → AnyDoor → AnyDoor → ℕ → Type 0
 SaysPops pops (any.Http d) (any.Http n) code = (code ≡ 0) × (n ≡ d)
-SaysPops pops (any.Debugger d) (any.Debugger n) code = (code ≡ 0) × (n ≡ record d { agent = with_pops d.agent pops })
+SaysPops pops (any.Debugger d) (any.Debugger n) code = if may_say_pops d.agent pops then (code ≡ 0) × (n ≡ record d { agent = with_pops d.agent pops }) else (code ≡ number_of NotAvailable) × (n ≡ d)
 SaysPops pops _ _ code = ⊥
 
 -- the runtime waits for its first debugger from now on, or does not

@@ -1,10 +1,10 @@
 -- Handles of the service, and what is attached by them.
-use Rattle.std.specs.Prelude.{IsSomeAnd, IsUtf8, ℕ, ℤ, ◌≡◌, ◌⊎◌, ◌==◌, ⊤, true, false, List, Option, Some, None}
+use Rattle.std.specs.Prelude.{IsSomeAnd, IsUtf8, ℕ, ℤ, ◌≡◌, ◌<◌, ◌≤◌, ◌⊎◌, ◌==◌, ⊤, true, false, List, [], Option, Some, None}
 use Rattle.std.specs.String.{string_bytes}
 use Rattle.ti_types.specs.Limits.{IsWithin, most_calls, most_depth, most_own, most_window}
 use Rattle.ti_types.specs.TiError.{number_of}
 use Rattle.ti_types.specs.declared.error.TiError.{TiError}
-use Rattle.ti_types.specs.declared.error.TiError.TheVariants.{Busy, Full, IllegalArgument, OutOfMemory}
+use Rattle.ti_types.specs.declared.error.TiError.TheVariants.{Busy, Full, IllegalArgument, NotAvailable, OutOfMemory}
 use Rattle.ti_types.specs.declared.limits.Limits.{Limits}
 use Rattle.ti_cell.specs.Seats.{Sitting}
 use Rattle.ti_roster.specs.declared.info.ThreadInfo.{ThreadInfo}
@@ -45,16 +45,24 @@ pub data Fills (Same : Type 0) (Made : Option Held → Type 0) (Refused : TiErro
   FillRefused : (e : TiError) → code ≡ number_of e → (old.kind == 0) ≡ true → new ≡ old → Refused e → Fills Same Made Refused old new code
   Filled : code ≡ 0 → (old.kind == 0) ≡ true → Made new.place.held → Fills Same Made Refused old new code
 
--- a service with these limits
-abbrev pub HasService : ℕ → ℕ → ℕ → Option Held → Type 0
-HasService depth envs window held = AreInRange depth envs window × IsSomeAnd (service_of held) (λ m. AreLimitsOf depth envs window m.view.limits × (m.view ≡ first_view m.view.limits))
+-- a service with these limits, and without a class, whose environments can have the capabilities of these bits
+pub record IsServiceOf (depth envs window bits : ℕ) (m : Member) : Type 0 where
+  pub limits : AreLimitsOf depth envs window m.view.limits
+  pub view : m.view ≡ first_view m.view.limits
+  pub classes : m.cell.classes.seen ≡ []
+  pub potential : m.cell.potential ≡ record { bits = bits }
 
--- why no service is made: a number is not within its range, or there is no memory
-abbrev pub RefusesService : ℕ → ℕ → ℕ → TiError → Type 0
-RefusesService depth envs window e = ((e ≡ IllegalArgument) × (AreInRange depth envs window → ⊥)) ⊎ ((e ≡ OutOfMemory) × AreInRange depth envs window)
+abbrev pub HasService : ℕ → ℕ → ℕ → ℕ → Option Held → Type 0
+HasService depth envs window bits held = AreInRange depth envs window × (bits < 4) × IsSomeAnd (service_of held) (IsServiceOf depth envs window bits)
 
-abbrev pub Makes : ℕ → ℕ → ℕ → Handle → Handle → ℕ → Type 0
-Makes depth envs window old new code = Fills ⊤ (HasService depth envs window) (RefusesService depth envs window) old new code
+-- why no service is made: a number is not within its range, one of the capabilities cannot be had, or there is no memory
+pub data RefusesService (depth envs window bits : ℕ) (e : TiError) : Type 0 where
+  OutOfRange : e ≡ IllegalArgument → (AreInRange depth envs window → ⊥) → RefusesService depth envs window bits e
+  CannotBeHad : e ≡ NotAvailable → AreInRange depth envs window → 4 ≤ bits → RefusesService depth envs window bits e
+  NoMemory : e ≡ OutOfMemory → AreInRange depth envs window → bits < 4 → RefusesService depth envs window bits e
+
+abbrev pub Makes : ℕ → ℕ → ℕ → ℕ → Handle → Handle → ℕ → Type 0
+Makes depth envs window bits old new code = Fills ⊤ (HasService depth envs window bits) (RefusesService depth envs window bits) old new code
 
 -- one more handle of the same service
 abbrev pub IsShareOf : Member → Member → Type 0

@@ -228,11 +228,11 @@ impl AnyDoor {
     }
 
     /// Says whether threads of the runtime go on without the frames that were popped. Nothing happens at a door for HTTP.
-    pub(crate) fn pops_frames(&mut self, pops: bool)
-        ensures { SaysPops pops self.old self.new 0 }
+    pub(crate) fn pops_frames(&mut self, pops: bool) -> Result<(), TiError>
+        ensures { SaysPops pops self.old self.new (code_done result) }
     {
         match self {
-            AnyDoor::Http(_) => (),
+            AnyDoor::Http(_) => Ok(()),
             AnyDoor::Debugger(debugger) => debugger.pops_frames(pops),
         }
     }
@@ -301,5 +301,6 @@ impl AnyDoor {
 }
 
 ghost use Rattle.std.specs.Prelude.{◌≡◌, IfErr, IfNone, IfOk, IfSome, OnErr, OnOk};
+ghost use Rattle.ti_capi.specs.Codes.{code_done};
 ghost use Rattle.ti_capi.specs.Questions.{SaysPops, SaysStarts, SaysTells, TellsNone, TellsTold, TellsVariables, question_at};
 ghost use Rattle.ti_capi.specs.AnyDoors.{AllRun, Disconnects, Ends, EndsAs, Feeds, Goes, IsFull, IsUnknown, MayEnd, Opens, Refuses, StaysAs, Ticks, Writes, at_door, is_there, only, output_at, resumptions, room_at, todo_at_door};

@@ -188,8 +188,7 @@ pub extern "C" fn cq_door_pops_frames(door: &mut CqDoor, pops: bool) -> u32
     let Some(door) = &mut held.door else {
         return CQ_MISUSED;
     };
-    door.pops_frames(pops);
-    CQ_OK
+    done_code(door.pops_frames(pops))
 }
 
 /// The question that is open.

@@ -62,16 +62,21 @@ pub extern "C" fn cq_get_capabilities(env: &mut CqEnv, capabilities: &mut u32) -
 /// GetPotentialCapabilities (JVM TI 11).
 #[unsafe(no_mangle)]
 pub extern "C" fn cq_get_potential_capabilities(env: &mut CqEnv, capabilities: &mut u32) -> u32
-    ensures { Calls (λ s n code. (n ≡ s) × (code ≡ 0) × (capabilities.new ≡ potential_caps.bits)) (capabilities.new ≡ capabilities.old) env.old env.new result }
+    ensures { Calls (λ s n code. (n ≡ s) × (code ≡ 0) × (capabilities.new ≡ s.home.service.cell.potential.bits)) (capabilities.new ≡ capabilities.old) env.old env.new result }
 {
     let Some(held) = env.held_env() else {
         return CQ_MISUSED;
     };
-    let Some(_) = &mut held.agent else {
+    let Some(agent) = &mut held.agent else {
         return CQ_MISUSED;
     };
-    *capabilities = u32::from(Caps::CAN_SUSPEND.add(Caps::CAN_POP_FRAME).bits);
-    CQ_OK
+    match agent.get_potential_capabilities() {
+        Ok(caps) => {
+            *capabilities = u32::from(caps.bits);
+            CQ_OK
+        }
+        Err(_) => unreachable!(),
+    }
 }
 
 /// GetEnvironmentLocalStorage (JVM TI 11).
@@ -109,6 +114,5 @@ pub extern "C" fn cq_set_environment_local_storage(env: &mut CqEnv, word: u64) -
 }
 
 ghost use Rattle.std.specs.Prelude.{◌≡◌, ⊤};
-ghost use Rattle.ti_agent.specs.Env.{potential_caps};
 ghost use Rattle.ti_env.specs.Env.{with_word};
 ghost use Rattle.ti_capi.specs.Calls.{AddsBy, Calls, RelinquishesBy, env_with};

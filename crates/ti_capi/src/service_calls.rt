@@ -6,7 +6,7 @@ use crate::held::{Held, HeldEnv, HeldThread};
 use std::alloc::Global;
 use ti_service::{Service, ThreadInfo};
 use ti_thread::HostThread;
-use ti_types::{Limits, TiError};
+use ti_types::{Caps, Limits, TiError};
 
 /// The limits of a service. `None` if a number is not within its range.
 fn limits(depth: u32, envs: u32, window: u32) -> Option<Limits>
@@ -40,18 +40,52 @@ pub(crate) fn fill(handle: &mut CqHandle, made: Result<Box<Held>, TiError>) -> u
     }
 }
 
-/// Makes a service in a box. 103 if a number is not within its range.
-fn make(alloc: Global, depth: u32, envs: u32, window: u32) -> Result<Box<Held>, TiError>
-    ensures new { IfOk result (λ b. HasService depth envs window (Some b.value)) }
-    ensures refused { IfErr result (RefusesService depth envs window) }
+/// Makes a service in a box, whose environments can have these capabilities. 103 if a number is not within its range, and then 98
+/// if a capability cannot be had anywhere.
+fn make(
+    alloc: Global,
+    depth: u32,
+    envs: u32,
+    window: u32,
+    capabilities: u32,
+) -> Result<Box<Held>, TiError>
+    ensures new { IfOk result (λ b. HasService depth envs window capabilities (Some b.value)) }
+    ensures refused { IfErr result (RefusesService depth envs window capabilities) }
 {
     let Some(limits) = limits(depth, envs, window) else {
         return Err(TiError::IllegalArgument);
     };
-    boxed(alloc, Held::Service(Service::make(alloc, limits)?))
+    if capabilities > 3 {
+        return Err(TiError::NotAvailable);
+    }
+    let potential = Caps {
+        bits: capabilities as u8,
+    };
+    boxed(
+        alloc,
+        Held::Service(Service::make_with(alloc, limits, potential)?),
+    )
 }
 
-/// Makes a service.
+/// Makes a service whose environments can have these capabilities.
+#[unsafe(no_mangle)]
+pub extern "C" fn cq_make_with(
+    alloc: Global,
+    depth: u32,
+    envs: u32,
+    window: u32,
+    capabilities: u32,
+    service: &mut CqService,
+) -> u32
+    ensures { Makes depth envs window capabilities service.old service.new result }
+{
+    if !service.is_empty() {
+        return CQ_MISUSED;
+    }
+    fill(service, make(alloc, depth, envs, window, capabilities))
+}
+
+/// Makes a service whose environments can have both capabilities.
 #[unsafe(no_mangle)]
 pub extern "C" fn cq_make(
     alloc: Global,
@@ -60,12 +94,9 @@ pub extern "C" fn cq_make(
     window: u32,
     service: &mut CqService,
 ) -> u32
-    ensures { Makes depth envs window service.old service.new result }
+    ensures { Makes depth envs window 3 service.old service.new result }
 {
-    if !service.is_empty() {
-        return CQ_MISUSED;
-    }
-    fill(service, make(alloc, depth, envs, window))
+    cq_make_with(alloc, depth, envs, window, 3, service)
 }
 
 /// One more handle of the service, in a box.

@@ -1,5 +1,5 @@
 -- How frames are popped for a debugger.
-use Rattle.std.specs.Prelude.{ℕ, zero, suc, ℤ, pos, ◌≡◌, ◌+◌, ◌-◌, ◌<◌, ◌⊎◌, ◌≤ℤ◌, ◌++◌, Bool, true, false, if◌then◌else◌, List, [], ◌∷◌, replicate, Result, Ok, Err}
+use Rattle.std.specs.Prelude.{ℕ, zero, suc, ℤ, pos, ◌≡◌, ◌+◌, ◌-◌, ◌<◌, ◌⊎◌, ◌≤ℤ◌, ◌++◌, Bool, true, false, not, ◌||◌, if◌then◌else◌, List, [], ◌∷◌, replicate, Result, Ok, Err}
 use Rattle.std.specs.List.{list_any}
 use Rattle.ti_types.specs.Call.{needed_by}
 use Rattle.ti_types.specs.Caps.{caps_with, caps_without, has_all}
@@ -33,6 +33,10 @@ can_pop a = has_all a.env.state.caps (needed_by call.Pop)
 
 abbrev with_caps_of : AgentValue → Caps → AgentValue
 with_caps_of a caps = record a { env = record a.env { state = record a.env.state { caps = caps } } }
+
+-- whether it may be said that frames are popped: the service's environments can have what that needs
+abbrev pub may_say_pops : AgentValue → Bool → Bool
+may_say_pops a pops = not pops || has_all a.home.service.cell.potential (needed_by call.Pop)
 
 -- from now on it may, or may not
 abbrev pub with_pops : AgentValue → Bool → AgentValue

@@ -6,7 +6,7 @@ use crate::desk::Desk;
 use crate::question::{Question, TellError, Told, Variable};
 use crate::taking::{named_in, read_answer};
 use ti_jdwp::JdwpError;
-use ti_types::Caps;
+use ti_types::{Caps, TiError};
 
 impl Debugger {
     /// Says whether the runtime tells variables. At first it does not. It counts for requests that come from then on.
@@ -19,14 +19,20 @@ impl Debugger {
     /// Says whether threads of the runtime go on without the frames that were popped. At first they do not. It counts for requests
     /// that come from then on: only if they do, debuggers are told that frames can be popped, and may pop some. The agent has the
     /// capability `can_pop_frame` from then on, or gives it up.
-    pub fn pops_frames(&mut self, pops: bool)
-        ensures { self.new ≡ record self.old { agent = with_pops self.old.agent pops } }
+    ///
+    /// 98 NOT_AVAILABLE if frames are to be popped and the service's environments cannot have `can_pop_frame`. Then nothing
+    /// changes.
+    pub fn pops_frames(&mut self, pops: bool) -> Result<(), TiError>
+        ensures available { IsOk result ↔ (may_say_pops self.old.agent pops ≡ true) }
+        ensures said { OnOk result (self.new ≡ record self.old { agent = with_pops self.old.agent pops }) }
+        ensures refused { IfErr result (λ e. e ≡ NotAvailable) }
+        ensures unchanged { OnErr result (self.new ≡ self.old) }
     {
-        let _it_can_be_had = if pops {
+        if pops {
             self.desk.agent.add_capabilities(Caps::CAN_POP_FRAME)
         } else {
             self.desk.agent.relinquish_capabilities(Caps::CAN_POP_FRAME)
-        };
+        }
     }
 
     /// The question that is open.
@@ -102,8 +108,9 @@ impl Debugger {
     }
 }
 
-ghost use Rattle.std.specs.Prelude.{◌≡◌, None, IfErr, OnErr, OnOk};
-ghost use Rattle.ti_debugger.specs.Pops.{with_pops};
+ghost use Rattle.std.specs.Prelude.{◌≡◌, ◌↔◌, None, true, IfErr, IsOk, OnErr, OnOk};
+ghost use Rattle.ti_types.specs.declared.error.TiError.TheVariants.{NotAvailable};
+ghost use Rattle.ti_debugger.specs.Pops.{may_say_pops, with_pops};
 ghost use Rattle.ti_debugger.specs.Questions.{question_in};
 ghost use Rattle.ti_debugger.specs.VariableReplies.{RefusesThese, RefusesValues, TellsNone, TellsThese, TellsValuesOf};
 ghost use Rattle.ti_debugger.specs.declared.question.TellError.TheVariants.{NotAsked};

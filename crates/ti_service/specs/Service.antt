@@ -3,6 +3,7 @@ use Rattle.std.specs.Prelude.{All, ℕ, ◌≡◌, ◌+◌, ◌<◌, ◌≤◌, 
 use Rattle.std.specs.List.{fold}
 use Rattle.atomic_table.specs.Seated.{TableId}
 use Rattle.ti_types.specs.Least.{least}
+use Rattle.ti_types.specs.declared.caps.Caps.{Caps}
 use Rattle.ti_types.specs.declared.error.TiError.{TiError}
 use Rattle.ti_types.specs.declared.error.TiError.TheVariants.{Full}
 use Rattle.ti_types.specs.declared.numbers.EnvNo.{EnvNo}
@@ -22,13 +23,15 @@ use Rattle.ti_roster.specs.Rule.{Begins, Claims}
 use Rattle.ti_roster.specs.Seats.{Sitting}
 use Rattle.ti_roster.specs.View.{AreWithin, first_view, glanced, splitter}
 
--- Which service it is: the cell of its roster, and the table of its classes. With it the classes that a handle has seen
+-- Which service it is: the cell of its roster, the table of its classes, and the capabilities that its environments can have.
+-- With it the classes that a handle has seen
 pub record Base : Type 0 where
   pub roster : TableId
   pub classes : Known
+  pub potential : Caps
 
-abbrev pub base_of : TableId → Known → Base
-base_of roster classes = record { roster = roster; classes = classes }
+abbrev pub base_of : TableId → Known → Caps → Base
+base_of roster classes potential = record { roster = roster; classes = classes; potential = potential }
 
 -- a handle: which service it is of, and what it knows of the roster
 pub record Member : Type 0 where
@@ -57,7 +60,7 @@ with_look m count = record { cell = m.cell; view = glanced m.view count }
 
 -- the handle once it has seen these classes
 abbrev pub with_classes : Member → Known → Member
-with_classes m classes = record { cell = base_of m.cell.roster classes; view = m.view }
+with_classes m classes = record { cell = base_of m.cell.roster classes m.cell.potential; view = m.view }
 
 -- the handle after one more was made from it
 abbrev pub with_handle : Member → Member

@@ -2,6 +2,7 @@
 
 use crate::service::Service;
 use ti_agent::{FreeDesk, Home};
+use ti_types::Caps;
 
 /// What an agent has beside its environment: its handle of the service, the desks that it has taken and not added, which
 /// event it is to be told next, and whether its last meeting failed.
@@ -24,4 +25,10 @@ impl Home for Membership {
     ghost about = { λ m e l. IsHomeOf m.service m.waiting.items e l };
 
     ghost holds = { λ m s. HasCome m.service.view.seen s };
+
+    ghost potential = { λ m. m.service.cell.potential };
+
+    fn potential(&self) -> Caps {
+        self.service.potential()
+    }
 }

@@ -9,7 +9,7 @@ use ti_agent::{Env, FreeDesk};
 use ti_cell::Pace;
 use ti_methods::Classes;
 use ti_roster::{RosterSeat, SharedRoster};
-use ti_types::{EnvNo, Limits, TiError};
+use ti_types::{Caps, EnvNo, Limits, TiError};
 
 /// A handle of a service. A runtime makes one, and shares it with whoever attaches threads or environments. The service lives
 /// as long as one of its handles.
@@ -55,6 +55,8 @@ use ti_types::{EnvNo, Limits, TiError};
 pub struct Service {
     pub(crate) roster: SharedRoster,
     pub(crate) classes: Classes,
+    /// The capabilities that environments can have. All handles of one service have the same.
+    pub(crate) potential: Caps,
     /// `None` only while a call holds the roster.
     pub(crate) seat: Option<RosterSeat>,
 }
@@ -64,21 +66,45 @@ impl Model for Service {
 
     ghost Value = { Member };
 
-    ghost view = { λ s. member_in (base_of s.roster s.classes) s.seat };
+    ghost view = { λ s. member_in (base_of s.roster s.classes s.potential) s.seat };
 
-    ghost invariant = { λ s. IsThere (base_of s.roster s.classes) s.seat };
+    ghost invariant = { λ s. IsThere (base_of s.roster s.classes s.potential) s.seat };
 }
 
 impl Service {
     /// Makes a service with nobody, and without a class. Its threads have the depth and the window of these limits. At most `envs`
-    /// environments come to it. An environment has desks at 65,536 threads at most.
+    /// environments come to it. An environment has desks at 65,536 threads at most. It can have `can_suspend` and
+    /// `can_pop_frame`.
     ///
     /// 110 OUT_OF_MEMORY if there is no memory for it, and no other error (this profile).
     pub fn make(alloc: Global, limits: Limits) -> Result<Service, TiError>
         ensures new { IfOk result (λ s. s.view ≡ first_view limits) }
         ensures classes { IfOk result (λ s. s.cell.classes.seen ≡ []) }
+        ensures potential { IfOk result (λ s. s.cell.potential ≡ potential_caps) }
         ensures memory { IfErr result (λ e. e ≡ OutOfMemory) }
     {
+        Service::make_with(
+            alloc,
+            limits,
+            Caps::CAN_SUSPEND.add(Caps::CAN_POP_FRAME),
+        )
+    }
+
+    /// The same, for a runtime that says which capabilities its environments can have (JVM TI 11, GetPotentialCapabilities).
+    /// One whose threads cannot go on after a pop leaves `can_pop_frame` out.
+    ///
+    /// The error is 98 NOT_AVAILABLE if one of these capabilities cannot be had anywhere, and then 110 OUT_OF_MEMORY if there is
+    /// no memory for the service (this profile).
+    pub fn make_with(alloc: Global, limits: Limits, potential: Caps) -> Result<Service, TiError>
+        ensures new { IfOk result (λ s. s.view ≡ first_view limits) }
+        ensures classes { IfOk result (λ s. s.cell.classes.seen ≡ []) }
+        ensures potential { IfOk result (λ s. s.cell.potential ≡ potential) }
+        ensures available { OnOk result (can_be_had potential ≡ true) }
+        ensures refused { IfErr result (λ e. Some e ≡ or_else (unless (can_be_had potential) NotAvailable) (Some OutOfMemory)) }
+    {
+        if !potential.can_be_had() {
+            return Err(TiError::NotAvailable);
+        }
         let (roster, seat) = SharedRoster::make(alloc, limits)?;
         let Ok(classes) = Classes::make(alloc) else {
             return Err(TiError::OutOfMemory);
@@ -86,6 +112,7 @@ impl Service {
         Ok(Service {
             roster,
             classes,
+            potential,
             seat: Some(seat),
         })
     }
@@ -110,6 +137,7 @@ impl Service {
         Ok(Service {
             roster,
             classes,
+            potential: self.potential,
             seat: Some(seat),
         })
     }
@@ -134,6 +162,13 @@ impl Service {
             unreachable!()
         };
         seat.limits()
+    }
+
+    /// The capabilities that the service's environments can have (JVM TI 11, GetPotentialCapabilities).
+    pub fn potential(&self) -> Caps
+        ensures { result ≡ self.now.cell.potential }
+    {
+        self.potential
     }
 
     /// A number for an environment, which is this handle's from now on.
@@ -238,8 +273,11 @@ impl Service {
     }
 }
 
-ghost use Rattle.std.specs.Prelude.{◌≡◌, ◌≤◌, ◌+◌, [], None, length, IfOk, IfErr, OnOk, OnErr};
-ghost use Rattle.ti_types.specs.declared.error.TiError.TheVariants.{Full, OutOfMemory};
+ghost use Rattle.std.specs.Prelude.{◌≡◌, ◌≤◌, ◌+◌, [], None, Some, length, true, IfOk, IfErr, OnOk, OnErr};
+ghost use Rattle.ti_types.specs.Caps.{can_be_had};
+ghost use Rattle.ti_types.specs.Refusing.{or_else, unless};
+ghost use Rattle.ti_types.specs.declared.error.TiError.TheVariants.{Full, NotAvailable, OutOfMemory};
+ghost use Rattle.ti_agent.specs.Env.{potential_caps};
 ghost use Rattle.ti_roster.specs.View.{first_view, split_off};
 ghost use Rattle.ti_roster.specs.Roster.{IsPlaceless, meeting_refusal, most_items};
 ghost use Rattle.ti_service.specs.Agent.{IsNewAgent};

@@ -9,7 +9,7 @@ use core::ptr::null_mut;
 
 /// The version whose functions are declared here.
 pub const CQ_VERSION_MAJOR: u32 = 1;
-pub const CQ_VERSION_MINOR: u32 = 7;
+pub const CQ_VERSION_MINOR: u32 = 8;
 
 /// Whether the library that the program runs with has all of them, as `cq_version_fits` of `cebdyraq.h` says.
 pub fn version_fits() -> bool {
@@ -277,6 +277,7 @@ extern "C" {
         release: extern "C" fn(*mut c_void),
     ) -> u32;
     pub fn cq_make(depth: u32, envs: u32, window: u32, service: *mut cq_service) -> u32;
+    pub fn cq_make_with(depth: u32, envs: u32, window: u32, capabilities: u32, service: *mut cq_service) -> u32;
     pub fn cq_share(service: *mut cq_service, other: *mut cq_service) -> u32;
     pub fn cq_free(service: *mut cq_service) -> u32;
     pub fn cq_attach_thread(

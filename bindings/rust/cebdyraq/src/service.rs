@@ -1,4 +1,4 @@
-use crate::environment::Environment;
+use crate::environment::{capabilities, Environment};
 use crate::error::{checked, surely, Error};
 use crate::thread::Fresh;
 use cebdyraq_sys as sys;
@@ -49,10 +49,21 @@ impl Service {
     ///
     /// If the version of libcebdyraq is not one that this crate is for.
     pub fn make(depth: u32, envs: u32, window: u32) -> Result<Service, Error> {
+        Service::make_with(depth, envs, window, capabilities::SUSPEND | capabilities::POP_FRAME)
+    }
+
+    /// The same, for a runtime that says which capabilities its environments can have: a sum of [`capabilities`], or
+    /// 0. One whose threads cannot go on after a pop leaves the second out.
+    /// [`Error::NotAvailable`] if there is no such capability.
+    ///
+    /// # Panics
+    ///
+    /// If the version of libcebdyraq is not one that this crate is for.
+    pub fn make_with(depth: u32, envs: u32, window: u32, capabilities: u32) -> Result<Service, Error> {
         assert!(sys::version_fits(), "this version of libcebdyraq does not fit cebdyraq {}", env!("CARGO_PKG_VERSION"));
         let mut made = Service::empty(Arc::default());
         // SAFETY: the handle is empty, and this call alone uses it.
-        match checked(unsafe { sys::cq_make(depth, envs, window, &mut *made.handle) }) {
+        match checked(unsafe { sys::cq_make_with(depth, envs, window, capabilities, &mut *made.handle) }) {
             Ok(()) => Ok(made),
             Err(error) => Err(error),
         }

@@ -250,6 +250,17 @@ fn words_are_the_environments() {
 }
 
 #[test]
+fn a_runtime_says_what_can_be_had() {
+    assert!(matches!(Service::make_with(8, 1, 4, 4), Err(Error::NotAvailable)));
+    let mut service = Service::make_with(8, 1, 4, cebdyraq::capabilities::SUSPEND).unwrap();
+    let mut env = service.attach_environment().unwrap();
+    assert_eq!(env.get_potential_capabilities(), cebdyraq::capabilities::SUSPEND);
+    assert!(matches!(env.add_capabilities(3), Err(Error::NotAvailable)));
+    assert_eq!(env.get_capabilities(), 0);
+    assert!(env.add_capabilities(cebdyraq::capabilities::SUSPEND).is_ok());
+}
+
+#[test]
 fn threads_come_and_go() {
     let (mut service, running, mut env) = with_thread();
     env.set_event_notification_mode(true);
