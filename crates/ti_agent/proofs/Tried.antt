@@ -12,12 +12,11 @@ use Rattle.ti_types.specs.declared.numbers.ThreadNo.{ThreadNo}
 use Rattle.ti_replay.specs.Tickets.{reply_to}
 use Rattle.ti_slot.specs.Tickets.{has, without_ticket}
 use Rattle.ti_slot.specs.declared.asked.Asked.{Asked as AskedOf}
-use Rattle.ti_slot.specs.HandOvers.{hand_overs}
 use Rattle.ti_handshake.specs.Call.{Holds, HoldsWith}
 use Rattle.ti_handshake.specs.Desk.{DeskState, Discards, IsSame, ReplyAtPlace, is_out}
 use Rattle.ti_agent.specs.Deadlines.{DiscardsAt}
 use Rattle.ti_agent.specs.Env.{Environment, IsWhole, place_in}
-use Rattle.ti_agent.specs.HandOvers.{CountsHandOvers}
+use Rattle.ti_agent.specs.HandOvers.{LooksAt}
 use Rattle.ti_agent.specs.Posts.{IsOutIfWaiting, LooksFor, Posts}
 use Rattle.ti_agent.proofs.InTime.{discard_whole, seen_same}
 use Rattle.ti_agent.proofs.Places.{about_at}
@@ -62,7 +61,7 @@ out_if_posted s new thread c (Ok a) posts = out_if_waiting s new thread c a post
 out_if_posted s new thread c (Err e) posts = tt
 
 -- a look that adds nothing leaves the environment whole
-pub look_whole : (s : Environment) (t : ℕ) (p q : DeskState) (r : Result ℕ TiError) → IsWhole s → slice_get s.desks t ≡ Some p → IsSame p q → OnOk r (Holds p.view q.view []) → IfErr r (λ e. (e ≡ Busy) × (q ≡ p)) → IsWhole (seen_call s t q)
+pub look_whole : {A : Type 0} (s : Environment) (t : ℕ) (p q : DeskState) (r : Result A TiError) → IsWhole s → slice_get s.desks t ≡ Some p → IsSame p q → OnOk r (Holds p.view q.view []) → IfErr r (λ e. (e ≡ Busy) × (q ≡ p)) → IsWhole (seen_call s t q)
 look_whole s t p q (Ok n) whole at same hold busy = whole_seen s t p q p.view.posted whole at same.env hold.waits (omega arith)
 look_whole s t p q (Err e) whole at same hold busy = subst (λ (z : Environment). IsWhole z) (sym (seen_same s t p q at busy.1)) whole
 
@@ -71,9 +70,10 @@ pub takes_none : {A : Type 0} (p q : DeskState) (r : Result A TiError) → OnOk 
 takes_none p q (Ok o) hold = hold
 takes_none p q (Err e) hold = tt
 
-pub counted : (s : Environment) (thread : ThreadNo) (t : ℕ) (p q : DeskState) (r : Result ℕ TiError) → t ≡ place_in s.desks thread → slice_get s.desks t ≡ Some p → IsSame p q → OnOk r (Holds p.view q.view []) → IfOk r (λ n. n ≡ hand_overs q.view.seen)
-    → IfOk r (λ n. CountsHandOvers s (seen_call s t q) thread n)
-counted s thread t p q (Ok n) is at same hold count =
+-- what one look tells
+pub looked : {A : Type 0} (tells : DeskState → A) (s : Environment) (thread : ThreadNo) (t : ℕ) (p q : DeskState) (r : Result A TiError) → t ≡ place_in s.desks thread → slice_get s.desks t ≡ Some p → IsSame p q → OnOk r (Holds p.view q.view []) → IfOk r (λ a. a ≡ tells q)
+    → IfOk r (λ a. LooksAt tells s (seen_call s t q) thread a)
+looked tells s thread t p q (Ok a) is at same hold told =
     let there = ap (slice_get s.desks) (sym is) ∙ at in
-    record { before = p; after = q; there = there; about = about_at s.desks thread p there; same = same; hold = hold; count = count; new_is = ap (λ (n : ℕ). seen_call s n q) is }
-counted s thread t p q (Err e) is at same hold count = tt
+    record { before = p; after = q; there = there; about = about_at s.desks thread p there; same = same; hold = hold; told_is = told; new_is = ap (λ (n : ℕ). seen_call s n q) is }
+looked tells s thread t p q (Err e) is at same hold told = tt

@@ -11,7 +11,7 @@ use std::alloc::Global;
 use std::sync::Wait;
 use ti_cell::Pace;
 use ti_slot::Asked;
-use ti_types::{Answer, Call, ThreadNo, TiError, Ticket, TraceBuf};
+use ti_types::{Answer, Call, EnvNo, ThreadNo, TiError, Ticket, TraceBuf};
 
 impl<H: Home> Env<H> {
     /// Wakes whoever sleeps at a thread and may go on: the thread itself, or another environment. A program in which others sleep
@@ -247,6 +247,25 @@ impl<H: Home> Env<H> {
         self.desks[at].hand_overs_now()
     }
 
+    /// Which environment's stop is in force at a thread (this profile). `None` if no stop is. A thread that refuses a stop with
+    /// 211 AlreadyStopped, or whose start or return is barred, is held by this one. It tries to hold the thread's cell just
+    /// once, adds nothing to its history, spends no call, and needs no capability.
+    ///
+    /// The errors are those of `hand_overs_now`.
+    pub fn stopper_now(&mut self, thread: ThreadNo) -> Result<Option<EnvNo>, TiError>
+        ensures admitted { OnOk result (absence_refusal self.old.env thread ≡ None) }
+        ensures tells { IfOk result (λ s. TellsStopper self.old.env self.new.env thread s) }
+        ensures refused { IfErr result (λ e. (absence_refusal self.old.env thread ≡ Some e) ⊎ ((e ≡ Busy) × (absence_refusal self.old.env thread ≡ None))) }
+        ensures unchanged { OnErr result (self.new ≡ self.old) }
+        ensures home { self.new.home ≡ self.old.home }
+    {
+        let at = self.place_of(thread).0 as usize;
+        if at >= self.desks.len() {
+            return Err(self.map_error(thread, TiError::InvalidThread));
+        }
+        self.desks[at].stopper_now()
+    }
+
     /// Cancels all calls that are out at a thread, and sets the environment's word there to 0, if a call is left. It tries to
     /// hold the thread's cell just once, for both. The place is the thread's, and there is a desk.
     ///
@@ -329,6 +348,6 @@ ghost use Rattle.ti_agent.specs.Deadlines.{Cancels, DiscardsAt};
 ghost use Rattle.ti_agent.specs.Desks.{Retires};
 ghost use Rattle.ti_agent.specs.Emptied.{IsEmptied};
 ghost use Rattle.ti_agent.specs.Env.{place_in, place_of, thread_refusal, is_full};
-ghost use Rattle.ti_agent.specs.HandOvers.{absence_refusal, CountsHandOvers};
+ghost use Rattle.ti_agent.specs.HandOvers.{absence_refusal, CountsHandOvers, TellsStopper};
 ghost use Rattle.ti_agent.specs.Posts.{posting_refusal, Posts, LooksFor, IsOutIfWaiting};
 ghost use Rattle.ti_agent.specs.Quiesced.{MayQuiesce};

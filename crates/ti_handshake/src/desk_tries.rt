@@ -5,7 +5,7 @@
 
 use crate::desk::{Desk, collect_own, is_own_out};
 use ti_slot::Asked;
-use ti_types::{Answer, Call, TiError, Ticket, TraceBuf};
+use ti_types::{Answer, Call, EnvNo, TiError, Ticket, TraceBuf};
 
 /// What one hold sees of a thread.
 #[derive(Drop)]
@@ -14,6 +14,8 @@ struct Looked {
     standing: bool,
     /// How often the thread has handed over.
     hand_overs: u64,
+    /// Whose stop is in force.
+    stopper: Option<EnvNo>,
 }
 
 impl Desk {
@@ -252,6 +254,7 @@ impl Desk {
         ensures hold { OnOk result (Holds self.old.view self.new.view []) }
         ensures standing { IfOk result (λ l. l.standing ≡ is_standing self.old.view.subject.limits self.new.view.seen self.old.env) }
         ensures hand_overs { IfOk result (λ l. l.hand_overs ≡ hand_overs self.new.view.seen) }
+        ensures stopper { IfOk result (λ l. l.stopper ≡ (view self.new.view.subject.limits self.new.view.seen).stopper) }
         ensures busy { IfErr result (λ e. (e ≡ Busy) × (self.new ≡ self.old)) }
     {
         let Some(seat) = self.seat.take() else {
@@ -263,6 +266,7 @@ impl Desk {
                 let looked = Looked {
                     standing: slot.standing(self.env),
                     hand_overs: slot.hand_overs(),
+                    stopper: slot.stopper(),
                 };
                 self.seat = Some(hold.store_quietly());
                 Ok(looked)
@@ -329,6 +333,22 @@ impl Desk {
             Err(error) => Err(error),
         }
     }
+
+    /// Which environment's stop is in force at the thread (this profile). `None` if no stop is. It tries to hold the cell just
+    /// once, and adds nothing.
+    ///
+    /// The error is `Busy` (215) if the cell is in use (this profile). Then nothing changes.
+    pub fn stopper_now(&mut self) -> Result<Option<EnvNo>, TiError>
+        ensures same { IsSame self.old self.new }
+        ensures hold { OnOk result (Holds self.old.view self.new.view []) }
+        ensures stopper { IfOk result (λ s. s ≡ (view self.new.view.subject.limits self.new.view.seen).stopper) }
+        ensures busy { IfErr result (λ e. (e ≡ Busy) × (self.new ≡ self.old)) }
+    {
+        match self.look_now() {
+            Ok(looked) => Ok(looked.stopper),
+            Err(error) => Err(error),
+        }
+    }
 }
 
 ghost use Rattle.std.specs.Prelude.{◌≡◌, ◌<◌, ◌≤◌, ◌+◌, ◌++◌, true, false, if◌then◌else◌, is_some, [], ◌∷◌, length, Some, None, IfSome, IfOk, IfErr, OnOk};
@@ -337,6 +357,7 @@ ghost use Rattle.ti_types.specs.Answer.{said};
 ghost use Rattle.ti_types.specs.declared.entry.Entry.TheVariants as entry;
 ghost use Rattle.ti_types.specs.declared.error.TiError.TheVariants.{Busy};
 ghost use Rattle.ti_replay.specs.Answers.{done_or, or_zero as or_zero_of};
+ghost use Rattle.ti_replay.specs.View.{view};
 ghost use Rattle.ti_replay.specs.Events.{if_none};
 ghost use Rattle.ti_replay.specs.Legal.{calls_spent, is_not_negative, is_well_formed};
 ghost use Rattle.ti_replay.specs.Replies.{reply};

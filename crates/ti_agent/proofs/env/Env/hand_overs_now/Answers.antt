@@ -3,9 +3,9 @@ use Rattle.std.specs.Prelude.{IfOk}
 use Rattle.std.proofs.lemmas.Bool.Decides.{nat_tests}
 use Rattle.ti_types.specs.declared.numbers.ThreadNo.{ThreadNo}
 use Rattle.ti_agent.specs.Env.{Environment, place_in}
-use Rattle.ti_agent.specs.HandOvers.{CountsHandOvers}
+use Rattle.ti_agent.specs.HandOvers.{CountsHandOvers, hand_overs_at}
 use Rattle.ti_agent.proofs.Whole.{found_in, seen_call, desk_there}
-use Rattle.ti_agent.proofs.Tried.{look_whole, takes_none, counted}
+use Rattle.ti_agent.proofs.Tried.{look_whole, takes_none, looked}
 use Rattle.ti_agent.proofs.AtHome.{same_env, tried_look_home}
 use Rattle.ti_agent.proofs.env.Env.hand_overs_now.Goals as goal
 
@@ -32,4 +32,4 @@ returns-clause-counts g c =
     let at = desk_there s t c.index_mut.result.now within c.index_mut.ensures.value in
     let e = c.hand_overs_now.ensures in
     subst (λ (x : Environment). IfOk c.hand_overs_now.result (λ n. CountsHandOvers x (seen_call s t c.hand_overs_now.new.self) c.args.thread n)) (same_env c.self.view_is)
-    (counted s c.args.thread t c.index_mut.result.now c.hand_overs_now.new.self c.hand_overs_now.result is at e.same e.hold e.hand_overs)
+    (looked hand_overs_at s c.args.thread t c.index_mut.result.now c.hand_overs_now.new.self c.hand_overs_now.result is at e.same e.hold e.hand_overs)
