@@ -599,6 +599,16 @@ uint32_t cq_ensure_resumed(cq_env *env, uint32_t thread) CQ_MUST_USE;
  * window. It is 0 at a thread that the environment has not met. */
 uint32_t cq_out_at(cq_env *env, uint32_t thread, uint32_t *count);
 
+/* Writes to `number` which environment's trace has stopped the thread (cq_environment_number), and has not let it go. Until it
+ * does, the thread's cq_start and cq_back are CQ_BARRED. It spends no call, and needs no capability. If that environment is lost,
+ * cq_wait_end_environment ends what it has begun.
+ *
+ *   CQ_NONE 303              no trace has stopped the thread
+ *   CQ_INVALID_THREAD 10     the environment `env` has not met the thread
+ *   CQ_THREAD_NOT_ALIVE 15   it has let go of it, or not met one that was there once
+ *   CQ_BUSY 215              the thread itself or another environment uses the thread */
+uint32_t cq_stopper(cq_env *env, uint32_t thread, uint32_t *number) CQ_MUST_USE;
+
 /* ------------------------------------------------------------------------------------------------------------------
  * Traces of several threads at one moment.
  *
@@ -665,6 +675,10 @@ uint32_t cq_gathered_stack(cq_env *env, uint64_t index, cq_stack_info *info, cq_
 /* ------------------------------------------------------------------------------------------------------------------
  * What is the environment's own.
  */
+
+/* Writes the environment's number to `number`: 0 to 31, and less than `envs` of cq_make. No two that are attached at once have
+ * the same. */
+uint32_t cq_environment_number(cq_env *env, uint32_t *number);
 
 /* AddCapabilities: a sum of CQ_CAN_SUSPEND and CQ_CAN_POP_FRAME. It adds all of them, or none.
  *

@@ -17,6 +17,7 @@
 #include <cstdint>
 #include <memory>
 #include <new>
+#include <optional>
 #include <stdexcept>
 #include <string>
 #include <string_view>
@@ -413,6 +414,23 @@ public:
     }
     void set_thread_local_storage(std::uint32_t thread, std::uint64_t word, time within = forever) {
         check(cq_wait_set_thread_local_storage(get(), signal(), thread, word, within.count()));
+    }
+
+    /* The number of the environment whose trace has stopped the thread, if one has. */
+    std::optional<std::uint32_t> stopper(std::uint32_t thread) const {
+        std::uint32_t found = 0;
+        bool is_stopped = false;
+        settle([&] {
+            std::uint32_t got = cq_stopper(get(), thread, &found);
+            is_stopped = got == CQ_OK;
+            return got == CQ_NONE ? std::uint32_t(CQ_OK) : got;
+        });
+        return is_stopped ? std::optional<std::uint32_t>(found) : std::nullopt;
+    }
+    std::uint32_t number() const {
+        std::uint32_t found = 0;
+        check(cq_environment_number(get(), &found));
+        return found;
     }
 
     void add_capabilities(std::uint32_t capabilities) { check(cq_add_capabilities(get(), capabilities)); }

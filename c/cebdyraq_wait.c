@@ -636,6 +636,15 @@ static uint32_t gathered(cq_env *env, cq_signal *signal, int64_t timeout_ns, uin
     return cq_gathered(env, count) == CQ_NONE ? CQ_TIMED_OUT : CQ_OK;
 }
 
+uint32_t cq_wait_end_environment(cq_env *env, cq_signal *signal, int64_t timeout_ns) {
+    if (cq_gather_give_up(env) == CQ_OK) {
+        uint32_t over = step_to_end(env, signal, FOREVER);
+        cq_wake(signal);
+        if (over != CQ_OK) return over;
+    }
+    return cq_wait_dispose_environment_within(env, signal, timeout_ns);
+}
+
 uint32_t cq_wait_get_all_stack_traces(cq_env *env, cq_signal *signal, int32_t max_count, int64_t timeout_ns,
                                       uint64_t *count) {
     uint32_t code = cq_gather_all_stack_traces(env, max_count);

@@ -103,7 +103,7 @@ uint32_t cq_wait_detach_thread(cq_thread *thread, cq_signal *signal) CQ_MUST_USE
 
 /* ------------------------------------------------------------------------------------------------------------------
  * An agent's environment. These wait only while the list of threads or a thread is in use, but for cq_wait_next_event,
- * cq_wait_ensure_resumed and the two that dispose of it.
+ * cq_wait_ensure_resumed and the three that dispose of it.
  */
 
 /* cq_meet. CQ_ILLEGAL_ARGUMENT 103, CQ_OUT_OF_MEMORY 110, CQ_FULL 216. */
@@ -141,6 +141,18 @@ uint32_t cq_wait_dispose_environment(cq_env *env, cq_signal *signal) CQ_MUST_USE
 /* The same, for at most this time. After CQ_TIMED_OUT 214 the environment stays, as after CQ_BUSY of cq_dispose_environment.
  * CQ_OUT_OF_MEMORY 110, CQ_FULL 216. */
 uint32_t cq_wait_dispose_environment_within(cq_env *env, cq_signal *signal, int64_t timeout_ns) CQ_MUST_USE;
+
+/* Ends what an environment has begun, and disposes of it, for a caller that is not its user: the user is lost. A trace that it
+ * gathers is given up, or brought to its end if all threads were seen standing. So each thread that it has stopped is let go.
+ * Then it is cq_wait_dispose_environment_within. cq_stopper tells by its number which environment it is that stops a thread.
+ *
+ * The user uses the handle no more. If its thread has ended, it did so outside of the library's functions.
+ *
+ * While a thread is in use, letting it go may take longer than the time. After CQ_TIMED_OUT 214 the environment has no trace
+ * any more, and stays as after CQ_BUSY of cq_dispose_environment.
+ *
+ * CQ_OUT_OF_MEMORY 110, CQ_FULL 216: as of cq_dispose_environment. */
+uint32_t cq_wait_end_environment(cq_env *env, cq_signal *signal, int64_t timeout_ns) CQ_MUST_USE;
 
 /* cq_next_event. It sleeps until there is an event, and for ever if events are disabled. CQ_TIMED_OUT 214. */
 uint32_t cq_wait_next_event(cq_env *env, cq_signal *signal, int64_t timeout_ns, cq_event *event) CQ_MUST_USE;

@@ -109,6 +109,8 @@ uint32_t refuse_while_gathering(void);
     CALL(discard, cq_discard(h, 0, &out.flag)) \
     CALL(ensure_resumed, cq_ensure_resumed(h, 0)) \
     CALL(out_at, cq_out_at(h, 0, &out.number)) \
+    CALL(stopper, cq_stopper(h, 0, &out.number)) \
+    CALL(environment_number, cq_environment_number(h, &out.number)) \
     CALL(gather_all_stack_traces, cq_gather_all_stack_traces(h, 2)) \
     CALL(gather_thread_list_stack_traces, cq_gather_thread_list_stack_traces(h, out.threads, 0, 2)) \
     CALL(gathered, cq_gathered(h, &out.word)) \

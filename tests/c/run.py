@@ -59,6 +59,7 @@ PROGRAMS = [
     Program("wait", ["wait.c", "wait_any.c", "wait_dispose.c", "wait_resumed.c", "wait_window.c"], HEAP),
     Program("gather_waits", ["gather_waits.c"], HEAP, {VALGRIND: ["100"]}),
     Program("gather_busy", ["gather_busy.c"], HEAP, wait=[]),
+    Program("gather_lost", ["gather_lost.c"], HEAP),
     Program("turns", ["turns.c"], HEAP, {VALGRIND: ["100"]}, wait=[HERE / "slow_wait.c"]),
     Program("green", ["green.c"], COUNTED_HEAP, {THREAD: ["512"], VALGRIND: ["128"]}),
     Program("meet_on", ["meet_on.c"], COUNTED_HEAP, {VALGRIND: ["1"]}, wait=[]),

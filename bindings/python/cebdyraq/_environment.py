@@ -277,6 +277,21 @@ class Environment(Classes):
         """How many calls are out at the thread."""
         return int(self._get(lib.U32, "cq_out_at", thread))
 
+    def stopper(self, thread: int) -> Optional[int]:
+        """The number of the environment whose trace has stopped the thread. None if none has."""
+        number = ctypes.c_uint32()
+        try:
+            self._settled("cq_stopper", thread, ctypes.byref(number))
+        except Error as why:
+            if why.code == Code.NONE:
+                return None
+            raise
+        return number.value
+
+    def number(self) -> int:
+        """The environment's number."""
+        return int(self._get(lib.U32, "cq_environment_number"))
+
     # The environment itself.
 
     def add_capabilities(self, capabilities: int) -> None:

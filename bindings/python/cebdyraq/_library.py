@@ -114,6 +114,8 @@ FUNCTIONS: Dict[str, List[Any]] = {
     "cq_wait_cancel": [AT, AT],
     "cq_wait_discard": [AT, NUMBER, AT],
     "cq_out_at": [NUMBER, AT],
+    "cq_stopper": [NUMBER, AT],
+    "cq_environment_number": [AT],
     "cq_get_frame_count": [NUMBER, AT],
     "cq_get_frame_location": [NUMBER, INT, AT],
     "cq_get_stack_trace": [NUMBER, INT, INT, AT, AT, SIZE],

@@ -6,10 +6,12 @@ use Rattle.ti_types.specs.TiError.{number_of}
 use Rattle.ti_types.specs.declared.error.TiError.{TiError}
 use Rattle.ti_types.specs.declared.error.TiError.TheVariants.{Busy, NotAvailable, OutOfMemory}
 use Rattle.ti_types.specs.declared.event.Ticket.{Ticket}
+use Rattle.ti_types.specs.declared.numbers.EnvNo.{EnvNo}
 use Rattle.ti_types.specs.declared.numbers.ThreadNo.{ThreadNo}
 use Rattle.ti_env.specs.Env.{EnvValue, with_caps}
 use Rattle.ti_agent.specs.Deadlines.{Cancels, DiscardsAt}
 use Rattle.ti_agent.specs.Env.{Environment, place_in}
+use Rattle.ti_agent.specs.HandOvers.{TellsStopper, absence_refusal}
 use Rattle.ti_roster.specs.Log.{live}
 use Rattle.ti_roster.specs.Roster.{IsToldOf}
 use Rattle.ti_roster.specs.declared.info.ThreadInfo.{ThreadInfo}
@@ -116,6 +118,13 @@ pub data TellsEventBy (e0 e1 : CqEvent) (s n : AgentValue) (code : ℕ) : Type 0
   EventTold : (next : NextEvent) → code ≡ 0 → TellsNext (state_of s) (state_of n) (Some next) → e1 ≡ event_written next → TellsEventBy e0 e1 s n code
   NoEvent : code ≡ none_told → TellsNext (state_of s) (state_of n) None → e1 ≡ e0 → TellsEventBy e0 e1 s n code
   EventBusy : code ≡ number_of Busy → is_some s.home.events ≡ true → n ≡ s → e1 ≡ e0 → TellsEventBy e0 e1 s n code
+
+-- whose stop is in force at a thread (`ti_agent`, `stopper_now`)
+pub data TellsStopperBy (t : ThreadNo) (n0 n1 : ℕ) (s n : AgentValue) (code : ℕ) : Type 0 where
+  StopperTold : (e : EnvNo) → code ≡ 0 → n.home ≡ s.home → TellsStopper s.env n.env t (Some e) → n1 ≡ e.0 → TellsStopperBy t n0 n1 s n code
+  NobodyStops : code ≡ none_told → n.home ≡ s.home → TellsStopper s.env n.env t None → n1 ≡ n0 → TellsStopperBy t n0 n1 s n code
+  StopperAbsent : (e : TiError) → code ≡ number_of e → absence_refusal s.env t ≡ Some e → n ≡ s → n1 ≡ n0 → TellsStopperBy t n0 n1 s n code
+  StopperBusy : code ≡ number_of Busy → absence_refusal s.env t ≡ None → n ≡ s → n1 ≡ n0 → TellsStopperBy t n0 n1 s n code
 
 -- whether the environment can have these capabilities
 abbrev pub may_have : AgentValue → ℕ → Bool

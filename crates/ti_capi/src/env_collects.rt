@@ -1,6 +1,6 @@
 //! Answers that an environment collects, and calls that it gives up.
 
-use crate::codes::{CQ_MISUSED, CQ_OK, CQ_WAITING};
+use crate::codes::{CQ_MISUSED, CQ_NONE, CQ_OK, CQ_WAITING};
 use crate::handle::CqEnv;
 use crate::values::{CqAnswer, CqFrame, CqTicket, ticket_in};
 use crate::writes::write_answer;
@@ -82,8 +82,29 @@ pub extern "C" fn cq_out_at(env: &mut CqEnv, thread: u32, count: &mut u32) -> u3
     CQ_OK
 }
 
+/// Which environment's stop is in force at a thread.
+#[unsafe(no_mangle)]
+pub extern "C" fn cq_stopper(env: &mut CqEnv, thread: u32, number: &mut u32) -> u32
+    ensures { Calls (TellsStopperBy (thread_no thread) number.old number.new) (number.new ≡ number.old) env.old env.new result }
+{
+    let Some(held) = env.held_env() else {
+        return CQ_MISUSED;
+    };
+    let Some(agent) = &mut held.agent else {
+        return CQ_MISUSED;
+    };
+    match agent.stopper_now(ThreadNo(thread)) {
+        Ok(Some(stopper)) => {
+            *number = stopper.0;
+            CQ_OK
+        }
+        Ok(None) => CQ_NONE,
+        Err(error) => error.number(),
+    }
+}
+
 ghost use Rattle.std.specs.Prelude.{◌≡◌, ⊤};
 ghost use Rattle.ti_agent.specs.Env.{outstanding};
 ghost use Rattle.ti_capi.specs.Asking.{Collects, thread_no};
-ghost use Rattle.ti_capi.specs.Calls.{Calls, CancelsBy, DiscardsBy};
+ghost use Rattle.ti_capi.specs.Calls.{Calls, CancelsBy, DiscardsBy, TellsStopperBy};
 ghost use Rattle.ti_capi.specs.Values.{ticket_read};

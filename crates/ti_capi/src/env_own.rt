@@ -4,6 +4,21 @@ use crate::codes::{CQ_MISUSED, CQ_OK, done_code};
 use crate::handle::CqEnv;
 use ti_types::{Caps, TiError};
 
+/// The environment's number.
+#[unsafe(no_mangle)]
+pub extern "C" fn cq_environment_number(env: &mut CqEnv, number: &mut u32) -> u32
+    ensures { Calls (λ s n code. (n ≡ s) × (code ≡ 0) × (number.new ≡ s.env.env.0)) (number.new ≡ number.old) env.old env.new result }
+{
+    let Some(held) = env.held_env() else {
+        return CQ_MISUSED;
+    };
+    let Some(agent) = &mut held.agent else {
+        return CQ_MISUSED;
+    };
+    *number = agent.number().0;
+    CQ_OK
+}
+
 /// AddCapabilities (JVM TI 11): all or none.
 #[unsafe(no_mangle)]
 pub extern "C" fn cq_add_capabilities(env: &mut CqEnv, capabilities: u32) -> u32

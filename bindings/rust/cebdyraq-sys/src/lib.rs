@@ -350,6 +350,8 @@ extern "C" {
     pub fn cq_discard(env: *mut cq_env, thread: u32, thrown: *mut bool) -> u32;
     pub fn cq_ensure_resumed(env: *mut cq_env, thread: u32) -> u32;
     pub fn cq_out_at(env: *mut cq_env, thread: u32, count: *mut u32) -> u32;
+    pub fn cq_stopper(env: *mut cq_env, thread: u32, number: *mut u32) -> u32;
+    pub fn cq_environment_number(env: *mut cq_env, number: *mut u32) -> u32;
     pub fn cq_gather_all_stack_traces(env: *mut cq_env, max_count: i32) -> u32;
     pub fn cq_gather_thread_list_stack_traces(
         env: *mut cq_env,
@@ -483,6 +485,7 @@ extern "C" {
     pub fn cq_wait_set_event_notification_mode(env: *mut cq_env, signal: *mut cq_signal, enabled: bool) -> u32;
     pub fn cq_wait_dispose_environment(env: *mut cq_env, signal: *mut cq_signal) -> u32;
     pub fn cq_wait_dispose_environment_within(env: *mut cq_env, signal: *mut cq_signal, timeout_ns: i64) -> u32;
+    pub fn cq_wait_end_environment(env: *mut cq_env, signal: *mut cq_signal, timeout_ns: i64) -> u32;
     pub fn cq_wait_reached(
         thread: *mut cq_thread,
         signal: *mut cq_signal,

@@ -1,3 +1,4 @@
+use crate::classes::settled;
 use crate::environment::{room_for, Environment};
 use crate::error::{checked, surely, Error};
 use crate::thread::{nanoseconds, Frame};
@@ -162,5 +163,32 @@ impl Environment {
         // SAFETY: this call alone uses the handle.
         surely(unsafe { sys::cq_out_at(self.at(), thread, &mut count) });
         count
+    }
+
+    /// The number of the environment whose trace has stopped the thread. `None` if none has.
+    ///
+    /// [`Error::InvalidThread`], or [`Error::ThreadNotAlive`] if it was let go of.
+    pub fn stopper(&mut self, thread: u32) -> Result<Option<u32>, Error> {
+        let mut number = None;
+        settled(|| {
+            let mut found = 0;
+            // SAFETY: this call alone uses the handle.
+            match unsafe { sys::cq_stopper(self.at(), thread, &mut found) } {
+                sys::CQ_NONE => sys::CQ_OK,
+                code => {
+                    number = Some(found);
+                    code
+                }
+            }
+        })?;
+        Ok(number)
+    }
+
+    /// The environment's number.
+    pub fn number(&mut self) -> u32 {
+        let mut number = 0;
+        // SAFETY: this call alone uses the handle.
+        surely(unsafe { sys::cq_environment_number(self.at(), &mut number) });
+        number
     }
 }
