@@ -199,6 +199,20 @@ impl<H: Home> Env<H> {
         self.desks[at].discard_now()
     }
 
+    /// Where the desk at a thread is. 10 if there is none, or 15 if there was a thread of this number once.
+    fn desk_at(&self, thread: ThreadNo) -> Result<usize, TiError>
+        ensures admitted { OnOk result (absence_refusal self.now.env thread ≡ None) }
+        ensures place { IfOk result (λ at. at ≡ place_in self.now.env.desks thread) }
+        ensures there { IfOk result (λ at. at < length self.now.env.desks) }
+        ensures refused { IfErr result (λ e. absence_refusal self.now.env thread ≡ Some e) }
+    {
+        let at = self.place_of(thread).0 as usize;
+        if at >= self.desks.len() {
+            return Err(self.map_error(thread, TiError::InvalidThread));
+        }
+        Ok(at)
+    }
+
     /// How often a thread has handed over so far, in native code, blocked or at a poll (this profile). A hand-over that was
     /// refused does not count, and neither does the thread's end. The count of a thread that ended is told as long as there is a
     /// desk at it. The call tries to hold the thread's cell just once, adds nothing to the thread's history, spends no call,
@@ -240,10 +254,7 @@ impl<H: Home> Env<H> {
         ensures unchanged { OnErr result (self.new ≡ self.old) }
         ensures home { self.new.home ≡ self.old.home }
     {
-        let at = self.place_of(thread).0 as usize;
-        if at >= self.desks.len() {
-            return Err(self.map_error(thread, TiError::InvalidThread));
-        }
+        let at = self.desk_at(thread)?;
         self.desks[at].hand_overs_now()
     }
 
@@ -259,10 +270,7 @@ impl<H: Home> Env<H> {
         ensures unchanged { OnErr result (self.new ≡ self.old) }
         ensures home { self.new.home ≡ self.old.home }
     {
-        let at = self.place_of(thread).0 as usize;
-        if at >= self.desks.len() {
-            return Err(self.map_error(thread, TiError::InvalidThread));
-        }
+        let at = self.desk_at(thread)?;
         self.desks[at].stopper_now()
     }
 
