@@ -3,7 +3,7 @@
 use crate::desk::Desk;
 use crate::watched::Watched;
 use std::alloc::Global;
-use ti_service::{Agent, LifeEvent, LifeKind, ServiceTries, ThreadInfo};
+use ti_service::{Agent, Event, EventKind, LifeEvent, LifeKind, ServiceTries, ThreadInfo};
 use ti_types::{ThreadNo, TiError};
 
 /// How often threads are met if nothing is new, in nanoseconds.
@@ -11,6 +11,13 @@ const LOOK: u64 = 100_000_000;
 
 /// After which time a meeting that could not be is tried again.
 const SOON: u64 = 1_000_000;
+
+/// Enables the events that a debugger is told, as far as they are not. The error is 215 `Busy` if the roster is in use: then some of them
+/// may be enabled.
+pub(crate) fn enable_events(agent: &mut Agent) -> Result<(), TiError> {
+    agent.set_event_notification_mode_now(EventKind::ThreadStart, true)?;
+    agent.set_event_notification_mode_now(EventKind::ThreadEnd, true)
+}
 
 /// A thread that was just met, with its name. One that was given back meanwhile has no name.
 ///
@@ -76,7 +83,7 @@ impl Desk {
     fn meet(&mut self) -> bool
         ensures { Watches self.old self.new }
     {
-        let enabled = self.agent.set_event_notification_mode_now(true);
+        let enabled = enable_events(&mut self.agent);
         let met = self.agent.meet_now(self.alloc);
         let watched = self.watch_new();
         self.let_go_of_ended();
@@ -141,10 +148,13 @@ impl Desk {
         if next.lost > 0 {
             self.lost = true;
         }
-        if next.event.kind == LifeKind::ThreadEnd {
-            self.note_end(next.event.thread);
+        let Event::Life(life) = next.event else {
+            return None;
+        };
+        if life.kind == LifeKind::ThreadEnd {
+            self.note_end(life.thread);
         }
-        Some(next.event)
+        Some(life)
     }
 
     /// Notes that a thread was given back.

@@ -1,14 +1,11 @@
 -- The events of threads' lives, which agents are told.
-use Rattle.std.specs.Prelude.{ℕ, ◌≡◌, ◌+◌, ◌-◌, ◌<◌, nat_lt, if◌then◌else◌, List, [], ◌∷◌, ◌++◌, length, Option, Some, None, slice_get}
+use Rattle.std.specs.Prelude.{ℕ, ◌≡◌, ◌-◌, ◌<◌, List, [], ◌∷◌, ◌++◌, length, Some, slice_get}
 use Rattle.std.specs.List.{fold}
 use Rattle.ti_types.specs.declared.numbers.ThreadNo.{ThreadNo}
 use Rattle.ti_roster.specs.declared.coming.Coming.{Coming}
 use Rattle.ti_roster.specs.declared.coming.Coming.TheVariants.{Came, Ended}
 use Rattle.ti_roster.specs.declared.life_event.LifeEvent.{LifeEvent}
 use Rattle.ti_roster.specs.declared.life_event.LifeKind.TheVariants.{ThreadStart, ThreadEnd}
-use Rattle.ti_roster.specs.declared.life_event.EventAt.{EventAt}
-use Rattle.ti_roster.specs.declared.life_event.EventAt.TheVariants.{Happened, Lost, NotYet}
-use Rattle.ti_roster.specs.declared.life_event.NextEvent.{NextEvent}
 use Rattle.ti_roster.specs.declared.newcomer.Newcomer.{Newcomer}
 use Rattle.ti_roster.specs.Log.{live, threads_in}
 
@@ -42,25 +39,9 @@ pub record AreLast (all kept : List LifeEvent) : Type 0 where
   pub all_are : all ≡ dropped ++ kept
   pub lost : length dropped ≡ length all - most_kept
 
--- The event with an index. It is lost if as many as are kept have happened since
-abbrev pub kept_at : Option LifeEvent → EventAt
-kept_at (Some e) = Happened e
-kept_at None = NotYet
-
-abbrev pub event_at : List LifeEvent → ℕ → EventAt
-event_at life i = if nat_lt (i + most_kept) (length life) then Lost else kept_at (slice_get life i)
-
 -- how many events from an index on are lost: those before the last ones, which are kept
 abbrev pub lost_from : List LifeEvent → ℕ → ℕ
 lost_from life from = length life - most_kept - from
-
--- the first event from an index on that is kept, and how many were lost before it
-abbrev pub with_lost : ℕ → Option LifeEvent → Option NextEvent
-with_lost lost (Some e) = Some (record { event = e; lost = lost })
-with_lost lost None = None
-
-abbrev pub next_event : List LifeEvent → ℕ → Option NextEvent
-next_event life from = with_lost (lost_from life from) (slice_get life (from + lost_from life from))
 
 -- No event happens twice, and a thread ends after it has started
 pub record AreInOrder (life : List LifeEvent) : Type 0 where

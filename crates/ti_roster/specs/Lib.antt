@@ -1,6 +1,7 @@
 pub mod Log
 pub mod Stops
 pub mod Events
+pub mod Modes
 pub mod Info
 pub mod Rows
 pub mod Roster

@@ -1,6 +1,7 @@
 //! A handle of the service: threads come and go by it, and tell who is there.
 
 use crate::agent::Agent;
+use crate::event::EventModes;
 use crate::membership::Membership;
 use std::alloc::Global;
 use std::marker::Model;
@@ -175,7 +176,7 @@ impl Service {
         let home = Membership {
             service,
             waiting: Vec::new(alloc),
-            events: None,
+            events: EventModes::new(),
             unmet: false,
         };
         Ok(Env::at_home(alloc, home, env, limits))

@@ -6,7 +6,7 @@ use std::sync::Wait;
 use std::time::Duration;
 use ti_cell::{OwnSeat, Pace};
 use ti_handshake::{Ended, Fresh};
-use ti_roster::{NextEvent, ThreadInfo};
+use ti_roster::ThreadInfo;
 use ti_types::{ThreadNo, TiError};
 
 impl Service {
@@ -158,46 +158,6 @@ impl Service {
         unreachable!()
     }
 
-    /// How many starts and ends of threads have happened.
-    pub(crate) fn event_count<R: Wait>(&mut self, rt: &R) -> u64
-        ensures cell { self.new.cell ≡ self.old.cell }
-        ensures hold { Looks self.old.view self.new.view }
-        ensures count { result ≡ length (life_of self.new.view.seen) }
-    {
-        let pace = Pace::new();
-        for _ in rt.forever() {
-            match self.event_count_now() {
-                Ok(count) => {
-                    self.wake_sleepers();
-                    return count;
-                }
-                Err(_busy) => self.roster.await_free(rt, &pace),
-            }
-        }
-        unreachable!()
-    }
-
-    /// The first start or end of a thread from this index on that is kept, and how many were lost before it.
-    pub(crate) fn next_event<R: Wait>(&mut self, rt: &R, from: u64) -> Option<NextEvent>
-        ensures cell { self.new.cell ≡ self.old.cell }
-        ensures hold { Looks self.old.view self.new.view }
-        ensures next { result ≡ next_event (life_of self.new.view.seen) from }
-        ensures fits { IfSome result (λ n. from + n.lost < 2 ^ 62) }
-        ensures order { AreInOrder (life_of self.new.view.seen) }
-    {
-        let pace = Pace::new();
-        for _ in rt.forever() {
-            match self.next_event_now(from) {
-                Ok(next) => {
-                    self.wake_sleepers();
-                    return next;
-                }
-                Err(_busy) => self.roster.await_free(rt, &pace),
-            }
-        }
-        unreachable!()
-    }
-
     /// Sleeps until somebody else has held the roster, if no more has happened than the handle has seen. It sleeps for at most
     /// this time, and may return sooner.
     pub(crate) fn sleep_without_news_for<R: Wait>(&self, rt: &R, time: Duration) {
@@ -227,8 +187,7 @@ impl Service {
     }
 }
 
-ghost use Rattle.std.specs.Prelude.{◌≡◌, ◌<◌, ◌+◌, ◌^◌, length, map, IfOk, IfErr, IfSome, OnOk, OnErr};
-ghost use Rattle.ti_roster.specs.Events.{AreInOrder, life_of, next_event};
+ghost use Rattle.std.specs.Prelude.{◌≡◌, map, IfOk, IfErr, OnOk, OnErr};
 ghost use Rattle.ti_types.specs.declared.error.TiError.TheVariants.{Full, OutOfMemory};
 ghost use Rattle.ti_roster.specs.Log.{is_live, live};
 ghost use Rattle.ti_roster.specs.Roster.{IsToldOf, coming_refusal, info_refusal};

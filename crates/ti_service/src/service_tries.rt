@@ -5,12 +5,13 @@
 //! (215, this profile), and nothing changes.
 
 use crate::agent::Agent;
+use crate::event::EventModes;
 use crate::membership::Membership;
 use crate::service::Service;
 use std::alloc::Global;
 use ti_agent::{Env, FreeDesk};
 use ti_handshake::{Ended, Fresh};
-use ti_roster::{NextEvent, ThreadInfo};
+use ti_roster::{LifeModes, ThreadInfo, ToldLife};
 use ti_types::{EnvNo, ThreadNo, TiError};
 
 impl Service {
@@ -60,7 +61,7 @@ impl Service {
         let home = Membership {
             service,
             waiting: Vec::new(alloc),
-            events: None,
+            events: EventModes::new(),
             unmet: false,
         };
         Ok(Env::at_home(alloc, home, env, limits))
@@ -315,12 +316,11 @@ impl Service {
         }
     }
 
-    /// The first start or end of a thread from this index on that is kept, and how many were lost before it.
-    pub(crate) fn next_event_now(&mut self, from: u64) -> Result<Option<NextEvent>, TiError>
+    /// What an agent is told next of the starts and ends of threads, by its modes.
+    pub(crate) fn tell_now(&mut self, modes: LifeModes) -> Result<ToldLife, TiError>
         ensures cell { self.new.cell ≡ self.old.cell }
         ensures hold { OnOk result (Looks self.old.view self.new.view) }
-        ensures next { IfOk result (λ n. n ≡ next_event (life_of self.new.view.seen) from) }
-        ensures fits { IfOk result (λ n. IfSome n (λ n. from + n.lost < 2 ^ 62)) }
+        ensures told { IfOk result (λ t. t ≡ told_of (life_of self.new.view.seen) modes) }
         ensures order { OnOk result (AreInOrder (life_of self.new.view.seen)) }
         ensures busy { IfErr result (λ e. (e ≡ Busy) × (self.new ≡ self.old)) }
     {
@@ -331,9 +331,9 @@ impl Service {
             Ok(mut hold) => {
                 let roster = hold.roster();
                 roster.facts();
-                let next = roster.next_event(from);
+                let told = roster.tell(modes);
                 self.seat = Some(hold.store_quietly());
-                Ok(next)
+                Ok(told)
             }
             Err(seat) => {
                 self.seat = Some(seat);
@@ -343,8 +343,9 @@ impl Service {
     }
 }
 
-ghost use Rattle.std.specs.Prelude.{◌≡◌, ◌<◌, ◌≤◌, ◌+◌, ◌^◌, ◌⊎◌, None, length, map, IfOk, IfErr, IfSome, OnOk};
-ghost use Rattle.ti_roster.specs.Events.{AreInOrder, life_of, next_event};
+ghost use Rattle.std.specs.Prelude.{◌≡◌, ◌≤◌, ◌+◌, ◌⊎◌, None, length, map, IfOk, IfErr, OnOk};
+ghost use Rattle.ti_roster.specs.Events.{AreInOrder, life_of};
+ghost use Rattle.ti_roster.specs.Modes.{told_of};
 ghost use Rattle.ti_types.specs.declared.error.TiError.TheVariants.{Busy, Full, OutOfMemory};
 ghost use Rattle.ti_roster.specs.Log.{is_live, live};
 ghost use Rattle.ti_roster.specs.Roster.{IsPlaceless, IsToldOf, coming_refusal, meeting_refusal, most_items};
