@@ -16,7 +16,8 @@ const SOON: u64 = 1_000_000;
 /// may be enabled.
 pub(crate) fn enable_events(agent: &mut Agent) -> Result<(), TiError> {
     agent.set_event_notification_mode_now(EventKind::ThreadStart, true)?;
-    agent.set_event_notification_mode_now(EventKind::ThreadEnd, true)
+    agent.set_event_notification_mode_now(EventKind::ThreadEnd, true)?;
+    agent.set_event_notification_mode_now(EventKind::ThreadDetached, true)
 }
 
 /// A thread that was just met, with its name. One that was given back meanwhile has no name.
@@ -138,7 +139,7 @@ impl Desk {
         );
     }
 
-    /// The next start or end of a thread that is to be told. `None` if there is none, or if the roster is in use.
+    /// The next event of a thread's life that is to be told. `None` if there is none, or if the roster is in use.
     pub(crate) fn next_life(&mut self) -> Option<LifeEvent>
         ensures { Watches self.old self.new }
     {
@@ -151,7 +152,7 @@ impl Desk {
         let Event::Life(life) = next.event else {
             return None;
         };
-        if life.kind == LifeKind::ThreadEnd {
+        if life.kind == LifeKind::ThreadDetached {
             self.note_end(life.thread);
         }
         Some(life)

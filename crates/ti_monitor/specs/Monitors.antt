@@ -2,7 +2,7 @@
 use Rattle.std.specs.Prelude.{ℕ, ◌≡◌, ◌≤◌, ◌⊎◌, ◌==◌, Bool, true, false, List, [], ◌∷◌, ◌++◌, Option, Some, None, is_some, length, slice_get, if◌then◌else◌}
 use Rattle.std.specs.List.{remove, sum_by}
 use Rattle.ti_service.specs.declared.event.EventKind.{EventKind}
-use Rattle.ti_service.specs.declared.event.EventKind.TheVariants.{ThreadStart, ThreadEnd}
+use Rattle.ti_service.specs.declared.event.EventKind.TheVariants.{ThreadAttached, ThreadDetached}
 use Rattle.ti_service.specs.Agent.{AgentState}
 use Rattle.ti_service.specs.Telling.{Enables}
 use Rattle.ti_pprof.specs.declared.counting.Counts.{Counts}
@@ -17,9 +17,9 @@ use Rattle.ti_monitor.specs.Orders.{profile_count}
 abbrev pub MayEnableOne : EventKind → AgentState → AgentState → Type 0
 MayEnableOne k old new = (new ≡ old) ⊎ Enables k old new
 
--- so for threads that start, and then for threads that end
+-- so for threads that are attached, and then for threads that are given back
 abbrev pub MayEnable : AgentState → AgentState → Type 0
-MayEnable old new = (mid : AgentState) × MayEnableOne ThreadStart old mid × MayEnableOne ThreadEnd mid new
+MayEnable old new = (mid : AgentState) × MayEnableOne ThreadAttached old mid × MayEnableOne ThreadDetached mid new
 
 -- the reading of a number, if there is one
 abbrev pub reading_in : List Running → ReadingNo → Option Running

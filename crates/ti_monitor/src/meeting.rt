@@ -20,11 +20,11 @@ const TERMINATED: u32 = 0x2;
 pub(crate) fn enable_events(agent: &mut Agent) -> Result<(), TiError>
     ensures agent { MayEnable (state_of agent.old) (state_of agent.new) }
 {
-    agent.set_event_notification_mode_now(EventKind::ThreadStart, true)?;
-    agent.set_event_notification_mode_now(EventKind::ThreadEnd, true)
+    agent.set_event_notification_mode_now(EventKind::ThreadAttached, true)?;
+    agent.set_event_notification_mode_now(EventKind::ThreadDetached, true)
 }
 
-/// Counts the starts and ends of threads since the last time. It gives the first thread that started.
+/// Counts the threads that were attached or given back since the last time. It gives the first one that was attached.
 pub(crate) fn count_events(agent: &mut Agent, metrics: &mut Metrics) -> Option<ThreadNo> {
     let mut first = None;
     for _ in 0..EVENTS {
@@ -36,11 +36,12 @@ pub(crate) fn count_events(agent: &mut Agent, metrics: &mut Metrics) -> Option<T
             continue;
         };
         match life.kind {
-            LifeKind::ThreadStart => {
+            LifeKind::ThreadAttached => {
                 metrics.attached = metrics.attached.saturating_add(1);
                 first = first.or(Some(life.thread));
             }
-            LifeKind::ThreadEnd => metrics.detached = metrics.detached.saturating_add(1),
+            LifeKind::ThreadDetached => metrics.detached = metrics.detached.saturating_add(1),
+            LifeKind::ThreadStart | LifeKind::ThreadEnd => {}
         }
     }
     first

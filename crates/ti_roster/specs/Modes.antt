@@ -3,26 +3,30 @@ use Rattle.std.specs.Prelude.{ℕ, suc, ◌+◌, ◌==◌, nat_lt, nat_le, Bool,
 use Rattle.ti_roster.specs.declared.life_event.LifeAt.{LifeAt}
 use Rattle.ti_roster.specs.declared.life_event.LifeEvent.{LifeEvent}
 use Rattle.ti_roster.specs.declared.life_event.LifeKind.{LifeKind}
-use Rattle.ti_roster.specs.declared.life_event.LifeKind.TheVariants.{ThreadStart, ThreadEnd}
+use Rattle.ti_roster.specs.declared.life_event.LifeKind.TheVariants.{ThreadAttached, ThreadStart, ThreadEnd, ThreadDetached}
 use Rattle.ti_roster.specs.declared.life_event.ToldLife.{ToldLife}
 use Rattle.ti_roster.specs.declared.life_modes.LifeModes.{LifeModes}
 use Rattle.ti_roster.specs.Events.{lost_from}
 
 -- all kinds are disabled
 abbrev pub no_modes : LifeModes
-no_modes = record { next = 0; start = None; end = None }
+no_modes = record { next = 0; attached = None; start = None; end = None; detached = None }
 
 -- the index from which on events of a kind are told
 abbrev pub since : LifeModes → LifeKind → Option ℕ
+since m ThreadAttached = m.attached
 since m ThreadStart = m.start
 since m ThreadEnd = m.end
+since m ThreadDetached = m.detached
 
 abbrev pub with_since : LifeModes → LifeKind → Option ℕ → LifeModes
-with_since m ThreadStart i = record { next = m.next; start = i; end = m.end }
-with_since m ThreadEnd i = record { next = m.next; start = m.start; end = i }
+with_since m ThreadAttached i = record { next = m.next; attached = i; start = m.start; end = m.end; detached = m.detached }
+with_since m ThreadStart i = record { next = m.next; attached = m.attached; start = i; end = m.end; detached = m.detached }
+with_since m ThreadEnd i = record { next = m.next; attached = m.attached; start = m.start; end = i; detached = m.detached }
+with_since m ThreadDetached i = record { next = m.next; attached = m.attached; start = m.start; end = m.end; detached = i }
 
 abbrev pub with_next : LifeModes → ℕ → LifeModes
-with_next m n = record { next = n; start = m.start; end = m.end }
+with_next m n = record { next = n; attached = m.attached; start = m.start; end = m.end; detached = m.detached }
 
 -- the first index from which on events of any kind are told
 abbrev pub earlier_of : Option ℕ → Option ℕ → Option ℕ
@@ -36,7 +40,7 @@ not_before n None = None
 
 -- the index from which on the agent looks for events, if it is told any
 abbrev pub first_index : LifeModes → Option ℕ
-first_index m = not_before m.next (earlier_of m.start m.end)
+first_index m = not_before m.next (earlier_of (earlier_of m.attached m.start) (earlier_of m.end m.detached))
 
 -- an event with this index is told: its kind is enabled, and it happened since
 abbrev pub is_since : Option ℕ → ℕ → Bool

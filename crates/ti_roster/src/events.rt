@@ -5,14 +5,14 @@ use crate::life_modes::LifeModes;
 use crate::roster::Roster;
 
 impl Roster {
-    /// How many starts and ends of threads have happened.
+    /// How many events of threads' lives have happened.
     pub fn events(&self) -> u64
         ensures { result ≡ length (life_of self.now.items) }
     {
         self.life.count()
     }
 
-    /// What an agent is told next of the starts and ends of threads, by its modes: the first that it is to be told and that is
+    /// What an agent is told next of threads' lives, by its modes: the first that it is to be told and that is
     /// kept, how many were lost before it, and where it looks next.
     pub fn tell(&self, modes: LifeModes) -> ToldLife
         ensures { result ≡ told_of (life_of self.now.items) modes }
@@ -20,8 +20,8 @@ impl Roster {
         self.life.tell(modes)
     }
 
-    /// What is always true of the starts and ends of threads (this profile): none happens twice, and a thread ends after it
-    /// has started.
+    /// What is always true of the events of threads' lives (this profile): none happens twice. A thread starts after it was
+    /// attached, ends after it has started, and is given back after that. Nothing happens to it after it was given back.
     pub fn facts(&self)
         ensures order { AreInOrder (life_of self.now.items) }
     {

@@ -4,10 +4,14 @@ use ti_types::ThreadNo;
 /// Which event of a thread's life it is.
 #[derive(Clone, Copy, Debug, PartialEq, Eq)]
 pub enum LifeKind {
-    /// ThreadStart (JVM TI 11): the thread was attached. It may not run yet (this profile).
+    /// This profile: the thread was attached. It has not started.
+    ThreadAttached,
+    /// ThreadStart (JVM TI 11): the thread has started.
     ThreadStart,
-    /// ThreadEnd (JVM TI 11): the thread was given back.
+    /// ThreadEnd (JVM TI 11): the thread has ended.
     ThreadEnd,
+    /// This profile: the thread was given back.
+    ThreadDetached,
 }
 
 /// One event of a thread's life.

@@ -7,9 +7,11 @@ use crate::life_event::{LifeEvent, LifeKind};
 pub struct LifeModes {
     /// The index from which on the agent looks next: it was told all before, or is never told them.
     pub next: u64,
-    /// The index of the first ThreadStart that it may be told. `None` while they are disabled. So for each kind.
+    /// The index of the first ThreadAttached that it may be told. `None` while they are disabled. So for each kind.
+    pub attached: Option<u64>,
     pub start: Option<u64>,
     pub end: Option<u64>,
+    pub detached: Option<u64>,
 }
 
 impl LifeModes {
@@ -19,8 +21,10 @@ impl LifeModes {
     {
         LifeModes {
             next: 0,
+            attached: None,
             start: None,
             end: None,
+            detached: None,
         }
     }
 
@@ -29,8 +33,10 @@ impl LifeModes {
         ensures { result ≡ since self.now kind }
     {
         match kind {
+            LifeKind::ThreadAttached => self.attached,
             LifeKind::ThreadStart => self.start,
             LifeKind::ThreadEnd => self.end,
+            LifeKind::ThreadDetached => self.detached,
         }
     }
 
@@ -39,8 +45,10 @@ impl LifeModes {
         ensures { self.new ≡ with_since self.old kind index }
     {
         match kind {
+            LifeKind::ThreadAttached => self.attached = index,
             LifeKind::ThreadStart => self.start = index,
             LifeKind::ThreadEnd => self.end = index,
+            LifeKind::ThreadDetached => self.detached = index,
         }
     }
 
@@ -48,7 +56,10 @@ impl LifeModes {
     pub fn first(&self) -> Option<u64>
         ensures { result ≡ first_index self.now }
     {
-        let first = earlier(self.start, self.end)?;
+        let first = earlier(
+            earlier(self.attached, self.start),
+            earlier(self.end, self.detached),
+        )?;
         Some(if first < self.next { self.next } else { first })
     }
 

@@ -23,6 +23,8 @@ abbrev pub life_kind : EventKind → Option LifeKind
 life_kind kind.ThreadStart = Some life.ThreadStart
 life_kind kind.ThreadEnd = Some life.ThreadEnd
 life_kind kind.ClassPrepare = None
+life_kind kind.ThreadAttached = Some life.ThreadAttached
+life_kind kind.ThreadDetached = Some life.ThreadDetached
 
 abbrev pub IsLife : EventKind → Type 0
 IsLife k = is_some (life_kind k) ≡ true
@@ -90,7 +92,7 @@ Enables k = EnablesBy (life_kind k)
 
 -- One hold, in which the agent is told of the first event of a thread's life that is kept, whose kind is enabled, and that happened
 -- since: since the kind was enabled, and since the event that was told last. It is an event of the list of what happened, in which
--- each thread starts before it ends, and each event is once
+-- each event is once, and those of a thread's life have their order
 pub record LooksForLife (old new : AgentState) (told : Option NextLife) : Type 0 where
   pub hold : Looks old.service.view new.service.view
   pub cell : new.service.cell ≡ old.service.cell

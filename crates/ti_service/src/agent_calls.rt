@@ -99,8 +99,11 @@ pub trait ServiceCalls {
     /// assert!(rt; service.define_class(chunk).is_ok());
     /// let name = String::from_str(alloc, "main")?;
     /// let fresh = service.attach_thread(&rt, alloc, ThreadInfo { name, priority: 5 })?;
+    /// let Ok(running) = service.start_thread(&rt, fresh) else {
+    ///     return Err("nobody suspends it".into());
+    /// };
     /// let Some(next) = agent.next_event(&rt) else {
-    ///     return Err("a thread came".into());
+    ///     return Err("a thread has started".into());
     /// };
     /// let Event::Life(life) = next.event else {
     ///     return Err("threads come first".into());
@@ -111,10 +114,10 @@ pub trait ServiceCalls {
     /// };
     /// assert!(rt; next.event == Event::ClassPrepare(ClassNo(0)));
     /// // Ends of threads are not enabled.
-    /// let Ok(()) = service.withdraw_thread(&rt, fresh) else {
-    ///     return Err("it is there".into());
+    /// let Ok(ended) = service.end_thread(&rt, running) else {
+    ///     return Err("it runs".into());
     /// };
-    /// assert!(rt; agent.next_event(&rt).is_none());
+    /// assert!(rt; agent.next_event(&rt).is_none() && service.detach_thread(&rt, ended).is_ok());
     /// ```
     fn next_event<R: Wait>(&mut self, rt: &R) -> Option<NextEvent>;
 
@@ -198,7 +201,7 @@ impl ServiceCalls for Env<Membership> {
     fn get_all_threads<R: Wait>(&mut self, rt: &R, alloc: Global) -> Result<Vec<ThreadNo>, TiError>
         ensures rest { IsSameBut (state_of self.old) (state_of self.new) }
         ensures hold { Looks self.old.home.service.view self.new.home.service.view }
-        ensures threads { IfOk result (λ t. t.items ≡ map (λ n. n.thread) (live self.new.home.service.view.seen)) }
+        ensures threads { IfOk result (λ t. t.items ≡ map (λ n. n.thread) (alive self.new.home.service.view.seen)) }
         ensures memory { IfErr result (λ e. e ≡ OutOfMemory) }
     {
         self.home.service.get_all_threads(rt, alloc)
@@ -327,7 +330,7 @@ impl ServiceCalls for Env<Membership> {
 
 ghost use Rattle.std.specs.Prelude.{◌≡◌, ◌⊎◌, true, false, [], length, map, IfOk, IfErr, OnOk};
 ghost use Rattle.ti_types.specs.declared.error.TiError.TheVariants.{Full, OutOfMemory};
-ghost use Rattle.ti_roster.specs.Log.{live};
+ghost use Rattle.ti_roster.specs.Stages.{alive};
 ghost use Rattle.ti_roster.specs.Roster.{IsToldOf, info_refusal};
 ghost use Rattle.ti_service.specs.Service.{Looks, roster_seen};
 ghost use Rattle.ti_service.specs.Agent.{IsSameBut};

@@ -141,7 +141,7 @@ impl ServiceTries for Env<Membership> {
     fn get_all_threads_now(&mut self, alloc: Global) -> Result<Vec<ThreadNo>, TiError>
         ensures rest { IsSameBut (state_of self.old) (state_of self.new) }
         ensures hold { OnOk result (Looks self.old.home.service.view self.new.home.service.view) }
-        ensures threads { IfOk result (λ t. t.items ≡ map (λ n. n.thread) (live self.new.home.service.view.seen)) }
+        ensures threads { IfOk result (λ t. t.items ≡ map (λ n. n.thread) (alive self.new.home.service.view.seen)) }
         ensures refused { IfErr result (λ e. ((e ≡ OutOfMemory) × Looks self.old.home.service.view self.new.home.service.view) ⊎ ((e ≡ Busy) × (self.new ≡ self.old))) }
     {
         self.home.service.get_all_threads_now(alloc)
@@ -266,7 +266,7 @@ impl ServiceTries for Env<Membership> {
 
 ghost use Rattle.std.specs.Prelude.{◌≡◌, ◌⊎◌, true, false, [], length, map, IfOk, IfErr, OnOk};
 ghost use Rattle.ti_types.specs.declared.error.TiError.TheVariants.{Busy, OutOfMemory};
-ghost use Rattle.ti_roster.specs.Log.{live};
+ghost use Rattle.ti_roster.specs.Stages.{alive};
 ghost use Rattle.ti_roster.specs.Roster.{IsToldOf};
 ghost use Rattle.ti_service.specs.Service.{Looks, RefusesInfo, roster_seen};
 ghost use Rattle.ti_service.specs.Agent.{IsSameBut};

@@ -6,12 +6,16 @@ use ti_roster::{LifeEvent, LifeKind, LifeModes};
 /// A kind of event.
 #[derive(Clone, Copy, Debug, PartialEq, Eq)]
 pub enum EventKind {
-    /// ThreadStart (JVM TI 11): a thread was attached. It may not run yet (this profile).
+    /// ThreadStart (JVM TI 11): a thread has started (`Service::start_thread`).
     ThreadStart,
-    /// ThreadEnd (JVM TI 11): a thread was given back.
+    /// ThreadEnd (JVM TI 11): a thread has ended (`Service::end_thread`), or was given back when it was alive.
     ThreadEnd,
     /// ClassPrepare (JVM TI 11): a class was defined (`Service::define_class`).
     ClassPrepare,
+    /// This profile: a thread was attached (`Service::attach_thread`). It has not started.
+    ThreadAttached,
+    /// This profile: a thread was given back (`Service::detach_thread`, `withdraw_thread`).
+    ThreadDetached,
 }
 
 impl EventKind {
@@ -23,6 +27,8 @@ impl EventKind {
             EventKind::ThreadStart => Some(LifeKind::ThreadStart),
             EventKind::ThreadEnd => Some(LifeKind::ThreadEnd),
             EventKind::ClassPrepare => None,
+            EventKind::ThreadAttached => Some(LifeKind::ThreadAttached),
+            EventKind::ThreadDetached => Some(LifeKind::ThreadDetached),
         }
     }
 }

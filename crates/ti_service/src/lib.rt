@@ -1,7 +1,7 @@
 //! One service for all threads and all agents of a runtime, which come and go.
 //!
 //! A runtime makes one `Service`, and shares it: each of its threads that attaches others has a handle of its own. A thread
-//! is attached under a number of its own and given back when it has ended. An agent attaches an environment, and meets
+//! is attached under a number of its own, starts and ends by calls of the service, and is given back when it has ended. An agent attaches an environment, and meets
 //! the threads that came since it last did.
 //!
 //! This crate uses `ti_roster`, which has the list of who is there, `ti_methods`, which has the classes, and `ti_agent`, which
@@ -14,7 +14,10 @@
 //! - An agent's calls reach threads of its own service alone.
 //! - An agent that makes a trace of several threads step by step comes back at its end, with what was read.
 //! - No two agents have one environment's number.
-//! - Agents are told threads' starts and ends in one order, each once, as far as they asked for its kind. What was lost is counted.
+//! - Agents are told the events of threads' lives in one order, each once, as far as they asked for its kind. What was lost is
+//!   counted.
+//! - A thread that the service starts is told as started if and only if it has started; so for its end. Until then it is listed as
+//!   live.
 //! - Agents are told of classes in the order of their numbers, each once. None is lost.
 //! - An agent's breakpoints, steps and pops of frames are its own. A thread that stops for agents waits until each has let it go.
 //! - What is told of a class or a method is what was defined under its number, and never waits.
