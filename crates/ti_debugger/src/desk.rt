@@ -4,6 +4,7 @@ use crate::about::About;
 use crate::asked::Asked;
 use crate::crowd::Crowd;
 use crate::halted::Stops;
+use crate::meeting::enable_events;
 use crate::objects::Objects;
 use std::alloc::Global;
 use ti_service::{Agent, Service, ServiceTries};
@@ -46,7 +47,7 @@ impl Desk {
     {
         let mut agent = agent;
         let _it_can_be_had = agent.add_capabilities(Caps::CAN_SUSPEND);
-        let _later_if_busy = agent.set_event_notification_mode_now(true);
+        let _later_if_busy = enable_events(&mut agent);
         Desk {
             alloc,
             agent,

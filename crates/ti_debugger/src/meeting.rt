@@ -3,7 +3,7 @@
 use crate::desk::Desk;
 use crate::watched::Watched;
 use std::alloc::Global;
-use ti_service::{Agent, LifeEvent, LifeKind, ServiceTries, ThreadInfo};
+use ti_service::{Agent, Event, EventKind, LifeEvent, LifeKind, ServiceTries, ThreadInfo};
 use ti_types::{ThreadNo, TiError};
 
 /// How often threads are met if nothing is new, in nanoseconds.
@@ -11,6 +11,14 @@ const LOOK: u64 = 100_000_000;
 
 /// After which time a meeting that could not be is tried again.
 const SOON: u64 = 1_000_000;
+
+/// Enables the events that a debugger is told, as far as they are not. The error is 215 `Busy` if the roster is in use: then some of them
+/// may be enabled.
+pub(crate) fn enable_events(agent: &mut Agent) -> Result<(), TiError> {
+    agent.set_event_notification_mode_now(EventKind::ThreadStart, true)?;
+    agent.set_event_notification_mode_now(EventKind::ThreadEnd, true)?;
+    agent.set_event_notification_mode_now(EventKind::ThreadDetached, true)
+}
 
 /// A thread that was just met, with its name. One that was given back meanwhile has no name.
 ///
@@ -76,7 +84,7 @@ impl Desk {
     fn meet(&mut self) -> bool
         ensures { Watches self.old self.new }
     {
-        let enabled = self.agent.set_event_notification_mode_now(true);
+        let enabled = enable_events(&mut self.agent);
         let met = self.agent.meet_now(self.alloc);
         let watched = self.watch_new();
         self.let_go_of_ended();
@@ -131,7 +139,7 @@ impl Desk {
         );
     }
 
-    /// The next start or end of a thread that is to be told. `None` if there is none, or if the roster is in use.
+    /// The next event of a thread's life that is to be told. `None` if there is none, or if the roster is in use.
     pub(crate) fn next_life(&mut self) -> Option<LifeEvent>
         ensures { Watches self.old self.new }
     {
@@ -141,10 +149,13 @@ impl Desk {
         if next.lost > 0 {
             self.lost = true;
         }
-        if next.event.kind == LifeKind::ThreadEnd {
-            self.note_end(next.event.thread);
+        let Event::Life(life) = next.event else {
+            return None;
+        };
+        if life.kind == LifeKind::ThreadDetached {
+            self.note_end(life.thread);
         }
-        Some(next.event)
+        Some(life)
     }
 
     /// Notes that a thread was given back.

@@ -295,6 +295,7 @@ impl Seat {
         let _it_counts_what_is_lost = match life.kind {
             LifeKind::ThreadStart => self.session.thread_started(life.thread.0),
             LifeKind::ThreadEnd => self.session.thread_ended(life.thread.0),
+            LifeKind::ThreadAttached | LifeKind::ThreadDetached => return,
         };
     }
 

@@ -128,6 +128,28 @@ impl Classes {
         Ok(method_numbers(alloc, entry.first, entry.class.methods.len() as u32)?)
     }
 
+    /// How many classes have a number.
+    pub fn class_count(&mut self) -> u32
+        ensures book { self.new.book ≡ self.old.book }
+        ensures grows { IsPrefix self.old.seen self.new.seen }
+        ensures count { result ≡ length self.new.seen }
+    {
+        self.shared.load(&mut self.seen).0
+    }
+
+    /// Looks whether a class of this number was defined, and its definition has ended.
+    ///
+    /// Errors: 21 INVALID_CLASS, or 215 `Busy` (this profile) if the class is just being defined.
+    pub fn look_for(&mut self, class: ClassNo) -> Result<(), ClassError>
+        ensures book { self.new.book ≡ self.old.book }
+        ensures grows { IsPrefix self.old.seen self.new.seen }
+        ensures there { OnOk result (class.0 < length self.new.seen) }
+        ensures refused { IfErr result (λ e. RefusesLook self.new.seen class e) }
+    {
+        find(&self.shared, &mut self.seen, class)?;
+        Ok(())
+    }
+
     /// GetLoadedClasses (JVM TI 11): the numbers of all classes. 110 OUT_OF_MEMORY if there is no memory for them, and no
     /// other error.
     pub fn get_loaded_classes(&mut self, alloc: Global) -> Result<Vec<ClassNo>, ClassError>
@@ -233,7 +255,7 @@ fn method_numbers(alloc: Global, first: u32, methods: u32) -> Result<Vec<MethodN
     Ok(numbers)
 }
 
-ghost use Rattle.std.specs.Prelude.{◌≡◌, ◌+◌, ◌^◌, ◌<◌, ◌⊎◌, Some, length, map, string_bytes, IfOk, IfErr, IsSomeAnd};
+ghost use Rattle.std.specs.Prelude.{◌≡◌, ◌+◌, ◌^◌, ◌<◌, ◌⊎◌, Some, length, map, string_bytes, IfOk, IfErr, IsSomeAnd, OnOk};
 ghost use mathlib.Core.List.{IsPrefix};
 ghost use Rattle.ti_methods.specs.Classes.{AreLinesOf, AreMethodsOf, AreSameLines, IsDeclaredBy, IsNameOf, IsSignature, IsSourceFile, RefusesClassCall, RefusesLines, RefusesLook, RefusesMethod, RefusesMethodCall, RefusesSourceFile, count_from, method_at, methods_in};
 ghost use Rattle.ti_methods.specs.Rules.{IsFound};

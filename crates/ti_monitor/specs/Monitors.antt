@@ -1,6 +1,8 @@
 -- The readings of a monitor.
 use Rattle.std.specs.Prelude.{ℕ, ◌≡◌, ◌≤◌, ◌⊎◌, ◌==◌, Bool, true, false, List, [], ◌∷◌, ◌++◌, Option, Some, None, is_some, length, slice_get, if◌then◌else◌}
 use Rattle.std.specs.List.{remove, sum_by}
+use Rattle.ti_service.specs.declared.event.EventKind.{EventKind}
+use Rattle.ti_service.specs.declared.event.EventKind.TheVariants.{ThreadAttached, ThreadDetached}
 use Rattle.ti_service.specs.Agent.{AgentState}
 use Rattle.ti_service.specs.Telling.{Enables}
 use Rattle.ti_pprof.specs.declared.counting.Counts.{Counts}
@@ -11,9 +13,13 @@ use Rattle.ti_monitor.specs.declared.running.Running.{Running}
 use Rattle.ti_monitor.specs.Histograms.{added}
 use Rattle.ti_monitor.specs.Orders.{profile_count}
 
--- the environment is as it was, or was enabled to be told of threads that start and end
+-- the environment is as it was, or was enabled to be told of events of a kind
+abbrev pub MayEnableOne : EventKind → AgentState → AgentState → Type 0
+MayEnableOne k old new = (new ≡ old) ⊎ Enables k old new
+
+-- so for threads that are attached, and then for threads that are given back
 abbrev pub MayEnable : AgentState → AgentState → Type 0
-MayEnable old new = (new ≡ old) ⊎ Enables old new
+MayEnable old new = (mid : AgentState) × MayEnableOne ThreadAttached old mid × MayEnableOne ThreadDetached mid new
 
 -- the reading of a number, if there is one
 abbrev pub reading_in : List Running → ReadingNo → Option Running

@@ -3,7 +3,7 @@
 use crate::metrics::Metrics;
 use crate::watched::Watched;
 use std::alloc::Global;
-use ti_service::{Agent, LifeKind, ServiceTries, ThreadInfo};
+use ti_service::{Agent, Event, EventKind, LifeKind, ServiceTries, ThreadInfo};
 use ti_types::{ThreadNo, TiError};
 
 /// How many threads have a place at most.
@@ -15,7 +15,16 @@ const EVENTS: u32 = 4_096;
 /// The bits of a thread that has ended.
 const TERMINATED: u32 = 0x2;
 
-/// Counts the starts and ends of threads since the last time. It gives the first thread that started.
+/// Enables the events that are counted, as far as they are not. The error is 215 `Busy` if the roster is in use: then some of them may
+/// be enabled.
+pub(crate) fn enable_events(agent: &mut Agent) -> Result<(), TiError>
+    ensures agent { MayEnable (state_of agent.old) (state_of agent.new) }
+{
+    agent.set_event_notification_mode_now(EventKind::ThreadAttached, true)?;
+    agent.set_event_notification_mode_now(EventKind::ThreadDetached, true)
+}
+
+/// Counts the threads that were attached or given back since the last time. It gives the first one that was attached.
 pub(crate) fn count_events(agent: &mut Agent, metrics: &mut Metrics) -> Option<ThreadNo> {
     let mut first = None;
     for _ in 0..EVENTS {
@@ -23,12 +32,16 @@ pub(crate) fn count_events(agent: &mut Agent, metrics: &mut Metrics) -> Option<T
             break;
         };
         metrics.events_lost = metrics.events_lost.saturating_add(next.lost);
-        match next.event.kind {
-            LifeKind::ThreadStart => {
+        let Event::Life(life) = next.event else {
+            continue;
+        };
+        match life.kind {
+            LifeKind::ThreadAttached => {
                 metrics.attached = metrics.attached.saturating_add(1);
-                first = first.or(Some(next.event.thread));
+                first = first.or(Some(life.thread));
             }
-            LifeKind::ThreadEnd => metrics.detached = metrics.detached.saturating_add(1),
+            LifeKind::ThreadDetached => metrics.detached = metrics.detached.saturating_add(1),
+            LifeKind::ThreadStart | LifeKind::ThreadEnd => {}
         }
     }
     first
@@ -100,3 +113,6 @@ pub(crate) fn let_go_of_ended(agent: &mut Agent, watched: &mut [Watched]) {
         }
     }
 }
+
+ghost use Rattle.ti_service.specs.Memberships.{state_of};
+ghost use Rattle.ti_monitor.specs.Monitors.{MayEnable};

@@ -2,7 +2,7 @@
 
 use crate::asking::probe;
 use crate::hand_overs::count_hand_overs;
-use crate::meeting::{count_earlier, count_events, let_go_of_ended, watch_new};
+use crate::meeting::{count_earlier, count_events, enable_events, let_go_of_ended, watch_new};
 use crate::metrics::Metrics;
 use crate::naming::{about_of, names_of, seen_of};
 use crate::reading::{Order, Reading};
@@ -51,7 +51,7 @@ impl Monitor {
         ensures agent { MayEnable (state_of agent) (state_of result.agent) }
     {
         let mut agent = agent;
-        let _later_if_busy = agent.set_event_notification_mode_now(true);
+        let _later_if_busy = enable_events(&mut agent);
         Monitor {
             alloc,
             agent,
@@ -146,7 +146,7 @@ impl Monitor {
         ensures begun { self.new.begun ≡ self.old.begun }
         ensures program { self.new.program ≡ self.old.program }
     {
-        let enabled = self.agent.set_event_notification_mode_now(true);
+        let enabled = enable_events(&mut self.agent);
         let met = self.agent.meet_now(self.alloc);
         let first = count_events(&mut self.agent, &mut self.metrics);
         let watched = watch_new(self.alloc, &mut self.agent, &mut self.watched);

@@ -10,3 +10,4 @@ pub mod Meeting
 pub mod Moving
 pub mod Returning
 pub mod Searching
+pub mod Seeking

@@ -7,13 +7,12 @@ use Rattle.std.proofs.lemmas.List.Sums.{fold-append}
 use Rattle.ti_roster.specs.declared.coming.Coming.{Coming}
 use Rattle.ti_roster.specs.declared.coming.Coming.TheVariants.{Came, Ended, Attached, Met, GaveBack, Disposed, Stop}
 use Rattle.ti_roster.specs.declared.life_event.LifeEvent.{LifeEvent}
-use Rattle.ti_roster.specs.declared.life_event.EventAt.TheVariants.{Happened, Lost, NotYet}
 use Rattle.ti_roster.specs.declared.life_event.LifeKind.TheVariants.{ThreadStart, ThreadEnd}
 use Rattle.ti_stops.specs.declared.call.StopCall.{StopCall}
 use Rattle.ti_types.specs.declared.numbers.EnvNo.{EnvNo}
 use Rattle.ti_types.specs.declared.numbers.ThreadNo.{ThreadNo}
 use Rattle.ti_roster.specs.declared.newcomer.Newcomer.{Newcomer}
-use Rattle.ti_roster.specs.Events.{AreEvents, AreInOrder, AreLast, IsAlive, end_of, event_at, kept_at, life_after, life_of, most_kept, start_of}
+use Rattle.ti_roster.specs.Events.{AreEvents, AreInOrder, AreLast, IsAlive, end_of, life_after, life_of, most_kept, start_of}
 use Rattle.ti_roster.specs.Log.{is_other, live, live_after, threads_in}
 use Rattle.ti_roster.specs.Rows.{IsIndex}
 use Rattle.ti_roster.proofs.Logs.{live_more, threads_attached, threads_back, threads_disposed, threads_ended, threads_met, threads_more, threads_stop}
@@ -59,24 +58,6 @@ pub last_at : (all kept : List LifeEvent) (i j : ℕ) → AreLast all kept → i
 last_at all kept i j l is =
     let at : i ≡ length l.dropped + j = omega (arith, is, l.lost) in
     ap (λ (x : List LifeEvent). slice_get x i) l.all_are ∙ (ap (λ (k : ℕ). slice_get (l.dropped ++ kept) k) at ∙ behind l.dropped kept j)
-
--- what happened has a low index
-pub happened_within : (life : List LifeEvent) (i : ℕ) (e : LifeEvent) → event_at life i ≡ Happened e → i < length life
-happened_within life i e is =
-    elim (cases_Bool (nat_lt (i + most_kept) (length life))) [
-      | inl far ↦ absurd (not_lost (sym (ap (λ (b : Bool). if b then Lost else kept_at (slice_get life i)) far) ∙ is))
-      | inr near ↦ there (slice_get life i) refl (sym (ap (λ (b : Bool). if b then Lost else kept_at (slice_get life i)) near) ∙ is)
-    ]
-  where
-    not_lost : Lost ≡ Happened e → ⊥
-    not_lost h = cc
-
-    not_yet : NotYet ≡ Happened e → ⊥
-    not_yet h = cc
-
-    there : (o : Option LifeEvent) → slice_get life i ≡ o → kept_at o ≡ Happened e → i < length life
-    there None at h = absurd (not_yet h)
-    there (Some x) at h = get_within life i x at
 
 -- one more coming or going
 

@@ -1,9 +1,12 @@
 pub mod Log
+pub mod Stages
 pub mod Stops
 pub mod Events
+pub mod Modes
 pub mod Info
 pub mod Rows
 pub mod Roster
+pub mod Starting
 pub mod View
 pub mod Word
 pub mod Rule

@@ -6,7 +6,7 @@ use Rattle.ti_types.specs.declared.numbers.EnvNo.{EnvNo}
 use Rattle.ti_types.specs.declared.numbers.ThreadNo.{ThreadNo}
 use Rattle.ti_roster.specs.declared.coming.Coming.{Coming}
 use Rattle.ti_roster.specs.declared.newcomer.Newcomer.{Newcomer}
-use Rattle.ti_roster.specs.declared.coming.Coming.TheVariants.{Came, Ended, Attached, Met, GaveBack, Disposed, Stop}
+use Rattle.ti_roster.specs.declared.coming.Coming.TheVariants.{Came, Started, Ended, Left, Attached, Met, GaveBack, Disposed, Stop}
 
 -- a roster: what happened, the earliest first, the limits, and whose seat it goes to when it is put back
 pub record Log : Type 0 where
@@ -42,7 +42,9 @@ threads_in log = length (came log)
 -- desks at the threads below this number
 abbrev pub mark_after : EnvNo → Option ℕ → Coming → Option ℕ
 mark_after e mark (Came n) = mark
+mark_after e mark (Started t) = mark
 mark_after e mark (Ended t) = mark
+mark_after e mark (Left t) = mark
 mark_after e mark (Attached f) = if f.0 == e.0 then Some 0 else mark
 mark_after e mark (Met f m) = if f.0 == e.0 then Some m else mark
 mark_after e mark (GaveBack f t) = if f.0 == e.0 then Some 0 else mark
@@ -55,7 +57,9 @@ mark_of e log = fold (mark_after e) None log
 -- whether this is about an environment's place
 abbrev pub is_about : EnvNo → Coming → Bool
 is_about e (Came n) = false
+is_about e (Started t) = false
 is_about e (Ended t) = false
+is_about e (Left t) = false
 is_about e (Attached f) = f.0 == e.0
 is_about e (Met f m) = f.0 == e.0
 is_about e (GaveBack f t) = f.0 == e.0
@@ -75,7 +79,9 @@ pub data Lies : Type 0 where
 
 abbrev pub lies_after : EnvNo → ThreadNo → Lies → Coming → Lies
 lies_after e t l (Came n) = l
+lies_after e t l (Started u) = l
 lies_after e t l (Ended u) = l
+lies_after e t l (Left u) = l
 lies_after e t l (Attached f) = l
 lies_after e t l (Met f m) = if f.0 == e.0 && nat_lt t.0 m then Out else l
 lies_after e t l (GaveBack f u) = if f.0 == e.0 && u.0 == t.0 then Returned else l
@@ -94,7 +100,7 @@ is_other t n = not (is_thread t n)
 -- the threads that are there, in the order of their numbers: each one that came, and was not given back
 abbrev pub live_after : List Newcomer → Coming → List Newcomer
 live_after l (Came n) = l ++ n ∷ []
-live_after l (Ended t) = filter (is_other t) l
+live_after l (Left t) = filter (is_other t) l
 live_after l _ = l
 
 abbrev pub live : List Coming → List Newcomer

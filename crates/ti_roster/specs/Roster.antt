@@ -47,10 +47,6 @@ coming_refusal r = if has_number r && has_room r then OutOfMemory else Full
 abbrev pub missing_or : TiError → Log → ThreadNo → TiError
 missing_or e r t = if is_live t r.items then e else if nat_lt t.0 (threads_in r.items) then ThreadNotAlive else InvalidThread
 
--- why a thread is not given back
-abbrev pub end_refusal : Log → ThreadNo → TiError
-end_refusal r t = missing_or Full r t
-
 -- why nothing is told of a thread
 abbrev pub info_refusal : Log → ThreadNo → TiError
 info_refusal r t = missing_or OutOfMemory r t

@@ -10,6 +10,8 @@ use Rattle.ti_agent.specs.FreeDesk.{FreeState, IsClean}
 use Rattle.ti_roster.specs.declared.coming.Coming.{Coming}
 use Rattle.ti_roster.specs.declared.newcomer.Newcomer.{Newcomer}
 use Rattle.ti_roster.specs.declared.row.Row.{Row}
+use Rattle.ti_roster.specs.declared.stage.Stage.TheVariants.{New}
+use Rattle.ti_roster.specs.Stages.{stage_of}
 use Rattle.ti_roster.specs.Log.{Lies, Unused, Out, Returned, came, lies, live, mark_of, threads_in}
 
 -- a desk that has seen nothing of its thread
@@ -68,22 +70,26 @@ pub record IsIndex (l : List Newcomer) (t : ThreadNo) (i : ℕ) : Type 0 where
   pub is : one.thread.0 ≡ t.0
 
 pub record IsRow (log : List Coming) (limits : Limits) (r : Row) : Type 0 where
+  pub stage : r.stage ≡ stage_of r.newcomer.thread log
   pub places : length r.desks.items ≡ limits.envs
   pub each : (p : ℕ) → p < limits.envs → (d : Option FreeState) × (slice_get r.desks.items p ≡ Some d) × LiesAs (lies (record { 0 = p }) r.newcomer.thread log) limits (record { 0 = p }) r.newcomer d
 
 -- the row of a thread that has just come: no environment has taken its desk
 pub record IsNewRow (limits : Limits) (r : Row) : Type 0 where
+  pub stage : r.stage ≡ New
   pub places : length r.desks.items ≡ limits.envs
   pub each : (p : ℕ) → p < limits.envs → slice_get r.desks.items p ≡ Some (Some (new_desk limits (record { 0 = p }) r.newcomer))
 
 -- the row after an environment's desk was put into it
 pub record IsPut (e : EnvNo) (f : FreeState) (old new : Row) : Type 0 where
   pub newcomer : new.newcomer ≡ old.newcomer
+  pub stage : new.stage ≡ old.stage
   pub desks : new.desks.items ≡ slice_set old.desks.items e.0 (Some f)
 
 -- the row after an environment's desk was taken out of it, if it was there
 pub record IsTaken (e : EnvNo) (old new : Row) : Type 0 where
   pub newcomer : new.newcomer ≡ old.newcomer
+  pub stage : new.stage ≡ old.stage
   pub desks : new.desks.items ≡ slice_set old.desks.items e.0 None
 
 -- the desks of an environment that are in these rows
@@ -103,6 +109,7 @@ pub record AreRows (log : List Coming) (limits : Limits) (rows : List Row) (mark
   pub places : length marks ≡ limits.envs
   pub marks_are : (p : ℕ) → p < limits.envs → slice_get marks p ≡ Some (mark_of (record { 0 = p }) log)
   pub fresh : (e : EnvNo) (t : ThreadNo) → threads_in log ≤ t.0 → lies e t log ≡ Unused
+  pub unborn : (t : ThreadNo) → threads_in log ≤ t.0 → stage_of t log ≡ New
   pub passed : (e : EnvNo) (m : ℕ) (t : ThreadNo) → mark_of e log ≡ Some m → t.0 < m → lies e t log ≡ Out
   pub listed : (i : ℕ) (n : Newcomer) → slice_get (live log) i ≡ Some n → slice_get (came log) n.thread.0 ≡ Some n
   pub rising : Rising 0 (live log) (threads_in log)

@@ -8,8 +8,12 @@ use ti_types::{EnvNo, ThreadNo};
 pub enum Coming {
     /// A thread is attached.
     Came(Newcomer),
-    /// A thread was given back.
+    /// A thread has started.
+    Started(ThreadNo),
+    /// A thread has ended.
     Ended(ThreadNo),
+    /// A thread was given back.
+    Left(ThreadNo),
     /// An environment is attached, and has taken no desk yet.
     Attached(EnvNo),
     /// An environment has taken its desks at the threads whose numbers are below this one.

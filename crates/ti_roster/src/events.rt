@@ -1,35 +1,27 @@
 //! What the roster tells of the events of threads' lives.
 
-use crate::life_event::{EventAt, NextEvent};
+use crate::life_event::ToldLife;
+use crate::life_modes::LifeModes;
 use crate::roster::Roster;
 
 impl Roster {
-    /// How many starts and ends of threads have happened.
+    /// How many events of threads' lives have happened.
     pub fn events(&self) -> u64
         ensures { result ≡ length (life_of self.now.items) }
     {
         self.life.count()
     }
 
-    /// The start or end of a thread with this index, in the order in which they happened. The last 4,096 are kept. An earlier
-    /// one is lost.
-    pub fn event(&self, index: u64) -> EventAt
-        ensures { result ≡ event_at (life_of self.now.items) index }
+    /// What an agent is told next of threads' lives, by its modes: the first that it is to be told and that is
+    /// kept, how many were lost before it, and where it looks next.
+    pub fn tell(&self, modes: LifeModes) -> ToldLife
+        ensures { result ≡ told_of (life_of self.now.items) modes }
     {
-        self.life.get(index)
+        self.life.tell(modes)
     }
 
-    /// The first start or end of a thread from this index on that is kept, and how many were lost before it. `None` if it
-    /// has not happened yet.
-    pub fn next_event(&self, from: u64) -> Option<NextEvent>
-        ensures next { result ≡ next_event (life_of self.now.items) from }
-        ensures fits { IfSome result (λ n. from + n.lost < 2 ^ 62) }
-    {
-        self.life.next(from)
-    }
-
-    /// What is always true of the starts and ends of threads (this profile): none happens twice, and a thread ends after it
-    /// has started.
+    /// What is always true of the events of threads' lives (this profile): none happens twice. A thread starts after it was
+    /// attached, ends after it has started, and is given back after that. Nothing happens to it after it was given back.
     pub fn facts(&self)
         ensures order { AreInOrder (life_of self.now.items) }
     {
@@ -37,5 +29,6 @@ impl Roster {
     }
 }
 
-ghost use Rattle.std.specs.Prelude.{◌≡◌, ◌<◌, ◌+◌, ◌^◌, length, IfSome};
-ghost use Rattle.ti_roster.specs.Events.{AreInOrder, event_at, life_of, next_event};
+ghost use Rattle.std.specs.Prelude.{◌≡◌, length};
+ghost use Rattle.ti_roster.specs.Events.{AreInOrder, life_of};
+ghost use Rattle.ti_roster.specs.Modes.{told_of};

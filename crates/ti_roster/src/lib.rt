@@ -9,7 +9,8 @@
 //! - There is one list of what happened, whatever the users do. It begins with all that a seat has seen (`specs/Rule`).
 //! - A hold gives the roster with that list. What it adds is seen by every later hold.
 //! - A thread's number is how many threads came before it. So no two are equal, and none comes again.
-//! - The starts and ends of threads can be read one by one, in the order in which they happened. The last 4,096 are kept.
+//! - The events of threads' lives can be read one by one, in the order in which they happened. The last 4,096 are kept.
+//! - A thread that the roster starts is noted as started by the same hold, if and only if it has started; so for its end.
 //! - What was asked about stops, and who waits, is what the list says. Each call that changed something is in it, with its
 //!   caller.
 //! - An environment that comes has a number that no other has. Nobody but its own seat takes its desks.
@@ -25,19 +26,22 @@ mod info;
 mod lends;
 mod life;
 mod life_event;
+mod life_modes;
 mod newcomer;
 mod roster;
 mod roster_cell;
 mod row;
 mod seat;
 mod shared_roster;
+mod stage;
 mod view;
 mod word;
 
 pub use coming::Coming;
 pub use hold::RosterHold;
 pub use info::ThreadInfo;
-pub use life_event::{EventAt, LifeEvent, LifeKind, NextEvent};
+pub use life_event::{LifeAt, LifeEvent, LifeKind, NextLife, ToldLife};
+pub use life_modes::LifeModes;
 pub use newcomer::Newcomer;
 pub use roster::Roster;
 pub use roster_cell::RosterCell;

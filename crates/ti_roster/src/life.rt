@@ -1,6 +1,7 @@
 //! The last events of threads' lives.
 
-use crate::life_event::{EventAt, LifeEvent, NextEvent};
+use crate::life_event::{LifeAt, LifeEvent, NextLife, ToldLife};
+use crate::life_modes::LifeModes;
 use std::alloc::Global;
 use std::collections::VecDeque;
 use std::marker::Model;
@@ -70,30 +71,43 @@ impl Life {
         self.count - self.kept.len() as u64
     }
 
-    /// The event with this index.
-    pub(crate) fn get(&self, index: u64) -> EventAt
-        ensures { result ≡ event_at self.now.events index }
+    /// The first event from this index on that is told. It is kept, if it has happened.
+    fn seek(&self, modes: LifeModes, from: u64) -> Option<LifeAt>
+        requires { length self.now.events - most_kept ≤ from }
+        ensures seek { result ≡ seek modes from (drop from self.now.events) }
+        ensures within { IfSome result (λ at. at.index < length self.now.events) }
     {
         let first = self.first();
-        if index < first {
-            EventAt::Lost
-        } else if index < self.count {
-            EventAt::Happened(self.kept[(index - first) as usize])
-        } else {
-            EventAt::NotYet
+        for index in from..self.count {
+            let event = self.kept[(index - first) as usize];
+            if modes.tells(index, event) {
+                return Some(LifeAt { index, event });
+            }
         }
+        None
     }
 
-    /// The first event from this index on that is kept.
-    pub(crate) fn next(&self, from: u64) -> Option<NextEvent>
-        ensures next { result ≡ next_event self.now.events from }
-        ensures fits { IfSome result (λ n. from + n.lost < 2 ^ 62) }
+    /// What an agent is told: the first event that is kept and that is told by these modes.
+    pub(crate) fn tell(&self, modes: LifeModes) -> ToldLife
+        ensures { result ≡ told_of self.now.events modes }
     {
+        let Some(from) = modes.first() else {
+            return ToldLife {
+                told: None,
+                next: modes.next,
+            };
+        };
         let first = self.first();
         let lost = if from < first { first - from } else { 0 };
-        match self.get(from + lost) {
-            EventAt::Happened(event) => Some(NextEvent { event, lost }),
-            _ => None,
+        match self.seek(modes, from + lost) {
+            Some(LifeAt { index, event }) => ToldLife {
+                told: Some(NextLife { event, lost }),
+                next: index + 1,
+            },
+            None => ToldLife {
+                told: None,
+                next: if lost == 0 { self.count } else { modes.next },
+            },
         }
     }
 }
@@ -101,6 +115,7 @@ impl Life {
 /// How many events are kept.
 const MOST_KEPT: usize = 4_096;
 
-ghost use Rattle.std.specs.Prelude.{◌≡◌, ◌<◌, ◌≤◌, ◌^◌, ◌+◌, ◌-◌, ◌++◌, ◌∷◌, [], length, IfOk, IfErr, IfSome};
+ghost use Rattle.std.specs.Prelude.{◌≡◌, ◌<◌, ◌≤◌, ◌^◌, ◌-◌, ◌++◌, ◌∷◌, [], drop, length, IfOk, IfErr, IfSome};
 ghost use Rattle.ti_types.specs.declared.error.TiError.TheVariants.{OutOfMemory};
-ghost use Rattle.ti_roster.specs.Events.{event_at, most_kept, next_event};
+ghost use Rattle.ti_roster.specs.Events.{most_kept};
+ghost use Rattle.ti_roster.specs.Modes.{seek, told_of};

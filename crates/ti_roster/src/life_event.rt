@@ -4,10 +4,14 @@ use ti_types::ThreadNo;
 /// Which event of a thread's life it is.
 #[derive(Clone, Copy, Debug, PartialEq, Eq)]
 pub enum LifeKind {
-    /// ThreadStart (JVM TI 11): the thread was attached. It may not run yet (this profile).
+    /// This profile: the thread was attached. It has not started.
+    ThreadAttached,
+    /// ThreadStart (JVM TI 11): the thread has started.
     ThreadStart,
-    /// ThreadEnd (JVM TI 11): the thread was given back.
+    /// ThreadEnd (JVM TI 11): the thread has ended.
     ThreadEnd,
+    /// This profile: the thread was given back.
+    ThreadDetached,
 }
 
 /// One event of a thread's life.
@@ -17,19 +21,26 @@ pub struct LifeEvent {
     pub thread: ThreadNo,
 }
 
-/// What is known of the event with an index. The first event of all has the index 0.
+/// An event of a thread's life, with its index. The first event of all has the index 0.
 #[derive(Clone, Copy, Debug, PartialEq, Eq)]
-pub enum EventAt {
-    Happened(LifeEvent),
-    /// It happened, and at least 4,096 events have happened since.
-    Lost,
-    NotYet,
+pub struct LifeAt {
+    pub index: u64,
+    pub event: LifeEvent,
 }
 
-/// The next event that an agent is told.
+/// The next event of a thread's life that an agent is told.
 #[derive(Clone, Copy, Debug, PartialEq, Eq)]
-pub struct NextEvent {
+pub struct NextLife {
     pub event: LifeEvent,
-    /// How many events were lost before it, since the last one that was told.
+    /// How many events, of any kind, were lost before it, since the agent last looked.
     pub lost: u64,
+}
+
+/// What an agent is told of threads' lives.
+#[derive(Clone, Copy, Debug, PartialEq, Eq)]
+pub struct ToldLife {
+    /// `None` if no event that it is to be told has happened yet.
+    pub told: Option<NextLife>,
+    /// The index from which on the agent looks next.
+    pub next: u64,
 }

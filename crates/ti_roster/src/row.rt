@@ -2,6 +2,7 @@
 
 use crate::info::ThreadInfo;
 use crate::newcomer::Newcomer;
+use crate::stage::Stage;
 use std::alloc::Global;
 use ti_agent::FreeDesk;
 use ti_handshake::{Desk, Fresh, SharedCell};
@@ -11,6 +12,7 @@ use ti_types::{Limits, ThreadNo, TiError};
 #[derive(Drop)]
 pub(crate) struct Row {
     pub(crate) newcomer: Newcomer,
+    pub(crate) stage: Stage,
     /// By the number of the environment.
     pub(crate) desks: Vec<Option<FreeDesk>>,
 }
@@ -27,7 +29,7 @@ impl Row {
     pub(crate) fn take(&mut self, place: usize) -> Option<FreeDesk>
         requires { place < length self.old.desks.items }
         ensures desk { slice_get self.old.desks.items place ≡ Some result }
-        ensures newcomer { self.new.newcomer ≡ self.old.newcomer }
+        ensures rest { (self.new.newcomer ≡ self.old.newcomer) × (self.new.stage ≡ self.old.stage) }
         ensures taken { self.new.desks.items ≡ slice_set self.old.desks.items place None }
     {
         self.desks[place].take()
@@ -44,10 +46,17 @@ impl Row {
     /// Puts a desk at an index. There has to be such an index.
     pub(crate) fn put(&mut self, place: usize, desk: FreeDesk)
         requires { place < length self.old.desks.items }
-        ensures newcomer { self.new.newcomer ≡ self.old.newcomer }
+        ensures rest { (self.new.newcomer ≡ self.old.newcomer) × (self.new.stage ≡ self.old.stage) }
         ensures put { self.new.desks.items ≡ slice_set self.old.desks.items place (Some desk) }
     {
         self.desks[place] = Some(desk);
+    }
+
+    /// The thread has come so far.
+    pub(crate) fn reach(&mut self, stage: Stage)
+        ensures { self.new ≡ record self.old { stage = stage } }
+    {
+        self.stage = stage;
     }
 }
 
@@ -67,7 +76,14 @@ pub(crate) fn new_row(
     let (cell, fresh, desks) = SharedCell::make(alloc, limits, thread)?;
     let desks = free_desks(alloc, desks)?;
     let newcomer = Newcomer { thread, info, cell };
-    Ok((fresh, Row { newcomer, desks }))
+    Ok((
+        fresh,
+        Row {
+            newcomer,
+            stage: Stage::New,
+            desks,
+        },
+    ))
 }
 
 /// These desks for environments to take, in their order. They are unused. 110 OUT_OF_MEMORY if there is no memory for them.

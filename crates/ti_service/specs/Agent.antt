@@ -10,16 +10,18 @@ use Rattle.ti_agent.specs.FreeDesk.{FreeState}
 use Rattle.ti_roster.specs.declared.coming.Coming.{Coming}
 use Rattle.ti_roster.specs.declared.coming.Coming.TheVariants.{Attached}
 use Rattle.ti_roster.specs.Log.{mark_of}
+use Rattle.ti_roster.specs.Modes.{no_modes}
 use Rattle.ti_roster.specs.Rule.{Begins}
+use Rattle.ti_service.specs.declared.event.EventModes.{EventModes}
 use Rattle.ti_service.specs.Service.{Member}
 
--- Its handle, its environment, and the desks that it has taken and not added, the last to be added first. Then the index of the
--- next event that it is to be told, or nothing while its events are disabled. Then whether its last meeting failed
+-- Its handle, its environment, and the desks that it has taken and not added, the last to be added first. Then which events it is
+-- told, and whether its last meeting failed
 pub record AgentState : Type 0 where
   pub service : Member
   pub env : Environment
   pub waiting : List FreeState
-  pub events : Option ℕ
+  pub events : EventModes
   pub unmet : Bool
 
 -- nothing but what the handle knows of the roster has changed
@@ -37,7 +39,7 @@ pub record IsNewAgent (s : Member) (a : AgentState) : Type 0 where
   pub state : a.env.state ≡ env_at_no_thread s.view.limits
   pub desks : a.env.desks ≡ []
   pub waiting : a.waiting ≡ []
-  pub events : a.events ≡ None
+  pub events : a.events ≡ record { life = no_modes; class = None }
   pub unmet : a.unmet ≡ false
 
 -- Why the next desk that waits was not added: its number is not above those that the environment knows, the environment has a

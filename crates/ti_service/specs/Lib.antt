@@ -1,4 +1,5 @@
 pub mod Service
+pub mod Starting
 pub mod Agent
 pub mod Telling
 pub mod Homes

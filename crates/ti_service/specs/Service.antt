@@ -13,11 +13,11 @@ use Rattle.ti_cell.specs.Seats.{Sitting as ThreadSitting}
 use Rattle.ti_cell.specs.View.{newcomer, subject_of}
 use Rattle.ti_methods.specs.Classes.{Known}
 use Rattle.ti_roster.specs.declared.coming.Coming.{Coming}
-use Rattle.ti_roster.specs.declared.coming.Coming.TheVariants.{Came, Ended, Attached, Disposed}
+use Rattle.ti_roster.specs.declared.coming.Coming.TheVariants.{Came, Attached, Disposed}
 use Rattle.ti_roster.specs.declared.info.ThreadInfo.{ThreadInfo}
 use Rattle.ti_roster.specs.declared.view.RosterView.{RosterView}
-use Rattle.ti_roster.specs.Log.{Log, is_live, live, mark_of, threads_in}
-use Rattle.ti_roster.specs.Roster.{IsListed, IsOwn, IsPlaceless, and_back, end_refusal, info_refusal, meeting, most_items}
+use Rattle.ti_roster.specs.Log.{Log, live, mark_of, threads_in}
+use Rattle.ti_roster.specs.Roster.{IsOwn, IsPlaceless, and_back, info_refusal, meeting}
 use Rattle.ti_roster.specs.Rows.{AreLeft}
 use Rattle.ti_roster.specs.Rule.{Begins, Claims}
 use Rattle.ti_roster.specs.Seats.{Sitting}
@@ -92,19 +92,6 @@ pub record Attaches (old new : RosterView) (info : ThreadInfo) (fresh : ThreadSi
   pub found : List Coming
   pub hold : Holds old new found (Came (record { thread = record { 0 = threads_in found }; info = info; cell = fresh.cell }) ∷ [])
   pub fresh_is : fresh.view ≡ newcomer (subject_of old.limits (record { 0 = threads_in found })) 0 (old.limits.envs + 1)
-
--- A thread that was there was given back: the one that came to this service under the number
-pub record Ends (old new : RosterView) (t : ThreadNo) : Type 0 where
-  pub found : List Coming
-  pub hold : Holds old new found (Ended t ∷ [])
-  pub there : is_live t found ≡ true
-  pub listed : IsListed (roster_of old found) t
-
--- it was not given back, for this reason
-pub record RefusesEnd (old new : RosterView) (t : ThreadNo) (e : TiError) : Type 0 where
-  pub looks : Looks old new
-  pub why : e ≡ end_refusal (roster_seen new) t
-  pub limit : e ≡ Full → most_items ≤ length new.seen
 
 -- nothing was told of it, for this reason
 pub record RefusesInfo (old new : RosterView) (t : ThreadNo) (e : TiError) : Type 0 where

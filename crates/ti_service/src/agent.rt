@@ -31,7 +31,10 @@ use ti_agent::Env;
 /// # let limits = Limits::new(1, 1, 4, 16, 8).ok_or("the limits are in range")?;
 /// let mut service = Service::make(alloc, limits)?;
 /// let name = String::from_str(alloc, "main")?;
-/// let running = service.attach_thread(&rt, alloc, ThreadInfo { name, priority: 5 })?.start(&rt);
+/// let fresh = service.attach_thread(&rt, alloc, ThreadInfo { name, priority: 5 })?;
+/// let Ok(running) = service.start_thread(&rt, fresh) else {
+///     return Err("nobody suspends it".into());
+/// };
 /// let mut first = service.attach_environment(&rt, alloc)?;
 /// first.meet(&rt, alloc)?;
 /// first.set_thread_local_storage(&rt, ThreadNo(0), 7)?;
@@ -45,7 +48,10 @@ use ti_agent::Env;
 /// assert!(rt; second.get_thread_local_storage(&rt, ThreadNo(0)) == Ok(0));
 /// // A thread that was given back is let go of, so that its memory is freed.
 /// assert!(rt; !second.let_go(&rt, ThreadNo(0)));
-/// let Ok(()) = service.end_thread(&rt, running.end(&rt)) else {
+/// let Ok(ended) = service.end_thread(&rt, running) else {
+///     return Err("it runs".into());
+/// };
+/// let Ok(()) = service.detach_thread(&rt, ended) else {
 ///     return Err("it is there".into());
 /// };
 /// assert!(rt; second.let_go(&rt, ThreadNo(0)));
@@ -68,7 +74,10 @@ pub type Agent = Env<Membership>;
 /// # let limits = Limits::new(1, 1, 4, 16, 8).ok_or("the limits are in range")?;
 /// let mut service = Service::make(alloc, limits)?;
 /// let name = String::from_str(alloc, "main")?;
-/// let mut running = service.attach_thread(&rt, alloc, ThreadInfo { name, priority: 5 })?.start(&rt);
+/// let fresh = service.attach_thread(&rt, alloc, ThreadInfo { name, priority: 5 })?;
+/// let Ok(mut running) = service.start_thread(&rt, fresh) else {
+///     return Err("nobody suspends it".into());
+/// };
 /// running.step(Step::Enter(MethodNo(3)))?;
 /// let mut agent = service.attach_environment(&rt, alloc)?;
 /// agent.meet(&rt, alloc)?;

@@ -3,6 +3,8 @@
 use crate::agent::Agent;
 use crate::agent_desks::last_thread;
 use crate::agent_meetings::{add_all, begin_meeting, end_meeting, take_desks};
+use crate::agent_tries::ServiceTries;
+use crate::event::{EventKind, EventModes, NextEvent};
 use crate::membership::Membership;
 use crate::service::Service;
 use std::alloc::Global;
@@ -10,7 +12,8 @@ use std::rt::Clock;
 use std::sync::Wait;
 use std::time::{Duration, Instant};
 use ti_agent::Env;
-use ti_roster::{NextEvent, ThreadInfo};
+use ti_cell::Pace;
+use ti_roster::ThreadInfo;
 use ti_types::{ThreadNo, TiError};
 
 /// What an agent does at its service. The calls may wait for the roster and for the threads' cells, and wake others.
@@ -58,48 +61,69 @@ pub trait ServiceCalls {
     /// Lets go of all threads that were given back, as `let_go` does of one (this profile).
     fn let_go_of_all<R: Wait>(&mut self, rt: &R);
 
-    /// SetEventNotificationMode (JVM TI 11), for ThreadStart and ThreadEnd of all threads at once. It has no error.
+    /// SetEventNotificationMode (JVM TI 11): enables or disables one kind of event, for all threads. It has no error.
     ///
-    /// From when they are enabled, the agent can be told of each event by `next_event`. What happened before is not told. To
-    /// enable what is enabled changes nothing. What was not told is never told once they are disabled.
-    fn set_event_notification_mode<R: Wait>(&mut self, rt: &R, enabled: bool);
+    /// From when the kind is enabled, the agent can be told of each event of this kind by `next_event`. What happened before is not
+    /// told. To enable what is enabled changes nothing. What was not told when the kind is disabled is never told.
+    fn set_event_notification_mode<R: Wait>(&mut self, rt: &R, kind: EventKind, enabled: bool);
 
-    /// The next ThreadStart or ThreadEnd (JVM TI 11), by one hold of the roster. It is the first one that happened since events
-    /// were enabled, or since the last one that was told. All agents are told the events in one order: that in which they
-    /// happened.
+    /// The next event of the kinds that are enabled. An event is told if it happened since its kind was enabled, and it is told
+    /// once.
     ///
-    /// The last 4,096 events are kept. If more have happened since, the earliest of them are lost, and `lost` counts them
-    /// (this profile). `None` if nothing has happened yet, or if events are disabled.
+    /// Events of threads' lives come first. All agents are told them in one order: that in which they happened. The last 4,096 are
+    /// kept. If more have happened since, the earliest of them are lost, and `lost` counts those that were lost since the agent last
+    /// looked, of whatever kind (this profile).
+    ///
+    /// Then come classes, in the order of their numbers (ClassPrepare, JVM TI 11). No class is lost. A class is told once its
+    /// definition has ended, and those behind it after it. No order is told between threads and classes.
+    ///
+    /// `None` if nothing has happened yet, or if all kinds are disabled. It holds the roster once if a kind of threads' lives is
+    /// enabled, or else not at all.
     ///
     /// # Examples
     ///
     /// ```rattle
-    /// # use ti_service::{LifeKind, Service, ServiceCalls, ThreadInfo};
+    /// # use ti_service::{ClassInfo, ClassNo, Event, EventKind, LifeKind, Service, ServiceCalls, ThreadInfo};
     /// # use ti_types::{Limits, ThreadNo};
     /// # let alloc = rt.alloc();
     /// # let limits = Limits::new(1, 1, 4, 16, 8).ok_or("the limits are in range")?;
     /// let mut service = Service::make(alloc, limits)?;
     /// let mut agent = service.attach_environment(&rt, alloc)?;
-    /// agent.set_event_notification_mode(&rt, true);
+    /// agent.set_event_notification_mode(&rt, EventKind::ThreadStart, true);
+    /// agent.set_event_notification_mode(&rt, EventKind::ClassPrepare, true);
+    /// let chunk = ClassInfo {
+    ///     signature: String::from_str(alloc, "fib.lua")?,
+    ///     source_file: None,
+    ///     methods: Vec::new(alloc),
+    /// };
+    /// assert!(rt; service.define_class(chunk).is_ok());
     /// let name = String::from_str(alloc, "main")?;
     /// let fresh = service.attach_thread(&rt, alloc, ThreadInfo { name, priority: 5 })?;
-    /// let Some(next) = agent.next_event(&rt) else {
-    ///     return Err("a thread came".into());
-    /// };
-    /// assert!(rt; next.event.kind == LifeKind::ThreadStart && next.event.thread == ThreadNo(0));
-    /// assert!(rt; next.lost == 0 && agent.next_event(&rt).is_none());
-    /// let Ok(()) = service.withdraw_thread(&rt, fresh) else {
-    ///     return Err("it is there".into());
+    /// let Ok(running) = service.start_thread(&rt, fresh) else {
+    ///     return Err("nobody suspends it".into());
     /// };
     /// let Some(next) = agent.next_event(&rt) else {
-    ///     return Err("it was given back".into());
+    ///     return Err("a thread has started".into());
     /// };
-    /// assert!(rt; next.event.kind == LifeKind::ThreadEnd);
+    /// let Event::Life(life) = next.event else {
+    ///     return Err("threads come first".into());
+    /// };
+    /// assert!(rt; life.kind == LifeKind::ThreadStart && life.thread == ThreadNo(0) && next.lost == 0);
+    /// let Some(next) = agent.next_event(&rt) else {
+    ///     return Err("a class was defined".into());
+    /// };
+    /// assert!(rt; next.event == Event::ClassPrepare(ClassNo(0)));
+    /// // Ends of threads are not enabled.
+    /// let Ok(ended) = service.end_thread(&rt, running) else {
+    ///     return Err("it runs".into());
+    /// };
+    /// assert!(rt; agent.next_event(&rt).is_none() && service.detach_thread(&rt, ended).is_ok());
     /// ```
     fn next_event<R: Wait>(&mut self, rt: &R) -> Option<NextEvent>;
 
-    /// The same, but it waits for an event for at most this time (this profile). It sleeps between its holds. `None` when the
-    /// time is over, if the clock can't be read, or if events are disabled.
+    /// The same, but it waits for an event for at most this time (this profile). It sleeps between its holds. While ClassPrepare is
+    /// enabled, it looks at least every 10 ms, since a definition wakes nobody. `None` when the time is over, if the clock can't be
+    /// read, or if all kinds are disabled.
     fn next_event_within<R: Wait + Clock>(&mut self, rt: &R, time: Duration) -> Option<NextEvent>;
 
     /// DisposeEnvironment (JVM TI 11): the agent leaves the service, and its number is free for another. No thread is suspended and no
@@ -144,6 +168,19 @@ fn time_left<R: Clock>(rt: &R, began: Option<Instant>, time: Duration) -> Option
     time.checked_sub(spent)
 }
 
+/// How long an agent that is told of classes sleeps at most, in milliseconds.
+const LOOK_FOR_CLASSES: u64 = 10;
+
+/// How long to sleep for events, if so much time is left. A definition of a class wakes nobody.
+fn longest_sleep(events: &EventModes, left: Duration) -> Duration {
+    let most = Duration::from_millis(LOOK_FOR_CLASSES);
+    if events.class.is_some() && left > most {
+        most
+    } else {
+        left
+    }
+}
+
 impl ServiceCalls for Env<Membership> {
     fn wake_sleepers(&self) {
         self.home.service.wake_sleepers();
@@ -164,7 +201,7 @@ impl ServiceCalls for Env<Membership> {
     fn get_all_threads<R: Wait>(&mut self, rt: &R, alloc: Global) -> Result<Vec<ThreadNo>, TiError>
         ensures rest { IsSameBut (state_of self.old) (state_of self.new) }
         ensures hold { Looks self.old.home.service.view self.new.home.service.view }
-        ensures threads { IfOk result (λ t. t.items ≡ map (λ n. n.thread) (live self.new.home.service.view.seen)) }
+        ensures threads { IfOk result (λ t. t.items ≡ map (λ n. n.thread) (alive self.new.home.service.view.seen)) }
         ensures memory { IfErr result (λ e. e ≡ OutOfMemory) }
     {
         self.home.service.get_all_threads(rt, alloc)
@@ -206,27 +243,38 @@ impl ServiceCalls for Env<Membership> {
         }
     }
 
-    fn set_event_notification_mode<R: Wait>(&mut self, rt: &R, enabled: bool)
-        ensures disables { enabled ≡ false → state_of self.new ≡ with_events (state_of self.old) None }
-        ensures stays { enabled ≡ true → is_some self.old.home.events ≡ true → self.new ≡ self.old }
-        ensures enables { enabled ≡ true → self.old.home.events ≡ None → Enables (state_of self.old) (state_of self.new) }
+    fn set_event_notification_mode<R: Wait>(&mut self, rt: &R, kind: EventKind, enabled: bool)
+        ensures disables { enabled ≡ false → state_of self.new ≡ with_events (state_of self.old) (without self.old.home.events kind) }
+        ensures stays { enabled ≡ true → is_enabled self.old.home.events kind ≡ true → self.new ≡ self.old }
+        ensures enables { enabled ≡ true → is_enabled self.old.home.events kind ≡ false → Enables kind (state_of self.old) (state_of self.new) }
     {
-        if !enabled {
-            self.home.events = None;
-        } else if self.home.events.is_none() {
-            self.home.events = Some(self.home.service.event_count(rt));
+        let pace = Pace::new();
+        for _ in rt.forever() {
+            match self.set_event_notification_mode_now(kind, enabled) {
+                Ok(()) => {
+                    self.wake_sleepers();
+                    return;
+                }
+                Err(_busy) => self.home.service.roster.await_free(rt, &pace),
+            }
         }
+        unreachable!()
     }
 
     fn next_event<R: Wait>(&mut self, rt: &R) -> Option<NextEvent>
         ensures tells { TellsNext (state_of self.old) (state_of self.new) result }
     {
-        let from = self.home.events?;
-        let next = self.home.service.next_event(rt, from);
-        if let Some(told) = &next {
-            self.home.events = Some(from + told.lost + 1);
+        let pace = Pace::new();
+        for _ in rt.forever() {
+            match self.next_event_now() {
+                Ok(next) => {
+                    self.wake_sleepers();
+                    return next;
+                }
+                Err(_busy) => self.home.service.roster.await_free(rt, &pace),
+            }
         }
-        next
+        unreachable!()
     }
 
     fn next_event_within<R: Wait + Clock>(&mut self, rt: &R, time: Duration) -> Option<NextEvent>
@@ -235,13 +283,14 @@ impl ServiceCalls for Env<Membership> {
         let began = Instant::now(rt).ok();
         for _ in rt.forever() {
             let next = self.next_event(rt);
-            if next.is_some() || self.home.events.is_none() {
+            if next.is_some() || !self.home.events.is_any_enabled() {
                 return next;
             }
-            match time_left(rt, began, time) {
-                Some(left) => self.home.service.sleep_without_news_for(rt, left),
-                None => return next,
-            }
+            let Some(left) = time_left(rt, began, time) else {
+                return next;
+            };
+            let sleep = longest_sleep(&self.home.events, left);
+            self.home.service.sleep_without_news_for(rt, sleep);
         }
         unreachable!()
     }
@@ -279,9 +328,9 @@ impl ServiceCalls for Env<Membership> {
     }
 }
 
-ghost use Rattle.std.specs.Prelude.{◌≡◌, ◌⊎◌, true, false, [], is_some, length, map, None, IfOk, IfErr, OnOk};
+ghost use Rattle.std.specs.Prelude.{◌≡◌, ◌⊎◌, true, false, [], length, map, IfOk, IfErr, OnOk};
 ghost use Rattle.ti_types.specs.declared.error.TiError.TheVariants.{Full, OutOfMemory};
-ghost use Rattle.ti_roster.specs.Log.{live};
+ghost use Rattle.ti_roster.specs.Stages.{alive};
 ghost use Rattle.ti_roster.specs.Roster.{IsToldOf, info_refusal};
 ghost use Rattle.ti_service.specs.Service.{Looks, roster_seen};
 ghost use Rattle.ti_service.specs.Agent.{IsSameBut};
@@ -289,4 +338,4 @@ ghost use Rattle.ti_service.specs.Leaving.{Clears, Disposes, StaysOn};
 ghost use Rattle.ti_service.specs.LettingGo.{LetsGo, LetsGoBelow};
 ghost use Rattle.ti_service.specs.Meeting.{Keeps, Meets};
 ghost use Rattle.ti_service.specs.Memberships.{state_of};
-ghost use Rattle.ti_service.specs.Telling.{Enables, TellsInTime, TellsNext, with_events};
+ghost use Rattle.ti_service.specs.Telling.{Enables, TellsInTime, TellsNext, is_enabled, with_events, without};

@@ -2,12 +2,14 @@
 
 use crate::agent::Agent;
 use crate::agent_desks::last_thread;
+use crate::agent_events::{enable_now, next_class, next_life_now};
 use crate::agent_meetings::{add_all_now, begin_meeting, end_meeting, take_desks_now};
+use crate::event::{Event, EventKind, NextEvent};
 use crate::membership::Membership;
 use crate::service::Service;
 use std::alloc::Global;
 use ti_agent::Env;
-use ti_roster::{NextEvent, ThreadInfo};
+use ti_roster::{NextLife, ThreadInfo};
 use ti_types::{ThreadNo, TiError};
 
 /// What an agent does at its service, without a wait. Each `try_` form is the twin of one of `ServiceCalls`, and tries to hold
@@ -52,13 +54,17 @@ pub trait ServiceTries {
 
     /// SetEventNotificationMode (JVM TI 11), as `set_event_notification_mode` sets it.
     ///
-    /// The error is 215 `Busy` (this profile) if events are to be enabled, were not, and the roster is in use. Then nothing
-    /// changes.
-    fn set_event_notification_mode_now(&mut self, enabled: bool) -> Result<(), TiError>;
+    /// The error is 215 `Busy` (this profile) if a kind of threads' lives is to be enabled, was not, and the roster is in use. Then
+    /// nothing changes.
+    fn set_event_notification_mode_now(
+        &mut self,
+        kind: EventKind,
+        enabled: bool,
+    ) -> Result<(), TiError>;
 
-    /// The next ThreadStart or ThreadEnd (JVM TI 11), as `next_event` gives it.
+    /// The next event of the kinds that are enabled, as `next_event` gives it.
     ///
-    /// The error is 215 `Busy` (this profile) if events are enabled and the roster is in use. Then nothing changes.
+    /// The error is 215 `Busy` (this profile) if a kind of threads' lives is enabled, and the roster is in use. Then nothing changes.
     fn next_event_now(&mut self) -> Result<Option<NextEvent>, TiError>;
 
     /// DisposeEnvironment (JVM TI 11), as `dispose` does it. It does not wait for calls that are out.
@@ -135,7 +141,7 @@ impl ServiceTries for Env<Membership> {
     fn get_all_threads_now(&mut self, alloc: Global) -> Result<Vec<ThreadNo>, TiError>
         ensures rest { IsSameBut (state_of self.old) (state_of self.new) }
         ensures hold { OnOk result (Looks self.old.home.service.view self.new.home.service.view) }
-        ensures threads { IfOk result (λ t. t.items ≡ map (λ n. n.thread) (live self.new.home.service.view.seen)) }
+        ensures threads { IfOk result (λ t. t.items ≡ map (λ n. n.thread) (alive self.new.home.service.view.seen)) }
         ensures refused { IfErr result (λ e. ((e ≡ OutOfMemory) × Looks self.old.home.service.view self.new.home.service.view) ⊎ ((e ≡ Busy) × (self.new ≡ self.old))) }
     {
         self.home.service.get_all_threads_now(alloc)
@@ -183,32 +189,43 @@ impl ServiceTries for Env<Membership> {
         Ok(())
     }
 
-    fn set_event_notification_mode_now(&mut self, enabled: bool) -> Result<(), TiError>
-        ensures disables { OnOk result (enabled ≡ false → state_of self.new ≡ with_events (state_of self.old) None) }
-        ensures stays { OnOk result (enabled ≡ true → is_some self.old.home.events ≡ true → self.new ≡ self.old) }
-        ensures enables { OnOk result (enabled ≡ true → self.old.home.events ≡ None → Enables (state_of self.old) (state_of self.new)) }
-        ensures busy { IfErr result (λ e. (e ≡ Busy) × (enabled ≡ true) × (self.old.home.events ≡ None) × (self.new ≡ self.old)) }
+    fn set_event_notification_mode_now(
+        &mut self,
+        kind: EventKind,
+        enabled: bool,
+    ) -> Result<(), TiError>
+        ensures disables { OnOk result (enabled ≡ false → state_of self.new ≡ with_events (state_of self.old) (without self.old.home.events kind)) }
+        ensures stays { OnOk result (enabled ≡ true → is_enabled self.old.home.events kind ≡ true → self.new ≡ self.old) }
+        ensures enables { OnOk result (enabled ≡ true → is_enabled self.old.home.events kind ≡ false → Enables kind (state_of self.old) (state_of self.new)) }
+        ensures busy { IfErr result (λ e. (e ≡ Busy) × (enabled ≡ true) × (is_enabled self.old.home.events kind ≡ false) × IsLife kind × (self.new ≡ self.old)) }
     {
         if !enabled {
-            self.home.events = None;
-        } else if self.home.events.is_none() {
-            self.home.events = Some(self.home.service.event_count_now()?);
+            self.home.events.disable(kind);
+            return Ok(());
         }
-        Ok(())
+        if self.home.events.is_enabled(kind) {
+            return Ok(());
+        }
+        enable_now(self, kind)
     }
 
     fn next_event_now(&mut self) -> Result<Option<NextEvent>, TiError>
         ensures tells { IfOk result (λ told. TellsNext (state_of self.old) (state_of self.new) told) }
-        ensures busy { IfErr result (λ e. (e ≡ Busy) × (is_some self.old.home.events ≡ true) × (self.new ≡ self.old)) }
+        ensures busy { IfErr result (λ e. (e ≡ Busy) × IsLifeEnabled (state_of self.old) × (self.new ≡ self.old)) }
     {
-        let Some(from) = self.home.events else {
+        if let Some(NextLife { event, lost }) = next_life_now(self)? {
+            return Ok(Some(NextEvent {
+                event: Event::Life(event),
+                lost,
+            }));
+        }
+        let Some(class) = next_class(self) else {
             return Ok(None);
         };
-        let next = self.home.service.next_event_now(from)?;
-        if let Some(told) = &next {
-            self.home.events = Some(from + told.lost + 1);
-        }
-        Ok(next)
+        Ok(Some(NextEvent {
+            event: Event::ClassPrepare(class),
+            lost: 0,
+        }))
     }
 
     fn dispose_now(mut self, alloc: Global) -> Result<Service, (TiError, Agent)>
@@ -247,9 +264,9 @@ impl ServiceTries for Env<Membership> {
     }
 }
 
-ghost use Rattle.std.specs.Prelude.{◌≡◌, ◌⊎◌, true, false, [], is_some, length, map, None, IfOk, IfErr, OnOk};
+ghost use Rattle.std.specs.Prelude.{◌≡◌, ◌⊎◌, true, false, [], length, map, IfOk, IfErr, OnOk};
 ghost use Rattle.ti_types.specs.declared.error.TiError.TheVariants.{Busy, OutOfMemory};
-ghost use Rattle.ti_roster.specs.Log.{live};
+ghost use Rattle.ti_roster.specs.Stages.{alive};
 ghost use Rattle.ti_roster.specs.Roster.{IsToldOf};
 ghost use Rattle.ti_service.specs.Service.{Looks, RefusesInfo, roster_seen};
 ghost use Rattle.ti_service.specs.Agent.{IsSameBut};
@@ -257,4 +274,4 @@ ghost use Rattle.ti_service.specs.Leaving.{Clears, Disposes, Quiets, StaysOn};
 ghost use Rattle.ti_service.specs.LettingGo.{LetsGo, LetsGoBelow, LetsGoOfSome};
 ghost use Rattle.ti_service.specs.Meeting.{TellsAgentNews, KeepsNow, Meets};
 ghost use Rattle.ti_service.specs.Memberships.{state_of};
-ghost use Rattle.ti_service.specs.Telling.{Enables, TellsNext, with_events};
+ghost use Rattle.ti_service.specs.Telling.{Enables, IsLife, IsLifeEnabled, TellsNext, is_enabled, with_events, without};

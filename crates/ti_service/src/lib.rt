@@ -1,7 +1,7 @@
 //! One service for all threads and all agents of a runtime, which come and go.
 //!
 //! A runtime makes one `Service`, and shares it: each of its threads that attaches others has a handle of its own. A thread
-//! is attached under a number of its own and given back when it has ended. An agent attaches an environment, and meets
+//! is attached under a number of its own, starts and ends by calls of the service, and is given back when it has ended. An agent attaches an environment, and meets
 //! the threads that came since it last did.
 //!
 //! This crate uses `ti_roster`, which has the list of who is there, `ti_methods`, which has the classes, and `ti_agent`, which
@@ -14,7 +14,11 @@
 //! - An agent's calls reach threads of its own service alone.
 //! - An agent that makes a trace of several threads step by step comes back at its end, with what was read.
 //! - No two agents have one environment's number.
-//! - Agents are told threads' starts and ends in one order, each once. What was lost is counted.
+//! - Agents are told the events of threads' lives in one order, each once, as far as they asked for its kind. What was lost is
+//!   counted.
+//! - A thread that the service starts is told as started if and only if it has started; so for its end. Until then it is listed as
+//!   live.
+//! - Agents are told of classes in the order of their numbers, each once. None is lost.
 //! - An agent's breakpoints, steps and pops of frames are its own. A thread that stops for agents waits until each has let it go.
 //! - What is told of a class or a method is what was defined under its number, and never waits.
 //! - The list of who is there is held for each coming, going and meeting, and never while a thread is asked.
@@ -24,9 +28,11 @@ mod agent;
 mod agent_calls;
 mod agent_classes;
 mod agent_desks;
+mod agent_events;
 mod agent_meetings;
 mod agent_stops;
 mod agent_tries;
+mod event;
 mod laws;
 mod membership;
 mod service;
@@ -40,6 +46,7 @@ pub use agent_calls::ServiceCalls;
 pub use agent_classes::ClassCalls;
 pub use agent_stops::StopCalls;
 pub use agent_tries::ServiceTries;
+pub use event::{Event, EventKind, NextEvent};
 pub use laws::cleared_words_read_zero;
 pub use membership::Membership;
 pub use service::Service;
@@ -47,5 +54,5 @@ pub use ti_methods::{
     ClassError, ClassInfo, ClassNo, Defined, LineEntry, Lines, MethodInfo, MethodName,
 };
 pub use ti_roster::{
-    LifeEvent, LifeKind, NextEvent, Stop, StopCall, StopError, StopKind, StopReply, ThreadInfo,
+    LifeEvent, LifeKind, Stop, StopCall, StopError, StopKind, StopReply, ThreadInfo,
 };

@@ -1,11 +1,12 @@
 //! What an agent has beside its environment.
 
+use crate::event::EventModes;
 use crate::service::Service;
 use ti_agent::{FreeDesk, Home};
 use ti_types::Caps;
 
 /// What an agent has beside its environment: its handle of the service, the desks that it has taken and not added, which
-/// event it is to be told next, and whether its last meeting failed.
+/// events it is told, and whether its last meeting failed.
 ///
 /// It may be the home of an environment whose number the handle has, and of desks at the threads that came to the service.
 #[derive(Drop)]
@@ -13,8 +14,7 @@ pub struct Membership {
     pub(crate) service: Service,
     /// Desks that were taken, and could not be added for lack of memory. The last is added first.
     pub(crate) waiting: Vec<FreeDesk>,
-    /// The index of the next event that it is to be told. `None` while its events are disabled.
-    pub(crate) events: Option<u64>,
+    pub(crate) events: EventModes,
     /// Whether its last meeting failed. Then there may be threads that it has not met, though it has seen that they came.
     pub(crate) unmet: bool,
 }

@@ -1,6 +1,7 @@
 //! A handle of the service: threads come and go by it, and tell who is there.
 
 use crate::agent::Agent;
+use crate::event::EventModes;
 use crate::membership::Membership;
 use std::alloc::Global;
 use std::marker::Model;
@@ -30,7 +31,9 @@ use ti_types::{Caps, EnvNo, Limits, TiError};
 /// // An environment may come later than a thread. It meets the threads that are there.
 /// let mut agent = service.attach_environment(&rt, alloc)?;
 /// agent.meet(&rt, alloc)?;
-/// let running = fresh.start(&rt);
+/// let Ok(running) = service.start_thread(&rt, fresh) else {
+///     return Err("nobody suspends it".into());
+/// };
 /// assert!(rt; agent.get_thread_state(&rt, ThreadNo(0)) == Ok(0x5));
 /// // A thread may come later than an environment, too. Its number is the next one.
 /// let name = String::from_str(alloc, "second")?;
@@ -39,12 +42,17 @@ use ti_types::{Caps, EnvNo, Limits, TiError};
 /// assert!(rt; agent.has_news());
 /// agent.meet(&rt, alloc)?;
 /// assert!(rt; agent.get_thread_state(&rt, ThreadNo(1)) == Ok(0));
+/// // The second thread has not started, so only the first one is live.
+/// let threads = service.get_all_threads(&rt, alloc)?;
+/// assert!(rt; threads.len() == 1 && threads[0] == ThreadNo(0));
 /// // A thread that has ended is given back, and is there no more.
-/// let Ok(()) = service.end_thread(&rt, running.end(&rt)) else {
+/// let Ok(ended) = service.end_thread(&rt, running) else {
+///     return Err("it runs".into());
+/// };
+/// let Ok(()) = service.detach_thread(&rt, ended) else {
 ///     return Err("it is there".into());
 /// };
-/// let threads = service.get_all_threads(&rt, alloc)?;
-/// assert!(rt; threads.len() == 1 && threads[0] == ThreadNo(1));
+/// assert!(rt; service.get_all_threads(&rt, alloc)?.is_empty());
 /// let info = agent.get_thread_info(&rt, alloc, ThreadNo(1))?;
 /// assert!(rt; info.name.as_str() == "second");
 /// let Ok(()) = service.withdraw_thread(&rt, late) else {
@@ -210,7 +218,7 @@ impl Service {
         let home = Membership {
             service,
             waiting: Vec::new(alloc),
-            events: None,
+            events: EventModes::new(),
             unmet: false,
         };
         Ok(Env::at_home(alloc, home, env, limits))

@@ -5,9 +5,12 @@ use std::alloc::Global;
 use std::sync::Wait;
 use std::time::Duration;
 use ti_cell::{OwnSeat, Pace};
-use ti_handshake::{Ended, Fresh};
-use ti_roster::{NextEvent, ThreadInfo};
+use ti_handshake::{Ended, Fresh, Running};
+use ti_roster::ThreadInfo;
 use ti_types::{ThreadNo, TiError};
+
+/// After how many milliseconds a start of a thread is tried again that is suspended or stopped.
+const BARRED: u64 = 1;
 
 impl Service {
     /// Attaches a thread. It has the next number, and has not started. Environments have a desk there once they meet it.
@@ -44,15 +47,92 @@ impl Service {
         unreachable!()
     }
 
-    /// A thread of this number is there no more.
-    fn end<R: Wait>(&mut self, rt: &R, thread: ThreadNo) -> Result<(), TiError>
+    /// Starts a thread that was attached: it runs, and is alive (JVM TI 11, GetThreadState). From now on ThreadStart is told of it, and
+    /// GetAllThreads lists it. Both are so if and only if it has started by this call: one that is started by `Fresh::start` is told
+    /// when it was attached and when it is given back, and is never listed (this profile).
+    ///
+    /// It waits while the roster or the thread's cell is in use, and while the thread is suspended or a stop is in force. The error is
+    /// the first of these that fits. Then the thread comes back, and nothing is told:
+    ///
+    /// - 10 INVALID_THREAD: the service has had no thread of this number.
+    /// - 15 THREAD_NOT_ALIVE: it was given back before.
+    /// - 210 `NotNew` (this profile): a thread of this number has started. So this one is not of this service.
+    /// - 216 `Full` (this profile): there were 2^62 - 1 comings and goings in all.
+    pub fn start_thread<R: Wait>(
+        &mut self,
+        rt: &R,
+        fresh: Fresh,
+    ) -> Result<Running, (TiError, Fresh)>
         ensures cell { self.new.cell ≡ self.old.cell }
-        ensures gone { OnOk result (Ends self.old.view self.new.view thread) }
-        ensures refused { IfErr result (λ e. RefusesEnd self.old.view self.new.view thread e) }
+        ensures started { IfOk result (λ r. WaitsToStart self.old.view fresh (λ v f. StartsThread v self.new.view f r)) }
+        ensures thread { IfOk result (λ r. r.cell ≡ fresh.cell) }
+        ensures refused { IfErr result (λ e. WaitsToStart self.old.view fresh (λ v f. DoesNotStart v self.new.view f e.1 e.0)) }
+        ensures waited { IfErr result (λ e. (e.0 ≢ Busy) × (e.0 ≢ Barred)) }
+    {
+        let mut fresh = fresh;
+        let pace = Pace::new();
+        for _ in rt.forever() {
+            let tried = self.start_thread_now(fresh);
+            self.wake_sleepers();
+            match tried {
+                Err((TiError::Busy, again)) => {
+                    fresh = again;
+                    self.roster.await_free(rt, &pace);
+                }
+                Err((TiError::Barred, again)) => {
+                    fresh = again;
+                    self.sleep_without_news_for(rt, Duration::from_millis(BARRED));
+                }
+                result => return result,
+            }
+        }
+        unreachable!()
+    }
+
+    /// Ends a running thread. The waiting calls take place at a thread that is no longer alive (JVM TI 11, GetThreadState). From now on
+    /// ThreadEnd is told of it, and GetAllThreads lists it no more, if and only if it has ended by this call.
+    ///
+    /// It waits while the roster or the thread's cell is in use. The error is the first of these that fits. Then the thread comes
+    /// back as it was, and nothing is told:
+    ///
+    /// - 10 INVALID_THREAD: the service has had no thread of this number.
+    /// - 15 THREAD_NOT_ALIVE: it was given back before.
+    /// - 204 `NotRunning` (this profile): it was not started by `start_thread`, or is not of this service. `Running::end` ends it.
+    /// - 216 `Full` (this profile): there were 2^62 - 1 comings and goings in all.
+    pub fn end_thread<R: Wait>(
+        &mut self,
+        rt: &R,
+        running: Running,
+    ) -> Result<Ended, (TiError, Running)>
+        ensures cell { self.new.cell ≡ self.old.cell }
+        ensures ended { IfOk result (λ d. WaitsThen self.old.view (λ v. EndsThread v self.new.view running d)) }
+        ensures refused { IfErr result (λ e. WaitsThen self.old.view (λ v. DoesNotEnd v self.new.view running.view.subject.thread e.0)) }
+        ensures waited { IfErr result (λ e. e.0 ≢ Busy) }
+        ensures back { IfErr result (λ e. e.1 ≡ running) }
+    {
+        let mut running = running;
+        let pace = Pace::new();
+        for _ in rt.forever() {
+            let tried = self.end_thread_now(running);
+            self.wake_sleepers();
+            match tried {
+                Err((TiError::Busy, again)) => running = again,
+                result => return result,
+            }
+            self.roster.await_free(rt, &pace);
+        }
+        unreachable!()
+    }
+
+    /// A thread of this number is there no more.
+    fn detach<R: Wait>(&mut self, rt: &R, thread: ThreadNo) -> Result<(), TiError>
+        ensures cell { self.new.cell ≡ self.old.cell }
+        ensures gone { OnOk result (Detaches self.old.view self.new.view thread) }
+        ensures refused { IfErr result (λ e. RefusesDetach self.old.view self.new.view thread e) }
     {
         let pace = Pace::new();
         for _ in rt.forever() {
-            match self.end_now(thread) {
+            match self.detach_now(thread) {
                 Err(TiError::Busy) => self.roster.await_free(rt, &pace),
                 result => {
                     self.wake_sleepers();
@@ -64,47 +144,49 @@ impl Service {
     }
 
     /// Gives a thread back that has ended. It is there no more, and its number is never used again. Its memory is freed
-    /// once the environments that have a desk there have let go of it.
+    /// once the environments that have a desk there have let go of it. If it was started by `start_thread`, and not ended by
+    /// `end_thread`, ThreadEnd is told of it first.
     ///
     /// The error is the first of these that fits. Then nothing changes but what the handle has seen, and the thread's seat
     /// comes back:
     ///
     /// - 10 INVALID_THREAD: the service has had no thread of this number.
     /// - 15 THREAD_NOT_ALIVE: it was given back before.
-    /// - 216 `Full` (this profile): there were 2^62 - 1 comings and goings in all.
-    pub fn end_thread<R: Wait>(&mut self, rt: &R, ended: Ended) -> Result<(), (TiError, OwnSeat)>
+    /// - 216 `Full` (this profile): there were 2^62 - 1 comings and goings in all, or there would be with its end.
+    pub fn detach_thread<R: Wait>(&mut self, rt: &R, ended: Ended) -> Result<(), (TiError, OwnSeat)>
         ensures cell { self.new.cell ≡ self.old.cell }
-        ensures gone { OnOk result (Ends self.old.view self.new.view ended.view.subject.thread) }
-        ensures refused { IfErr result (λ r. RefusesEnd self.old.view self.new.view ended.view.subject.thread r.0) }
+        ensures gone { OnOk result (Detaches self.old.view self.new.view ended.view.subject.thread) }
+        ensures refused { IfErr result (λ r. RefusesDetach self.old.view self.new.view ended.view.subject.thread r.0) }
         ensures back { IfErr result (λ r. r.1 ≡ ended) }
     {
         let seat = ended.into_seat();
-        match self.end(rt, seat.thread()) {
+        match self.detach(rt, seat.thread()) {
             Ok(()) => Ok(()),
             Err(error) => Err((error, seat)),
         }
     }
 
-    /// Gives a thread back that never started. Everything else is as for `end_thread`.
+    /// Gives a thread back that never started. Everything else is as for `detach_thread`.
     pub fn withdraw_thread<R: Wait>(
         &mut self,
         rt: &R,
         fresh: Fresh,
     ) -> Result<(), (TiError, OwnSeat)>
         ensures cell { self.new.cell ≡ self.old.cell }
-        ensures gone { OnOk result (Ends self.old.view self.new.view fresh.view.subject.thread) }
-        ensures refused { IfErr result (λ r. RefusesEnd self.old.view self.new.view fresh.view.subject.thread r.0) }
+        ensures gone { OnOk result (Detaches self.old.view self.new.view fresh.view.subject.thread) }
+        ensures refused { IfErr result (λ r. RefusesDetach self.old.view self.new.view fresh.view.subject.thread r.0) }
         ensures back { IfErr result (λ r. r.1 ≡ fresh) }
     {
         let seat = fresh.into_seat();
-        match self.end(rt, seat.thread()) {
+        match self.detach(rt, seat.thread()) {
             Ok(()) => Ok(()),
             Err(error) => Err((error, seat)),
         }
     }
 
-    /// GetAllThreads (JVM TI 11): the numbers of the threads that are there, each above those before it. A thread that was
-    /// attached and has not started is among them, and so is one that has ended and was not given back.
+    /// GetAllThreads (JVM TI 11): the numbers of the live threads, each above those before it: of each that was started by
+    /// `start_thread`, has not ended by `end_thread`, and was not given back. An agent need not have met it. Whoever wants all
+    /// that are there meets them (`ServiceCalls::meet`).
     ///
     /// 110 OUT_OF_MEMORY if there is no memory for them.
     pub fn get_all_threads<R: Wait>(
@@ -114,7 +196,7 @@ impl Service {
     ) -> Result<Vec<ThreadNo>, TiError>
         ensures cell { self.new.cell ≡ self.old.cell }
         ensures hold { Looks self.old.view self.new.view }
-        ensures threads { IfOk result (λ t. t.items ≡ map (λ n. n.thread) (live self.new.view.seen)) }
+        ensures threads { IfOk result (λ t. t.items ≡ map (λ n. n.thread) (alive self.new.view.seen)) }
         ensures memory { IfErr result (λ e. e ≡ OutOfMemory) }
     {
         let pace = Pace::new();
@@ -158,46 +240,6 @@ impl Service {
         unreachable!()
     }
 
-    /// How many starts and ends of threads have happened.
-    pub(crate) fn event_count<R: Wait>(&mut self, rt: &R) -> u64
-        ensures cell { self.new.cell ≡ self.old.cell }
-        ensures hold { Looks self.old.view self.new.view }
-        ensures count { result ≡ length (life_of self.new.view.seen) }
-    {
-        let pace = Pace::new();
-        for _ in rt.forever() {
-            match self.event_count_now() {
-                Ok(count) => {
-                    self.wake_sleepers();
-                    return count;
-                }
-                Err(_busy) => self.roster.await_free(rt, &pace),
-            }
-        }
-        unreachable!()
-    }
-
-    /// The first start or end of a thread from this index on that is kept, and how many were lost before it.
-    pub(crate) fn next_event<R: Wait>(&mut self, rt: &R, from: u64) -> Option<NextEvent>
-        ensures cell { self.new.cell ≡ self.old.cell }
-        ensures hold { Looks self.old.view self.new.view }
-        ensures next { result ≡ next_event (life_of self.new.view.seen) from }
-        ensures fits { IfSome result (λ n. from + n.lost < 2 ^ 62) }
-        ensures order { AreInOrder (life_of self.new.view.seen) }
-    {
-        let pace = Pace::new();
-        for _ in rt.forever() {
-            match self.next_event_now(from) {
-                Ok(next) => {
-                    self.wake_sleepers();
-                    return next;
-                }
-                Err(_busy) => self.roster.await_free(rt, &pace),
-            }
-        }
-        unreachable!()
-    }
-
     /// Sleeps until somebody else has held the roster, if no more has happened than the handle has seen. It sleeps for at most
     /// this time, and may return sooner.
     pub(crate) fn sleep_without_news_for<R: Wait>(&self, rt: &R, time: Duration) {
@@ -227,9 +269,10 @@ impl Service {
     }
 }
 
-ghost use Rattle.std.specs.Prelude.{◌≡◌, ◌<◌, ◌+◌, ◌^◌, length, map, IfOk, IfErr, IfSome, OnOk, OnErr};
-ghost use Rattle.ti_roster.specs.Events.{AreInOrder, life_of, next_event};
-ghost use Rattle.ti_types.specs.declared.error.TiError.TheVariants.{Full, OutOfMemory};
-ghost use Rattle.ti_roster.specs.Log.{is_live, live};
+ghost use Rattle.std.specs.Prelude.{◌≡◌, ◌≢◌, map, IfOk, IfErr, OnOk, OnErr};
+ghost use Rattle.ti_types.specs.declared.error.TiError.TheVariants.{Barred, Busy, OutOfMemory};
+ghost use Rattle.ti_roster.specs.Log.{is_live};
+ghost use Rattle.ti_roster.specs.Stages.{alive};
 ghost use Rattle.ti_roster.specs.Roster.{IsToldOf, coming_refusal, info_refusal};
-ghost use Rattle.ti_service.specs.Service.{Attaches, Ends, Looks, RefusesEnd, roster_seen};
+ghost use Rattle.ti_service.specs.Service.{Attaches, Looks, roster_seen};
+ghost use Rattle.ti_service.specs.Starting.{Detaches, DoesNotEnd, DoesNotStart, EndsThread, RefusesDetach, StartsThread, WaitsThen, WaitsToStart};

@@ -5,12 +5,13 @@
 //! (215, this profile), and nothing changes.
 
 use crate::agent::Agent;
+use crate::event::EventModes;
 use crate::membership::Membership;
 use crate::service::Service;
 use std::alloc::Global;
 use ti_agent::{Env, FreeDesk};
-use ti_handshake::{Ended, Fresh};
-use ti_roster::{NextEvent, ThreadInfo};
+use ti_handshake::{Ended, Fresh, Running};
+use ti_roster::{LifeModes, ThreadInfo, ToldLife};
 use ti_types::{EnvNo, ThreadNo, TiError};
 
 impl Service {
@@ -60,7 +61,7 @@ impl Service {
         let home = Membership {
             service,
             waiting: Vec::new(alloc),
-            events: None,
+            events: EventModes::new(),
             unmet: false,
         };
         Ok(Env::at_home(alloc, home, env, limits))
@@ -158,20 +159,80 @@ impl Service {
         }
     }
 
-    /// A thread of this number is there no more.
-    pub(crate) fn end_now(&mut self, thread: ThreadNo) -> Result<(), TiError>
+    /// Starts a thread, as `start_thread` does.
+    ///
+    /// The error is the first of these that fits. Then the thread comes back, and nothing is told:
+    ///
+    /// - 215 `Busy` (this profile): the roster is in use. Nothing changes.
+    /// - 10 INVALID_THREAD, 15 THREAD_NOT_ALIVE, 210 `NotNew`, 216 `Full` (this profile): as for `start_thread`. Nothing changes but
+    ///   what the handle has seen.
+    /// - 215 `Busy`, 206 `Barred` (this profile): the thread's cell is in use, or the thread is suspended or stopped, as
+    ///   `Fresh::start_now` says. Nothing changes but what the handle has seen, and with 206 what the thread has seen.
+    pub fn start_thread_now(&mut self, fresh: Fresh) -> Result<Running, (TiError, Fresh)>
         ensures cell { self.new.cell ≡ self.old.cell }
-        ensures gone { OnOk result (Ends self.old.view self.new.view thread) }
-        ensures refused { IfErr result (λ e. RefusesEnd self.old.view self.new.view thread e ⊎ ((e ≡ Busy) × (self.new ≡ self.old))) }
+        ensures started { IfOk result (λ r. StartsThread self.old.view self.new.view fresh r) }
+        ensures refused { IfErr result (λ e. DoesNotStart self.old.view self.new.view fresh e.1 e.0 ⊎ ((e ≡ (Busy, fresh)) × (self.new ≡ self.old))) }
     {
         let Some(seat) = self.seat.take() else {
             unreachable!()
         };
         match self.roster.hold_now(seat) {
             Ok(mut hold) => {
-                let ended = hold.roster().end(thread);
+                let started = hold.roster().start(fresh);
+                self.seat = Some(hold.store_quietly());
+                started
+            }
+            Err(seat) => {
+                self.seat = Some(seat);
+                Err((TiError::Busy, fresh))
+            }
+        }
+    }
+
+    /// Ends a running thread, as `end_thread` does.
+    ///
+    /// The error is the first of these that fits. Then the thread comes back as it was, and nothing is told:
+    ///
+    /// - 215 `Busy` (this profile): the roster is in use. Nothing changes.
+    /// - 10 INVALID_THREAD, 15 THREAD_NOT_ALIVE, 204 `NotRunning`, 216 `Full` (this profile): as for `end_thread`. Nothing changes
+    ///   but what the handle has seen.
+    /// - 215 `Busy` (this profile): the thread's cell is in use. Nothing changes but what the handle has seen.
+    pub fn end_thread_now(&mut self, running: Running) -> Result<Ended, (TiError, Running)>
+        ensures cell { self.new.cell ≡ self.old.cell }
+        ensures ended { IfOk result (λ d. EndsThread self.old.view self.new.view running d) }
+        ensures refused { IfErr result (λ e. DoesNotEnd self.old.view self.new.view running.view.subject.thread e.0 ⊎ ((e.0 ≡ Busy) × (self.new ≡ self.old))) }
+        ensures back { IfErr result (λ e. e.1 ≡ running) }
+    {
+        let Some(seat) = self.seat.take() else {
+            unreachable!()
+        };
+        match self.roster.hold_now(seat) {
+            Ok(mut hold) => {
+                let ended = hold.roster().end(running);
                 self.seat = Some(hold.store_quietly());
                 ended
+            }
+            Err(seat) => {
+                self.seat = Some(seat);
+                Err((TiError::Busy, running))
+            }
+        }
+    }
+
+    /// A thread of this number is there no more.
+    pub(crate) fn detach_now(&mut self, thread: ThreadNo) -> Result<(), TiError>
+        ensures cell { self.new.cell ≡ self.old.cell }
+        ensures gone { OnOk result (Detaches self.old.view self.new.view thread) }
+        ensures refused { IfErr result (λ e. RefusesDetach self.old.view self.new.view thread e ⊎ ((e ≡ Busy) × (self.new ≡ self.old))) }
+    {
+        let Some(seat) = self.seat.take() else {
+            unreachable!()
+        };
+        match self.roster.hold_now(seat) {
+            Ok(mut hold) => {
+                let left = hold.roster().leave(thread);
+                self.seat = Some(hold.store_quietly());
+                left
             }
             Err(seat) => {
                 self.seat = Some(seat);
@@ -180,33 +241,33 @@ impl Service {
         }
     }
 
-    /// Gives a thread back that has ended, as `end_thread` does.
+    /// Gives a thread back that has ended, as `detach_thread` does.
     ///
     /// The error is the first of these that fits. Then the thread comes back as it was:
     ///
     /// - 215 `Busy` (this profile): the roster is in use. Nothing changes.
-    /// - 10 INVALID_THREAD, 15 THREAD_NOT_ALIVE, 216 `Full` (this profile): as for `end_thread`. Nothing changes but what the
+    /// - 10 INVALID_THREAD, 15 THREAD_NOT_ALIVE, 216 `Full` (this profile): as for `detach_thread`. Nothing changes but what the
     ///   handle has seen.
-    pub fn end_thread_now(&mut self, ended: Ended) -> Result<(), (TiError, Ended)>
+    pub fn detach_thread_now(&mut self, ended: Ended) -> Result<(), (TiError, Ended)>
         ensures cell { self.new.cell ≡ self.old.cell }
-        ensures gone { OnOk result (Ends self.old.view self.new.view ended.view.subject.thread) }
-        ensures refused { IfErr result (λ r. RefusesEnd self.old.view self.new.view ended.view.subject.thread r.0 ⊎ ((r.0 ≡ Busy) × (self.new ≡ self.old))) }
+        ensures gone { OnOk result (Detaches self.old.view self.new.view ended.view.subject.thread) }
+        ensures refused { IfErr result (λ r. RefusesDetach self.old.view self.new.view ended.view.subject.thread r.0 ⊎ ((r.0 ≡ Busy) × (self.new ≡ self.old))) }
         ensures back { IfErr result (λ r. r.1 ≡ ended) }
     {
-        match self.end_now(ended.thread()) {
+        match self.detach_now(ended.thread()) {
             Ok(()) => Ok(()),
             Err(error) => Err((error, ended)),
         }
     }
 
-    /// Gives a thread back that never started. Everything else is as for `end_thread_now`.
+    /// Gives a thread back that never started. Everything else is as for `detach_thread_now`.
     pub fn withdraw_thread_now(&mut self, fresh: Fresh) -> Result<(), (TiError, Fresh)>
         ensures cell { self.new.cell ≡ self.old.cell }
-        ensures gone { OnOk result (Ends self.old.view self.new.view fresh.view.subject.thread) }
-        ensures refused { IfErr result (λ r. RefusesEnd self.old.view self.new.view fresh.view.subject.thread r.0 ⊎ ((r.0 ≡ Busy) × (self.new ≡ self.old))) }
+        ensures gone { OnOk result (Detaches self.old.view self.new.view fresh.view.subject.thread) }
+        ensures refused { IfErr result (λ r. RefusesDetach self.old.view self.new.view fresh.view.subject.thread r.0 ⊎ ((r.0 ≡ Busy) × (self.new ≡ self.old))) }
         ensures back { IfErr result (λ r. r.1 ≡ fresh) }
     {
-        match self.end_now(fresh.thread()) {
+        match self.detach_now(fresh.thread()) {
             Ok(()) => Ok(()),
             Err(error) => Err((error, fresh)),
         }
@@ -219,7 +280,7 @@ impl Service {
     pub fn get_all_threads_now(&mut self, alloc: Global) -> Result<Vec<ThreadNo>, TiError>
         ensures cell { self.new.cell ≡ self.old.cell }
         ensures hold { OnOk result (Looks self.old.view self.new.view) }
-        ensures threads { IfOk result (λ t. t.items ≡ map (λ n. n.thread) (live self.new.view.seen)) }
+        ensures threads { IfOk result (λ t. t.items ≡ map (λ n. n.thread) (alive self.new.view.seen)) }
         ensures refused { IfErr result (λ e. ((e ≡ OutOfMemory) × Looks self.old.view self.new.view) ⊎ ((e ≡ Busy) × (self.new ≡ self.old))) }
     {
         let Some(seat) = self.seat.take() else {
@@ -292,7 +353,7 @@ impl Service {
         }
     }
 
-    /// How many starts and ends of threads have happened.
+    /// How many events of threads' lives have happened.
     pub(crate) fn event_count_now(&mut self) -> Result<u64, TiError>
         ensures cell { self.new.cell ≡ self.old.cell }
         ensures hold { OnOk result (Looks self.old.view self.new.view) }
@@ -315,12 +376,11 @@ impl Service {
         }
     }
 
-    /// The first start or end of a thread from this index on that is kept, and how many were lost before it.
-    pub(crate) fn next_event_now(&mut self, from: u64) -> Result<Option<NextEvent>, TiError>
+    /// What an agent is told next of threads' lives, by its modes.
+    pub(crate) fn tell_now(&mut self, modes: LifeModes) -> Result<ToldLife, TiError>
         ensures cell { self.new.cell ≡ self.old.cell }
         ensures hold { OnOk result (Looks self.old.view self.new.view) }
-        ensures next { IfOk result (λ n. n ≡ next_event (life_of self.new.view.seen) from) }
-        ensures fits { IfOk result (λ n. IfSome n (λ n. from + n.lost < 2 ^ 62)) }
+        ensures told { IfOk result (λ t. t ≡ told_of (life_of self.new.view.seen) modes) }
         ensures order { OnOk result (AreInOrder (life_of self.new.view.seen)) }
         ensures busy { IfErr result (λ e. (e ≡ Busy) × (self.new ≡ self.old)) }
     {
@@ -331,9 +391,9 @@ impl Service {
             Ok(mut hold) => {
                 let roster = hold.roster();
                 roster.facts();
-                let next = roster.next_event(from);
+                let told = roster.tell(modes);
                 self.seat = Some(hold.store_quietly());
-                Ok(next)
+                Ok(told)
             }
             Err(seat) => {
                 self.seat = Some(seat);
@@ -343,11 +403,14 @@ impl Service {
     }
 }
 
-ghost use Rattle.std.specs.Prelude.{◌≡◌, ◌<◌, ◌≤◌, ◌+◌, ◌^◌, ◌⊎◌, None, length, map, IfOk, IfErr, IfSome, OnOk};
-ghost use Rattle.ti_roster.specs.Events.{AreInOrder, life_of, next_event};
+ghost use Rattle.std.specs.Prelude.{◌≡◌, ◌≤◌, ◌+◌, ◌⊎◌, None, length, map, IfOk, IfErr, OnOk};
+ghost use Rattle.ti_roster.specs.Events.{AreInOrder, life_of};
+ghost use Rattle.ti_roster.specs.Modes.{told_of};
 ghost use Rattle.ti_types.specs.declared.error.TiError.TheVariants.{Busy, Full, OutOfMemory};
-ghost use Rattle.ti_roster.specs.Log.{is_live, live};
+ghost use Rattle.ti_roster.specs.Log.{is_live};
+ghost use Rattle.ti_roster.specs.Stages.{alive};
 ghost use Rattle.ti_roster.specs.Roster.{IsPlaceless, IsToldOf, coming_refusal, meeting_refusal, most_items};
 ghost use Rattle.ti_service.specs.Agent.{IsNewAgent};
 ghost use Rattle.ti_service.specs.Memberships.{state_of};
-ghost use Rattle.ti_service.specs.Service.{Attaches, Claimed, Ends, Leaves, Looks, MayLeave, RefusesEnd, RefusesInfo, RefusesPlace, TakesDesks, roster_seen, with_handle};
+ghost use Rattle.ti_service.specs.Service.{Attaches, Claimed, Leaves, Looks, MayLeave, RefusesInfo, RefusesPlace, TakesDesks, roster_seen, with_handle};
+ghost use Rattle.ti_service.specs.Starting.{Detaches, DoesNotEnd, DoesNotStart, EndsThread, RefusesDetach, StartsThread};

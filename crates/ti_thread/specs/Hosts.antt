@@ -67,6 +67,14 @@ missing h t = given_by h - count_or t (given_by h)
 abbrev pub pops_and : ℕ → ℕ → ℕ
 pops_and popped more = min (popped + more) (2 ^ 64 - 1)
 
+-- the pops of a thread that is about to take its turn: so many frames it hands over, or handed over
+abbrev pub pops_before : HostThread → Pops
+pops_before h = record { given = given_by h; popped = h.pops.popped }
+
+-- the pops after it: those of the frames that are missing are added
+abbrev pub pops_after : Pops → AnyThread → Pops
+pops_after p t = record { given = p.given; popped = pops_and p.popped (p.given - count_or t p.given) }
+
 -- The thread takes its turn, and the frames that are missing then are counted as popped
 abbrev pub TakesTurn : Turn → HostThread → HostThread → TurnOutcome → Type 0
 TakesTurn turn old new told = Takes turn old.thread new.thread told × (new.pops.given ≡ given_by old) × (new.pops.popped ≡ pops_and old.pops.popped (missing old new.thread))

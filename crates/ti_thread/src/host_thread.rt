@@ -102,13 +102,40 @@ impl HostThread {
     pub fn take_turn(self, turn: Turn) -> (HostThread, TurnOutcome)
         ensures { TakesTurn turn self result.0 result.1 }
     {
+        let (thread, before) = self.for_turn();
+        let (thread, told) = thread.take_turn(turn);
+        (HostThread::after_turn(thread, before), told)
+    }
+
+    /// The thread alone, for a turn that somebody else makes: a service that notes its threads' starts and ends. What comes of it goes
+    /// back by `after_turn`, with these pops.
+    pub fn for_turn(self) -> (AnyThread, Pops)
+        ensures thread { result.0 ≡ self.thread }
+        ensures pops { result.1 ≡ pops_before self }
+    {
         let HostThread { thread, pops } = self;
         let given = thread.frames_or(pops.given);
-        let (thread, told) = thread.take_turn(turn);
-        let missing = given.saturating_sub(thread.frames_or(given));
-        let popped = pops.popped.saturating_add(missing);
-        let pops = Pops { given, popped };
-        (HostThread::of(thread, pops), told)
+        (
+            thread,
+            Pops {
+                given,
+                popped: pops.popped,
+            },
+        )
+    }
+
+    /// What came of a turn that somebody else made, with the pops that `for_turn` gave. The frames that the thread handed over and did
+    /// not get back are counted as popped.
+    pub fn after_turn(thread: AnyThread, before: Pops) -> HostThread
+        ensures { result ≡ host_of thread (pops_after before thread) }
+    {
+        let missing = before.given.saturating_sub(thread.frames_or(before.given));
+        let popped = before.popped.saturating_add(missing);
+        let pops = Pops {
+            given: before.given,
+            popped,
+        };
+        HostThread::of(thread, pops)
     }
 
     /// Makes a step on the thread's own frames, as they are, popped or not. It takes no hold.
@@ -149,4 +176,4 @@ impl HostThread {
 
 ghost use Rattle.std.specs.Prelude.{◌≡◌};
 ghost use Rattle.ti_thread.specs.Changes.{LooksFor, Steps};
-ghost use Rattle.ti_thread.specs.Hosts.{CountsFrames, Keeps, SetsUnlessPopped, TakesTurn, host_of, new_host, with_popped, with_thread};
+ghost use Rattle.ti_thread.specs.Hosts.{CountsFrames, Keeps, SetsUnlessPopped, TakesTurn, host_of, new_host, pops_after, pops_before, with_popped, with_thread};

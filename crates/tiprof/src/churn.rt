@@ -30,9 +30,11 @@ fn live<R: Wait + AllocGlobal>(
     text: &[u8],
 ) -> Option<()> {
     let name = format!(in rt.alloc(); "new thread {number}").ok()?;
-    let mut worker = Worker::start(rt, attach(rt, service, name)?);
+    let fresh = attach(rt, service, name)?;
+    let mut worker = Worker::start(rt, service, fresh)?;
     let _found = parse(rt, &mut worker, text);
-    service.end_thread(rt, worker.end(rt)?).ok()
+    let ended = worker.end(rt, service)?;
+    service.detach_thread(rt, ended).ok()
 }
 
 /// Lets so many threads a second come and go, one after another, until the sampling is over. It gives how many did. `None` if

@@ -92,9 +92,10 @@ fn live<R: Wait + Clock + AllocGlobal>(
     task: Task<'_>,
 ) -> Option<u64> {
     let number = fresh.thread().0;
-    let mut worker = Worker::start(rt, fresh);
+    let mut worker = Worker::start(rt, &mut service, fresh)?;
     let jobs = jobs(rt, shared, &mut worker, task, number);
-    service.end_thread(rt, worker.end(rt)?).ok()?;
+    let ended = worker.end(rt, &mut service)?;
+    service.detach_thread(rt, ended).ok()?;
     Some(jobs)
 }
 

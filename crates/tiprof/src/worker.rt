@@ -38,13 +38,14 @@ impl Model for Worker {
 }
 
 impl Worker {
-    /// Starts the thread. It waits while a stop is in force.
-    pub fn start<R: Wait>(rt: &R, fresh: Fresh) -> Worker
-        ensures cell { result ≡ Some fresh.cell }
+    /// Starts the thread. It waits while a stop is in force. `None` if it is not of this service.
+    pub fn start<R: Wait>(rt: &R, service: &mut Service, fresh: Fresh) -> Option<Worker>
+        ensures cell { IfSome result (λ w. w ≡ Some fresh.cell) }
     {
-        Worker {
-            running: Some(fresh.start(rt)),
-        }
+        let running = service.start_thread(rt, fresh).ok()?;
+        Some(Worker {
+            running: Some(running),
+        })
     }
 
     /// Makes a step. It never waits. `Spent` if the step is refused.
@@ -146,12 +147,12 @@ impl Worker {
         }
     }
 
-    /// Ends the thread. It has seen its whole history, which is legal. `None` if it does not run.
-    pub fn end<R: Wait>(self, rt: &R) -> Option<Ended>
+    /// Ends the thread. It has seen its whole history, which is legal. `None` if it does not run, or is not of this service.
+    pub fn end<R: Wait>(self, rt: &R, service: &mut Service) -> Option<Ended>
         ensures cell { IfSome result (λ e. self ≡ Some e.cell) }
         ensures legal { IfSome result (λ e. is_legal e.view.subject.limits e.view.seen ≡ true) }
     {
-        Some(self.running?.end(rt))
+        service.end_thread(rt, self.running?).ok()
     }
 }
 

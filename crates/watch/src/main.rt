@@ -19,13 +19,13 @@ use std::sync::atomic::{AtomicBool, Ordering};
 use std::thread::{Threads, join};
 use std::time::Duration;
 use ti_agent::Within;
-use ti_handshake::{Ended, Polled, Running};
+use ti_handshake::{Polled, Running};
 use ti_service::{Agent, Service, ServiceCalls, ThreadInfo};
 use ti_types::{Caps, Limits, MethodNo, Step, ThreadNo};
 
 /// Computes until `over` is set, and polls in each iteration. A poll is one load if nobody calls for the thread. If the thread is
 /// held, it waits until it may return.
-fn compute<R: Wait>(rt: &R, over: &AtomicBool, running: Running) -> (u64, Ended) {
+fn compute<R: Wait>(rt: &R, over: &AtomicBool, running: Running) -> (u64, Running) {
     let mut running = running;
     let mut sum: u64 = 0;
     for turn in 0..u64::MAX {
@@ -37,7 +37,7 @@ fn compute<R: Wait>(rt: &R, over: &AtomicBool, running: Running) -> (u64, Ended)
             running = hand_over(rt, running);
         }
     }
-    (sum, running.end(rt))
+    (sum, running)
 }
 
 /// Hands the frames over, so that the calls which wait take place. It returns when the thread may run.
@@ -99,23 +99,24 @@ fn attach<R: Wait + AllocGlobal>(rt: &R, service: &mut Service, name: &str) -> O
     let alloc = rt.alloc();
     let name = String::from_str(alloc, name).ok()?;
     let info = ThreadInfo { name, priority: 5 };
-    let mut running = service.attach_thread(rt, alloc, info).ok()?.start(rt);
+    let fresh = service.attach_thread(rt, alloc, info).ok()?;
+    let mut running = service.start_thread(rt, fresh).ok()?;
     running.step(Step::Enter(MethodNo(0))).ok()?;
     running.step(Step::Enter(MethodNo(1))).ok()?;
     Some(running)
 }
 
-/// Runs two threads side by side, until both have ended.
+/// Runs two threads side by side, until both are told to end.
 fn compute_both<R: Threads + Wait + Sync>(
     rt: &R,
     over: &AtomicBool,
     first: Running,
     second: Running,
-) -> (Ended, Ended) {
+) -> (Running, Running) {
     let ((_sum, first), (_other, second)) = join(
         rt,
-        move || -> (u64, Ended) { compute(rt, over, first) },
-        move || -> (u64, Ended) { compute(rt, over, second) },
+        move || -> (u64, Running) { compute(rt, over, first) },
+        move || -> (u64, Running) { compute(rt, over, second) },
     );
     (first, second)
 }
@@ -126,14 +127,20 @@ fn run_all<R: Threads + Wait + Sync + Clock + Print + AllocGlobal>(
     first: Running,
     second: Running,
     agent: Agent,
-) -> ((Ended, Ended), Option<()>) {
+) -> ((Running, Running), Option<()>) {
     let over = AtomicBool::new(false);
     let over = &over;
     join(
         rt,
-        move || -> (Ended, Ended) { compute_both(rt, over, first, second) },
+        move || -> (Running, Running) { compute_both(rt, over, first, second) },
         move || -> Option<()> { watch(rt, over, agent) },
     )
+}
+
+/// Ends a thread, and gives it back.
+fn leave<R: Wait>(rt: &R, service: &mut Service, running: Running) -> Option<()> {
+    let ended = service.end_thread(rt, running).ok()?;
+    service.detach_thread(rt, ended).ok()
 }
 
 /// Lets two threads and an agent come to a service and go.
@@ -144,8 +151,8 @@ fn run<R: Threads + Wait + Sync + Clock + Print + AllocGlobal>(rt: &R) -> Option
     let second = attach(rt, &mut service, "other adder")?;
     let agent = service.attach_environment(rt, alloc).ok()?;
     let ((first, second), done) = run_all(rt, first, second, agent);
-    service.end_thread(rt, first).ok()?;
-    service.end_thread(rt, second).ok()?;
+    leave(rt, &mut service, first)?;
+    leave(rt, &mut service, second)?;
     done
 }
 
