@@ -183,7 +183,13 @@ enum {
 };
 
 /* Events of a thread's life. */
-enum { CQ_THREAD_START = 0, CQ_THREAD_END = 1 };
+enum {
+    CQ_THREAD_START = 0,
+    CQ_THREAD_END = 1,
+    CQ_CLASS_PREPARE = 2,
+    CQ_THREAD_ATTACHED = 3,
+    CQ_THREAD_DETACHED = 4
+};
 
 /* Kinds of stops, and a number that stands for all threads. */
 enum { CQ_BREAKPOINT = 0, CQ_SINGLE_STEP = 1, CQ_FRAME_POP = 2 };
@@ -213,7 +219,8 @@ typedef struct {
 /* What is told of a thread (GetThreadInfo): the length of its name in bytes, and its priority. */
 typedef struct { uint64_t name_length; int32_t priority; } cq_thread_info;
 
-/* An event: CQ_THREAD_START or CQ_THREAD_END, the thread's number, and how many events were lost before it. */
+/* An event: its kind, from CQ_THREAD_START to CQ_THREAD_DETACHED; the thread's number, or with CQ_CLASS_PREPARE the class's; and how
+ * many events of threads were lost before it, of whatever kind. */
 typedef struct { uint32_t kind; uint32_t thread; uint64_t lost; } cq_event;
 
 /* A stop: the thread's number, where it is, and why it stops there. */
@@ -301,11 +308,12 @@ uint32_t cq_attach_environment(cq_service *service, cq_env *env) CQ_MUST_USE;
 /* Writes the thread's number to `number`. */
 uint32_t cq_thread_number(cq_thread *thread, uint32_t *number);
 
-/* Starts the thread. It runs without frames, and is alive (GetThreadState).
+/* Starts the thread. It runs without frames, and is alive (GetThreadState, GetAllThreads). CQ_THREAD_START is told of it.
  *
  *   CQ_NOT_NEW 210  the thread has started before
+ *   CQ_FULL 216     threads and environments have come and gone 2^62 - 1 times
  *   CQ_BARRED 206   a trace has stopped the thread: call again later
- *   CQ_BUSY 215     an environment uses the thread */
+ *   CQ_BUSY 215     an environment uses the thread, or the list of threads is in use */
 uint32_t cq_start(cq_thread *thread) CQ_MUST_USE;
 
 /* Enters a method, at location 0. The method is any number of the runtime's.
@@ -405,10 +413,11 @@ uint32_t cq_block(cq_thread *thread, uint32_t reason) CQ_MUST_USE;
  *   CQ_BUSY 215      an environment uses the thread */
 uint32_t cq_back(cq_thread *thread) CQ_MUST_USE;
 
-/* Ends the thread. The calls that wait for it take place, at a thread that is no longer alive.
+/* Ends the thread. The calls that wait for it take place, at a thread that is no longer alive. CQ_THREAD_END is told of it.
  *
  *   CQ_NOT_RUNNING 204  the thread does not run
- *   CQ_BUSY 215         an environment uses the thread */
+ *   CQ_FULL 216         threads and environments have come and gone 2^62 - 1 times
+ *   CQ_BUSY 215         an environment uses the thread, or the list of threads is in use */
 uint32_t cq_end(cq_thread *thread) CQ_MUST_USE;
 
 /* Gives a thread back that has ended or never started, and empties its handle. The thread's memory is freed once each
@@ -448,8 +457,9 @@ bool cq_has_news(cq_env *env);
  *   CQ_BUSY 215  the list of threads is in use */
 uint32_t cq_let_go(cq_env *env, uint32_t thread, bool *gone);
 
-/* GetAllThreads. Writes the numbers of the threads that are attached, in rising order, as many as there is `room` for, and
- * to `count` how many there are. A thread that has not started, and one that has ended, is among them until it is given back.
+/* GetAllThreads. Writes the numbers of the threads that are alive, in rising order, as many as there is `room` for, and to `count`
+ * how many there are. They have started and have not ended. The environment need not have met them: cq_meet has it meet all that
+ * are attached, and CQ_THREAD_ATTACHED tells of each.
  *
  *   CQ_OUT_OF_MEMORY 110  there is no memory for the list
  *   CQ_BUSY 215           the list of threads is in use */
@@ -700,15 +710,30 @@ uint32_t cq_get_environment_local_storage(cq_env *env, uint64_t *word);
 /* SetEnvironmentLocalStorage. Sets the environment's own word to any 64 bits. */
 uint32_t cq_set_environment_local_storage(cq_env *env, uint64_t word);
 
-/* SetEventNotificationMode, of ThreadStart and ThreadEnd at all threads. An environment is told what happens from then on.
+/* SetEventNotificationMode, of one kind of event, at all threads. An environment is told of each event of this kind that happens
+ * from then on. What it was not told is never told once the kind is disabled.
  *
- *   CQ_BUSY 215  the list of threads is in use */
+ *     CQ_THREAD_START     a thread has started (cq_start)
+ *     CQ_THREAD_END       a thread has ended (cq_end)
+ *     CQ_CLASS_PREPARE    a class was defined (cq_define_class)
+ *     CQ_THREAD_ATTACHED  a thread was attached (cq_attach_thread): no event of JVM TI
+ *     CQ_THREAD_DETACHED  a thread was given back (cq_detach_thread), and can be let go: no event of JVM TI
+ *
+ *   CQ_ILLEGAL_ARGUMENT 103  there is no such kind
+ *   CQ_BUSY 215              the list of threads is in use */
+uint32_t cq_set_event_mode(cq_env *env, bool enabled, uint32_t kind) CQ_MUST_USE;
+
+/* cq_set_event_mode of CQ_THREAD_END, and then of CQ_THREAD_START.
+ *
+ *   CQ_BUSY 215  the list of threads is in use. CQ_THREAD_END may be enabled already */
 uint32_t cq_set_event_notification_mode(cq_env *env, bool enabled) CQ_MUST_USE;
 
-/* Writes the next event to `event`. A thread's start is told when it was attached, and its end when it was given back. The
- * service keeps the last 4,096 events.
+/* Writes the next event to `event`: the first that happened since the last one that was told, of the kinds that are enabled. All
+ * environments are told events of threads in one order. Of one thread that is: attached, start, end, detached. The service keeps
+ * the last 4,096 events of threads. Classes come in the order of their numbers, after the events of threads that are there, and
+ * none is lost.
  *
- *   CQ_NONE 303  there is no event, or events are disabled
+ *   CQ_NONE 303  there is no event, or all kinds are disabled
  *   CQ_BUSY 215  the list of threads is in use */
 uint32_t cq_next_event(cq_env *env, cq_event *event) CQ_MUST_USE;
 

@@ -454,6 +454,8 @@ public:
     void set_environment_local_storage(std::uint64_t word) { check(cq_set_environment_local_storage(get(), word)); }
 
     void set_event_notification_mode(bool enabled) { check(cq_wait_set_event_notification_mode(get(), signal(), enabled)); }
+    /* `kind` is from CQ_THREAD_START to CQ_THREAD_DETACHED. */
+    void set_event_mode(std::uint32_t kind, bool enabled) { check(cq_wait_set_event_mode(get(), signal(), enabled, kind)); }
     event next_event(time within = forever) {
         event next{};
         check(cq_wait_next_event(get(), signal(), within.count(), &next));
@@ -739,11 +741,12 @@ public:
         });
     }
 
-    /* An empty name of a source file is none. */
+    /* An empty name of a source file is none. Those are woken who wait for CQ_CLASS_PREPARE. */
     defined define_class(std::string_view signature, std::string_view source_file, const std::vector<method_info> &methods) {
         class_parts parts(signature, source_file, methods);
         defined made{};
         settle([&] { return parts.define(get(), made); });
+        cq_wake(signal());
         return made;
     }
 

@@ -228,7 +228,8 @@ static uint32_t goes_on(const waiter *w) {
     return w->code;
 }
 
-/* The code of a call by which a thread or an environment may have come or gone. If it has, those go on who wait for that. */
+/* The code of a call by which a thread may have started or ended, or a thread or an environment come or gone. If so, those go on who
+ * wait for that. */
 static uint32_t came_or_went(const waiter *w) {
     if (w->code == CQ_OK) {
         wake(&w->signal->agents, COMINGS);
@@ -256,6 +257,7 @@ uint32_t cq_wait_attach_environment(cq_service *service, cq_signal *signal, cq_e
 uint32_t cq_wait_start(cq_thread *thread, cq_signal *signal, int64_t timeout_ns) {
     waiter w = begin_own(thread, signal, timeout_ns);
     while (again(&w)) w.code = cq_start(thread);
+    came_or_went(&w);
     return goes_on(&w);
 }
 
@@ -318,6 +320,7 @@ uint32_t cq_wait_stop(cq_thread *thread, cq_signal *signal) {
 uint32_t cq_wait_end(cq_thread *thread, cq_signal *signal) {
     waiter w = begin_hand_over(signal);
     while (again(&w)) w.code = cq_end(thread);
+    came_or_went(&w);
     return handed_over(&w, thread);
 }
 
@@ -381,6 +384,12 @@ uint32_t cq_wait_dispose_environment_within(cq_env *env, cq_signal *signal, int6
     while (again(&w)) w.code = cq_dispose_environment(env);
     if (w.code == CQ_OK) wake(&signal->threads, FUTEX_BITSET_MATCH_ANY);
     return came_or_went(&w);
+}
+
+uint32_t cq_wait_set_event_mode(cq_env *env, cq_signal *signal, bool enabled, uint32_t kind) {
+    waiter w = begin(signal, FOREVER, CQ_BUSY);
+    while (again(&w)) w.code = cq_set_event_mode(env, enabled, kind);
+    return w.code;
 }
 
 uint32_t cq_wait_next_event(cq_env *env, cq_signal *signal, int64_t timeout_ns, cq_event *event) {

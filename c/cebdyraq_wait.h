@@ -38,9 +38,9 @@ typedef struct { cq_sleepers threads; cq_sleepers agents; } cq_signal;
 /* Wakes all who sleep. It is two loads if nobody does.
  *
  * The functions below do it by themselves. A program that also uses functions of cebdyraq.h calls it after each that
- * may let another go on: cq_poll, cq_native, cq_block, cq_end, cq_resume_thread, cq_attach_thread, cq_detach_thread,
- * cq_attach_environment and cq_dispose_environment, cq_reached, cq_leaves and cq_end_stop, and after the last cq_gather_step of a
- * trace. */
+ * may let another go on: cq_start, cq_poll, cq_native, cq_block, cq_end, cq_resume_thread, cq_attach_thread, cq_detach_thread,
+ * cq_attach_environment and cq_dispose_environment, cq_reached, cq_leaves and cq_end_stop, after cq_define_class if environments
+ * wait for CQ_CLASS_PREPARE, and after the last cq_gather_step of a trace. */
 void cq_wake(cq_signal *signal);
 
 /* ------------------------------------------------------------------------------------------------------------------
@@ -59,7 +59,7 @@ uint32_t cq_wait_attach_environment(cq_service *service, cq_signal *signal, cq_e
  */
 
 /* cq_start. It sleeps while a trace has stopped the thread. After CQ_TIMED_OUT 214 the thread has not started.
- * CQ_NOT_NEW 210. */
+ * CQ_NOT_NEW 210, CQ_FULL 216. */
 uint32_t cq_wait_start(cq_thread *thread, cq_signal *signal, int64_t timeout_ns) CQ_MUST_USE;
 
 /* A safe point. It returns at once if nobody calls for the thread (cq_poll_clear). Otherwise the thread polls, and sleeps while
@@ -95,7 +95,7 @@ uint32_t cq_wait_leaves(cq_thread *thread, cq_signal *signal, uint32_t method, u
  * CQ_NOT_RUNNING 204, CQ_OWN_SPENT 208: it does not wait. CQ_FULL 216. */
 uint32_t cq_wait_stop(cq_thread *thread, cq_signal *signal) CQ_MUST_USE;
 
-/* cq_end. It waits only while an environment uses the thread. CQ_NOT_RUNNING 204. */
+/* cq_end. It waits only while an environment uses the thread, or the list of threads is in use. CQ_NOT_RUNNING 204, CQ_FULL 216. */
 uint32_t cq_wait_end(cq_thread *thread, cq_signal *signal);
 
 /* cq_detach_thread. It waits only while the list of threads is in use. CQ_MISUSED 304, CQ_FULL 216. */
@@ -130,6 +130,9 @@ uint32_t cq_wait_discard(cq_env *env, cq_signal *signal, uint32_t thread, bool *
  * CQ_TIMED_OUT 214 it has not, so one of them may yet suspend it: call again. CQ_MUST_POSSESS_CAPABILITY 99, CQ_INVALID_THREAD 10,
  * CQ_THREAD_NOT_ALIVE 15, CQ_CALLS_SPENT 209. */
 uint32_t cq_wait_ensure_resumed(cq_env *env, cq_signal *signal, uint32_t thread, int64_t timeout_ns) CQ_MUST_USE;
+
+/* cq_set_event_mode. CQ_ILLEGAL_ARGUMENT 103. */
+uint32_t cq_wait_set_event_mode(cq_env *env, cq_signal *signal, bool enabled, uint32_t kind) CQ_MUST_USE;
 
 /* cq_set_event_notification_mode. */
 uint32_t cq_wait_set_event_notification_mode(cq_env *env, cq_signal *signal, bool enabled) CQ_MUST_USE;

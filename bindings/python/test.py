@@ -279,7 +279,7 @@ class WithRuntime(unittest.TestCase):
 
     def test_events(self):
         env = self.env
-        env.set_event_notification_mode(True)
+        env.set_event_mode(True, EventKind.THREAD_DETACHED)
         began = time.monotonic()
         self.assert_code(Code.TIMED_OUT, env.next_event, timeout=0.05)
         self.assertGreaterEqual(time.monotonic() - began, 0.05)
@@ -289,7 +289,7 @@ class WithRuntime(unittest.TestCase):
         event = env.next_event()
         ender.join()
         self.assertEqual(self.failures, 0)
-        self.assertEqual(event, cebdyraq.Event(EventKind.THREAD_END, 0, 0))
+        self.assertEqual(event, cebdyraq.Event(EventKind.THREAD_DETACHED, 0, 0))
         self.assertTrue(env.let_go(0))
         self.assertFalse(env.let_go(0))
         self.assert_code(Code.THREAD_NOT_ALIVE, env.get_thread_state, 0)

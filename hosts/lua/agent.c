@@ -37,6 +37,13 @@ static void let_go(struct agent *agent) {
     agent->count = kept;
 }
 
+static bool knows(const struct agent *agent, uint32_t thread) {
+    for (size_t i = 0; i < agent->count; i++)
+        if (agent->threads[i] == thread)
+            return true;
+    return false;
+}
+
 void agent_meet(struct agent *agent) {
     cq_signal *signal = &agent->host->signal;
     uint32_t *there = agent->there;
@@ -47,10 +54,8 @@ void agent_meet(struct agent *agent) {
     if (cq_wait_get_all_threads(&agent->env, signal, there, agent->host->count, &count) != CQ_OK)
         return;
     for (uint64_t i = 0; i < count && i < agent->host->count; i++)
-        if (there[i] >= agent->next) {
+        if (!knows(agent, there[i]))
             agent->threads[agent->count++] = there[i];
-            agent->next = there[i] + 1;
-        }
 }
 
 void state_text(uint32_t bits, char *text, size_t size) {

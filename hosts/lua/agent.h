@@ -17,7 +17,6 @@ struct agent {
     uint32_t *threads;
     size_t count;
     uint32_t *there;  /* room for a list of all threads */
-    uint32_t next;   /* numbers below this one were met */
 };
 
 /* What an agent sees of a thread at one moment. */

@@ -110,6 +110,7 @@ uint32_t refuse_while_gathering(void);
     CALL(ensure_resumed, cq_ensure_resumed(h, 0)) \
     CALL(out_at, cq_out_at(h, 0, &out.number)) \
     CALL(stopper, cq_stopper(h, 0, &out.number)) \
+    CALL(set_event_mode, cq_set_event_mode(h, true, 0)) \
     CALL(environment_number, cq_environment_number(h, &out.number)) \
     CALL(gather_all_stack_traces, cq_gather_all_stack_traces(h, 2)) \
     CALL(gather_thread_list_stack_traces, cq_gather_thread_list_stack_traces(h, out.threads, 0, 2)) \

@@ -415,6 +415,13 @@ static void environment_local_storage(void) {
     BOTH(set_environment_local_storage, (&s->real.env, word), (&s->model.env, word));
 }
 
+static void set_event_mode(void) {
+    slot *s = pick_agent();
+    uint32_t kind = below(8) == 0 ? pick_number() : below(5);
+    bool enabled = below(3) != 0;
+    BOTH(set_event_mode, (&s->real.env, enabled, kind), (&s->model.env, enabled, kind));
+}
+
 static void set_event_notification_mode(void) {
     slot *s = pick_agent();
     bool enabled = below(3) != 0;
@@ -471,7 +478,7 @@ static const weighted CALLS[] = {
     { 4, out_at }, { 4, gather_all_stack_traces }, { 4, gather_thread_list_stack_traces }, { 20, gather_step },
     { 2, gather_give_up }, { 2, gathered }, { 4, gathered_stack },
     { 3, add_capabilities }, { 1, relinquish_capabilities }, { 1, get_capabilities },
-    { 2, environment_local_storage }, { 3, set_event_notification_mode }, { 4, next_event }, { 1, dispose_environment },
+    { 2, environment_local_storage }, { 4, set_event_mode }, { 1, set_event_notification_mode }, { 6, next_event }, { 1, dispose_environment },
 };
 
 enum { KINDS = sizeof CALLS / sizeof CALLS[0] };

@@ -233,7 +233,12 @@ static void give_up(void) {
     CHECK(!thrown);
 }
 
-/* A second thread comes and goes without having started, and is told of. */
+static void enable_attached_and_detached(bool enabled) {
+    OK(cq_set_event_mode(&env, enabled, CQ_THREAD_ATTACHED));
+    OK(cq_set_event_mode(&env, enabled, CQ_THREAD_DETACHED));
+}
+
+/* A second thread comes and goes without having started, and is told of. GetAllThreads does not list it. */
 static void events(void) {
     static const uint8_t name[] = "f\xC3\xA4nf";
     cq_event event;
@@ -243,12 +248,12 @@ static void events(void) {
     cq_thread_info info;
     uint8_t letters[5] = { 0 };
     SAME(cq_next_event(&env, &event), CQ_NONE);
-    OK(cq_set_event_notification_mode(&env, true));
+    enable_attached_and_detached(true);
     SAME(cq_next_event(&env, &event), CQ_NONE);
     OK(cq_attach_thread(&service, name, 5, -3, &second));
     CHECK(cq_has_news(&env));
-    OK(cq_get_all_threads(&env, threads, 1, &count));
-    SAME(count, 2);
+    OK(cq_get_all_threads(&env, threads, 2, &count));
+    SAME(count, 1);
     SAME(threads[0], 0);
     SAME(threads[1], 9);
     OK(cq_get_thread_info(&env, 1, &info, letters, 4));
@@ -264,7 +269,7 @@ static void events(void) {
     SAME(cq_get_thread_info(&env, 1, &info, letters, 5), CQ_THREAD_NOT_ALIVE);
     OK(cq_get_all_threads(&env, threads, 2, &count));
     SAME(count, 1);
-    for (uint32_t kind = CQ_THREAD_START; kind <= CQ_THREAD_END; kind++) {
+    for (uint32_t kind = CQ_THREAD_ATTACHED; kind <= CQ_THREAD_DETACHED; kind++) {
         OK(cq_next_event(&env, &event));
         SAME(event.kind, kind);
         SAME(event.thread, 1);
@@ -286,19 +291,21 @@ static void events_are_lost(void) {
     }
     for (uint32_t i = 6000 - 4096; i < 6000; i++) {
         OK(cq_next_event(&env, &event));
-        SAME(event.kind, i % 2 == 0 ? CQ_THREAD_START : CQ_THREAD_END);
+        SAME(event.kind, i % 2 == 0 ? CQ_THREAD_ATTACHED : CQ_THREAD_DETACHED);
         SAME(event.thread, 2 + i / 2);
         SAME(event.lost, i == 6000 - 4096 ? 6000 - 4096 : 0);
     }
     SAME(cq_next_event(&env, &event), CQ_NONE);
-    OK(cq_set_event_notification_mode(&env, false));
+    enable_attached_and_detached(false);
     OK(cq_attach_thread(&service, (const uint8_t *)"", 0, 5, &comer));
     SAME(cq_next_event(&env, &event), CQ_NONE);
-    OK(cq_set_event_notification_mode(&env, true));
+    enable_attached_and_detached(true);
     SAME(cq_next_event(&env, &event), CQ_NONE);
     OK(cq_detach_thread(&comer));
     OK(cq_next_event(&env, &event));
-    SAME(event.kind, CQ_THREAD_END);
+    SAME(event.kind, CQ_THREAD_DETACHED);
+    enable_attached_and_detached(false);
+    OK(cq_set_event_notification_mode(&env, true));
 }
 
 static void end(void) {
@@ -322,6 +329,7 @@ static void end(void) {
     OK(cq_next_event(&env, &event));
     SAME(event.kind, CQ_THREAD_END);
     SAME(event.thread, 0);
+    SAME(cq_next_event(&env, &event), CQ_NONE);
 }
 
 /* The service lives as long as the environment, also when its own handle is freed. */

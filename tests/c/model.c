@@ -104,7 +104,7 @@ uint32_t model_attach_thread(cq_service *service, const uint8_t *name, size_t le
     s->threads = realloc(s->threads, (s->count + 1) * sizeof *s->threads);
     s->threads[s->count++] = t;
     s->handles++;
-    add_event(s, CQ_THREAD_START, t->number);
+    add_event(s, CQ_THREAD_ATTACHED, t->number);
     *thread = (cq_thread){ A_THREAD, t };
     return CQ_OK;
 }
@@ -122,6 +122,7 @@ uint32_t model_start(cq_thread *thread) {
     if (t->mode != NEW) return CQ_NOT_NEW;
     if (t->stopped_by != NOBODY) return CQ_BARRED;
     t->mode = RUNNING;
+    add_event(t->service, CQ_THREAD_START, t->number);
     return CQ_OK;
 }
 
@@ -260,6 +261,7 @@ uint32_t model_end(cq_thread *thread) {
     if (t == NULL) return CQ_MISUSED;
     if (t->mode != RUNNING) return CQ_NOT_RUNNING;
     t->mode = ENDED;
+    add_event(t->service, CQ_THREAD_END, t->number);
     t->count = 0;
     hand_over(t);
     return CQ_OK;
@@ -269,7 +271,7 @@ uint32_t model_detach_thread(cq_thread *thread) {
     m_thread *t = thread_of(thread);
     if (t == NULL || (t->mode != NEW && t->mode != ENDED)) return CQ_MISUSED;
     t->there = false;
-    add_event(t->service, CQ_THREAD_END, t->number);
+    add_event(t->service, CQ_THREAD_DETACHED, t->number);
     let_go_of_service(t->service);
     *thread = (cq_thread){ EMPTY, NULL };
     return CQ_OK;

@@ -62,6 +62,7 @@ uint32_t model_get_capabilities(cq_env *env, uint32_t *capabilities);
 uint32_t model_get_potential_capabilities(cq_env *env, uint32_t *capabilities);
 uint32_t model_get_environment_local_storage(cq_env *env, uint64_t *word);
 uint32_t model_set_environment_local_storage(cq_env *env, uint64_t word);
+uint32_t model_set_event_mode(cq_env *env, bool enabled, uint32_t kind);
 uint32_t model_set_event_notification_mode(cq_env *env, bool enabled);
 uint32_t model_next_event(cq_env *env, cq_event *event);
 uint32_t model_dispose_environment(cq_env *env);

@@ -63,7 +63,7 @@ uint32_t model_get_all_threads(cq_env *env, uint32_t *threads, size_t room, uint
     if (e == NULL) return CQ_MISUSED;
     *count = 0;
     for (uint32_t i = 0; i < e->service->count; i++) {
-        if (!e->service->threads[i]->there) continue;
+        if (!e->service->threads[i]->there || !is_alive(e->service->threads[i])) continue;
         if (*count < room) threads[*count] = i;
         ++*count;
     }
@@ -124,25 +124,49 @@ uint32_t model_set_environment_local_storage(cq_env *env, uint64_t word) {
     return CQ_OK;
 }
 
-uint32_t model_set_event_notification_mode(cq_env *env, bool enabled) {
+/* The model has no classes, so no event of theirs. */
+uint32_t model_set_event_mode(cq_env *env, bool enabled, uint32_t kind) {
     m_env *e = asking(env);
     if (e == NULL) return CQ_MISUSED;
-    if (enabled && !e->events) e->next_event = e->service->event_count;
-    e->events = enabled;
+    if (kind > CQ_THREAD_DETACHED) return CQ_ILLEGAL_ARGUMENT;
+    if (enabled && !e->is_told[kind]) e->told_since[kind] = e->service->event_count;
+    e->is_told[kind] = enabled;
     return CQ_OK;
+}
+
+uint32_t model_set_event_notification_mode(cq_env *env, bool enabled) {
+    uint32_t code = model_set_event_mode(env, enabled, CQ_THREAD_END);
+    return code == CQ_OK ? model_set_event_mode(env, enabled, CQ_THREAD_START) : code;
+}
+
+/* The first index from which on an environment may be told an event of a thread. None if all their kinds are disabled. */
+static uint64_t first_told(const m_env *e) {
+    uint64_t first = UINT64_MAX;
+    for (uint32_t kind = CQ_THREAD_START; kind <= CQ_THREAD_DETACHED; kind++) {
+        if (kind != CQ_CLASS_PREPARE && e->is_told[kind] && e->told_since[kind] < first) first = e->told_since[kind];
+    }
+    return first != UINT64_MAX && first < e->next_event ? e->next_event : first;
 }
 
 uint32_t model_next_event(cq_env *env, cq_event *event) {
     m_env *e = asking(env);
     if (e == NULL) return CQ_MISUSED;
     m_service *s = e->service;
-    if (!e->events || e->next_event == s->event_count) return CQ_NONE;
-    uint64_t first = s->event_count > KEPT_EVENTS ? s->event_count - KEPT_EVENTS : 0;
-    uint64_t lost = e->next_event < first ? first - e->next_event : 0;
-    e->next_event += lost;
-    *event = s->events[e->next_event++];
-    event->lost = lost;
-    return CQ_OK;
+    uint64_t from = first_told(e);
+    if (from == UINT64_MAX) return CQ_NONE;
+    uint64_t kept = s->event_count > KEPT_EVENTS ? s->event_count - KEPT_EVENTS : 0;
+    uint64_t lost = from < kept ? kept - from : 0;
+    for (uint64_t i = from + lost; i < s->event_count; i++) {
+        uint32_t kind = s->events[i].kind;
+        if (e->is_told[kind] && e->told_since[kind] <= i) {
+            *event = s->events[i];
+            event->lost = lost;
+            e->next_event = i + 1;
+            return CQ_OK;
+        }
+    }
+    if (lost == 0) e->next_event = s->event_count;
+    return CQ_NONE;
 }
 
 /* Whether none of the environment's calls is out at a thread any more. They are cancelled. */

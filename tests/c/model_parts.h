@@ -78,8 +78,9 @@ typedef struct {
     uint32_t capabilities;
     uint64_t word;
     uint32_t known;       /* it has met the threads below this number */
-    bool events;
-    uint64_t next_event;
+    bool is_told[CQ_THREAD_DETACHED + 1];       /* by the kind of event */
+    uint64_t told_since[CQ_THREAD_DETACHED + 1]; /* the index of the first event of the kind */
+    uint64_t next_event;                        /* it was told all before, or never is */
     uint64_t asked;       /* what had happened when it last asked the service anything */
     uint64_t looked;      /* the same when it last met the threads */
 } m_env;

@@ -55,6 +55,7 @@ PROGRAMS = [
     Program("classes", CLASSES, COUNTED_HEAP + STRINGS, wait=[]),
     Program("pops", ["pops.c", "pops_unwound.c"], COUNTED_HEAP),
     Program("stops", ["stops.c", "stops_threads.c"], COUNTED_HEAP + STRINGS),
+    Program("events", ["events.c"], HEAP + STRINGS),
     Program("gather", ["gather.c"], COUNTED_HEAP),
     Program("wait", ["wait.c", "wait_any.c", "wait_dispose.c", "wait_resumed.c", "wait_window.c"], HEAP),
     Program("gather_waits", ["gather_waits.c"], HEAP, {VALGRIND: ["100"]}),

@@ -169,14 +169,14 @@ static void *wait_for_event(void *unused) {
     cq_event event;
     atomic_store(&at, 1);
     OK(cq_wait_next_event(&env, &signal_of_all, -1, &event));
-    SAME(event.kind, CQ_THREAD_START);
+    SAME(event.kind, CQ_THREAD_ATTACHED);
     SAME(event.thread, 2);
     return unused;
 }
 
 static void event_wakes(void) {
     cq_thread second = { 0, NULL };
-    OK(cq_wait_set_event_notification_mode(&env, &signal_of_all, true));
+    OK(cq_wait_set_event_mode(&env, &signal_of_all, true, CQ_THREAD_ATTACHED));
     pthread_t id = run(wait_for_event);
     await(1);
     rest(20 * MILLISECOND);

@@ -96,14 +96,16 @@ static void *wait_for_news(void *unused) {
 static void comings_and_goings_wake(void) {
     cq_thread third = { 0, NULL };
     cq_event event;
-    OK(cq_wait_set_event_notification_mode(&env, &signal_of_all, false));
-    OK(cq_wait_set_event_notification_mode(&env, &signal_of_all, true));
-    for (uint32_t kind = CQ_THREAD_START; kind <= CQ_THREAD_END; kind++) {
+    for (uint32_t kind = CQ_THREAD_START; kind <= CQ_THREAD_DETACHED; kind++) {
+        OK(cq_wait_set_event_mode(&env, &signal_of_all, false, kind));
+        OK(cq_wait_set_event_mode(&env, &signal_of_all, kind >= CQ_THREAD_ATTACHED, kind));
+    }
+    for (uint32_t kind = CQ_THREAD_ATTACHED; kind <= CQ_THREAD_DETACHED; kind++) {
         pthread_t id = run(wait_for_news);
         await(1);
         rest(20 * MILLISECOND);
         SAME(atomic_load(&at), 1);
-        if (kind == CQ_THREAD_START) {
+        if (kind == CQ_THREAD_ATTACHED) {
             OK(cq_wait_attach_thread(&service, &signal_of_all, (const uint8_t *)"", 0, 5, &third));
         } else {
             OK(cq_wait_detach_thread(&third, &signal_of_all));
@@ -114,7 +116,8 @@ static void comings_and_goings_wake(void) {
         SAME(event.kind, kind);
         SAME(any(0, 0), CQ_TIMED_OUT);
     }
-    OK(cq_wait_set_event_notification_mode(&env, &signal_of_all, false));
+    OK(cq_wait_set_event_mode(&env, &signal_of_all, false, CQ_THREAD_ATTACHED));
+    OK(cq_wait_set_event_mode(&env, &signal_of_all, false, CQ_THREAD_DETACHED));
 }
 
 /* An answer comes before the news. */

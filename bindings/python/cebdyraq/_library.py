@@ -127,6 +127,7 @@ FUNCTIONS: Dict[str, List[Any]] = {
     "cq_get_potential_capabilities": [AT],
     "cq_get_environment_local_storage": [AT],
     "cq_set_environment_local_storage": [WORD],
+    "cq_wait_set_event_mode": [AT, BOOL, NUMBER],
     "cq_wait_set_event_notification_mode": [AT, BOOL],
     "cq_wait_next_event": [AT, I64, AT],
     "cq_set_breakpoint": [NUMBER, NUMBER],

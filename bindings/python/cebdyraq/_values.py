@@ -56,6 +56,9 @@ class Capability(enum.IntFlag):
 class EventKind(enum.IntEnum):
     THREAD_START = 0
     THREAD_END = 1
+    CLASS_PREPARE = 2
+    THREAD_ATTACHED = 3
+    THREAD_DETACHED = 4
 
 
 class StopKind(enum.IntEnum):
@@ -101,7 +104,7 @@ class StackInfo(NamedTuple):
 
 
 class Event(NamedTuple):
-    """What happened to a thread, and how many events were lost before it."""
+    """What happened, at which thread (or the class, with CLASS_PREPARE), and how many events of threads were lost before it."""
 
     kind: EventKind
     thread: int

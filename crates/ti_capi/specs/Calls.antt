@@ -4,7 +4,7 @@ use Rattle.std.specs.String.{string_bytes}
 use Rattle.ti_types.specs.Caps.{caps_with, caps_without, has_all}
 use Rattle.ti_types.specs.TiError.{number_of}
 use Rattle.ti_types.specs.declared.error.TiError.{TiError}
-use Rattle.ti_types.specs.declared.error.TiError.TheVariants.{Busy, NotAvailable, OutOfMemory}
+use Rattle.ti_types.specs.declared.error.TiError.TheVariants.{Busy, IllegalArgument, NotAvailable, OutOfMemory}
 use Rattle.ti_types.specs.declared.event.Ticket.{Ticket}
 use Rattle.ti_types.specs.declared.numbers.EnvNo.{EnvNo}
 use Rattle.ti_types.specs.declared.numbers.ThreadNo.{ThreadNo}
@@ -12,16 +12,18 @@ use Rattle.ti_env.specs.Env.{EnvValue, with_caps}
 use Rattle.ti_agent.specs.Deadlines.{Cancels, DiscardsAt}
 use Rattle.ti_agent.specs.Env.{Environment, place_in}
 use Rattle.ti_agent.specs.HandOvers.{TellsStopper, absence_refusal}
-use Rattle.ti_roster.specs.Log.{live}
+use Rattle.ti_roster.specs.Stages.{alive}
 use Rattle.ti_roster.specs.Roster.{IsToldOf}
 use Rattle.ti_roster.specs.declared.info.ThreadInfo.{ThreadInfo}
-use Rattle.ti_roster.specs.declared.life_event.NextEvent.{NextEvent}
 use Rattle.ti_service.specs.Agent.{IsSameBut}
 use Rattle.ti_service.specs.LettingGo.{LetsGo}
 use Rattle.ti_service.specs.Meeting.{KeepsNow, Meets, TellsAgentNews}
 use Rattle.ti_service.specs.Memberships.{AgentValue, state_of}
 use Rattle.ti_service.specs.Service.{Looks, RefusesInfo, roster_seen}
-use Rattle.ti_service.specs.Telling.{Enables, TellsNext, with_events}
+use Rattle.ti_service.specs.Telling.{Enables, IsLife, IsLifeEnabled, TellsNext, is_enabled, with_events, without}
+use Rattle.ti_service.specs.declared.event.EventKind.{EventKind}
+use Rattle.ti_service.specs.declared.event.EventKind.TheVariants as kind
+use Rattle.ti_service.specs.declared.event.NextEvent.{NextEvent}
 use Rattle.ti_capi.specs.declared.values.CqEvent.{CqEvent}
 use Rattle.ti_capi.specs.declared.values.CqThreadInfo.{CqThreadInfo}
 use Rattle.ti_capi.specs.Codes.{misused, none_told}
@@ -94,7 +96,7 @@ RefusesList s n e = ((e ≡ OutOfMemory) × Looks s.home.service.view n.home.ser
 
 -- the threads that are there
 abbrev pub listed : AgentValue → List ThreadNo
-listed a = map (λ t. t.thread) (live a.home.service.view.seen)
+listed a = map (λ t. t.thread) (alive a.home.service.view.seen)
 
 -- the numbers of the threads that are there (`ti_service`, `get_all_threads_now`)
 pub data ListsBy (l0 l1 : List ℕ) (c0 c1 : ℕ) (s n : AgentValue) (code : ℕ) : Type 0 where
@@ -108,16 +110,26 @@ pub data TellsInfoBy (t : ThreadNo) (i0 i1 : CqThreadInfo) (l0 l1 : List ℕ) (s
       → i1 ≡ record { name_length = length (string_bytes told.name); priority = told.priority } → l1 ≡ over (string_bytes told.name) l0 → TellsInfoBy t i0 i1 l0 l1 s n code
   InfoRefused : (e : TiError) → code ≡ number_of e → i1 ≡ i0 → l1 ≡ l0 → IsSameBut (state_of s) (state_of n) → RefusesInfo s.home.service.view n.home.service.view t e ⊎ ((e ≡ Busy) × (n ≡ s)) → TellsInfoBy t i0 i1 l0 l1 s n code
 
--- events are enabled or disabled (`ti_service`, `set_event_notification_mode_now`)
-pub data EnablesBy (enabled : Bool) (s n : AgentValue) (code : ℕ) : Type 0 where
-  ModeSet : code ≡ 0 → (enabled ≡ false → state_of n ≡ with_events (state_of s) None) → (enabled ≡ true → is_some s.home.events ≡ true → n ≡ s) → (enabled ≡ true → s.home.events ≡ None → Enables (state_of s) (state_of n)) → EnablesBy enabled s n code
-  ModeBusy : code ≡ number_of Busy → enabled ≡ true → s.home.events ≡ None → n ≡ s → EnablesBy enabled s n code
+-- events of a kind are enabled or disabled (`ti_service`, `set_event_notification_mode_now`)
+pub data EnablesBy (enabled : Bool) (k : EventKind) (s n : AgentValue) (code : ℕ) : Type 0 where
+  ModeSet : code ≡ 0 → (enabled ≡ false → state_of n ≡ with_events (state_of s) (without s.home.events k)) → (enabled ≡ true → is_enabled s.home.events k ≡ true → n ≡ s) → (enabled ≡ true → is_enabled s.home.events k ≡ false → Enables k (state_of s) (state_of n)) → EnablesBy enabled k s n code
+  ModeBusy : code ≡ number_of Busy → enabled ≡ true → is_enabled s.home.events k ≡ false → IsLife k → n ≡ s → EnablesBy enabled k s n code
+
+-- or there is no such kind
+abbrev pub SetsModeBy : Bool → Option EventKind → AgentValue → AgentValue → ℕ → Type 0
+SetsModeBy enabled (Some k) s n code = EnablesBy enabled k s n code
+SetsModeBy enabled None s n code = (code ≡ number_of IllegalArgument) × (n ≡ s)
+
+-- Ends of threads are enabled or disabled, and then their starts. If the first is refused, the second is not tried
+pub data SetsBothBy (enabled : Bool) (s n : AgentValue) (code : ℕ) : Type 0 where
+  BothSet : (mid : AgentValue) → EnablesBy enabled kind.ThreadEnd s mid 0 → EnablesBy enabled kind.ThreadStart mid n code → SetsBothBy enabled s n code
+  NoneSet : (code ≡ 0 → ⊥) → EnablesBy enabled kind.ThreadEnd s n code → SetsBothBy enabled s n code
 
 -- the next event (`ti_service`, `next_event_now`)
 pub data TellsEventBy (e0 e1 : CqEvent) (s n : AgentValue) (code : ℕ) : Type 0 where
   EventTold : (next : NextEvent) → code ≡ 0 → TellsNext (state_of s) (state_of n) (Some next) → e1 ≡ event_written next → TellsEventBy e0 e1 s n code
   NoEvent : code ≡ none_told → TellsNext (state_of s) (state_of n) None → e1 ≡ e0 → TellsEventBy e0 e1 s n code
-  EventBusy : code ≡ number_of Busy → is_some s.home.events ≡ true → n ≡ s → e1 ≡ e0 → TellsEventBy e0 e1 s n code
+  EventBusy : code ≡ number_of Busy → IsLifeEnabled (state_of s) → n ≡ s → e1 ≡ e0 → TellsEventBy e0 e1 s n code
 
 -- whose stop is in force at a thread (`ti_agent`, `stopper_now`)
 pub data TellsStopperBy (t : ThreadNo) (n0 n1 : ℕ) (s n : AgentValue) (code : ℕ) : Type 0 where

@@ -3,7 +3,7 @@ use Rattle.std.specs.Prelude.{ℕ, ◌≡◌, ◌⊎◌, true, false, min, List,
 use Rattle.ti_types.specs.TiError.{number_of}
 use Rattle.ti_types.specs.declared.error.TiError.{TiError}
 use Rattle.ti_types.specs.declared.error.TiError.TheVariants.{Busy, IllegalArgument, NotRunning, OutOfMemory}
-use Rattle.ti_service.specs.Service.{Ends, RefusesEnd}
+use Rattle.ti_service.specs.Starting.{Detaches as GoesBack, RefusesDetach}
 use Rattle.ti_thread.specs.AnyThread.{is_running, number_in, may_leave}
 use Rattle.ti_thread.specs.Hosts.{SetsUnlessPopped}
 use Rattle.ti_thread.specs.declared.host_thread.HostThread.{HostThread}
@@ -59,11 +59,11 @@ SetsNewestBehind None n frames old new n0 n1 code = (new ≡ old) × (n1 ≡ n0)
 abbrev pub SetsNewest : List CqFrame → Handle → Handle → ℕ → ℕ → ℕ → Type 0
 SetsNewest frames old new n0 n1 code = SetsNewestBehind (thread_in old) (thread_in new) frames old new n0 n1 code
 
--- A thread is given back, if it has ended or never started (`ti_service`, `Service::end_thread_now`, `withdraw_thread_now`)
+-- A thread is given back, if it has ended or never started (`ti_service`, `Service::detach_thread_now`, `withdraw_thread_now`)
 pub data GivesBackFor (t : HostThread) (old new : HeldThread) (code : ℕ) : Type 0 where
-  Gone : code ≡ 0 → may_leave t.thread ≡ true → new.thread ≡ None → new.service.cell ≡ old.service.cell → Ends old.service.view new.service.view (number_in t.thread) → GivesBackFor t old new code
+  Gone : code ≡ 0 → may_leave t.thread ≡ true → new.thread ≡ None → new.service.cell ≡ old.service.cell → GoesBack old.service.view new.service.view (number_in t.thread) → GivesBackFor t old new code
   NotGone : (e : TiError) → code ≡ number_of e → may_leave t.thread ≡ true → new.thread ≡ Some t → new.service.cell ≡ old.service.cell
-      → RefusesEnd old.service.view new.service.view (number_in t.thread) e ⊎ ((e ≡ Busy) × (new.service ≡ old.service)) → GivesBackFor t old new code
+      → RefusesDetach old.service.view new.service.view (number_in t.thread) e ⊎ ((e ≡ Busy) × (new.service ≡ old.service)) → GivesBackFor t old new code
   IsAlive : code ≡ misused → may_leave t.thread ≡ false → new ≡ old → GivesBackFor t old new code
 
 abbrev pub GivesBackTo : Option HostThread → HeldThread → HeldThread → ℕ → Type 0

@@ -12,6 +12,7 @@ pub mod Threads
 pub mod Turns
 pub mod Frames
 pub mod Pops
+pub mod Lives
 pub mod Services
 pub mod Resuming
 pub mod Defining

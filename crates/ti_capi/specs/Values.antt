@@ -9,8 +9,12 @@ use Rattle.ti_types.specs.declared.stack.StackInfo.{StackInfo}
 use Rattle.ti_types.specs.declared.state.Kind.{Kind}
 use Rattle.ti_types.specs.declared.state.Kind.TheVariants as kind
 use Rattle.ti_roster.specs.declared.life_event.LifeKind.{LifeKind}
-use Rattle.ti_roster.specs.declared.life_event.LifeKind.TheVariants.{ThreadStart, ThreadEnd}
-use Rattle.ti_roster.specs.declared.life_event.NextEvent.{NextEvent}
+use Rattle.ti_roster.specs.declared.life_event.LifeKind.TheVariants as life
+use Rattle.ti_service.specs.declared.event.Event.{Event}
+use Rattle.ti_service.specs.declared.event.Event.TheVariants as event
+use Rattle.ti_service.specs.declared.event.EventKind.{EventKind}
+use Rattle.ti_service.specs.declared.event.EventKind.TheVariants as kinds
+use Rattle.ti_service.specs.declared.event.NextEvent.{NextEvent}
 use Rattle.ti_capi.specs.declared.values.CqFrame.{CqFrame}
 use Rattle.ti_capi.specs.declared.values.CqTicket.{CqTicket}
 use Rattle.ti_capi.specs.declared.values.CqEvent.{CqEvent}
@@ -48,12 +52,21 @@ ticket_written k = record { env = k.env.0; thread = k.thread.0; no = k.no }
 abbrev pub ticket_read : CqTicket → Ticket
 ticket_read k = record { env = record { 0 = k.env }; thread = record { 0 = k.thread }; no = k.no }
 
-abbrev pub kind_written : LifeKind → ℕ
-kind_written ThreadStart = 0
-kind_written ThreadEnd = 1
+abbrev pub life_kind_written : LifeKind → ℕ
+life_kind_written life.ThreadStart = 0
+life_kind_written life.ThreadEnd = 1
+life_kind_written life.ThreadAttached = 3
+life_kind_written life.ThreadDetached = 4
+
+abbrev pub event_kind_read : ℕ → Option EventKind
+event_kind_read n = slice_get (kinds.ThreadStart ∷ kinds.ThreadEnd ∷ kinds.ClassPrepare ∷ kinds.ThreadAttached ∷ kinds.ThreadDetached ∷ []) n
+
+abbrev pub event_of : ℕ → Event → CqEvent
+event_of lost (event.Life l) = record { kind = life_kind_written l.kind; thread = l.thread.0; lost = lost }
+event_of lost (event.ClassPrepare c) = record { kind = 2; thread = c.0; lost = lost }
 
 abbrev pub event_written : NextEvent → CqEvent
-event_written n = record { kind = kind_written n.event.kind; thread = n.event.thread.0; lost = n.lost }
+event_written n = event_of n.lost n.event
 
 -- a thread, its state, and how many frames were read
 abbrev pub stack_written : StackInfo → CqStackInfo

@@ -1,7 +1,7 @@
 //! Questions of a door for debuggers, and the runtime's answers.
 
 use crate::any_door::AnyDoor;
-use crate::codes::{CQ_MISUSED, CQ_NONE, CQ_OK};
+use crate::codes::{CQ_MISUSED, CQ_NONE, CQ_OK, done_code};
 use crate::handle::CqDoor;
 use std::alloc::Global;
 use ti_debugger::{Content, Question, TellError, Told, Variable};

@@ -37,6 +37,7 @@ mod held_trace;
 mod parts;
 mod service_calls;
 mod thread_frames;
+mod thread_lives;
 mod thread_pops;
 mod thread_steps;
 mod thread_stops;

@@ -96,7 +96,7 @@ fn give_back(held: &mut HeldThread) -> u32
         return CQ_MISUSED;
     };
     match thread {
-        AnyThread::Ended(ended) => match held.service.end_thread_now(ended) {
+        AnyThread::Ended(ended) => match held.service.detach_thread_now(ended) {
             Ok(()) => CQ_OK,
             Err((error, ended)) => {
                 held.thread = Some(HostThread::of(AnyThread::Ended(ended), pops));

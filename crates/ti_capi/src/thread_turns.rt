@@ -31,14 +31,6 @@ fn take_turn_of(thread: &mut CqThread, turn: Turn) -> u32
     }
 }
 
-/// Starts the thread.
-#[unsafe(no_mangle)]
-pub extern "C" fn cq_start(thread: &mut CqThread) -> u32
-    ensures { Changes (TakesTurn turn.Start) thread.old thread.new result }
-{
-    take_turn_of(thread, Turn::Start)
-}
-
 /// Polls (JEP 312).
 #[unsafe(no_mangle)]
 pub extern "C" fn cq_poll(thread: &mut CqThread) -> u32
@@ -85,14 +77,6 @@ pub extern "C" fn cq_back(thread: &mut CqThread) -> u32
     ensures { Changes (TakesTurn turn.Back) thread.old thread.new result }
 {
     take_turn_of(thread, Turn::Back)
-}
-
-/// Ends the thread.
-#[unsafe(no_mangle)]
-pub extern "C" fn cq_end(thread: &mut CqThread) -> u32
-    ensures { Changes (TakesTurn turn.End) thread.old thread.new result }
-{
-    take_turn_of(thread, Turn::End)
 }
 
 ghost use Rattle.ti_thread.specs.Hosts.{TakesTurn};

@@ -1,6 +1,7 @@
 //! The values that cross to C and back.
 
-use ti_roster::{LifeKind, NextEvent, Stop, StopKind};
+use ti_roster::{LifeKind, Stop, StopKind};
+use ti_service::{Event, EventKind, NextEvent};
 use ti_types::{EnvNo, Frame, Kind, MethodNo, Place, ThreadNo, Ticket};
 
 /// The number that stands for all threads, which is no thread's.
@@ -121,17 +122,44 @@ pub(crate) fn ticket_in(ticket: CqTicket) -> Ticket
     }
 }
 
+/// A kind of event by C's number. `None` if there is no such kind.
+pub(crate) fn event_kind_in(kind: u32) -> Option<EventKind>
+    ensures { result ≡ event_kind_read kind }
+{
+    match kind {
+        0 => Some(EventKind::ThreadStart),
+        1 => Some(EventKind::ThreadEnd),
+        2 => Some(EventKind::ClassPrepare),
+        3 => Some(EventKind::ThreadAttached),
+        4 => Some(EventKind::ThreadDetached),
+        _ => None,
+    }
+}
+
 /// An event as C has it.
 pub(crate) fn event_out(next: NextEvent) -> CqEvent
     ensures { result ≡ event_written next }
 {
+    let (kind, number) = match next.event {
+        Event::Life(life) => (life_kind_out(life.kind), life.thread.0),
+        Event::ClassPrepare(class) => (2, class.0),
+    };
     CqEvent {
-        kind: match next.event.kind {
-            LifeKind::ThreadStart => 0,
-            LifeKind::ThreadEnd => 1,
-        },
-        thread: next.event.thread.0,
+        kind,
+        thread: number,
         lost: next.lost,
+    }
+}
+
+/// C's number for a kind of event of a thread's life.
+fn life_kind_out(kind: LifeKind) -> u32
+    ensures { result ≡ life_kind_written kind }
+{
+    match kind {
+        LifeKind::ThreadStart => 0,
+        LifeKind::ThreadEnd => 1,
+        LifeKind::ThreadAttached => 3,
+        LifeKind::ThreadDetached => 4,
     }
 }
 
@@ -194,5 +222,5 @@ pub(crate) fn reason_in(reason: u32) -> Option<Kind>
 }
 
 ghost use Rattle.std.specs.Prelude.{◌≡◌, if◌then◌else◌, Some, None};
-ghost use Rattle.ti_capi.specs.Values.{event_written, frame_of, frame_written, is_frame, reason_read, ticket_read, ticket_written};
+ghost use Rattle.ti_capi.specs.Values.{event_kind_read, event_written, frame_of, frame_written, is_frame, life_kind_written, reason_read, ticket_read, ticket_written};
 ghost use Rattle.ti_capi.specs.Stops.{bit, kind_read, stop_written, thread_read};

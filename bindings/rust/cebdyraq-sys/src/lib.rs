@@ -375,6 +375,7 @@ extern "C" {
     pub fn cq_get_potential_capabilities(env: *mut cq_env, capabilities: *mut u32) -> u32;
     pub fn cq_get_environment_local_storage(env: *mut cq_env, word: *mut u64) -> u32;
     pub fn cq_set_environment_local_storage(env: *mut cq_env, word: u64) -> u32;
+    pub fn cq_set_event_mode(env: *mut cq_env, enabled: bool, kind: u32) -> u32;
     pub fn cq_set_event_notification_mode(env: *mut cq_env, enabled: bool) -> u32;
     pub fn cq_next_event(env: *mut cq_env, event: *mut cq_event) -> u32;
     pub fn cq_set_breakpoint(env: *mut cq_env, method: u32, location: u32) -> u32;
@@ -482,6 +483,7 @@ extern "C" {
     pub fn cq_wait_cancel(env: *mut cq_env, signal: *mut cq_signal, ticket: *const cq_ticket) -> u32;
     pub fn cq_wait_discard(env: *mut cq_env, signal: *mut cq_signal, thread: u32, thrown: *mut bool) -> u32;
     pub fn cq_wait_ensure_resumed(env: *mut cq_env, signal: *mut cq_signal, thread: u32, timeout_ns: i64) -> u32;
+    pub fn cq_wait_set_event_mode(env: *mut cq_env, signal: *mut cq_signal, enabled: bool, kind: u32) -> u32;
     pub fn cq_wait_set_event_notification_mode(env: *mut cq_env, signal: *mut cq_signal, enabled: bool) -> u32;
     pub fn cq_wait_dispose_environment(env: *mut cq_env, signal: *mut cq_signal) -> u32;
     pub fn cq_wait_dispose_environment_within(env: *mut cq_env, signal: *mut cq_signal, timeout_ns: i64) -> u32;

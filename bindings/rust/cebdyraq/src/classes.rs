@@ -107,7 +107,8 @@ fn text_of(bytes: Vec<u8>) -> String {
 }
 
 impl Service {
-    /// Defines a class with its methods. From then on each environment of the service is told of it.
+    /// Defines a class with its methods. From then on each environment of the service is told of it, and those are woken that wait for
+    /// [`EventKind::ClassPrepare`](crate::EventKind::ClassPrepare).
     ///
     /// [`Error::Full`] if there would be 2^32 classes or methods.
     pub fn define_class(&mut self, class: &ClassInfo) -> Result<Defined, Error> {
@@ -133,6 +134,8 @@ impl Service {
                 &mut defined.first_method,
             )
         })?;
+        // SAFETY: it is used by atomic steps alone.
+        unsafe { sys::cq_wake(self.signal.at()) };
         Ok(defined)
     }
 }

@@ -29,20 +29,38 @@ pub struct StackInfo {
     pub frames: Vec<Frame>,
 }
 
-/// Which event of a thread's life it is.
+/// Kinds of events.
 #[derive(Clone, Copy, Debug, PartialEq, Eq, Hash)]
 pub enum EventKind {
-    /// The thread was attached.
+    /// A thread has started.
     ThreadStart,
-    /// The thread was given back.
+    /// A thread has ended.
     ThreadEnd,
+    /// A class was defined.
+    ClassPrepare,
+    /// A thread was attached. It is no event of JVM TI.
+    ThreadAttached,
+    /// A thread was given back, and can be let go. It is no event of JVM TI.
+    ThreadDetached,
 }
 
-/// An event, and how many were lost before it.
+impl EventKind {
+    const ALL: [EventKind; 5] = [
+        EventKind::ThreadStart,
+        EventKind::ThreadEnd,
+        EventKind::ClassPrepare,
+        EventKind::ThreadAttached,
+        EventKind::ThreadDetached,
+    ];
+}
+
+/// An event.
 #[derive(Clone, Copy, Debug, PartialEq, Eq, Hash)]
 pub struct Event {
     pub kind: EventKind,
+    /// The thread's number, or with `ClassPrepare` the class's.
     pub thread: u32,
+    /// How many events of threads were lost before it, of whatever kind.
     pub lost: u64,
 }
 
@@ -313,6 +331,11 @@ impl Environment {
         surely(unsafe { sys::cq_set_environment_local_storage(self.at(), word) });
     }
 
+    /// SetEventNotificationMode, of one kind at all threads. It is told of what happens from then on.
+    pub fn set_event_mode(&mut self, kind: EventKind, enabled: bool) {
+        surely(unsafe { sys::cq_wait_set_event_mode(self.at(), self.signal.at(), enabled, kind as u32) });
+    }
+
     /// SetEventNotificationMode, of ThreadStart and ThreadEnd at all threads.
     pub fn set_event_notification_mode(&mut self, enabled: bool) {
         surely(unsafe { sys::cq_wait_set_event_notification_mode(self.at(), self.signal.at(), enabled) });
@@ -322,7 +345,7 @@ impl Environment {
     pub fn next_event(&mut self) -> Result<Event, Error> {
         let mut event = sys::cq_event::default();
         checked(unsafe { sys::cq_wait_next_event(self.at(), self.signal.at(), self.time(), &mut event) })?;
-        let kind = if event.kind == 0 { EventKind::ThreadStart } else { EventKind::ThreadEnd };
+        let kind = EventKind::ALL[event.kind as usize];
         Ok(Event { kind, thread: event.thread, lost: event.lost })
     }
 

@@ -1,5 +1,5 @@
 use Rattle.std.proofs.Common.{Option, refl, sym, subst}
-use Rattle.ti_roster.specs.declared.life_event.NextEvent.{NextEvent}
+use Rattle.ti_service.specs.declared.event.NextEvent.{NextEvent}
 use Rattle.ti_service.specs.Memberships.{state_of}
 use Rattle.ti_service.specs.Telling.{TellsNext}
 use Rattle.ti_capi.specs.Calls.{EventTold}
