@@ -137,7 +137,10 @@ static uint32_t end(world *w) { return cq_end(&w->thread); }
 static uint32_t let_go(world *w) { return cq_let_go(&w->env, 0, &out.flag); }
 static uint32_t discard(world *w) { return cq_discard(&w->env, 0, &out.flag); }
 static uint32_t add_capabilities(world *w) { return cq_add_capabilities(&w->env, 3); }
+static uint32_t stopper(world *w) { return cq_stopper(&w->env, 0, &out.number); }
+static uint32_t environment_number(world *w) { return cq_environment_number(&w->env, &out.number); }
 static uint32_t enable(world *w) { return cq_set_event_notification_mode(&w->env, true); }
+static uint32_t enable_kind(world *w) { return cq_set_event_mode(&w->env, true, CQ_CLASS_PREPARE); }
 static uint32_t free_handle(world *w) { return cq_free(&w->service); }
 static uint32_t poll_and_collect(world *w) {
     OK(cq_poll(&w->thread));
@@ -151,7 +154,7 @@ static uint32_t end_and_discard(world *w) {
     return code;
 }
 static uint32_t told_of_a_thread(world *w) {
-    OK(cq_set_event_notification_mode(&w->env, true));
+    OK(cq_set_event_mode(&w->env, true, CQ_THREAD_ATTACHED));
     heap_refuse_after(-1);
     OK(cq_attach_thread(&w->service, (const uint8_t *)"t", 1, 5, &w->no_thread));
     heap_refuse_after(0);
@@ -167,7 +170,9 @@ static const row WITHOUT_MEMORY[] = {
     { "cq_back", CQ_OK, NATIVE, back }, { "cq_end", CQ_OK, FULL_WINDOW, end },
     { "cq_let_go", CQ_OK, GIVEN_BACK, let_go }, { "cq_ensure_resumed", CQ_OK, HELD, ensure_resumed },
     { "cq_discard", CQ_OK, WAITS, discard }, { "cq_add_capabilities", CQ_OK, RUNS, add_capabilities },
-    { "cq_set_event_notification_mode", CQ_OK, RUNS, enable }, { "cq_free", CQ_OK, RUNS, free_handle },
+    { "cq_stopper", CQ_NONE, RUNS, stopper }, { "cq_environment_number", CQ_OK, RUNS, environment_number },
+    { "cq_set_event_notification_mode", CQ_OK, RUNS, enable },
+    { "cq_set_event_mode", CQ_OK, RUNS, enable_kind }, { "cq_free", CQ_OK, RUNS, free_handle },
     { "cq_collect", CQ_OK, WAITS, poll_and_collect }, { "cq_next_event", CQ_OK, RUNS, told_of_a_thread },
 };
 

@@ -142,6 +142,7 @@ void waits_for_any(void) {
     OK(cq_wait_meet(&env, &signal_of_all));
     OK(cq_wait_start(&second, &signal_of_all, -1));
     OK(cq_enter(&second, 1));
+    OK(cq_meet(&env));
     SAME(cq_wait_any(&none, &signal_of_all, tickets, 0, -1, &which, &answer, &frame, 1), CQ_MISUSED);
     takes_the_answer_that_is_there();
     takes_a_refusal();
