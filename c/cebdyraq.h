@@ -88,8 +88,8 @@ extern "C" {
  */
 
 /* The version of this header. */
-#define CQ_VERSION_MAJOR 1
-#define CQ_VERSION_MINOR 8
+#define CQ_VERSION_MAJOR 2
+#define CQ_VERSION_MINOR 0
 #define CQ_VERSION_PATCH 0
 
 /* The version of the library that the program runs with, as major * 1,000,000 + minor * 1,000 + patch. */
@@ -221,7 +221,7 @@ typedef struct { uint64_t name_length; int32_t priority; } cq_thread_info;
 
 /* An event: its kind, from CQ_THREAD_START to CQ_THREAD_DETACHED; the thread's number, or with CQ_CLASS_PREPARE the class's; and how
  * many events of threads were lost before it, of whatever kind. */
-typedef struct { uint32_t kind; uint32_t thread; uint64_t lost; } cq_event;
+typedef struct { uint32_t kind; uint32_t number; uint64_t lost; } cq_event;
 
 /* A stop: the thread's number, where it is, and why it stops there. */
 typedef struct { uint32_t thread; uint32_t method; int64_t location; uint32_t why; } cq_stop;
@@ -254,20 +254,14 @@ uint32_t cq_set_heap(void *(*allocate)(size_t size), void *(*resize)(void *block
  *   `depth`   how many frames a thread may have: 1 to 65,536
  *   `envs`    how many environments may be attached at once: 1 to 32
  *   `window`  how many calls an environment may have out at a thread, posted and not collected: 1 to 1,024
+ *   `capabilities`  which its environments can have (GetPotentialCapabilities): a sum of CQ_CAN_SUSPEND and CQ_CAN_POP_FRAME, or 0.
+ *             A runtime whose threads cannot go on without frames that were popped (cq_take_pops) leaves the second out
  *
  *   CQ_MISUSED 304           `service` is not empty
- *   CQ_ILLEGAL_ARGUMENT 103  a number is out of its range
+ *   CQ_ILLEGAL_ARGUMENT 103  one of the first three is out of its range
+ *   CQ_NOT_AVAILABLE 98      there is no such capability
  *   CQ_OUT_OF_MEMORY 110     there is no memory for a service */
-uint32_t cq_make(uint32_t depth, uint32_t envs, uint32_t window, cq_service *service) CQ_MUST_USE;
-
-/* cq_make for a runtime that says which capabilities environments can have: `capabilities` is a sum of CQ_CAN_SUSPEND and
- * CQ_CAN_POP_FRAME, or 0. cq_make's can have both. A runtime whose threads cannot go on without frames that were popped
- * (cq_take_pops) leaves CQ_CAN_POP_FRAME out. Then nobody pops a frame.
- *
- * The codes are those of cq_make, and
- *   CQ_NOT_AVAILABLE 98  there is no such capability. It comes behind CQ_ILLEGAL_ARGUMENT */
-uint32_t cq_make_with(uint32_t depth, uint32_t envs, uint32_t window, uint32_t capabilities,
-                      cq_service *service) CQ_MUST_USE;
+uint32_t cq_make(uint32_t depth, uint32_t envs, uint32_t window, uint32_t capabilities, cq_service *service) CQ_MUST_USE;
 
 /* Fills `other` with one more handle of the same service, for another thread of the operating system.
  *
@@ -701,7 +695,7 @@ uint32_t cq_relinquish_capabilities(cq_env *env, uint32_t capabilities);
 /* GetCapabilities. Writes those that the environment has. */
 uint32_t cq_get_capabilities(cq_env *env, uint32_t *capabilities);
 
-/* GetPotentialCapabilities. Writes those that can be had: both, or those that cq_make_with was given. */
+/* GetPotentialCapabilities. Writes those that can be had, which cq_make was given. */
 uint32_t cq_get_potential_capabilities(cq_env *env, uint32_t *capabilities);
 
 /* GetEnvironmentLocalStorage. Writes the environment's own word, 0 at first. */
@@ -721,12 +715,7 @@ uint32_t cq_set_environment_local_storage(cq_env *env, uint64_t word);
  *
  *   CQ_ILLEGAL_ARGUMENT 103  there is no such kind
  *   CQ_BUSY 215              the list of threads is in use */
-uint32_t cq_set_event_mode(cq_env *env, bool enabled, uint32_t kind) CQ_MUST_USE;
-
-/* cq_set_event_mode of CQ_THREAD_END, and then of CQ_THREAD_START.
- *
- *   CQ_BUSY 215  the list of threads is in use. CQ_THREAD_END may be enabled already */
-uint32_t cq_set_event_notification_mode(cq_env *env, bool enabled) CQ_MUST_USE;
+uint32_t cq_set_event_notification_mode(cq_env *env, bool enabled, uint32_t kind) CQ_MUST_USE;
 
 /* Writes the next event to `event`: the first that happened since the last one that was told, of the kinds that are enabled. All
  * environments are told events of threads in one order. Of one thread that is: attached, start, end, detached. The service keeps

@@ -453,9 +453,10 @@ public:
     }
     void set_environment_local_storage(std::uint64_t word) { check(cq_set_environment_local_storage(get(), word)); }
 
-    void set_event_notification_mode(bool enabled) { check(cq_wait_set_event_notification_mode(get(), signal(), enabled)); }
     /* `kind` is from CQ_THREAD_START to CQ_THREAD_DETACHED. */
-    void set_event_mode(std::uint32_t kind, bool enabled) { check(cq_wait_set_event_mode(get(), signal(), enabled, kind)); }
+    void set_event_notification_mode(std::uint32_t kind, bool enabled) {
+        check(cq_wait_set_event_notification_mode(get(), signal(), enabled, kind));
+    }
     event next_event(time within = forever) {
         event next{};
         check(cq_wait_next_event(get(), signal(), within.count(), &next));
@@ -681,7 +682,7 @@ struct debug_options {
 /* A handle of a service. The service lives as long as one of its handles, threads or environments. */
 class service : public holder<cq_service> {
 public:
-    /* Environments can have these capabilities (cq_make_with). Throws std::runtime_error if the library does not fit the header
+    /* Environments can have these capabilities (cq_make). Throws std::runtime_error if the library does not fit the header
      * (cq_version_fits). */
     service(std::uint32_t depth, std::uint32_t envs, std::uint32_t window,
             std::uint32_t capabilities = CQ_CAN_SUSPEND | CQ_CAN_POP_FRAME)
@@ -690,7 +691,7 @@ public:
             throw std::runtime_error("libcebdyraq has the version " + std::to_string(cq_version()) +
                                      ", which does not fit the header");
         }
-        check(cq_make_with(depth, envs, window, capabilities, get()));
+        check(cq_make(depth, envs, window, capabilities, get()));
     }
     service(service &&) noexcept = default;
     service &operator=(service &&) noexcept = default;

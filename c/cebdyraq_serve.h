@@ -192,7 +192,7 @@ uint32_t cq_door_tells_variables(cq_door *door, bool tells);
  * that it may pop frames only if they do, and pops some of a thread that it suspends. It counts for the requests that come from then
  * on. The door's environment has CQ_CAN_POP_FRAME from then on, or gives it up. Nothing happens at a door for HTTP.
  *
- *   CQ_NOT_AVAILABLE 98  frames are to be popped, and the service's environments cannot have CQ_CAN_POP_FRAME (cq_make_with) */
+ *   CQ_NOT_AVAILABLE 98  frames are to be popped, and the service's environments cannot have CQ_CAN_POP_FRAME (cq_make) */
 uint32_t cq_door_pops_frames(cq_door *door, bool pops);
 
 /* Writes the open question to `question`, one of kind CQ_QUESTION_NONE if there is none, as always at a door for HTTP. */
@@ -317,7 +317,7 @@ uint32_t cq_server_variables(cq_server *server, const cq_variables *variables) C
 
 /* Says of a server that does not serve yet whether the runtime's threads go on without the frames that were popped, as
  * cq_door_pops_frames does, whenever it listens for debuggers from then on. At a service whose environments cannot have
- * CQ_CAN_POP_FRAME (cq_make_with) it changes nothing. CQ_MISUSED 304: it serves; nothing changes. */
+ * CQ_CAN_POP_FRAME (cq_make) it changes nothing. CQ_MISUSED 304: it serves; nothing changes. */
 uint32_t cq_server_pops_frames(cq_server *server, bool pops) CQ_MUST_USE;
 
 /* Says of a server that does not serve yet whether the runtime waits for its first debugger, as cq_door_starts_suspended does, whenever

@@ -369,12 +369,6 @@ uint32_t cq_wait_discard(cq_env *env, cq_signal *signal, uint32_t thread, bool *
     return w.code;
 }
 
-uint32_t cq_wait_set_event_notification_mode(cq_env *env, cq_signal *signal, bool enabled) {
-    waiter w = begin(signal, FOREVER, CQ_BUSY);
-    while (again(&w)) w.code = cq_set_event_notification_mode(env, enabled);
-    return w.code;
-}
-
 uint32_t cq_wait_dispose_environment(cq_env *env, cq_signal *signal) {
     return cq_wait_dispose_environment_within(env, signal, FOREVER);
 }
@@ -386,9 +380,9 @@ uint32_t cq_wait_dispose_environment_within(cq_env *env, cq_signal *signal, int6
     return came_or_went(&w);
 }
 
-uint32_t cq_wait_set_event_mode(cq_env *env, cq_signal *signal, bool enabled, uint32_t kind) {
+uint32_t cq_wait_set_event_notification_mode(cq_env *env, cq_signal *signal, bool enabled, uint32_t kind) {
     waiter w = begin(signal, FOREVER, CQ_BUSY);
-    while (again(&w)) w.code = cq_set_event_mode(env, enabled, kind);
+    while (again(&w)) w.code = cq_set_event_notification_mode(env, enabled, kind);
     return w.code;
 }
 

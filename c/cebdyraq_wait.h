@@ -131,11 +131,8 @@ uint32_t cq_wait_discard(cq_env *env, cq_signal *signal, uint32_t thread, bool *
  * CQ_THREAD_NOT_ALIVE 15, CQ_CALLS_SPENT 209. */
 uint32_t cq_wait_ensure_resumed(cq_env *env, cq_signal *signal, uint32_t thread, int64_t timeout_ns) CQ_MUST_USE;
 
-/* cq_set_event_mode. CQ_ILLEGAL_ARGUMENT 103. */
-uint32_t cq_wait_set_event_mode(cq_env *env, cq_signal *signal, bool enabled, uint32_t kind) CQ_MUST_USE;
-
-/* cq_set_event_notification_mode. */
-uint32_t cq_wait_set_event_notification_mode(cq_env *env, cq_signal *signal, bool enabled) CQ_MUST_USE;
+/* cq_set_event_notification_mode. CQ_ILLEGAL_ARGUMENT 103. */
+uint32_t cq_wait_set_event_notification_mode(cq_env *env, cq_signal *signal, bool enabled, uint32_t kind) CQ_MUST_USE;
 
 /* cq_dispose_environment. An environment that has can_suspend or can_pop_frame waits for each thread at which a call of it is out, until
  * the thread hands over or ends. One that runs and does neither keeps it for ever. CQ_OUT_OF_MEMORY 110, CQ_FULL 216. */

@@ -106,7 +106,7 @@ uint64_t runtime_pops(void) { return __atomic_load_n(&popped, __ATOMIC_SEQ_CST);
 
 void runtime_begin(void) {
     static const uint8_t name[] = "m\xC3\xA4in";
-    expect(cq_make(16, 2, 4, &service));
+    expect(cq_make(16, 2, 4, CQ_CAN_SUSPEND | CQ_CAN_POP_FRAME, &service));
     expect(cq_share(&service, &service_of_agents));
     define_classes();
     expect(cq_wait_attach_thread(&service, &signal_of_all, name, 5, 7, &thread));

@@ -279,7 +279,7 @@ class WithRuntime(unittest.TestCase):
 
     def test_events(self):
         env = self.env
-        env.set_event_mode(True, EventKind.THREAD_DETACHED)
+        env.set_event_notification_mode(True, EventKind.THREAD_DETACHED)
         began = time.monotonic()
         self.assert_code(Code.TIMED_OUT, env.next_event, timeout=0.05)
         self.assertGreaterEqual(time.monotonic() - began, 0.05)

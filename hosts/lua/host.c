@@ -259,7 +259,7 @@ static int refused(const char *what, uint32_t code) {
 int host_make(struct host *host, char **paths, size_t count, bool inspected) {
     host->scripts = calloc(count, sizeof *host->scripts);
     host->ended = eventfd(0, EFD_CLOEXEC);
-    uint32_t code = inspected ? cq_make_with(FRAMES, 1 + DOORS, 8, CQ_CAN_SUSPEND, &host->service) : CQ_OK;
+    uint32_t code = inspected ? cq_make(FRAMES, 1 + DOORS, 8, CQ_CAN_SUSPEND, &host->service) : CQ_OK;
     if (code != CQ_OK)
         return refused("the service", code);
     if (!host->scripts || host->ended < 0 || sem_init(&host->alive, 0, 0) || sem_init(&host->listening, 0, 0)

@@ -206,7 +206,7 @@ static void turn(void) {
 
 int main(int count, char **words) {
     if (count > 1) rounds = strtoull(words[1], NULL, 0);
-    OK(cq_make(64, 1, 8, &service));
+    OK(cq_make(64, 1, 8, CQ_CAN_SUSPEND | CQ_CAN_POP_FRAME, &service));
     OK(cq_attach_thread(&service, (const uint8_t *)"main", 4, 5, &thread));
     OK(cq_attach_environment(&service, &env));
     OK(cq_meet(&env));

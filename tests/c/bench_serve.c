@@ -62,7 +62,7 @@ static void read_answer(uint32_t connection) {
 }
 
 static void open_door(void) {
-    OK(cq_make(64, 1, 4, &service));
+    OK(cq_make(64, 1, 4, CQ_CAN_SUSPEND | CQ_CAN_POP_FRAME, &service));
     OK(cq_open_door(&service, (const uint8_t *)"bench", 5, 65536, now, &door));
 }
 

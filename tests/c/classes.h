@@ -14,7 +14,7 @@ typedef struct {
 
 static inline world build(void) {
     world w = { 0 };
-    OK(cq_make(4, 2, 2, &w.service));
+    OK(cq_make(4, 2, 2, CQ_CAN_SUSPEND | CQ_CAN_POP_FRAME, &w.service));
     OK(cq_attach_environment(&w.service, &w.env));
     return w;
 }

@@ -51,7 +51,7 @@ static void run_to(world *w, stage at) {
 void build(world *w, stage at, uint32_t envs) {
     memset(w, 0, sizeof *w);
     w->ticket = (cq_ticket){ 0, 0, 1000000 };
-    OK(cq_make(2, envs, 2, &w->service));
+    OK(cq_make(2, envs, 2, CQ_CAN_SUSPEND | CQ_CAN_POP_FRAME, &w->service));
     OK(cq_attach_environment(&w->service, &w->env));
     OK(cq_add_capabilities(&w->env, CQ_CAN_SUSPEND | CQ_CAN_POP_FRAME));
     OK(cq_set_environment_local_storage(&w->env, 70));

@@ -110,7 +110,6 @@ uint32_t refuse_while_gathering(void);
     CALL(ensure_resumed, cq_ensure_resumed(h, 0)) \
     CALL(out_at, cq_out_at(h, 0, &out.number)) \
     CALL(stopper, cq_stopper(h, 0, &out.number)) \
-    CALL(set_event_mode, cq_set_event_mode(h, true, 0)) \
     CALL(environment_number, cq_environment_number(h, &out.number)) \
     CALL(gather_all_stack_traces, cq_gather_all_stack_traces(h, 2)) \
     CALL(gather_thread_list_stack_traces, cq_gather_thread_list_stack_traces(h, out.threads, 0, 2)) \
@@ -122,7 +121,7 @@ uint32_t refuse_while_gathering(void);
     CALL(get_potential_capabilities, cq_get_potential_capabilities(h, &out.number)) \
     CALL(get_environment_local_storage, cq_get_environment_local_storage(h, &out.word)) \
     CALL(set_environment_local_storage, cq_set_environment_local_storage(h, 7)) \
-    CALL(set_event_notification_mode, cq_set_event_notification_mode(h, true)) \
+    CALL(set_event_notification_mode, cq_set_event_notification_mode(h, true, 0)) \
     CALL(next_event, cq_next_event(h, &out.event)) \
     CALL(dispose_environment, cq_dispose_environment(h))
 

@@ -143,7 +143,7 @@ const row ENV_ROWS[] = {
     MISUSES(add_capabilities), { "cq_add_capabilities", CQ_NOT_AVAILABLE, RUNS, add_capabilities },
     MISUSES(relinquish_capabilities), MISUSES(get_capabilities), MISUSES(get_potential_capabilities),
     MISUSES(get_environment_local_storage), MISUSES(set_environment_local_storage),
-    MISUSES(set_event_notification_mode), MISUSES(set_event_mode),
+    MISUSES(set_event_notification_mode),
     MISUSES(next_event), { "cq_next_event", CQ_NONE, RUNS, next_event },
     MISUSES(dispose_environment),
 };

@@ -8,8 +8,7 @@ enum { MOST_BLOCKS = 100 };
 
 static const cq_frame TWO[] = { { 1, 5 }, { 2, -1 } };
 
-static uint32_t make(world *w) { return cq_make(4, 2, 2, &w->no_service); }
-static uint32_t make_with(world *w) { return cq_make_with(4, 2, 2, 0, &w->no_service); }
+static uint32_t make(world *w) { return cq_make(4, 2, 2, CQ_CAN_SUSPEND | CQ_CAN_POP_FRAME, &w->no_service); }
 static uint32_t share(world *w) { return cq_share(&w->service, &w->no_service); }
 static uint32_t attach_thread(world *w) {
     return cq_attach_thread(&w->service, (const uint8_t *)"t", 1, 5, &w->no_thread);
@@ -65,7 +64,7 @@ static uint32_t gather_and_give_up(world *w) {
 
 /* The code here is that of the success. */
 static const row WITH_MEMORY[] = {
-    { "cq_make", CQ_OK, RUNS, make }, { "cq_make_with", CQ_OK, RUNS, make_with }, { "cq_share", CQ_OK, RUNS, share },
+    { "cq_make", CQ_OK, RUNS, make }, { "cq_share", CQ_OK, RUNS, share },
     { "cq_attach_thread", CQ_OK, RUNS, attach_thread },
     { "cq_attach_environment", CQ_OK, RUNS, attach_environment }, { "cq_set_frames", CQ_OK, IN_METHOD, set_frames },
     { "cq_set_newest_frames", CQ_OK, IN_METHOD, set_newest_frames },
@@ -139,8 +138,7 @@ static uint32_t discard(world *w) { return cq_discard(&w->env, 0, &out.flag); }
 static uint32_t add_capabilities(world *w) { return cq_add_capabilities(&w->env, 3); }
 static uint32_t stopper(world *w) { return cq_stopper(&w->env, 0, &out.number); }
 static uint32_t environment_number(world *w) { return cq_environment_number(&w->env, &out.number); }
-static uint32_t enable(world *w) { return cq_set_event_notification_mode(&w->env, true); }
-static uint32_t enable_kind(world *w) { return cq_set_event_mode(&w->env, true, CQ_CLASS_PREPARE); }
+static uint32_t enable(world *w) { return cq_set_event_notification_mode(&w->env, true, CQ_CLASS_PREPARE); }
 static uint32_t free_handle(world *w) { return cq_free(&w->service); }
 static uint32_t poll_and_collect(world *w) {
     OK(cq_poll(&w->thread));
@@ -154,7 +152,7 @@ static uint32_t end_and_discard(world *w) {
     return code;
 }
 static uint32_t told_of_a_thread(world *w) {
-    OK(cq_set_event_mode(&w->env, true, CQ_THREAD_ATTACHED));
+    OK(cq_set_event_notification_mode(&w->env, true, CQ_THREAD_ATTACHED));
     heap_refuse_after(-1);
     OK(cq_attach_thread(&w->service, (const uint8_t *)"t", 1, 5, &w->no_thread));
     heap_refuse_after(0);
@@ -171,8 +169,7 @@ static const row WITHOUT_MEMORY[] = {
     { "cq_let_go", CQ_OK, GIVEN_BACK, let_go }, { "cq_ensure_resumed", CQ_OK, HELD, ensure_resumed },
     { "cq_discard", CQ_OK, WAITS, discard }, { "cq_add_capabilities", CQ_OK, RUNS, add_capabilities },
     { "cq_stopper", CQ_NONE, RUNS, stopper }, { "cq_environment_number", CQ_OK, RUNS, environment_number },
-    { "cq_set_event_notification_mode", CQ_OK, RUNS, enable },
-    { "cq_set_event_mode", CQ_OK, RUNS, enable_kind }, { "cq_free", CQ_OK, RUNS, free_handle },
+    { "cq_set_event_notification_mode", CQ_OK, RUNS, enable }, { "cq_free", CQ_OK, RUNS, free_handle },
     { "cq_collect", CQ_OK, WAITS, poll_and_collect }, { "cq_next_event", CQ_OK, RUNS, told_of_a_thread },
 };
 

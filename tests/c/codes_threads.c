@@ -5,20 +5,20 @@ static const uint8_t NAME[] = "name";
 
 /* The service. */
 
-static uint32_t make_over_service(world *w) { return cq_make(1, 1, 1, &w->service); }
-static uint32_t make_over_env(world *w) { return cq_make(1, 1, 1, (cq_service *)(void *)&w->env); }
-static uint32_t make_no_depth(world *w) { return cq_make(0, 1, 1, &w->no_service); }
-static uint32_t make_deep(world *w) { return cq_make(65537, 1, 1, &w->no_service); }
-static uint32_t make_no_envs(world *w) { return cq_make(1, 0, 1, &w->no_service); }
-static uint32_t make_many_envs(world *w) { return cq_make(1, 33, 1, &w->no_service); }
-static uint32_t make_no_window(world *w) { return cq_make(1, 1, 0, &w->no_service); }
-static uint32_t make_wide(world *w) { return cq_make(1, 1, 1025, &w->no_service); }
+static uint32_t make_over_service(world *w) { return cq_make(1, 1, 1, CQ_CAN_SUSPEND | CQ_CAN_POP_FRAME, &w->service); }
+static uint32_t make_over_env(world *w) { return cq_make(1, 1, 1, CQ_CAN_SUSPEND | CQ_CAN_POP_FRAME, (cq_service *)(void *)&w->env); }
+static uint32_t make_no_depth(world *w) { return cq_make(0, 1, 1, CQ_CAN_SUSPEND | CQ_CAN_POP_FRAME, &w->no_service); }
+static uint32_t make_deep(world *w) { return cq_make(65537, 1, 1, CQ_CAN_SUSPEND | CQ_CAN_POP_FRAME, &w->no_service); }
+static uint32_t make_no_envs(world *w) { return cq_make(1, 0, 1, CQ_CAN_SUSPEND | CQ_CAN_POP_FRAME, &w->no_service); }
+static uint32_t make_many_envs(world *w) { return cq_make(1, 33, 1, CQ_CAN_SUSPEND | CQ_CAN_POP_FRAME, &w->no_service); }
+static uint32_t make_no_window(world *w) { return cq_make(1, 1, 0, CQ_CAN_SUSPEND | CQ_CAN_POP_FRAME, &w->no_service); }
+static uint32_t make_wide(world *w) { return cq_make(1, 1, 1025, CQ_CAN_SUSPEND | CQ_CAN_POP_FRAME, &w->no_service); }
 /* CQ_MISUSED comes before the others. */
-static uint32_t make_deep_over_service(world *w) { return cq_make(65537, 33, 0, &w->service); }
-static uint32_t make_with_tags(world *w) { return cq_make_with(1, 1, 1, 4, &w->no_service); }
+static uint32_t make_deep_over_service(world *w) { return cq_make(65537, 33, 0, CQ_CAN_SUSPEND | CQ_CAN_POP_FRAME, &w->service); }
+static uint32_t make_with_tags(world *w) { return cq_make(1, 1, 1, 4, &w->no_service); }
 /* CQ_ILLEGAL_ARGUMENT comes before CQ_NOT_AVAILABLE. */
-static uint32_t make_deep_with_tags(world *w) { return cq_make_with(65537, 1, 1, 4, &w->no_service); }
-static uint32_t make_with_tags_over_env(world *w) { return cq_make_with(1, 1, 1, 4, (cq_service *)(void *)&w->env); }
+static uint32_t make_deep_with_tags(world *w) { return cq_make(65537, 1, 1, 4, &w->no_service); }
+static uint32_t make_with_tags_over_env(world *w) { return cq_make(1, 1, 1, 4, (cq_service *)(void *)&w->env); }
 
 static uint32_t share_over_env(world *w) { return cq_share(&w->service, (cq_service *)(void *)&w->env); }
 static uint32_t share_over_thread(world *w) { return cq_share(&w->service, (cq_service *)(void *)&w->thread); }
@@ -54,9 +54,9 @@ const row SERVICE_ROWS[] = {
     { "cq_make", CQ_ILLEGAL_ARGUMENT, RUNS, make_no_depth }, { "cq_make", CQ_ILLEGAL_ARGUMENT, RUNS, make_deep },
     { "cq_make", CQ_ILLEGAL_ARGUMENT, RUNS, make_no_envs }, { "cq_make", CQ_ILLEGAL_ARGUMENT, RUNS, make_many_envs },
     { "cq_make", CQ_ILLEGAL_ARGUMENT, RUNS, make_no_window }, { "cq_make", CQ_ILLEGAL_ARGUMENT, RUNS, make_wide },
-    { "cq_make_with", CQ_MISUSED, RUNS, make_with_tags_over_env },
-    { "cq_make_with", CQ_ILLEGAL_ARGUMENT, RUNS, make_deep_with_tags },
-    { "cq_make_with", CQ_NOT_AVAILABLE, RUNS, make_with_tags },
+    { "cq_make", CQ_MISUSED, RUNS, make_with_tags_over_env },
+    { "cq_make", CQ_ILLEGAL_ARGUMENT, RUNS, make_deep_with_tags },
+    { "cq_make", CQ_NOT_AVAILABLE, RUNS, make_with_tags },
     { "cq_share", CQ_MISUSED, RUNS, share_over_env }, { "cq_share", CQ_MISUSED, RUNS, share_over_thread },
     { "cq_share", CQ_MISUSED, RUNS, share_of_empty }, { "cq_share", CQ_MISUSED, RUNS, share_of_env },
     { "cq_free", CQ_MISUSED, RUNS, free_service_empty }, { "cq_free", CQ_MISUSED, RUNS, free_service_wrong },

@@ -6,7 +6,7 @@
 
 int main() {
     cq_service service{};
-    if (cq_make(4, 1, 1, &service) != CQ_OK || cq_free(&service) != CQ_OK) {
+    if (cq_make(4, 1, 1, CQ_CAN_SUSPEND | CQ_CAN_POP_FRAME, &service) != CQ_OK || cq_free(&service) != CQ_OK) {
         return 1;
     }
     cq_signal signal{};

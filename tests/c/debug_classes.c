@@ -111,7 +111,7 @@ static void begin(void) {
     atomic_store(&count, 1);
     sem_init(&inside, 0, 0);
     sem_init(&release, 0, 0);
-    OK(cq_make(8, 2, 4, &service));
+    OK(cq_make(8, 2, 4, CQ_CAN_SUSPEND | CQ_CAN_POP_FRAME, &service));
     define(&service, "old", 0, 1);
     for (size_t i = 0; i < WORKERS; i++) {
         begin_worker(&workers[i], names[i]);
@@ -337,7 +337,7 @@ static void returns_when_the_server_ends(void) {
 static void refuses_servers_for_others(void) {
     cq_server none = { 0 }, http = { 0 };
     SAME(cq_server_tell_classes(&none), CQ_MISUSED);
-    OK(cq_make(8, 2, 4, &service));
+    OK(cq_make(8, 2, 4, CQ_CAN_SUSPEND | CQ_CAN_POP_FRAME, &service));
     OK(cq_serve(&http, &service, NULL, "127.0.0.1:0", "tests"));
     SAME(cq_server_tell_classes(&http), CQ_MISUSED);
     OK(cq_serve_end(&http));

@@ -59,7 +59,7 @@ void begin_debugged(const char *address) {
     static void *(*const runs[])(void *) = { work, doze };
     static const char *const names[] = { "worker", "sleeper" };
     atomic_store(&over, false);
-    OK(cq_make(8, 2, 4, &service));
+    OK(cq_make(8, 2, 4, CQ_CAN_SUSPEND | CQ_CAN_POP_FRAME, &service));
     for (size_t i = 0; i < 2; i++) {
         OK(cq_wait_attach_thread(&service, &all_signal, (const uint8_t *)names[i], strlen(names[i]), 5, &threads[i]));
         SAME(pthread_create(&ids[i], NULL, runs[i], NULL), 0);

@@ -45,7 +45,7 @@ static void begin(void) {
     sem_init(&stands, 0, 0);
     sem_init(&listening, 0, 0);
     sem_init(&over, 0, 0);
-    OK(cq_make(8, 2, 4, &service));
+    OK(cq_make(8, 2, 4, CQ_CAN_SUSPEND | CQ_CAN_POP_FRAME, &service));
     OK(cq_wait_attach_thread(&service, &all_signal, (const uint8_t *)"worker", 6, 5, &thread));
     SAME(pthread_create(&id, NULL, work, NULL), 0);
     await(&stands);
@@ -124,7 +124,7 @@ static void begins_once_the_server_has_ended(void) {
 static void refuses_servers_for_others(void) {
     cq_server none = { 0 }, http = { 0 };
     SAME(cq_server_await_resumption(&none), CQ_MISUSED);
-    OK(cq_make(8, 2, 4, &service));
+    OK(cq_make(8, 2, 4, CQ_CAN_SUSPEND | CQ_CAN_POP_FRAME, &service));
     OK(cq_serve(&http, &service, NULL, "127.0.0.1:0", "tests"));
     SAME(cq_server_await_resumption(&http), CQ_MISUSED);
     OK(cq_serve_end(&http));

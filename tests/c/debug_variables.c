@@ -76,7 +76,7 @@ static uint32_t of_frame(void *context, uint32_t number, uint32_t depth, cq_tell
 static void begin(void) {
     static const cq_method_strings methods[] = { { .name = "work", .lines_kind = CQ_LINES_LOCATIONS, .first_line = 3 } };
     uint32_t class_no = 0, first = 0;
-    OK(cq_make(8, 2, 4, &service));
+    OK(cq_make(8, 2, 4, CQ_CAN_SUSPEND | CQ_CAN_POP_FRAME, &service));
     OK(cq_define_class_strings(&service, "Lwork;", "work.x", methods, 1, &class_no, &first));
     OK(cq_wait_attach_thread(&service, &all_signal, (const uint8_t *)"worker", 6, 5, &thread));
     atomic_store(&over, false);

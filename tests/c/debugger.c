@@ -39,7 +39,7 @@ static void end(cq_thread *thread) {
 
 void begin_runtime(void) {
     cq_frame frames[] = { { 1, 11 }, { 0, 5 } };
-    OK(cq_make(8, 3, 4, &service));
+    OK(cq_make(8, 3, 4, CQ_CAN_SUSPEND | CQ_CAN_POP_FRAME, &service));
     define();
     start(&worker, "worker");
     OK(cq_set_frames(&worker, frames, 2));

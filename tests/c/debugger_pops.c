@@ -105,7 +105,7 @@ static void pops_none(void) {
 static void cannot_pop(void) {
     cq_service one = { 0 };
     cq_door other = { 0 };
-    OK(cq_make_with(8, 1, 4, CQ_CAN_SUSPEND, &one));
+    OK(cq_make(8, 1, 4, CQ_CAN_SUSPEND, &one));
     OK(cq_open_debugger(&one, (const uint8_t *)"tests", 5, (const uint8_t *)"/src", 4, 0, &other));
     SAME(cq_door_pops_frames(&other, true), CQ_NOT_AVAILABLE);
     OK(cq_door_pops_frames(&other, false));

@@ -157,7 +157,7 @@ static void fills(void) {
 
 int main(int argc, char **argv) {
     uint64_t streams = argc > 1 ? strtoull(argv[1], NULL, 10) : 100000, seed = argc > 2 ? strtoull(argv[2], NULL, 10) : 1;
-    OK(cq_make(4, 1, 4, &service));
+    OK(cq_make(4, 1, 4, CQ_CAN_SUSPEND | CQ_CAN_POP_FRAME, &service));
     OK(cq_attach_thread(&service, (const uint8_t *)"still", 5, 5, &thread));
     OK(cq_start(&thread));
     OK(cq_open_door(&service, (const uint8_t *)"test", 4, 6060, now, &door));

@@ -18,7 +18,7 @@ static cq_thread thread;
 static cq_env env, other;
 
 static void set_up(void) {
-    OK(cq_make(4, 2, 4, &service));
+    OK(cq_make(4, 2, 4, CQ_CAN_SUSPEND | CQ_CAN_POP_FRAME, &service));
     OK(cq_attach_environment(&service, &env));
     OK(cq_attach_environment(&service, &other));
 }
@@ -29,7 +29,7 @@ static void tear_down(void) {
     OK(cq_free(&service));
 }
 
-static void enable(cq_env *e, uint32_t kind) { OK(cq_set_event_mode(e, true, kind)); }
+static void enable(cq_env *e, uint32_t kind) { OK(cq_set_event_notification_mode(e, true, kind)); }
 
 static void attach(cq_thread *t) { OK(cq_attach_thread(&service, (const uint8_t *)"", 0, 5, t)); }
 
@@ -44,7 +44,7 @@ static void told(cq_env *e, uint32_t kind, uint32_t number) {
     cq_event event = { 77, 77, 77 };
     OK(cq_next_event(e, &event));
     SAME(event.kind, kind);
-    SAME(event.thread, number);
+    SAME(event.number, number);
     SAME(event.lost, 0);
 }
 
@@ -53,7 +53,7 @@ static void told_nothing(cq_env *e) {
     cq_event event = { 77, 78, 79 };
     SAME(cq_next_event(e, &event), CQ_NONE);
     SAME(event.kind, 77);
-    SAME(event.thread, 78);
+    SAME(event.number, 78);
     SAME(event.lost, 79);
 }
 
@@ -91,7 +91,7 @@ static void each_kind_alone(void) {
         told(&env, kind, 1);
         told_nothing(&env);
         told_nothing(&other);
-        OK(cq_set_event_mode(&env, false, kind));
+        OK(cq_set_event_notification_mode(&env, false, kind));
         live();
         told_nothing(&env);
         enable(&env, kind);
@@ -188,25 +188,11 @@ static void refusals_are_not_told(void) {
 static void no_such_kind(void) {
     set_up();
     enable(&env, CQ_THREAD_START);
-    SAME(cq_set_event_mode(&env, false, KINDS), CQ_ILLEGAL_ARGUMENT);
-    SAME(cq_set_event_mode(&env, true, UINT32_MAX), CQ_ILLEGAL_ARGUMENT);
-    SAME(cq_set_event_mode((cq_env *)(void *)&service, true, CQ_THREAD_START), CQ_MISUSED);
+    SAME(cq_set_event_notification_mode(&env, false, KINDS), CQ_ILLEGAL_ARGUMENT);
+    SAME(cq_set_event_notification_mode(&env, true, UINT32_MAX), CQ_ILLEGAL_ARGUMENT);
+    SAME(cq_set_event_notification_mode((cq_env *)(void *)&service, true, CQ_THREAD_START), CQ_MISUSED);
     live();
     told(&env, CQ_THREAD_START, 0);
-    told_nothing(&env);
-    tear_down();
-}
-
-/* Starts and ends at once. */
-static void both_at_once(void) {
-    set_up();
-    OK(cq_set_event_notification_mode(&env, true));
-    live();
-    told(&env, CQ_THREAD_START, 0);
-    told(&env, CQ_THREAD_END, 0);
-    told_nothing(&env);
-    OK(cq_set_event_notification_mode(&env, false));
-    live();
     told_nothing(&env);
     tear_down();
 }
@@ -238,7 +224,7 @@ static void is_awaited(uint32_t index) {
 static void events_wake(void) {
     pthread_t id;
     set_up();
-    for (uint32_t kind = 0; kind < KINDS; kind++) OK(cq_wait_set_event_mode(&env, &signal_of_all, true, kind));
+    for (uint32_t kind = 0; kind < KINDS; kind++) OK(cq_wait_set_event_notification_mode(&env, &signal_of_all, true, kind));
     SAME(pthread_create(&id, NULL, await_all, NULL), 0);
     is_awaited(0);
     OK(cq_wait_attach_thread(&service, &signal_of_all, (const uint8_t *)"", 0, 5, &thread));
@@ -262,7 +248,6 @@ int main(void) {
     kinds_at_different_moments();
     refusals_are_not_told();
     no_such_kind();
-    both_at_once();
     events_wake();
     return 0;
 }

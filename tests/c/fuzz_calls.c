@@ -75,7 +75,8 @@ static void make(void) {
     uint32_t depth = at_the_edge ? (uint32_t)pick_small() : 1 + below(5);
     uint32_t envs = at_the_edge ? pick_number() : 1 + below(3);
     uint32_t window = at_the_edge ? pick_number() : 1 + below(3);
-    BOTH(make, (depth, envs, window, &s->real.service), (depth, envs, window, &s->model.service));
+    uint32_t can = at_the_edge ? pick_number() : below(4);
+    BOTH(make, (depth, envs, window, can, &s->real.service), (depth, envs, window, can, &s->model.service));
 }
 
 static void share(void) {
@@ -415,17 +416,11 @@ static void environment_local_storage(void) {
     BOTH(set_environment_local_storage, (&s->real.env, word), (&s->model.env, word));
 }
 
-static void set_event_mode(void) {
+static void set_event_notification_mode(void) {
     slot *s = pick_agent();
     uint32_t kind = below(8) == 0 ? pick_number() : below(5);
     bool enabled = below(3) != 0;
-    BOTH(set_event_mode, (&s->real.env, enabled, kind), (&s->model.env, enabled, kind));
-}
-
-static void set_event_notification_mode(void) {
-    slot *s = pick_agent();
-    bool enabled = below(3) != 0;
-    BOTH(set_event_notification_mode, (&s->real.env, enabled), (&s->model.env, enabled));
+    BOTH(set_event_notification_mode, (&s->real.env, enabled, kind), (&s->model.env, enabled, kind));
 }
 
 static void next_event(void) {
@@ -433,7 +428,7 @@ static void next_event(void) {
     cq_event real = { 9, 99, 99 }, model = { 9, 99, 99 };
     BOTH(next_event, (&s->real.env, &real), (&s->model.env, &model));
     agree("an event's kind", real.kind, model.kind);
-    agree("an event's thread", real.thread, model.thread);
+    agree("an event's number", real.number, model.number);
     agree("the events that were lost", real.lost, model.lost);
 }
 
@@ -451,8 +446,8 @@ static void attach_agent(slot *s, slot *agent) {
 void furnish(void) {
     static const uint8_t name[] = "main";
     slot *s = &slots[0], *agent = &slots[1];
-    uint32_t depth = 1 + below(5), envs = 1 + below(3), window = 1 + below(3);
-    BOTH(make, (depth, envs, window, &s->real.service), (depth, envs, window, &s->model.service));
+    uint32_t depth = 1 + below(5), envs = 1 + below(3), window = 1 + below(3), can = CQ_CAN_SUSPEND | CQ_CAN_POP_FRAME;
+    BOTH(make, (depth, envs, window, can, &s->real.service), (depth, envs, window, can, &s->model.service));
     BOTH(attach_environment, (&s->real.service, &agent->real.env), (&s->model.service, &agent->model.env));
     for (slot *thread = &slots[2]; thread <= &slots[3]; thread++) {
         BOTH(attach_thread, (&s->real.service, name, 4, 5, &thread->real.thread),
@@ -478,7 +473,7 @@ static const weighted CALLS[] = {
     { 4, out_at }, { 4, gather_all_stack_traces }, { 4, gather_thread_list_stack_traces }, { 20, gather_step },
     { 2, gather_give_up }, { 2, gathered }, { 4, gathered_stack },
     { 3, add_capabilities }, { 1, relinquish_capabilities }, { 1, get_capabilities },
-    { 2, environment_local_storage }, { 4, set_event_mode }, { 1, set_event_notification_mode }, { 6, next_event }, { 1, dispose_environment },
+    { 2, environment_local_storage }, { 4, set_event_notification_mode }, { 6, next_event }, { 1, dispose_environment },
 };
 
 enum { KINDS = sizeof CALLS / sizeof CALLS[0] };

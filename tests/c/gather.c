@@ -61,7 +61,7 @@ static void set_up_threads(void) {
 }
 
 static void set_up(void) {
-    OK(cq_make(DEPTH, 3, 4, &service));
+    OK(cq_make(DEPTH, 3, 4, CQ_CAN_SUSPEND | CQ_CAN_POP_FRAME, &service));
     OK(cq_attach_environment(&service, &env));
     OK(cq_attach_environment(&service, &other));
     OK(cq_add_capabilities(&other, CQ_CAN_SUSPEND));

@@ -37,7 +37,7 @@ static uint32_t late_gather_give_up(cq_env *of) {
 #include "../../c/cebdyraq_wait.c"
 
 static void set_up(void) {
-    OK(cq_make(4, 1, 4, &service));
+    OK(cq_make(4, 1, 4, CQ_CAN_SUSPEND | CQ_CAN_POP_FRAME, &service));
     OK(cq_attach_environment(&service, &env));
     for (uint32_t i = 0; i < THREADS; i++) {
         OK(cq_attach_thread(&service, (const uint8_t *)"", 0, 5, &threads[i]));

@@ -28,7 +28,7 @@ static uint32_t stopper(uint32_t thread) {
 }
 
 static void set_up(uint32_t runs_from) {
-    OK(cq_make(4, 3, 4, &service));
+    OK(cq_make(4, 3, 4, CQ_CAN_SUSPEND | CQ_CAN_POP_FRAME, &service));
     for (uint32_t i = 0; i < THREADS; i++) {
         OK(cq_attach_thread(&service, (const uint8_t *)"", 0, 5, &threads[i]));
         OK(cq_start(&threads[i]));

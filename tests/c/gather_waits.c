@@ -56,7 +56,7 @@ static void await(int wanted) {
 }
 
 static void set_up(void) {
-    OK(cq_make(DEPTH, 2, 4, &service));
+    OK(cq_make(DEPTH, 2, 4, CQ_CAN_SUSPEND | CQ_CAN_POP_FRAME, &service));
     OK(cq_wait_attach_environment(&service, &signal_of_all, &env));
     OK(cq_wait_attach_environment(&service, &signal_of_all, &other));
     for (uint32_t i = 0; i < WORKERS; i++) {

@@ -122,7 +122,7 @@ static void let_go(void) {
 int main(int count, char **words) {
     if (count > 1) threads = (uint32_t)strtoul(words[1], NULL, 10);
     CHECK(threads > 0 && threads <= MOST_THREADS);
-    OK(cq_make(4, 1, 4, &services[0]));
+    OK(cq_make(4, 1, 4, CQ_CAN_SUSPEND | CQ_CAN_POP_FRAME, &services[0]));
     for (uint32_t i = 1; i < CARRIERS; i++) OK(cq_share(&services[0], &services[i]));
     OK(cq_wait_attach_environment(&services[0], &shared, &env));
     on_all_carriers(start_all, 0);

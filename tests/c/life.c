@@ -35,7 +35,7 @@ static void check_frame(cq_frame frame, uint32_t method, int64_t location) {
 static void make(void) {
     cq_service other = { 0, NULL };
     uint32_t number = 7;
-    OK(cq_make(8, 2, 4, &service));
+    OK(cq_make(8, 2, 4, CQ_CAN_SUSPEND | CQ_CAN_POP_FRAME, &service));
     OK(cq_share(&service, &other));
     OK(cq_attach_thread(&other, (const uint8_t *)"main", 4, 5, &thread));
     OK(cq_thread_number(&thread, &number));
@@ -234,8 +234,8 @@ static void give_up(void) {
 }
 
 static void enable_attached_and_detached(bool enabled) {
-    OK(cq_set_event_mode(&env, enabled, CQ_THREAD_ATTACHED));
-    OK(cq_set_event_mode(&env, enabled, CQ_THREAD_DETACHED));
+    OK(cq_set_event_notification_mode(&env, enabled, CQ_THREAD_ATTACHED));
+    OK(cq_set_event_notification_mode(&env, enabled, CQ_THREAD_DETACHED));
 }
 
 /* A second thread comes and goes without having started, and is told of. GetAllThreads does not list it. */
@@ -272,7 +272,7 @@ static void events(void) {
     for (uint32_t kind = CQ_THREAD_ATTACHED; kind <= CQ_THREAD_DETACHED; kind++) {
         OK(cq_next_event(&env, &event));
         SAME(event.kind, kind);
-        SAME(event.thread, 1);
+        SAME(event.number, 1);
         SAME(event.lost, 0);
     }
     SAME(cq_next_event(&env, &event), CQ_NONE);
@@ -292,7 +292,7 @@ static void events_are_lost(void) {
     for (uint32_t i = 6000 - 4096; i < 6000; i++) {
         OK(cq_next_event(&env, &event));
         SAME(event.kind, i % 2 == 0 ? CQ_THREAD_ATTACHED : CQ_THREAD_DETACHED);
-        SAME(event.thread, 2 + i / 2);
+        SAME(event.number, 2 + i / 2);
         SAME(event.lost, i == 6000 - 4096 ? 6000 - 4096 : 0);
     }
     SAME(cq_next_event(&env, &event), CQ_NONE);
@@ -305,7 +305,7 @@ static void events_are_lost(void) {
     OK(cq_next_event(&env, &event));
     SAME(event.kind, CQ_THREAD_DETACHED);
     enable_attached_and_detached(false);
-    OK(cq_set_event_notification_mode(&env, true));
+    OK(cq_set_event_notification_mode(&env, true, CQ_THREAD_END));
 }
 
 static void end(void) {
@@ -328,7 +328,7 @@ static void end(void) {
     SAME(state(), 0x2);
     OK(cq_next_event(&env, &event));
     SAME(event.kind, CQ_THREAD_END);
-    SAME(event.thread, 0);
+    SAME(event.number, 0);
     SAME(cq_next_event(&env, &event), CQ_NONE);
 }
 

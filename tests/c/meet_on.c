@@ -35,7 +35,7 @@ static void come_and_go(uint32_t first) {
 
 int main(int count, char **words) {
     uint32_t rounds = count > 1 ? (uint32_t)strtoul(words[1], NULL, 10) : 17;
-    OK(cq_make(1, 1, 2, &service));
+    OK(cq_make(1, 1, 2, CQ_CAN_SUSPEND | CQ_CAN_POP_FRAME, &service));
     OK(cq_attach_environment(&service, &env));
     attach(&stays);
     attach(&ends);

@@ -34,14 +34,16 @@ void let_go_of_service(m_service *service) {
     free(service);
 }
 
-uint32_t model_make(uint32_t depth, uint32_t envs, uint32_t window, cq_service *service) {
+uint32_t model_make(uint32_t depth, uint32_t envs, uint32_t window, uint32_t capabilities, cq_service *service) {
     if (service->kind != EMPTY) return CQ_MISUSED;
     if (depth < 1 || depth > 65536 || envs < 1 || envs > 32 || window < 1 || window > 1024) return CQ_ILLEGAL_ARGUMENT;
+    if (capabilities > 3) return CQ_NOT_AVAILABLE;
     m_service *made = calloc(1, sizeof *made);
     made->handles = 1;
     made->depth = depth;
     made->envs = envs;
     made->window = window;
+    made->potential = capabilities;
     *service = (cq_service){ A_SERVICE, made };
     return CQ_OK;
 }

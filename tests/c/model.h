@@ -7,7 +7,7 @@
 
 #include "../../c/cebdyraq.h"
 
-uint32_t model_make(uint32_t depth, uint32_t envs, uint32_t window, cq_service *service);
+uint32_t model_make(uint32_t depth, uint32_t envs, uint32_t window, uint32_t capabilities, cq_service *service);
 uint32_t model_share(cq_service *service, cq_service *other);
 uint32_t model_free(cq_service *service);
 uint32_t model_attach_thread(cq_service *service, const uint8_t *name, size_t length, int32_t priority,
@@ -62,8 +62,7 @@ uint32_t model_get_capabilities(cq_env *env, uint32_t *capabilities);
 uint32_t model_get_potential_capabilities(cq_env *env, uint32_t *capabilities);
 uint32_t model_get_environment_local_storage(cq_env *env, uint64_t *word);
 uint32_t model_set_environment_local_storage(cq_env *env, uint64_t word);
-uint32_t model_set_event_mode(cq_env *env, bool enabled, uint32_t kind);
-uint32_t model_set_event_notification_mode(cq_env *env, bool enabled);
+uint32_t model_set_event_notification_mode(cq_env *env, bool enabled, uint32_t kind);
 uint32_t model_next_event(cq_env *env, cq_event *event);
 uint32_t model_dispose_environment(cq_env *env);
 

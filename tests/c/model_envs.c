@@ -85,7 +85,7 @@ uint32_t model_get_thread_info(cq_env *env, uint32_t thread, cq_thread_info *inf
 uint32_t model_add_capabilities(cq_env *env, uint32_t capabilities) {
     m_env *e = env_of(env);
     if (e == NULL) return CQ_MISUSED;
-    if (capabilities & ~(uint32_t)(CQ_CAN_SUSPEND | CQ_CAN_POP_FRAME)) return CQ_NOT_AVAILABLE;
+    if (capabilities & ~e->service->potential) return CQ_NOT_AVAILABLE;
     e->capabilities |= capabilities;
     return CQ_OK;
 }
@@ -105,8 +105,9 @@ uint32_t model_get_capabilities(cq_env *env, uint32_t *capabilities) {
 }
 
 uint32_t model_get_potential_capabilities(cq_env *env, uint32_t *capabilities) {
-    if (env_of(env) == NULL) return CQ_MISUSED;
-    *capabilities = CQ_CAN_SUSPEND | CQ_CAN_POP_FRAME;
+    m_env *e = env_of(env);
+    if (e == NULL) return CQ_MISUSED;
+    *capabilities = e->service->potential;
     return CQ_OK;
 }
 
@@ -125,18 +126,13 @@ uint32_t model_set_environment_local_storage(cq_env *env, uint64_t word) {
 }
 
 /* The model has no classes, so no event of theirs. */
-uint32_t model_set_event_mode(cq_env *env, bool enabled, uint32_t kind) {
+uint32_t model_set_event_notification_mode(cq_env *env, bool enabled, uint32_t kind) {
     m_env *e = asking(env);
     if (e == NULL) return CQ_MISUSED;
     if (kind > CQ_THREAD_DETACHED) return CQ_ILLEGAL_ARGUMENT;
     if (enabled && !e->is_told[kind]) e->told_since[kind] = e->service->event_count;
     e->is_told[kind] = enabled;
     return CQ_OK;
-}
-
-uint32_t model_set_event_notification_mode(cq_env *env, bool enabled) {
-    uint32_t code = model_set_event_mode(env, enabled, CQ_THREAD_END);
-    return code == CQ_OK ? model_set_event_mode(env, enabled, CQ_THREAD_START) : code;
 }
 
 /* The first index from which on an environment may be told an event of a thread. None if all their kinds are disabled. */

@@ -87,7 +87,7 @@ typedef struct {
 
 struct m_service {
     uint32_t handles;
-    uint32_t depth, envs, window;
+    uint32_t depth, envs, window, potential;
     m_thread **threads;
     uint32_t count;
     bool taken[ENVS];

@@ -53,7 +53,7 @@ int main(int words, char **word) {
     pthread_t runtime;
     bool race = words > 1 && strcmp(word[1], "race") == 0;
     uint64_t seen = 0;
-    OK(cq_make(8, 1, 8, &service));
+    OK(cq_make(8, 1, 8, CQ_CAN_SUSPEND | CQ_CAN_POP_FRAME, &service));
     OK(cq_wait_attach_thread(&service, &signal_of_all, (const uint8_t *)"", 0, 5, &thread));
     OK(cq_wait_attach_environment(&service, &signal_of_all, &env));
     OK(cq_wait_meet(&env, &signal_of_all));

@@ -13,7 +13,7 @@ static const cq_frame FIVE[] = { { 5, 0 }, { 4, 0 }, { 3, 0 }, { 2, 0 }, { 1, 0 
 static const cq_frame LOW = { 1, -2 };
 
 void begin(void) {
-    OK(cq_make(4, 2, 4, &service));
+    OK(cq_make(4, 2, 4, CQ_CAN_SUSPEND | CQ_CAN_POP_FRAME, &service));
     OK(cq_attach_thread(&service, (const uint8_t *)"main", 4, 5, &thread));
     OK(cq_attach_environment(&service, &env));
     OK(cq_attach_environment(&service, &other));
@@ -257,7 +257,7 @@ static void order_of_codes(void) {
 /* A runtime that cannot go on after a pop says so. Then nobody has the capability. */
 static void cannot_be_had(void) {
     uint32_t found = 7;
-    OK(cq_make_with(4, 1, 4, CQ_CAN_SUSPEND, &service));
+    OK(cq_make(4, 1, 4, CQ_CAN_SUSPEND, &service));
     OK(cq_attach_thread(&service, (const uint8_t *)"main", 4, 5, &thread));
     OK(cq_attach_environment(&service, &env));
     OK(cq_meet(&env));

@@ -64,7 +64,7 @@ void begin_served(const char *address) {
     static void *(*const runs[])(void *) = { compute, doze };
     static const char *const names[] = { "computes \"all\"", "sleeps" };
     atomic_store(&over, false);
-    OK(cq_make(16, 2, 4, &service));
+    OK(cq_make(16, 2, 4, CQ_CAN_SUSPEND | CQ_CAN_POP_FRAME, &service));
     define();
     for (size_t i = 0; i < 2; i++) {
         OK(cq_wait_attach_thread(&service, &all_signal, (const uint8_t *)names[i], strlen(names[i]), 5, &threads[i]));

@@ -15,7 +15,7 @@ void begin(void) {
         { .name = "unknown" },
     };
     uint32_t class_no, method;
-    OK(cq_make(8, 2, 4, &service));
+    OK(cq_make(8, 2, 4, CQ_CAN_SUSPEND | CQ_CAN_POP_FRAME, &service));
     OK(cq_define_class_strings(&service, "LStops;", NULL, methods, 4, &class_no, &method));
     SAME(method, TABLE);
     OK(cq_attach_thread(&service, (const uint8_t *)"first", 5, 5, &first));

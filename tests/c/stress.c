@@ -141,7 +141,7 @@ static uint64_t join_all(void) {
 int main(int count, char **words) {
     uint64_t calls = count > 1 ? strtoull(words[1], NULL, 0) : 1000000;
     cq_service service = { 0, NULL };
-    OK(cq_make(DEPTH, AGENTS, WINDOW, &service));
+    OK(cq_make(DEPTH, AGENTS, WINDOW, CQ_CAN_SUSPEND | CQ_CAN_POP_FRAME, &service));
     start_all(&service, calls);
     uint64_t steps = join_all();
     OK(cq_free(&service));

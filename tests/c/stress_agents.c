@@ -229,7 +229,8 @@ static void ask_events(asker *a) {
 static void come(asker *a) {
     OK(cq_wait_attach_environment(&a->given->service, shared, &a->env));
     OK(cq_add_capabilities(&a->env, CQ_CAN_SUSPEND | CQ_CAN_POP_FRAME));
-    OK(cq_wait_set_event_notification_mode(&a->env, shared, true));
+    OK(cq_wait_set_event_notification_mode(&a->env, shared, true, CQ_THREAD_START));
+    OK(cq_wait_set_event_notification_mode(&a->env, shared, true, CQ_THREAD_END));
     a->count = 0;
     look_around(a);
 }

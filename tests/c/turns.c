@@ -93,7 +93,7 @@ static void run(bool goes_native) {
 int main(int count, char **words) {
     pthread_t id, second;
     if (count > 1) turns = atoi(words[1]);
-    OK(cq_make(8, 2, 2, &service));
+    OK(cq_make(8, 2, 2, CQ_CAN_SUSPEND | CQ_CAN_POP_FRAME, &service));
     OK(cq_attach_thread(&service, (const uint8_t *)"main", 4, 5, &thread));
     OK(cq_attach_environment(&service, &env));
     OK(cq_attach_environment(&service, &other));

@@ -54,7 +54,7 @@ int main(void) {
     static char text[400];
     cq_service service = { 0, NULL };
     pthread_t runtime, agent;
-    OK(cq_make(16, 1, 8, &service));
+    OK(cq_make(16, 1, 8, CQ_CAN_SUSPEND | CQ_CAN_POP_FRAME, &service));
     OK(cq_attach_thread(&service, (const uint8_t *)"main", 4, 5, &thread));
     OK(cq_attach_environment(&service, &env));
     SAME(pthread_create(&runtime, NULL, interpreter, NULL), 0);

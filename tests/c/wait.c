@@ -48,7 +48,7 @@ pthread_t run(void *(*body)(void *)) {
 void join(pthread_t id) { SAME(pthread_join(id, NULL), 0); }
 
 static void set_up(void) {
-    OK(cq_make(8, 2, WINDOW, &service));
+    OK(cq_make(8, 2, WINDOW, CQ_CAN_SUSPEND | CQ_CAN_POP_FRAME, &service));
     OK(cq_wait_attach_thread(&service, &signal_of_all, (const uint8_t *)"main", 4, 5, &thread));
     OK(cq_wait_attach_environment(&service, &signal_of_all, &env));
     OK(cq_wait_meet(&env, &signal_of_all));
@@ -170,13 +170,13 @@ static void *wait_for_event(void *unused) {
     atomic_store(&at, 1);
     OK(cq_wait_next_event(&env, &signal_of_all, -1, &event));
     SAME(event.kind, CQ_THREAD_ATTACHED);
-    SAME(event.thread, 2);
+    SAME(event.number, 2);
     return unused;
 }
 
 static void event_wakes(void) {
     cq_thread second = { 0, NULL };
-    OK(cq_wait_set_event_mode(&env, &signal_of_all, true, CQ_THREAD_ATTACHED));
+    OK(cq_wait_set_event_notification_mode(&env, &signal_of_all, true, CQ_THREAD_ATTACHED));
     pthread_t id = run(wait_for_event);
     await(1);
     rest(20 * MILLISECOND);

@@ -97,8 +97,8 @@ static void comings_and_goings_wake(void) {
     cq_thread third = { 0, NULL };
     cq_event event;
     for (uint32_t kind = CQ_THREAD_START; kind <= CQ_THREAD_DETACHED; kind++) {
-        OK(cq_wait_set_event_mode(&env, &signal_of_all, false, kind));
-        OK(cq_wait_set_event_mode(&env, &signal_of_all, kind >= CQ_THREAD_ATTACHED, kind));
+        OK(cq_wait_set_event_notification_mode(&env, &signal_of_all, false, kind));
+        OK(cq_wait_set_event_notification_mode(&env, &signal_of_all, kind >= CQ_THREAD_ATTACHED, kind));
     }
     for (uint32_t kind = CQ_THREAD_ATTACHED; kind <= CQ_THREAD_DETACHED; kind++) {
         pthread_t id = run(wait_for_news);
@@ -116,8 +116,8 @@ static void comings_and_goings_wake(void) {
         SAME(event.kind, kind);
         SAME(any(0, 0), CQ_TIMED_OUT);
     }
-    OK(cq_wait_set_event_mode(&env, &signal_of_all, false, CQ_THREAD_ATTACHED));
-    OK(cq_wait_set_event_mode(&env, &signal_of_all, false, CQ_THREAD_DETACHED));
+    OK(cq_wait_set_event_notification_mode(&env, &signal_of_all, false, CQ_THREAD_ATTACHED));
+    OK(cq_wait_set_event_notification_mode(&env, &signal_of_all, false, CQ_THREAD_DETACHED));
 }
 
 /* An answer comes before the news. */

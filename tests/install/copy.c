@@ -27,7 +27,7 @@ static void release(void *block) {
 
 /* Makes a service with one thread, which is in native code, and an environment that has met it. */
 int NAMED(COPY, begin)(unsigned method) {
-    return cq_set_heap(allocate, realloc, release) || cq_make(4, 1, 1, &service)
+    return cq_set_heap(allocate, realloc, release) || cq_make(4, 1, 1, CQ_CAN_SUSPEND | CQ_CAN_POP_FRAME, &service)
         || cq_attach_thread(&service, (const uint8_t *)"", 0, 5, &thread) || cq_start(&thread)
         || cq_enter_native(&thread, method) || cq_wait_native(&thread, &sleepers)
         || cq_wait_attach_environment(&service, &sleepers, &env) || cq_wait_meet(&env, &sleepers);

@@ -32,11 +32,11 @@ int main(void) {
     cq_service service = { 0 };
     EXPECT(cq_set_heap(allocate, resize, release) == CQ_OK);
     refuses = 1;
-    EXPECT(cq_make(4, 1, 1, &service) == CQ_OUT_OF_MEMORY);
+    EXPECT(cq_make(4, 1, 1, CQ_CAN_SUSPEND | CQ_CAN_POP_FRAME, &service) == CQ_OUT_OF_MEMORY);
     EXPECT(blocks == 0);
     EXPECT(cq_set_heap(malloc, realloc, free) == CQ_MISUSED);
     refuses = 0;
-    EXPECT(cq_make(4, 1, 1, &service) == CQ_OK);
+    EXPECT(cq_make(4, 1, 1, CQ_CAN_SUSPEND | CQ_CAN_POP_FRAME, &service) == CQ_OK);
     EXPECT(blocks > 0 && least == 1);
     EXPECT(cq_free(&service) == CQ_OK);
     EXPECT(blocks == 0);

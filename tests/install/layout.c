@@ -28,7 +28,7 @@ PLACE(cq_thread_info, name_length, 0);
 PLACE(cq_thread_info, priority, 8);
 SIZE(cq_event, 16);
 PLACE(cq_event, kind, 0);
-PLACE(cq_event, thread, 4);
+PLACE(cq_event, number, 4);
 PLACE(cq_event, lost, 8);
 SIZE(cq_stack_info, 16);
 PLACE(cq_stack_info, thread, 0);

@@ -13,7 +13,7 @@ int main(void) {
     cq_frame frames[8];
     uint32_t count = 0;
     const char *name = "worker";
-    if (!cq_version_fits() || cq_make(8, 1, 1, &service)
+    if (!cq_version_fits() || cq_make(8, 1, 1, CQ_CAN_SUSPEND | CQ_CAN_POP_FRAME, &service)
         || cq_wait_attach_thread(&service, &signal, (const uint8_t *)name, strlen(name), 5, &thread)
         || cq_wait_start(&thread, &signal, -1) || cq_enter(&thread, 3) || cq_at(&thread, 17) || cq_enter_native(&thread, 4)
         || cq_wait_native(&thread, &signal) || cq_wait_attach_environment(&service, &signal, &env)

@@ -11,7 +11,7 @@ from installed import CC, CXX, HERE, TOP, VERSION, WARNINGS, compiled, files, fl
 
 FILES = {
     "include/cebdyraq.h", "include/cebdyraq.hpp", "include/cebdyraq_serve.h", "include/cebdyraq_wait.h", "lib/libcebdyraq.a", "lib/libcebdyraq.so",
-    "lib/libcebdyraq.so.1", f"lib/libcebdyraq.so.{VERSION}", "lib/pkgconfig/cebdyraq.pc", "share/cebdyraq/tsan.supp", "share/man/man3/cebdyraq.3",
+    "lib/libcebdyraq.so.2", f"lib/libcebdyraq.so.{VERSION}", "lib/pkgconfig/cebdyraq.pc", "share/cebdyraq/tsan.supp", "share/man/man3/cebdyraq.3",
 }
 PROGRAMS = {
     "bin/tiwalk": "crates/tiwalk/out/tiwalk", "bin/tilint": "crates/tilint/out/tilint", "bin/tiprof": "crates/tiprof/out/tiprof",
@@ -63,8 +63,8 @@ class Files(unittest.TestCase):
 
     def test_links_lead_by_the_soname_to_the_library(self):
         lib = prefix() / "lib"
-        self.assertEqual(str((lib / "libcebdyraq.so").readlink()), "libcebdyraq.so.1")
-        self.assertEqual(str((lib / "libcebdyraq.so.1").readlink()), f"libcebdyraq.so.{VERSION}")
+        self.assertEqual(str((lib / "libcebdyraq.so").readlink()), "libcebdyraq.so.2")
+        self.assertEqual(str((lib / "libcebdyraq.so.2").readlink()), f"libcebdyraq.so.{VERSION}")
         self.assertEqual((lib / f"libcebdyraq.so.{VERSION}").stat().st_mode & 0o777, 0o644)
 
 
@@ -93,7 +93,7 @@ class Versions(unittest.TestCase):
     @wants("readelf")
     def test_soname_and_what_is_needed(self):
         said = run("readelf", "-d", prefix() / "lib/libcebdyraq.so")
-        self.assertEqual(re.findall(r"SONAME\).*\[(.*)\]", said), ["libcebdyraq.so.1"])
+        self.assertEqual(re.findall(r"SONAME\).*\[(.*)\]", said), ["libcebdyraq.so.2"])
         self.assertEqual(re.findall(r"NEEDED\).*\[(.*)\]", said), ["libc.so.6"])
 
 

@@ -47,14 +47,14 @@ def installed_package():
 
 
 def library_of_version(number):
-    """A folder with a libcebdyraq.so.1 of this version, none of whose other functions may be called."""
+    """A folder with a libcebdyraq.so.2 of this version, none of whose other functions may be called."""
     folder = new_folder()
     source = folder / "library.c"
     bodies = [f"{prototype[:-1]} {{ {f'return {number};' if name == 'cq_version' else '__builtin_trap();'} }}\n"
               for name, prototype in header.functions().items()]
     source.write_text('#include "cebdyraq_serve.h"\n' + "".join(bodies))
-    run(*CC, "-w", "-fPIC", "-shared", f"-I{header.C}", source, "-Wl,-soname,libcebdyraq.so.1", f"-Wl,--version-script={header.C}/cebdyraq.map",
-        "-o", folder / "libcebdyraq.so.1")
+    run(*CC, "-w", "-fPIC", "-shared", f"-I{header.C}", source, "-Wl,-soname,libcebdyraq.so.2", f"-Wl,--version-script={header.C}/cebdyraq.map",
+        "-o", folder / "libcebdyraq.so.2")
     return folder
 
 

@@ -13,9 +13,9 @@ from installed import VERSION, files, make, new_folder, run, wants
 MULTIARCH = "usr/lib/x86_64-linux-gnu"
 # Each package: its section, what it depends on, what it is, and its files as globs.
 PACKAGES = {
-    "libcebdyraq1": ("libs", "libc6 (>= 2.34)", "threads of a runtime, inspected by agents", (f"{MULTIARCH}/libcebdyraq.so.*",)),
+    "libcebdyraq2": ("libs", "libc6 (>= 2.34)", "threads of a runtime, inspected by agents", (f"{MULTIARCH}/libcebdyraq.so.*",)),
     "libcebdyraq-dev": (
-        "libdevel", f"libcebdyraq1 (= {VERSION}-1), libc6-dev", "threads of a runtime, inspected by agents (headers)",
+        "libdevel", f"libcebdyraq2 (= {VERSION}-1), libc6-dev", "threads of a runtime, inspected by agents (headers)",
         ("usr/include/*", f"{MULTIARCH}/libcebdyraq.a", f"{MULTIARCH}/libcebdyraq.so", f"{MULTIARCH}/pkgconfig/*", "usr/share/man/man3/*", "usr/share/cebdyraq/*"),
     ),
     "cebdyraq": ("devel", "libc6 (>= 2.34)", "walks and profiles of inspected threads", ("usr/bin/*",)),
@@ -106,4 +106,4 @@ class Debian(unittest.TestCase):
         self.assertEqual(left, set(), "no package has these")
         said = run("lintian", "--fail-on", "none", "--allow-root", *made, status=None)
         self.assertEqual(re.findall(r"^[E].*$", said, re.M), [], said)
-        self.assertRegex(run("dpkg-deb", "--info", made[0]), r"Package: libcebdyraq1\n")
+        self.assertRegex(run("dpkg-deb", "--info", made[0]), r"Package: libcebdyraq2\n")

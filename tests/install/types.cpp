@@ -159,7 +159,8 @@ void test_words_and_events() {
     cebdyraq::service service(8, 2, 4);
     auto env = service.attach_environment();
     auto other = service.attach_environment();
-    env.set_event_notification_mode(true);
+    env.set_event_notification_mode(CQ_THREAD_START, true);
+    env.set_event_notification_mode(CQ_THREAD_END, true);
     {
         auto thread = service.attach_thread("", 5);
         thread.start();
@@ -169,7 +170,7 @@ void test_words_and_events() {
         EXPECT(env.get_thread_local_storage(0) == ~std::uint64_t(0) && other.get_thread_local_storage(0) == 0);
     }
     auto start = env.next_event(), end = env.next_event();
-    EXPECT(start.kind == CQ_THREAD_START && end.kind == CQ_THREAD_END && end.thread == 0 && end.lost == 0);
+    EXPECT(start.kind == CQ_THREAD_START && end.kind == CQ_THREAD_END && end.number == 0 && end.lost == 0);
     EXPECT(refused([&] { env.next_event(cebdyraq::time(0)); }) == cebdyraq::code::timed_out);
     EXPECT(env.get_all_threads().empty() && env.let_go(0) && !env.let_go(0));
     env.set_environment_local_storage(5);

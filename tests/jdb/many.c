@@ -123,7 +123,7 @@ int main(void) {
     pthread_t running[RUNNING];
     char line[64];
     setvbuf(stdout, NULL, _IOLBF, 0);
-    must("a service", cq_make(DEPTH, 1, 8, &service));
+    must("a service", cq_make(DEPTH, 1, 8, CQ_CAN_SUSPEND | CQ_CAN_POP_FRAME, &service));
     define_stack();
     start_all(running);
     printf("port %u\n", listen_here());

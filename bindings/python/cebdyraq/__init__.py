@@ -1,6 +1,6 @@
 """An agent's side of Cebdyraq: an environment that inspects the threads of a runtime in the same process.
 
-The runtime uses libcebdyraq.so.1, or has the whole of libcebdyraq.a linked into a shared library of its own:
+The runtime uses libcebdyraq.so.2, or has the whole of libcebdyraq.a linked into a shared library of its own:
 
     cc -shared -fPIC -o libruntime.so runtime.c -Wl,--whole-archive libcebdyraq.a -Wl,--no-whole-archive
 

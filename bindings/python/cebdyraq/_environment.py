@@ -312,19 +312,15 @@ class Environment(Classes):
     def set_environment_local_storage(self, word: int) -> None:
         self._call("cq_set_environment_local_storage", word)
 
-    def set_event_mode(self, enabled: bool, kind: EventKind) -> None:
+    def set_event_notification_mode(self, enabled: bool, kind: EventKind) -> None:
         """Whether the environment is told of this kind of event from now on."""
-        self._call("cq_wait_set_event_mode", self._signal, enabled, kind)
-
-    def set_event_notification_mode(self, enabled: bool) -> None:
-        """`set_event_mode` of THREAD_START and THREAD_END."""
-        self._call("cq_wait_set_event_notification_mode", self._signal, enabled)
+        self._call("cq_wait_set_event_notification_mode", self._signal, enabled, kind)
 
     def next_event(self, timeout: Optional[float] = None) -> Event:
         """The next event. Events that are disabled never come."""
         event = lib.Event()
         self._call("cq_wait_next_event", self._signal, _nanoseconds(timeout), ctypes.byref(event))
-        return Event(EventKind(event.kind), event.thread, event.lost)
+        return Event(EventKind(event.kind), event.number, event.lost)
 
     # Stops of threads.
 

@@ -4,7 +4,7 @@ import ctypes
 import os
 from typing import Any, Dict, List, Optional, Sequence, Union
 
-VERSION = (1, 8)
+VERSION = (2, 0)
 
 
 class Handle(ctypes.Structure):
@@ -28,7 +28,7 @@ class ThreadInfo(ctypes.Structure):
 
 
 class Event(ctypes.Structure):
-    _fields_ = [("kind", ctypes.c_uint32), ("thread", ctypes.c_uint32), ("lost", ctypes.c_uint64)]
+    _fields_ = [("kind", ctypes.c_uint32), ("number", ctypes.c_uint32), ("lost", ctypes.c_uint64)]
 
 
 class Stop(ctypes.Structure):
@@ -127,8 +127,7 @@ FUNCTIONS: Dict[str, List[Any]] = {
     "cq_get_potential_capabilities": [AT],
     "cq_get_environment_local_storage": [AT],
     "cq_set_environment_local_storage": [WORD],
-    "cq_wait_set_event_mode": [AT, BOOL, NUMBER],
-    "cq_wait_set_event_notification_mode": [AT, BOOL],
+    "cq_wait_set_event_notification_mode": [AT, BOOL, NUMBER],
     "cq_wait_next_event": [AT, I64, AT],
     "cq_set_breakpoint": [NUMBER, NUMBER],
     "cq_clear_breakpoint": [NUMBER, NUMBER],
@@ -171,7 +170,7 @@ def load(path: Optional[Union[str, "os.PathLike[str]"]] = None) -> ctypes.CDLL:
     """Loads a shared library that has the functions of cebdyraq's headers. Without a path it is the installed one.
 
     An OSError says that there is none, and an ImportError that its version does not fit."""
-    library = ctypes.CDLL("libcebdyraq.so.1" if path is None else os.fspath(path), use_errno=True)
+    library = ctypes.CDLL("libcebdyraq.so.2" if path is None else os.fspath(path), use_errno=True)
     library.cq_version.restype = U32
     major, minor = divmod(library.cq_version() // 1000, 1000)
     if major != VERSION[0] or minor < VERSION[1]:

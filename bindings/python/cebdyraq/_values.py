@@ -104,10 +104,10 @@ class StackInfo(NamedTuple):
 
 
 class Event(NamedTuple):
-    """What happened, at which thread (or the class, with CLASS_PREPARE), and how many events of threads were lost before it."""
+    """What happened, the number of the thread, or with CLASS_PREPARE of the class,, and how many events of threads were lost before it."""
 
     kind: EventKind
-    thread: int
+    number: int
     lost: int
 
 

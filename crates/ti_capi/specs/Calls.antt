@@ -22,7 +22,6 @@ use Rattle.ti_service.specs.Memberships.{AgentValue, state_of}
 use Rattle.ti_service.specs.Service.{Looks, RefusesInfo, roster_seen}
 use Rattle.ti_service.specs.Telling.{Enables, IsLife, IsLifeEnabled, TellsNext, is_enabled, with_events, without}
 use Rattle.ti_service.specs.declared.event.EventKind.{EventKind}
-use Rattle.ti_service.specs.declared.event.EventKind.TheVariants as kind
 use Rattle.ti_service.specs.declared.event.NextEvent.{NextEvent}
 use Rattle.ti_capi.specs.declared.values.CqEvent.{CqEvent}
 use Rattle.ti_capi.specs.declared.values.CqThreadInfo.{CqThreadInfo}
@@ -119,11 +118,6 @@ pub data EnablesBy (enabled : Bool) (k : EventKind) (s n : AgentValue) (code : �
 abbrev pub SetsModeBy : Bool → Option EventKind → AgentValue → AgentValue → ℕ → Type 0
 SetsModeBy enabled (Some k) s n code = EnablesBy enabled k s n code
 SetsModeBy enabled None s n code = (code ≡ number_of IllegalArgument) × (n ≡ s)
-
--- Ends of threads are enabled or disabled, and then their starts. If the first is refused, the second is not tried
-pub data SetsBothBy (enabled : Bool) (s n : AgentValue) (code : ℕ) : Type 0 where
-  BothSet : (mid : AgentValue) → EnablesBy enabled kind.ThreadEnd s mid 0 → EnablesBy enabled kind.ThreadStart mid n code → SetsBothBy enabled s n code
-  NoneSet : (code ≡ 0 → ⊥) → EnablesBy enabled kind.ThreadEnd s n code → SetsBothBy enabled s n code
 
 -- the next event (`ti_service`, `next_event_now`)
 pub data TellsEventBy (e0 e1 : CqEvent) (s n : AgentValue) (code : ℕ) : Type 0 where

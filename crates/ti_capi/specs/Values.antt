@@ -62,8 +62,8 @@ abbrev pub event_kind_read : ℕ → Option EventKind
 event_kind_read n = slice_get (kinds.ThreadStart ∷ kinds.ThreadEnd ∷ kinds.ClassPrepare ∷ kinds.ThreadAttached ∷ kinds.ThreadDetached ∷ []) n
 
 abbrev pub event_of : ℕ → Event → CqEvent
-event_of lost (event.Life l) = record { kind = life_kind_written l.kind; thread = l.thread.0; lost = lost }
-event_of lost (event.ClassPrepare c) = record { kind = 2; thread = c.0; lost = lost }
+event_of lost (event.Life l) = record { kind = life_kind_written l.kind; number = l.thread.0; lost = lost }
+event_of lost (event.ClassPrepare c) = record { kind = 2; number = c.0; lost = lost }
 
 abbrev pub event_written : NextEvent → CqEvent
 event_written n = event_of n.lost n.event

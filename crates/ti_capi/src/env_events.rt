@@ -5,12 +5,12 @@ use crate::handle::CqEnv;
 use crate::held::HeldEnv;
 use crate::values::{CqEvent, event_kind_in, event_out};
 use std::alloc::Global;
-use ti_service::{EventKind, ServiceTries};
+use ti_service::ServiceTries;
 use ti_types::TiError;
 
 /// SetEventNotificationMode (JVM TI 11), of one kind of event.
 #[unsafe(no_mangle)]
-pub extern "C" fn cq_set_event_mode(env: &mut CqEnv, enabled: bool, kind: u32) -> u32
+pub extern "C" fn cq_set_event_notification_mode(env: &mut CqEnv, enabled: bool, kind: u32) -> u32
     ensures { Calls (SetsModeBy enabled (event_kind_read kind)) ⊤ env.old env.new result }
 {
     let Some(held) = env.held_env() else {
@@ -23,25 +23,6 @@ pub extern "C" fn cq_set_event_mode(env: &mut CqEnv, enabled: bool, kind: u32) -
         return TiError::IllegalArgument.number();
     };
     done_code(agent.set_event_notification_mode_now(kind, enabled))
-}
-
-/// SetEventNotificationMode (JVM TI 11), of ThreadEnd and then of ThreadStart.
-#[unsafe(no_mangle)]
-pub extern "C" fn cq_set_event_notification_mode(env: &mut CqEnv, enabled: bool) -> u32
-    ensures { Calls (SetsBothBy enabled) ⊤ env.old env.new result }
-{
-    let Some(held) = env.held_env() else {
-        return CQ_MISUSED;
-    };
-    let Some(agent) = &mut held.agent else {
-        return CQ_MISUSED;
-    };
-    match agent.set_event_notification_mode_now(EventKind::ThreadEnd, enabled) {
-        Ok(()) => {
-            done_code(agent.set_event_notification_mode_now(EventKind::ThreadStart, enabled))
-        }
-        Err(error) => error.number(),
-    }
 }
 
 /// The next event.
@@ -97,7 +78,7 @@ fn dispose(alloc: Global, held: &mut HeldEnv) -> u32
 }
 
 ghost use Rattle.std.specs.Prelude.{◌≡◌, ⊤};
-ghost use Rattle.ti_capi.specs.Calls.{Calls, SetsBothBy, SetsModeBy, TellsEventBy};
+ghost use Rattle.ti_capi.specs.Calls.{Calls, SetsModeBy, TellsEventBy};
 ghost use Rattle.ti_capi.specs.Values.{event_kind_read};
 ghost use Rattle.ti_capi.specs.Disposing.{DisposesBy, DisposesIn};
 ghost use Rattle.ti_capi.specs.Handles.{agent_in};

@@ -69,7 +69,7 @@ fn make(
 
 /// Makes a service whose environments can have these capabilities.
 #[unsafe(no_mangle)]
-pub extern "C" fn cq_make_with(
+pub extern "C" fn cq_make(
     alloc: Global,
     depth: u32,
     envs: u32,
@@ -83,20 +83,6 @@ pub extern "C" fn cq_make_with(
         return CQ_MISUSED;
     }
     fill(service, make(alloc, depth, envs, window, capabilities))
-}
-
-/// Makes a service whose environments can have both capabilities.
-#[unsafe(no_mangle)]
-pub extern "C" fn cq_make(
-    alloc: Global,
-    depth: u32,
-    envs: u32,
-    window: u32,
-    service: &mut CqService,
-) -> u32
-    ensures { Makes depth envs window 3 service.old service.new result }
-{
-    cq_make_with(alloc, depth, envs, window, 3, service)
 }
 
 /// One more handle of the service, in a box.

@@ -46,7 +46,7 @@ pub struct CqThreadInfo {
 #[derive(Clone, Copy)]
 pub struct CqEvent {
     pub kind: u32,
-    pub thread: u32,
+    pub number: u32,
     pub lost: u64,
 }
 
@@ -146,7 +146,7 @@ pub(crate) fn event_out(next: NextEvent) -> CqEvent
     };
     CqEvent {
         kind,
-        thread: number,
+        number,
         lost: next.lost,
     }
 }

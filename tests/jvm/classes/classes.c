@@ -206,7 +206,7 @@ static void compare_none(void) {
 static void JNICALL on_start(jvmtiEnv *of, JNIEnv *jni, jthread thread) {
     (void)of;
     (void)thread;
-    CQ(cq_make(4, 1, 4, &service));
+    CQ(cq_make(4, 1, 4, CQ_CAN_SUSPEND | CQ_CAN_POP_FRAME, &service));
     CQ(cq_attach_environment(&service, &env));
     define_all();
     uint64_t count = 0;

@@ -8,8 +8,8 @@ use core::ffi::{c_char, c_void};
 use core::ptr::null_mut;
 
 /// The version whose functions are declared here.
-pub const CQ_VERSION_MAJOR: u32 = 1;
-pub const CQ_VERSION_MINOR: u32 = 8;
+pub const CQ_VERSION_MAJOR: u32 = 2;
+pub const CQ_VERSION_MINOR: u32 = 0;
 
 /// Whether the library that the program runs with has all of them, as `cq_version_fits` of `cebdyraq.h` says.
 pub fn version_fits() -> bool {
@@ -129,7 +129,7 @@ pub struct cq_thread_info {
 #[derive(Clone, Copy, Debug, Default)]
 pub struct cq_event {
     pub kind: u32,
-    pub thread: u32,
+    pub number: u32,
     pub lost: u64,
 }
 
@@ -276,8 +276,7 @@ extern "C" {
         resize: extern "C" fn(*mut c_void, usize) -> *mut c_void,
         release: extern "C" fn(*mut c_void),
     ) -> u32;
-    pub fn cq_make(depth: u32, envs: u32, window: u32, service: *mut cq_service) -> u32;
-    pub fn cq_make_with(depth: u32, envs: u32, window: u32, capabilities: u32, service: *mut cq_service) -> u32;
+    pub fn cq_make(depth: u32, envs: u32, window: u32, capabilities: u32, service: *mut cq_service) -> u32;
     pub fn cq_share(service: *mut cq_service, other: *mut cq_service) -> u32;
     pub fn cq_free(service: *mut cq_service) -> u32;
     pub fn cq_attach_thread(
@@ -375,8 +374,7 @@ extern "C" {
     pub fn cq_get_potential_capabilities(env: *mut cq_env, capabilities: *mut u32) -> u32;
     pub fn cq_get_environment_local_storage(env: *mut cq_env, word: *mut u64) -> u32;
     pub fn cq_set_environment_local_storage(env: *mut cq_env, word: u64) -> u32;
-    pub fn cq_set_event_mode(env: *mut cq_env, enabled: bool, kind: u32) -> u32;
-    pub fn cq_set_event_notification_mode(env: *mut cq_env, enabled: bool) -> u32;
+    pub fn cq_set_event_notification_mode(env: *mut cq_env, enabled: bool, kind: u32) -> u32;
     pub fn cq_next_event(env: *mut cq_env, event: *mut cq_event) -> u32;
     pub fn cq_set_breakpoint(env: *mut cq_env, method: u32, location: u32) -> u32;
     pub fn cq_clear_breakpoint(env: *mut cq_env, method: u32, location: u32) -> u32;
@@ -483,8 +481,7 @@ extern "C" {
     pub fn cq_wait_cancel(env: *mut cq_env, signal: *mut cq_signal, ticket: *const cq_ticket) -> u32;
     pub fn cq_wait_discard(env: *mut cq_env, signal: *mut cq_signal, thread: u32, thrown: *mut bool) -> u32;
     pub fn cq_wait_ensure_resumed(env: *mut cq_env, signal: *mut cq_signal, thread: u32, timeout_ns: i64) -> u32;
-    pub fn cq_wait_set_event_mode(env: *mut cq_env, signal: *mut cq_signal, enabled: bool, kind: u32) -> u32;
-    pub fn cq_wait_set_event_notification_mode(env: *mut cq_env, signal: *mut cq_signal, enabled: bool) -> u32;
+    pub fn cq_wait_set_event_notification_mode(env: *mut cq_env, signal: *mut cq_signal, enabled: bool, kind: u32) -> u32;
     pub fn cq_wait_dispose_environment(env: *mut cq_env, signal: *mut cq_signal) -> u32;
     pub fn cq_wait_dispose_environment_within(env: *mut cq_env, signal: *mut cq_signal, timeout_ns: i64) -> u32;
     pub fn cq_wait_end_environment(env: *mut cq_env, signal: *mut cq_signal, timeout_ns: i64) -> u32;

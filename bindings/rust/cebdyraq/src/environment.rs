@@ -59,7 +59,7 @@ impl EventKind {
 pub struct Event {
     pub kind: EventKind,
     /// The thread's number, or with `ClassPrepare` the class's.
-    pub thread: u32,
+    pub number: u32,
     /// How many events of threads were lost before it, of whatever kind.
     pub lost: u64,
 }
@@ -332,13 +332,8 @@ impl Environment {
     }
 
     /// SetEventNotificationMode, of one kind at all threads. It is told of what happens from then on.
-    pub fn set_event_mode(&mut self, kind: EventKind, enabled: bool) {
-        surely(unsafe { sys::cq_wait_set_event_mode(self.at(), self.signal.at(), enabled, kind as u32) });
-    }
-
-    /// SetEventNotificationMode, of ThreadStart and ThreadEnd at all threads.
-    pub fn set_event_notification_mode(&mut self, enabled: bool) {
-        surely(unsafe { sys::cq_wait_set_event_notification_mode(self.at(), self.signal.at(), enabled) });
+    pub fn set_event_notification_mode(&mut self, kind: EventKind, enabled: bool) {
+        surely(unsafe { sys::cq_wait_set_event_notification_mode(self.at(), self.signal.at(), enabled, kind as u32) });
     }
 
     /// The next event. It sleeps until there is one. Events that are disabled never come.
@@ -346,7 +341,7 @@ impl Environment {
         let mut event = sys::cq_event::default();
         checked(unsafe { sys::cq_wait_next_event(self.at(), self.signal.at(), self.time(), &mut event) })?;
         let kind = EventKind::ALL[event.kind as usize];
-        Ok(Event { kind, thread: event.thread, lost: event.lost })
+        Ok(Event { kind, number: event.number, lost: event.lost })
     }
 
     /// DisposeEnvironment. So does a drop, which has no error, and waits as long as it takes. While it may suspend threads or pop frames,

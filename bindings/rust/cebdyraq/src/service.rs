@@ -63,7 +63,7 @@ impl Service {
         assert!(sys::version_fits(), "this version of libcebdyraq does not fit cebdyraq {}", env!("CARGO_PKG_VERSION"));
         let mut made = Service::empty(Arc::default());
         // SAFETY: the handle is empty, and this call alone uses it.
-        match checked(unsafe { sys::cq_make_with(depth, envs, window, capabilities, &mut *made.handle) }) {
+        match checked(unsafe { sys::cq_make(depth, envs, window, capabilities, &mut *made.handle) }) {
             Ok(()) => Ok(made),
             Err(error) => Err(error),
         }

@@ -263,15 +263,15 @@ fn a_runtime_says_what_can_be_had() {
 #[test]
 fn threads_come_and_go() {
     let (mut service, running, mut env) = with_thread();
-    env.set_event_mode(EventKind::ThreadAttached, true);
-    env.set_event_mode(EventKind::ThreadDetached, true);
-    env.set_event_mode(EventKind::ClassPrepare, true);
+    env.set_event_notification_mode(EventKind::ThreadAttached, true);
+    env.set_event_notification_mode(EventKind::ThreadDetached, true);
+    env.set_event_notification_mode(EventKind::ClassPrepare, true);
     let mut handle = service.share().unwrap();
     let comer = thread::spawn(move || {
         thread::sleep(Duration::from_millis(20));
         handle.attach_thread("sp\u{e4}t", -1).unwrap()
     });
-    assert_eq!(env.next_event(), Ok(Event { kind: EventKind::ThreadAttached, thread: 1, lost: 0 }));
+    assert_eq!(env.next_event(), Ok(Event { kind: EventKind::ThreadAttached, number: 1, lost: 0 }));
     let fresh = comer.join().unwrap();
     assert_eq!(fresh.number(), 1);
     assert_eq!(env.get_all_threads(), Ok(vec![0]));
@@ -280,13 +280,13 @@ fn threads_come_and_go() {
     assert_eq!(env.get_thread_state(1), Ok(0));
     drop(fresh);
     assert!(env.has_news());
-    assert_eq!(env.next_event(), Ok(Event { kind: EventKind::ThreadDetached, thread: 1, lost: 0 }));
+    assert_eq!(env.next_event(), Ok(Event { kind: EventKind::ThreadDetached, number: 1, lost: 0 }));
     let definer = thread::spawn(move || {
         thread::sleep(Duration::from_millis(20));
         service.define_class(&ClassInfo::default()).unwrap();
         service
     });
-    assert_eq!(env.next_event(), Ok(Event { kind: EventKind::ClassPrepare, thread: 0, lost: 0 }));
+    assert_eq!(env.next_event(), Ok(Event { kind: EventKind::ClassPrepare, number: 0, lost: 0 }));
     let service = definer.join().unwrap();
     env.set_timeout(Some(Duration::ZERO));
     assert_eq!(env.next_event(), Err(Error::TimedOut));

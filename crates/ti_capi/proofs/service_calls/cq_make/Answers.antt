@@ -1,7 +1,7 @@
 use Rattle.std.proofs.Common.{sym, ◌∙◌}
 use Rattle.std.specs.Box.{box_value}
 use Rattle.ti_capi.proofs.Filling.{filled}
-use Rattle.ti_capi.proofs.service_calls.cq_make_with.Goals as goal
+use Rattle.ti_capi.proofs.service_calls.cq_make.Goals as goal
 
 pub returns : goal.returns
 returns c =
