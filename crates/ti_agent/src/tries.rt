@@ -36,6 +36,7 @@ impl<H: Home> Env<H> {
     /// The buffer has just the room that the call takes.
     ///
     /// The error is `Busy` (215) if the cell is in use. Then nothing changes.
+    #[inline(always)]
     fn post_one_now(
         &mut self,
         thread: ThreadNo,
@@ -110,6 +111,7 @@ impl<H: Home> Env<H> {
     /// };
     /// assert!(rt; matches!(env.collect_now(ticket)?, Some(Answer::Count(0))));
     /// ```
+    #[inline(always)]
     pub fn post_now(
         &mut self,
         alloc: Global,

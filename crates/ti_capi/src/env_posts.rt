@@ -9,6 +9,7 @@ use ti_slot::Asked;
 use ti_types::{Call, ThreadNo};
 
 /// Posts a call, and writes what is answered at once, or the ticket.
+#[inline(always)]
 fn post(
     alloc: Global,
     env: &mut CqEnv,
