@@ -10,6 +10,7 @@ use crate::home::Home;
 use std::alloc::Global;
 use std::sync::Wait;
 use ti_cell::Pace;
+use ti_replay::rules::waits as may_wait;
 use ti_slot::Asked;
 use ti_types::{Answer, Call, ThreadNo, TiError, Ticket, TraceBuf};
 
@@ -129,6 +130,9 @@ impl<H: Home> Env<H> {
             Ok(place) => place,
             Err(error) => return Err(error),
         };
+        if !may_wait(call) {
+            return self.post_one_now(thread, place, call, TraceBuf::none());
+        }
         match self.room_for(alloc, thread, place, call) {
             Ok(buf) => self.post_one_now(thread, place, call, buf),
             Err(error) => Err(error),
