@@ -120,6 +120,7 @@ impl<H: Home> Env<H> {
     /// thread of this number, it is the number of desks.
     ///
     /// It looks first where the desk is if a thread of each number is there, and then by binary search.
+    #[inline(always)]
     pub(crate) fn place_of(&self, thread: ThreadNo) -> ThreadNo
         ensures { result ≡ place_of self.now.env.desks thread }
     {
@@ -159,6 +160,7 @@ impl<H: Home> Env<H> {
 
     /// Asks the thread at this place an admitted call, and waits for its answer if the call has to wait. The buffer has just
     /// the room that the call takes.
+    #[inline(always)]
     fn ask_one<R: Wait>(
         &mut self,
         rt: &R,
@@ -183,6 +185,7 @@ impl<H: Home> Env<H> {
 
     /// The place of a thread, if a call reaches it, as `EnvState::admit` says. But 15 in place of 10, if there was a thread of
     /// this number once.
+    #[inline(always)]
     pub(crate) fn admit(&self, thread: ThreadNo, call: Call) -> Result<ThreadNo, TiError>
         ensures admitted { OnOk result (thread_refusal self.now.env thread call ≡ None) }
         ensures place { IfOk result (λ place. place ≡ place_of self.now.env.desks thread) }
@@ -204,6 +207,7 @@ impl<H: Home> Env<H> {
     }
 
     /// Asks the thread a call that takes no buffer.
+    #[inline(always)]
     pub(crate) fn ask<R: Wait>(&mut self, rt: &R, thread: ThreadNo, call: Call) -> Answer
         requires bare { takes_buffer call ≡ false }
         ensures called { IsCalled self.old.env self.new.env thread call (said result) }

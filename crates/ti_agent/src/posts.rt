@@ -12,6 +12,7 @@ use ti_slot::Asked;
 use ti_types::{Answer, Call, Limits, ThreadNo, TiError, Ticket, TraceBuf};
 
 /// Makes the buffer that a call takes. 110 OUT_OF_MEMORY if a trace's buffer cannot be had. Other calls take none.
+#[inline(always)]
 pub(crate) fn buffer_for(alloc: Global, limits: Limits, call: Call) -> Result<TraceBuf, TiError>
     requires { is_well_formed call ≡ true }
     ensures room { IfOk result (λ b. IsJustBufferOf limits call b) }
@@ -31,6 +32,7 @@ impl<H: Home> Env<H> {
     ///
     /// 216 (this profile: `Full`) if the call may wait, and `window` calls are out there. Otherwise 110 OUT_OF_MEMORY if a
     /// trace's buffer cannot be had.
+    #[inline(always)]
     pub(crate) fn room_for(
         &self,
         alloc: Global,
@@ -52,6 +54,7 @@ impl<H: Home> Env<H> {
     }
 
     /// Whether a call may wait while the environment's window at the thread at this place is full.
+    #[inline(always)]
     fn has_no_room(&self, thread: ThreadNo, place: ThreadNo, call: Call) -> bool
         requires place { place ≡ place_of self.now.env.desks thread }
         requires there { place_in self.now.env.desks thread < length self.now.env.desks }

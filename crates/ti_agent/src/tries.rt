@@ -10,6 +10,7 @@ use crate::home::Home;
 use std::alloc::Global;
 use std::sync::Wait;
 use ti_cell::Pace;
+use ti_replay::rules::waits as may_wait;
 use ti_slot::Asked;
 use ti_types::{Answer, Call, EnvNo, ThreadNo, TiError, Ticket, TraceBuf};
 
@@ -36,6 +37,7 @@ impl<H: Home> Env<H> {
     /// The buffer has just the room that the call takes.
     ///
     /// The error is `Busy` (215) if the cell is in use. Then nothing changes.
+    #[inline(always)]
     fn post_one_now(
         &mut self,
         thread: ThreadNo,
@@ -110,6 +112,7 @@ impl<H: Home> Env<H> {
     /// };
     /// assert!(rt; matches!(env.collect_now(ticket)?, Some(Answer::Count(0))));
     /// ```
+    #[inline(always)]
     pub fn post_now(
         &mut self,
         alloc: Global,
@@ -127,6 +130,9 @@ impl<H: Home> Env<H> {
             Ok(place) => place,
             Err(error) => return Err(error),
         };
+        if !may_wait(call) {
+            return self.post_one_now(thread, place, call, TraceBuf::none());
+        }
         match self.room_for(alloc, thread, place, call) {
             Ok(buf) => self.post_one_now(thread, place, call, buf),
             Err(error) => Err(error),

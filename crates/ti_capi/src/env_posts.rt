@@ -9,6 +9,9 @@ use ti_slot::Asked;
 use ti_types::{Call, ThreadNo};
 
 /// Posts a call, and writes what is answered at once, or the ticket.
+// It is compiled into each function for C, which knows the call. So is all that it calls, down to the slot, for a call that is
+// answered at once.
+#[inline(always)]
 fn post(
     alloc: Global,
     env: &mut CqEnv,

@@ -45,6 +45,7 @@ pub(crate) fn write_stack(stack: &StackInfo, out: &mut CqStackInfo, room: &mut [
 }
 
 /// Writes an answer, and gives its code.
+#[inline(always)]
 pub(crate) fn write_answer(answer: Answer, out: &mut CqAnswer, room: &mut [CqFrame]) -> u32
     ensures { IsWritten answer result out.old out.new room.old room.new }
 {

@@ -15,7 +15,7 @@ use std::marker::{Model, PhantomData};
 use std::sync::{Arc, Wait};
 use std::time::Duration;
 use ti_slot::Slot;
-use ti_types::{Limits, ThreadNo, TiError};
+use ti_types::{Answer, Call, EnvNo, Limits, ThreadNo, TiError};
 
 /// One thread's slot behind one word.
 ///
@@ -241,9 +241,37 @@ impl ThreadCell {
         }
     }
 
+    /// Makes a call at the thread that is answered at once (`Slot::ask_at_once`), in one hold: it takes the slot, asks it and
+    /// stores it, and the seat stays where it is. It tries once and never waits, and wakes nobody. `None` if another user holds
+    /// the cell, or comes first. Then nothing changes.
+    ///
+    /// The seat is this cell's and the environment's. The call is not one that waits, and the environment has a call left.
+    #[inline(always)]
+    pub fn ask_now(&self, seat: &mut EnvSeat, env: EnvNo, call: Call) -> Option<Answer>
+        requires cell { seat.old.cell ≡ self.now }
+        requires number { seat.old.view.number ≡ env.0 + 1 }
+        requires there { env.0 < seat.old.view.subject.limits.envs }
+        requires at_once { waits call ≡ false }
+        requires calls { calls_spent env seat.old.view.mine < seat.old.view.subject.limits.calls }
+        ensures cell { seat.new.cell ≡ seat.old.cell }
+        ensures asked { IfSome result (λ a. AsksAtOnce seat.old.view seat.new.view env call a) }
+        ensures legal { is_legal seat.new.view.subject.limits seat.new.view.seen ≡ true }
+        ensures mine { seat.new.view.mine ≡ made_by seat.new.view.number seat.new.view.seen }
+        ensures busy { IfNone result (seat.new ≡ seat.old) }
+    {
+        let Some(slot) = self.take_now(&mut seat.seat) else {
+            return None;
+        };
+        let mut slot = slot;
+        let answer = slot.slot_mut().ask_at_once(env, call);
+        seat.count = slot.len();
+        self.give(&mut seat.seat, slot);
+        Some(answer)
+    }
+
     /// Takes the lock bit and the slot, by one load and one exchange of the word. `None` if another user has them, or comes
     /// first.
-    #[inline]
+    #[inline(always)]
     fn take_now(&self, seat: &mut Pass) -> Option<Parked>
         requires { (seat.old.table_id ≡ self.now) × (seat.old.me.1 ≡ []) × (seat.old.me.0.gone ≡ false) }
         ensures table { seat.new.table_id ≡ seat.old.table_id }
@@ -330,6 +358,7 @@ impl ThreadCell {
     }
 
     /// Puts the slot back and clears the lock bit. It wakes nobody.
+    #[inline(always)]
     pub(crate) fn give(&self, seat: &mut Pass, slot: Parked)
         requires seat { (seat.old.table_id ≡ self.now) × (seat.old.me.1 ≡ (0, None) ∷ []) × (seat.old.me.0.holds ≡ true) × (seat.old.me.0.gone ≡ false) }
         requires adds { Adds seat.old.me.0.number seat.old.me.0.seen slot.history }
@@ -340,7 +369,9 @@ impl ThreadCell {
         ensures legal { is_legal seat.old.me.0.subject.limits slot.history ≡ true }
     {
         let word = Word::free(slot.len(), slot.armed(), slot.barred());
-        drop(self.table.shared.exchange(seat, 0, Some(slot)));
+        if let Some(_found) = self.table.shared.exchange(seat, 0, Some(slot)) {
+            unreachable!()
+        }
         self.table.shared.store::<Frees>(seat, 0, word.bits);
     }
 
@@ -434,8 +465,10 @@ fn shared_limits(alloc: Global, limits: Limits) -> Result<Arc<Limits>, TiError>
 ghost use Rattle.std.specs.Arc.{arc_value};
 ghost use Rattle.std.specs.Prelude.{◌≡◌, ◌+◌, true, false, [], ◌∷◌, length, ◌<◌, ◌≤◌, IfOk, IfErr, IfSome, IfNone, None};
 ghost use Rattle.ti_types.specs.declared.error.TiError.TheVariants as TiError;
-ghost use Rattle.ti_replay.specs.Legal.{is_legal};
+ghost use Rattle.ti_replay.specs.Legal.{calls_spent, is_legal};
 ghost use Rattle.ti_replay.specs.Makers.{made_by, Adds, StartsWith};
+ghost use Rattle.ti_replay.specs.Settling.{waits};
 ghost use Rattle.ti_cell.specs.View.{subject_of, newcomer, splitter, split_off, holding, stored, glanced, rejoined, users, IsAbout, IsAlone};
+ghost use Rattle.ti_cell.specs.Asking.{AsksAtOnce};
 ghost use Rattle.ti_cell.specs.Rule.{IsTaken, Ends, Each, IsSo, IsWhole, WasSeen, Keeps};
 ghost use Rattle.ti_cell.specs.Seats.{env_seats};

@@ -150,6 +150,7 @@ impl<T> Index<usize> for Chunked<T> {
 
     ghost index_gives = { λ s i x. x ≡ slice_index_or s i x };
 
+    #[inline(always)]
     fn index(&self, index: usize) -> &T
         requires { index < length self.now }
         ensures { result.now ≡ slice_index_or self.now index result.now }
@@ -166,6 +167,7 @@ impl<T> Index<usize> for Chunked<T> {
 impl<T> IndexMut<usize> for Chunked<T> {
     ghost use Rattle.ti_chunked.specs.Lends.{lends_item};
 
+    #[inline(always)]
     fn index_mut(&mut self, index: usize) -> &mut T
         requires { index < length self.old }
         ensures* writes_back { sem 𝓛 (lends_item T.row self.entry index result) }

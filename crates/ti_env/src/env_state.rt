@@ -199,6 +199,7 @@ impl EnvState {
 
     /// Checks that there is such a thread (otherwise 10), that the call is well formed (otherwise 103), and that a call is
     /// left (otherwise 209).
+    #[inline(always)]
     fn check(&self, thread: ThreadNo, well_formed: bool) -> Result<(), TiError>
         ensures passed { OnOk result (reaching_refusal (is_there self.now thread) well_formed (spent_at self.now thread) self.now.limits.calls ≡ None) }
         ensures refused { IfErr result (λ e. reaching_refusal (is_there self.now thread) well_formed (spent_at self.now thread) self.now.limits.calls ≡ Some e) }
@@ -224,6 +225,7 @@ impl EnvState {
     /// - 209 CALLS_SPENT: no call is left at the thread.
     ///
     /// The first three are JVM TI 11's. The last and the order are this profile's. Nothing changes, and nothing is spent.
+    #[inline(always)]
     pub fn admit(&self, thread: ThreadNo, call: Call) -> Result<(), TiError>
         ensures admitted { OnOk result (call_refusal self.now thread call ≡ None) }
         ensures refused { IfErr result (λ e. call_refusal self.now thread call ≡ Some e) }
@@ -275,6 +277,7 @@ impl EnvState {
 
     /// Spends one of the calls that are left at a thread. Nothing is spent at the others (this profile). There must be such
     /// a thread, and a call must be left there, as after `admit`, `admit_stop` or `admit_read`.
+    #[inline(always)]
     pub fn spend(&mut self, thread: ThreadNo)
         requires there { thread.0 < length self.old.spent }
         requires left { spent_at self.old thread < self.old.limits.calls }

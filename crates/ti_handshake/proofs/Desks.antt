@@ -29,6 +29,7 @@ use Rattle.ti_slot.specs.Tickets.{same, has, held_by, without_ticket, AreOnce}
 use Rattle.ti_cell.specs.declared.view.View.{View}
 use Rattle.ti_cell.specs.View.{holding, stored, tickets_of, tickets_but}
 use Rattle.ti_cell.specs.Rule.{IsTaken, Keeps}
+use Rattle.ti_cell.specs.Asking.{AsksAtOnce}
 use Rattle.ti_cell.proofs.Tickets.{out_of_env}
 use Rattle.ti_cell.proofs.Calls.{has_of, left_of, collect_keeps}
 use Rattle.ti_cell.specs.Seats.{Sitting, Holding}
@@ -180,21 +181,21 @@ asks p env s h n m w call r k is store legal whole =
     stores_with p env s h n m w (next_call p.view p.env call ∷ []) (p.view.posted ++ ticket_told r) k store
     ((asked_more n m env call r is).0 ∙ ap (λ (x : Entry). n.history ++ x ∷ []) (next_is p env s h n call k)) legal whole posted
 
+-- the reply to a call is the same at the desk as in the slot
+reply_here : (p : DeskState) (env : EnvNo) (s : Sitting) (h : Holding) (n m : Thread) (w : View) (call : Call) (r : asked.Asked) → Took p env s h n → IsAsked n m env call r
+    → w ≡ stored h.view m.history m.uncollected → reply m.limits m.history (length n.history) ≡ reply p.view.subject.limits w.seen (length (found p.view w))
+reply_here p env s h n m w call r k is store =
+    let more = asked_more n m env call r is in
+    let known = knows p env s h n m w (next_asked n env call ∷ []) k store more.0 in
+    let limits : m.limits ≡ p.view.subject.limits = more.1 ∙ ap (λ (x : Known). x.limits) known in
+    let seen : m.history ≡ w.seen = sym (ap (λ (v : View). v.seen) store) in
+    let place : n.history ≡ found p.view w = ap (λ (x : Known). x.history) known in
+    λ i. reply (limits i) (seen i) (length (place i))
+
 pub told : (p : DeskState) (env : EnvNo) (s : Sitting) (h : Holding) (n m : Thread) (w : View) (call : Call) (r : asked.Asked) → Took p env s h n → IsAsked n m env call r
     → has (ticket_of n env) n.uncollected ≡ false → w ≡ stored h.view m.history m.uncollected → IsTold p.view w p.env call r
 told p env s h n m w call r k is fresh store = by_case r is
   where
-    more : (r : asked.Asked) → IsAsked n m env call r → m.history ≡ n.history ++ next_asked n env call ∷ []
-    more r is = (asked_more n m env call r is).0
-
-    same : (r : asked.Asked) (is : IsAsked n m env call r) → reply m.limits m.history (length n.history) ≡ reply p.view.subject.limits w.seen (length (found p.view w))
-    same r is =
-        let known = knows p env s h n m w (next_asked n env call ∷ []) k store (more r is) in
-        let limits : m.limits ≡ p.view.subject.limits = (asked_more n m env call r is).1 ∙ ap (λ (x : Known). x.limits) known in
-        let seen : m.history ≡ w.seen = sym (ap (λ (v : View). v.seen) store) in
-        let place : n.history ≡ found p.view w = ap (λ (x : Known). x.history) known in
-        λ i. reply (limits i) (seen i) (length (place i))
-
     ticket_same : (t : Ticket) → t ≡ ticket_of n env → t ≡ record { env = p.env; thread = p.view.subject.thread; no = asked_by p.env p.view.mine }
     ticket_same t e =
         let taken = taken_here p env s h n k in
@@ -207,8 +208,26 @@ told p env s h n m w call r k is fresh store = by_case r is
         (λ i. has (e i) (posted_is p env s h n k i)) ∙ (has_of (env.0 + 1) (ticket_of n env) (omega arith) n.uncollected ∙ fresh)
 
     by_case : (r : asked.Asked) → IsAsked n m env call r → IsTold p.view w p.env call r
-    by_case (Answered a) is = sym (same (Answered a) is) ∙ is.1
-    by_case (Waiting t) is = (sym (same (Waiting t) is) ∙ is.1, ticket_same t is.2, not_out t is.2)
+    by_case (Answered a) is = sym (reply_here p env s h n m w call (Answered a) k is store) ∙ is.1
+    by_case (Waiting t) is = (sym (reply_here p env s h n m w call (Waiting t) k is store) ∙ is.1, ticket_same t is.2, not_out t is.2)
+
+-- a call that was asked and answered in one hold
+abbrev hold_of : TableId → View → Thread → Holding
+hold_of cell v t = record { cell = cell; view = holding v t.history t.uncollected; slot = t }
+
+pub took_now : (cell : TableId) (env : EnvNo) (o : Option Sitting) (s : Sitting) (g : List Ticket) (p : DeskState) (w : View) (call : Call) (a : Answer) → IsThere cell env o g → place_in cell env o g ≡ p → o ≡ Some s
+    → (k : AsksAtOnce s.view w env call a) → Took p env s (hold_of cell s.view k.slot) k.slot
+took_now cell env o s g p w call a there is some k = took cell env o o s g p (hold_of cell s.view k.slot) k.slot there is some refl refl k.taken refl
+
+pub asks_now : (p : DeskState) (cell : TableId) (env : EnvNo) (s : Sitting) (w : View) (call : Call) (a : Answer) (k : AsksAtOnce s.view w env call a) → Took p env s (hold_of cell s.view k.slot) k.slot
+    → is_legal w.subject.limits w.seen ≡ true → w.mine ≡ made_by w.number w.seen → Holds p.view w (next_call p.view p.env call ∷ [])
+asks_now p cell env s w call a k took legal whole =
+    subst (λ (l : List Ticket). HoldsWith p.view w (next_call p.view p.env call ∷ []) l) (append-nil p.view.posted)
+    (asks p env s (hold_of cell s.view k.slot) k.slot k.left w call (Answered a) took k.asked k.store legal whole)
+
+pub told_now : (p : DeskState) (cell : TableId) (env : EnvNo) (s : Sitting) (w : View) (call : Call) (a : Answer) (k : AsksAtOnce s.view w env call a) → Took p env s (hold_of cell s.view k.slot) k.slot
+    → IsTold p.view w p.env call (Answered a)
+told_now p cell env s w call a k took = sym (reply_here p env s (hold_of cell s.view k.slot) k.slot k.left w call (Answered a) took k.asked k.store) ∙ k.asked.1
 
 -- of tickets that are there once, none is left when it is taken out
 pub out_once : (t : Ticket) (tickets : List Ticket) → AreOnce tickets → has t (without_ticket t tickets) ≡ false

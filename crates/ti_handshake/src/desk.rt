@@ -265,6 +265,7 @@ impl Desk {
     ///
     /// The answer is the reply at the place of the call, whatever others did before the call took place. It may be a refusal
     /// by the thread, as for `post`.
+    #[inline(always)]
     pub fn call<R: Wait>(&mut self, rt: &R, call: Call, buf: TraceBuf) -> Answer
         requires well_formed { is_well_formed call ≡ true }
         requires calls { calls_spent self.old.env self.old.view.mine < self.old.view.subject.limits.calls }

@@ -4,6 +4,7 @@
 //! spin nor sleep, and they wake nobody (`wake_sleepers`). If another user holds the cell, or comes first, nothing changes.
 
 use crate::desk::{Desk, collect_own, is_own_out};
+use ti_replay::rules::waits;
 use ti_slot::Asked;
 use ti_types::{Answer, Call, EnvNo, TiError, Ticket, TraceBuf};
 
@@ -62,10 +63,11 @@ impl Desk {
     /// };
     /// assert!(rt; matches!(desk.collect_now(ticket), Ok(Some(Answer::Count(0)))));
     /// ```
+    #[inline(always)]
     pub fn post_now(&mut self, call: Call, buf: TraceBuf) -> Result<Asked, TraceBuf>
         requires well_formed { is_well_formed call ≡ true }
         requires calls { calls_spent self.old.env self.old.view.mine < self.old.view.subject.limits.calls }
-        requires room { waits call ≡ true → length self.old.view.posted ≤ self.old.view.subject.limits.window }
+        requires room { waits_is call ≡ true → length self.old.view.posted ≤ self.old.view.subject.limits.window }
         requires buf { IsBufferOf self.old.view.subject.limits call buf }
         ensures same { IsSame self.old self.new }
         ensures hold { IfOk result (λ a. HoldsWith self.old.view self.new.view (next_call self.old.view self.old.env call ∷ []) (self.old.view.posted ++ ticket_told a)) }
@@ -74,6 +76,12 @@ impl Desk {
         ensures out { IfOk result (λ a. IsTicketOut self.new a) }
         ensures busy { IfErr result (λ b. (b ≡ buf) × (self.new ≡ self.old)) }
     {
+        if !waits(call) {
+            return match self.ask_now(call) {
+                Some(answer) => Ok(Asked::Answered(answer)),
+                None => Err(buf),
+            };
+        }
         let Some(seat) = self.seat.take() else {
             unreachable!()
         };
@@ -90,6 +98,30 @@ impl Desk {
                 Err(buf)
             }
         }
+    }
+
+    /// Makes a call at the thread that is answered at once, whatever the thread does: a question for its state, a resumption,
+    /// or one of the two calls about the environment's word. It tries to hold the cell just once, and costs one call. The
+    /// desk's tickets stay as they are.
+    ///
+    /// The answer may be a refusal by the thread, as for `post`.
+    ///
+    /// The call is not one that waits, and the environment has a call left at the thread.
+    ///
+    /// `None` if the cell is in use. Then nothing changes, and no call is spent.
+    #[inline(always)]
+    pub fn ask_now(&mut self, call: Call) -> Option<Answer>
+        requires at_once { waits_is call ≡ false }
+        requires calls { calls_spent self.old.env self.old.view.mine < self.old.view.subject.limits.calls }
+        ensures same { IsSame self.old self.new }
+        ensures hold { IfSome result (λ a. Holds self.old.view self.new.view (next_call self.old.view self.old.env call ∷ [])) }
+        ensures told { IfSome result (λ a. IsTold self.old.view self.new.view self.old.env call (Answered a)) }
+        ensures busy { IfNone result (self.new ≡ self.old) }
+    {
+        let Some(seat) = &mut self.seat else {
+            unreachable!()
+        };
+        self.cell.ask_now(seat, self.env, call)
     }
 
     /// The answer to a call of this desk that waited, if it is there. It is the same as `try_collect`, but tries to hold the
@@ -351,7 +383,7 @@ impl Desk {
     }
 }
 
-ghost use Rattle.std.specs.Prelude.{◌≡◌, ◌<◌, ◌≤◌, ◌+◌, ◌++◌, true, false, if◌then◌else◌, is_some, [], ◌∷◌, length, Some, None, IfSome, IfOk, IfErr, OnOk};
+ghost use Rattle.std.specs.Prelude.{◌≡◌, ◌<◌, ◌≤◌, ◌+◌, ◌++◌, true, false, if◌then◌else◌, is_some, [], ◌∷◌, length, Some, None, IfSome, IfNone, IfOk, IfErr, OnOk};
 ghost use Rattle.std.specs.Option.{option_map};
 ghost use Rattle.ti_types.specs.Answer.{said};
 ghost use Rattle.ti_types.specs.declared.entry.Entry.TheVariants as entry;
@@ -361,10 +393,11 @@ ghost use Rattle.ti_replay.specs.View.{view};
 ghost use Rattle.ti_replay.specs.Events.{if_none};
 ghost use Rattle.ti_replay.specs.Legal.{calls_spent, is_not_negative, is_well_formed};
 ghost use Rattle.ti_replay.specs.Replies.{reply};
-ghost use Rattle.ti_replay.specs.Settling.{waits};
+ghost use Rattle.ti_replay.specs.Settling.{waits as waits_is};
 ghost use Rattle.ti_replay.specs.Standing.{is_standing};
 ghost use Rattle.ti_replay.specs.Tickets.{reply_to};
 ghost use Rattle.ti_slot.specs.HandOvers.{hand_overs};
+ghost use Rattle.ti_slot.specs.declared.asked.Asked.TheVariants.{Answered};
 ghost use Rattle.ti_slot.specs.Thread.{IsLate, read_answer};
 ghost use Rattle.ti_slot.specs.Tickets.{has, without_ticket};
 ghost use Rattle.ti_slot.specs.Waiting.{HasRoomFor, IsBufferOf};

@@ -9,6 +9,8 @@ use Rattle.ti_types.specs.declared.numbers.EnvNo.{EnvNo}
 use Rattle.ti_types.specs.declared.numbers.ThreadNo.{ThreadNo}
 use Rattle.ti_types.specs.declared.event.Ticket.{Ticket}
 use Rattle.ti_types.specs.declared.call.Call.{Call}
+use Rattle.ti_types.specs.declared.call.Call.TheVariants.{State, FrameCount, Trace, Location, Suspend, Resume, GetWord, SetWord, Pop}
+use Rattle.ti_types.specs.declared.state.Mode.{Mode}
 use Rattle.ti_types.specs.declared.answer.Answer.{Answer}
 use Rattle.ti_types.specs.declared.step.Step.{Step}
 use Rattle.ti_types.specs.declared.state.Safe.{Safe}
@@ -40,7 +42,7 @@ use Rattle.ti_replay.specs.HistoryState.{HistoryState, history_state}
 use Rattle.ti_replay.specs.LateTickets.{steps_of}
 use Rattle.ti_replay.specs.Tickets.{reply_to}
 use Rattle.ti_slot.specs.declared.slot.Slot.TheInside.{Inside}
-use Rattle.ti_slot.specs.Condition.{view_of, frames_or, AreWhereTheyWere}
+use Rattle.ti_slot.specs.Condition.{view_of, frames_or, AreWhereTheyWere, is_pop}
 use Rattle.ti_slot.specs.Waiting.{answers_of, entries_of, said_in, said_status, delivered, IsBufferOf}
 use Rattle.ti_slot.specs.Tickets.{Tells, NoneBetween, IsNextOut, has, held_by, without_ticket, asked_in, open_in, AreAwaited}
 use Rattle.ti_slot.specs.Thread.{Thread, with_more, IsAsked}
@@ -153,6 +155,44 @@ asks_here a t env n call s et he hc hw hh en =
       room = λ w. omega (arith, hh w, held_here a t env s et, s.0.window, ap (λ (z : Thread). z.limits.window) et);
       comes = comes a (Asked env n call) s.0 may;
     }
+
+-- a call that does not wait
+pub now_formed : (call : Call) → waits call ≡ false → is_well_formed call ≡ true
+now_formed State h = refl
+now_formed FrameCount h = cc
+now_formed (Trace start max_count) h = cc
+now_formed (Location depth) h = cc
+now_formed Suspend h = cc
+now_formed Resume h = refl
+now_formed GetWord h = refl
+now_formed (SetWord word) h = refl
+now_formed Pop h = cc
+
+pub now_keeps : (call : Call) → waits call ≡ false → is_pop call ≡ false
+now_keeps State h = refl
+now_keeps FrameCount h = refl
+now_keeps (Trace start max_count) h = refl
+now_keeps (Location depth) h = refl
+now_keeps Suspend h = refl
+now_keeps Resume h = refl
+now_keeps GetWord h = refl
+now_keeps (SetWord word) h = refl
+now_keeps Pop h = cc
+
+pub now_off : (call : Call) (mode : Mode) → waits call ≡ false → (waits call && is_running mode) ≡ false
+now_off call mode h = ap (λ b. b && is_running mode) h
+
+pub asks_now : (a : Inside) (t : Thread) (env : EnvNo) (n : ℕ) (call : Call) → IsWhole a → thread_in a ≡ t → env.0 < t.limits.envs → calls_spent env t.history < t.limits.calls → waits call ≡ false
+    → n ≡ length (statuses_by env a.ops.statuses) → Asks a env n call
+asks_now a t env n call s et he hc off en = asks_here a t env n call s et he hc (now_formed call off) (λ w. absurd (never w)) en
+  where
+    never : waits call ≡ true → ⊥
+    never w = let both : true ≡ false = sym w ∙ off in cc
+
+-- frames that nobody moves
+pub where_they_are : (g : Option Stack) → AreWhereTheyWere g g
+where_they_are (Some s) = refl
+where_they_are None = tt
 
 -- the slot after a call that is answered at once, and what it comes to
 pub now_whole : (a : Inside) (env : EnvNo) (n : ℕ) (call : Call) (h : Recorded Entry) (c : Condition) (g : Option Stack) (ops : Ops) → IsWhole a → Asks a env n call → (waits call && is_running a.condition.mode) ≡ false

@@ -4,7 +4,7 @@ use crate::condition::{Condition, pop_refusal, take_call};
 use ti_frames::Frames;
 use ti_ops::{Pending, PendingOps};
 use ti_replay::answers::{done_or, or_zero, trace_start};
-use ti_replay::rules::{is_alive, waits};
+use ti_replay::rules::is_alive;
 use ti_types::{Answer, Call, EnvNo, Limits, TiError, TraceBuf, state_bits};
 
 /// At most `most` frames from a start on. 103 if there is no frame at `start`, as for `trace_start`.
@@ -26,7 +26,7 @@ fn trace(frames: &Frames, start: i32, most: u32, buf: TraceBuf) -> Answer
 
 /// What a thread with these frames answers to a call that waits for them, whoever asks it.
 #[inline(always)]
-fn answer_by_frames(
+pub fn answer_by_frames(
     condition: &Condition,
     frames: &Frames,
     limits: &Limits,
@@ -62,7 +62,7 @@ fn answer_by_frames(
 
 /// What a thread answers to a call that takes place at once, whatever its frames are.
 #[inline(always)]
-fn answer_at_once(condition: &Condition, env: EnvNo, call: Call) -> Answer
+pub fn answer_at_once(condition: &Condition, env: EnvNo, call: Call) -> Answer
     requires { waits_is call ≡ false }
     ensures { (frames : List Frame) → said result ≡ answer_of (view_of condition.now frames) env call }
 {
@@ -83,28 +83,6 @@ fn answer_at_once(condition: &Condition, env: EnvNo, call: Call) -> Answer
         Call::GetWord => Answer::Word(condition.words.get(env.0 as usize)),
         Call::SetWord(_) => Answer::Done,
         _ => unreachable!(),
-    }
-}
-
-/// What a thread answers. Its frames are here, or the call is one that does not wait.
-#[inline(always)]
-pub fn answer(
-    condition: &Condition,
-    frames: &Option<Frames>,
-    limits: &Limits,
-    env: EnvNo,
-    call: Call,
-    buf: TraceBuf,
-) -> Answer
-    requires frames { MatchOption frames.now (waits_is call ≡ false) (λ f. f.depth ≡ limits.now.depth) }
-    requires buf { IsBufferOf limits.now call buf }
-    ensures { (others : List Frame) → said result ≡ answer_of (view_of condition.now (frames_or frames.now others)) env call }
-{
-    if waits(call) {
-        let Some(frames) = frames else { unreachable!() };
-        answer_by_frames(condition, frames, limits, call, buf)
-    } else {
-        answer_at_once(condition, env, call)
     }
 }
 
@@ -146,7 +124,7 @@ pub fn serve(condition: &mut Condition, frames: &mut Frames, limits: &Limits, op
     }
 }
 
-ghost use Rattle.std.specs.Prelude.{◌≡◌, ◌≤◌, ◌+◌, ◌++◌, [], length, List, Some, None, IfSome, MatchOption, false, true, min};
+ghost use Rattle.std.specs.Prelude.{◌≡◌, ◌≤◌, ◌+◌, ◌++◌, [], length, List, Some, None, IfSome, false, true, min};
 ghost use Rattle.std.specs.List.{fold, list_all};
 ghost use Rattle.ti_types.specs.declared.numbers.EnvNo.{EnvNo};
 ghost use Rattle.ti_types.specs.declared.place.Frame.{Frame};
@@ -154,6 +132,6 @@ ghost use Rattle.ti_types.specs.Answer.{said};
 ghost use Rattle.ti_replay.specs.Answers.{answer_of, stack_of, first_of_trace, trace_from, or_zero as or_zero_of};
 ghost use Rattle.ti_replay.specs.Settling.{waits as waits_is};
 ghost use Rattle.ti_replay.specs.View.{after};
-ghost use Rattle.ti_slot.specs.Condition.{view_of, frames_or};
+ghost use Rattle.ti_slot.specs.Condition.{view_of};
 ghost use Rattle.ti_slot.specs.Waiting.{entries_of, IsBufferOf, AreReady, calls_of, said_in, answers_of, delivered};
 ghost use Rattle.ti_slot.specs.Tickets.{AreAwaited, AreApart};

@@ -33,7 +33,8 @@ fn pop(condition: &Condition, frames: &mut Frames)
 }
 
 /// Lets a call take place that changes no frames.
-fn set(condition: &mut Condition, env: EnvNo, call: Call)
+#[inline(always)]
+pub fn set(condition: &mut Condition, env: EnvNo, call: Call)
     requires { is_pop call ≡ false }
     ensures { (frames : List Frame) → view_of condition.new frames ≡ called (view_of condition.old frames) env call }
 {
@@ -58,23 +59,10 @@ pub fn take_call(condition: &mut Condition, frames: &mut Frames, env: EnvNo, cal
     }
 }
 
-/// Lets a call take place at once. The frames are here, or the call does not wait.
-pub fn take_at_once(condition: &mut Condition, frames: &mut Option<Frames>, env: EnvNo, call: Call)
-    requires { MatchOption frames.old (waits_is call ≡ false) (λ _. Unit {0}) }
-    ensures view { (others : List Frame) → view_of condition.new (frames_or frames.new others) ≡ called (view_of condition.old (frames_or frames.old others)) env call }
-    ensures home { AreWhereTheyWere frames.old frames.new }
-{
-    match frames {
-        Some(frames) => take_call(condition, frames, env, call),
-        None => set(condition, env, call),
-    }
-}
-
-ghost use Rattle.std.specs.Prelude.{◌≡◌, List, false, MatchOption};
+ghost use Rattle.std.specs.Prelude.{◌≡◌, List, false};
 ghost use Rattle.ti_types.specs.declared.numbers.EnvNo.{EnvNo};
 ghost use Rattle.ti_types.specs.declared.call.Call.TheVariants as call;
 ghost use Rattle.ti_types.specs.declared.place.Frame.{Frame};
 ghost use Rattle.ti_replay.specs.Answers.{pop_refusal as pop_refusal_of};
-ghost use Rattle.ti_replay.specs.Settling.{waits as waits_is};
 ghost use Rattle.ti_replay.specs.View.{called};
-ghost use Rattle.ti_slot.specs.Condition.{view_of, frames_or, AreWhereTheyWere, is_pop};
+ghost use Rattle.ti_slot.specs.Condition.{view_of, is_pop};

@@ -15,6 +15,7 @@ impl Reads<Step, Entry> for AsOwn {
 }
 
 /// Adds an entry. There is room for it.
+#[inline(always)]
 pub fn push(history: &mut Record<Entry>, entry: Entry)
     requires { length history.old.items < history.old.room }
     ensures items { history.new.items ≡ history.old.items ++ entry ∷ [] }

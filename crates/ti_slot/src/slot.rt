@@ -1,14 +1,14 @@
 //! The slot of a thread: its history, its state, and the calls that wait.
 
 use crate::asked::Asked;
-use crate::call_answers::{answer, stack};
-use crate::condition::{Condition, take_at_once};
+use crate::call_answers::{answer_at_once, answer_by_frames, stack};
+use crate::condition::{Condition, set, take_call};
 use crate::new_entries::push;
 use std::alloc::Global;
 use std::marker::Model;
 use ti_frames::{Frames, Log};
 use ti_ops::PendingOps;
-use ti_replay::rules::{is_put_off, is_running, is_stopper};
+use ti_replay::rules::{is_put_off, is_running, is_stopper, waits};
 use ti_trail::{Record, Recording};
 use ti_types::{
     Answer, Call, Entry, EnvNo, Limits, Mode, ThreadNo, TiError, Ticket, TraceBuf, WordList,
@@ -122,12 +122,15 @@ impl Slot {
         requires env { env.0 < self.old.limits.envs }
         requires well_formed { is_well_formed call ≡ true }
         requires calls { calls_spent env self.old.history < self.old.limits.calls }
-        requires room { waits call ≡ true → held_by env self.old.uncollected ≤ self.old.limits.window }
+        requires room { waits_is call ≡ true → held_by env self.old.uncollected ≤ self.old.limits.window }
         requires buf { IsBufferOf self.old.limits call buf }
         ensures asked { IsAsked self.old self.new env call result }
         ensures late { IsLate call result }
         ensures legal { is_legal self.new.limits self.new.history ≡ true }
     {
+        if !waits(call) {
+            return Asked::Answered(self.ask_at_once(env, call));
+        }
         let no = self.ops.asked(env);
         let entry = Entry::Asked(env, no, call);
         if is_put_off(self.condition.mode, call) {
@@ -140,12 +143,39 @@ impl Slot {
             push(&mut self.history, entry);
             Asked::Waiting(ticket)
         } else {
+            let Some(frames) = &mut self.frames else {
+                unreachable!()
+            };
             push(&mut self.history, entry);
-            let told = answer(&self.condition, &self.frames, &self.limits, env, call, buf);
-            take_at_once(&mut self.condition, &mut self.frames, env, call);
+            let told = answer_by_frames(&self.condition, frames, &self.limits, call, buf);
+            take_call(&mut self.condition, frames, env, call);
             self.ops.pass(env);
             Asked::Answered(told)
         }
+    }
+
+    /// Makes a call at the thread that is answered at once, whatever the thread does: a question for its state, a resumption,
+    /// or one of the two calls about the environment's word. It is the same as `ask` of such a call, but takes no buffer and
+    /// gives no ticket.
+    ///
+    /// The answer may be a refusal by the thread, as JVM TI 11 says of each call. It is `ThreadNotAlive` (15) or
+    /// `ThreadNotSuspended` (13). A refused call changes nothing but the history.
+    ///
+    /// The call is not one that waits, and the environment has a call left.
+    #[inline(always)]
+    pub fn ask_at_once(&mut self, env: EnvNo, call: Call) -> Answer
+        requires env { env.0 < self.old.limits.envs }
+        requires at_once { waits_is call ≡ false }
+        requires calls { calls_spent env self.old.history < self.old.limits.calls }
+        ensures asked { IsAsked self.old self.new env call (Answered result) }
+        ensures legal { is_legal self.new.limits self.new.history ≡ true }
+    {
+        let no = self.ops.asked(env);
+        push(&mut self.history, Entry::Asked(env, no, call));
+        let told = answer_at_once(&self.condition, env, call);
+        set(&mut self.condition, env, call);
+        self.ops.pass(env);
+        told
     }
 
     /// How many calls of an environment wait, or have an answer that is not collected. 0 if there is no such environment.
@@ -378,12 +408,13 @@ ghost use Rattle.ti_types.specs.Answer.{said};
 ghost use Rattle.ti_types.specs.declared.entry.Entry.TheVariants as entry;
 ghost use Rattle.ti_types.specs.declared.event.Event.TheVariants as event;
 ghost use Rattle.ti_replay.specs.Answers.{or_zero as or_zero_of};
-ghost use Rattle.ti_replay.specs.Settling.{waits};
+ghost use Rattle.ti_replay.specs.Settling.{waits as waits_is};
 ghost use Rattle.ti_replay.specs.View.{view, is_barred};
 ghost use Rattle.ti_replay.specs.Legal.{is_legal, is_armed, is_well_formed, is_not_negative, own_spent, calls_spent, asked_by};
 ghost use Rattle.ti_replay.specs.Events.{stopping_refusal, if_none};
 ghost use Rattle.ti_replay.specs.Standing.{is_standing};
 ghost use Rattle.ti_replay.specs.Replies.{reply};
+ghost use Rattle.ti_slot.specs.declared.asked.Asked.TheVariants.{Answered};
 ghost use Rattle.ti_slot.specs.Thread.{new_slot, with_more, with_tickets, done_or, IsAsked, IsLate, read_answer};
 ghost use Rattle.std.specs.Option.{option_map};
 ghost use Rattle.ti_slot.specs.Tickets.{has, held_by, without_ticket, AreOnce, IsNextOut};

@@ -8,8 +8,8 @@ use Rattle.ti_handshake.proofs.desk.Desk.post_now.Goals.{After-slot-slot}
 use Rattle.ti_handshake.proofs.desk.Desk.post_now.Goals as goal
 
 -- the slot that the desk took
-taken : (c : After-slot-slot) → Took c.args.self.now c.self.inside.env c.in-Some.seat c.in-Ok.hold c.slot-slot.result.now
-taken c = took _ _ _ _ _ _ _ c.in-Ok.hold _ c.self.invariant c.self.view_is c.in-Some.is c.take.ensures.value c.in-Ok.ensures.view c.in-Ok.ensures.taken c.slot-slot.ensures.value
+taken : (c : After-slot-slot) → Took c.args.self.now c.self.inside.env c.in-Some-take.seat c.in-Ok.hold c.slot-slot.result.now
+taken c = took _ _ _ _ _ _ _ c.in-Ok.hold _ c.self.invariant c.self.view_is c.in-Some-take.is c.take.ensures.value c.in-Ok.ensures.view c.in-Ok.ensures.taken c.slot-slot.ensures.value
 
 pub ask-asked-requires-clause-calls : goal.ask-asked-requires-clause-calls
 ask-asked-requires-clause-calls c =

@@ -1,8 +1,14 @@
-use Rattle.std.proofs.Common.{refl, arith, sym, ◌∙◌}
+use Rattle.std.proofs.Common.{◌≡◌, List, Option, Some, ap, refl, arith, subst, sym, ◌∙◌}
 use Rattle.ti_types.specs.declared.entry.Entry.TheVariants.{Asked}
+use Rattle.ti_types.specs.declared.place.Frame.{Frame}
+use Rattle.ti_types.specs.Answer.{said}
+use Rattle.ti_frames.specs.Frames.{Stack}
+use Rattle.ti_replay.specs.Answers.{answer_of}
+use Rattle.ti_replay.specs.View.{called}
+use Rattle.ti_slot.specs.Condition.{view_of, frames_or, AreWhereTheyWere}
 use Rattle.ti_slot.proofs.CallLaws.{may_call}
 use Rattle.ti_slot.proofs.WholeLaws.{Asks, asks_here, lists_here, now_whole, now_told, later_whole, later_told}
-use Rattle.ti_slot.proofs.slot.Slot.ask.Goals.{After-asked-no}
+use Rattle.ti_slot.proofs.slot.Slot.ask.Goals.{After-asked-no, After-take_call}
 use Rattle.ti_slot.proofs.HandOverLaws.{count_stays}
 use Rattle.ti_slot.proofs.slot.Slot.ask.Goals as goal
 
@@ -47,19 +53,31 @@ pass-requires c =
 pub push-requires-else-is_put_off : goal.push-requires-else-is_put_off
 push-requires-else-is_put_off c = (asks (goal.at.push-requires-else-is_put_off c).After-asked-no).comes.room
 
+-- what the call changes and answers, whatever others the thread may have
+changed : (c : After-take_call) → (others : List Frame) → view_of c.take_call.new.condition (frames_or (Some c.take_call.new.frames) others) ≡ called (view_of c.self.inside.condition (frames_or c.self.inside.frames others)) c.args.env c.args.call
+changed c others = c.take_call.ensures.view ∙ ap (λ (f : Option Stack). called (view_of c.self.inside.condition (frames_or f others)) c.args.env c.args.call) (sym c.in-Some.is)
+
+stays : (c : After-take_call) → AreWhereTheyWere c.self.inside.frames (Some c.take_call.new.frames)
+stays c = subst (λ (f : Option Stack). AreWhereTheyWere f (Some c.take_call.new.frames)) (sym c.in-Some.is) c.take_call.ensures.depth
+
+tells : (c : After-take_call) → (others : List Frame) → said c.answer_by_frames-told.result ≡ answer_of (view_of c.self.inside.condition (frames_or c.self.inside.frames others)) c.args.env c.args.call
+tells c others = c.answer_by_frames-told.ensures c.args.env ∙ ap (λ (f : Option Stack). answer_of (view_of c.self.inside.condition (frames_or f others)) c.args.env c.args.call) (sym c.in-Some.is)
+
 pub invariant_of-self-else-is_put_off : goal.invariant_of-self-else-is_put_off
 invariant_of-self-else-is_put_off c =
     let push = c.push-else-is_put_off in
+    let at = goal.at.invariant_of-self-else-is_put_off c in
     let whole =
-    now_whole c.self.inside c.args.env c.asked-no.result c.args.call push.new.history c.take_at_once.new.condition c.take_at_once.new.frames c.pass.new.self c.self.invariant (asks (goal.at.invariant_of-self-else-is_put_off c).After-asked-no)
-    (sym c.is_put_off.ensures ∙ c.if-is_put_off.false) push.ensures.items push.ensures.shelf c.take_at_once.ensures.view c.take_at_once.ensures.home c.pass.ensures in
+    now_whole c.self.inside c.args.env c.asked-no.result c.args.call push.new.history c.take_call.new.condition (Some c.take_call.new.frames) c.pass.new.self c.self.invariant (asks at.After-asked-no)
+    (sym c.is_put_off.ensures ∙ c.if-is_put_off.false) push.ensures.items push.ensures.shelf (changed at.After-take_call) (stays at.After-take_call) c.pass.ensures in
     (whole.0, whole.1, count_stays c.self.inside (Asked c.args.env c.asked-no.result c.args.call) push.new.history.items c.self.invariant refl push.ensures.items)
 
-pub returns-else-is_put_off-clause-asked : goal.returns-else-is_put_off-clause-asked
-returns-else-is_put_off-clause-asked c =
+pub returns-in-Some-clause-asked : goal.returns-in-Some-clause-asked
+returns-in-Some-clause-asked c =
     let push = c.push-else-is_put_off in
-    now_told c.self.inside _ c.args.env c.asked-no.result c.args.call push.new.history.items c.pass.new.self c.answer-told.result c.self.invariant c.self.view_is (asks (goal.at.returns-else-is_put_off-clause-asked c).After-asked-no)
-    (sym c.is_put_off.ensures ∙ c.if-is_put_off.false) push.ensures.items c.pass.ensures c.answer-told.ensures
+    let at = goal.at.returns-in-Some-clause-asked c in
+    now_told c.self.inside _ c.args.env c.asked-no.result c.args.call push.new.history.items c.pass.new.self c.answer_by_frames-told.result c.self.invariant c.self.view_is (asks at.After-asked-no)
+    (sym c.is_put_off.ensures ∙ c.if-is_put_off.false) push.ensures.items c.pass.ensures (tells at.After-take_call)
 
-pub returns-else-is_put_off-clause-legal : goal.returns-else-is_put_off-clause-legal
-returns-else-is_put_off-clause-legal c = (invariant_of-self-else-is_put_off c).0.legal
+pub returns-in-Some-clause-legal : goal.returns-in-Some-clause-legal
+returns-in-Some-clause-legal c = (invariant_of-self-else-is_put_off c).0.legal
