@@ -5,6 +5,7 @@ pub mod PopLaws
 pub mod RunLaws
 pub mod ServingLaws
 pub mod StackLaws
+pub mod StopLaws
 pub mod SuspendLaws
 pub mod MethodLaws
 pub mod LineLaws

@@ -23,5 +23,6 @@ pub mod Gone
 pub mod Pops
 pub mod Replies
 pub mod Stopping
+pub mod Placing
 pub mod Suspending
 pub mod Serving

@@ -1,20 +1,24 @@
--- How a session is served: what it waits for is due until it is given, and what it is given is what the agent has.
-use Rattle.std.specs.Prelude.{◌≡◌, ℕ, List, [], ◌∷◌, Bool, true, false, Option, Some, None, Result, Ok, Err}
+-- How a session is served: what it waits for is due until it is given, and what it is given is what the agent has at that moment.
+use Rattle.std.specs.Prelude.{◌≡◌, ◌≤◌, ◌⊎◌, ℕ, List, [], ◌∷◌, map, Bool, true, false, Option, Some, None, Result, Ok, Err}
 use Rattle.ti_jdwp.specs.declared.actions.Action.{Action}
 use Rattle.ti_jdwp.specs.declared.actions.Action.TheVariants as action
+use Rattle.ti_jdwp.specs.declared.actions.Posted.{Posted}
 use Rattle.ti_jdwp.specs.declared.request.Request.{Request}
 use Rattle.ti_jdwp.specs.SessionRuns.{Call, Step, Fed, PeerEnded, Shut, Went, Failed, Replied, Listed, PostedAs, Settled, PlacedAs, LocatedAs, StoppedAt, Written, Happened, Began}
 use Rattle.ti_jdwp.specs.Talks.{Talk, data_of}
+use Rattle.ti_debugger.specs.declared.asked.Asked.TheVariants.{Nothing}
 use Rattle.ti_debugger.specs.declared.desk.Desk.{Desk}
 use Rattle.ti_debugger.specs.declared.due.Due.{Due}
 use Rattle.ti_debugger.specs.declared.due.Due.TheVariants as due
 use Rattle.ti_debugger.specs.declared.seat.Seat.{Seat}
 use Rattle.ti_debugger.specs.declared.stopping.Spot.{Spot}
-use Rattle.ti_debugger.specs.Crowds.{alive_in}
+use Rattle.ti_debugger.specs.Crowds.{alive_in, any_awaited}
 use Rattle.ti_debugger.specs.Debuggers.{DebuggerValue}
-use Rattle.ti_debugger.specs.Desks.{Works, debugger_of}
+use Rattle.ti_debugger.specs.Desks.{debugger_of}
+use Rattle.ti_debugger.specs.Placing.{IsPlacedAs, StandsAs}
 use Rattle.ti_debugger.specs.Replies.{IsBodyOf}
-use Rattle.ti_debugger.specs.Suspending.{Resumes, Suspends}
+use Rattle.ti_debugger.specs.Stopping.{once_let_go, stopped_in}
+use Rattle.ti_debugger.specs.Suspending.{CallsThreads, Resumes, Settles, Suspends}
 
 -- what is due once a session said this; what asks for nothing leaves what is due
 abbrev pub due_by : Action → Option Due → Option Due
@@ -36,57 +40,93 @@ abbrev pub RepliesTo : Request → List ℕ → Result (List ℕ) ℕ → Desk �
 RepliesTo request bytes (Ok body) old new = IsBodyOf request bytes old new body
 RepliesTo request bytes (Err error) old new = Unit {0}
 
--- What a session asks to be done at once: a thread is resumed.
+-- the service is asked of its stops, and nothing else changes
+abbrev pub CallsStops : Desk → Desk → Type 0
+CallsStops old new = new ≡ record old { agent = new.agent; stops = new.stops }
+
+-- A thread that stopped may go on. All others of which the session was told stay stopped, and nothing else changes.
+pub record LetsGo (thread : ℕ) (old new : Desk) : Type 0 where
+  pub rest : new ≡ record old { agent = new.agent; stops = record old.stops { halted = new.stops.halted }; resumptions = new.resumptions }
+  pub stopped : stopped_in new.stops.halted.items ≡ stopped_in (map (once_let_go thread) old.stops.halted.items)
+  pub grows : old.resumptions ≤ new.resumptions
+
+-- What a session asks to be done at once: a thread is resumed, or one that stopped goes on.
 abbrev pub Undertakes : Action → Desk → Desk → Type 0
-Undertakes (action.Resume thread) old new = Resumes thread old new
+Undertakes (action.Resume thread) old new = Resumes thread old new × CallsThreads old new
+Undertakes (action.LetGo thread) old new = LetsGo thread old new
 Undertakes (action.Ask request) old new = new ≡ old
 Undertakes action.ListThreads old new = new ≡ old
 Undertakes (action.Suspend thread) old new = new ≡ old
 Undertakes action.Settle old new = new ≡ old
 Undertakes (action.SetBreakpoint class method index) old new = new ≡ old
 Undertakes (action.Locate thread) old new = new ≡ old
-Undertakes (action.LetGo thread) old new = Works old new
 Undertakes action.Again old new = new ≡ old
 Undertakes action.Write old new = new ≡ old
 Undertakes action.Close old new = new ≡ old
 Undertakes action.Wait old new = new ≡ old
 
--- A call of a session's agent, with what was due before and is after it: the session goes on, or is given what is due.
-abbrev pub Serves : Talk → Option Due → Desk → Call → Option Due → Desk → Type 0
-Serves t d old (Went act) d' new = (d' ≡ due_by act d) × Undertakes act old new
-Serves t d old Failed d' new = d' ≡ d
-Serves t d old (Replied a) d' new = (request : Request) × (d ≡ Some (due.Answer request)) × (d' ≡ None) × RepliesTo request (data_of t.first t.bytes.input) a old new
-Serves t d old (Listed threads) d' new = (d ≡ Some due.List) × (d' ≡ None) × (threads ≡ alive_in old.crowd.list.items)
-Serves t d old (PostedAs posted) d' new = (thread : ℕ) × (d ≡ Some (due.Post thread)) × (d' ≡ None) × Suspends thread (Some posted) old new
-Serves t d old Settled d' new = (d ≡ Some due.Settle) × (d' ≡ None)
-Serves t d old (PlacedAs placed) d' new = (spot : Spot) × (d ≡ Some (due.Place spot)) × (d' ≡ None)
-Serves t d old (LocatedAs standing) d' new = (thread : ℕ) × (d ≡ Some (due.Locate thread)) × (d' ≡ None)
-Serves t d old (Fed bytes) d' new = ⊥
-Serves t d old PeerEnded d' new = ⊥
-Serves t d old Shut d' new = ⊥
-Serves t d old (Written count) d' new = ⊥
-Serves t d old (StoppedAt x verdict) d' new = ⊥
-Serves t d old (Happened event occurrence is_told) d' new = ⊥
-Serves t d old (Began thread is_told) d' new = ⊥
+-- a thread is suspended, or that is tried, and nothing else changes
+abbrev pub Posts : ℕ → Option Posted → Desk → Desk → Type 0
+Posts thread p old new = Suspends thread p old new × (new.agent.home ≡ old.agent.home) × (new ≡ record old { agent = new.agent; crowd = new.crowd })
 
--- Such calls, one after the other. Between them the agent works, and gives the session nothing.
-abbrev pub Path : Talk → Option Due → Desk → List Call → Talk → Option Due → Desk → Type 0
-Path t d old [] t' d' new = (t ≡ t') × (d ≡ d') × Works old new
-Path t d old (c ∷ calls) t' d' new =
-    (t₁ : Talk) × (d₁ : Option Due) × (before : Desk) × (behind : Desk) × Works old before
-    × Step t c t₁ × Serves t d before c d₁ behind × Path t₁ d₁ behind calls t' d' new
+-- what a session is given of what is due to it, as the agent has it, and nothing else changes
+abbrev pub Gives : ℕ → Talk → Option Due → Desk → Call → Desk → Type 0
+Gives now t d old (Replied a) new =
+    (request : Request) × (d ≡ Some (due.Answer request)) × RepliesTo request (data_of t.first t.bytes.input) a old new × (new ≡ record old { agent = new.agent; asked = new.asked })
+Gives now t d old (Listed threads) new = (d ≡ Some due.List) × (threads ≡ alive_in old.crowd.list.items) × (new ≡ old)
+Gives now t d old (PostedAs posted) new = (thread : ℕ) × (d ≡ Some (due.Post thread)) × Posts thread (Some posted) old new
+Gives now t d old Settled new = (d ≡ Some due.Settle) × (any_awaited new.crowd.list.items now ≡ false) × Settles old new
+Gives now t d old (PlacedAs placed) new = (spot : Spot) × (d ≡ Some (due.Place spot)) × IsPlacedAs placed spot new.agent × CallsStops old new
+Gives now t d old (LocatedAs standing) new = (thread : ℕ) × (d ≡ Some (due.Locate thread)) × StandsAs standing thread old × CallsStops old new
+Gives now t d old _ new = ⊥
 
-abbrev pub Serving : Talk → Option Due → Desk → Talk → Option Due → Desk → Type 0
-Serving t d old t' d' new = (calls : List Call) × Path t d old calls t' d' new
+-- A call of a session's agent, with what was due before and is after it: the session goes on if nothing is due, or is given what is
+-- due. Then nothing is asked of the runtime any more.
+abbrev pub Serves : ℕ → Talk → Option Due → Desk → Call → Option Due → Desk → Type 0
+Serves now t d old (Went act) d' new = (d ≡ None) × (d' ≡ due_by act d) × Undertakes act old new
+Serves now t d old Failed d' new = (d' ≡ d) × (new ≡ old)
+Serves now t d old c d' new = (given : Desk) × Gives now t d old c given × (d' ≡ None) × (new ≡ record given { asked = Nothing })
+
+-- Such calls, one right after the other. Between them the agent does nothing.
+abbrev pub Path : ℕ → Talk → Option Due → Desk → List Call → Talk → Option Due → Desk → Type 0
+Path now t d old [] t' d' new = (t ≡ t') × (d ≡ d') × (old ≡ new)
+Path now t d old (c ∷ calls) t' d' new =
+    (t₁ : Talk) × (d₁ : Option Due) × (next : Desk) × Step t c t₁ × Serves now t d old c d₁ next × Path now t₁ d₁ next calls t' d' new
+
+abbrev pub Going : ℕ → Talk → Option Due → Desk → Talk → Option Due → Desk → Type 0
+Going now t d old t' d' new = (calls : List Call) × Path now t d old calls t' d' new
+
+-- what is left where something that is due was not given: it is not there yet, or there is no memory
+abbrev pub Tries : Due → Desk → Desk → Type 0
+Tries (due.Answer request) old new = new ≡ record old { agent = new.agent; asked = new.asked }
+Tries due.List old new = new ≡ old
+Tries (due.Post thread) old new = (p : Option Posted) × Posts thread p old new
+Tries due.Settle old new = Settles old new
+Tries (due.Place spot) old new = CallsStops old new
+Tries (due.Locate thread) old new = CallsStops old new
+
+abbrev pub Rests : Option Due → Desk → Desk → Type 0
+Rests None old new = new ≡ old
+Rests (Some x) old new = (new ≡ old) ⊎ Tries x old new
+
+-- Such calls, and then what is due at the end may be tried without being given.
+abbrev pub Serving : ℕ → Talk → Option Due → Desk → Talk → Option Due → Desk → Type 0
+Serving now t d old t' d' new = (last : Desk) × Going now t d old t' d' last × Rests d' last new
 
 -- what came of giving a session what is due; false, or an error: nothing was given
-abbrev pub Given : {E : Type 0} → Due → Talk → Desk → Talk → Desk → Result Bool E → Type 0
-Given x t old t' new (Ok true) = (c : Call) × Step t c t' × Serves t (Some x) old c None new
-Given x t old t' new (Ok false) = t' ≡ t
-Given x t old t' new (Err e) = t' ≡ t
+abbrev pub Given : {E : Type 0} → ℕ → Due → Talk → Desk → Talk → Desk → Result Bool E → Type 0
+Given now x t old t' new (Ok true) = (c : Call) × Step t c t' × Gives now t (Some x) old c new
+Given now x t old t' new (Ok false) = (t' ≡ t) × Tries x old new
+Given now x t old t' new (Err e) = (t' ≡ t) × Tries x old new
 
--- the debugger that is connected is served
-abbrev pub IsServed : DebuggerValue → DebuggerValue → Type 0
-IsServed old new =
+-- what came of what is due: true if nothing is any more
+abbrev pub Comes : {E : Type 0} → ℕ → Talk → Option Due → Desk → Talk → Option Due → Desk → Result Bool E → Type 0
+Comes now t d old t' d' new (Ok true) = (d' ≡ None) × Going now t d old t' d' new
+Comes now t d old t' d' new (Ok false) = (t' ≡ t) × (d' ≡ d) × Rests d old new
+Comes now t d old t' d' new (Err e) = (t' ≡ t) × (d' ≡ d) × Rests d old new
+
+-- the debugger that is connected is served at this time
+abbrev pub IsServed : ℕ → DebuggerValue → DebuggerValue → Type 0
+IsServed now old new =
     (seat : Seat) × (seat' : Seat) × (desk : Desk) × (desk' : Desk) × (old ≡ debugger_of (Some seat) desk) × (new ≡ debugger_of (Some seat') desk')
-    × Serving seat.session seat.due desk seat'.session seat'.due desk'
+    × Serving now seat.session seat.due desk seat'.session seat'.due desk'

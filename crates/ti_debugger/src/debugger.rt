@@ -135,7 +135,7 @@ impl Debugger {
     pub fn next(&mut self, now: u64) -> Result<Todo, DebuggerError>
         ensures run { IfOk result (λ t. Changes self.old.session self.new.session (λ s s'. RunsTo s s' × Says self.new.asked s' t)) }
         ensures err { IfErr result (Refuses RunsTo self.old self.new) }
-        ensures served { is_some self.old.session ≡ true → IsServed self.old self.new }
+        ensures served { is_some self.old.session ≡ true → IsServed now self.old self.new }
         ensures desk { Works self.old self.new }
         ensures open { is_some (question_in self.old.asked) ≡ true → self.new ≡ self.old }
     {

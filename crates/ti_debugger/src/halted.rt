@@ -17,11 +17,43 @@ pub(crate) enum Stage {
     Goes,
 }
 
+impl Stage {
+    /// The session was told of the stop, and has not let the thread go.
+    fn is_told(self) -> bool
+        ensures { result ≡ is_told self }
+    {
+        matches!(self, Stage::Told)
+    }
+
+    /// Nobody wants the thread to stop here any more.
+    pub(crate) fn may_go(self) -> bool
+        ensures { result ≡ may_go self }
+    {
+        matches!(self, Stage::RunsTo(_) | Stage::Goes)
+    }
+}
+
 /// A thread that stopped.
 #[derive(Clone, Copy, Debug, PartialEq, Eq)]
 pub(crate) struct Halted {
     pub(crate) stop: Stop,
     pub(crate) stage: Stage,
+}
+
+impl Halted {
+    /// What becomes of it once the session lets a thread go.
+    fn once_let_go(self, thread: u32) -> Halted
+        ensures { result ≡ once_let_go thread self }
+    {
+        if self.stop.thread.0 == thread && self.stage.is_told() {
+            Halted {
+                stop: self.stop,
+                stage: Stage::Goes,
+            }
+        } else {
+            self
+        }
+    }
 }
 
 /// What the agent has asked of stops, and the threads that stopped for it.
@@ -61,11 +93,12 @@ impl Stops {
     }
 
     /// The session lets a thread go on.
-    pub(crate) fn let_go(&mut self, thread: u32) {
+    pub(crate) fn let_go(&mut self, thread: u32)
+        ensures rest { self.new ≡ record self.old { halted = self.new.halted } }
+        ensures halted { self.new.halted.items ≡ map (once_let_go thread) self.old.halted.items }
+    {
         for halted in self.halted.iter_mut() {
-            if halted.stop.thread.0 == thread && halted.stage == Stage::Told {
-                halted.stage = Stage::Goes;
-            }
+            *halted = halted.once_let_go(thread);
         }
     }
 
@@ -76,3 +109,6 @@ impl Stops {
         }
     }
 }
+
+ghost use Rattle.std.specs.Prelude.{◌≡◌, map};
+ghost use Rattle.ti_debugger.specs.Stopping.{is_told, may_go, once_let_go};

@@ -17,6 +17,7 @@ fn post(alloc: Global, agent: &mut Agent, one: &mut Watched, now: u64) -> Option
     ensures hold { IsPostedAs result one.old.hold one.new.hold }
     ensures answer { PostsAs result agent.old.env agent.new.env one.old.thread }
     ensures rest { one.new ≡ record one.old { hold = one.new.hold } }
+    ensures home { agent.new.home ≡ agent.old.home }
 {
     match agent.post_now(alloc, one.thread, Call::Suspend) {
         Ok(Asked::Answered(Answer::Done)) => {
@@ -44,7 +45,8 @@ fn post(alloc: Global, agent: &mut Agent, one: &mut Watched, now: u64) -> Option
 
 /// Suspends a thread that the debugger does not suspend. `None` if its cell is in use.
 fn suspend_at(alloc: Global, agent: &mut Agent, one: &mut Watched, now: u64) -> Option<Posted>
-    ensures { IsSuspendedAs result agent.old.env agent.new.env one.old one.new }
+    ensures suspended { IsSuspendedAs result agent.old.env agent.new.env one.old one.new }
+    ensures home { agent.new.home ≡ agent.old.home }
 {
     if one.ended {
         return Some(Posted::NotAlive);
@@ -62,6 +64,7 @@ fn suspend_at(alloc: Global, agent: &mut Agent, one: &mut Watched, now: u64) -> 
 fn collect_at(agent: &mut Agent, one: &mut Watched)
     ensures free { is_let_go one.old.hold ≡ true → is_let_go one.new.hold ≡ true }
     ensures rest { one.new ≡ record one.old { hold = one.new.hold } }
+    ensures closed { is_open one.old.hold ≡ false → one.new ≡ one.old }
     ensures home { agent.new.home ≡ agent.old.home }
 {
     let Hold::Out { ticket, wanted, .. } = one.hold else {
@@ -78,6 +81,7 @@ fn undo_at(alloc: Global, agent: &mut Agent, one: &mut Watched) -> bool
     ensures resumed { result ≡ true → (one.old.hold ≡ Owed) × (one.new.hold ≡ Free) × Posts agent.old.env agent.new.env one.old.thread call.Resume (Answered answer.Done) }
     ensures free { is_let_go one.old.hold ≡ true → is_let_go one.new.hold ≡ true }
     ensures rest { one.new ≡ record one.old { hold = one.new.hold } }
+    ensures closed { is_open one.old.hold ≡ false → one.new ≡ one.old }
     ensures home { agent.new.home ≡ agent.old.home }
 {
     if one.hold != Hold::Owed {
@@ -100,6 +104,7 @@ fn undo_at(alloc: Global, agent: &mut Agent, one: &mut Watched) -> bool
 fn settle_at(alloc: Global, agent: &mut Agent, one: &mut Watched) -> bool
     ensures free { is_let_go one.old.hold ≡ true → is_let_go one.new.hold ≡ true }
     ensures rest { one.new ≡ record one.old { hold = one.new.hold } }
+    ensures closed { is_open one.old.hold ≡ false → one.new ≡ one.old }
     ensures home { agent.new.home ≡ agent.old.home }
 {
     collect_at(agent, one);
@@ -108,7 +113,8 @@ fn settle_at(alloc: Global, agent: &mut Agent, one: &mut Watched) -> bool
 
 /// Resumes a thread, as far as it can be now. It gives whether the thread was resumed.
 fn resume_at(alloc: Global, agent: &mut Agent, one: &mut Watched) -> bool
-    ensures { IsResumed one.old one.new }
+    ensures resumed { IsResumed one.old one.new }
+    ensures home { agent.new.home ≡ agent.old.home }
 {
     one.hold = one.hold.let_go();
     settle_at(alloc, agent, one)
@@ -118,7 +124,8 @@ impl Desk {
     /// Suspends a thread, and says what came of it. `None` if the thread's cell is in use: then it is tried again soon.
     pub(crate) fn suspend(&mut self, thread: u32, now: u64) -> Option<Posted>
         ensures suspends { Suspends thread result self.old self.new }
-        ensures rest { Works self.old self.new }
+        ensures rest { self.new ≡ record self.old { agent = self.new.agent; crowd = self.new.crowd } }
+        ensures home { self.new.agent.home ≡ self.old.agent.home }
     {
         let Some(place) = self.crowd.place_of(thread) else {
             return Some(Posted::Unknown);
@@ -134,7 +141,9 @@ impl Desk {
     /// Resumes a thread. What could not be undone is undone by `settle_all`.
     pub(crate) fn resume(&mut self, thread: u32)
         ensures resumes { Resumes thread self.old self.new }
-        ensures rest { Works self.old self.new }
+        ensures rest { self.new ≡ record self.old { agent = self.new.agent; crowd = self.new.crowd; resumptions = self.new.resumptions } }
+        ensures home { self.new.agent.home ≡ self.old.agent.home }
+        ensures grows { self.old.resumptions ≤ self.new.resumptions }
     {
         let Some(place) = self.crowd.place_of(thread) else {
             return;
@@ -167,9 +176,10 @@ impl Desk {
     /// Collects the answers to suspensions, and undoes those that are not wanted any more.
     pub(crate) fn settle_all(&mut self)
         ensures free { NoneHeld self.old.crowd.list.items → NoneHeld self.new.crowd.list.items }
-        ensures rest { Works self.old self.new }
-        ensures known { classes_of self.new.agent ≡ classes_of self.old.agent }
-        ensures asked { self.new.asked ≡ self.old.asked }
+        ensures settled { AreSettled self.old.crowd.list.items self.new.crowd.list.items }
+        ensures rest { self.new ≡ record self.old { agent = self.new.agent; crowd = self.new.crowd; resumptions = self.new.resumptions } }
+        ensures home { self.new.agent.home ≡ self.old.agent.home }
+        ensures grows { self.old.resumptions ≤ self.new.resumptions }
     {
         for place in 0..self.crowd.list.len() {
             let resumed = settle_at(self.alloc, &mut self.agent, &mut self.crowd.list[place]);
@@ -204,8 +214,7 @@ ghost use Rattle.ti_types.specs.declared.call.Call.TheVariants as call;
 ghost use Rattle.ti_slot.specs.declared.asked.Asked.TheVariants.{Answered};
 ghost use Rattle.ti_agent.specs.Posts.{Posts};
 ghost use Rattle.ti_debugger.specs.declared.hold.Hold.TheVariants.{Free, Owed};
-ghost use Rattle.ti_service.specs.Classes.{classes_of};
 ghost use Rattle.ti_debugger.specs.Crowds.{NoneHeld, any_awaited, any_open};
 ghost use Rattle.ti_debugger.specs.Desks.{Works};
-ghost use Rattle.ti_debugger.specs.Holding.{IsPostedAs, PostsAs, is_let_go};
-ghost use Rattle.ti_debugger.specs.Suspending.{IsResumed, IsSuspendedAs, Resumes, Suspends};
+ghost use Rattle.ti_debugger.specs.Holding.{IsPostedAs, PostsAs, is_let_go, is_open};
+ghost use Rattle.ti_debugger.specs.Suspending.{AreSettled, IsResumed, IsSuspendedAs, Resumes, Suspends};

@@ -57,7 +57,7 @@ impl Seat {
 
     /// What the caller does next. What the session asks for is done here, as far as it can be now. The error is lack of memory.
     pub(crate) fn next(&mut self, desk: &mut Desk, now: u64) -> Result<Todo, SessionError>
-        ensures served { Serving self.old.session self.old.due desk.old self.new.session self.new.due desk.new }
+        ensures served { Serving now self.old.session self.old.due desk.old self.new.session self.new.due desk.new }
         ensures desk { Works desk.old desk.new }
         ensures says { IfOk result (λ t. Says desk.new.asked self.new.session t) }
         ensures open { is_some (question_in desk.old.asked) ≡ true → (self.new.session ≡ self.old.session) × (self.new.due ≡ self.old.due) × (desk.new ≡ desk.old) }
@@ -77,23 +77,24 @@ impl Seat {
 
     /// Takes one step of the session. `None` if there is more to do now. The error is lack of memory.
     fn step(&mut self, desk: &mut Desk, now: u64) -> Result<Option<Todo>, SessionError>
-        ensures served { Serving self.old.session self.old.due desk.old self.new.session self.new.due desk.new }
+        ensures served { Serving now self.old.session self.old.due desk.old self.new.session self.new.due desk.new }
+        ensures more { IfOk result (λ o. IfNone o (Going now self.old.session self.old.due desk.old self.new.session self.new.due desk.new)) }
         ensures desk { Works desk.old desk.new }
         ensures says { IfOk result (λ o. IfSome o (λ t. Says desk.new.asked self.new.session t)) }
     {
-        let ready = self.settle(desk, now)?;
-        self.go_on(desk, ready)
-    }
-
-    /// Takes up what the session says next, if it waits for nothing. `None` if there is more to do now. The error is lack of memory.
-    fn go_on(&mut self, desk: &mut Desk, ready: bool) -> Result<Option<Todo>, SessionError>
-        ensures served { Serving self.old.session self.old.due desk.old self.new.session self.new.due desk.new }
-        ensures desk { Works desk.old desk.new }
-        ensures says { IfOk result (λ o. IfSome o (λ t. Says desk.new.asked self.new.session t)) }
-    {
-        if !ready {
+        if !self.settle(desk, now)? {
             return Ok(Some(self.todo(desk)));
         }
+        self.go_on(desk)
+    }
+
+    /// Takes up what the session says next, which waits for nothing. `None` if there is more to do now. The error is lack of memory.
+    fn go_on(&mut self, desk: &mut Desk) -> Result<Option<Todo>, SessionError>
+        requires { self.old.due ≡ None }
+        ensures goes { (now : ℕ) → Going now self.old.session self.old.due desk.old self.new.session self.new.due desk.new }
+        ensures desk { Works desk.old desk.new }
+        ensures says { IfOk result (λ o. IfSome o (λ t. Says desk.new.asked self.new.session t)) }
+    {
         let action = self.session.next()?;
         self.take_up(desk, action);
         Ok(self.todo_after(desk, action))
@@ -166,7 +167,7 @@ impl Seat {
 
     /// Gives the session what it waits for. Whether it waits for nothing any more. The error is lack of memory.
     fn settle(&mut self, desk: &mut Desk, now: u64) -> Result<bool, SessionError>
-        ensures served { Serving self.old.session self.old.due desk.old self.new.session self.new.due desk.new }
+        ensures came { Comes now self.old.session self.old.due desk.old self.new.session self.new.due desk.new result }
         ensures desk { Works desk.old desk.new }
     {
         let Some(due) = self.due else {
@@ -182,7 +183,7 @@ impl Seat {
 
     /// Gives the session this. Whether it was there. The error is lack of memory.
     fn give(&mut self, desk: &mut Desk, due: Due, now: u64) -> Result<bool, SessionError>
-        ensures gave { Given due self.old.session desk.old self.new.session desk.new result }
+        ensures gave { Given now due self.old.session desk.old self.new.session desk.new result }
         ensures due { self.new.due ≡ self.old.due }
         ensures desk { Works desk.old desk.new }
     {
@@ -198,7 +199,7 @@ impl Seat {
 
     /// Replies to a request, if the answer is there.
     fn give_answer(&mut self, desk: &mut Desk, request: Request) -> Result<bool, SessionError>
-        ensures gave { Given (Answer request) self.old.session desk.old self.new.session desk.new result }
+        ensures gave { (now : ℕ) → Given now (Answer request) self.old.session desk.old self.new.session desk.new result }
         ensures due { self.new.due ≡ self.old.due }
         ensures desk { Works desk.old desk.new }
     {
@@ -217,7 +218,7 @@ impl Seat {
 
     /// Lists the threads that are there.
     fn give_list(&mut self, desk: &Desk) -> Result<bool, SessionError>
-        ensures gave { Given List self.old.session desk.now self.new.session desk.now result }
+        ensures gave { (now : ℕ) → Given now List self.old.session desk.now self.new.session desk.now result }
         ensures due { self.new.due ≡ self.old.due }
     {
         let threads = match desk.crowd.alive(desk.alloc) {
@@ -230,7 +231,7 @@ impl Seat {
 
     /// Suspends a thread, if its cell is free.
     fn give_posted(&mut self, desk: &mut Desk, thread: u32, now: u64) -> Result<bool, SessionError>
-        ensures gave { Given (Post thread) self.old.session desk.old self.new.session desk.new result }
+        ensures gave { Given now (Post thread) self.old.session desk.old self.new.session desk.new result }
         ensures due { self.new.due ≡ self.old.due }
         ensures desk { Works desk.old desk.new }
     {
@@ -245,7 +246,7 @@ impl Seat {
 
     /// Says that the suspensions stand, if they do or the second is over.
     fn give_settled(&mut self, desk: &mut Desk, now: u64) -> Result<bool, SessionError>
-        ensures gave { Given Settle self.old.session desk.old self.new.session desk.new result }
+        ensures gave { Given now Settle self.old.session desk.old self.new.session desk.new result }
         ensures due { self.new.due ≡ self.old.due }
         ensures desk { Works desk.old desk.new }
     {
@@ -259,32 +260,40 @@ impl Seat {
 
     /// Sets a breakpoint, if the roster is free.
     fn give_placed(&mut self, desk: &mut Desk, spot: Spot) -> Result<bool, SessionError>
-        ensures gave { Given (Place spot) self.old.session desk.old self.new.session desk.new result }
+        ensures gave { (now : ℕ) → Given now (Place spot) self.old.session desk.old self.new.session desk.new result }
         ensures due { self.new.due ≡ self.old.due }
         ensures desk { Works desk.old desk.new }
     {
-        let came = match desk.place(spot) {
-            Ok(()) => Ok(()),
-            Err(Refusal::Error(error)) => Err(error),
-            Err(Refusal::Later) => return Ok(false),
-        };
-        self.session.placed(came)?;
-        Ok(true)
+        match desk.place(spot) {
+            Ok(()) => {
+                self.session.placed(Ok(()))?;
+                Ok(true)
+            }
+            Err(Refusal::Error(error)) => {
+                self.session.placed(Err(error))?;
+                Ok(true)
+            }
+            Err(Refusal::Later) => Ok(false),
+        }
     }
 
     /// Says where a thread stands that is to step, if its cell and the roster are free.
     fn give_located(&mut self, desk: &mut Desk, thread: u32) -> Result<bool, SessionError>
-        ensures gave { Given (Locate thread) self.old.session desk.old self.new.session desk.new result }
+        ensures gave { (now : ℕ) → Given now (Locate thread) self.old.session desk.old self.new.session desk.new result }
         ensures due { self.new.due ≡ self.old.due }
         ensures desk { Works desk.old desk.new }
     {
-        let standing = match desk.locate(thread) {
-            Ok(standing) => Some(standing),
-            Err(Refusal::Error(_)) => None,
-            Err(Refusal::Later) => return Ok(false),
-        };
-        self.session.located(standing)?;
-        Ok(true)
+        match desk.locate(thread) {
+            Ok(standing) => {
+                self.session.located(Some(standing))?;
+                Ok(true)
+            }
+            Err(Refusal::Error(_)) => {
+                self.session.located(None)?;
+                Ok(true)
+            }
+            Err(Refusal::Later) => Ok(false),
+        }
     }
 
     /// Tells the session of the start or the end of a thread.
@@ -309,13 +318,13 @@ impl Seat {
     }
 }
 
-ghost use Rattle.std.specs.Prelude.{◌≡◌, true, None, is_some, string_bytes, IfOk, IfSome};
+ghost use Rattle.std.specs.Prelude.{◌≡◌, ℕ, true, None, is_some, string_bytes, IfNone, IfOk, IfSome};
 ghost use Rattle.ti_debugger.specs.Crowds.{alive_in, first};
 ghost use Rattle.ti_debugger.specs.Desks.{Works};
 ghost use Rattle.ti_debugger.specs.Opening.{OpensAs};
 ghost use Rattle.ti_debugger.specs.Questions.{question_in};
 ghost use Rattle.ti_debugger.specs.declared.asked.Asked.{Asked};
 ghost use Rattle.ti_debugger.specs.Seats.{Says};
-ghost use Rattle.ti_debugger.specs.Serving.{Given, Serving, Undertakes, due_by};
+ghost use Rattle.ti_debugger.specs.Serving.{Comes, Given, Going, Serving, Undertakes, due_by};
 ghost use Rattle.ti_debugger.specs.declared.due.Due.TheVariants.{Answer, List, Post, Settle, Place, Locate};
 ghost use Rattle.ti_debugger.specs.Told.{TellsLives, TellsClass};

@@ -1,7 +1,7 @@
 //! Breakpoints and steps: what the agent asks of the service, and how threads that stopped go on.
 
 use crate::desk::Desk;
-use crate::halted::Stage;
+use crate::halted::{Halted, Stage};
 use crate::refusal::{Refusal, refusal_of_class};
 use ti_jdwp::{JdwpError, Standing};
 use ti_service::{
@@ -67,22 +67,22 @@ impl Desk {
 
     /// Sets a breakpoint. One that is there already is no error.
     pub(crate) fn place(&mut self, spot: Spot) -> Result<(), Refusal>
-        ensures { Works self.old self.new }
+        ensures set { OnOk result (IsSet spot self.new.agent) }
+        ensures rest { self.new ≡ record self.old { agent = self.new.agent; stops = self.new.stops } }
     {
-        if self
+        let class = self
             .agent
-            .get_method_declaring_class(MethodNo(spot.method))?
-            != ClassNo(spot.class)
-        {
+            .get_method_declaring_class(MethodNo(spot.method))?;
+        if class.0 != spot.class {
             return Err(Refusal::Error(JdwpError::InvalidMethodId));
         }
         self.stops.spots.reserve(1)?;
         self.stop(StopCall::Enable(StopKind::Breakpoint, None))?;
         self.stops.hears = true;
-        let set = self
+        match self
             .agent
-            .set_breakpoint_now(self.alloc, MethodNo(spot.method), spot.index);
-        match set {
+            .set_breakpoint_now(self.alloc, MethodNo(spot.method), spot.index)
+        {
             Ok(()) => {
                 self.stops.spots.push_reserved(spot);
                 Ok(())
@@ -108,7 +108,8 @@ impl Desk {
 
     /// How many frames a thread that stands has.
     pub(crate) fn frames_at(&mut self, thread: u32) -> Result<u32, Refusal>
-        ensures { self.new ≡ record self.old { agent = self.new.agent } }
+        ensures told { IfOk result (λ n. Posts self.old.agent.env self.new.agent.env (record { 0 = thread }) call.FrameCount (Answered (answer.Count n))) }
+        ensures rest { self.new ≡ record self.old { agent = self.new.agent } }
     {
         match self.ask_now(thread, Call::FrameCount)? {
             Answer::Count(count) => Ok(count),
@@ -118,7 +119,8 @@ impl Desk {
 
     /// Where a thread stands: its frames, and the method and the line of the newest one.
     fn standing(&mut self, thread: u32) -> Result<Standing, Refusal>
-        ensures { self.new ≡ record self.old { agent = self.new.agent } }
+        ensures told { IfOk result (Stands thread self.old) }
+        ensures rest { self.new ≡ record self.old { agent = self.new.agent } }
     {
         let frames = self.frames_at(thread)?;
         let Answer::Location(frame) = self.ask_now(thread, Call::Location { depth: 0 })? else {
@@ -137,7 +139,8 @@ impl Desk {
 
     /// Where a suspended thread stands. From now on it makes single steps.
     pub(crate) fn locate(&mut self, thread: u32) -> Result<Standing, Refusal>
-        ensures { Works self.old self.new }
+        ensures told { IfOk result (Stands thread self.old) }
+        ensures rest { self.new ≡ record self.old { agent = self.new.agent; stops = self.new.stops } }
     {
         let standing = self.standing(thread)?;
         self.stops.steppers.reserve(1)?;
@@ -202,7 +205,7 @@ impl Desk {
 
     /// Lets a thread go on that stopped, as far as it can now. What could not be done is done by `tend_stops`.
     pub(crate) fn let_go(&mut self, thread: u32)
-        ensures { Works self.old self.new }
+        ensures { LetsGo thread self.old self.new }
     {
         self.stops.let_go(thread);
         self.let_go_on();
@@ -219,7 +222,8 @@ impl Desk {
 
     /// Lets go on whoever nobody wants to stop any more, as far as the roster is free.
     pub(crate) fn let_go_on(&mut self)
-        ensures rest { self.new ≡ record self.old { agent = self.new.agent; stops = self.new.stops; resumptions = self.new.resumptions } }
+        ensures rest { self.new ≡ record self.old { agent = self.new.agent; stops = record self.old.stops { halted = self.new.stops.halted }; resumptions = self.new.resumptions } }
+        ensures stopped { stopped_in self.new.stops.halted.items ≡ stopped_in self.old.stops.halted.items }
         ensures grows { self.old.resumptions ≤ self.new.resumptions }
     {
         for index in (0..self.stops.halted.len()).rev() {
@@ -229,29 +233,39 @@ impl Desk {
 
     /// Lets a thread go on, if nobody wants it to stop any more and the roster is free.
     fn let_go_at(&mut self, index: usize)
-        ensures rest { self.new ≡ record self.old { agent = self.new.agent; stops = self.new.stops; resumptions = self.new.resumptions } }
+        ensures rest { self.new ≡ record self.old { agent = self.new.agent; stops = record self.old.stops { halted = self.new.stops.halted }; resumptions = self.new.resumptions } }
+        ensures stopped { stopped_in self.new.stops.halted.items ≡ stopped_in self.old.stops.halted.items }
         ensures grows { self.old.resumptions ≤ self.new.resumptions }
     {
         let Some(halted) = self.stops.halted.get(index) else {
             return;
         };
-        let thread = halted.stop.thread;
-        match halted.stage {
-            Stage::New | Stage::Told => return,
-            Stage::RunsTo(frames) => {
-                if self.run_to(thread.0, frames) == Err(Refusal::Later) {
-                    return;
-                }
-            }
-            Stage::Goes => (),
+        let Halted { stop, stage } = *halted;
+        if !stage.may_go() || self.waits_to_run(stop.thread, stage) {
+            return;
         }
-        if end_stop(&mut self.agent, thread) {
+        if end_stop(&mut self.agent, stop.thread) {
             let _gone = self.stops.halted.remove(index);
             self.resumptions = self.resumptions.saturating_add(1);
         }
     }
+
+    /// Lets a thread run to the end of a frame, if it is to. Whether the roster was in use, so that it does not yet.
+    fn waits_to_run(&mut self, thread: ThreadNo, stage: Stage) -> bool
+        ensures { self.new ≡ record self.old { agent = self.new.agent } }
+    {
+        match stage {
+            Stage::RunsTo(frames) => self.run_to(thread.0, frames) == Err(Refusal::Later),
+            _ => false,
+        }
+    }
 }
 
-ghost use Rattle.std.specs.Prelude.{◌≡◌, ◌≤◌};
-ghost use Rattle.ti_debugger.specs.Desks.{Works};
-ghost use Rattle.ti_debugger.specs.Stopping.{stop_refusal};
+ghost use Rattle.std.specs.Prelude.{◌≡◌, ◌≤◌, IfOk, OnOk};
+ghost use Rattle.ti_types.specs.declared.answer.Answer.TheVariants as answer;
+ghost use Rattle.ti_types.specs.declared.call.Call.TheVariants as call;
+ghost use Rattle.ti_slot.specs.declared.asked.Asked.TheVariants.{Answered};
+ghost use Rattle.ti_agent.specs.Posts.{Posts};
+ghost use Rattle.ti_debugger.specs.Placing.{IsSet, Stands};
+ghost use Rattle.ti_debugger.specs.Serving.{LetsGo};
+ghost use Rattle.ti_debugger.specs.Stopping.{stop_refusal, stopped_in};

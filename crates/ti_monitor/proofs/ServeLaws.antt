@@ -2,7 +2,7 @@
 use Rattle.std.specs.Prelude.{map}
 use Rattle.std.specs.String.{string_bytes}
 use Rattle.std.proofs.Common.{◌≡◌, ℕ, true, false, List, [], ◌∷◌, ◌++◌, Option, Some, None, refl, sym, ap, subst, inl, inr, ◌∙◌, true≢false}
-use Rattle.std.specs.Prelude.{Result, Ok, Err, OnErr, OnOk, if◌then◌else◌}
+use Rattle.std.specs.Prelude.{Result, Ok, Err, OnErr, OnOk, is_some, if◌then◌else◌}
 use Rattle.ti_http.specs.Answers.{code_of}
 use Rattle.ti_http.specs.declared.answers.ContentType.{ContentType}
 use Rattle.ti_http.specs.declared.answers.ContentType.TheVariants as content
@@ -24,7 +24,7 @@ use Rattle.ti_monitor.specs.declared.door_seat.Seat.{Seat}
 use Rattle.ti_monitor.specs.declared.monitor.ReadingNo.{ReadingNo}
 use Rattle.ti_monitor.specs.Desks.{Gives, Keeps, SeatServes, ServesWith, at_seat, books_of, setting_of}
 use Rattle.ti_monitor.specs.Door.{content_of, counted}
-use Rattle.ti_monitor.specs.Seats.{postponed, seconds_of}
+use Rattle.ti_monitor.specs.Seats.{postponed, profile_of, seconds_of}
 use Rattle.ti_monitor.specs.Serving.{AtOnce, Books, Calls, Does, Hurried, IsAnswer, IsBodyOf, Leaves, MayTakeOut, Move, ReadingsGoOn, Response, Serves, ServesBy, Setting, Sitting, Starts, TakesOut, Turned, Turns, due_after, index_text, later_text, response, setting, sitting, told_in}
 
 -- ---- moves
@@ -136,8 +136,8 @@ ticked_serves w t t' b b' u u' now ticks is books = serves_one w (sitting t u b)
 pub ended_serves : (w : Setting) (t t' : Talk) (b b' : Books) (u u' : Option Due) → t' ≡ ended_by_peer t → u' ≡ u → b' ≡ b → Serves w (sitting t u b) (sitting t' u' b')
 ended_serves w t t' b b' u u' ends is books = serves_one w (sitting t u b) (sitting t' u' b') (Calls PeerEnded) (ends, (is, books))
 
-pub hurried_serves : (w : Setting) (t : Talk) (b b' : Books) (u : Option Due) → ReadingsGoOn b b' → Serves w (sitting t u b) (sitting t u b')
-hurried_serves w t b b' u goes = serves_one w (sitting t u b) (sitting t u b') Hurried (refl, refl, goes)
+pub hurried_serves : (w : Setting) (t : Talk) (b b' : Books) (u : Option Due) → is_some (profile_of u) ≡ true → ReadingsGoOn b b' → Serves w (sitting t u b) (sitting t u b')
+hurried_serves w t b b' u is goes = serves_one w (sitting t u b) (sitting t u b') Hurried (refl, refl, is, goes)
 
 -- ---- readings
 

@@ -17,9 +17,9 @@ pub mod Exposition
 pub mod Threads
 pub mod Json
 pub mod Door
+pub mod Seats
 pub mod Desks
 pub mod Serving
 pub mod Keeping
 pub mod SeatLists
-pub mod Seats
 pub mod Doors

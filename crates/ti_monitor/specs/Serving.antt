@@ -1,5 +1,5 @@
 -- What a door does at one of its connections: the calls of `ti_http` that it makes there, and what each of them answers.
-use Rattle.std.specs.Prelude.{ℕ, ◌≡◌, ◌+◌, ◌⊎◌, List, [], ◌∷◌, ◌++◌, Option, Some, None, codes, map, nat_lt, if◌then◌else◌}
+use Rattle.std.specs.Prelude.{ℕ, ◌≡◌, ◌+◌, ◌⊎◌, List, [], ◌∷◌, ◌++◌, Option, Some, None, is_some, true, codes, map, nat_lt, if◌then◌else◌}
 use Rattle.std.specs.String.{string_bytes}
 use Rattle.ti_http.specs.Answers.{code_of}
 use Rattle.ti_http.specs.declared.answers.ContentType.{ContentType}
@@ -24,6 +24,7 @@ use Rattle.ti_monitor.specs.declared.running.Running.{Running}
 use Rattle.ti_monitor.specs.Door.{body_of, code_in, content_of, counted, order_of, retry_after}
 use Rattle.ti_monitor.specs.Exposition.{metrics_lines}
 use Rattle.ti_monitor.specs.Monitors.{AreCountsOf, Begins, HasNoRoom, IsWithout, begun_in, reading_in}
+use Rattle.ti_monitor.specs.Seats.{profile_of}
 use Rattle.ti_monitor.specs.Texts.{text_of}
 
 -- ---- what a connection has, and what all of them share
@@ -176,7 +177,7 @@ Turns (Some (due.Reading request number)) old d new = Loses request number old d
 
 -- ---- moves
 
--- A call of `ti_http`; something else becomes due; the reading that is waited for ends, since the peer sends no more
+-- A call of `ti_http`; something else becomes due; the profile that is waited for ends, since the peer sends no more
 pub data Move : Type 0 where
   Calls : Call → Move
   Turned : Due → Move
@@ -204,7 +205,7 @@ abbrev pub Does : Setting → Sitting → Move → Sitting → Type 0
 Does w old (Calls c) new = Step old.talk c new.talk × AsCalled w c old new
 Does w old (Turned d) new = (new.talk ≡ old.talk) × (new.due ≡ Some d) × Turns old.due old.books d new.books
 Does w old Hurried new =
-    (new.talk ≡ old.talk) × (new.due ≡ old.due) × ReadingsGoOn old.books new.books
+    (new.talk ≡ old.talk) × (new.due ≡ old.due) × (is_some (profile_of old.due) ≡ true) × ReadingsGoOn old.books new.books
 
 -- these moves, in this order
 abbrev pub ServesBy : Setting → Sitting → List Move → Sitting → Type 0

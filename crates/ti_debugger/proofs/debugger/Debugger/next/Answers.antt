@@ -10,7 +10,7 @@ use Rattle.ti_debugger.proofs.debugger.Debugger.next.Goals as goal
 pub returns-in_err-todo-clause-err : goal.returns-in_err-todo-clause-err
 returns-in_err-todo-clause-err c =
     let new : DebuggerValue = debugger_of (Some c.next-todo.new.self) c.next-todo.new.desk in
-    let run = serving_runs _ _ _ _ _ _ c.next-todo.ensures.served in
+    let run = serving_runs c.args.now _ _ _ _ _ _ c.next-todo.ensures.served in
     refused_by_memory RunsTo c.args.self.now new c.from_residual.result c.from_residual.ensures.1 (c.in-Some.seat.session, c.next-todo.new.self.session, search rules, refl, run)
 
 pub returns-in_err-todo-clause-served : goal.returns-in_err-todo-clause-served
@@ -18,7 +18,7 @@ returns-in_err-todo-clause-served c = λ there. (c.in-Some.seat, c.next-todo.new
 
 pub returns-clause-run : goal.returns-clause-run
 returns-clause-run c =
-    let run = serving_runs _ _ _ _ _ _ c.next-todo.ensures.served in
+    let run = serving_runs c.args.now _ _ _ _ _ _ c.next-todo.ensures.served in
     (c.in-Some.seat.session, c.next-todo.new.self.session, search rules, refl, (run, c.in_ok-todo.ensures.says))
 
 pub returns-clause-served : goal.returns-clause-served

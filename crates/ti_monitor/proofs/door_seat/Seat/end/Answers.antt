@@ -1,4 +1,5 @@
-use Rattle.std.proofs.Common.{refl}
+use Rattle.std.proofs.Common.{ap, refl, sym, ◌∙◌}
+use Rattle.std.specs.Prelude.{is_some}
 use Rattle.ti_http.specs.Runs.{PeerEnded}
 use Rattle.ti_monitor.specs.Desks.{at_seat, books_of, setting_of}
 use Rattle.ti_monitor.specs.Serving.{sitting}
@@ -18,9 +19,10 @@ returns-in-Some-clause-serves c = λ n.
     let u = c.args.self.now.due in
     let t = c.args.self.now.connection in
     let m = c.end.new.self in
+    let profiled = ap is_some (sym c.profile.ensures ∙ c.in-Some.is) in
     let end = at_seat c.settle.new.self c.settle.new.desk in
     serves_more w (sitting t u (books_of d)) (sitting m u (books_of d)) end (ended_serves w t m (books_of d) (books_of d) u u c.end.ensures refl refl)
-    (serves_more w (sitting m u (books_of d)) (sitting m u (books_of d')) end (hurried_serves w m (books_of d) (books_of d') u c.hurry.ensures.books)
+    (serves_more w (sitting m u (books_of d)) (sitting m u (books_of d')) end (hurried_serves w m (books_of d) (books_of d') u profiled c.hurry.ensures.books)
     (at_first d d' n (sitting m u (books_of d')) end c.hurry.ensures.keeps (c.settle.ensures.serves n)))
 
 pub returns-in_default-clause-run : goal.returns-in_default-clause-run
