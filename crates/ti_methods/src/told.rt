@@ -144,9 +144,11 @@ impl Classes {
         ensures book { self.new.book ≡ self.old.book }
         ensures grows { IsPrefix self.old.seen self.new.seen }
         ensures there { OnOk result (class.0 < length self.new.seen) }
+        ensures fits { OnOk result (length self.new.seen < 2 ^ 32) }
         ensures refused { IfErr result (λ e. RefusesLook self.new.seen class e) }
     {
         find(&self.shared, &mut self.seen, class)?;
+        let _count = self.shared.load(&mut self.seen);
         Ok(())
     }
 

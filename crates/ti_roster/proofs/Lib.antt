@@ -10,4 +10,5 @@ pub mod Meeting
 pub mod Moving
 pub mod Returning
 pub mod Searching
+pub mod Living
 pub mod Seeking

@@ -7,8 +7,10 @@ use Rattle.ti_stops.specs.declared.call.StopCall.{StopCall}
 use Rattle.ti_types.specs.declared.numbers.EnvNo.{EnvNo}
 use Rattle.ti_types.specs.declared.numbers.ThreadNo.{ThreadNo}
 use Rattle.ti_roster.specs.declared.coming.Coming.{Coming}
-use Rattle.ti_roster.specs.declared.coming.Coming.TheVariants.{Came, Ended, Attached, Met, GaveBack, Disposed, Stop}
+use Rattle.ti_roster.specs.declared.coming.Coming.TheVariants.{Came, Started, Ended, Left, Attached, Met, GaveBack, Disposed, Stop}
 use Rattle.ti_roster.specs.declared.newcomer.Newcomer.{Newcomer}
+use Rattle.ti_roster.specs.declared.stage.Stage.TheVariants.{New}
+use Rattle.ti_roster.specs.Stages.{stage_after, stage_of}
 use Rattle.ti_roster.specs.Log.{Lies, Unused, came, came_after, is_about, lies, lies_after, live, live_after, mark_after, mark_of, noted, threads_in}
 
 pub came_more : (xs : List Coming) (x : Coming) → came (xs ++ x ∷ []) ≡ came_after (came xs) x
@@ -23,6 +25,9 @@ mark_more e xs x = fold-append (mark_after e) None xs (x ∷ [])
 pub lies_more : (e : EnvNo) (t : ThreadNo) (xs : List Coming) (x : Coming) → lies e t (xs ++ x ∷ []) ≡ lies_after e t (lies e t xs) x
 lies_more e t xs x = fold-append (lies_after e t) Unused xs (x ∷ [])
 
+pub stage_more : (t : ThreadNo) (xs : List Coming) (x : Coming) → stage_of t (xs ++ x ∷ []) ≡ stage_after t (stage_of t xs) x
+stage_more t xs x = fold-append (stage_after t) New xs (x ∷ [])
+
 -- the number of threads
 
 pub threads_more : (xs : List Coming) (n : Newcomer) → threads_in (xs ++ Came n ∷ []) ≡ suc (threads_in xs)
@@ -30,6 +35,12 @@ threads_more xs n = ap (λ (l : List Newcomer). length l) (came_more xs (Came n)
 
 threads_same : (xs : List Coming) (x : Coming) → came_after (came xs) x ≡ came xs → threads_in (xs ++ x ∷ []) ≡ threads_in xs
 threads_same xs x same = ap (λ (l : List Newcomer). length l) (came_more xs x ∙ same)
+
+pub threads_started : (xs : List Coming) (t : ThreadNo) → threads_in (xs ++ Started t ∷ []) ≡ threads_in xs
+threads_started xs t = threads_same xs (Started t) refl
+
+pub threads_left : (xs : List Coming) (t : ThreadNo) → threads_in (xs ++ Left t ∷ []) ≡ threads_in xs
+threads_left xs t = threads_same xs (Left t) refl
 
 pub threads_ended : (xs : List Coming) (t : ThreadNo) → threads_in (xs ++ Ended t ∷ []) ≡ threads_in xs
 threads_ended xs t = threads_same xs (Ended t) refl
@@ -71,7 +82,9 @@ noted_same e xs x off = noted_more e xs x ∙ ap (λ (l : List Coming). noted e 
 -- what does not happen to a place leaves what is noted of it
 mark_skips : (e : EnvNo) (m : Option ℕ) (x : Coming) → is_about e x ≡ false → mark_after e m x ≡ m
 mark_skips e m (Came n) off = refl
+mark_skips e m (Started t) off = refl
 mark_skips e m (Ended t) off = refl
+mark_skips e m (Left t) off = refl
 mark_skips e m (Attached f) off = ap (λ (b : Bool). if b then Some 0 else m) off
 mark_skips e m (Met f n) off = ap (λ (b : Bool). if b then Some n else m) off
 mark_skips e m (GaveBack f t) off = ap (λ (b : Bool). if b then Some 0 else m) off
@@ -93,7 +106,9 @@ mark_noted e xs ys same = mark_from e None xs ∙ ap (λ (l : List Coming). fold
 -- so where its desk at a thread lies follows from what happened to the place
 lies_skips : (e : EnvNo) (t : ThreadNo) (l : Lies) (x : Coming) → is_about e x ≡ false → lies_after e t l x ≡ l
 lies_skips e t l (Came n) off = refl
+lies_skips e t l (Started u) off = refl
 lies_skips e t l (Ended u) off = refl
+lies_skips e t l (Left u) off = refl
 lies_skips e t l (Attached f) off = refl
 lies_skips e t l (Met f n) off = grind (arith, off)
 lies_skips e t l (GaveBack f u) off = grind (arith, off)

@@ -18,13 +18,16 @@ use Rattle.ti_handshake.specs.Desk.{DeskState}
 use Rattle.ti_handshake.specs.NewDesks.{new_desks, new_desk as unused}
 use Rattle.ti_agent.specs.FreeDesk.{FreeState}
 use Rattle.ti_roster.specs.declared.coming.Coming.{Coming}
-use Rattle.ti_roster.specs.declared.coming.Coming.TheVariants.{Came, Ended, Attached, Met, GaveBack, Disposed, Stop}
+use Rattle.ti_roster.specs.declared.coming.Coming.TheVariants.{Came, Started, Ended, Left, Attached, Met, GaveBack, Disposed, Stop}
 use Rattle.ti_roster.specs.declared.newcomer.Newcomer.{Newcomer}
 use Rattle.ti_roster.specs.declared.row.Row.{Row}
+use Rattle.ti_roster.specs.declared.stage.Stage.{Stage}
+use Rattle.ti_roster.specs.declared.stage.Stage.TheVariants.{New}
+use Rattle.ti_roster.specs.Stages.{stage_after, stage_of}
 use Rattle.ti_roster.specs.Log.{Lies, Unused, Out, Returned, came, came_after, lies, lies_after, threads_in, mark_after, mark_of, live, live_after, is_other, is_thread}
-use Rattle.ti_roster.specs.Rows.{AreLeft, AreRows, IsIndex, IsNewRow, IsPut, IsReturned, IsRow, IsTaken, IsUnused, LiesAs, Rising, and_desk, and_one, desks_in, free_at, new_desk, newcomers}
+use Rattle.ti_roster.specs.Rows.{AreLeft, AreRows, IsIndex, IsNewRow, IsPut, IsReturned, IsRow, IsTaken, IsUnused, LiesAs, Rising, and_desk, and_one, desks_in, free_at, new_desk, newcomers, reached}
 use Rattle.ti_roster.specs.Roster.{IsOwn}
-use Rattle.ti_roster.proofs.Logs.{came_more, lies_more, lies_same, live_more, mark_more, threads_back, threads_ended, threads_met, threads_more}
+use Rattle.ti_roster.proofs.Logs.{came_more, lies_more, lies_same, live_more, mark_more, stage_more, threads_back, threads_left, threads_met, threads_more}
 use Rattle.ti_roster.proofs.Places.{get_replicated, is_same, nothing_at, get_within, get_front, get_last, get_end, set_here, set_other, remove_get, map_remove, get_map, alike_map, get_there, length_map, length_set}
 
 -- The desks of a thread that has just come
@@ -53,8 +56,9 @@ desks_unused cell s (suc n) =
     All-append IsUnused (new_desks cell s n) (unused cell s (record { 0 = n }) ∷ []) (desks_unused cell s n)
     (All-cons IsUnused (unused cell s (record { 0 = n })) [] refl (All-nil IsUnused))
 
-pub new_row_is : (limits : Limits) (r : Row) → r.desks.items ≡ map (λ d. Some (free_at d)) (new_desks r.newcomer.cell (subject_of limits r.newcomer.thread) limits.envs) → IsNewRow limits r
-new_row_is limits r e = record {
+pub new_row_is : (limits : Limits) (r : Row) → r.stage ≡ New → r.desks.items ≡ map (λ d. Some (free_at d)) (new_desks r.newcomer.cell (subject_of limits r.newcomer.thread) limits.envs) → IsNewRow limits r
+new_row_is limits r new e = record {
+  stage = new;
   places = ap (λ (l : List (Option FreeState)). length l) e ∙ (length_map (λ (d : DeskState). Some (free_at d)) desks ∙ length_desks r.newcomer.cell (subject_of limits r.newcomer.thread) limits.envs);
   each = λ p h.
       let cell : TableId = r.newcomer.cell in
@@ -141,22 +145,24 @@ rising_other l u i j n o r a b other same =
 
 -- One more coming or going
 
-row_same : (log log' : List Coming) (limits : Limits) (r : Row) → ((e : EnvNo) → lies e r.newcomer.thread log' ≡ lies e r.newcomer.thread log) → IsRow log limits r → IsRow log' limits r
-row_same log log' limits r same k = record {
+row_same : (log log' : List Coming) (limits : Limits) (r : Row) → ((e : EnvNo) → lies e r.newcomer.thread log' ≡ lies e r.newcomer.thread log) → stage_of r.newcomer.thread log' ≡ stage_of r.newcomer.thread log → IsRow log limits r → IsRow log' limits r
+row_same log log' limits r same stage k = record {
+  stage = k.stage ∙ sym stage;
   places = k.places;
   each = λ p h. (let d = k.each p h in (d.0, d.1, subst (λ (l : Lies). LiesAs l limits (record { 0 = p }) r.newcomer d.0) (sym (same (record { 0 = p }))) d.2));
 }
 
 -- nobody comes or goes, and no desk is moved: only what is noted of a place may change
 rows_stay : (log : List Coming) (limits : Limits) (rows : List Row) (marks marks' : List (Option ℕ)) (x : Coming) → AreRows log limits rows marks → live_after (live log) x ≡ live log → came_after (came log) x ≡ came log
-    → ((e : EnvNo) (t : ThreadNo) → lies_after e t (lies e t log) x ≡ lies e t log) → ((e : EnvNo) (m : ℕ) (t : ThreadNo) → mark_of e (log ++ x ∷ []) ≡ Some m → t.0 < m → lies e t log ≡ Out) → length marks' ≡ limits.envs → ((p : ℕ) → p < limits.envs → slice_get marks' p ≡ Some (mark_of (record { 0 = p }) (log ++ x ∷ [])))
+    → ((e : EnvNo) (t : ThreadNo) → lies_after e t (lies e t log) x ≡ lies e t log) → ((t : ThreadNo) → stage_after t (stage_of t log) x ≡ stage_of t log) → ((e : EnvNo) (m : ℕ) (t : ThreadNo) → mark_of e (log ++ x ∷ []) ≡ Some m → t.0 < m → lies e t log ≡ Out) → length marks' ≡ limits.envs → ((p : ℕ) → p < limits.envs → slice_get marks' p ≡ Some (mark_of (record { 0 = p }) (log ++ x ∷ [])))
     → AreRows (log ++ x ∷ []) limits rows marks'
-rows_stay log limits rows marks marks' x k live_same came_same lies_are passed places marks_are = record {
+rows_stay log limits rows marks marks' x k live_same came_same lies_are stages passed places marks_are = record {
   live_are = k.live_are ∙ sym now_live;
-  each = λ i q at. row_same log (log ++ x ∷ []) limits q (λ e. lies_more e q.newcomer.thread log x ∙ lies_are e q.newcomer.thread) (k.each i q at);
+  each = λ i q at. row_same log (log ++ x ∷ []) limits q (λ e. lies_more e q.newcomer.thread log x ∙ lies_are e q.newcomer.thread) (stage_more q.newcomer.thread log x ∙ stages q.newcomer.thread) (k.each i q at);
   places = places;
   marks_are = marks_are;
   fresh = λ e t h. lies_more e t log x ∙ (lies_are e t ∙ k.fresh e t (omega (arith, h, count)));
+  unborn = λ t h. stage_more t log x ∙ (stages t ∙ k.unborn t (omega (arith, h, count)));
   passed = λ e m t is h. lies_more e t log x ∙ (lies_are e t ∙ passed e m t is h);
   listed = λ i n at. ap (λ (l : List Newcomer). slice_get l n.thread.0) now_came ∙ k.listed i n (ap (λ (l : List Newcomer). slice_get l i) (sym now_live) ∙ at);
   rising = subst (λ (z : List Newcomer × ℕ). Rising 0 z.0 z.1) (λ j. (sym now_live j, sym count j)) k.rising;
@@ -176,12 +182,13 @@ pub rows_come : (log : List Coming) (limits : Limits) (rows : List Row) (marks :
 rows_come log limits rows marks r k new number = record {
   live_are = map-append (λ (x : Row). x.newcomer) rows (r ∷ []) ∙ (ap (λ (l : List Newcomer). l ++ r.newcomer ∷ []) k.live_are ∙ sym (live_more log (Came r.newcomer)));
   each = λ i q at. ⊎_elim
-      (λ (old : slice_get rows i ≡ Some q). row_same log log' limits q (λ e. same e q.newcomer.thread) (k.each i q old))
+      (λ (old : slice_get rows i ≡ Some q). row_same log log' limits q (λ e. same e q.newcomer.thread) (stage_more q.newcomer.thread log (Came r.newcomer)) (k.each i q old))
       (λ (is : r ≡ q). subst (λ (x : Row). IsRow log' limits x) is here)
       (get_end rows r q i at);
   places = k.places;
   marks_are = λ p h. k.marks_are p h ∙ ap (λ (m : Option ℕ). Some m) (sym (mark_more (record { 0 = p }) log (Came r.newcomer)));
   fresh = λ e t h. same e t ∙ k.fresh e t (omega (arith, h, threads_more log r.newcomer));
+  unborn = λ t h. stage_more t log (Came r.newcomer) ∙ k.unborn t (omega (arith, h, threads_more log r.newcomer));
   passed = λ e m t is h. same e t ∙ k.passed e m t (sym (mark_more e log (Came r.newcomer)) ∙ is) h;
   listed = listed;
   rising = subst (λ (x : List Newcomer × ℕ). Rising 0 x.0 x.1) (λ j. (sym (live_more log (Came r.newcomer)) j, sym (threads_more log r.newcomer) j)) (rising_end 0 (live log) (threads_in log) r.newcomer number k.rising);
@@ -195,6 +202,7 @@ rows_come log limits rows marks r k new number = record {
 
     here : IsRow log' limits r
     here = record {
+      stage = new.stage ∙ sym (stage_more r.newcomer.thread log (Came r.newcomer) ∙ k.unborn r.newcomer.thread (omega (arith, number)));
       places = new.places;
       each = λ p h. (
         Some (new_desk limits (record { 0 = p }) r.newcomer),
@@ -210,25 +218,26 @@ rows_come log limits rows marks r k new number = record {
         (λ (is : r.newcomer ≡ n). get_last (came log) r.newcomer n.thread.0 (ap (λ (x : Newcomer). x.thread.0) (sym is) ∙ number) ∙ ap (λ (x : Newcomer). Some x) is)
         (get_end (live log) r.newcomer n i (ap (λ (l : List Newcomer). slice_get l i) (sym (live_more log (Came r.newcomer))) ∙ at))
 
-pub rows_end : (log : List Coming) (limits : Limits) (rows : List Row) (marks : List (Option ℕ)) (t : ThreadNo) (i : ℕ) → AreRows log limits rows marks → IsIndex (live log) t i
-    → AreRows (log ++ Ended t ∷ []) limits (remove rows i) marks
-rows_end log limits rows marks t i k at = record {
+pub rows_left : (log : List Coming) (limits : Limits) (rows : List Row) (marks : List (Option ℕ)) (t : ThreadNo) (i : ℕ) → AreRows log limits rows marks → IsIndex (live log) t i
+    → AreRows (log ++ Left t ∷ []) limits (remove rows i) marks
+rows_left log limits rows marks t i k at = record {
   live_are = map_remove (λ (x : Row). x.newcomer) rows i ∙ (ap (λ (l : List Newcomer). remove l i) k.live_are ∙ sym now_live);
-  each = λ j q e. let was = remove_get rows i j q e in row_same log log' limits q (λ f. lies_more f q.newcomer.thread log (Ended t)) (k.each was.0 q was.1);
+  each = λ j q e. let was = remove_get rows i j q e in row_same log log' limits q (λ f. lies_more f q.newcomer.thread log (Left t)) (stage_more q.newcomer.thread log (Left t)) (k.each was.0 q was.1);
   places = k.places;
-  marks_are = λ p h. k.marks_are p h ∙ ap (λ (m : Option ℕ). Some m) (sym (mark_more (record { 0 = p }) log (Ended t)));
-  fresh = λ e u h. lies_more e u log (Ended t) ∙ k.fresh e u (omega (arith, h, threads_ended log t));
-  passed = λ e m u is h. lies_more e u log (Ended t) ∙ k.passed e m u (sym (mark_more e log (Ended t)) ∙ is) h;
+  marks_are = λ p h. k.marks_are p h ∙ ap (λ (m : Option ℕ). Some m) (sym (mark_more (record { 0 = p }) log (Left t)));
+  unborn = λ u h. stage_more u log (Left t) ∙ k.unborn u (omega (arith, h, threads_left log t));
+  fresh = λ e u h. lies_more e u log (Left t) ∙ k.fresh e u (omega (arith, h, threads_left log t));
+  passed = λ e m u is h. lies_more e u log (Left t) ∙ k.passed e m u (sym (mark_more e log (Left t)) ∙ is) h;
   listed = λ j n e. (let was = remove_get (live log) i j n (ap (λ (l : List Newcomer). slice_get l j) (sym now_live) ∙ e) in
-      ap (λ (l : List Newcomer). slice_get l n.thread.0) (came_more log (Ended t)) ∙ k.listed was.0 n was.1);
-  rising = subst (λ (x : List Newcomer × ℕ). Rising 0 x.0 x.1) (λ j. (sym (live_more log (Ended t)) j, sym (threads_ended log t) j)) (rising_filter (is_other t) 0 (live log) (threads_in log) k.rising);
+      ap (λ (l : List Newcomer). slice_get l n.thread.0) (came_more log (Left t)) ∙ k.listed was.0 n was.1);
+  rising = subst (λ (x : List Newcomer × ℕ). Rising 0 x.0 x.1) (λ j. (sym (live_more log (Left t)) j, sym (threads_left log t) j)) (rising_filter (is_other t) 0 (live log) (threads_in log) k.rising);
 }
   where
     log' : List Coming
-    log' = log ++ Ended t ∷ []
+    log' = log ++ Left t ∷ []
 
     now_live : live log' ≡ remove (live log) i
-    now_live = live_more log (Ended t) ∙ filter_out t 0 (live log) (threads_in log) i at.one k.rising at.at at.is
+    now_live = live_more log (Left t) ∙ filter_out t 0 (live log) (threads_in log) i at.one k.rising at.at at.is
 
 -- what is noted of a place that is the environment's, and of the others
 mark_here : (e : EnvNo) (p : ℕ) (v mark : Option ℕ) → e.0 ≡ p → (if e.0 == p then v else mark) ≡ v
@@ -267,16 +276,16 @@ no_zero m h = cc
 
 pub rows_attach : (log : List Coming) (limits : Limits) (rows : List Row) (marks : List (Option ℕ)) (e : EnvNo) → AreRows log limits rows marks → AreRows (log ++ Attached e ∷ []) limits rows (slice_set marks e.0 (Some 0))
 rows_attach log limits rows marks e k =
-    rows_stay log limits rows marks (slice_set marks e.0 (Some 0)) (Attached e) k refl refl (λ f t. refl) (none_passed log limits rows marks e (Attached e) (Some 0) k the_zero (λ f. refl)) (length_set marks e.0 (Some 0) ∙ k.places) (marks_set log limits marks e (Attached e) (Some 0) k.places k.marks_are (λ f. refl))
+    rows_stay log limits rows marks (slice_set marks e.0 (Some 0)) (Attached e) k refl refl (λ f t. refl) (λ t. refl) (none_passed log limits rows marks e (Attached e) (Some 0) k the_zero (λ f. refl)) (length_set marks e.0 (Some 0) ∙ k.places) (marks_set log limits marks e (Attached e) (Some 0) k.places k.marks_are (λ f. refl))
 
 pub rows_dispose : (log : List Coming) (limits : Limits) (rows : List Row) (marks : List (Option ℕ)) (e : EnvNo) → AreRows log limits rows marks → AreRows (log ++ Disposed e ∷ []) limits rows (slice_set marks e.0 None)
 rows_dispose log limits rows marks e k =
-    rows_stay log limits rows marks (slice_set marks e.0 None) (Disposed e) k refl refl (λ f t. refl) (none_passed log limits rows marks e (Disposed e) None k no_zero (λ f. refl)) (length_set marks e.0 None ∙ k.places) (marks_set log limits marks e (Disposed e) None k.places k.marks_are (λ f. refl))
+    rows_stay log limits rows marks (slice_set marks e.0 None) (Disposed e) k refl refl (λ f t. refl) (λ t. refl) (none_passed log limits rows marks e (Disposed e) None k no_zero (λ f. refl)) (length_set marks e.0 None ∙ k.places) (marks_set log limits marks e (Disposed e) None k.places k.marks_are (λ f. refl))
 
 -- and what changes about stops moves nothing
 pub rows_stop : (log : List Coming) (limits : Limits) (rows : List Row) (marks : List (Option ℕ)) (o : Option EnvNo) (call : StopCall) → AreRows log limits rows marks → AreRows (log ++ Stop o call ∷ []) limits rows marks
 rows_stop log limits rows marks o call k =
-    rows_stay log limits rows marks marks (Stop o call) k refl refl (λ f t. refl)
+    rows_stay log limits rows marks marks (Stop o call) k refl refl (λ f t. refl) (λ t. refl)
     (λ e m t is h. k.passed e m t (sym (mark_more e log (Stop o call)) ∙ is) h) k.places
     (λ p h. k.marks_are p h ∙ ap (λ (m : Option ℕ). Some m) (sym (mark_more (record { 0 = p }) log (Stop o call))))
 
@@ -289,6 +298,7 @@ rows_meet log limits rows rows' marks e k there len taken = record {
   each = each;
   places = length_set marks e.0 (Some n) ∙ k.places;
   marks_are = marks_set log limits marks e (Met e n) (Some n) k.places k.marks_are (λ f. refl);
+  unborn = λ t h. stage_more t log (Met e n) ∙ k.unborn t (omega (arith, h, threads_met log e n));
   fresh = λ f t h. lies_more f t log (Met e n) ∙ (grind (arith, nat_tests, h, threads_met log e n) ∙ k.fresh f t (omega (arith, h, threads_met log e n)));
   passed = passed;
   listed = λ i m at. ap (λ (l : List Newcomer). slice_get l m.thread.0) (came_more log (Met e n)) ∙ k.listed i m (ap (λ (l : List Newcomer). slice_get l i) (sym (live_more log (Met e n))) ∙ at);
@@ -312,6 +322,7 @@ rows_meet log limits rows rows' marks e k there len taken = record {
 
     one : (r q : Row) → IsRow log limits r → IsTaken e r q → r.newcomer.thread.0 < n → IsRow log' limits q
     one r q row t below = record {
+      stage = t.stage ∙ (row.stage ∙ (ap (λ (x : Newcomer). stage_of x.thread log) (sym t.newcomer) ∙ sym (stage_more q.newcomer.thread log (Met e n))));
       places = ap (λ (l : List (Option FreeState)). length l) t.desks ∙ (length_set r.desks.items e.0 None ∙ row.places);
       each = λ p h. elim (cases_eq e.0 p) [
         | inl same ↦
@@ -346,6 +357,7 @@ rows_back log limits rows marks e t i r q f k there at is put back = record {
   each = each;
   places = length_set marks e.0 (Some 0) ∙ k.places;
   marks_are = marks_set log limits marks e (GaveBack e t) (Some 0) k.places k.marks_are (λ g. refl);
+  unborn = λ u h. stage_more u log (GaveBack e t) ∙ k.unborn u (omega (arith, h, threads_back log e t));
   fresh = λ g u h. lies_more g u log (GaveBack e t) ∙ (past g u (omega (arith, h, threads_back log e t)) ∙ k.fresh g u (omega (arith, h, threads_back log e t)));
   passed = passed;
   listed = λ j m e'. ap (λ (l : List Newcomer). slice_get l m.thread.0) (came_more log (GaveBack e t)) ∙ k.listed j m (ap (λ (l : List Newcomer). slice_get l j) (sym (live_more log (GaveBack e t))) ∙ e');
@@ -388,6 +400,7 @@ rows_back log limits rows marks e t i r q f k there at is put back = record {
 
     here : IsRow log' limits q
     here = record {
+      stage = put.stage ∙ ((k.each i r at).stage ∙ (ap (λ (x : Newcomer). stage_of x.thread log) (sym put.newcomer) ∙ sym (stage_more q.newcomer.thread log (GaveBack e t))));
       places = ap (λ (l : List (Option FreeState)). length l) put.desks ∙ (length_set r.desks.items e.0 (Some f) ∙ (k.each i r at).places);
       each = λ p h. (let row = k.each i r at in elim (cases_eq e.0 p) [
         | inl same ↦
@@ -418,7 +431,74 @@ rows_back log limits rows marks e t i r q f k there at is put back = record {
           let old : slice_get rows j ≡ Some y = sym (set_other rows i j q other) ∙ b in
           let number : y.newcomer.thread.0 ≢ r.newcomer.thread.0 = rising_other (live log) (threads_in log) i j r.newcomer y.newcomer k.rising (live_at i r at) (live_at j y old) (λ same. other (sym same)) in
           let off : (t.0 == y.newcomer.thread.0) ≡ false = ne_eqb t.0 y.newcomer.thread.0 (λ same. number (sym same ∙ sym is)) in
-          row_same log log' limits y (λ g. lies_more g y.newcomer.thread log (GaveBack e t) ∙ grind (arith, off)) (k.each j y old)
+          row_same log log' limits y (λ g. lies_more g y.newcomer.thread log (GaveBack e t) ∙ grind (arith, off)) (stage_more y.newcomer.thread log (GaveBack e t)) (k.each j y old)
+    ]
+
+-- a thread has come further: its row notes it
+pub rows_reach : (log : List Coming) (limits : Limits) (rows : List Row) (marks : List (Option ℕ)) (t : ThreadNo) (i : ℕ) (r : Row) (s : Stage) (x : Coming) → AreRows log limits rows marks → slice_get rows i ≡ Some r → r.newcomer.thread.0 ≡ t.0
+    → live_after (live log) x ≡ live log → came_after (came log) x ≡ came log → ((e : EnvNo) (u : ThreadNo) → lies_after e u (lies e u log) x ≡ lies e u log) → ((e : EnvNo) → mark_after e (mark_of e log) x ≡ mark_of e log)
+    → ((u : ThreadNo) → stage_after u (stage_of u log) x ≡ (if t.0 == u.0 then s else stage_of u log)) → AreRows (log ++ x ∷ []) limits (slice_set rows i (reached r s)) marks
+rows_reach log limits rows marks t i r s x k at is live_same came_same lies_are mark_same stages = record {
+  live_are = alike_map (λ (y : Row). y.newcomer) rows rows' (length_set rows i (reached r s)) alike ∙ (k.live_are ∙ sym now_live);
+  each = each;
+  places = k.places;
+  marks_are = λ p h. k.marks_are p h ∙ ap (λ (m : Option ℕ). Some m) (sym (mark_more (record { 0 = p }) log x ∙ mark_same (record { 0 = p })));
+  fresh = λ e u h. lies_more e u log x ∙ (lies_are e u ∙ k.fresh e u (omega (arith, h, count)));
+  unborn = λ u h. other_stage u (λ same. omega (arith, same, is, rising_below 0 (live log) (threads_in log) i r.newcomer k.rising (live_at i r at), h, count)) ∙ k.unborn u (omega (arith, h, count));
+  passed = λ e m u his h. lies_more e u log x ∙ (lies_are e u ∙ k.passed e m u (sym (mark_more e log x ∙ mark_same e) ∙ his) h);
+  listed = λ j n a. ap (λ (l : List Newcomer). slice_get l n.thread.0) now_came ∙ k.listed j n (ap (λ (l : List Newcomer). slice_get l j) (sym now_live) ∙ a);
+  rising = subst (λ (z : List Newcomer × ℕ). Rising 0 z.0 z.1) (λ j. (sym now_live j, sym count j)) k.rising;
+}
+  where
+    rows' : List Row
+    rows' = slice_set rows i (reached r s)
+
+    log' : List Coming
+    log' = log ++ x ∷ []
+
+    now_live : live log' ≡ live log
+    now_live = live_more log x ∙ live_same
+
+    now_came : came log' ≡ came log
+    now_came = came_more log x ∙ came_same
+
+    count : threads_in log' ≡ threads_in log
+    count = ap (λ (l : List Newcomer). length l) now_came
+
+    within : i < length rows
+    within = get_within rows i r at
+
+    live_at : (j : ℕ) (y : Row) → slice_get rows j ≡ Some y → slice_get (live log) j ≡ Some y.newcomer
+    live_at j y a = ap (λ (l : List Newcomer). slice_get l j) (sym k.live_are) ∙ get_map (λ (z : Row). z.newcomer) rows j y a
+
+    alike : (j : ℕ) (y z : Row) → slice_get rows j ≡ Some y → slice_get rows' j ≡ Some z → z.newcomer ≡ y.newcomer
+    alike j y z a b = elim (cases_eq j i) [
+      | inl same ↦
+          let new : reached r s ≡ z = is_same (reached r s) z (sym (set_here rows i (reached r s) within) ∙ (ap (slice_get rows') (sym same) ∙ b)) in
+          let old : r ≡ y = is_same r y (sym at ∙ (ap (slice_get rows) (sym same) ∙ a)) in
+          ap (λ (w : Row). w.newcomer) (sym new) ∙ ap (λ (w : Row). w.newcomer) old
+      | inr other ↦ ap (λ (w : Row). w.newcomer) (sym (is_same y z (sym a ∙ (sym (set_other rows i j (reached r s) other) ∙ b))))
+    ]
+
+    other_stage : (u : ThreadNo) → t.0 ≢ u.0 → stage_of u log' ≡ stage_of u log
+    other_stage u other = stage_more u log x ∙ (stages u ∙ ap (λ (b : Bool). if b then s else stage_of u log) (ne_eqb t.0 u.0 other))
+
+    here : IsRow log' limits (reached r s)
+    here = record {
+      stage = sym (stage_more r.newcomer.thread log x ∙ (stages r.newcomer.thread ∙ ap (λ (b : Bool). if b then s else stage_of r.newcomer.thread log) (eq-eqb t.0 r.newcomer.thread.0 (sym is))));
+      places = (k.each i r at).places;
+      each = λ p h. (let d = (k.each i r at).each p h in (d.0, d.1, subst (λ (l : Lies). LiesAs l limits (record { 0 = p }) r.newcomer d.0) (sym (lies_more (record { 0 = p }) r.newcomer.thread log x ∙ lies_are (record { 0 = p }) r.newcomer.thread)) d.2));
+    }
+
+    each : (j : ℕ) (y : Row) → slice_get rows' j ≡ Some y → IsRow log' limits y
+    each j y b = elim (cases_eq j i) [
+      | inl same ↦
+          let new : reached r s ≡ y = is_same (reached r s) y (sym (set_here rows i (reached r s) within) ∙ (ap (slice_get rows') (sym same) ∙ b)) in
+          subst (λ (z : Row). IsRow log' limits z) new here
+      | inr other ↦
+          let old : slice_get rows j ≡ Some y = sym (set_other rows i j (reached r s) other) ∙ b in
+          let number : y.newcomer.thread.0 ≢ r.newcomer.thread.0 = rising_other (live log) (threads_in log) i j r.newcomer y.newcomer k.rising (live_at i r at) (live_at j y old) (λ same. other (sym same)) in
+          row_same log log' limits y (λ e. lies_more e y.newcomer.thread log x ∙ lies_are e y.newcomer.thread) (other_stage y.newcomer.thread (λ same. number (sym same ∙ sym is))) (k.each j y old)
     ]
 
 -- the desks that a meeting takes
@@ -475,7 +555,7 @@ set_same (y ∷ l) (suc i) x at = ap (λ (m : List (Option FreeState)). y ∷ m)
 
 -- so it is as if it was taken out
 pub taken_before : (log : List Coming) (limits : Limits) (e : EnvNo) (r : Row) → e.0 < limits.envs → IsRow log limits r → lies e r.newcomer.thread log ≡ Out → IsTaken e r r
-taken_before log limits e r there row out = record { newcomer = refl; desks = sym (set_same r.desks.items e.0 None (missing log limits e r there row out)) }
+taken_before log limits e r there row out = record { newcomer = refl; stage = refl; desks = sym (set_same r.desks.items e.0 None (missing log limits e r there row out)) }
 
 -- and the desks are in the rows behind those that miss theirs
 pub desks_behind : (log : List Coming) (limits : Limits) (e : EnvNo) (rows : List Row) (start : ℕ) → e.0 < limits.envs → ((i : ℕ) (r : Row) → slice_get rows i ≡ Some r → IsRow log limits r)
@@ -525,6 +605,7 @@ rows_count rows l e = sym (length_map (λ (r : Row). r.newcomer) rows) ∙ ap (�
 rows_empty : (limits : Limits) → AreRows [] limits [] (replicate limits.envs None)
 rows_empty limits = record {
   live_are = refl;
+  unborn = λ t h. refl;
   each = λ i r at. absurd (nothing_at i r at);
   places = length-replicate limits.envs None;
   marks_are = λ p h. get_replicated limits.envs p None h;

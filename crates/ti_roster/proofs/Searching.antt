@@ -1,6 +1,6 @@
 -- Rows that a binary search finds.
 use Rattle.std.proofs.Common.{◌≡◌, ◌≢◌, ℕ, ◌+◌, ◌<◌, ◌≤◌, inl, inr, false, List, length, Option, Some, sym, ap, ◌∙◌, arith}
-use Rattle.std.specs.Prelude.{slice_get}
+use Rattle.std.specs.Prelude.{slice_get, slice_index_or}
 use Rattle.std.specs.List.{list_any}
 use Rattle.std.proofs.lemmas.Bool.{cases_eq, cases_lt}
 use Rattle.ti_types.specs.declared.limits.Limits.{Limits}
@@ -8,9 +8,11 @@ use Rattle.ti_types.specs.declared.numbers.ThreadNo.{ThreadNo}
 use Rattle.ti_roster.specs.declared.coming.Coming.{Coming}
 use Rattle.ti_roster.specs.declared.newcomer.Newcomer.{Newcomer}
 use Rattle.ti_roster.specs.declared.row.Row.{Row}
-use Rattle.ti_roster.specs.Log.{is_live, is_thread, live, threads_in}
-use Rattle.ti_roster.specs.Rows.{AreRows}
-use Rattle.ti_roster.proofs.Places.{get_map, get_there, get_within, is_same}
+use Rattle.ti_roster.specs.Log.{Log, came, is_live, is_thread, live, threads_in}
+use Rattle.ti_roster.specs.Roster.{IsListed}
+use Rattle.ti_roster.specs.Stages.{stage_of}
+use Rattle.ti_roster.specs.Rows.{AreRows, IsIndex}
+use Rattle.ti_roster.proofs.Places.{get_map, get_there, get_within, is_same, read_at}
 use Rattle.ti_roster.proofs.Rows.{none_live, rising_less, rows_count}
 
 -- a row is that of the thread at its index
@@ -71,3 +73,28 @@ not_live log limits rows marks t i k below from here =
                     omega (arith, z, y, same)
               ]
         ]
+
+-- the row that is read at the index of a thread, and whose it is
+pub row_of : (log : List Coming) (limits : Limits) (rows : List Row) (marks : List (Option ℕ)) (t : ThreadNo) (i : ℕ) (r : Row) → AreRows log limits rows marks → IsIndex (live log) t i → r ≡ slice_index_or rows i r → slice_get rows i ≡ Some r
+row_of log limits rows marks t i r k at read =
+    read_at rows i r (omega (arith, get_within (live log) i at.one at.at, rows_count rows (live log) k.live_are)) read
+
+pub row_number : (log : List Coming) (limits : Limits) (rows : List Row) (marks : List (Option ℕ)) (t : ThreadNo) (i : ℕ) (r : Row) → AreRows log limits rows marks → IsIndex (live log) t i → slice_get rows i ≡ Some r → r.newcomer.thread.0 ≡ t.0
+row_number log limits rows marks t i r k at here =
+    ap (λ (n : Newcomer). n.thread.0) (is_same r.newcomer at.one (sym (live_at log limits rows marks i r k here) ∙ at.at)) ∙ at.is
+
+-- and how far the thread has come
+pub row_stage : (log : List Coming) (limits : Limits) (rows : List Row) (marks : List (Option ℕ)) (t : ThreadNo) (i : ℕ) (r : Row) → AreRows log limits rows marks → IsIndex (live log) t i → r ≡ slice_index_or rows i r → r.stage ≡ stage_of t log
+row_stage log limits rows marks t i r k at read =
+    let here : slice_get rows i ≡ Some r = row_of log limits rows marks t i r k at read in
+    let who : r.newcomer.thread ≡ t = ap (λ (n : ℕ). record { 0 = n }) (row_number log limits rows marks t i r k at here) in
+    (k.each i r here).stage ∙ ap (λ (u : ThreadNo). stage_of u log) who
+
+-- the thread of an index came under its number, and is there
+pub index_listed : (r : Log) (rows : List Row) (marks : List (Option ℕ)) (t : ThreadNo) (i : ℕ) → AreRows r.items r.limits rows marks → IsIndex (live r.items) t i → IsListed r t
+index_listed r rows marks t i k at = record {
+  who = at.one;
+  index = i;
+  at = at.at;
+  came_as = ap (λ (n : ℕ). slice_get (came r.items) n) (sym at.is) ∙ k.listed i at.one at.at;
+}

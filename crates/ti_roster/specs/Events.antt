@@ -69,10 +69,10 @@ pub record AreInOrder (life : List LifeEvent) : Type 0 where
   pub ended : (j : ℕ) (t : ThreadNo) → slice_get life j ≡ Some (event_of ThreadDetached t) → Has life t ThreadStart → Has life t ThreadEnd
 
 -- what has happened to a thread that is there, by how far it has come
-pub record HasCome (life : List LifeEvent) (t : ThreadNo) (started ended : LifeKind → Type 0) : Type 0 where
+pub record HasCome (life : List LifeEvent) (t : ThreadNo) (Start End : LifeKind → Type 0) : Type 0 where
   pub attached : Has life t ThreadAttached
-  pub started : started ThreadStart
-  pub ended : ended ThreadEnd
+  pub started : Start ThreadStart
+  pub ended : End ThreadEnd
   pub here : Lacks life t ThreadDetached
 
 abbrev pub HasReached : List LifeEvent → ThreadNo → Stage → Type 0

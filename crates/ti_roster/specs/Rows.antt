@@ -10,6 +10,7 @@ use Rattle.ti_agent.specs.FreeDesk.{FreeState, IsClean}
 use Rattle.ti_roster.specs.declared.coming.Coming.{Coming}
 use Rattle.ti_roster.specs.declared.newcomer.Newcomer.{Newcomer}
 use Rattle.ti_roster.specs.declared.row.Row.{Row}
+use Rattle.ti_roster.specs.declared.stage.Stage.{Stage}
 use Rattle.ti_roster.specs.declared.stage.Stage.TheVariants.{New}
 use Rattle.ti_roster.specs.Stages.{stage_of}
 use Rattle.ti_roster.specs.Log.{Lies, Unused, Out, Returned, came, lies, live, mark_of, threads_in}
@@ -79,6 +80,10 @@ pub record IsNewRow (limits : Limits) (r : Row) : Type 0 where
   pub stage : r.stage ≡ New
   pub places : length r.desks.items ≡ limits.envs
   pub each : (p : ℕ) → p < limits.envs → slice_get r.desks.items p ≡ Some (Some (new_desk limits (record { 0 = p }) r.newcomer))
+
+-- the row of a thread that has come further
+abbrev pub reached : Row → Stage → Row
+reached r s = record { newcomer = r.newcomer; stage = s; desks = r.desks }
 
 -- the row after an environment's desk was put into it
 pub record IsPut (e : EnvNo) (f : FreeState) (old new : Row) : Type 0 where

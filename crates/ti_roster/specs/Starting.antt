@@ -66,8 +66,8 @@ pub record HasEnded (old new : Log) (running : Runner) (ended : Sitting) : Type 
 
 -- why it has not
 pub data RefusesEnd (r : Log) (t : ThreadNo) (e : TiError) : Type 0 where
-  NotHere : e ≡ end_refusal r t → (e ≡ Full → most_items ≤ length r.items) → RefusesEnd r t e
-  InUse : MayStep r t (is_alive (stage_of t r.items)) → e ≡ Busy → RefusesEnd r t e
+  EndNotHere : e ≡ end_refusal r t → (e ≡ Full → most_items ≤ length r.items) → RefusesEnd r t e
+  EndInUse : MayStep r t (is_alive (stage_of t r.items)) → e ≡ Busy → RefusesEnd r t e
 
 -- what is noted of a thread that is given back: that it has ended, if it is alive, and that it is there no more
 abbrev pub leaving_from : Bool → ThreadNo → List Coming

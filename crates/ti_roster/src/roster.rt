@@ -328,7 +328,7 @@ impl Roster {
         requires index { IsIndex (live self.old.items) thread i }
         requires alive { is_alive (stage_of thread self.old.items) ≡ true }
         requires room { length self.old.items < most_items }
-        ensures { self.new ≡ with_item self.old (Ended thread) }
+        ensures { self.new ≡ with_item self.old (coming.Ended thread) }
     {
         self.rows[i].reach(Stage::Over);
         self.life.push(LifeEvent {
@@ -557,7 +557,8 @@ const LAST: u64 = (1 << 62) - 1;
 ghost use Rattle.std.specs.Prelude.{◌≡◌, ◌<◌, ◌≤◌, ◌^◌, ◌+◌, ◌++◌, ◌∷◌, [], ℕ, All, true, false, drop, length, map, nat_lt, slice_get, vec_capacity, None, Some, IfOk, IfErr, IfSome, IfNone, OnOk, OnErr, if◌then◌else◌};
 ghost use Rattle.ti_types.specs.declared.error.TiError.TheVariants.{Full, InvalidEnvironment, InvalidThread, OutOfMemory, ThreadNotAlive};
 ghost use Rattle.ti_cell.specs.View.{newcomer, subject_of};
-ghost use Rattle.ti_roster.specs.declared.coming.Coming.TheVariants.{Came, Started, Ended, Left, Attached};
+ghost use Rattle.ti_roster.specs.declared.coming.Coming.TheVariants.{Came, Started, Left, Attached};
+ghost use Rattle.ti_roster.specs.declared.coming.Coming.TheVariants as coming;
 ghost use Rattle.ti_roster.specs.Log.{Out, lies, threads_in, mark_of, live, is_live, with_item, with_items, with_user};
 ghost use Rattle.ti_roster.specs.Stages.{alive, is_alive, is_new, stage_of};
 ghost use Rattle.ti_roster.specs.Starting.{HasEnded, HasStarted, RefusesEnd, RefusesStart, leave_refusal, leaving};

@@ -54,7 +54,7 @@ impl Row {
 
     /// The thread has come so far.
     pub(crate) fn reach(&mut self, stage: Stage)
-        ensures { self.new ≡ record self.old { stage = stage } }
+        ensures { self.new ≡ reached self.old stage }
     {
         self.stage = stage;
     }
@@ -105,4 +105,4 @@ fn free_desks(alloc: Global, desks: Vec<Desk>) -> Result<Vec<Option<FreeDesk>>, 
 ghost use Rattle.std.specs.Prelude.{◌≡◌, ◌↔◌, ◌<◌, ◌+◌, false, length, map, All, Some, None, slice_get, slice_set, IfOk, IfErr};
 ghost use Rattle.ti_types.specs.declared.error.TiError.TheVariants.{OutOfMemory};
 ghost use Rattle.ti_cell.specs.View.{newcomer, subject_of};
-ghost use Rattle.ti_roster.specs.Rows.{IsNewRow, IsUnused, free_at};
+ghost use Rattle.ti_roster.specs.Rows.{IsNewRow, IsUnused, free_at, reached};

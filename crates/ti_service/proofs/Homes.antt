@@ -24,11 +24,13 @@ use Rattle.ti_roster.specs.Log.{came, came_after}
 use Rattle.ti_roster.specs.Roster.{IsOwn, meeting}
 use Rattle.ti_roster.specs.Rows.{IsAt}
 use Rattle.ti_roster.specs.Rule.{Begins}
+use Rattle.ti_service.specs.declared.event.EventModes.{EventModes}
 use Rattle.ti_service.specs.Agent.{AgentState}
 use Rattle.ti_agent.specs.Spots.{spots_of}
 use Rattle.ti_service.specs.Homes.{AreOurs, AreOursOf, HasCome, IsHomeOf}
 use Rattle.ti_roster.proofs.Places.{get_front, get_within}
 use Rattle.ti_service.specs.Service.{Holds, Member, TakesDesks, TellsNews, with_look}
+use Rattle.ti_service.specs.Telling.{no_events}
 
 -- Threads that came
 
@@ -57,10 +59,10 @@ own_later seen later limits e f b o = record { at = come_later seen later f.desk
 -- An agent's desks
 
 abbrev pub agent_of : Member → Environment → List FreeState → AgentState
-agent_of service env waiting = record { service = service; env = env; waiting = waiting; events = None; unmet = false }
+agent_of service env waiting = record { service = service; env = env; waiting = waiting; events = no_events; unmet = false }
 
--- with the next event that it is to be told, and whether its last meeting failed
-abbrev pub agent_with : Member → Environment → List FreeState → Option ℕ → Bool → AgentState
+-- with the events that it is told, and whether its last meeting failed
+abbrev pub agent_with : Member → Environment → List FreeState → EventModes → Bool → AgentState
 agent_with service env waiting events unmet = record { service = service; env = env; waiting = waiting; events = events; unmet = unmet }
 
 -- the handle has seen more

@@ -16,11 +16,18 @@ pub(crate) fn enable_now(agent: &mut Agent, kind: EventKind) -> Result<(), TiErr
     match kind.life() {
         Some(kind) => enable_life_now(agent, kind),
         None => {
-            let count = agent.home.service.classes().class_count();
-            agent.home.events.class = Some(count);
+            enable_classes(agent);
             Ok(())
         }
     }
+}
+
+/// Enables ClassPrepare, by one look at the classes.
+fn enable_classes(agent: &mut Agent)
+    ensures enables { EnablesClasses (state_of agent.old) (state_of agent.new) }
+{
+    let count = agent.home.service.classes().class_count();
+    agent.home.events.class = Some(count);
 }
 
 /// Enables a kind of event of threads' lives, by one hold of the roster.
@@ -61,4 +68,4 @@ pub(crate) fn next_class(agent: &mut Agent) -> Option<ClassNo>
 ghost use Rattle.std.specs.Prelude.{◌≡◌, IfOk, IfErr, OnOk};
 ghost use Rattle.ti_types.specs.declared.error.TiError.TheVariants.{Busy};
 ghost use Rattle.ti_service.specs.Memberships.{state_of};
-ghost use Rattle.ti_service.specs.Telling.{Enables, EnablesLife, IsLife, IsLifeEnabled, TellsClass, TellsLife};
+ghost use Rattle.ti_service.specs.Telling.{Enables, EnablesClasses, EnablesLife, IsLife, IsLifeEnabled, TellsClass, TellsLife};

@@ -34,7 +34,7 @@ loop-i-preserved c =
     let there : slice_get now i ≡ Some d = read_at now i d within c.index_mut.ensures.value in
     let first = get_there old i (omega (arith, within, at.invariant.0)) in
     let was : slice_get old i ≡ Some d = first.1 ∙ ap (λ (r : Row). Some r) (sym (at.invariant.2 i first.0 d (omega arith) first.1 there)) in
-    let taken : IsTaken e d x = record { newcomer = c.take.ensures.newcomer; desks = c.take.ensures.taken } in
+    let taken : IsTaken e d x = record { newcomer = c.take.ensures.rest.0; stage = c.take.ensures.rest.1; desks = c.take.ensures.taken } in
     let step : drop i old ≡ d ∷ drop (i + 1) old = drop_step old i (i + 1) d (omega arith) was in
     let rest : List FreeState = desks_in e (drop (i + 1) old) in
     let all : List FreeState = c.args.desks.now.items ++ desks_in e (drop c.args.start old) in

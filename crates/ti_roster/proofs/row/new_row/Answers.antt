@@ -2,6 +2,7 @@ use Rattle.std.proofs.Common.{◌∙◌, List, Some, ap, map, refl, subst, sym}
 use Rattle.std.specs.Prelude.{All}
 use Rattle.ti_cell.specs.View.{subject_of}
 use Rattle.ti_handshake.specs.Desk.{DeskState}
+use Rattle.ti_roster.specs.declared.stage.Stage.TheVariants.{New}
 use Rattle.ti_roster.specs.Rows.{IsUnused, free_at}
 use Rattle.ti_roster.proofs.Rows.{desks_unused, new_row_is}
 use Rattle.ti_roster.proofs.row.new_row.Goals as goal
@@ -15,6 +16,6 @@ pub returns-clause-row : goal.returns-clause-row
 returns-clause-row c = (
   refl,
   refl,
-  new_row_is c.args.limits (record { newcomer = record { thread = c.args.thread; info = c.args.info; cell = c.in_ok-cell.cell }; desks = c.in_ok-desks.desks })
+  new_row_is c.args.limits (record { newcomer = record { thread = c.args.thread; info = c.args.info; cell = c.in_ok-cell.cell }; stage = New; desks = c.in_ok-desks.desks }) refl
       (c.in_ok-desks.ensures.desks ∙ ap (λ (l : List DeskState). map (λ (d : DeskState). Some (free_at d)) l) c.in_ok-cell.ensures.desks),
 )

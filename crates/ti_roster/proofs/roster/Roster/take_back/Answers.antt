@@ -30,6 +30,11 @@ misses : (c : After-has) → Found c.args.self.now c.self.inside.rows c.args.des
 misses c f =
     missed_by_row c.args.self.now c.index.result.now c.args.desk c.env-env.result.0 c.has.result (ap (λ (e : EnvNo). e.0) c.env-env.ensures) f.is_row c.requires.place f.number f.alive c.has.ensures
 
+pub has-requires : goal.has-requires
+has-requires c =
+    let f = found (goal.at.has-requires c).After-index in
+    omega (arith, f.is_row.places, c.requires.place, ap (λ (e : EnvNo). e.0) c.env-env.ensures)
+
 pub returns-then-has : goal.returns-then-has
 returns-then-has c =
     let off = (misses (goal.at.returns-then-has c).After-has (found (goal.at.returns-then-has c).After-index)).1 c.if-has.true in
@@ -64,7 +69,8 @@ invariant_of-self c =
     let row : Row = c.index.result.now in
     let same = same_row (goal.at.invariant_of-self c).After-index_mut at in
     let put : IsPut desk.desk.env desk row c.put.new.self = record {
-      newcomer = c.put.ensures.newcomer ∙ ap (λ (r : Row). r.newcomer) same;
+      newcomer = c.put.ensures.rest.0 ∙ ap (λ (r : Row). r.newcomer) same;
+      stage = c.put.ensures.rest.1 ∙ ap (λ (r : Row). r.stage) same;
       desks = c.put.ensures.put ∙ (λ j. slice_set (same j).desks.items (c.env-env.ensures j).0 (Some desk));
     } in
     let back = returned s desk row.newcomer c.requires.may at.listed at.number in

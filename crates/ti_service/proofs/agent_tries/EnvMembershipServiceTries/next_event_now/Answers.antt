@@ -1,24 +1,19 @@
-use Rattle.ti_agent.specs.Env.{Environment}
-use Rattle.ti_service.proofs.Tries.{held_or_busy, looked_home}
+use Rattle.std.proofs.Common.{Option, refl, sym, ap, subst}
+use Rattle.ti_roster.specs.declared.life_event.NextLife.{NextLife}
+use Rattle.ti_service.specs.Memberships.{state_of}
+use Rattle.ti_service.specs.Telling.{TellsLife, ToldClass, ToldLife, class_event}
 use Rattle.ti_service.proofs.agent_tries.EnvMembershipServiceTries.next_event_now.Goals as goal
 
-pub invariant_of-self : goal.invariant_of-self
-invariant_of-self c =
-    let at = c.self.inside in
-    let s : Environment = record { env = at.env; state = at.state; desks = at.desks } in
-    let tried = c.next_event_now in
-    (c.self.invariant.0, looked_home at.home.service tried.new.self s at.home.waiting.items (held_or_busy at.home.service tried.new.self tried.result tried.ensures.hold tried.ensures.busy) c.self.invariant.1)
+pub returns-in-Some-clause-tells : goal.returns-in-Some-clause-tells
+returns-in-Some-clause-tells c =
+    ToldLife c.in-Some.field-0 (subst (λ (o : Option NextLife). TellsLife (state_of c.args.self.now) (state_of c.next_life_now.new.agent) o) c.in-Some.is c.in_ok-event.ensures.tells) refl
 
-pub invariant_of-self-in_default-next : goal.invariant_of-self-in_default-next
-invariant_of-self-in_default-next c =
-    let at = c.self.inside in
-    let s : Environment = record { env = at.env; state = at.state; desks = at.desks } in
-    let tried = c.next_event_now in
-    (c.self.invariant.0, looked_home at.home.service tried.new.self s at.home.waiting.items (held_or_busy at.home.service tried.new.self tried.result tried.ensures.hold tried.ensures.busy) c.self.invariant.1)
+pub returns-in_default-next_class-clause-tells : goal.returns-in_default-next_class-clause-tells
+returns-in_default-next_class-clause-tells c =
+    let mid = state_of c.next_life_now.new.agent in
+    ToldClass mid (subst (λ (o : Option NextLife). TellsLife (state_of c.args.self.now) mid o) c.in_default.is c.in_ok-event.ensures.tells) c.next_class.result c.next_class.ensures.tells (ap class_event (sym c.in_default-next_class.is))
 
-pub invariant_of-self-in-Some-next : goal.invariant_of-self-in-Some-next
-invariant_of-self-in-Some-next c =
-    let at = c.self.inside in
-    let s : Environment = record { env = at.env; state = at.state; desks = at.desks } in
-    let tried = c.next_event_now in
-    (c.self.invariant.0, looked_home at.home.service tried.new.self s at.home.waiting.items (held_or_busy at.home.service tried.new.self tried.result tried.ensures.hold tried.ensures.busy) c.self.invariant.1)
+pub returns-clause-tells : goal.returns-clause-tells
+returns-clause-tells c =
+    let mid = state_of c.next_life_now.new.agent in
+    ToldClass mid (subst (λ (o : Option NextLife). TellsLife (state_of c.args.self.now) mid o) c.in_default.is c.in_ok-event.ensures.tells) c.next_class.result c.next_class.ensures.tells (ap class_event (sym c.in-Some-next_class.is))
