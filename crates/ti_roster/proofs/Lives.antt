@@ -1,5 +1,5 @@
 -- The events of threads' lives: which are kept, and one more.
-use Rattle.std.proofs.Common.{◌≡◌, ◌≢◌, ◌==◌, ℕ, zero, suc, ◌+◌, ◌-◌, ◌<◌, ◌≤◌, List, [], ◌∷◌, ◌++◌, length, drop, Bool, true, false, true≢false, not, if◌then◌else◌, nat_lt, ◌⊎◌, inl, inr, ⊎_elim, eq-eqb, ne_eqb, Option, Some, None, refl, sym, ap, ◌∙◌, subst, arith, length-append, append_assoc}
+use Rattle.std.proofs.Common.{◌≡◌, ◌≢◌, ◌==◌, ℕ, zero, suc, ◌+◌, ◌-◌, ◌<◌, ◌≤◌, List, [], ◌∷◌, ◌++◌, length, drop, Bool, true, false, true≢false, not, if◌then◌else◌, ◌⊎◌, inl, inr, ⊎_elim, eq-eqb, ne_eqb, Option, Some, refl, sym, ap, ◌∙◌, subst, arith, length-append, append_assoc}
 use Rattle.std.specs.Prelude.{slice_get}
 use Rattle.std.specs.List.{fold, filter}
 use Rattle.std.proofs.lemmas.Bool.{cases_Bool, cases_eq}

@@ -18,7 +18,7 @@ use Rattle.ti_handshake.specs.Desk.{DeskState}
 use Rattle.ti_handshake.specs.NewDesks.{new_desks, new_desk as unused}
 use Rattle.ti_agent.specs.FreeDesk.{FreeState}
 use Rattle.ti_roster.specs.declared.coming.Coming.{Coming}
-use Rattle.ti_roster.specs.declared.coming.Coming.TheVariants.{Came, Started, Ended, Left, Attached, Met, GaveBack, Disposed, Stop}
+use Rattle.ti_roster.specs.declared.coming.Coming.TheVariants.{Came, Left, Attached, Met, GaveBack, Disposed, Stop}
 use Rattle.ti_roster.specs.declared.newcomer.Newcomer.{Newcomer}
 use Rattle.ti_roster.specs.declared.row.Row.{Row}
 use Rattle.ti_roster.specs.declared.stage.Stage.{Stage}

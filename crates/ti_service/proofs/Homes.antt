@@ -1,5 +1,5 @@
 -- An agent's desks stay at the threads of its service.
-use Rattle.std.proofs.Common.{◌≡◌, ◌==◌, ◌&&◌, ◌<◌, Bool, true, false, eq-eqb, ℕ, List, [], ◌∷◌, ◌++◌, refl, ap, sym, ◌∙◌, subst, append-nil, append_assoc, Option, Some, None}
+use Rattle.std.proofs.Common.{◌≡◌, ◌==◌, ◌&&◌, ◌<◌, Bool, true, false, eq-eqb, ℕ, List, [], ◌∷◌, ◌++◌, refl, ap, sym, ◌∙◌, subst, append-nil, append_assoc, Some}
 use Rattle.std.specs.Prelude.{All, slice_get}
 use Rattle.std.specs.List.{fold}
 use Rattle.std.proofs.lemmas.List.Sums.{fold-append}
@@ -17,7 +17,7 @@ use Rattle.ti_agent.proofs.SameLimits.{limits_same}
 use Rattle.ti_agent.specs.Env.{Environment}
 use Rattle.ti_agent.specs.FreeDesk.{FreeState}
 use Rattle.ti_roster.specs.declared.coming.Coming.{Coming}
-use Rattle.ti_roster.specs.declared.coming.Coming.TheVariants.{Came, Ended, Attached, Met, GaveBack, Disposed, Stop}
+use Rattle.ti_roster.specs.declared.coming.Coming.TheVariants.{Came, Started, Ended, Left, Attached, Met, GaveBack, Disposed, Stop}
 use Rattle.ti_roster.specs.declared.newcomer.Newcomer.{Newcomer}
 use Rattle.ti_roster.specs.declared.view.RosterView.{RosterView}
 use Rattle.ti_roster.specs.Log.{came, came_after}
@@ -38,7 +38,9 @@ use Rattle.ti_service.specs.Telling.{no_events}
 come_at : (l : List Newcomer) (more : List Coming) (i : ℕ) (n : Newcomer) → slice_get l i ≡ Some n → slice_get (fold came_after l more) i ≡ Some n
 come_at l [] i n at = at
 come_at l (Came m ∷ more) i n at = come_at (l ++ m ∷ []) more i n (get_front l (m ∷ []) i (get_within l i n at) ∙ at)
+come_at l (Started t ∷ more) i n at = come_at l more i n at
 come_at l (Ended t ∷ more) i n at = come_at l more i n at
+come_at l (Left t ∷ more) i n at = come_at l more i n at
 come_at l (Attached e ∷ more) i n at = come_at l more i n at
 come_at l (Met e m ∷ more) i n at = come_at l more i n at
 come_at l (GaveBack e t ∷ more) i n at = come_at l more i n at

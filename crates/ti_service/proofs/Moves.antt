@@ -1,6 +1,6 @@
 -- What a handle puts back of the roster.
 use Rattle.std.proofs.Common.{◌≡◌, ℕ, List, [], ◌∷◌, ◌++◌, Option, Some, None, refl, sym, ap, ◌∙◌, append-nil, append_assoc, subst}
-use Rattle.std.specs.Prelude.{All, OnOk, ◌<◌, ◌+◌, Bool, true, false, length, Result, Ok, Err, IfOk, IfErr, OnErr, if◌then◌else◌}
+use Rattle.std.specs.Prelude.{All, OnOk, ◌<◌, ◌+◌, Bool, true, false, is_some, length, Result, Ok, Err, IfOk, IfErr, OnErr, if◌then◌else◌}
 use Rattle.std.proofs.lemmas.List.Elements.{All-weaker}
 use Rattle.ti_types.specs.declared.error.TiError.{TiError}
 use Rattle.ti_types.specs.declared.limits.Limits.{Limits}
@@ -8,13 +8,18 @@ use Rattle.ti_types.specs.declared.numbers.EnvNo.{EnvNo}
 use Rattle.ti_types.specs.declared.numbers.ThreadNo.{ThreadNo}
 use Rattle.ti_agent.specs.FreeDesk.{FreeState}
 use Rattle.ti_roster.specs.declared.coming.Coming.{Coming}
-use Rattle.ti_roster.specs.declared.coming.Coming.TheVariants.{Attached, Came, Disposed, Ended, Stop}
+use Rattle.ti_roster.specs.declared.coming.Coming.TheVariants.{Attached, Came, Disposed, Ended, Left, Started, Stop}
 use Rattle.ti_stops.specs.declared.call.StopCall.{StopCall}
 use Rattle.ti_stops.specs.declared.call.StopReply.{StopReply}
 use Rattle.ti_stops.specs.declared.error.StopError.{StopError}
 use Rattle.ti_stops.specs.Stops.{is_news}
 use Rattle.ti_roster.specs.declared.newcomer.Newcomer.{Newcomer}
-use Rattle.ti_roster.specs.Log.{Log, live, mark_of, threads_in, with_item, with_user}
+use Rattle.ti_cell.specs.Seats.{Sitting as ThreadSitting}
+use Rattle.ti_handshake.specs.Thread.{Runner}
+use Rattle.ti_roster.specs.Log.{Log, is_about, live, mark_of, noted, threads_in, with_item, with_items, with_user}
+use Rattle.ti_roster.specs.Stages.{is_alive, stage_of}
+use Rattle.ti_roster.specs.Starting.{HasEnded, HasStarted, leaving, leaving_from, number_of}
+use Rattle.ti_roster.proofs.Logs.{mark_noted, noted_same}
 use Rattle.ti_roster.specs.Roster.{HasDisposedOf, HasMetOf, IsOwn, MayGoBack, meeting}
 use Rattle.ti_roster.specs.Rows.{AreLeft}
 use Rattle.ti_roster.specs.Rule.{Begins, Claims, Moves}
@@ -65,9 +70,44 @@ pub come_begins : {V : Type 0} (newcomer_of : V → Newcomer) (r r' : Log) (res 
 come_begins newcomer_of r r' (Ok v) came same = (Came (newcomer_of v) ∷ [], ap (λ (x : Log). x.items) came)
 come_begins newcomer_of r r' (Err e) came same = ([], ap (λ (x : Log). x.items) same ∙ sym (append-nil r.items))
 
-pub end_begins : (t : ThreadNo) (r r' : Log) (res : Result (Unit {0}) TiError) → OnOk res (r' ≡ with_item r (Ended t)) → OnErr res (r' ≡ r) → Begins r'.items r.items
-end_begins t r r' (Ok d) ended same = (Ended t ∷ [], ap (λ (x : Log). x.items) ended)
-end_begins t r r' (Err e) ended same = ([], ap (λ (x : Log). x.items) same ∙ sym (append-nil r.items))
+-- one thing more was noted, which is about no environment's place
+pub may_item : {V E : Type 0} (x : Coming) (o : Option EnvNo) (r r' : Log) (seen : List Coming) (res : Result V E) → ((e : EnvNo) → is_about e x ≡ false) → Claims r.items o seen → r.user ≡ o → OnOk res (r' ≡ with_item r x) → OnErr res (r' ≡ r) → MayBe o r r'
+may_item x o r r' seen (Ok v) off claims user noted same = may_add o r r' seen x claims user off noted
+may_item x o r r' seen (Err e) off claims user noted same = may_stay o r r' seen claims user same
+
+-- a thread has started, or ended
+pub was_started : {E : Type 0} (r r' : Log) (f : ThreadSitting) (res : Result Runner E) → IfOk res (λ v. HasStarted r r' f v) → OnOk res (r' ≡ with_item r (Started (number_of f)))
+was_started r r' f (Ok v) h = h.new_is
+was_started r r' f (Err e) h = h
+
+pub was_ended : {E : Type 0} (r r' : Log) (v : Runner) (res : Result ThreadSitting E) → IfOk res (λ d. HasEnded r r' v d) → OnOk res (r' ≡ with_item r (Ended v.view.subject.thread))
+was_ended r r' v (Ok d) h = h.new_is
+was_ended r r' v (Err e) h = h
+
+its_claim : (log seen : List Coming) (o : Option EnvNo) (e : EnvNo) → o ≡ Some e → Claims log o seen → is_some (mark_of e log) ≡ true
+its_claim log seen o e is c = (subst (λ (x : Option EnvNo). Claims log x seen) is c).1
+
+-- a thread was given back, and may have ended before
+leaves_by : (b : Bool) (t : ThreadNo) (o : Option EnvNo) (r r' : Log) (seen : List Coming) → Claims r.items o seen → r.user ≡ o → r' ≡ with_items r (leaving_from b t) → MayBe o r r'
+leaves_by false t o r r' seen claims user is = may_add o r r' seen (Left t) claims user (λ e. refl) is
+leaves_by true t o r r' seen claims user is = subst (λ (y : Log). MayBe o r y) (sym is) (record {
+  begins = (leaving_from true t, refl);
+  moves = subst (λ (u : Option EnvNo). Moves o u r.items (r.items ++ leaving_from true t)) (sym user) (record {
+    others = λ e _ _. same e;
+    there = λ e mine. ap is_some (mark_noted e (r.items ++ leaving_from true t) r.items (same e)) ∙ its_claim r.items seen o e mine claims;
+    free = λ e mine not. absurd (not mine);
+  });
+  limits = refl;
+})
+  where
+    same : (e : EnvNo) → noted e (r.items ++ leaving_from true t) ≡ noted e r.items
+    same e =
+        ap (λ (l : List Coming). noted e l) (sym (append_assoc r.items (Ended t ∷ []) (Left t ∷ [])))
+        ∙ (noted_same e (r.items ++ Ended t ∷ []) (Left t) refl ∙ noted_same e r.items (Ended t) refl)
+
+pub may_leave : {V E : Type 0} (t : ThreadNo) (o : Option EnvNo) (r r' : Log) (seen : List Coming) (res : Result V E) → Claims r.items o seen → r.user ≡ o → OnOk res (r' ≡ with_items r (leaving t r.items)) → OnErr res (r' ≡ r) → MayBe o r r'
+may_leave t o r r' seen (Ok v) claims user left same = leaves_by (is_alive (stage_of t r.items)) t o r r' seen claims user left
+may_leave t o r r' seen (Err e) claims user left same = may_stay o r r' seen claims user same
 
 met_begins : (u : Option EnvNo) (r r' : Log) (desks : List FreeState) → HasMetOf u r r' desks → Begins r'.items r.items
 met_begins None r r' desks met = absurd met

@@ -1,5 +1,5 @@
 -- An agent, and what its calls say.
-use Rattle.std.specs.Prelude.{Bool, ℕ, ◌≡◌, ◌++◌, List, [], ◌∷◌, Option, Some, None, false, reverse}
+use Rattle.std.specs.Prelude.{Bool, ℕ, ◌≡◌, ◌++◌, List, [], ◌∷◌, Some, None, false, reverse}
 use Rattle.ti_types.specs.declared.error.TiError.{TiError}
 use Rattle.ti_types.specs.declared.error.TiError.TheVariants.{IllegalArgument, OutOfMemory}
 use Rattle.ti_types.specs.Refusing.{or_else, unless}

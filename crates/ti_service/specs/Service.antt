@@ -1,5 +1,5 @@
 -- A handle of the service, and what its calls say.
-use Rattle.std.specs.Prelude.{All, ℕ, ◌≡◌, ◌+◌, ◌<◌, ◌≤◌, ◌++◌, nat_lt, Bool, true, false, length, List, [], ◌∷◌, Option, Some, None}
+use Rattle.std.specs.Prelude.{All, ℕ, ◌≡◌, ◌+◌, ◌<◌, ◌≤◌, ◌++◌, nat_lt, Bool, false, length, List, [], ◌∷◌, Option, Some, None}
 use Rattle.std.specs.List.{fold}
 use Rattle.atomic_table.specs.Seated.{TableId}
 use Rattle.ti_types.specs.Least.{least}

@@ -27,10 +27,10 @@ pub record DoesNotStart (old new : RosterView) (fresh back : Sitting) (e : TiErr
   pub why : RefusesStart (roster_seen new) fresh back e
 
 -- One hold, in which a thread that was there and alive has ended. That is noted by the same hold
-pub record EndsThread (old new : RosterView) (running : Runner) (ended : Sitting) : Type 0 where
+pub record EndsThread (old new : RosterView) (running : Runner) (over : Sitting) : Type 0 where
   pub found : List Coming
   pub hold : Holds old new found (Ended running.view.subject.thread ∷ [])
-  pub ended : HasEnded (roster_of old found) (with_item (roster_of old found) (Ended running.view.subject.thread)) running ended
+  pub ended : HasEnded (roster_of old found) (with_item (roster_of old found) (Ended running.view.subject.thread)) running over
 
 -- One hold, in which it has not, and nothing was noted
 pub record DoesNotEnd (old new : RosterView) (t : ThreadNo) (e : TiError) : Type 0 where

@@ -75,6 +75,7 @@ impl Service {
             let tried = self.start_thread_now(fresh);
             self.wake_sleepers();
             match tried {
+                Ok(running) => return Ok(running),
                 Err((TiError::Busy, again)) => {
                     fresh = again;
                     self.roster.await_free(rt, &pace);
@@ -83,7 +84,7 @@ impl Service {
                     fresh = again;
                     self.sleep_without_news_for(rt, Duration::from_millis(BARRED));
                 }
-                result => return result,
+                Err(refused) => return Err(refused),
             }
         }
         unreachable!()
@@ -116,10 +117,13 @@ impl Service {
             let tried = self.end_thread_now(running);
             self.wake_sleepers();
             match tried {
-                Err((TiError::Busy, again)) => running = again,
-                result => return result,
+                Ok(ended) => return Ok(ended),
+                Err((TiError::Busy, again)) => {
+                    running = again;
+                    self.roster.await_free(rt, &pace);
+                }
+                Err(refused) => return Err(refused),
             }
-            self.roster.await_free(rt, &pace);
         }
         unreachable!()
     }

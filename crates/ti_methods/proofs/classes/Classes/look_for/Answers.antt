@@ -1,4 +1,4 @@
-use Rattle.std.proofs.Common.{◌≡◌, ◌<◌, List, length, ap, subst, arith}
+use Rattle.std.proofs.Common.{◌<◌, List, length, subst, arith}
 use mathlib.Core.List.{IsPrefix}
 use Rattle.ti_methods.specs.Classes.{Known}
 use Rattle.ti_methods.specs.declared.info.ClassInfo.{ClassInfo}

@@ -1,9 +1,7 @@
-use Rattle.std.proofs.Common.{◌≡◌, ◌≤◌, ℕ, List, length, Bool, true, false, if◌then◌else◌, nat_lt, refl, ap, sym, ◌∙◌, subst, arith}
-use Rattle.ti_types.specs.declared.error.TiError.{TiError}
+use Rattle.std.proofs.Common.{◌≡◌, length, Bool, true, false, if◌then◌else◌, nat_lt, refl, ap, sym, ◌∙◌, subst, arith}
 use Rattle.ti_types.specs.declared.error.TiError.TheVariants.{Full, InvalidThread, NotRunning, ThreadNotAlive}
 use Rattle.ti_types.specs.declared.numbers.ThreadNo.{ThreadNo}
 use Rattle.ti_roster.specs.declared.row.Row.{Row}
-use Rattle.ti_roster.specs.declared.stage.Stage.{Stage}
 use Rattle.ti_roster.specs.declared.coming.Coming.TheVariants.{Ended}
 use Rattle.ti_roster.specs.Log.{Log, is_live, live, threads_in, with_item}
 use Rattle.ti_roster.specs.Roster.{IsListed}

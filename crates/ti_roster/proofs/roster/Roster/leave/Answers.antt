@@ -1,14 +1,12 @@
-use Rattle.std.proofs.Common.{◌≡◌, ◌+◌, ◌<◌, ℕ, List, [], ◌∷◌, ◌++◌, length, append_assoc, eq-eqb, Bool, true, false, if◌then◌else◌, nat_lt, refl, ap, sym, ◌∙◌, subst, arith}
+use Rattle.std.proofs.Common.{◌≡◌, List, [], ◌∷◌, ◌++◌, length, append_assoc, eq-eqb, Bool, true, if◌then◌else◌, nat_lt, refl, ap, sym, ◌∙◌, subst, arith}
 use Rattle.ti_types.specs.declared.error.TiError.TheVariants.{Full, InvalidThread, ThreadNotAlive}
 use Rattle.ti_types.specs.declared.numbers.ThreadNo.{ThreadNo}
 use Rattle.ti_roster.specs.declared.coming.Coming.{Coming}
 use Rattle.ti_roster.specs.declared.coming.Coming.TheVariants.{Ended, Left}
 use Rattle.ti_roster.specs.declared.newcomer.Newcomer.{Newcomer}
 use Rattle.ti_roster.specs.declared.row.Row.{Row}
-use Rattle.ti_roster.specs.declared.stage.Stage.{Stage}
 use Rattle.ti_roster.specs.declared.stage.Stage.TheVariants.{Over}
 use Rattle.ti_roster.specs.Log.{Log, is_live, live, threads_in, with_item, with_items}
-use Rattle.ti_roster.specs.Roster.{IsListed}
 use Rattle.ti_roster.specs.Rows.{AreRows, IsIndex}
 use Rattle.ti_roster.specs.Stages.{is_alive, stage_of}
 use Rattle.ti_roster.specs.Starting.{leave_refusal, leaving_from}

@@ -1,7 +1,5 @@
-use Rattle.std.proofs.Common.{◌≡◌, ◌+◌, ◌<◌, ℕ, List, [], ◌∷◌, ◌++◌, length, length-append, true, Some, refl, ap, sym, ◌∙◌, subst, arith}
-use Rattle.std.specs.List.{remove}
+use Rattle.std.proofs.Common.{◌≡◌, ◌+◌, ℕ, List, [], ◌∷◌, ◌++◌, length, length-append, true, Some, refl, ap, sym, ◌∙◌, subst, arith}
 use Rattle.std.specs.Prelude.{slice_get, slice_set}
-use Rattle.ti_types.specs.declared.numbers.EnvNo.{EnvNo}
 use Rattle.ti_types.specs.declared.numbers.ThreadNo.{ThreadNo}
 use Rattle.ti_roster.specs.declared.coming.Coming.{Coming}
 use Rattle.ti_roster.specs.declared.coming.Coming.TheVariants.{Started}
@@ -14,7 +12,6 @@ use Rattle.ti_roster.specs.Rows.{AreRows, IsIndex, reached}
 use Rattle.ti_roster.specs.Stages.{is_new, stage_of}
 use Rattle.ti_roster.proofs.Lives.{events_started, life_few}
 use Rattle.ti_roster.proofs.Logs.{threads_started}
-use Rattle.ti_roster.proofs.Places.{get_within, read_at}
 use Rattle.ti_roster.proofs.Rows.{rows_reach}
 use Rattle.ti_roster.proofs.Stopped.{still_stops}
 use Rattle.ti_roster.proofs.Searching.{row_number, row_of}

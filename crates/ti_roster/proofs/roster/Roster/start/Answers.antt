@@ -1,9 +1,8 @@
-use Rattle.std.proofs.Common.{◌≡◌, ◌≤◌, ℕ, List, length, Bool, true, false, if◌then◌else◌, nat_lt, refl, ap, sym, ◌∙◌, subst, arith, ⊎_elim}
+use Rattle.std.proofs.Common.{◌≡◌, length, Bool, true, false, if◌then◌else◌, nat_lt, refl, ap, sym, ◌∙◌, subst, arith, ⊎_elim}
 use Rattle.ti_types.specs.declared.error.TiError.{TiError}
 use Rattle.ti_types.specs.declared.error.TiError.TheVariants.{Full, InvalidThread, NotNew, ThreadNotAlive, Busy}
 use Rattle.ti_types.specs.declared.numbers.ThreadNo.{ThreadNo}
 use Rattle.ti_roster.specs.declared.row.Row.{Row}
-use Rattle.ti_roster.specs.declared.stage.Stage.{Stage}
 use Rattle.ti_cell.specs.Seats.{Sitting}
 use Rattle.ti_roster.specs.declared.coming.Coming.TheVariants.{Started}
 use Rattle.ti_roster.specs.Log.{Log, is_live, live, threads_in, with_item}
