@@ -91,11 +91,7 @@ impl Service {
         ensures potential { IfOk result (λ s. s.cell.potential ≡ potential_caps) }
         ensures memory { IfErr result (λ e. e ≡ OutOfMemory) }
     {
-        Service::make_with(
-            alloc,
-            limits,
-            Caps::CAN_SUSPEND.add(Caps::CAN_POP_FRAME),
-        )
+        Service::make_with(alloc, limits, Caps::CAN_SUSPEND.add(Caps::CAN_POP_FRAME))
     }
 
     /// The same, for a runtime that says which capabilities its environments can have (JVM TI 11, GetPotentialCapabilities).
