@@ -94,12 +94,12 @@ AllRun (any.Http d) (any.Http n) = http.AllRun d n
 AllRun (any.Debugger d) (any.Debugger n) = SessionRuns d.session n.session × Works d n
 AllRun _ _ = ⊥
 
--- the connection goes on by calls, and this is to be done with it
-abbrev pub Goes : ℕ → Todo → AnyDoor → AnyDoor → Type 0
-Goes connection t (any.Http d) (any.Http n) = (h : HttpTodo) × (t ≡ todo_at_door h) × http.ServesOne d n connection × http.GoesOn d n connection (λ s n. http_seats.RunsTo s n × http_seats.Says n h)
-Goes connection t (any.Debugger d) (any.Debugger n) =
-    Works d n × (is_some d.session ≡ true → serving.IsServed d n) × sessions.Changes (session_at connection d) (session_at connection n) (λ s s'. debugger_runs.RunsTo s s' × debugger_seats.Says n.asked s' t)
-Goes connection t _ _ = ⊥
+-- at this time the connection goes on by calls, and this is to be done with it
+abbrev pub Goes : ℕ → ℕ → Todo → AnyDoor → AnyDoor → Type 0
+Goes connection now t (any.Http d) (any.Http n) = (h : HttpTodo) × (t ≡ todo_at_door h) × http.ServesOne d n connection × http.GoesOn d n connection (λ s n. http_seats.RunsTo s n × http_seats.Says n h)
+Goes connection now t (any.Debugger d) (any.Debugger n) =
+    Works d n × (is_some d.session ≡ true → serving.IsServed now d n) × sessions.Changes (session_at connection d) (session_at connection n) (λ s s'. debugger_runs.RunsTo s s' × debugger_seats.Says n.asked s' t)
+Goes connection now t _ _ = ⊥
 
 -- there is no session, or no memory
 abbrev pub RefusesSession : Option debugger_talks.Talk → DoorError → Type 0

@@ -68,11 +68,11 @@ abbrev pub RefusesAt : AnyDoor → ℕ → ℕ → Type 0
 RefusesAt d connection code = (e : DoorError) × (code ≡ code_refused e) × Refuses connection d e
 
 -- the connection goes on by calls, and this is to be done with it
-abbrev pub TellsNext : ℕ → ℕ → ℕ → AnyDoor → AnyDoor → Type 0
-TellsNext connection action room d n = (todo : Todo) × (action ≡ action_of todo) × (room ≡ room_at connection n) × Goes connection todo d n
+abbrev pub TellsNext : ℕ → ℕ → ℕ → ℕ → AnyDoor → AnyDoor → Type 0
+TellsNext connection now action room d n = (todo : Todo) × (action ≡ action_of todo) × (room ≡ room_at connection n) × Goes connection now todo d n
 
-abbrev pub Tells : ℕ → ℕ → ℕ → (unwritten : Type 0) → AnyDoor → AnyDoor → ℕ → Type 0
-Tells connection action room unwritten d n code = ((code ≡ 0) × TellsNext connection action room d n) ⊎ (RefusesAt d connection code × AllRun d n × unwritten)
+abbrev pub Tells : ℕ → ℕ → ℕ → ℕ → (unwritten : Type 0) → AnyDoor → AnyDoor → ℕ → Type 0
+Tells connection now action room unwritten d n code = ((code ≡ 0) × TellsNext connection now action room d n) ⊎ (RefusesAt d connection code × AllRun d n × unwritten)
 
 -- the connection takes so many of the bytes, or all are as before
 abbrev pub Takes : ℕ → List ℕ → ℕ → ℕ → ℕ → AnyDoor → AnyDoor → ℕ → Type 0

@@ -59,7 +59,7 @@ impl AnyDoor {
 
     /// What is to be done with a connection. `unix` is the time in nanoseconds since 1970, or 0.
     pub(crate) fn next(&mut self, connection: u32, now: u64, unix: u64) -> Result<Todo, DoorError>
-        ensures told { IfOk result (λ todo. Goes connection todo self.old self.new) }
+        ensures told { IfOk result (λ todo. Goes connection now todo self.old self.new) }
         ensures refused { IfErr result (Refuses connection self.old) }
         ensures run { OnErr result (AllRun self.old self.new) }
     {

@@ -191,7 +191,7 @@ pub extern "C" fn cq_door_next(
     action: &mut u32,
     room: &mut u64,
 ) -> u32
-    ensures { CallsDoor (Tells connection action.new room.new ((action.new ≡ action.old) × (room.new ≡ room.old))) ((action.new ≡ action.old) × (room.new ≡ room.old)) door.old door.new result }
+    ensures { CallsDoor (Tells connection now action.new room.new ((action.new ≡ action.old) × (room.new ≡ room.old))) ((action.new ≡ action.old) × (room.new ≡ room.old)) door.old door.new result }
 {
     let Some(held) = door.held_door() else {
         return CQ_MISUSED;
