@@ -1,5 +1,5 @@
 -- A session that is served: by one call, and by more.
-use Rattle.std.proofs.Common.{◌≡◌, ◌≤◌, ℕ, Bool, true, false, ◌&&◌, List, [], ◌∷◌, ◌++◌, Option, Some, None, Result, Ok, Err, refl, sym, subst, ap, inl, inr, ◌∙◌}
+use Rattle.std.proofs.Common.{◌≡◌, ℕ, Bool, true, false, ◌&&◌, List, [], ◌∷◌, ◌++◌, Option, Some, None, Result, Ok, Err, refl, sym, subst, ap, inl, ◌∙◌}
 use Rattle.std.specs.Prelude.{IfNone, IfOk}
 use Rattle.std.specs.List.{list_all}
 use Rattle.ti_jdwp.specs.declared.actions.Action.{Action}
@@ -7,7 +7,7 @@ use Rattle.ti_jdwp.specs.declared.request.Request.{Request}
 use Rattle.ti_jdwp.specs.declared.session_error.SessionError.{SessionError}
 use Rattle.ti_jdwp.specs.declared.session_error.SessionError.TheVariants.{NotAsked}
 use Rattle.ti_jdwp.specs.Answered.{is_asked}
-use Rattle.ti_jdwp.specs.SessionRuns.{Call, Runs, Step, taken, Fed, PeerEnded, Shut, Went, Failed, Replied, Listed, PostedAs, Settled, PlacedAs, LocatedAs, StoppedAt, Written, Happened, Began}
+use Rattle.ti_jdwp.specs.SessionRuns.{Call, Runs, taken, Fed, PeerEnded, Shut, Went, Failed, Replied, Listed, PostedAs, Settled, PlacedAs, LocatedAs, StoppedAt, Written, Happened, Began}
 use Rattle.ti_jdwp.specs.Steps.{Goes, Fails}
 use Rattle.ti_jdwp.specs.Talks.{Talk, data_of, replied}
 use Rattle.ti_debugger.specs.declared.asked.Asked.TheVariants.{Nothing}
@@ -18,7 +18,7 @@ use Rattle.ti_debugger.specs.declared.seat.Todo.{Todo}
 use Rattle.ti_debugger.specs.Replies.{IsBodyOf}
 use Rattle.ti_debugger.specs.Runs.{RunsTo, is_agents}
 use Rattle.ti_debugger.proofs.RunLaws.{asked_of}
-use Rattle.ti_debugger.specs.Serving.{Comes, Given, Gives, Going, Path, Rests, Serves, Serving, Tries, Undertakes, due_by}
+use Rattle.ti_debugger.specs.Serving.{Comes, Given, Gives, Going, Path, Rests, Serves, Serving, Undertakes, due_by}
 
 -- nothing is left to be tried
 rests_same : (u : Option Due) (d : Desk) → Rests u d d
@@ -65,17 +65,6 @@ pub going_given : (now : ℕ) (x : Due) (t m : Talk) (u v : Option Due) (d given
 going_given now x t m u v d given e due none gave is =
     let gives = subst (λ (o : Option Due). Gives now t o d gave.0 given) (sym due) gave.2 in
     (gave.0 ∷ [], (m, v, e, gave.1, gives_serves now t u v d given e gave.0 gives none is, (refl, refl, refl)))
-
--- what was due was tried, and is due still
-rests_tried : (x : Due) (u : Option Due) (d e : Desk) → u ≡ Some x → Tries x d e → Rests u d e
-rests_tried x u d e due tries = subst (λ (o : Option Due). Rests o d e) (sym due) (inr tries)
-
-pub comes_not : (now : ℕ) (x : Due) (t m : Talk) (u v : Option Due) (d e : Desk) → u ≡ Some x → v ≡ u → Given {E = SessionError} now x t d m e (Ok false) → Comes {E = SessionError} now t u d m v e (Ok false)
-comes_not now x t m u v d e due same gave = (gave.0, same, rests_tried x u d e due gave.1)
-
-pub comes_failed : (now : ℕ) (x : Due) (t m : Talk) (u v : Option Due) (d e : Desk) (error : SessionError) → u ≡ Some x → v ≡ u → Given {E = SessionError} now x t d m e (Err error)
-    → Comes {E = SessionError} now t u d m v e (Err error)
-comes_failed now x t m u v d e error due same gave = (gave.0, same, rests_tried x u d e due gave.1)
 
 -- nothing was given
 pub rests_serves : (now : ℕ) (t m : Talk) (u v : Option Due) (d e : Desk) → m ≡ t → v ≡ u → Rests u d e → Serving now t u d m v e

@@ -1,5 +1,5 @@
 -- The rows of a stack, one more at a time.
-use Rattle.std.proofs.Common.{◌≡◌, ◌+◌, ◌<◌, ◌≤◌, ℕ, ℤ, zero, suc, List, [], ◌∷◌, ◌++◌, Option, Some, None, Result, Ok, Err, Vec, Global, length, map, take, get_or, slice_get, refl, sym, ap, subst, ◌∙◌, arith}
+use Rattle.std.proofs.Common.{◌≡◌, ◌+◌, ◌<◌, ◌≤◌, ℕ, ℤ, zero, suc, List, [], ◌∷◌, ◌++◌, Option, Some, None, Result, Ok, Err, Vec, Global, length, take, get_or, slice_get, refl, sym, ap, subst, ◌∙◌, arith}
 use Rattle.std.specs.Prelude.{IfOk, IsSomeAnd}
 use Rattle.std.specs.Int.{w32, cast_unsigned}
 use Rattle.std.proofs.Math.Numerals.{add-one}
@@ -12,7 +12,7 @@ use Rattle.ti_types.specs.declared.call.Call.TheVariants as call
 use Rattle.ti_types.specs.declared.place.Frame.{Frame}
 use Rattle.ti_types.specs.declared.numbers.MethodNo.{MethodNo}
 use Rattle.ti_jdwp.specs.declared.lists.FrameRow.{FrameRow}
-use Rattle.ti_methods.specs.Classes.{IsDeclaredBy, class_at, count, first_of}
+use Rattle.ti_methods.specs.Classes.{IsDeclaredBy, count, first_of}
 use Rattle.ti_methods.specs.declared.info.ClassInfo.{ClassInfo}
 use Rattle.ti_methods.specs.declared.info.ClassNo.{ClassNo}
 use Rattle.ti_methods.proofs.Lists.{first_grows, prefix_get}

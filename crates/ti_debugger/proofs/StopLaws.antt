@@ -1,5 +1,5 @@
 -- Threads that stopped: which of them stay stopped as some go on.
-use Rattle.std.proofs.Common.{◌≡◌, ◌<◌, ◌≤◌, ◌+◌, ◌∙◌, ℕ, zero, suc, Bool, true, false, not, cond, List, [], ◌∷◌, ◌++◌, Option, Some, length, map, filter, take, drop, slice_get, get_or, set, refl, sym, ap, subst, arith}
+use Rattle.std.proofs.Common.{◌≡◌, ◌<◌, ◌≤◌, ◌+◌, ◌∙◌, ℕ, zero, suc, Bool, true, not, cond, List, [], ◌∷◌, ◌++◌, Some, length, map, take, drop, slice_get, get_or, set, refl, sym, ap, subst, arith}
 use Rattle.std.proofs.lemmas.List.{take-append-le, take_all}
 use Rattle.std.specs.List.{remove}
 use Rattle.ti_stops.specs.declared.error.StopError.{StopError}
@@ -38,7 +38,7 @@ pub become_more : (f : Halted → Halted) (i : ℕ) (list items : List Halted) (
 become_more f i list items d h is within became =
     let more : suc i ≡ i + 1 = omega arith in
     let at : set items i (f (get_or items i d)) ≡ first_become f (suc i) list =
-        subst (λ (x : List Halted). set x i (f (get_or x i d)) ≡ first_become f (suc i) list) (sym is) (one_more f i list d within) in
+    subst (λ (x : List Halted). set x i (f (get_or x i d)) ≡ first_become f (suc i) list) (sym is) (one_more f i list d within) in
     subst (λ (k : ℕ). set items i h ≡ first_become f k list) more (ap (λ (x : Halted). set items i x) became ∙ at)
 
 all_become : (f : Halted → Halted) (i : ℕ) (list : List Halted) → length list ≤ i → first_become f i list ≡ map f list

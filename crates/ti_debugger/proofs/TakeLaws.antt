@@ -1,5 +1,5 @@
 -- Answers that are read one item after another.
-use Rattle.std.proofs.Common.{◌≡◌, ◌⊎◌, ℕ, ◌+◌, ◌-◌, ◌<◌, ◌≤◌, Bool, true, false, not, cond, eqb, leb, List, [], ◌∷◌, ◌++◌, length, get_or, drop, take, Option, Some, None, Result, Ok, Err, refl, sym, ap, ◌∙◌, append_assoc, arith, inl, inr}
+use Rattle.std.proofs.Common.{◌≡◌, ◌⊎◌, ℕ, ◌+◌, ◌<◌, ◌≤◌, Bool, true, false, cond, eqb, leb, List, [], ◌∷◌, ◌++◌, length, get_or, drop, take, Option, Some, None, Result, Ok, Err, refl, sym, ap, ◌∙◌, append_assoc, arith, inl, inr}
 use Rattle.std.specs.Option.{option_map}
 use Rattle.std.specs.Prelude.{IsUtf8}
 use Rattle.std.specs.Str.{is_utf8}
@@ -14,7 +14,7 @@ use Rattle.ti_debugger.specs.declared.question.Told.{Told}
 use Rattle.ti_debugger.specs.declared.taking.Taken.{Taken}
 use Rattle.ti_debugger.specs.declared.question.Variable.{Variable}
 use Rattle.ti_debugger.specs.Taking.{Reads, reading_of}
-use Rattle.ti_debugger.specs.Questions.{Reading, if_whole, is_name, is_whole, named, named_in, read_all, read_answer, read_content, then_read}
+use Rattle.ti_debugger.specs.Questions.{Reading, if_whole, is_name, is_whole, named, named_in, read_all, read_content, then_read}
 
 -- ---- names
 

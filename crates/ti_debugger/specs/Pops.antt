@@ -1,5 +1,5 @@
 -- How frames are popped for a debugger.
-use Rattle.std.specs.Prelude.{ℕ, zero, suc, ℤ, pos, ◌≡◌, ◌+◌, ◌-◌, ◌<◌, ◌⊎◌, ◌≤ℤ◌, ◌++◌, Bool, true, false, not, ◌||◌, if◌then◌else◌, List, [], ◌∷◌, replicate, Result, Ok, Err}
+use Rattle.std.specs.Prelude.{ℕ, zero, suc, ℤ, pos, ◌≡◌, ◌+◌, ◌-◌, ◌<◌, ◌⊎◌, ◌≤ℤ◌, ◌++◌, Bool, false, not, ◌||◌, if◌then◌else◌, List, ◌∷◌, replicate, Result, Ok, Err}
 use Rattle.std.specs.List.{list_any}
 use Rattle.ti_types.specs.Call.{needed_by}
 use Rattle.ti_types.specs.Caps.{caps_with, caps_without, has_all}

@@ -1,5 +1,5 @@
 -- What the body of a reply says.
-use Rattle.std.specs.Prelude.{ℕ, suc, ◌≡◌, ◌++◌, ◌==◌, true, false, List, [], ◌∷◌, Option, Some, None, length, map, filter, bytes_eq, codes, string_bytes, if◌then◌else◌}
+use Rattle.std.specs.Prelude.{ℕ, suc, ◌≡◌, ◌++◌, ◌==◌, true, false, List, [], ◌∷◌, Some, length, map, filter, bytes_eq, codes, string_bytes, if◌then◌else◌}
 use Rattle.std.specs.Fmt.{decimal}
 use mathlib.Core.List.{IsPrefix}
 use Rattle.ti_jdwp.specs.Bodies.{found_list, list, thread_list}

@@ -4,7 +4,7 @@ use Rattle.ti_jdwp.specs.declared.actions.Action.{Action}
 use Rattle.ti_jdwp.specs.declared.actions.Action.TheVariants as action
 use Rattle.ti_jdwp.specs.declared.actions.Posted.{Posted}
 use Rattle.ti_jdwp.specs.declared.request.Request.{Request}
-use Rattle.ti_jdwp.specs.SessionRuns.{Call, Step, Fed, PeerEnded, Shut, Went, Failed, Replied, Listed, PostedAs, Settled, PlacedAs, LocatedAs, StoppedAt, Written, Happened, Began}
+use Rattle.ti_jdwp.specs.SessionRuns.{Call, Step, Went, Failed, Replied, Listed, PostedAs, Settled, PlacedAs, LocatedAs}
 use Rattle.ti_jdwp.specs.Talks.{Talk, data_of}
 use Rattle.ti_debugger.specs.declared.asked.Asked.TheVariants.{Nothing}
 use Rattle.ti_debugger.specs.declared.desk.Desk.{Desk}

@@ -1,5 +1,5 @@
 -- What a thread told of its state and its stack, and the bodies that say so.
-use Rattle.std.specs.Prelude.{⊤, ℕ, ℤ, pos, negsuc, suc, ◌≡◌, ◌≢◌, ◌^◌, ◌+◌, ◌-◌, ◌-ℤ◌, ◌++◌, ◌⊎◌, true, false, List, [], ◌∷◌, Option, Some, None, Ok, min, slice_get, if◌then◌else◌}
+use Rattle.std.specs.Prelude.{⊤, ℕ, ℤ, pos, negsuc, ◌≡◌, ◌≢◌, ◌^◌, ◌+◌, ◌-◌, ◌-ℤ◌, ◌++◌, ◌⊎◌, true, false, List, [], ◌∷◌, Option, Some, None, Ok, min, slice_get, if◌then◌else◌}
 use Rattle.std.specs.Int.{w32, cast_signed, cast_unsigned}
 use Rattle.ti_types.specs.Frames.{Trace}
 use Rattle.ti_types.specs.declared.answer.Answer.{Answer}

@@ -4,7 +4,7 @@ use Rattle.std.specs.Option.{option_map}
 use Rattle.std.specs.Int.{w32, cast_signed, cast_unsigned}
 use Rattle.ti_jdwp.specs.Bodies.{list, signed}
 use Rattle.ti_jdwp.specs.Fields.{int, long, text}
-use Rattle.ti_jdwp.specs.Ids.{id_from, number_from, first_method, first_table, first_text, frame_id, table_class, text_class}
+use Rattle.ti_jdwp.specs.Ids.{number_from, first_method, first_table, first_text, frame_id, table_class, text_class}
 use Rattle.ti_jdwp.specs.Slots.{AreSlots}
 use Rattle.ti_jdwp.specs.Variables.{entry_list, object_signature, value_list}
 use Rattle.ti_jdwp.specs.declared.error.JdwpError.{JdwpError}

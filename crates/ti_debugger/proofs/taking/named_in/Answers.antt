@@ -1,4 +1,4 @@
-use Rattle.std.proofs.Common.{◌∙◌, ◌∷◌, ◌++◌, [], List, arith, ap, inr, not, refl, rules, sym}
+use Rattle.std.proofs.Common.{◌∙◌, ◌∷◌, ◌++◌, [], List, arith, ap, inr, refl, rules}
 use Rattle.std.proofs.lemmas.Bool.Decides.{nat_tests}
 use Rattle.ti_debugger.specs.declared.asked.Named.{Named}
 use Rattle.ti_debugger.specs.declared.question.Variable.{Variable}

@@ -1,4 +1,4 @@
-use Rattle.std.proofs.Common.{◌∙◌, ◌∷◌, ◌++◌, [], List, ap, inr, refl, rules, sym}
+use Rattle.std.proofs.Common.{◌∙◌, ◌∷◌, ◌++◌, [], List, ap, inr, refl, rules}
 use Rattle.ti_jdwp.specs.declared.variables.Value.{Value}
 use Rattle.ti_debugger.proofs.VariableLaws.{picked_all, picked_more, picked_not}
 use Rattle.ti_debugger.proofs.variable_answers.picked.Goals as goal

@@ -1,4 +1,4 @@
-use Rattle.std.proofs.Common.{eqb, true, false}
+use Rattle.std.proofs.Common.{true, false}
 use Rattle.std.proofs.lemmas.Bool.{eq-eqb, ne_eqb}
 use Rattle.ti_debugger.proofs.VariableLaws.{value_found, value_not}
 use Rattle.ti_debugger.proofs.variable_answers.value_at.Goals as goal

@@ -12,7 +12,7 @@ returns-then-end_stop-clause-stopped c =
     let halted = c.in-Some.halted.now in
     let l = c.in-Some.ensures.lookup in
     let at : slice_get list c.args.index ≡ Some halted =
-        ap (λ (s : List Halted). slice_get s c.args.index) (sym c.deref.ensures.value) ∙ slice_get_read _ _ _ _ refl (ltb-true _ _ (sym l.0)) l.1 in
+    ap (λ (s : List Halted). slice_get s c.args.index) (sym c.deref.ensures.value) ∙ slice_get_read _ _ _ _ refl (ltb-true _ _ (sym l.0)) l.1 in
     let goes : may_go halted.stage ≡ true = sym c.may_go.ensures ∙ c.if-not-may_go.false in
     let left : c.remove-gone.new.self.items ≡ remove list c.args.index = search rules in
     ap stopped_in left ∙ stopped_out list c.args.index halted at goes

@@ -1,4 +1,4 @@
-use Rattle.std.proofs.Common.{refl, subst, sym}
+use Rattle.std.proofs.Common.{subst, sym}
 use Rattle.ti_jdwp.specs.Steps.{Goes}
 use Rattle.ti_jdwp.specs.Talks.{Talk}
 use Rattle.ti_debugger.proofs.ServingLaws.{going_failed, going_went}

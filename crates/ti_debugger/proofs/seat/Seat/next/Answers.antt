@@ -1,5 +1,5 @@
 use Rattle.std.proofs.Common.{rules}
-use Rattle.ti_debugger.specs.Serving.{Going, Serving}
+use Rattle.ti_debugger.specs.Serving.{Going}
 use Rattle.ti_debugger.proofs.ServingLaws.{going_more, going_serves, if_more, serving_idle, serving_more}
 use Rattle.ti_debugger.proofs.seat.Seat.next.Goals as goal
 

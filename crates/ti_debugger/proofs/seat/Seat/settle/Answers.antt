@@ -2,7 +2,7 @@ use Rattle.std.proofs.Common.{Bool, true, None, Ok, refl, subst, sym}
 use Rattle.ti_jdwp.specs.declared.session_error.SessionError.{SessionError}
 use Rattle.ti_debugger.specs.declared.asked.Asked.TheVariants.{Nothing}
 use Rattle.ti_debugger.specs.Serving.{Comes, Given}
-use Rattle.ti_debugger.proofs.ServingLaws.{comes_failed, comes_not, going_given}
+use Rattle.ti_debugger.proofs.ServingLaws.{going_given}
 use Rattle.ti_debugger.proofs.seat.Seat.settle.Goals as goal
 
 pub returns-then-given-clause-came : goal.returns-then-given-clause-came
