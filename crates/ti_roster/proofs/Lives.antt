@@ -376,7 +376,7 @@ events_left log events t i at dead a =
       reached = λ j m g.
           let there : (k : ℕ) × (slice_get (live log) k ≡ Some m) × (is_other t m ≡ true) = get_filter (is_other t) (live log) j m (ap (λ (y : List Newcomer). slice_get y j) (sym (live_more log (Left t))) ∙ g) in
           subst (Reached m.thread) (λ j. (sym life j, sym (stage_more m.thread log (Left t)) j))
-              (reached_other l t m.thread ThreadDetached (stage_of m.thread log) (is_other_thread t m there.2) (a.reached there.0 m there.1));
+          (reached_other l t m.thread ThreadDetached (stage_of m.thread log) (is_other_thread t m there.2) (a.reached there.0 m there.1));
     }
 
 -- something else happened

@@ -30,7 +30,7 @@ fits : (c : After-is_alive) → is_alive (stage_of c.thread-thread.result c.args
 fits c =
     let r : Row = c.index.result.now in
     let stage : r.stage ≡ stage_of c.thread-thread.result c.args.self.now.items =
-        row_stage c.args.self.now.items c.args.self.now.limits c.self.inside.rows c.self.inside.marks.items c.thread-thread.result c.in-Some.i r (rows_in c) c.in-Some.ensures.there c.index.ensures in
+    row_stage c.args.self.now.items c.args.self.now.limits c.self.inside.rows c.self.inside.marks.items c.thread-thread.result c.in-Some.i r (rows_in c) c.in-Some.ensures.there c.index.ensures in
     ap is_alive (sym stage) ∙ sym c.is_alive.ensures
 
 number : (c : After-is_alive) → c.thread-thread.result ≡ c.args.running.view.subject.thread
@@ -45,7 +45,7 @@ why c b is =
 pub returns-then-not-is_alive-clause-refused : goal.returns-then-not-is_alive-clause-refused
 returns-then-not-is_alive-clause-refused c =
     let w = (goal.at.returns-then-not-is_alive-clause-refused c).After-is_alive in
-    EndNotHere (why w false c.if-not-is_alive.true) (λ full. absurd (not_full full)) 
+    EndNotHere (why w false c.if-not-is_alive.true) (λ full. absurd (not_full full))
   where
     not_full : NotRunning ≡ Full → ⊥
     not_full h = cc
@@ -54,7 +54,7 @@ pub returns-then-self-ge-LAST-clause-refused : goal.returns-then-self-ge-LAST-cl
 returns-then-self-ge-LAST-clause-refused c =
     let w = (goal.at.returns-then-self-ge-LAST-clause-refused c).After-is_alive in
     let same = ap (λ (r : Log). length r.items) c.self.view_is in
-    EndNotHere (why w true c.if-not-is_alive.false) (λ _. omega (arith, same, c.if-self-ge-LAST.true, c.self.invariant.0)) 
+    EndNotHere (why w true c.if-not-is_alive.false) (λ _. omega (arith, same, c.if-self-ge-LAST.true, c.self.invariant.0))
 
 pub note_end-requires-clause-alive : goal.note_end-requires-clause-alive
 note_end-requires-clause-alive c = fits (goal.at.note_end-requires-clause-alive c).After-is_alive ∙ c.if-not-is_alive.false

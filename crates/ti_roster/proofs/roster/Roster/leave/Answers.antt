@@ -29,7 +29,7 @@ fits : (c : After-is_alive) → is_alive (stage_of c.args.thread c.args.self.now
 fits c =
     let r : Row = c.index.result.now in
     let stage : r.stage ≡ stage_of c.args.thread c.args.self.now.items =
-        row_stage c.args.self.now.items c.args.self.now.limits c.self.inside.rows c.self.inside.marks.items c.args.thread c.in-Some.i r (rows_in c) c.in-Some.ensures.there c.index.ensures in
+    row_stage c.args.self.now.items c.args.self.now.limits c.self.inside.rows c.self.inside.marks.items c.args.thread c.in-Some.i r (rows_in c) c.in-Some.ensures.there c.index.ensures in
     ap is_alive (sym stage) ∙ sym c.is_alive.ensures
 
 full : (c : After-is_alive) → Full ≡ leave_refusal c.args.self.now c.args.thread

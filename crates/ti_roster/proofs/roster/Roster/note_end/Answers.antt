@@ -41,7 +41,7 @@ invariant_of-self c =
     let len : length c.and-self-inside.result.items ≡ length log + 1 = ap (λ (l : List Coming). length l) items ∙ length-append log (Ended t ∷ []) in
     let count : threads_in c.and-self-inside.result.items ≡ threads_in log = ap threads_in items ∙ threads_ended log t in
     let after : AreRows (log ++ Ended t ∷ []) limits (slice_set rows i (reached c.index_mut.result.now Over)) marks =
-        rows_reach log limits rows marks t i c.index_mut.result.now Over (Ended t) c.self.invariant.3 here is refl refl (λ e u. refl) (λ e. refl) (λ u. refl) in (
+    rows_reach log limits rows marks t i c.index_mut.result.now Over (Ended t) c.self.invariant.3 here is refl refl (λ e u. refl) (λ e. refl) (λ u. refl) in (
       omega (arith, len, c.self.invariant.0),
       omega (arith, c.self.invariant.0, fits, c.requires.room),
       c.self.invariant.2 ∙ sym count,

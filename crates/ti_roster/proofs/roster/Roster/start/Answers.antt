@@ -32,7 +32,7 @@ fits : (c : After-is_new) → is_new (stage_of c.thread-thread.result c.args.sel
 fits c =
     let r : Row = c.index.result.now in
     let stage : r.stage ≡ stage_of c.thread-thread.result c.args.self.now.items =
-        row_stage c.args.self.now.items c.args.self.now.limits c.self.inside.rows c.self.inside.marks.items c.thread-thread.result c.in-Some.i r (rows_in c) c.in-Some.ensures.there c.index.ensures in
+    row_stage c.args.self.now.items c.args.self.now.limits c.self.inside.rows c.self.inside.marks.items c.thread-thread.result c.in-Some.i r (rows_in c) c.in-Some.ensures.there c.index.ensures in
     ap is_new (sym stage) ∙ sym c.is_new.ensures
 
 number : (c : After-is_new) → c.thread-thread.result ≡ c.args.fresh.view.subject.thread

@@ -28,11 +28,11 @@ returns-in-Err g c =
     let e = c.in-Err.refused.0 in
     let refused : WaitsThen c.args.self.now.view (λ v. DoesNotEnd v new c.args.running.view.subject.thread e) = elim c.in-Err.ensures.refused [
       | inl d ↦ record {
-          times = c.loop.invariant.2.looked.0;
-          mid = c.loop.self.view;
-          looks = c.loop.invariant.2.looked.1;
-          then = subst (λ (r : Runner). DoesNotEnd c.loop.self.view new r.view.subject.thread e) c.loop.invariant.1 d;
-        }
+        times = c.loop.invariant.2.looked.0;
+        mid = c.loop.self.view;
+        looks = c.loop.invariant.2.looked.1;
+        then = subst (λ (r : Runner). DoesNotEnd c.loop.self.view new r.view.subject.thread e) c.loop.invariant.1 d;
+      }
       | inr u ↦ absurd (search rules)
     ] in
     record { cell = c.end_thread_now-tried.ensures.cell ∙ c.loop.invariant.0; ended = tt; refused = refused; waited = search rules; back = c.in-Err.ensures.back ∙ c.loop.invariant.1 }

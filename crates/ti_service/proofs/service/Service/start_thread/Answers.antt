@@ -43,14 +43,14 @@ returns-in-Err g c =
     let k : Goes c.args.self.now.view c.args.fresh c.loop.self.view c.loop.fresh = c.loop.invariant.1 in
     let refused : WaitsToStart c.args.self.now.view c.args.fresh (λ v f. DoesNotStart v new f c.in-Err.refused.1 c.in-Err.refused.0) = elim c.in-Err.ensures.refused [
       | inl d ↦ record {
-          looked = k.looked.0;
-          mid = c.loop.self.view;
-          looks = k.looked.1;
-          barred = k.stayed.0;
-          thread = c.loop.fresh;
-          stays = k.stayed.1;
-          then = d;
-        }
+        looked = k.looked.0;
+        mid = c.loop.self.view;
+        looks = k.looked.1;
+        barred = k.stayed.0;
+        thread = c.loop.fresh;
+        stays = k.stayed.1;
+        then = d;
+      }
       | inr u ↦ absurd (search rules)
     ] in
     record { cell = c.start_thread_now-tried.ensures.cell ∙ c.loop.invariant.0; started = tt; thread = tt; refused = refused; waited = search rules }
