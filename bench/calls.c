@@ -60,7 +60,7 @@ static double now_ns(void) {
 int main(int argc, char **argv) {
     CHECK(argc == 3);
     uint64_t rounds = strtoull(argv[2], NULL, 0);
-    OK(cq_make(64, 1, 8, &service));
+    OK(cq_make(64, 1, 8, CQ_CAN_SUSPEND | CQ_CAN_POP_FRAME, &service));
     OK(cq_attach_thread(&service, (const uint8_t *)"main", 4, 5, &thread));
     OK(cq_attach_environment(&service, &env));
     OK(cq_meet(&env));

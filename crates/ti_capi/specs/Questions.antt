@@ -6,6 +6,7 @@ use Rattle.ti_jdwp.specs.declared.error.JdwpError.{JdwpError}
 use Rattle.ti_jdwp.specs.declared.error.JdwpError.TheVariants as wire
 use Rattle.ti_types.specs.TiError.{number_of}
 use Rattle.ti_types.specs.declared.error.TiError.TheVariants.{NotAvailable}
+use Rattle.ti_debugger.specs.Debuggers.{DebuggerValue}
 use Rattle.ti_debugger.specs.Pops.{may_say_pops, with_pops}
 use Rattle.ti_debugger.specs.Questions.{question_in, read_answer}
 use Rattle.ti_debugger.specs.VariableReplies as debugger
@@ -75,9 +76,13 @@ SaysTells tells _ _ code = ⊥
 
 -- A debugger's agent may pop frames from now on, or may not. It is refused if the service's environments cannot have that
 -- capability
+pub data SaysPopsAs (pops : Bool) (d n : DebuggerValue) (code : ℕ) : Type 0 where
+  PopsSaid : code ≡ 0 → may_say_pops d.agent pops ≡ true → n ≡ record d { agent = with_pops d.agent pops } → SaysPopsAs pops d n code
+  PopsRefused : code ≡ number_of NotAvailable → may_say_pops d.agent pops ≡ false → n ≡ d → SaysPopsAs pops d n code
+
 abbrev pub SaysPops : Bool → AnyDoor → AnyDoor → ℕ → Type 0
 SaysPops pops (any.Http d) (any.Http n) code = (code ≡ 0) × (n ≡ d)
-SaysPops pops (any.Debugger d) (any.Debugger n) code = if may_say_pops d.agent pops then (code ≡ 0) × (n ≡ record d { agent = with_pops d.agent pops }) else (code ≡ number_of NotAvailable) × (n ≡ d)
+SaysPops pops (any.Debugger d) (any.Debugger n) code = SaysPopsAs pops d n code
 SaysPops pops _ _ code = ⊥
 
 -- the runtime waits for its first debugger from now on, or does not

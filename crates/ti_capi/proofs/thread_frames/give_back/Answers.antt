@@ -14,7 +14,7 @@ returns-in-Err c =
     sym c.take.ensures.value ∙ (c.in-Some.is ∙ ap (λ (t : AnyThread). Some (host_of t pops)) c.in-Ended.is) in
     let e = c.in-Err.ensures in
     let back = ap (λ (h : HostThread). Some h) (c.of.ensures ∙ ap (λ (s : Sitting). host_of (Ended s) pops) e.back) in
-    subst (λ (o : Option HostThread). GivesBackTo o c.args.held.now (record { service = c.end_thread_now.new.self; thread = Some c.of.result; frames = c.args.held.now.frames }) c.number.result) (sym was)
+    subst (λ (o : Option HostThread). GivesBackTo o c.args.held.now (record { service = c.detach_thread_now.new.self; thread = Some c.of.result; frames = c.args.held.now.frames }) c.number.result) (sym was)
     (NotGone c.in-Err.error c.number.ensures refl back e.cell e.refused)
 
 pub returns-in-Err-withdraw_thread_now : goal.returns-in-Err-withdraw_thread_now
