@@ -75,7 +75,10 @@ impl Service {
             let tried = self.start_thread_now(fresh);
             self.wake_sleepers();
             match tried {
-                Ok(running) => return Ok(running),
+                Ok(running) => {
+                    running.wake_sleepers();
+                    return Ok(running);
+                }
                 Err((TiError::Busy, again)) => {
                     fresh = again;
                     self.roster.await_free(rt, &pace);
@@ -117,7 +120,10 @@ impl Service {
             let tried = self.end_thread_now(running);
             self.wake_sleepers();
             match tried {
-                Ok(ended) => return Ok(ended),
+                Ok(ended) => {
+                    ended.wake_sleepers();
+                    return Ok(ended);
+                }
                 Err((TiError::Busy, again)) => {
                     running = again;
                     self.roster.await_free(rt, &pace);
