@@ -191,7 +191,15 @@ void test_lives() {
     auto thread = service.attach_thread("first", 5);
     thread = service.attach_thread("second", 5);
     next.meet();
-    EXPECT(next.get_all_threads() == std::vector<std::uint32_t>{1} && thread.number() == 1);
+    EXPECT(next.get_all_threads().empty() && thread.number() == 1);
+    thread.start();
+    EXPECT(next.get_all_threads() == std::vector<std::uint32_t>{1});
+    EXPECT(next.number() == 0 && !next.stopper(1));
+    EXPECT(next.get_potential_capabilities() == (CQ_CAN_SUSPEND | CQ_CAN_POP_FRAME));
+    cebdyraq::service no_pops(8, 1, 4, CQ_CAN_SUSPEND);
+    auto one = no_pops.attach_environment();
+    EXPECT(one.get_potential_capabilities() == CQ_CAN_SUSPEND);
+    EXPECT(refused([&] { one.add_capabilities(CQ_CAN_POP_FRAME); }) == cebdyraq::code::not_available);
 }
 
 bool is(const cebdyraq::method_name &found, const std::string &name, const std::string &signature, std::uint32_t line) {
