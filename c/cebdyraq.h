@@ -709,7 +709,7 @@ uint32_t cq_set_environment_local_storage(cq_env *env, uint64_t word);
  *
  *     CQ_THREAD_START     a thread has started (cq_start)
  *     CQ_THREAD_END       a thread has ended (cq_end)
- *     CQ_CLASS_PREPARE    a class was defined (cq_define_class)
+ *     CQ_CLASS_PREPARE    a class was defined (cq_define_class), by a call that began after the kind was enabled
  *     CQ_THREAD_ATTACHED  a thread was attached (cq_attach_thread): no event of JVM TI
  *     CQ_THREAD_DETACHED  a thread was given back (cq_detach_thread), and can be let go: no event of JVM TI
  *
