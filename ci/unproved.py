@@ -1,7 +1,7 @@
 """Compiles and runs tests and programs over the crates, with nothing proved, in a copy outside the repository.
 
-`rt ci` proves each test that stands below crates/. If a test calls nothing with a condition (`requires`), that proof shows
-what its run shows. `rt try --test` compiles the tests of a crate and runs them, in half a minute.
+`rt ci` proves each test that stands below crates/. If a test calls nothing with a condition (`requires`), or asserts the
+condition, that proof shows what its run shows. `rt try --test` compiles the tests of a crate and runs them, in half a minute.
 """
 
 import contextlib

@@ -5,9 +5,9 @@
     ci/unproved_tests.py --fmt           lays their files out, and runs none
 
 Each folder tests/crates/NAME has the tests of a crate, with a module for each file NAME/*.rattle. Several share the module
-made.rattle. They call nothing with a condition (`requires`), so there is nothing to prove of them (`ci/unproved.py`). A test that
-calls something with one stands in a crate below crates/, and `rt ci` proves it. The files have an ending of their own because
-`rt ci` refuses a .rt file that it does not read.
+made.rattle. They call nothing with a condition (`requires`), or assert the condition, so a proof would show what a run shows
+(`ci/unproved.py`). A run whose contract is a theorem stands in a crate below crates/, and `rt ci` proves it. The files have an
+ending of their own because `rt ci` refuses a .rt file that it does not read.
 
 All folders are compiled as one crate, so that the crates below are compiled once. A file that is not laid out as `rt fmt` does it
 fails. The last line is 'N passed, M failed'.

@@ -33,6 +33,34 @@ impl<H: Home> Env<H> {
         }
     }
 
+    /// Makes an admitted call that is answered at once, at the thread at this place. It tries to hold the thread's cell just
+    /// once.
+    ///
+    /// The error is `Busy` (215) if the cell is in use. Then nothing changes.
+    #[inline(always)]
+    fn ask_one_now(
+        &mut self,
+        thread: ThreadNo,
+        place: ThreadNo,
+        call: Call,
+    ) -> Result<Asked, TiError>
+        requires place { place ≡ place_of self.old.env.desks thread }
+        requires admitted { thread_refusal self.old.env thread call ≡ None }
+        requires at_once { waits call ≡ false }
+        ensures posts { IfOk result (λ a. Posts self.old.env self.new.env thread call a) }
+        ensures busy { IfErr result (λ e. (e ≡ Busy) × (self.new ≡ self.old)) }
+        ensures home { self.new.home ≡ self.old.home }
+    {
+        let _thread = thread;
+        match self.desks[place.0 as usize].ask_now(call) {
+            Some(answer) => {
+                self.state.spend(place);
+                Ok(Asked::Answered(answer))
+            }
+            None => Err(TiError::Busy),
+        }
+    }
+
     /// Posts an admitted call for which there is room, at the thread at this place, and tries to hold its cell just once.
     /// The buffer has just the room that the call takes.
     ///
@@ -60,6 +88,35 @@ impl<H: Home> Env<H> {
                 Ok(asked)
             }
             Err(_) => Err(TiError::Busy),
+        }
+    }
+
+    /// Posts an admitted call with the buffer that it takes, at the thread at this place, and tries to hold its cell just once.
+    ///
+    /// The error is 216 (this profile: `Full`) if the call may wait, and `window` calls are out there; otherwise 110
+    /// OUT_OF_MEMORY if a trace's buffer cannot be had; otherwise 215 (this profile: `Busy`) if the cell is in use. Then
+    /// nothing changes.
+    // It is a function of its own, so that the calls that are answered at once are compiled into their callers.
+    #[inline(never)]
+    fn post_with_buffer_now(
+        &mut self,
+        alloc: Global,
+        thread: ThreadNo,
+        place: ThreadNo,
+        call: Call,
+    ) -> Result<Asked, TiError>
+        requires place { place ≡ place_of self.old.env.desks thread }
+        requires there { place_in self.old.env.desks thread < length self.old.env.desks }
+        requires admitted { thread_refusal self.old.env thread call ≡ None }
+        ensures room { OnOk result ((waits call && is_full self.old.env thread) ≡ false) }
+        ensures posts { IfOk result (λ a. Posts self.old.env self.new.env thread call a) }
+        ensures refused { IfErr result (λ e. (Some e ≡ or_else (if waits call && is_full self.old.env thread then Some Full else None) (if takes_buffer call then Some OutOfMemory else None)) ⊎ ((e ≡ Busy) × ((waits call && is_full self.old.env thread) ≡ false))) }
+        ensures unchanged { IfErr result (λ e. self.new ≡ self.old) }
+        ensures home { self.new.home ≡ self.old.home }
+    {
+        match self.room_for(alloc, thread, place, call) {
+            Ok(buf) => self.post_one_now(thread, place, call, buf),
+            Err(error) => Err(error),
         }
     }
 
@@ -130,12 +187,10 @@ impl<H: Home> Env<H> {
             Ok(place) => place,
             Err(error) => return Err(error),
         };
-        if !may_wait(call) {
-            return self.post_one_now(thread, place, call, TraceBuf::none());
-        }
-        match self.room_for(alloc, thread, place, call) {
-            Ok(buf) => self.post_one_now(thread, place, call, buf),
-            Err(error) => Err(error),
+        if may_wait(call) {
+            self.post_with_buffer_now(alloc, thread, place, call)
+        } else {
+            self.ask_one_now(thread, place, call)
         }
     }
 
@@ -354,7 +409,7 @@ ghost use Rattle.std.specs.Prelude.{◌≡◌, ◌⊎◌, ◌<◌, ◌≤◌, �
 ghost use Rattle.std.specs.Option.{option_map};
 ghost use Rattle.ti_types.specs.Answer.{said};
 ghost use Rattle.ti_types.specs.Refusing.{or_else};
-ghost use Rattle.ti_types.specs.declared.error.TiError.TheVariants.{OutOfMemory, Busy};
+ghost use Rattle.ti_types.specs.declared.error.TiError.TheVariants.{Busy, Full, OutOfMemory};
 ghost use Rattle.ti_replay.specs.Admission.{takes_buffer};
 ghost use Rattle.ti_replay.specs.Settling.{waits};
 ghost use Rattle.ti_agent.specs.Buffers.{IsJustBufferOf};

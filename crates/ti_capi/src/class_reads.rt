@@ -2,8 +2,9 @@
 
 use crate::class_values::{CqLineEntry, CqMethodName};
 use crate::class_writes::{tell_text, write_lines, write_name};
-use crate::codes::{CQ_MISUSED, CQ_OK};
+use crate::codes::CQ_OK;
 use crate::handle::CqEnv;
+use crate::handle_lends::behind;
 use crate::writes::write_each;
 use std::alloc::Global;
 use ti_service::{ClassCalls, ClassNo};
@@ -19,12 +20,7 @@ pub extern "C" fn cq_get_loaded_classes(
 ) -> u32
     ensures { Tells (AllWritten classes.old classes.new count.new) RefusesAll ((classes.new ≡ classes.old) × (count.new ≡ count.old)) env.old env.new result }
 {
-    let Some(held) = env.held_env() else {
-        return CQ_MISUSED;
-    };
-    let Some(agent) = &mut held.agent else {
-        return CQ_MISUSED;
-    };
+    let agent = behind!(env.held_env(), agent);
     match agent.get_loaded_classes(alloc) {
         Ok(all) => {
             *count = all.len() as u64;
@@ -46,12 +42,7 @@ pub extern "C" fn cq_get_class_signature(
 ) -> u32
     ensures { Tells (SignatureWritten (class_no class) text.old text.new length.new) (λ log. RefusesClassCall log (class_no class)) ((text.new ≡ text.old) × (length.new ≡ length.old)) env.old env.new result }
 {
-    let Some(held) = env.held_env() else {
-        return CQ_MISUSED;
-    };
-    let Some(agent) = &mut held.agent else {
-        return CQ_MISUSED;
-    };
+    let agent = behind!(env.held_env(), agent);
     tell_text(
         agent.get_class_signature(alloc, ClassNo(class)),
         text,
@@ -70,12 +61,7 @@ pub extern "C" fn cq_get_source_file_name(
 ) -> u32
     ensures { Tells (SourceFileWritten (class_no class) text.old text.new length.new) (λ log. RefusesSourceFile log (class_no class)) ((text.new ≡ text.old) × (length.new ≡ length.old)) env.old env.new result }
 {
-    let Some(held) = env.held_env() else {
-        return CQ_MISUSED;
-    };
-    let Some(agent) = &mut held.agent else {
-        return CQ_MISUSED;
-    };
+    let agent = behind!(env.held_env(), agent);
     tell_text(
         agent.get_source_file_name(alloc, ClassNo(class)),
         text,
@@ -94,12 +80,7 @@ pub extern "C" fn cq_get_class_methods(
 ) -> u32
     ensures { Tells (MethodsWritten (class_no class) methods.old methods.new count.new) (λ log. RefusesClassCall log (class_no class)) ((methods.new ≡ methods.old) × (count.new ≡ count.old)) env.old env.new result }
 {
-    let Some(held) = env.held_env() else {
-        return CQ_MISUSED;
-    };
-    let Some(agent) = &mut held.agent else {
-        return CQ_MISUSED;
-    };
+    let agent = behind!(env.held_env(), agent);
     match agent.get_class_methods(alloc, ClassNo(class)) {
         Ok(told) => {
             *count = told.len() as u64;
@@ -122,12 +103,7 @@ pub extern "C" fn cq_get_method_name(
 ) -> u32
     ensures { Tells (NameWritten (method_no method) info.new name.old name.new signature.old signature.new) (λ log. RefusesMethodCall log (method_no method)) ((info.new ≡ info.old) × (name.new ≡ name.old) × (signature.new ≡ signature.old)) env.old env.new result }
 {
-    let Some(held) = env.held_env() else {
-        return CQ_MISUSED;
-    };
-    let Some(agent) = &mut held.agent else {
-        return CQ_MISUSED;
-    };
+    let agent = behind!(env.held_env(), agent);
     match agent.get_method_name(alloc, MethodNo(method)) {
         Ok(told) => {
             write_name(&told, info, name, signature);
@@ -146,12 +122,7 @@ pub extern "C" fn cq_get_method_declaring_class(
 ) -> u32
     ensures { Tells (ClassWritten (method_no method) class.new) (λ log. RefusesMethod log (method_no method)) (class.new ≡ class.old) env.old env.new result }
 {
-    let Some(held) = env.held_env() else {
-        return CQ_MISUSED;
-    };
-    let Some(agent) = &mut held.agent else {
-        return CQ_MISUSED;
-    };
+    let agent = behind!(env.held_env(), agent);
     match agent.get_method_declaring_class(MethodNo(method)) {
         Ok(told) => {
             *class = told.0;
@@ -166,12 +137,7 @@ pub extern "C" fn cq_get_method_declaring_class(
 pub extern "C" fn cq_is_method_native(env: &mut CqEnv, method: u32, native: &mut bool) -> u32
     ensures { Tells (NativeWritten (method_no method) native.new) (λ log. RefusesMethod log (method_no method)) (native.new ≡ native.old) env.old env.new result }
 {
-    let Some(held) = env.held_env() else {
-        return CQ_MISUSED;
-    };
-    let Some(agent) = &mut held.agent else {
-        return CQ_MISUSED;
-    };
+    let agent = behind!(env.held_env(), agent);
     match agent.is_method_native(MethodNo(method)) {
         Ok(told) => {
             *native = told;
@@ -193,12 +159,7 @@ pub extern "C" fn cq_get_line_number_table(
 ) -> u32
     ensures { Tells (LinesWritten (method_no method) kind.new lines.old lines.new count.new) (λ log. RefusesLines log (method_no method)) ((kind.new ≡ kind.old) × (lines.new ≡ lines.old) × (count.new ≡ count.old)) env.old env.new result }
 {
-    let Some(held) = env.held_env() else {
-        return CQ_MISUSED;
-    };
-    let Some(agent) = &mut held.agent else {
-        return CQ_MISUSED;
-    };
+    let agent = behind!(env.held_env(), agent);
     match agent.get_line_number_table(alloc, MethodNo(method)) {
         Ok(told) => {
             write_lines(&told, kind, lines, count);

@@ -1,8 +1,9 @@
 //! Questions of a door for debuggers, and the runtime's answers.
 
 use crate::any_door::AnyDoor;
-use crate::codes::{CQ_MISUSED, CQ_NONE, CQ_OK, done_code};
+use crate::codes::{CQ_NONE, CQ_OK, done_code};
 use crate::handle::CqDoor;
+use crate::handle_lends::behind;
 use std::alloc::Global;
 use ti_debugger::{Content, Question, TellError, Told, Variable};
 use ti_jdwp::JdwpError;
@@ -152,12 +153,7 @@ fn tell_values(
 pub extern "C" fn cq_door_tells_variables(door: &mut CqDoor, tells: bool) -> u32
     ensures { CallsDoor (SaysTells tells) ⊤ door.old door.new result }
 {
-    let Some(held) = door.held_door() else {
-        return CQ_MISUSED;
-    };
-    let Some(door) = &mut held.door else {
-        return CQ_MISUSED;
-    };
+    let door = behind!(door.held_door(), door);
     door.tells_variables(tells);
     CQ_OK
 }
@@ -167,12 +163,7 @@ pub extern "C" fn cq_door_tells_variables(door: &mut CqDoor, tells: bool) -> u32
 pub extern "C" fn cq_door_starts_suspended(door: &mut CqDoor, suspended: bool) -> u32
     ensures { CallsDoor (SaysStarts suspended) ⊤ door.old door.new result }
 {
-    let Some(held) = door.held_door() else {
-        return CQ_MISUSED;
-    };
-    let Some(door) = &mut held.door else {
-        return CQ_MISUSED;
-    };
+    let door = behind!(door.held_door(), door);
     door.starts_suspended(suspended);
     CQ_OK
 }
@@ -182,12 +173,7 @@ pub extern "C" fn cq_door_starts_suspended(door: &mut CqDoor, suspended: bool) -
 pub extern "C" fn cq_door_pops_frames(door: &mut CqDoor, pops: bool) -> u32
     ensures { CallsDoor (SaysPops pops) ⊤ door.old door.new result }
 {
-    let Some(held) = door.held_door() else {
-        return CQ_MISUSED;
-    };
-    let Some(door) = &mut held.door else {
-        return CQ_MISUSED;
-    };
+    let door = behind!(door.held_door(), door);
     done_code(door.pops_frames(pops))
 }
 
@@ -196,12 +182,7 @@ pub extern "C" fn cq_door_pops_frames(door: &mut CqDoor, pops: bool) -> u32
 pub extern "C" fn cq_door_question(door: &mut CqDoor, question: &mut CqQuestion) -> u32
     ensures { CallsDoor (GivesQuestion question.new) (question.new ≡ question.old) door.old door.new result }
 {
-    let Some(held) = door.held_door() else {
-        return CQ_MISUSED;
-    };
-    let Some(door) = &mut held.door else {
-        return CQ_MISUSED;
-    };
+    let door = behind!(door.held_door(), door);
     *question = question_out(door.question());
     CQ_OK
 }
@@ -215,12 +196,7 @@ pub extern "C" fn cq_door_tell_variables(
 ) -> u32
     ensures { CallsDoor (Answers (TellsVariables variables.now names.now)) ⊤ door.old door.new result }
 {
-    let Some(held) = door.held_door() else {
-        return CQ_MISUSED;
-    };
-    let Some(door) = &mut held.door else {
-        return CQ_MISUSED;
-    };
+    let door = behind!(door.held_door(), door);
     told_code(door.tell_variables(variables, names))
 }
 
@@ -234,12 +210,7 @@ pub extern "C" fn cq_door_tell_values(
 ) -> u32
     ensures { CallsDoor (Answers (TellsValues values.now texts.now)) ⊤ door.old door.new result }
 {
-    let Some(held) = door.held_door() else {
-        return CQ_MISUSED;
-    };
-    let Some(door) = &mut held.door else {
-        return CQ_MISUSED;
-    };
+    let door = behind!(door.held_door(), door);
     told_code(tell_values(alloc, door, values, texts))
 }
 
@@ -248,12 +219,7 @@ pub extern "C" fn cq_door_tell_values(
 pub extern "C" fn cq_door_tell_none(door: &mut CqDoor, code: u32) -> u32
     ensures { CallsDoor (Answers (TellsNone (untold code))) ⊤ door.old door.new result }
 {
-    let Some(held) = door.held_door() else {
-        return CQ_MISUSED;
-    };
-    let Some(door) = &mut held.door else {
-        return CQ_MISUSED;
-    };
+    let door = behind!(door.held_door(), door);
     told_code(door.tell_none(untold(code)))
 }
 

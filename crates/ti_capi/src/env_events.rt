@@ -2,6 +2,7 @@
 
 use crate::codes::{CQ_MISUSED, CQ_NONE, CQ_OK, done_code};
 use crate::handle::CqEnv;
+use crate::handle_lends::behind;
 use crate::held::HeldEnv;
 use crate::values::{CqEvent, event_kind_in, event_out};
 use std::alloc::Global;
@@ -13,12 +14,7 @@ use ti_types::TiError;
 pub extern "C" fn cq_set_event_notification_mode(env: &mut CqEnv, enabled: bool, kind: u32) -> u32
     ensures { Calls (SetsModeBy enabled (event_kind_read kind)) ⊤ env.old env.new result }
 {
-    let Some(held) = env.held_env() else {
-        return CQ_MISUSED;
-    };
-    let Some(agent) = &mut held.agent else {
-        return CQ_MISUSED;
-    };
+    let agent = behind!(env.held_env(), agent);
     let Some(kind) = event_kind_in(kind) else {
         return TiError::IllegalArgument.number();
     };
@@ -30,12 +26,7 @@ pub extern "C" fn cq_set_event_notification_mode(env: &mut CqEnv, enabled: bool,
 pub extern "C" fn cq_next_event(env: &mut CqEnv, event: &mut CqEvent) -> u32
     ensures { Calls (TellsEventBy event.old event.new) (event.new ≡ event.old) env.old env.new result }
 {
-    let Some(held) = env.held_env() else {
-        return CQ_MISUSED;
-    };
-    let Some(agent) = &mut held.agent else {
-        return CQ_MISUSED;
-    };
+    let agent = behind!(env.held_env(), agent);
     match agent.next_event_now() {
         Ok(Some(next)) => {
             *event = event_out(next);

@@ -1,7 +1,8 @@
 //! Calls of an environment at a thread.
 
-use crate::codes::{CQ_MISUSED, CQ_WAITING};
+use crate::codes::CQ_WAITING;
 use crate::handle::CqEnv;
+use crate::handle_lends::behind;
 use crate::values::{CqAnswer, CqFrame, ticket_out};
 use crate::writes::write_answer;
 use std::alloc::Global;
@@ -22,12 +23,7 @@ fn post(
 ) -> u32
     ensures { Asks (thread_no thread) call env.old env.new result answer.old answer.new frames.old frames.new }
 {
-    let Some(held) = env.held_env() else {
-        return CQ_MISUSED;
-    };
-    let Some(agent) = &mut held.agent else {
-        return CQ_MISUSED;
-    };
+    let agent = behind!(env.held_env(), agent);
     match agent.post_now(alloc, ThreadNo(thread), call) {
         Ok(Asked::Answered(told)) => write_answer(told, answer, frames),
         Ok(Asked::Waiting(ticket)) => {

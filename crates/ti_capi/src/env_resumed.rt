@@ -1,7 +1,8 @@
 //! A call of an environment that takes its suspensions of a thread back.
 
-use crate::codes::{CQ_MISUSED, CQ_OK, CQ_WAITING};
+use crate::codes::{CQ_OK, CQ_WAITING};
 use crate::handle::CqEnv;
+use crate::handle_lends::behind;
 use std::alloc::Global;
 use ti_types::ThreadNo;
 
@@ -11,12 +12,7 @@ use ti_types::ThreadNo;
 pub extern "C" fn cq_ensure_resumed(alloc: Global, env: &mut CqEnv, thread: u32) -> u32
     ensures { Calls (ResumesBy (thread_no thread)) ⊤ env.old env.new result }
 {
-    let Some(held) = env.held_env() else {
-        return CQ_MISUSED;
-    };
-    let Some(agent) = &mut held.agent else {
-        return CQ_MISUSED;
-    };
+    let agent = behind!(env.held_env(), agent);
     match agent.ensure_resumed_now(alloc, ThreadNo(thread)) {
         Ok(true) => CQ_OK,
         Ok(false) => CQ_WAITING,

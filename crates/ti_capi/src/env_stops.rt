@@ -2,6 +2,7 @@
 
 use crate::codes::{CQ_MISUSED, CQ_NONE, CQ_OK};
 use crate::handle::CqEnv;
+use crate::handle_lends::behind;
 use crate::values::{CqStop, stop_kind_in, stop_out, stop_thread_in};
 use std::alloc::Global;
 use ti_service::{StopCall, StopCalls, StopError, StopKind, StopReply};
@@ -27,12 +28,7 @@ pub extern "C" fn cq_set_breakpoint(
 ) -> u32
     ensures { Calls (BreaksBy (method_no method) location (call.SetBreakpoint (place_of (method_no method) location))) ⊤ env.old env.new result }
 {
-    let Some(held) = env.held_env() else {
-        return CQ_MISUSED;
-    };
-    let Some(agent) = &mut held.agent else {
-        return CQ_MISUSED;
-    };
+    let agent = behind!(env.held_env(), agent);
     code_of(agent.set_breakpoint_now(alloc, MethodNo(method), location))
 }
 
@@ -46,12 +42,7 @@ pub extern "C" fn cq_clear_breakpoint(
 ) -> u32
     ensures { Calls (BreaksBy (method_no method) location (call.ClearBreakpoint (place_of (method_no method) location))) ⊤ env.old env.new result }
 {
-    let Some(held) = env.held_env() else {
-        return CQ_MISUSED;
-    };
-    let Some(agent) = &mut held.agent else {
-        return CQ_MISUSED;
-    };
+    let agent = behind!(env.held_env(), agent);
     code_of(agent.clear_breakpoint_now(alloc, MethodNo(method), location))
 }
 
@@ -59,12 +50,7 @@ pub extern "C" fn cq_clear_breakpoint(
 fn ask(env: &mut CqEnv, call: StopCall) -> u32
     ensures { Calls (StopsBy call) ⊤ env.old env.new result }
 {
-    let Some(held) = env.held_env() else {
-        return CQ_MISUSED;
-    };
-    let Some(agent) = &mut held.agent else {
-        return CQ_MISUSED;
-    };
+    let agent = behind!(env.held_env(), agent);
     match agent.stop_now(call) {
         Ok(_) => CQ_OK,
         Err(error) => error.number(),
@@ -132,12 +118,7 @@ pub extern "C" fn cq_end_stop(env: &mut CqEnv, thread: u32) -> u32
 pub extern "C" fn cq_next_stop(env: &mut CqEnv, stop: &mut CqStop) -> u32
     ensures { Calls (NextStopBy stop.old stop.new) (stop.new ≡ stop.old) env.old env.new result }
 {
-    let Some(held) = env.held_env() else {
-        return CQ_MISUSED;
-    };
-    let Some(agent) = &mut held.agent else {
-        return CQ_MISUSED;
-    };
+    let agent = behind!(env.held_env(), agent);
     match agent.stop_now(StopCall::Next) {
         Ok(StopReply::Told(Some(told))) => {
             *stop = stop_out(told);

@@ -1,19 +1,15 @@
 //! How many frames a thread has, and how many of them were popped.
 
-use crate::codes::{CQ_MISUSED, CQ_OK};
+use crate::codes::CQ_OK;
 use crate::handle::CqThread;
+use crate::handle_lends::behind;
 
 /// How many frames the thread has.
 #[unsafe(no_mangle)]
 pub extern "C" fn cq_frame_count(thread: &mut CqThread, count: &mut u64) -> u32
     ensures { CountBehind (thread_in thread.old) thread.old thread.new count.old count.new result }
 {
-    let Some(held) = thread.held_thread() else {
-        return CQ_MISUSED;
-    };
-    let Some(thread) = &mut held.thread else {
-        return CQ_MISUSED;
-    };
+    let thread = behind!(thread.held_thread(), thread);
     match thread.frame_count() {
         Ok(frames) => {
             *count = frames as u64;
@@ -28,12 +24,7 @@ pub extern "C" fn cq_frame_count(thread: &mut CqThread, count: &mut u64) -> u32
 pub extern "C" fn cq_take_pops(thread: &mut CqThread, count: &mut u64) -> u32
     ensures { NotesBehind (thread_in thread.old) (thread_in thread.new) thread.old thread.new count.old count.new result }
 {
-    let Some(held) = thread.held_thread() else {
-        return CQ_MISUSED;
-    };
-    let Some(thread) = &mut held.thread else {
-        return CQ_MISUSED;
-    };
+    let thread = behind!(thread.held_thread(), thread);
     *count = thread.take_pops() as u64;
     CQ_OK
 }

@@ -1,7 +1,8 @@
 //! Steps of a thread, and its looks.
 
-use crate::codes::{CQ_MISUSED, CQ_OK, told_code};
+use crate::codes::{CQ_OK, told_code};
 use crate::handle::CqThread;
+use crate::handle_lends::behind;
 use ti_types::{MethodNo, Step};
 
 /// The number of the thread.
@@ -9,13 +10,8 @@ use ti_types::{MethodNo, Step};
 pub extern "C" fn cq_thread_number(thread: &mut CqThread, number: &mut u32) -> u32
     ensures { NumberBehind (thread_in thread.old) thread.old thread.new number.old number.new result }
 {
-    let Some(held) = thread.held_thread() else {
-        return CQ_MISUSED;
-    };
-    let Some(host) = &mut held.thread else {
-        return CQ_MISUSED;
-    };
-    *number = host.thread.thread().0;
+    let thread = behind!(thread.held_thread(), thread);
+    *number = thread.thread.thread().0;
     CQ_OK
 }
 
@@ -24,12 +20,7 @@ pub extern "C" fn cq_thread_number(thread: &mut CqThread, number: &mut u32) -> u
 fn step(thread: &mut CqThread, step: Step) -> u32
     ensures { Changes (Keeps (Steps step)) thread.old thread.new result }
 {
-    let Some(held) = thread.held_thread() else {
-        return CQ_MISUSED;
-    };
-    let Some(thread) = &mut held.thread else {
-        return CQ_MISUSED;
-    };
+    let thread = behind!(thread.held_thread(), thread);
     told_code(thread.step(step))
 }
 

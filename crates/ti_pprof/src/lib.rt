@@ -26,6 +26,3 @@ pub use names::{About, Function, Names, Unit};
 pub use profile::encode;
 pub use stacks::{Frame, Node, Trie};
 pub use table::{Row, Table};
-
-#[cfg(test)]
-mod tests;
