@@ -1,3 +1,4 @@
 pub mod Lowering
 pub mod Cutting
 pub mod Pieces
+pub mod Keys

@@ -1,6 +1,7 @@
 //! The list.
 
 use crate::chunks::{MOST, chunk_of, lower, push_behind, tidy};
+use crate::keyed::{Keyed, chunks_below, is_empty_at, place_in};
 use std::alloc::Global;
 use std::marker::Model;
 use std::ops::{Index, IndexMut};
@@ -143,6 +144,47 @@ impl<T: Drop> Chunked<T> {
     }
 }
 
+impl<T: Keyed> Chunked<T> {
+    /// An index at which an element with this key may go: the element before it has a key below this one, and the element at
+    /// it has none. If the elements are in the order of their keys, it is how many keys are below this one.
+    ///
+    /// It is one binary search: over the first elements of the chunks, and then within one chunk.
+    pub fn partition_point(&self, key: u32) -> usize
+        ensures within { result ≤ length self.now }
+        ensures below { (i : ℕ) (x : T) → i + 1 ≡ result → slice_get self.now i ≡ Some x → T.key x < key }
+        ensures from { (x : T) → slice_get self.now result ≡ Some x → key ≤ T.key x }
+    {
+        let count = chunks_below(&self.chunks, key);
+        if is_empty_at(&self.chunks, count) {
+            return self.index_of(key);
+        }
+        if count == 0 {
+            return place_in(&self.front, key);
+        }
+        self.starts[count - 1] + place_in(&self.chunks[count - 1], key)
+    }
+
+    /// The same index by index. A chunk has nothing in it only where it is the one behind the first, or where there was no
+    /// memory to join it with another.
+    fn index_of(&self, key: u32) -> usize
+        ensures within { result ≤ length self.now }
+        ensures below { (i : ℕ) (x : T) → i + 1 ≡ result → slice_get self.now i ≡ Some x → T.key x < key }
+        ensures from { (x : T) → slice_get self.now result ≡ Some x → key ≤ T.key x }
+    {
+        let mut low = 0;
+        let mut high = self.len;
+        while low < high {
+            let middle = low + (high - low) / 2;
+            if self[middle].key() < key {
+                low = middle + 1;
+            } else {
+                high = middle;
+            }
+        }
+        low
+    }
+}
+
 impl<T> Index<usize> for Chunked<T> {
     type Output = T;
 
@@ -183,5 +225,5 @@ impl<T> IndexMut<usize> for Chunked<T> {
     }
 }
 
-ghost use Rattle.std.specs.Prelude.{◌≡◌, ◌<◌, ◌≤◌, ◌++◌, ◌∷◌, [], length, remove, slice_index_or, IfErr, OnOk, OnErr};
+ghost use Rattle.std.specs.Prelude.{◌≡◌, ℕ, ◌+◌, ◌<◌, ◌≤◌, ◌++◌, ◌∷◌, [], length, remove, slice_get, slice_index_or, Some, IfErr, OnOk, OnErr};
 ghost use Rattle.std.specs.Borrow.{sem};

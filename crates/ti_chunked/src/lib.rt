@@ -6,7 +6,9 @@
 
 mod chunked;
 mod chunks;
+mod keyed;
 #[cfg(test)]
 mod tests;
 
 pub use chunked::Chunked;
+pub use keyed::Keyed;

@@ -1,0 +1,93 @@
+//! What has a key, and binary searches over the keys of a chunk and of chunks.
+
+/// What has a key, which is a number.
+///
+/// # Examples
+///
+/// ```rattle
+/// use ti_chunked::{Chunked, Keyed};
+///
+/// #[derive(Drop)]
+/// struct Seat {
+///     number: u32,
+/// }
+///
+/// impl Keyed for Seat {
+///     ghost key = { λ s. s.number };
+///
+///     fn key(&self) -> u32 {
+///         self.number
+///     }
+/// }
+///
+/// let mut seats = Chunked::new(rt.alloc());
+/// for half in 0..1000 {
+///     assert!(rt; seats.push(Seat { number: 2 * half }).is_ok());
+/// }
+/// assert!(rt; seats.partition_point(301) == 151);
+/// ```
+pub trait Keyed {
+    /// The key.
+    ghost key: { Self → ℕ };
+
+    /// The key.
+    fn key(&self) -> u32
+        ensures { result ≡ key self.now };
+}
+
+/// An index of a chunk: the element before it has a key below this one, and the element at it has none. It is a binary search.
+pub(crate) fn place_in<T: Keyed>(chunk: &Vec<T>, key: u32) -> usize
+    ensures within { result ≤ length chunk.now.items }
+    ensures below { (i : ℕ) (x : T) → i + 1 ≡ result → slice_get chunk.now.items i ≡ Some x → T.key x < key }
+    ensures from { (x : T) → slice_get chunk.now.items result ≡ Some x → key ≤ T.key x }
+{
+    let mut low = 0;
+    let mut high = chunk.len();
+    while low < high {
+        let middle = low + (high - low) / 2;
+        if chunk[middle].key() < key {
+            low = middle + 1;
+        } else {
+            high = middle;
+        }
+    }
+    low
+}
+
+/// Whether there is a first element, and its key is below this one.
+fn begins_below<T: Keyed>(chunk: &Vec<T>, key: u32) -> bool
+    ensures yes { result ≡ true → 0 < length chunk.now.items }
+    ensures below { result ≡ true → (x : T) → slice_get chunk.now.items 0 ≡ Some x → T.key x < key }
+    ensures from { result ≡ false → (x : T) → slice_get chunk.now.items 0 ≡ Some x → key ≤ T.key x }
+{
+    !chunk.is_empty() && chunk[0].key() < key
+}
+
+/// An index of chunks: the chunk before it begins with a key below this one, and the chunk at it does not. It is a binary search.
+pub(crate) fn chunks_below<T: Keyed>(chunks: &Vec<Vec<T>>, key: u32) -> usize
+    ensures within { result ≤ length chunks.now.items }
+    ensures some { (i : ℕ) (c : _) → i + 1 ≡ result → slice_get chunks.now.items i ≡ Some c → 0 < length c.items }
+    ensures below { (i : ℕ) (c : _) (x : T) → i + 1 ≡ result → slice_get chunks.now.items i ≡ Some c → slice_get c.items 0 ≡ Some x → T.key x < key }
+    ensures from { (c : _) (x : T) → slice_get chunks.now.items result ≡ Some c → slice_get c.items 0 ≡ Some x → key ≤ T.key x }
+{
+    let mut low = 0;
+    let mut high = chunks.len();
+    while low < high {
+        let middle = low + (high - low) / 2;
+        if begins_below(&chunks[middle], key) {
+            low = middle + 1;
+        } else {
+            high = middle;
+        }
+    }
+    low
+}
+
+/// Whether there is a chunk at this index, and it has nothing in it.
+pub(crate) fn is_empty_at<T>(chunks: &Vec<Vec<T>>, index: usize) -> bool
+    ensures { result ≡ false → (c : _) → slice_get chunks.now.items index ≡ Some c → 0 < length c.items }
+{
+    index < chunks.len() && chunks[index].is_empty()
+}
+
+ghost use Rattle.std.specs.Prelude.{◌≡◌, ℕ, ◌+◌, ◌<◌, ◌≤◌, true, false, length, slice_get, Some};
