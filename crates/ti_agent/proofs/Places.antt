@@ -1,5 +1,5 @@
 -- The places of threads among the desks of an environment.
-use Rattle.std.proofs.Common.{◌≡◌, ◌≢◌, ℕ, zero, suc, ◌<◌, ◌≤◌, ◌==◌, nat_le, nat_lt, Bool, true, false, if◌then◌else◌, inl, inr, List, [], ◌∷◌, ◌++◌, length, map, remove, refl, ap, sym, ◌∙◌, arith, subst, Some, None, eq-eqb, ne_eqb, length-set}
+use Rattle.std.proofs.Common.{◌≡◌, ◌≢◌, ℕ, zero, suc, ◌+◌, ◌-◌, ◌<◌, ◌≤◌, ◌==◌, nat_le, nat_lt, Bool, true, false, if◌then◌else◌, inl, inr, List, [], ◌∷◌, ◌++◌, length, map, remove, refl, ap, sym, ◌∙◌, arith, subst, Some, None, eq-eqb, ne_eqb, length-set}
 use Rattle.std.specs.Prelude.{slice_get, slice_index, slice_index_or, slice_set}
 use Rattle.std.specs.List.{list_all}
 use Rattle.std.proofs.lemmas.Bool.{cases_eq, cases_lt, cases_Bool, ltb-true, and_parts}
@@ -75,6 +75,37 @@ place_here l t i order h e = place_hit l t i h (λ j k same. alone j k same) e
     alone j k same =
         let less = order j i k h in
         omega (arith, less, same, e)
+
+-- a desk at each place
+there : (l : List DeskState) (i : ℕ) → i < length l → (p : DeskState) × (slice_get l i ≡ Some p)
+there [] i h = absurd (omega (arith, h))
+there (x ∷ l) zero h = (x, refl)
+there (x ∷ l) (suc i) h = there l i (omega (arith, h))
+
+-- in order of the numbers, none is a thread's if the one that a search found is not
+pub place_missed : (l : List DeskState) (t : ThreadNo) (i : ℕ) → AreInOrder l → i ≤ length l → ((j : ℕ) (p : DeskState) → j + 1 ≡ i → slice_get l j ≡ Some p → p.view.subject.thread.0 < t.0)
+    → ((p : DeskState) → slice_get l i ≡ Some p → t.0 ≤ p.view.subject.thread.0) → (i < length l → (thread_at l i).0 ≢ t.0) → place_in l t ≡ length l
+place_missed l t i order within below from other = place_none l t (λ j k. elim (cases_lt j i) [ inl before ↦ low j before k | inr behind ↦ high j behind k ])
+  where
+    low : (j : ℕ) → j < i → j < length l → (thread_at l j).0 ≢ t.0
+    low j before k e =
+        let p = there l (i - 1) (omega (arith, before, within)) in
+        let last = below (i - 1) p.0 (omega (arith, before)) p.1 in
+        let number = ap (λ (x : ThreadNo). x.0) (thread_is l (i - 1) p.0 p.1) in
+        elim (cases_eq j (i - 1)) [
+          | inl same ↦ (let z = ap (λ (m : ℕ). (thread_at l m).0) same in omega (arith, z, e, number, last))
+          | inr less ↦ (let z = order j (i - 1) (omega (arith, before, less)) (omega (arith, before, within)) in omega (arith, z, e, number, last))
+        ]
+
+    high : (j : ℕ) → i ≤ j → j < length l → (thread_at l j).0 ≢ t.0
+    high j behind k e =
+        let p = there l i (omega (arith, behind, k)) in
+        let first = from p.0 p.1 in
+        let number = ap (λ (x : ThreadNo). x.0) (thread_is l i p.0 p.1) in
+        elim (cases_eq j i) [
+          | inl same ↦ other (omega (arith, behind, k)) (sym (ap (λ (m : ℕ). (thread_at l m).0) same) ∙ e)
+          | inr more ↦ (let z = order i j (omega (arith, behind, more)) k in omega (arith, z, e, number, first))
+        ]
 
 pub place_back : (l : List DeskState) (t : ThreadNo) → place_in l t < length l → thread_at l (place_in l t) ≡ t
 place_back [] t h = absurd (omega (arith, h))

@@ -7,7 +7,7 @@ use crate::posts::buffer_for;
 use std::alloc::Global;
 use std::marker::Model;
 use std::sync::Wait;
-use ti_chunked::Chunked;
+use ti_chunked::{Chunked, KeyOf};
 use ti_env::EnvState;
 use ti_handshake::Desk;
 use ti_types::{Answer, Call, Caps, EnvNo, Frame, ThreadNo, TiError, TraceBuf};
@@ -79,6 +79,17 @@ impl<H: Home> Model for Env<H> {
     ghost invariant = { λ a. IsWhole (record { env = a.env; state = a.state; desks = a.desks }) × IsAtHome H.about H.holds a.home (record { env = a.env; state = a.state; desks = a.desks }) };
 }
 
+/// The number of a desk's thread, as a key of desks.
+struct ThreadKey;
+
+impl KeyOf<Desk> for ThreadKey {
+    ghost key = { λ d. d.view.subject.thread.0 };
+
+    fn key(desk: &Desk) -> u32 {
+        desk.thread().0
+    }
+}
+
 impl Env {
     /// Makes an environment that belongs to nothing, of these desks, which are in the order of their threads' numbers. All
     /// desks are under the limits of the state, and none has made a call. The state has as many places as there are desks.
@@ -125,24 +136,24 @@ impl<H: Home> Env<H> {
         ensures { result ≡ place_of self.now.env.desks thread }
     {
         let count = self.state.threads();
-        if thread.0 < count && self.desks[thread.0 as usize].thread().0 == thread.0 {
+        if self.is_at(thread.0, thread) {
             return thread;
         }
-        let mut low = 0;
-        let mut high = count;
-        while low < high {
-            let middle = low + (high - low) / 2;
-            let number = self.desks[middle as usize].thread().0;
-            if number == thread.0 {
-                return ThreadNo(middle);
-            }
-            if number < thread.0 {
-                low = middle + 1;
-            } else {
-                high = middle;
-            }
+        let place = self.desks.partition_point::<ThreadKey>(thread.0) as u32;
+        if self.is_at(place, thread) {
+            return ThreadNo(place);
         }
         ThreadNo(count)
+    }
+
+    /// Whether there is a desk at a place, and it is at this thread.
+    #[inline(always)]
+    fn is_at(&self, place: u32, thread: ThreadNo) -> bool
+        ensures there { result ≡ true → place < length self.now.env.desks }
+        ensures at { result ≡ true → (thread_at self.now.env.desks place).0 ≡ thread.0 }
+        ensures other { result ≡ false → place < length self.now.env.desks → (thread_at self.now.env.desks place).0 ≢ thread.0 }
+    {
+        place < self.state.threads() && self.desks[place as usize].thread().0 == thread.0
     }
 
     /// What is told of a number that has no desk: 15 in place of 10, if there was a thread of this number once. Any other
@@ -441,7 +452,7 @@ impl<H: Home> Env<H> {
     }
 }
 
-ghost use Rattle.std.specs.Prelude.{◌≡◌, ◌↔◌, ◌<◌, ◌&&◌, nat_lt, length, true, false, None, Some, Ok, IfOk, IfErr, OnOk, OnErr, IsOk};
+ghost use Rattle.std.specs.Prelude.{◌≡◌, ◌≢◌, ◌↔◌, ◌<◌, ◌&&◌, nat_lt, length, true, false, None, Some, Ok, IfOk, IfErr, OnOk, OnErr, IsOk};
 ghost use Rattle.ti_types.specs.Answer.{said};
 ghost use Rattle.ti_types.specs.Caps.{caps_with, caps_without, can_be_had, has_all};
 ghost use Rattle.ti_types.specs.declared.call.Call.TheVariants as call;
@@ -449,5 +460,5 @@ ghost use Rattle.ti_types.specs.declared.error.TiError.TheVariants.{NotAvailable
 ghost use Rattle.ti_env.specs.Env.{with_caps, with_word};
 ghost use Rattle.ti_replay.specs.Admission.{takes_buffer};
 ghost use Rattle.ti_agent.specs.Buffers.{IsJustBufferOf};
-ghost use Rattle.ti_agent.specs.Env.{Environment, AreNewDesks, place_in, place_of, thread_refusal, map_error};
+ghost use Rattle.ti_agent.specs.Env.{Environment, AreNewDesks, place_in, place_of, thread_at, thread_refusal, map_error};
 ghost use Rattle.ti_agent.specs.Asks.{Went, IsCalled, IsKind, is_for_memory, in_state, in_count, in_word, in_location, in_trace, in_done};

@@ -1,7 +1,7 @@
 //! The list.
 
 use crate::chunks::{MOST, chunk_of, lower, push_behind, tidy};
-use crate::keyed::{Keyed, chunks_below, is_empty_at, place_in};
+use crate::key_of::{KeyOf, chunks_below, is_empty_at, place_in};
 use std::alloc::Global;
 use std::marker::Model;
 use std::ops::{Index, IndexMut};
@@ -144,38 +144,38 @@ impl<T: Drop> Chunked<T> {
     }
 }
 
-impl<T: Keyed> Chunked<T> {
-    /// An index at which an element with this key may go: the element before it has a key below this one, and the element at
-    /// it has none. If the elements are in the order of their keys, it is how many keys are below this one.
+impl<T> Chunked<T> {
+    /// An index at which an element with this key may go: the key of the element before it is below this one, and that of the
+    /// element at it is not. If the elements are in the order of their keys, it is how many of them are below this one.
     ///
     /// It is one binary search: over the first elements of the chunks, and then within one chunk.
-    pub fn partition_point(&self, key: u32) -> usize
+    pub fn partition_point<K: KeyOf<T>>(&self, key: u32) -> usize
         ensures within { result ≤ length self.now }
-        ensures below { (i : ℕ) (x : T) → i + 1 ≡ result → slice_get self.now i ≡ Some x → T.key x < key }
-        ensures from { (x : T) → slice_get self.now result ≡ Some x → key ≤ T.key x }
+        ensures below { (i : ℕ) (x : T) → i + 1 ≡ result → slice_get self.now i ≡ Some x → K.key x < key }
+        ensures from { (x : T) → slice_get self.now result ≡ Some x → key ≤ K.key x }
     {
-        let count = chunks_below(&self.chunks, key);
+        let count = chunks_below::<T, K>(&self.chunks, key);
         if is_empty_at(&self.chunks, count) {
-            return self.index_of(key);
+            return self.index_of::<K>(key);
         }
         if count == 0 {
-            return place_in(&self.front, key);
+            return place_in::<T, K>(&self.front, key);
         }
-        self.starts[count - 1] + place_in(&self.chunks[count - 1], key)
+        self.starts[count - 1] + place_in::<T, K>(&self.chunks[count - 1], key)
     }
 
-    /// The same index by index. A chunk has nothing in it only where it is the one behind the first, or where there was no
-    /// memory to join it with another.
-    fn index_of(&self, key: u32) -> usize
+    /// The same as `partition_point`, by a binary search over all indexes. It is for a list with an empty chunk, which there is
+    /// if that is the only one behind the first, or if there was no memory to join it with another.
+    fn index_of<K: KeyOf<T>>(&self, key: u32) -> usize
         ensures within { result ≤ length self.now }
-        ensures below { (i : ℕ) (x : T) → i + 1 ≡ result → slice_get self.now i ≡ Some x → T.key x < key }
-        ensures from { (x : T) → slice_get self.now result ≡ Some x → key ≤ T.key x }
+        ensures below { (i : ℕ) (x : T) → i + 1 ≡ result → slice_get self.now i ≡ Some x → K.key x < key }
+        ensures from { (x : T) → slice_get self.now result ≡ Some x → key ≤ K.key x }
     {
         let mut low = 0;
         let mut high = self.len;
         while low < high {
             let middle = low + (high - low) / 2;
-            if self[middle].key() < key {
+            if K::key(&self[middle]) < key {
                 low = middle + 1;
             } else {
                 high = middle;

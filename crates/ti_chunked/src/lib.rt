@@ -6,9 +6,9 @@
 
 mod chunked;
 mod chunks;
-mod keyed;
+mod key_of;
 #[cfg(test)]
 mod tests;
 
 pub use chunked::Chunked;
-pub use keyed::Keyed;
+pub use key_of::KeyOf;

@@ -13,7 +13,7 @@ returns-then-count-eq0-clause-from g c x e =
     let f = λ (v : Vec g.row.T.Denot Global). v.items in
     let cs = c.self.inside.chunks.items in
     let none = ap (slice_get cs) c.if-count-eq0.true in
-    first_from f g.T.Keyed.key c.args.key c.self.inside.front.items cs c.place_in.result c.place_in.ensures.within c.place_in.ensures.from (λ v at. c.is_empty_at.ensures c.if-is_empty_at.false v (none ∙ at)) (λ v y at there. c.chunks_below-count.ensures.from v y (none ∙ at) there) x (ap (λ (l : List g.row.T.Denot). slice_get l c.place_in.result) c.self.view_is ∙ e)
+    first_from f g.K.KeyOf.key c.args.key c.self.inside.front.items cs c.place_in.result c.place_in.ensures.within c.place_in.ensures.from (λ v at. c.is_empty_at.ensures c.if-is_empty_at.false v (none ∙ at)) (λ v y at there. c.chunks_below-count.ensures.from v y (none ∙ at) there) x (ap (λ (l : List g.row.T.Denot). slice_get l c.place_in.result) c.self.view_is ∙ e)
 
 pub index-requires : goal.index-requires
 index-requires g c =
@@ -32,7 +32,7 @@ there g c =
     omega (arith, counts, c.chunks_below-count.ensures.within, c.if-count-eq0.false)
 
 within : (g : Over) (c : After-place_in-2 g) → c.index.result.now + c.place_in-2.result ≤ length (c.self.inside.front.items ++ joined (map (λ (v : Vec g.row.T.Denot Global). v.items) c.self.inside.chunks.items))
-within g c = other_within (λ (v : Vec g.row.T.Denot Global). v.items) g.T.Keyed.key c.args.key c.self.inside.front.items c.self.inside.chunks.items c.self.inside.starts.items (c.chunks_below-count.result - 1) c.place_in-2.result c.index.result.now c.index-2.result.now c.self.invariant.0 (found g c) (there g c) c.place_in-2.ensures.within c.index.ensures
+within g c = other_within (λ (v : Vec g.row.T.Denot Global). v.items) g.K.KeyOf.key c.args.key c.self.inside.front.items c.self.inside.chunks.items c.self.inside.starts.items (c.chunks_below-count.result - 1) c.place_in-2.result c.index.result.now c.index-2.result.now c.self.invariant.0 (found g c) (there g c) c.place_in-2.ensures.within c.index.ensures
 
 pub overflow_add-result : goal.overflow_add-result
 overflow_add-result g c =
@@ -47,12 +47,12 @@ pub returns-clause-below : goal.returns-clause-below
 returns-clause-below g c i x next e =
     let at = found g (goal.at.returns-clause-below g c).After-place_in-2 in
     let one : c.chunks_below-count.result - 1 + 1 ≡ c.chunks_below-count.result = omega (arith, c.if-count-eq0.false) in
-    let some = some_way (λ (v : Vec g.row.T.Denot Global). v.items) g.T.Keyed.key c.args.key c.index-2.result.now.items c.place_in-2.result (c.chunks_below-count.ensures.some (c.chunks_below-count.result - 1) c.index-2.result.now one at) (λ y here. c.chunks_below-count.ensures.below (c.chunks_below-count.result - 1) c.index-2.result.now y one at here) c.place_in-2.ensures.from in
-    other_below (λ (v : Vec g.row.T.Denot Global). v.items) g.T.Keyed.key c.args.key c.self.inside.front.items c.self.inside.chunks.items c.self.inside.starts.items (c.chunks_below-count.result - 1) c.place_in-2.result c.index.result.now c.index-2.result.now c.self.invariant.0 at (there g (goal.at.returns-clause-below g c).After-place_in-2) c.place_in-2.ensures.within c.index.ensures some c.place_in-2.ensures.below i x next (ap (λ (l : List g.row.T.Denot). slice_get l i) c.self.view_is ∙ e)
+    let some = some_way (λ (v : Vec g.row.T.Denot Global). v.items) g.K.KeyOf.key c.args.key c.index-2.result.now.items c.place_in-2.result (c.chunks_below-count.ensures.some (c.chunks_below-count.result - 1) c.index-2.result.now one at) (λ y here. c.chunks_below-count.ensures.below (c.chunks_below-count.result - 1) c.index-2.result.now y one at here) c.place_in-2.ensures.from in
+    other_below (λ (v : Vec g.row.T.Denot Global). v.items) g.K.KeyOf.key c.args.key c.self.inside.front.items c.self.inside.chunks.items c.self.inside.starts.items (c.chunks_below-count.result - 1) c.place_in-2.result c.index.result.now c.index-2.result.now c.self.invariant.0 at (there g (goal.at.returns-clause-below g c).After-place_in-2) c.place_in-2.ensures.within c.index.ensures some c.place_in-2.ensures.below i x next (ap (λ (l : List g.row.T.Denot). slice_get l i) c.self.view_is ∙ e)
 
 pub returns-clause-from : goal.returns-clause-from
 returns-clause-from g c x e =
     let at = found g (goal.at.returns-clause-from g c).After-place_in-2 in
     let next : c.chunks_below-count.result ≡ suc (c.chunks_below-count.result - 1) = omega (arith, c.if-count-eq0.false) in
     let behind = ap (slice_get c.self.inside.chunks.items) next in
-    other_from (λ (v : Vec g.row.T.Denot Global). v.items) g.T.Keyed.key c.args.key c.self.inside.front.items c.self.inside.chunks.items c.self.inside.starts.items (c.chunks_below-count.result - 1) c.place_in-2.result c.index.result.now c.index-2.result.now c.self.invariant.0 at (there g (goal.at.returns-clause-from g c).After-place_in-2) c.place_in-2.ensures.within c.index.ensures c.place_in-2.ensures.from (λ v here. c.is_empty_at.ensures c.if-is_empty_at.false v (behind ∙ here)) (λ v y here there'. c.chunks_below-count.ensures.from v y (behind ∙ here) there') x (ap (λ (l : List g.row.T.Denot). slice_get l (c.index.result.now + c.place_in-2.result)) c.self.view_is ∙ e)
+    other_from (λ (v : Vec g.row.T.Denot Global). v.items) g.K.KeyOf.key c.args.key c.self.inside.front.items c.self.inside.chunks.items c.self.inside.starts.items (c.chunks_below-count.result - 1) c.place_in-2.result c.index.result.now c.index-2.result.now c.self.invariant.0 at (there g (goal.at.returns-clause-from g c).After-place_in-2) c.place_in-2.ensures.within c.index.ensures c.place_in-2.ensures.from (λ v here. c.is_empty_at.ensures c.if-is_empty_at.false v (behind ∙ here)) (λ v y here there'. c.chunks_below-count.ensures.from v y (behind ∙ here) there') x (ap (λ (l : List g.row.T.Denot). slice_get l (c.index.result.now + c.place_in-2.result)) c.self.view_is ∙ e)
