@@ -7,8 +7,6 @@
 mod chunked;
 mod chunks;
 mod key_of;
-#[cfg(test)]
-mod tests;
 
 pub use chunked::Chunked;
 pub use key_of::KeyOf;
