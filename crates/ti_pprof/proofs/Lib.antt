@@ -5,5 +5,4 @@ pub mod RowLaws
 pub mod SampleLaws
 pub mod PlaceLaws
 pub mod FrameLaws
-pub mod StringLaws
 pub mod LabelLaws

@@ -63,7 +63,24 @@ fn add_functions<'t>(texts: &mut Texts<'t>, functions: &'t [Function]) -> Result
     Ok(())
 }
 
-/// The texts of a profile, each once, in the order of their first use. The error is lack of memory.
+/// Adds the texts of a profile, in the order of their first use. The error is lack of memory.
+fn add_texts<'t>(
+    texts: &mut Texts<'t>,
+    about: &'t About,
+    names: &'t Names,
+) -> Result<(), AllocError>
+    ensures { OnOk result (strings_in texts.new ≡ fold with_string (strings_in texts.old) (texts_of about.now names.now)) }
+{
+    add_words(texts, about.unit)?;
+    texts.add(about.program.as_str())?;
+    add_functions(texts, &names.functions)?;
+    add_list(texts, &names.threads)?;
+    add_list(texts, &names.states)?;
+    add_list(texts, &about.comments)?;
+    Ok(())
+}
+
+/// The texts of a profile, each once. The error is lack of memory.
 pub(crate) fn texts_of<'t>(
     alloc: Global,
     about: &'t About,
@@ -72,12 +89,7 @@ pub(crate) fn texts_of<'t>(
     ensures { IfOk result (λ t. strings_in t ≡ strings_of (texts_of about.now names.now)) }
 {
     let mut texts = Texts::new(alloc);
-    add_words(&mut texts, about.unit)?;
-    texts.add(about.program.as_str())?;
-    add_functions(&mut texts, &names.functions)?;
-    add_list(&mut texts, &names.threads)?;
-    add_list(&mut texts, &names.states)?;
-    add_list(&mut texts, &about.comments)?;
+    add_texts(&mut texts, about, names)?;
     Ok(texts)
 }
 

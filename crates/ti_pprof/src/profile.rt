@@ -41,8 +41,8 @@ fn push_about(out: &mut Vec<u8>, texts: &Texts<'_>, about: &About) -> Result<(),
     push_number(out, 14, texts.number(unit.name()))
 }
 
-/// Appends what was counted. The error is lack of memory.
-fn push_counts(
+/// Appends what was counted, by these tables. The error is lack of memory.
+fn push_counted(
     out: &mut Vec<u8>,
     tables: &Tables<'_, '_, '_>,
     counts: &Counts,
@@ -54,6 +54,50 @@ fn push_counts(
     let table = counts.table();
     push_samples(out, tables, table.rows(), table.counts())?;
     push_no_room(out, tables.unit, counts.no_room())
+}
+
+/// Appends what was counted. The error is lack of memory.
+fn push_counts(
+    out: &mut Vec<u8>,
+    texts: &Texts<'_>,
+    places: &Places<'_>,
+    unit: Unit,
+    names: &Names,
+    counts: &Counts,
+) -> Result<(), AllocError>
+    requires there { places.now.nodes.now ≡ counts.now.trie.nodes.keys }
+    ensures { OnOk result (out.new.items ≡ out.old.items ++ counted_fields (strings_in texts.now) names.now unit places.now.frames.keys (samples_of counts.now.trie counts.now.table) counts.now.no_room) }
+{
+    let alloc = *out.allocator();
+    let threads = Labels::new(alloc, texts, "thread", &names.threads)?;
+    let states = Labels::new(alloc, texts, "state", &names.states)?;
+    let tables = Tables {
+        texts,
+        names,
+        threads: &threads,
+        states: &states,
+        places,
+        unit,
+    };
+    push_counted(out, &tables, counts)
+}
+
+/// Appends the parts of a profile. The error is lack of memory.
+fn push_parts(
+    out: &mut Vec<u8>,
+    texts: &Texts<'_>,
+    places: &Places<'_>,
+    about: &About,
+    names: &Names,
+    counts: &Counts,
+) -> Result<(), AllocError>
+    requires there { places.now.nodes.now ≡ counts.now.trie.nodes.keys }
+    ensures { OnOk result (out.new.items ≡ out.old.items ++ profile_over (strings_in texts.now) places.now.frames.keys about.now names.now (samples_of counts.now.trie counts.now.table) counts.now.no_room) }
+{
+    push_sample_types(out, texts, about.unit)?;
+    push_counts(out, texts, places, about.unit, names, counts)?;
+    push_tables(out, texts, about, names, places.frames())?;
+    push_about(out, texts, about)
 }
 
 /// The bytes of a profile, as `go tool pprof` reads them, without gzip. The samples are in the order in which they were first
@@ -71,20 +115,7 @@ pub fn encode(
     let texts = texts_of(alloc, about, names)?;
     let places = Places::new(alloc, counts.trie().nodes())?;
     let mut out = Vec::new(alloc);
-    push_sample_types(&mut out, &texts, about.unit)?;
-    let threads = Labels::new(alloc, &texts, "thread", &names.threads)?;
-    let states = Labels::new(alloc, &texts, "state", &names.states)?;
-    let tables = Tables {
-        texts: &texts,
-        names,
-        threads: &threads,
-        states: &states,
-        places: &places,
-        unit: about.unit,
-    };
-    push_counts(&mut out, &tables, counts)?;
-    push_tables(&mut out, &texts, about, names, places.frames())?;
-    push_about(&mut out, &texts, about)?;
+    push_parts(&mut out, &texts, &places, about, names, counts)?;
     Ok(out)
 }
 
@@ -106,6 +137,6 @@ fn push_tables(
 
 ghost use Rattle.std.specs.Prelude.{◌≡◌, ◌++◌, OnOk, IfOk};
 ghost use Rattle.ti_pprof.specs.LabelTables.{AreNumbers};
-ghost use Rattle.ti_pprof.specs.Profile.{about_fields, counted_fields, profile, sample_types, table_fields};
+ghost use Rattle.ti_pprof.specs.Profile.{about_fields, counted_fields, profile, profile_over, sample_types, table_fields};
 ghost use Rattle.ti_pprof.specs.Samples.{samples_of};
 ghost use Rattle.ti_pprof.specs.Strings.{strings_in};
