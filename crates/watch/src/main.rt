@@ -21,7 +21,7 @@ use std::time::Duration;
 use ti_agent::Within;
 use ti_handshake::{Polled, Running};
 use ti_service::{Agent, Service, ServiceCalls, ThreadInfo};
-use ti_types::{Caps, Limits, MethodNo, Step, ThreadNo};
+use ti_types::{Caps, Limits, MethodNo, Step, ThreadNo, TraceBuf};
 
 /// Computes until `over` is set, and polls in each iteration. A poll is one load if nobody calls for the thread. If the thread is
 /// held, it waits until it may return.
@@ -48,26 +48,45 @@ fn hand_over<R: Wait>(rt: &R, running: Running) -> Running {
     }
 }
 
-/// Suspends a thread, writes its state and its methods, and resumes it. The suspension waits for the thread's next poll. The
-/// count that comes behind it waits ten seconds at the most.
-fn inspect<R: Wait + Clock + Print + AllocGlobal>(
+/// Writes a thread's state.
+fn write_state<R: Wait + Print>(rt: &R, agent: &mut Agent, thread: ThreadNo) -> Option<()> {
+    let state = agent.get_thread_state(rt, thread).ok()?;
+    println!(rt; "state {state:#x}").ok()
+}
+
+/// Writes the methods of a trace, the newest first.
+fn write_methods<R: Print>(rt: &R, trace: &TraceBuf) -> Option<()> {
+    for frame in trace.frames() {
+        println!(rt; "method {}", frame.method.0).ok()?;
+    }
+    Some(())
+}
+
+/// Writes how many frames a thread has. The count waits ten seconds at the most.
+fn write_count<R: Wait + Clock + Print + AllocGlobal>(
     rt: &R,
     agent: &mut Agent,
     thread: ThreadNo,
 ) -> Option<()> {
     let alloc = rt.alloc();
-    let (trace, _again) = trace_twice(rt, alloc, agent, thread, 8).ok()?;
-    println!(rt; "state {:#x}", agent.get_thread_state(rt, thread).ok()?).ok()?;
-    for frame in trace.frames() {
-        println!(rt; "method {}", frame.method.0).ok()?;
-    }
     let time = Duration::from_secs(10);
-    let count = agent
-        .get_frame_count(Within { rt, alloc, time }, thread)
-        .ok()?;
-    println!(rt; "frames {count}").ok()?;
+    let within = Within { rt, alloc, time };
+    let count = agent.get_frame_count(within, thread).ok()?;
+    println!(rt; "frames {count}").ok()
+}
+
+/// Suspends a thread, writes its state and its methods, and resumes it. The suspension waits for the thread's next poll.
+fn inspect<R: Wait + Clock + Print + AllocGlobal>(
+    rt: &R,
+    agent: &mut Agent,
+    thread: ThreadNo,
+) -> Option<()> {
+    let (trace, _again) = trace_twice(rt, rt.alloc(), agent, thread, 8).ok()?;
+    write_state(rt, agent, thread)?;
+    write_methods(rt, &trace)?;
+    write_count(rt, agent, thread)?;
     agent.resume_thread(rt, thread).ok()?;
-    println!(rt; "state {:#x}", agent.get_thread_state(rt, thread).ok()?).ok()
+    write_state(rt, agent, thread)
 }
 
 /// Inspects all threads, one after the other.
@@ -143,17 +162,34 @@ fn leave<R: Wait>(rt: &R, service: &mut Service, running: Running) -> Option<()>
     service.detach_thread(rt, ended).ok()
 }
 
+/// Ends two threads, and gives them back.
+fn leave_both<R: Wait>(
+    rt: &R,
+    service: &mut Service,
+    first: Running,
+    second: Running,
+) -> Option<()> {
+    leave(rt, service, first)?;
+    leave(rt, service, second)
+}
+
 /// Lets two threads and an agent come to a service and go.
-fn run<R: Threads + Wait + Sync + Clock + Print + AllocGlobal>(rt: &R) -> Option<()> {
-    let alloc = rt.alloc();
-    let mut service = Service::make(alloc, Limits::lasting(2, 1, 64)?).ok()?;
-    let first = attach(rt, &mut service, "adder")?;
-    let second = attach(rt, &mut service, "other adder")?;
-    let agent = service.attach_environment(rt, alloc).ok()?;
+fn come_and_go<R: Threads + Wait + Sync + Clock + Print + AllocGlobal>(
+    rt: &R,
+    service: &mut Service,
+) -> Option<()> {
+    let first = attach(rt, service, "adder")?;
+    let second = attach(rt, service, "other adder")?;
+    let agent = service.attach_environment(rt, rt.alloc()).ok()?;
     let ((first, second), done) = run_all(rt, first, second, agent);
-    leave(rt, &mut service, first)?;
-    leave(rt, &mut service, second)?;
+    leave_both(rt, service, first, second)?;
     done
+}
+
+/// Makes a service, for two threads and an agent.
+fn run<R: Threads + Wait + Sync + Clock + Print + AllocGlobal>(rt: &R) -> Option<()> {
+    let mut service = Service::make(rt.alloc(), Limits::lasting(2, 1, 64)?).ok()?;
+    come_and_go(rt, &mut service)
 }
 
 fn main(rt: HostRuntime) -> ExitCode {
