@@ -5,20 +5,8 @@ use crate::prometheus_lines::{
     COUNTER, GAUGE, HISTOGRAM, Series, Unit, push_codes, push_each, push_head, push_labelled,
     push_plain, push_single,
 };
+use crate::state::{STATE_NAMES, STATES};
 use std::alloc::AllocError;
-
-/// The names of the states.
-const STATE_NAMES: [&str; 9] = [
-    "new",
-    "runnable",
-    "native",
-    "blocked",
-    "waiting",
-    "timed_waiting",
-    "sleeping",
-    "parked",
-    "terminated",
-];
 
 /// The bounds of the buckets in seconds.
 const BOUND_TEXTS: [&str; 13] = [
@@ -55,7 +43,7 @@ fn push_states(
         key: "state",
         unit,
     };
-    push_each(out, &series, &STATE_NAMES, values)
+    push_each(out, &series, &STATE_NAMES[..STATES], values)
 }
 
 /// Appends the metrics of threads. The error is lack of memory.
