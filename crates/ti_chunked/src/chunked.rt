@@ -9,7 +9,8 @@ use std::ops::{Index, IndexMut};
 /// A list in chunks. Contracts see it as the list of its elements.
 ///
 /// An index leads to its element by a binary search over the chunks, of which there are some for each 128 elements. To take an
-/// element out moves those behind it in its chunk, at most 127, and lowers the index at which each later chunk starts.
+/// element out moves those behind it in its chunk, at most 127, and lowers the index at which each later chunk starts. To find
+/// an element by its key, `partition_point` searches the chunks once, and no index is looked up on the way.
 ///
 /// # Examples
 ///

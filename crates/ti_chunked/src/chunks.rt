@@ -59,10 +59,19 @@ fn search(starts: &Vec<usize>, index: usize) -> usize
 }
 
 /// Each chunk from this one on starts one element earlier.
-#[tactic(auto, using(crate::proofs::Lowering::positive_here, crate::proofs::Lowering::one_lower, crate::proofs::Lowering::positive_on, crate::proofs::Lowering::lowered_past))]
 pub(crate) fn lower(starts: &mut Vec<usize>, first: usize)
     requires { ArePositive first starts.old.items }
     ensures { starts.new.items ≡ lowered first starts.old.items }
+{
+    lower_each(starts.as_mut_slice(), first);
+}
+
+/// Each number from this one on is one less. It takes a slice, of which a compiler knows that it stays where it is, so that it
+/// lowers some at once.
+#[tactic(auto, using(crate::proofs::Lowering::positive_here, crate::proofs::Lowering::one_lower, crate::proofs::Lowering::positive_on, crate::proofs::Lowering::lowered_past))]
+fn lower_each(starts: &mut [usize], first: usize)
+    requires { ArePositive first starts.old }
+    ensures { starts.new ≡ lowered first starts.old }
 {
     for i in first..starts.len() {
         starts[i] -= 1;
