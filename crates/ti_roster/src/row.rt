@@ -5,6 +5,7 @@ use crate::newcomer::Newcomer;
 use crate::stage::Stage;
 use std::alloc::Global;
 use ti_agent::FreeDesk;
+use ti_chunked::KeyOf;
 use ti_handshake::{Desk, Fresh, SharedCell};
 use ti_types::{Limits, ThreadNo, TiError};
 
@@ -15,6 +16,17 @@ pub(crate) struct Row {
     pub(crate) stage: Stage,
     /// By the number of the environment.
     pub(crate) desks: Vec<Option<FreeDesk>>,
+}
+
+/// The number of a row's thread, as a key of rows.
+pub(crate) struct ThreadKey;
+
+impl KeyOf<Row> for ThreadKey {
+    ghost key = { λ r. r.newcomer.thread.0 };
+
+    fn key(row: &Row) -> u32 {
+        row.thread().0
+    }
 }
 
 impl Row {
