@@ -8,6 +8,7 @@ pub mod StackLaws
 pub mod StopLaws
 pub mod SuspendLaws
 pub mod MethodLaws
+pub mod NearestLaws
 pub mod LineLaws
 pub mod TellLaws
 pub mod TakeLaws

@@ -76,8 +76,8 @@ Gives now t d old (Replied a) new =
 Gives now t d old (Listed threads) new = (d ≡ Some due.List) × (threads ≡ alive_in old.crowd.list.items) × (new ≡ old)
 Gives now t d old (PostedAs posted) new = (thread : ℕ) × (d ≡ Some (due.Post thread)) × Posts thread (Some posted) old new
 Gives now t d old Settled new = (d ≡ Some due.Settle) × (any_awaited new.crowd.list.items now ≡ false) × Settles old new
-Gives now t d old (PlacedAs placed) new = (spot : Spot) × (d ≡ Some (due.Place spot)) × IsPlacedAs placed spot new.agent × CallsStops old new
-Gives now t d old (LocatedAs standing) new = (thread : ℕ) × (d ≡ Some (due.Locate thread)) × StandsAs standing thread old × CallsStops old new
+Gives now t d old (PlacedAs placed) new = (spot : Spot) × (d ≡ Some (due.Place spot)) × IsPlacedAs placed spot old.agent new.agent × CallsStops old new
+Gives now t d old (LocatedAs standing) new = (thread : ℕ) × (d ≡ Some (due.Locate thread)) × StandsAs standing thread old.agent new.agent × CallsStops old new
 Gives now t d old _ new = ⊥
 
 -- A call of a session's agent, with what was due before and is after it: the session goes on if nothing is due, or is given what is

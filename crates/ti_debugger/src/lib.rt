@@ -22,6 +22,7 @@ mod hold;
 mod holding;
 mod meeting;
 mod method_answers;
+mod nearest;
 mod object_answers;
 mod objects;
 mod popping;

@@ -21,6 +21,12 @@ impl From<JdwpError> for Refusal {
 }
 
 impl From<AllocError> for Refusal {
+    ghost use Rattle.std.specs.Prelude.{◌≡◌};
+    ghost use Rattle.ti_jdwp.specs.declared.error.JdwpError.TheVariants.{OutOfMemory};
+    ghost use Rattle.ti_debugger.specs.declared.refusal.Refusal.TheVariants.{Error};
+
+    ghost from_gives = { λ _ r. r ≡ Error OutOfMemory };
+
     fn from(_: AllocError) -> Self {
         Refusal::Error(JdwpError::OutOfMemory)
     }

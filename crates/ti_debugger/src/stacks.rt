@@ -113,6 +113,7 @@ impl Desk {
     /// The answer of a thread that answers at once. A thread that is not there, or that still runs, has none: 13.
     pub(crate) fn ask_now(&mut self, thread: u32, call: Call) -> Result<Answer, Refusal>
         ensures told { IfOk result (λ a. Posts self.old.agent.env self.new.agent.env (record { 0 = thread }) call (Answered a)) }
+        ensures home { OnOk result (self.new.agent.home ≡ self.old.agent.home) }
         ensures rest { self.new ≡ record self.old { agent = self.new.agent } }
     {
         match self.agent.post_now(self.alloc, ThreadNo(thread), call) {
@@ -238,7 +239,7 @@ impl Desk {
     }
 }
 
-ghost use Rattle.std.specs.Prelude.{◌≡◌, IfOk};
+ghost use Rattle.std.specs.Prelude.{◌≡◌, IfOk, OnOk};
 ghost use mathlib.Core.List.{IsPrefix};
 ghost use Rattle.ti_types.specs.declared.call.Call.TheVariants as call;
 ghost use Rattle.ti_slot.specs.declared.asked.Asked.TheVariants.{Answered};

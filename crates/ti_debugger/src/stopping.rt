@@ -2,11 +2,11 @@
 
 use crate::desk::Desk;
 use crate::halted::{Halted, Stage};
+use crate::nearest::line_in;
 use crate::refusal::{Refusal, refusal_of_class};
 use ti_jdwp::{JdwpError, Standing};
 use ti_service::{
-    Agent, ClassCalls, ClassError, ClassNo, LineEntry, Lines, StopCall, StopCalls, StopError,
-    StopKind, StopReply,
+    Agent, ClassCalls, ClassError, Lines, StopCall, StopCalls, StopError, StopKind, StopReply,
 };
 use ti_types::{Answer, Call, MethodNo, Place, ThreadNo};
 
@@ -30,22 +30,6 @@ pub(crate) fn refusal_of_stop(error: StopError) -> Refusal
     }
 }
 
-/// The line of a location in a table: that of the last entry that begins there or before. `None` if there is no such entry.
-fn line_in(entries: &[LineEntry], index: u32) -> Option<u32> {
-    let mut found: Option<LineEntry> = None;
-    for entry in entries {
-        let is_nearer = match found {
-            Some(best) => best.start_location <= entry.start_location,
-            None => true,
-        };
-        if entry.start_location <= index && is_nearer {
-            found = Some(*entry);
-        }
-    }
-    let entry = found?;
-    Some(entry.line)
-}
-
 /// Ends a stop of a thread, if the roster is free. It gives whether the thread stops no more.
 fn end_stop(agent: &mut Agent, thread: ThreadNo) -> bool {
     !matches!(
@@ -65,19 +49,45 @@ impl Desk {
         }
     }
 
+    /// The agent is told of this kind of stop from now on, at one thread or at all.
+    fn hear(&mut self, kind: StopKind, thread: Option<ThreadNo>) -> Result<(), Refusal>
+        ensures heard { OnOk result (Hears kind thread self.old.agent self.new.agent) }
+        ensures refused { IfErr result (HearsNot kind thread self.old.agent self.new.agent) }
+        ensures rest { self.new ≡ record self.old { agent = self.new.agent } }
+    {
+        match self.agent.stop_now(StopCall::Enable(kind, thread)) {
+            Ok(_) => Ok(()),
+            Err(error) => Err(refusal_of_stop(error)),
+        }
+    }
+
+    /// Looks whether the class of a breakpoint declares its method. 23 INVALID_METHODID if not.
+    fn check_class(&mut self, spot: Spot) -> Result<(), Refusal>
+        ensures told { OnOk result (IsOfClass spot self.old.agent self.new.agent) }
+        ensures refused { IfErr result (IsNotOfClass spot self.old.agent self.new.agent) }
+        ensures rest { self.new ≡ record self.old { agent = self.new.agent } }
+    {
+        match self.agent.get_method_declaring_class(MethodNo(spot.method)) {
+            Ok(class) => {
+                if class.0 == spot.class {
+                    Ok(())
+                } else {
+                    Err(Refusal::Error(JdwpError::InvalidMethodId))
+                }
+            }
+            Err(error) => Err(refusal_of_class(error)),
+        }
+    }
+
     /// Sets a breakpoint. One that is there already is no error.
     pub(crate) fn place(&mut self, spot: Spot) -> Result<(), Refusal>
-        ensures set { OnOk result (IsSet spot self.new.agent) }
+        ensures set { OnOk result (IsSet spot self.old.agent self.new.agent) }
+        ensures refused { IfErr result (IsNotSet spot self.old.agent self.new.agent) }
         ensures rest { self.new ≡ record self.old { agent = self.new.agent; stops = self.new.stops } }
     {
-        let class = self
-            .agent
-            .get_method_declaring_class(MethodNo(spot.method))?;
-        if class.0 != spot.class {
-            return Err(Refusal::Error(JdwpError::InvalidMethodId));
-        }
+        self.check_class(spot)?;
         self.stops.spots.reserve(1)?;
-        self.stop(StopCall::Enable(StopKind::Breakpoint, None))?;
+        self.hear(StopKind::Breakpoint, None)?;
         self.stops.hears = true;
         match self
             .agent
@@ -87,14 +97,20 @@ impl Desk {
                 self.stops.spots.push_reserved(spot);
                 Ok(())
             }
-            Err(StopError::Duplicate) => Ok(()),
-            Err(error) => Err(refusal_of_stop(error)),
+            Err(error) => {
+                if error == StopError::Duplicate {
+                    Ok(())
+                } else {
+                    Err(refusal_of_stop(error))
+                }
+            }
         }
     }
 
     /// The line of a location of a method. `None` if it is not known.
     pub(crate) fn line_at(&mut self, method: MethodNo, index: u32) -> Result<Option<u32>, Refusal>
-        ensures { self.new ≡ record self.old { agent = self.new.agent } }
+        ensures told { IfOk result (λ line. TellsLine (place.Java index) method self.old.agent self.new.agent line) }
+        ensures rest { self.new ≡ record self.old { agent = self.new.agent } }
     {
         match self.agent.get_line_number_table(self.alloc, method) {
             Ok(Lines::Table(entries)) => Ok(line_in(entries.as_slice(), index)),
@@ -109,6 +125,7 @@ impl Desk {
     /// How many frames a thread that stands has.
     pub(crate) fn frames_at(&mut self, thread: u32) -> Result<u32, Refusal>
         ensures told { IfOk result (λ n. Posts self.old.agent.env self.new.agent.env (record { 0 = thread }) call.FrameCount (Answered (answer.Count n))) }
+        ensures home { OnOk result (self.new.agent.home ≡ self.old.agent.home) }
         ensures rest { self.new ≡ record self.old { agent = self.new.agent } }
     {
         match self.ask_now(thread, Call::FrameCount)? {
@@ -119,7 +136,7 @@ impl Desk {
 
     /// Where a thread stands: its frames, and the method and the line of the newest one.
     fn standing(&mut self, thread: u32) -> Result<Standing, Refusal>
-        ensures told { IfOk result (Stands thread self.old) }
+        ensures told { IfOk result (Stands thread self.old.agent self.new.agent) }
         ensures rest { self.new ≡ record self.old { agent = self.new.agent } }
     {
         let frames = self.frames_at(thread)?;
@@ -139,13 +156,13 @@ impl Desk {
 
     /// Where a suspended thread stands. From now on it makes single steps.
     pub(crate) fn locate(&mut self, thread: u32) -> Result<Standing, Refusal>
-        ensures told { IfOk result (Stands thread self.old) }
+        ensures told { IfOk result (Steps thread self.old.agent self.new.agent) }
         ensures rest { self.new ≡ record self.old { agent = self.new.agent; stops = self.new.stops } }
     {
         let standing = self.standing(thread)?;
         self.stops.steppers.reserve(1)?;
         self.step(thread)?;
-        self.stop(StopCall::Enable(StopKind::FramePop, Some(ThreadNo(thread))))?;
+        self.hear(StopKind::FramePop, Some(ThreadNo(thread)))?;
         if !self.stops.steppers.contains(&thread) {
             self.stops.steppers.push_reserved(thread);
         }
@@ -184,10 +201,10 @@ impl Desk {
 
     /// A thread makes single steps from now on.
     pub(crate) fn step(&mut self, thread: u32) -> Result<(), Refusal>
-        ensures { self.new ≡ record self.old { agent = self.new.agent } }
+        ensures heard { OnOk result (Hears SingleStep (Some (record { 0 = thread })) self.old.agent self.new.agent) }
+        ensures rest { self.new ≡ record self.old { agent = self.new.agent } }
     {
-        self.stop(StopCall::Enable(StopKind::SingleStep, Some(ThreadNo(thread))))?;
-        Ok(())
+        self.hear(StopKind::SingleStep, Some(ThreadNo(thread)))
     }
 
     /// A thread runs without single steps until it is about to have this many frames.
@@ -261,11 +278,13 @@ impl Desk {
     }
 }
 
-ghost use Rattle.std.specs.Prelude.{◌≡◌, ◌≤◌, IfOk, OnOk};
+ghost use Rattle.std.specs.Prelude.{◌≡◌, ◌≤◌, Some, IfErr, IfOk, OnOk};
 ghost use Rattle.ti_types.specs.declared.answer.Answer.TheVariants as answer;
 ghost use Rattle.ti_types.specs.declared.call.Call.TheVariants as call;
+ghost use Rattle.ti_types.specs.declared.place.Place.TheVariants as place;
 ghost use Rattle.ti_slot.specs.declared.asked.Asked.TheVariants.{Answered};
 ghost use Rattle.ti_agent.specs.Posts.{Posts};
-ghost use Rattle.ti_debugger.specs.Placing.{IsSet, Stands};
+ghost use Rattle.ti_stops.specs.declared.kind.StopKind.TheVariants.{SingleStep};
+ghost use Rattle.ti_debugger.specs.Placing.{Hears, HearsNot, IsNotOfClass, IsNotSet, IsOfClass, IsSet, Stands, Steps, TellsLine};
 ghost use Rattle.ti_debugger.specs.Serving.{LetsGo};
 ghost use Rattle.ti_debugger.specs.Stopping.{stop_refusal, stopped_in};
