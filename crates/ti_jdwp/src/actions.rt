@@ -48,7 +48,7 @@ pub enum Posted {
 }
 
 /// What is suspended for which reason.
-#[derive(Clone, Copy, Debug, PartialEq, Eq)]
+#[derive(Clone, Copy)]
 pub(crate) enum Purpose {
     /// The request for one thread.
     One,
@@ -61,7 +61,7 @@ pub(crate) enum Purpose {
 }
 
 /// Where a session is.
-#[derive(Clone, Copy, Debug, PartialEq, Eq)]
+#[derive(Clone, Copy)]
 pub(crate) enum Phase {
     /// The handshake did not come yet.
     Greeting,

@@ -3,7 +3,7 @@
 use crate::packet::{HEAD_LEN, Head, read_head};
 
 /// The request that stands first in an input.
-#[derive(Clone, Copy, Debug, PartialEq, Eq)]
+#[derive(Clone, Copy)]
 pub(crate) struct First {
     pub(crate) id: u32,
     pub(crate) set: u8,
@@ -37,7 +37,7 @@ impl First {
 }
 
 /// What stands first in an input.
-#[derive(Clone, Copy, Debug, PartialEq, Eq)]
+#[derive(Clone, Copy)]
 pub(crate) enum Front {
     /// No whole packet yet.
     More,

@@ -52,6 +52,13 @@ pub struct FrameRow {
     pub index: u64,
 }
 
+fn put_thread(out: &mut Vec<u8>, thread: u32) -> Result<(), JdwpError>
+    ensures ok { OnOk result (out.new.items ≡ out.old.items ++ long (id_from first_thread thread)) }
+    ensures memory { IfErr result (λ e. e ≡ OutOfMemory) }
+{
+    put_long(out, thread_id(thread))
+}
+
 fn put_threads(out: &mut Vec<u8>, threads: &[u32]) -> Result<(), JdwpError>
     ensures ok { OnOk result (out.new.items ≡ out.old.items ++ thread_list threads.now) }
     ensures fits { OnOk result (length threads.now < 2 ^ 31) }
@@ -59,7 +66,7 @@ fn put_threads(out: &mut Vec<u8>, threads: &[u32]) -> Result<(), JdwpError>
 {
     put_count(out, threads.len())?;
     for thread in threads {
-        put_long(out, thread_id(*thread))?;
+        put_thread(out, *thread)?;
     }
     Ok(())
 }
@@ -273,5 +280,6 @@ pub fn frames_body(alloc: Global, thread: u32, frames: &[FrameRow]) -> Result<Ve
 
 ghost use Rattle.std.specs.Prelude.{◌≡◌, ◌<◌, ◌^◌, length, All, ◌++◌, OnOk, IfOk, IfErr};
 ghost use Rattle.ti_jdwp.specs.Fields.{int, long};
+ghost use Rattle.ti_jdwp.specs.Ids.{id_from, first_thread};
 ghost use Rattle.ti_jdwp.specs.Bodies.{thread_list, class_row, class_list, found_class, found_list, method_flags, method_row, method_list, line_row, line_list, identity_line, identity_list, frame_row, frame_list};
 ghost use Rattle.ti_jdwp.specs.declared.error.JdwpError.TheVariants.{OutOfMemory};

@@ -8,7 +8,7 @@ use crate::ids::{
 use crate::request::{EventKind, Policy, Request};
 
 /// The bodies of replies that are always the same.
-#[derive(Clone, Copy, Debug, PartialEq, Eq)]
+#[derive(Clone, Copy)]
 pub(crate) enum Constant {
     /// Nothing.
     Empty,
@@ -41,7 +41,7 @@ pub(crate) enum Constant {
 }
 
 /// A request for events of a kind. So many modifiers stand in the data of the request from `at` on.
-#[derive(Clone, Copy, Debug, PartialEq, Eq)]
+#[derive(Clone, Copy)]
 pub(crate) struct Wish {
     pub(crate) kind: EventKind,
     pub(crate) policy: Policy,
@@ -50,7 +50,7 @@ pub(crate) struct Wish {
 }
 
 /// What is done with a request. Threads have their numbers.
-#[derive(Clone, Copy, Debug, PartialEq, Eq)]
+#[derive(Clone, Copy)]
 pub(crate) enum Plan {
     /// Reply with this error.
     Refuse(JdwpError),

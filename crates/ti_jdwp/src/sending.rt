@@ -4,7 +4,7 @@ use crate::error::JdwpError;
 use crate::packet::HEAD_LEN;
 
 /// What is behind the length and the id of a packet: its flags, and two bytes.
-#[derive(Clone, Copy, Debug, PartialEq, Eq)]
+#[derive(Clone, Copy)]
 struct Kind {
     flags: u8,
     first: u8,

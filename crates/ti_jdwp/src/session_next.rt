@@ -20,7 +20,7 @@ impl Session {
         ensures memory { IfErr result (λ e. e ≡ OutOfMemory) }
         ensures err { OnErr result (Fails self.old self.new) }
     {
-        if self.phase == Phase::Ending {
+        if matches!(self.phase, Phase::Ending) {
             return Ok(self.let_go());
         }
         if !self.line.output().is_empty() {

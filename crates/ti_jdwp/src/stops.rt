@@ -48,7 +48,7 @@ pub enum Verdict {
 }
 
 /// How small a step is.
-#[derive(Clone, Copy, Debug, PartialEq, Eq)]
+#[derive(Clone, Copy)]
 pub(crate) enum Size {
     /// 0 MIN: one location.
     Min,
@@ -57,7 +57,7 @@ pub(crate) enum Size {
 }
 
 /// Which calls a step passes over.
-#[derive(Clone, Copy, Debug, PartialEq, Eq)]
+#[derive(Clone, Copy)]
 pub(crate) enum Depth {
     /// 0 INTO: none.
     Into,
@@ -68,7 +68,7 @@ pub(crate) enum Depth {
 }
 
 /// A step of a thread, which began where the thread stood.
-#[derive(Clone, Copy, Debug, PartialEq, Eq)]
+#[derive(Clone, Copy)]
 pub(crate) struct Step {
     pub(crate) thread: u32,
     pub(crate) size: Size,
@@ -100,7 +100,7 @@ impl Step {
 }
 
 /// What a request for events is made for.
-#[derive(Clone, Copy, Debug, PartialEq, Eq)]
+#[derive(Clone, Copy)]
 pub(crate) enum Target {
     /// Nothing but its kind.
     Anywhere,

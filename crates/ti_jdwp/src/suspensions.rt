@@ -18,7 +18,7 @@ pub enum Holder {
     Another,
 }
 
-#[derive(Clone, Copy, Debug, PartialEq, Eq)]
+#[derive(Clone, Copy)]
 pub(crate) struct Hold {
     pub(crate) count: u32,
     pub(crate) holder: Holder,
