@@ -40,16 +40,15 @@ fn sample_beside<R: Threads + Wait + Sync + Clock + Input + Eprint + AllocGlobal
     sampled
 }
 
-/// Runs the workers on this text and lets new threads come and go, and samples them meanwhile. `None` if memory runs out, or a
-/// line cannot be written.
-pub fn run<R: Threads + Wait + Sync + Clock + CpuClock + Input + Eprint + AllocGlobal>(
+/// Lets workers and an agent come to a service, and samples while they run. `None` if memory runs out, or a line cannot be
+/// written.
+fn run_over<R: Threads + Wait + Sync + Clock + CpuClock + Input + Eprint + AllocGlobal>(
     rt: &R,
+    service: &mut Service,
     options: Options,
     text: &[u8],
 ) -> Option<Ran> {
-    let limits = Limits::lasting(1, 1, DEPTH)?;
-    let mut service = Service::make(rt.alloc(), limits).ok()?;
-    let roles = roles(rt, &mut service, options)?;
+    let roles = roles(rt, service, options)?;
     let agent = service.attach_environment(rt, rt.alloc()).ok()?;
     let task = Task {
         rounds: options.jobs,
@@ -66,4 +65,16 @@ pub fn run<R: Threads + Wait + Sync + Clock + CpuClock + Input + Eprint + AllocG
         sampled: sampled?,
         tally: tally?,
     })
+}
+
+/// Runs the workers on this text and lets new threads come and go, and samples them meanwhile. `None` if memory runs out, or a
+/// line cannot be written.
+pub fn run<R: Threads + Wait + Sync + Clock + CpuClock + Input + Eprint + AllocGlobal>(
+    rt: &R,
+    options: Options,
+    text: &[u8],
+) -> Option<Ran> {
+    let limits = Limits::lasting(1, 1, DEPTH)?;
+    let mut service = Service::make(rt.alloc(), limits).ok()?;
+    run_over(rt, &mut service, options, text)
 }
