@@ -20,7 +20,7 @@ pub extern "C" fn cq_get_loaded_classes(
 ) -> u32
     ensures { Tells (AllWritten classes.old classes.new count.new) RefusesAll ((classes.new ≡ classes.old) × (count.new ≡ count.old)) env.old env.new result }
 {
-    let agent = behind!(env.held_env(), agent);
+    behind!(agent in env.held_env());
     match agent.get_loaded_classes(alloc) {
         Ok(all) => {
             *count = all.len() as u64;
@@ -42,7 +42,7 @@ pub extern "C" fn cq_get_class_signature(
 ) -> u32
     ensures { Tells (SignatureWritten (class_no class) text.old text.new length.new) (λ log. RefusesClassCall log (class_no class)) ((text.new ≡ text.old) × (length.new ≡ length.old)) env.old env.new result }
 {
-    let agent = behind!(env.held_env(), agent);
+    behind!(agent in env.held_env());
     tell_text(
         agent.get_class_signature(alloc, ClassNo(class)),
         text,
@@ -61,7 +61,7 @@ pub extern "C" fn cq_get_source_file_name(
 ) -> u32
     ensures { Tells (SourceFileWritten (class_no class) text.old text.new length.new) (λ log. RefusesSourceFile log (class_no class)) ((text.new ≡ text.old) × (length.new ≡ length.old)) env.old env.new result }
 {
-    let agent = behind!(env.held_env(), agent);
+    behind!(agent in env.held_env());
     tell_text(
         agent.get_source_file_name(alloc, ClassNo(class)),
         text,
@@ -80,7 +80,7 @@ pub extern "C" fn cq_get_class_methods(
 ) -> u32
     ensures { Tells (MethodsWritten (class_no class) methods.old methods.new count.new) (λ log. RefusesClassCall log (class_no class)) ((methods.new ≡ methods.old) × (count.new ≡ count.old)) env.old env.new result }
 {
-    let agent = behind!(env.held_env(), agent);
+    behind!(agent in env.held_env());
     match agent.get_class_methods(alloc, ClassNo(class)) {
         Ok(told) => {
             *count = told.len() as u64;
@@ -103,7 +103,7 @@ pub extern "C" fn cq_get_method_name(
 ) -> u32
     ensures { Tells (NameWritten (method_no method) info.new name.old name.new signature.old signature.new) (λ log. RefusesMethodCall log (method_no method)) ((info.new ≡ info.old) × (name.new ≡ name.old) × (signature.new ≡ signature.old)) env.old env.new result }
 {
-    let agent = behind!(env.held_env(), agent);
+    behind!(agent in env.held_env());
     match agent.get_method_name(alloc, MethodNo(method)) {
         Ok(told) => {
             write_name(&told, info, name, signature);
@@ -122,7 +122,7 @@ pub extern "C" fn cq_get_method_declaring_class(
 ) -> u32
     ensures { Tells (ClassWritten (method_no method) class.new) (λ log. RefusesMethod log (method_no method)) (class.new ≡ class.old) env.old env.new result }
 {
-    let agent = behind!(env.held_env(), agent);
+    behind!(agent in env.held_env());
     match agent.get_method_declaring_class(MethodNo(method)) {
         Ok(told) => {
             *class = told.0;
@@ -137,7 +137,7 @@ pub extern "C" fn cq_get_method_declaring_class(
 pub extern "C" fn cq_is_method_native(env: &mut CqEnv, method: u32, native: &mut bool) -> u32
     ensures { Tells (NativeWritten (method_no method) native.new) (λ log. RefusesMethod log (method_no method)) (native.new ≡ native.old) env.old env.new result }
 {
-    let agent = behind!(env.held_env(), agent);
+    behind!(agent in env.held_env());
     match agent.is_method_native(MethodNo(method)) {
         Ok(told) => {
             *native = told;
@@ -159,7 +159,7 @@ pub extern "C" fn cq_get_line_number_table(
 ) -> u32
     ensures { Tells (LinesWritten (method_no method) kind.new lines.old lines.new count.new) (λ log. RefusesLines log (method_no method)) ((kind.new ≡ kind.old) × (lines.new ≡ lines.old) × (count.new ≡ count.old)) env.old env.new result }
 {
-    let agent = behind!(env.held_env(), agent);
+    behind!(agent in env.held_env());
     match agent.get_line_number_table(alloc, MethodNo(method)) {
         Ok(told) => {
             write_lines(&told, kind, lines, count);

@@ -153,7 +153,7 @@ fn tell_values(
 pub extern "C" fn cq_door_tells_variables(door: &mut CqDoor, tells: bool) -> u32
     ensures { CallsDoor (SaysTells tells) ⊤ door.old door.new result }
 {
-    let door = behind!(door.held_door(), door);
+    behind!(door in door.held_door());
     door.tells_variables(tells);
     CQ_OK
 }
@@ -163,7 +163,7 @@ pub extern "C" fn cq_door_tells_variables(door: &mut CqDoor, tells: bool) -> u32
 pub extern "C" fn cq_door_starts_suspended(door: &mut CqDoor, suspended: bool) -> u32
     ensures { CallsDoor (SaysStarts suspended) ⊤ door.old door.new result }
 {
-    let door = behind!(door.held_door(), door);
+    behind!(door in door.held_door());
     door.starts_suspended(suspended);
     CQ_OK
 }
@@ -173,7 +173,7 @@ pub extern "C" fn cq_door_starts_suspended(door: &mut CqDoor, suspended: bool) -
 pub extern "C" fn cq_door_pops_frames(door: &mut CqDoor, pops: bool) -> u32
     ensures { CallsDoor (SaysPops pops) ⊤ door.old door.new result }
 {
-    let door = behind!(door.held_door(), door);
+    behind!(door in door.held_door());
     done_code(door.pops_frames(pops))
 }
 
@@ -182,7 +182,7 @@ pub extern "C" fn cq_door_pops_frames(door: &mut CqDoor, pops: bool) -> u32
 pub extern "C" fn cq_door_question(door: &mut CqDoor, question: &mut CqQuestion) -> u32
     ensures { CallsDoor (GivesQuestion question.new) (question.new ≡ question.old) door.old door.new result }
 {
-    let door = behind!(door.held_door(), door);
+    behind!(door in door.held_door());
     *question = question_out(door.question());
     CQ_OK
 }
@@ -196,7 +196,7 @@ pub extern "C" fn cq_door_tell_variables(
 ) -> u32
     ensures { CallsDoor (Answers (TellsVariables variables.now names.now)) ⊤ door.old door.new result }
 {
-    let door = behind!(door.held_door(), door);
+    behind!(door in door.held_door());
     told_code(door.tell_variables(variables, names))
 }
 
@@ -210,7 +210,7 @@ pub extern "C" fn cq_door_tell_values(
 ) -> u32
     ensures { CallsDoor (Answers (TellsValues values.now texts.now)) ⊤ door.old door.new result }
 {
-    let door = behind!(door.held_door(), door);
+    behind!(door in door.held_door());
     told_code(tell_values(alloc, door, values, texts))
 }
 
@@ -219,7 +219,7 @@ pub extern "C" fn cq_door_tell_values(
 pub extern "C" fn cq_door_tell_none(door: &mut CqDoor, code: u32) -> u32
     ensures { CallsDoor (Answers (TellsNone (untold code))) ⊤ door.old door.new result }
 {
-    let door = behind!(door.held_door(), door);
+    behind!(door in door.held_door());
     told_code(door.tell_none(untold(code)))
 }
 

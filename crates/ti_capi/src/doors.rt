@@ -167,7 +167,7 @@ pub extern "C" fn cq_open_debugger(
 pub extern "C" fn cq_door_connect(door: &mut CqDoor, now: u64, connection: &mut u32) -> u32
     ensures { CallsDoor (Connects now connection.old connection.new) (connection.new ≡ connection.old) door.old door.new result }
 {
-    let door = behind!(door.held_door(), door);
+    behind!(door in door.held_door());
     match door.connect(now) {
         Some(number) => {
             *connection = number;
@@ -189,7 +189,7 @@ pub extern "C" fn cq_door_next(
 ) -> u32
     ensures { CallsDoor (Tells connection now action.new room.new ((action.new ≡ action.old) × (room.new ≡ room.old))) ((action.new ≡ action.old) × (room.new ≡ room.old)) door.old door.new result }
 {
-    let door = behind!(door.held_door(), door);
+    behind!(door in door.held_door());
     match door.next(connection, now, unix_time) {
         Ok(todo) => {
             *action = action_of(todo);
@@ -211,7 +211,7 @@ pub extern "C" fn cq_door_feed(
 ) -> u32
     ensures { CallsDoor (Takes connection bytes.now now taken.old taken.new) (taken.new ≡ taken.old) door.old door.new result }
 {
-    let door = behind!(door.held_door(), door);
+    behind!(door in door.held_door());
     match door.feed(connection, bytes, now) {
         Ok(count) => {
             *taken = count as u64;
@@ -226,7 +226,7 @@ pub extern "C" fn cq_door_feed(
 pub extern "C" fn cq_door_end(door: &mut CqDoor, connection: u32, now: u64) -> u32
     ensures { CallsDoor (ChangesOne connection (Ends connection)) ⊤ door.old door.new result }
 {
-    let door = behind!(door.held_door(), door);
+    behind!(door in door.held_door());
     code_of(door.end(connection, now))
 }
 
@@ -240,7 +240,7 @@ pub extern "C" fn cq_door_output(
 ) -> u32
     ensures { CallsDoor (GivesOutput connection bytes.old bytes.new count.old count.new) ((bytes.new ≡ bytes.old) × (count.new ≡ count.old)) door.old door.new result }
 {
-    let door = behind!(door.held_door(), door);
+    behind!(door in door.held_door());
     if !door.is_open(connection) {
         return CQ_NONE;
     }
@@ -255,7 +255,7 @@ pub extern "C" fn cq_door_output(
 pub extern "C" fn cq_door_written(door: &mut CqDoor, connection: u32, count: u64, now: u64) -> u32
     ensures { CallsDoor (ChangesOne connection (Writes connection count now)) ⊤ door.old door.new result }
 {
-    let door = behind!(door.held_door(), door);
+    behind!(door in door.held_door());
     code_of(door.written(connection, count as usize, now))
 }
 
@@ -264,7 +264,7 @@ pub extern "C" fn cq_door_written(door: &mut CqDoor, connection: u32, count: u64
 pub extern "C" fn cq_door_disconnect(door: &mut CqDoor, connection: u32) -> u32
     ensures { CallsDoor (ChangesOne connection (Disconnects connection)) ⊤ door.old door.new result }
 {
-    let door = behind!(door.held_door(), door);
+    behind!(door in door.held_door());
     code_of(door.disconnect(connection))
 }
 
@@ -273,7 +273,7 @@ pub extern "C" fn cq_door_disconnect(door: &mut CqDoor, connection: u32) -> u32
 pub extern "C" fn cq_door_tick(door: &mut CqDoor, now: u64, deadline: &mut u64) -> u32
     ensures { CallsDoor IsTicked (deadline.new ≡ deadline.old) door.old door.new result }
 {
-    let door = behind!(door.held_door(), door);
+    behind!(door in door.held_door());
     door.tick(now);
     *deadline = door.deadline();
     CQ_OK
@@ -284,7 +284,7 @@ pub extern "C" fn cq_door_tick(door: &mut CqDoor, now: u64, deadline: &mut u64) 
 pub extern "C" fn cq_door_resumptions(door: &mut CqDoor, count: &mut u64) -> u32
     ensures { CallsDoor (TellsResumptions count.new) (count.new ≡ count.old) door.old door.new result }
 {
-    let door = behind!(door.held_door(), door);
+    behind!(door in door.held_door());
     *count = door.resumptions();
     CQ_OK
 }

@@ -18,7 +18,7 @@ pub extern "C" fn cq_collect(
 ) -> u32
     ensures { Collects (ticket_read ticket.now) env.old env.new result answer.old answer.new frames.old frames.new }
 {
-    let agent = behind!(env.held_env(), agent);
+    behind!(agent in env.held_env());
     match agent.collect_now(ticket_in(*ticket)) {
         Ok(Some(told)) => write_answer(told, answer, frames),
         Ok(None) => CQ_WAITING,
@@ -31,7 +31,7 @@ pub extern "C" fn cq_collect(
 pub extern "C" fn cq_cancel(alloc: Global, env: &mut CqEnv, ticket: &CqTicket) -> u32
     ensures { Calls (CancelsBy (ticket_read ticket.now)) ⊤ env.old env.new result }
 {
-    let agent = behind!(env.held_env(), agent);
+    behind!(agent in env.held_env());
     match agent.cancel_now(alloc, ticket_in(*ticket)) {
         Ok(()) => CQ_OK,
         Err(error) => error.number(),
@@ -43,7 +43,7 @@ pub extern "C" fn cq_cancel(alloc: Global, env: &mut CqEnv, ticket: &CqTicket) -
 pub extern "C" fn cq_discard(env: &mut CqEnv, thread: u32, thrown: &mut bool) -> u32
     ensures { Calls (DiscardsBy (thread_no thread) thrown.old thrown.new) (thrown.new ≡ thrown.old) env.old env.new result }
 {
-    let agent = behind!(env.held_env(), agent);
+    behind!(agent in env.held_env());
     match agent.discard_now(ThreadNo(thread)) {
         Ok(is_thrown) => {
             *thrown = is_thrown;
@@ -58,7 +58,7 @@ pub extern "C" fn cq_discard(env: &mut CqEnv, thread: u32, thrown: &mut bool) ->
 pub extern "C" fn cq_out_at(env: &mut CqEnv, thread: u32, count: &mut u32) -> u32
     ensures { Calls (λ s n code. (n ≡ s) × (code ≡ 0) × (count.new ≡ outstanding s.env (thread_no thread))) (count.new ≡ count.old) env.old env.new result }
 {
-    let agent = behind!(env.held_env(), agent);
+    behind!(agent in env.held_env());
     *count = agent.out_at(ThreadNo(thread));
     CQ_OK
 }
@@ -68,7 +68,7 @@ pub extern "C" fn cq_out_at(env: &mut CqEnv, thread: u32, count: &mut u32) -> u3
 pub extern "C" fn cq_stopper(env: &mut CqEnv, thread: u32, number: &mut u32) -> u32
     ensures { Calls (TellsStopperBy (thread_no thread) number.old number.new) (number.new ≡ number.old) env.old env.new result }
 {
-    let agent = behind!(env.held_env(), agent);
+    behind!(agent in env.held_env());
     match agent.stopper_now(ThreadNo(thread)) {
         Ok(Some(stopper)) => {
             *number = stopper.0;

@@ -14,7 +14,7 @@ use ti_types::TiError;
 pub extern "C" fn cq_set_event_notification_mode(env: &mut CqEnv, enabled: bool, kind: u32) -> u32
     ensures { Calls (SetsModeBy enabled (event_kind_read kind)) ⊤ env.old env.new result }
 {
-    let agent = behind!(env.held_env(), agent);
+    behind!(agent in env.held_env());
     let Some(kind) = event_kind_in(kind) else {
         return TiError::IllegalArgument.number();
     };
@@ -26,7 +26,7 @@ pub extern "C" fn cq_set_event_notification_mode(env: &mut CqEnv, enabled: bool,
 pub extern "C" fn cq_next_event(env: &mut CqEnv, event: &mut CqEvent) -> u32
     ensures { Calls (TellsEventBy event.old event.new) (event.new ≡ event.old) env.old env.new result }
 {
-    let agent = behind!(env.held_env(), agent);
+    behind!(agent in env.held_env());
     match agent.next_event_now() {
         Ok(Some(next)) => {
             *event = event_out(next);

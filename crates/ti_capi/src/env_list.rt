@@ -15,7 +15,7 @@ use ti_types::ThreadNo;
 pub extern "C" fn cq_meet(alloc: Global, env: &mut CqEnv) -> u32
     ensures { Calls MeetsBy ⊤ env.old env.new result }
 {
-    let agent = behind!(env.held_env(), agent);
+    behind!(agent in env.held_env());
     match agent.meet_now(alloc) {
         Ok(()) => CQ_OK,
         Err(error) => error.number(),
@@ -42,7 +42,7 @@ pub extern "C" fn cq_has_news(env: &mut CqEnv) -> bool
 pub extern "C" fn cq_let_go(env: &mut CqEnv, thread: u32, gone: &mut bool) -> u32
     ensures { Calls (LetsGoBy (thread_no thread) gone.old gone.new) (gone.new ≡ gone.old) env.old env.new result }
 {
-    let agent = behind!(env.held_env(), agent);
+    behind!(agent in env.held_env());
     match agent.let_go_now(ThreadNo(thread)) {
         Ok(is_gone) => {
             *gone = is_gone;
@@ -62,7 +62,7 @@ pub extern "C" fn cq_get_all_threads(
 ) -> u32
     ensures { Calls (ListsBy threads.old threads.new count.old count.new) ((threads.new ≡ threads.old) × (count.new ≡ count.old)) env.old env.new result }
 {
-    let agent = behind!(env.held_env(), agent);
+    behind!(agent in env.held_env());
     match agent.get_all_threads_now(alloc) {
         Ok(all) => {
             *count = all.len() as u64;
@@ -84,7 +84,7 @@ pub extern "C" fn cq_get_thread_info(
 ) -> u32
     ensures { Calls (TellsInfoBy (thread_no thread) info.old info.new name.old name.new) ((info.new ≡ info.old) × (name.new ≡ name.old)) env.old env.new result }
 {
-    let agent = behind!(env.held_env(), agent);
+    behind!(agent in env.held_env());
     match agent.get_thread_info_now(alloc, ThreadNo(thread)) {
         Ok(told) => {
             let bytes = told.name.as_bytes();

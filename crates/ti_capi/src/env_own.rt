@@ -10,7 +10,7 @@ use ti_types::{Caps, TiError};
 pub extern "C" fn cq_environment_number(env: &mut CqEnv, number: &mut u32) -> u32
     ensures { Calls (λ s n code. (n ≡ s) × (code ≡ 0) × (number.new ≡ s.env.env.0)) (number.new ≡ number.old) env.old env.new result }
 {
-    let agent = behind!(env.held_env(), agent);
+    behind!(agent in env.held_env());
     *number = agent.number().0;
     CQ_OK
 }
@@ -20,7 +20,7 @@ pub extern "C" fn cq_environment_number(env: &mut CqEnv, number: &mut u32) -> u3
 pub extern "C" fn cq_add_capabilities(env: &mut CqEnv, capabilities: u32) -> u32
     ensures { Calls (AddsBy capabilities) ⊤ env.old env.new result }
 {
-    let agent = behind!(env.held_env(), agent);
+    behind!(agent in env.held_env());
     if capabilities > 3 {
         return TiError::NotAvailable.number();
     }
@@ -34,7 +34,7 @@ pub extern "C" fn cq_add_capabilities(env: &mut CqEnv, capabilities: u32) -> u32
 pub extern "C" fn cq_relinquish_capabilities(env: &mut CqEnv, capabilities: u32) -> u32
     ensures { Calls (RelinquishesBy capabilities) ⊤ env.old env.new result }
 {
-    let agent = behind!(env.held_env(), agent);
+    behind!(agent in env.held_env());
     done_code(agent.relinquish_capabilities(Caps {
         bits: (capabilities & 255) as u8,
     }))
@@ -45,7 +45,7 @@ pub extern "C" fn cq_relinquish_capabilities(env: &mut CqEnv, capabilities: u32)
 pub extern "C" fn cq_get_capabilities(env: &mut CqEnv, capabilities: &mut u32) -> u32
     ensures { Calls (λ s n code. (n ≡ s) × (code ≡ 0) × (capabilities.new ≡ s.env.state.caps.bits)) (capabilities.new ≡ capabilities.old) env.old env.new result }
 {
-    let agent = behind!(env.held_env(), agent);
+    behind!(agent in env.held_env());
     match agent.get_capabilities() {
         Ok(caps) => {
             *capabilities = u32::from(caps.bits);
@@ -60,7 +60,7 @@ pub extern "C" fn cq_get_capabilities(env: &mut CqEnv, capabilities: &mut u32) -
 pub extern "C" fn cq_get_potential_capabilities(env: &mut CqEnv, capabilities: &mut u32) -> u32
     ensures { Calls (λ s n code. (n ≡ s) × (code ≡ 0) × (capabilities.new ≡ s.home.service.cell.potential.bits)) (capabilities.new ≡ capabilities.old) env.old env.new result }
 {
-    let agent = behind!(env.held_env(), agent);
+    behind!(agent in env.held_env());
     match agent.get_potential_capabilities() {
         Ok(caps) => {
             *capabilities = u32::from(caps.bits);
@@ -75,7 +75,7 @@ pub extern "C" fn cq_get_potential_capabilities(env: &mut CqEnv, capabilities: &
 pub extern "C" fn cq_get_environment_local_storage(env: &mut CqEnv, word: &mut u64) -> u32
     ensures { Calls (λ s n code. (n ≡ s) × (code ≡ 0) × (word.new ≡ s.env.state.word)) (word.new ≡ word.old) env.old env.new result }
 {
-    let agent = behind!(env.held_env(), agent);
+    behind!(agent in env.held_env());
     match agent.get_environment_local_storage() {
         Ok(own) => {
             *word = own;
@@ -90,7 +90,7 @@ pub extern "C" fn cq_get_environment_local_storage(env: &mut CqEnv, word: &mut u
 pub extern "C" fn cq_set_environment_local_storage(env: &mut CqEnv, word: u64) -> u32
     ensures { Calls (λ s n code. (n.home ≡ s.home) × (n.env ≡ env_with s.env (with_word s.env.state word)) × (code ≡ 0)) ⊤ env.old env.new result }
 {
-    let agent = behind!(env.held_env(), agent);
+    behind!(agent in env.held_env());
     done_code(agent.set_environment_local_storage(word))
 }
 

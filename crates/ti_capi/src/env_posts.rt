@@ -23,7 +23,7 @@ fn post(
 ) -> u32
     ensures { Asks (thread_no thread) call env.old env.new result answer.old answer.new frames.old frames.new }
 {
-    let agent = behind!(env.held_env(), agent);
+    behind!(agent in env.held_env());
     match agent.post_now(alloc, ThreadNo(thread), call) {
         Ok(Asked::Answered(told)) => write_answer(told, answer, frames),
         Ok(Asked::Waiting(ticket)) => {

@@ -12,7 +12,7 @@ use ti_types::ThreadNo;
 pub extern "C" fn cq_ensure_resumed(alloc: Global, env: &mut CqEnv, thread: u32) -> u32
     ensures { Calls (ResumesBy (thread_no thread)) ⊤ env.old env.new result }
 {
-    let agent = behind!(env.held_env(), agent);
+    behind!(agent in env.held_env());
     match agent.ensure_resumed_now(alloc, ThreadNo(thread)) {
         Ok(true) => CQ_OK,
         Ok(false) => CQ_WAITING,

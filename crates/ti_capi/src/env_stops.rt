@@ -28,7 +28,7 @@ pub extern "C" fn cq_set_breakpoint(
 ) -> u32
     ensures { Calls (BreaksBy (method_no method) location (call.SetBreakpoint (place_of (method_no method) location))) ⊤ env.old env.new result }
 {
-    let agent = behind!(env.held_env(), agent);
+    behind!(agent in env.held_env());
     code_of(agent.set_breakpoint_now(alloc, MethodNo(method), location))
 }
 
@@ -42,7 +42,7 @@ pub extern "C" fn cq_clear_breakpoint(
 ) -> u32
     ensures { Calls (BreaksBy (method_no method) location (call.ClearBreakpoint (place_of (method_no method) location))) ⊤ env.old env.new result }
 {
-    let agent = behind!(env.held_env(), agent);
+    behind!(agent in env.held_env());
     code_of(agent.clear_breakpoint_now(alloc, MethodNo(method), location))
 }
 
@@ -50,7 +50,7 @@ pub extern "C" fn cq_clear_breakpoint(
 fn ask(env: &mut CqEnv, call: StopCall) -> u32
     ensures { Calls (StopsBy call) ⊤ env.old env.new result }
 {
-    let agent = behind!(env.held_env(), agent);
+    behind!(agent in env.held_env());
     match agent.stop_now(call) {
         Ok(_) => CQ_OK,
         Err(error) => error.number(),
@@ -118,7 +118,7 @@ pub extern "C" fn cq_end_stop(env: &mut CqEnv, thread: u32) -> u32
 pub extern "C" fn cq_next_stop(env: &mut CqEnv, stop: &mut CqStop) -> u32
     ensures { Calls (NextStopBy stop.old stop.new) (stop.new ≡ stop.old) env.old env.new result }
 {
-    let agent = behind!(env.held_env(), agent);
+    behind!(agent in env.held_env());
     match agent.stop_now(StopCall::Next) {
         Ok(StopReply::Told(Some(told))) => {
             *stop = stop_out(told);

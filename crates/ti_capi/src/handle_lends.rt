@@ -63,18 +63,17 @@ impl CqHandle {
     }
 }
 
-/// What lies behind a full handle: the agent of an environment, a thread or a door. Behind another one there is nothing, and the
-/// function for C that asks ends with the code `CQ_MISUSED`.
+/// Binds what lies behind a full handle: the agent of an environment, a thread or a door. Behind another one there is nothing, and
+/// the function for C that asks ends with the code `CQ_MISUSED`.
 macro_rules! behind {
-    ($held:expr, $what:ident) => {{
+    ($what:ident in $held:expr) => {
         let Some(held) = $held else {
             return crate::codes::CQ_MISUSED;
         };
         let Some($what) = &mut held.$what else {
             return crate::codes::CQ_MISUSED;
         };
-        $what
-    }};
+    };
 }
 
 pub(crate) use behind;

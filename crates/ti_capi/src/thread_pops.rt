@@ -9,7 +9,7 @@ use crate::handle_lends::behind;
 pub extern "C" fn cq_frame_count(thread: &mut CqThread, count: &mut u64) -> u32
     ensures { CountBehind (thread_in thread.old) thread.old thread.new count.old count.new result }
 {
-    let thread = behind!(thread.held_thread(), thread);
+    behind!(thread in thread.held_thread());
     match thread.frame_count() {
         Ok(frames) => {
             *count = frames as u64;
@@ -24,7 +24,7 @@ pub extern "C" fn cq_frame_count(thread: &mut CqThread, count: &mut u64) -> u32
 pub extern "C" fn cq_take_pops(thread: &mut CqThread, count: &mut u64) -> u32
     ensures { NotesBehind (thread_in thread.old) (thread_in thread.new) thread.old thread.new count.old count.new result }
 {
-    let thread = behind!(thread.held_thread(), thread);
+    behind!(thread in thread.held_thread());
     *count = thread.take_pops() as u64;
     CQ_OK
 }

@@ -10,7 +10,7 @@ use ti_types::{MethodNo, Step};
 pub extern "C" fn cq_thread_number(thread: &mut CqThread, number: &mut u32) -> u32
     ensures { NumberBehind (thread_in thread.old) thread.old thread.new number.old number.new result }
 {
-    let thread = behind!(thread.held_thread(), thread);
+    behind!(thread in thread.held_thread());
     *number = thread.thread.thread().0;
     CQ_OK
 }
@@ -20,7 +20,7 @@ pub extern "C" fn cq_thread_number(thread: &mut CqThread, number: &mut u32) -> u
 fn step(thread: &mut CqThread, step: Step) -> u32
     ensures { Changes (Keeps (Steps step)) thread.old thread.new result }
 {
-    let thread = behind!(thread.held_thread(), thread);
+    behind!(thread in thread.held_thread());
     told_code(thread.step(step))
 }
 

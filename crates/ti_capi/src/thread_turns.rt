@@ -2,7 +2,6 @@
 
 use crate::codes::{CQ_MISUSED, told_code};
 use crate::handle::CqThread;
-use crate::handle_lends::behind;
 use crate::held::HeldThread;
 use crate::values::reason_in;
 use ti_thread::Turn;
@@ -63,7 +62,12 @@ pub extern "C" fn cq_block(thread: &mut CqThread, reason: u32) -> u32
 fn unknown_reason(thread: &mut CqThread) -> u32
     ensures { UnknownBehind (thread_in thread.old) thread.old thread.new result }
 {
-    let _thread = behind!(thread.held_thread(), thread);
+    let Some(held) = thread.held_thread() else {
+        return CQ_MISUSED;
+    };
+    let Some(_) = &mut held.thread else {
+        return CQ_MISUSED;
+    };
     TiError::IllegalArgument.number()
 }
 
