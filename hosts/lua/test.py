@@ -3,6 +3,7 @@
 
 Variables of the Makefile go on to it from the environment: CEBDYRAQ, CEBDYRAQ_LIB, OUT. The tests are in tests_*.py.
 """
+import signal
 import subprocess
 import sys
 import tempfile
@@ -34,6 +35,9 @@ def run_test(name, test):
 
 
 def main():
+    # a shell that runs this in the background has it ignore Ctrl-C, and `nohup` a hang-up, and then cqlua would too
+    signal.signal(signal.SIGINT, signal.default_int_handler)
+    signal.signal(signal.SIGHUP, signal.SIG_DFL)
     if not LUA:
         sys.exit("test.py wants Debian's lua5.4")
     if subprocess.run(["make", "-s", "-C", str(HERE)]).returncode:
