@@ -24,13 +24,22 @@ def start(folder, *words):
     return process, path
 
 
+def end_of(process, seconds=30):
+    """What a process writes until it ends. One that does not end in this time is killed, and the test fails."""
+    try:
+        return process.communicate(timeout=seconds)
+    except subprocess.TimeoutExpired:
+        process.kill()
+        raise
+
+
 def test_end_by_signal(folder):
     forever = script(folder, "forever.lua", FOREVER)
     for number in signal.SIGINT, signal.SIGTERM, signal.SIGHUP:
         process, path = start(folder, forever)
         time.sleep(0.5)
         process.send_signal(number)
-        _, text = process.communicate(timeout=30)
+        _, text = end_of(process)
         match = re.search(r"(\d+) ticks in ([\d.]+) s, (\d+) stacks", text)
         stacks = folded(path)
         check(f"after {number.name} the process has ended by it", process.returncode == -number, process.returncode)
@@ -44,7 +53,7 @@ def test_end_by_signal_at_a_slow_rate(folder):
     time.sleep(0.5)
     before = time.time()
     process.send_signal(signal.SIGINT)
-    process.communicate(timeout=30)
+    end_of(process)
     check("Ctrl-C does not wait for the next tick", time.time() - before < 3 and sum(folded(path).values()) == 1)
 
 
@@ -73,7 +82,7 @@ def test_end_by_signal_that_is_ignored(folder):
                                preexec_fn=lambda: signal.signal(signal.SIGINT, signal.SIG_IGN))
     time.sleep(0.3)
     process.send_signal(signal.SIGINT)
-    out, text = process.communicate(timeout=30)
+    out, text = end_of(process)
     check("a signal that is ignored stays so", not process.returncode and "10 rounds: " in out and " ticks in " in text,
           text)
 
@@ -85,7 +94,7 @@ def test_end_after_the_profile(folder):
     process.stderr.readline()
     time.sleep(0.3)
     process.send_signal(signal.SIGINT)
-    process.communicate(timeout=10)
+    end_of(process, 10)
     check("once the profile is written, Ctrl-C ends the process", process.returncode == -signal.SIGINT and folded(path))
 
 
