@@ -6,6 +6,7 @@
 use crate::cancelled::Cancelled;
 use crate::desk::Desk;
 use crate::desk_cancel::add_own_out;
+use crate::desk_tries::try_hold;
 use std::alloc::Global;
 use ti_types::{Call, TiError, Ticket, TraceBuf};
 
@@ -91,20 +92,9 @@ impl Desk {
         ensures added { OnOk result (AddsAll self.old.view.posted cancelled.old.tickets cancelled.new.tickets) }
         ensures busy { IfErr result (λ e. (e ≡ Busy) × (self.new ≡ self.old) × (cancelled.new ≡ cancelled.old)) }
     {
-        let Some(seat) = self.seat.take() else {
-            unreachable!()
-        };
-        match self.cell.hold_now(seat) {
-            Ok(mut hold) => {
-                add_own_out(hold.slot(), self.env, cancelled);
-                self.seat = Some(hold.store_quietly());
-                Ok(())
-            }
-            Err(seat) => {
-                self.seat = Some(seat);
-                Err(TiError::Busy)
-            }
-        }
+        try_hold!(self, |slot| {
+            add_own_out(slot, self.env, cancelled);
+        }, else TiError::Busy)
     }
 
     /// Cancels all calls of the desk that are out, and sets the environment's word at the thread to 0. It tries to hold the
@@ -155,23 +145,11 @@ impl Desk {
         ensures added { OnOk result (AddsAll self.old.view.posted cancelled.old.tickets cancelled.new.tickets) }
         ensures busy { IfErr result (λ e. (e ≡ Busy) × (self.new ≡ self.old) × (cancelled.new ≡ cancelled.old)) }
     {
-        let Some(seat) = self.seat.take() else {
-            unreachable!()
-        };
-        match self.cell.hold_now(seat) {
-            Ok(mut hold) => {
-                let slot = hold.slot();
-                slot.tickets();
-                add_own_out(slot, self.env, cancelled);
-                drop(slot.ask(self.env, Call::SetWord(0), TraceBuf::none()));
-                self.seat = Some(hold.store_quietly());
-                Ok(())
-            }
-            Err(seat) => {
-                self.seat = Some(seat);
-                Err(TiError::Busy)
-            }
-        }
+        try_hold!(self, |slot| {
+            slot.tickets();
+            add_own_out(slot, self.env, cancelled);
+            drop(slot.ask(self.env, Call::SetWord(0), TraceBuf::none()));
+        }, else TiError::Busy)
     }
 
     /// Looks for the answer to the call that was cancelled first. It is the same as `discard`, but tries to hold the cell

@@ -8,6 +8,30 @@ use ti_replay::rules::waits;
 use ti_slot::Asked;
 use ti_types::{Answer, Call, EnvNo, TiError, Ticket, TraceBuf};
 
+/// Tries to hold the cell of a desk's thread just once, and gives what comes of the slot. If the cell is in use, the error is the last
+/// of what is given, and nothing changes.
+macro_rules! try_hold {
+    ($desk:ident, |$slot:ident| $said:expr, else $busy:expr) => {{
+        let Some(seat) = $desk.seat.take() else {
+            unreachable!()
+        };
+        match $desk.cell.hold_now(seat) {
+            Ok(mut hold) => {
+                let $slot = hold.slot();
+                let said = $said;
+                $desk.seat = Some(hold.store_quietly());
+                Ok(said)
+            }
+            Err(seat) => {
+                $desk.seat = Some(seat);
+                Err($busy)
+            }
+        }
+    }};
+}
+
+pub(crate) use try_hold;
+
 /// What one hold sees of a thread.
 #[derive(Drop)]
 struct Looked {
@@ -82,22 +106,10 @@ impl Desk {
                 None => Err(buf),
             };
         }
-        let Some(seat) = self.seat.take() else {
-            unreachable!()
-        };
-        match self.cell.hold_now(seat) {
-            Ok(mut hold) => {
-                let slot = hold.slot();
-                slot.tickets();
-                let asked = slot.ask(self.env, call, buf);
-                self.seat = Some(hold.store_quietly());
-                Ok(asked)
-            }
-            Err(seat) => {
-                self.seat = Some(seat);
-                Err(buf)
-            }
-        }
+        try_hold!(self, |slot| {
+            slot.tickets();
+            slot.ask(self.env, call, buf)
+        }, else buf)
     }
 
     /// Makes a call at the thread that is answered at once, whatever the thread does: a question for its state, a resumption,
@@ -143,22 +155,10 @@ impl Desk {
             let _out = self.has_out_now(ticket)?;
             return Ok(None);
         }
-        let Some(seat) = self.seat.take() else {
-            unreachable!()
-        };
-        match self.cell.hold_now(seat) {
-            Ok(mut hold) => {
-                let slot = hold.slot();
-                slot.tickets();
-                let answer = collect_own(slot, self.env, ticket);
-                self.seat = Some(hold.store_quietly());
-                Ok(answer)
-            }
-            Err(seat) => {
-                self.seat = Some(seat);
-                Err(TiError::Busy)
-            }
-        }
+        try_hold!(self, |slot| {
+            slot.tickets();
+            collect_own(slot, self.env, ticket)
+        }, else TiError::Busy)
     }
 
     /// Whether this is the ticket of a call of this desk that is out. It tries to hold the cell just once, and adds nothing.
@@ -170,20 +170,7 @@ impl Desk {
         ensures out { IfOk result (λ out. out ≡ has ticket self.old.view.posted) }
         ensures busy { IfErr result (λ e. (e ≡ Busy) × (self.new ≡ self.old)) }
     {
-        let Some(seat) = self.seat.take() else {
-            unreachable!()
-        };
-        match self.cell.hold_now(seat) {
-            Ok(mut hold) => {
-                let out = is_own_out(hold.slot(), self.env, ticket);
-                self.seat = Some(hold.store_quietly());
-                Ok(out)
-            }
-            Err(seat) => {
-                self.seat = Some(seat);
-                Err(TiError::Busy)
-            }
-        }
+        try_hold!(self, |slot| is_own_out(slot, self.env, ticket), else TiError::Busy)
     }
 
     /// Stops the thread. It is the same as `try_stop`, but tries to hold the cell just once. It costs one call if it is not
@@ -200,20 +187,7 @@ impl Desk {
         ensures answer { IfOk result (λ a. said a ≡ done_or (stop_refusal self.old self.new)) }
         ensures busy { IfErr result (λ e. (e ≡ Busy) × (self.new ≡ self.old)) }
     {
-        let Some(seat) = self.seat.take() else {
-            unreachable!()
-        };
-        match self.cell.hold_now(seat) {
-            Ok(mut hold) => {
-                let stopped = hold.slot().stop(self.env);
-                self.seat = Some(hold.store_quietly());
-                Ok(stopped)
-            }
-            Err(seat) => {
-                self.seat = Some(seat);
-                Err(TiError::Busy)
-            }
-        }
+        try_hold!(self, |slot| slot.stop(self.env), else TiError::Busy)
     }
 
     /// Reads the thread's state and at most `max_count` of its newest frames under this environment's stop (JVM TI 11,
@@ -233,20 +207,7 @@ impl Desk {
         ensures answer { IfOk result (λ a. read_answer (read_refusal self.old self.new max_count) (reply self.old.view.subject.limits self.new.view.seen (length (found self.old.view self.new.view))) ≡ Some (said a)) }
         ensures busy { IfErr result (λ b. (b ≡ buf) × (self.new ≡ self.old)) }
     {
-        let Some(seat) = self.seat.take() else {
-            unreachable!()
-        };
-        match self.cell.hold_now(seat) {
-            Ok(mut hold) => {
-                let read = hold.slot().read(self.env, max_count, buf);
-                self.seat = Some(hold.store_quietly());
-                Ok(read)
-            }
-            Err(seat) => {
-                self.seat = Some(seat);
-                Err(buf)
-            }
-        }
+        try_hold!(self, |slot| slot.read(self.env, max_count, buf), else buf)
     }
 
     /// Lets the thread go: this environment's stop is over. It is the same as `go`, but tries to hold the cell just once. It
@@ -262,20 +223,7 @@ impl Desk {
         ensures answer { IfOk result (λ a. said a ≡ done_or (go_refusal self.old self.new)) }
         ensures busy { IfErr result (λ e. (e ≡ Busy) × (self.new ≡ self.old)) }
     {
-        let Some(seat) = self.seat.take() else {
-            unreachable!()
-        };
-        match self.cell.hold_now(seat) {
-            Ok(mut hold) => {
-                let gone = hold.slot().go(self.env);
-                self.seat = Some(hold.store_quietly());
-                Ok(gone)
-            }
-            Err(seat) => {
-                self.seat = Some(seat);
-                Err(TiError::Busy)
-            }
-        }
+        try_hold!(self, |slot| slot.go(self.env), else TiError::Busy)
     }
 
     /// Looks at the thread, and tries to hold the cell just once. It adds nothing.
@@ -289,25 +237,11 @@ impl Desk {
         ensures stopper { IfOk result (λ l. l.stopper ≡ (view self.new.view.subject.limits self.new.view.seen).stopper) }
         ensures busy { IfErr result (λ e. (e ≡ Busy) × (self.new ≡ self.old)) }
     {
-        let Some(seat) = self.seat.take() else {
-            unreachable!()
-        };
-        match self.cell.hold_now(seat) {
-            Ok(mut hold) => {
-                let slot = hold.slot();
-                let looked = Looked {
-                    standing: slot.standing(self.env),
-                    hand_overs: slot.hand_overs(),
-                    stopper: slot.stopper(),
-                };
-                self.seat = Some(hold.store_quietly());
-                Ok(looked)
-            }
-            Err(seat) => {
-                self.seat = Some(seat);
-                Err(TiError::Busy)
-            }
-        }
+        try_hold!(self, |slot| Looked {
+    standing: slot.standing(self.env),
+    hand_overs: slot.hand_overs(),
+    stopper: slot.stopper(),
+}, else TiError::Busy)
     }
 
     /// Whether this environment's stop is in force and the thread does not run. It is the same as `standing`, but tries to

@@ -8,7 +8,7 @@ use Rattle.ti_replay.specs.Events.{stopping_refusal, if_none}
 use Rattle.ti_replay.specs.View.{view}
 use Rattle.ti_slot.specs.Thread.{Thread, done_or}
 use Rattle.ti_handshake.proofs.Desks.{Took, took, may_call, Known, stores_as, adds_held, answers_as, keeps_all}
-use Rattle.ti_handshake.proofs.desk.Desk.stop_now.Goals.{After-slot}
+use Rattle.ti_handshake.proofs.desk.Desk.stop_now.Goals.{After-slot-slot}
 use Rattle.ti_handshake.proofs.desk.Desk.stop_now.Goals as goal
 
 abbrev why : Known → Option TiError
@@ -18,30 +18,30 @@ abbrev adds : Known → List Entry
 adds x = if_none (why x) (entry.Stop x.env ∷ [])
 
 -- the slot that the desk took
-taken : (c : After-slot) → Took c.args.self.now c.self.inside.env c.in-Some.seat c.in-Ok.hold c.slot.result.now
-taken c = took _ _ _ _ _ _ _ c.in-Ok.hold _ c.self.invariant c.self.view_is c.in-Some.is c.take.ensures.value c.in-Ok.ensures.view c.in-Ok.ensures.taken c.slot.ensures.value
+taken : (c : After-slot-slot) → Took c.args.self.now c.self.inside.env c.in-Some.seat c.in-Ok.hold c.slot-slot.result.now
+taken c = took _ _ _ _ _ _ _ c.in-Ok.hold _ c.self.invariant c.self.view_is c.in-Some.is c.take.ensures.value c.in-Ok.ensures.view c.in-Ok.ensures.taken c.slot-slot.ensures.value
 
-pub stop-stopped-requires-clause-calls : goal.stop-stopped-requires-clause-calls
-stop-stopped-requires-clause-calls c =
-    let k = taken (goal.at.stop-stopped-requires-clause-calls c).After-slot in
+pub stop-said-requires-clause-calls : goal.stop-said-requires-clause-calls
+stop-said-requires-clause-calls c =
+    let k = taken (goal.at.stop-said-requires-clause-calls c).After-slot-slot in
     may_call _ _ _ _ _ k c.requires.calls
 
 pub store_quietly-requires-clause-adds : goal.store_quietly-requires-clause-adds
 store_quietly-requires-clause-adds c =
-    let k = taken (goal.at.store_quietly-requires-clause-adds c).After-slot in
-    adds_held _ _ _ _ _ _ _ _ k refl c.stop-stopped.ensures.thread
+    let k = taken (goal.at.store_quietly-requires-clause-adds c).After-slot-slot in
+    adds_held _ _ _ _ _ _ _ _ k refl c.stop-said.ensures.thread
 
 pub store_quietly-requires-clause-keeps : goal.store_quietly-requires-clause-keeps
 store_quietly-requires-clause-keeps c =
-    let k = taken (goal.at.store_quietly-requires-clause-keeps c).After-slot in
-    keeps_all _ _ _ _ c.slot.result.now c.stop-stopped.new.self k (ap (λ (t : Thread). t.uncollected) c.stop-stopped.ensures.thread)
+    let k = taken (goal.at.store_quietly-requires-clause-keeps c).After-slot-slot in
+    keeps_all _ _ _ _ c.slot-slot.result.now c.stop-said.new.self k (ap (λ (t : Thread). t.uncollected) c.stop-said.ensures.thread)
 
 pub returns-in-Ok-clause-hold : goal.returns-in-Ok-clause-hold
 returns-in-Ok-clause-hold c =
-    let k = taken (goal.at.returns-in-Ok-clause-hold c).After-slot in
-    stores_as adds _ _ _ _ _ c.stop-stopped.new.self _ k c.store_quietly.ensures.view c.stop-stopped.ensures.thread c.store_quietly.ensures.legal c.store_quietly.ensures.mine
+    let k = taken (goal.at.returns-in-Ok-clause-hold c).After-slot-slot in
+    stores_as adds _ _ _ _ _ c.stop-said.new.self _ k c.store_quietly.ensures.view c.stop-said.ensures.thread c.store_quietly.ensures.legal c.store_quietly.ensures.mine
 
 pub returns-in-Ok-clause-answer : goal.returns-in-Ok-clause-answer
 returns-in-Ok-clause-answer c =
-    let k = taken (goal.at.returns-in-Ok-clause-answer c).After-slot in
-    answers_as (λ x. said c.stop-stopped.result ≡ done_or (why x)) _ _ _ _ _ c.stop-stopped.new.self _ _ k c.store_quietly.ensures.view c.stop-stopped.ensures.thread c.stop-stopped.ensures.answer
+    let k = taken (goal.at.returns-in-Ok-clause-answer c).After-slot-slot in
+    answers_as (λ x. said c.stop-said.result ≡ done_or (why x)) _ _ _ _ _ c.stop-said.new.self _ _ k c.store_quietly.ensures.view c.stop-said.ensures.thread c.stop-said.ensures.answer
