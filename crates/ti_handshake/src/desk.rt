@@ -11,6 +11,26 @@ use ti_cell::{EnvSeat, Pace};
 use ti_slot::{Asked, Slot};
 use ti_types::{Answer, Call, EnvNo, Limits, ThreadNo, Ticket, TraceBuf};
 
+/// Makes a try of a desk until its cell is not in use, and gives what came of it. It waits a little after each try that found the cell
+/// in use, and wakes whoever sleeps and may go on in the end.
+macro_rules! until_free {
+    ($desk:ident, $rt:ident, $tried:expr) => {{
+        let pace = Pace::new();
+        for _ in $rt.forever() {
+            match $tried {
+                Ok(done) => {
+                    $desk.wake_sleepers();
+                    return done;
+                }
+                Err(_busy) => $desk.cell.await_free($rt, &pace),
+            }
+        }
+        unreachable!()
+    }};
+}
+
+pub(crate) use until_free;
+
 /// One environment at one thread. Contracts see it as a `DeskState`: its cell, its environment, its seat's view, and its calls
 /// that were cancelled and are still out.
 ///
@@ -216,17 +236,7 @@ impl Desk {
         ensures answer { option_map said result ≡ (if is_out self.old ticket then reply_to self.old.view.subject.limits self.new.view.seen ticket else None) }
         ensures place { IfSome result (λ a. ReplyAtPlace self.old.view.subject.limits self.new.view.seen ticket (said a)) }
     {
-        let pace = Pace::new();
-        for _ in rt.forever() {
-            match self.collect_now(ticket) {
-                Ok(answer) => {
-                    self.wake_sleepers();
-                    return answer;
-                }
-                Err(_busy) => self.cell.await_free(rt, &pace),
-            }
-        }
-        unreachable!()
+        until_free!(self, rt, self.collect_now(ticket))
     }
 
     /// The same as `try_collect`, but it waits for the answer for at most this time. It looks for the answer by holds, and

@@ -1,7 +1,7 @@
 //! Calls of a desk that are cancelled, and calls with a deadline.
 
 use crate::cancelled::Cancelled;
-use crate::desk::Desk;
+use crate::desk::{Desk, until_free};
 use std::alloc::Global;
 use std::mem;
 use std::rt::Clock;
@@ -69,17 +69,7 @@ impl Desk {
     pub fn discard<R: Wait>(&mut self, rt: &R) -> bool
         ensures { Discards self.old self.new result }
     {
-        let pace = Pace::new();
-        for _ in rt.forever() {
-            match self.discard_now() {
-                Ok(thrown) => {
-                    self.wake_sleepers();
-                    return thrown;
-                }
-                Err(_busy) => self.cell.await_free(rt, &pace),
-            }
-        }
-        unreachable!()
+        until_free!(self, rt, self.discard_now())
     }
 
     /// Makes a call at the thread, and waits for its answer for at most this time. If the answer does not come, the error is

@@ -1,6 +1,6 @@
 //! The stops of a desk: it stops a thread, reads it, and lets it go.
 
-use crate::desk::Desk;
+use crate::desk::{Desk, until_free};
 use std::sync::Wait;
 use ti_cell::Pace;
 use ti_types::{Answer, EnvNo, TraceBuf};
@@ -38,17 +38,7 @@ impl Desk {
         ensures hold { Holds self.old.view self.new.view (if_none (stop_refusal self.old self.new) (entry.Stop self.old.env ∷ [])) }
         ensures answer { said result ≡ done_or (stop_refusal self.old self.new) }
     {
-        let pace = Pace::new();
-        for _ in rt.forever() {
-            match self.stop_now() {
-                Ok(answer) => {
-                    self.wake_sleepers();
-                    return answer;
-                }
-                Err(_busy) => self.cell.await_free(rt, &pace),
-            }
-        }
-        unreachable!()
+        until_free!(self, rt, self.stop_now())
     }
 
     /// Stops the thread in one hold, unless another environment's stop is in force. Then nothing changes, and there is no
@@ -113,17 +103,7 @@ impl Desk {
         ensures hold { Holds self.old.view self.new.view (if_none (go_refusal self.old self.new) (entry.Go self.old.env ∷ [])) }
         ensures answer { said result ≡ done_or (go_refusal self.old self.new) }
     {
-        let pace = Pace::new();
-        for _ in rt.forever() {
-            match self.go_now() {
-                Ok(answer) => {
-                    self.wake_sleepers();
-                    return answer;
-                }
-                Err(_busy) => self.cell.await_free(rt, &pace),
-            }
-        }
-        unreachable!()
+        until_free!(self, rt, self.go_now())
     }
 
     /// Whether this environment's stop is in force and the thread does not run. It takes one hold, which adds nothing.
@@ -132,17 +112,7 @@ impl Desk {
         ensures hold { Holds self.old.view self.new.view [] }
         ensures standing { result ≡ is_standing self.old.view.subject.limits self.new.view.seen self.old.env }
     {
-        let pace = Pace::new();
-        for _ in rt.forever() {
-            match self.standing_now() {
-                Ok(standing) => {
-                    self.wake_sleepers();
-                    return standing;
-                }
-                Err(_busy) => self.cell.await_free(rt, &pace),
-            }
-        }
-        unreachable!()
+        until_free!(self, rt, self.standing_now())
     }
 }
 
