@@ -1,6 +1,7 @@
 //! A desk: an environment's calls at one thread.
 
 use crate::cancelled::Cancelled;
+use crate::retries::until_free;
 use crate::shared_cell::SharedCell;
 use crate::waits::{Deadline, await_news, await_news_until};
 use std::marker::Model;
@@ -10,26 +11,6 @@ use std::time::Duration;
 use ti_cell::{EnvSeat, Pace};
 use ti_slot::{Asked, Slot};
 use ti_types::{Answer, Call, EnvNo, Limits, ThreadNo, Ticket, TraceBuf};
-
-/// Makes a try of a desk until its cell is not in use, and gives what came of it. It waits a little after each try that found the cell
-/// in use, and wakes whoever sleeps and may go on in the end.
-macro_rules! until_free {
-    ($desk:ident, $rt:ident, $tried:expr) => {{
-        let pace = Pace::new();
-        for _ in $rt.forever() {
-            match $tried {
-                Ok(done) => {
-                    $desk.wake_sleepers();
-                    return done;
-                }
-                Err(_busy) => $desk.cell.await_free($rt, &pace),
-            }
-        }
-        unreachable!()
-    }};
-}
-
-pub(crate) use until_free;
 
 /// One environment at one thread. Contracts see it as a `DeskState`: its cell, its environment, its seat's view, and its calls
 /// that were cancelled and are still out.

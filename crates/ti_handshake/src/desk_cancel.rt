@@ -1,7 +1,8 @@
 //! Calls of a desk that are cancelled, and calls with a deadline.
 
 use crate::cancelled::Cancelled;
-use crate::desk::{Desk, until_free};
+use crate::desk::Desk;
+use crate::retries::until_free;
 use std::alloc::Global;
 use std::mem;
 use std::rt::Clock;

@@ -1,6 +1,7 @@
 //! The stops of a desk: it stops a thread, reads it, and lets it go.
 
-use crate::desk::{Desk, until_free};
+use crate::desk::Desk;
+use crate::retries::until_free;
 use std::sync::Wait;
 use ti_cell::Pace;
 use ti_types::{Answer, EnvNo, TraceBuf};

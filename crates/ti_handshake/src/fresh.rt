@@ -1,12 +1,13 @@
 //! A thread that has not started.
 
 use crate::not_running::NotRunning;
+use crate::retries::until_settled;
 use crate::running::Running;
 use crate::shared_cell::SharedCell;
 use crate::waits::await_unbarred;
 use std::marker::Model;
 use std::sync::Wait;
-use ti_cell::{OwnSeat, Pace};
+use ti_cell::OwnSeat;
 use ti_types::{ThreadNo, TiError};
 
 /// A thread that has not started. Contracts see it as its seat.
@@ -87,23 +88,7 @@ impl Fresh {
         ensures barred { IfErr result (λ e. (e.0 ≡ Barred) × (is_barred (view self.view.subject.limits e.1.view.seen) ≡ true)) }
         ensures steps { IfOk result (λ r. r.steps ≡ []) }
     {
-        let pace = Pace::new();
-        let mut fresh = self;
-        for _ in rt.forever() {
-            match fresh.start_now() {
-                Ok(running) => {
-                    running.wake_sleepers();
-                    return Ok(running);
-                }
-                Err((TiError::Busy, again)) => fresh = again,
-                Err((error, barred)) => {
-                    barred.wake_sleepers();
-                    return Err((error, barred));
-                }
-            }
-            fresh.cell.await_free(rt, &pace);
-        }
-        unreachable!()
+        until_settled!(self, rt, start_now())
     }
 
     /// Starts the thread, and waits while a stop is in force. It looks until the thread may start, and then holds the cell

@@ -1,12 +1,13 @@
 //! A thread that is safe, and one that has ended.
 
 use crate::not_running::NotRunning;
+use crate::retries::until_settled;
 use crate::running::Running;
 use crate::shared_cell::SharedCell;
 use crate::waits::await_unbarred;
 use std::marker::Model;
 use std::sync::Wait;
-use ti_cell::{OwnSeat, Pace};
+use ti_cell::OwnSeat;
 use ti_frames::Log;
 use ti_types::{ThreadNo, TiError};
 
@@ -90,23 +91,7 @@ impl AtSafe {
         ensures barred { IfErr result (λ e. (e.0 ≡ Barred) × (is_barred (view self.view.subject.limits e.1.view.seen) ≡ true)) }
         ensures steps { IfOk result (λ r. r.steps ≡ []) }
     {
-        let pace = Pace::new();
-        let mut safe = self;
-        for _ in rt.forever() {
-            match safe.back_now() {
-                Ok(running) => {
-                    running.wake_sleepers();
-                    return Ok(running);
-                }
-                Err((TiError::Busy, again)) => safe = again,
-                Err((error, barred)) => {
-                    barred.wake_sleepers();
-                    return Err((error, barred));
-                }
-            }
-            safe.cell.await_free(rt, &pace);
-        }
-        unreachable!()
+        until_settled!(self, rt, back_now())
     }
 
     /// Lets the thread return, and waits while it is barred (HotSpot Runtime Overview). It looks until the thread may

@@ -2,4 +2,4 @@ use Rattle.std.proofs.Common.{◌≡◌}
 use Rattle.ti_handshake.proofs.safe.AtSafe.try_back.Given as goal
 
 abbrev pub invariant-loop : goal.invariant-loop
-invariant-loop g l = l.safe ≡ l.initial.safe
+invariant-loop g l = l.thread ≡ l.initial.thread
