@@ -48,6 +48,28 @@ impl Desk {
         }
     }
 
+    /// Takes the list of calls that were cancelled out of the desk, with room for all calls that are out. `put_cancelled` puts it back.
+    ///
+    /// The error is 110 OUT_OF_MEMORY if there is no memory for that. Then nothing changes.
+    fn take_with_room(&mut self, alloc: Global) -> Result<Cancelled, TiError>
+        ensures tickets { IfOk result (λ c. c.tickets ≡ self.old.cancelled) }
+        ensures given { IfOk result (λ c. AreGivenUp c.tickets self.old.view.posted) }
+        ensures room { IfOk result (λ c. length self.old.view.posted ≤ c.room) }
+        ensures none { OnOk result (self.new ≡ with_cancelled self.old []) }
+        ensures memory { IfErr result (λ e. e ≡ OutOfMemory) }
+        ensures unchanged { OnErr result (self.new ≡ self.old) }
+    {
+        let out = self.out();
+        let mut cancelled = self.take_cancelled();
+        match cancelled.reserve(alloc, out as usize) {
+            Ok(()) => Ok(cancelled),
+            Err(error) => {
+                self.put_cancelled(cancelled);
+                Err(error)
+            }
+        }
+    }
+
     /// Cancels all calls of the desk that are out. It is the same as `cancel_all`, but tries to hold the cell just once.
     /// Each of them still takes place when the thread reaches it.
     ///
@@ -62,22 +84,10 @@ impl Desk {
         ensures refused { IfErr result (λ e. (e ≡ OutOfMemory) ⊎ (e ≡ Busy)) }
         ensures unchanged { OnErr result (self.new ≡ self.old) }
     {
-        let out = self.out();
-        let mut cancelled = self.take_cancelled();
-        if let Err(error) = cancelled.reserve(alloc, out as usize) {
-            self.put_cancelled(cancelled);
-            return Err(error);
-        }
-        match self.add_out_now(&mut cancelled) {
-            Ok(()) => {
-                self.put_cancelled(cancelled);
-                Ok(())
-            }
-            Err(error) => {
-                self.put_cancelled(cancelled);
-                Err(error)
-            }
-        }
+        let mut cancelled = self.take_with_room(alloc)?;
+        let added = self.add_out_now(&mut cancelled);
+        self.put_cancelled(cancelled);
+        added
     }
 
     /// Adds the tickets of all calls that are out to a list of some of them. There is room for all. It tries to hold the
@@ -114,22 +124,10 @@ impl Desk {
         ensures refused { IfErr result (λ e. (e ≡ OutOfMemory) ⊎ (e ≡ Busy)) }
         ensures unchanged { OnErr result (self.new ≡ self.old) }
     {
-        let out = self.out();
-        let mut cancelled = self.take_cancelled();
-        if let Err(error) = cancelled.reserve(alloc, out as usize) {
-            self.put_cancelled(cancelled);
-            return Err(error);
-        }
-        match self.add_out_and_clear_now(&mut cancelled) {
-            Ok(()) => {
-                self.put_cancelled(cancelled);
-                Ok(())
-            }
-            Err(error) => {
-                self.put_cancelled(cancelled);
-                Err(error)
-            }
-        }
+        let mut cancelled = self.take_with_room(alloc)?;
+        let added = self.add_out_and_clear_now(&mut cancelled);
+        self.put_cancelled(cancelled);
+        added
     }
 
     /// Adds the tickets of all calls that are out to a list of some of them, and sets the environment's word to 0. There is
@@ -189,4 +187,4 @@ ghost use Rattle.ti_types.specs.declared.error.TiError.TheVariants.{OutOfMemory,
 ghost use Rattle.ti_replay.specs.Legal.{calls_spent};
 ghost use Rattle.ti_handshake.specs.Call.{Holds, next_call};
 ghost use Rattle.ti_handshake.specs.Cancelled.{AddsAll, AreGivenUp};
-ghost use Rattle.ti_handshake.specs.Desk.{CancelsAll, Discards, IsSame, is_out};
+ghost use Rattle.ti_handshake.specs.Desk.{CancelsAll, Discards, IsSame, is_out, with_cancelled};
