@@ -102,9 +102,7 @@ impl Desk {
         ensures added { OnOk result (AddsAll self.old.view.posted cancelled.old.tickets cancelled.new.tickets) }
         ensures busy { IfErr result (λ e. (e ≡ Busy) × (self.new ≡ self.old) × (cancelled.new ≡ cancelled.old)) }
     {
-        try_hold!(self, |slot| {
-            add_own_out(slot, self.env, cancelled);
-        }, else TiError::Busy)
+        try_hold!(self, |slot| add_own_out(slot, self.env, cancelled), else TiError::Busy)
     }
 
     /// Cancels all calls of the desk that are out, and sets the environment's word at the thread to 0. It tries to hold the
