@@ -33,6 +33,7 @@ mod agent_meetings;
 mod agent_stops;
 mod agent_tries;
 mod event;
+mod holding;
 mod laws;
 mod membership;
 mod service;

@@ -2,6 +2,7 @@
 
 use crate::agent::Agent;
 use crate::event::EventModes;
+use crate::holding::until_free;
 use crate::membership::Membership;
 use std::alloc::Global;
 use std::marker::Model;
@@ -183,17 +184,7 @@ impl Service {
         ensures full { IfErr result (λ e. (e ≡ Full) × IsPlaceless (roster_seen self.new.view)) }
         ensures unchanged { OnErr result (Looks self.old.view self.new.view) }
     {
-        let pace = Pace::new();
-        for _ in rt.forever() {
-            match self.claim_now() {
-                Err(TiError::Busy) => self.roster.await_free(rt, &pace),
-                result => {
-                    self.wake_sleepers();
-                    return result;
-                }
-            }
-        }
-        unreachable!()
+        until_free!(self, rt, TiError::Busy, self.claim_now())
     }
 
     /// Attaches an environment. Its number was nobody's, and is never free again. It has no capability, the word 0, and no desk
@@ -232,17 +223,7 @@ impl Service {
         ensures refused { IfErr result (λ e. e ≡ meeting_refusal (roster_seen self.new.view)) }
         ensures unchanged { OnErr result (Looks self.old.view self.new.view) }
     {
-        let pace = Pace::new();
-        for _ in rt.forever() {
-            match self.meet_now(alloc) {
-                Err(TiError::Busy) => self.roster.await_free(rt, &pace),
-                result => {
-                    self.wake_sleepers();
-                    return result;
-                }
-            }
-        }
-        unreachable!()
+        until_free!(self, rt, TiError::Busy, self.meet_now(alloc))
     }
 
     /// This handle's environment is disposed of, and gives these desks back. The handle is no environment's any more.

@@ -1,8 +1,8 @@
 //! Stops of threads, by a handle of the service: a runtime asks whether its threads have to stop.
 
+use crate::holding::{try_hold, until_free};
 use crate::service::Service;
 use std::sync::Wait;
-use ti_cell::Pace;
 use ti_roster::{StopCall, StopError, StopReply};
 
 impl Service {
@@ -35,20 +35,7 @@ impl Service {
         ensures took { IfOk result (λ r. Calls self.old.view self.new.view call r) }
         ensures refused { IfErr result (λ e. RefusesCall self.old self.new call e) }
     {
-        let Some(seat) = self.seat.take() else {
-            unreachable!()
-        };
-        match self.roster.hold_now(seat) {
-            Ok(mut hold) => {
-                let reply = hold.roster().stop(call);
-                self.seat = Some(hold.store_quietly());
-                reply
-            }
-            Err(seat) => {
-                self.seat = Some(seat);
-                Err(StopError::Busy)
-            }
-        }
+        try_hold!(self, |roster| roster.stop(call), else StopError::Busy)
     }
 
     /// The same, once the roster is free. It wakes whoever sleeps until something happens.
@@ -57,17 +44,7 @@ impl Service {
         ensures took { IfOk result (λ r. Calls self.old.view self.new.view call r) }
         ensures refused { IfErr result (λ e. RefusesHeld self.old self.new call e) }
     {
-        let pace = Pace::new();
-        for _ in rt.forever() {
-            match self.stop_now(call) {
-                Err(StopError::Busy) => self.roster.await_free(rt, &pace),
-                result => {
-                    self.wake_sleepers();
-                    return result;
-                }
-            }
-        }
-        unreachable!()
+        until_free!(self, rt, StopError::Busy, self.stop_now(call))
     }
 }
 

@@ -1,5 +1,6 @@
 //! A handle of the service at its threads: they are attached and given back, and it is told which there are.
 
+use crate::holding::until_free;
 use crate::service::Service;
 use std::alloc::Global;
 use std::sync::Wait;
@@ -140,17 +141,7 @@ impl Service {
         ensures gone { OnOk result (Detaches self.old.view self.new.view thread) }
         ensures refused { IfErr result (λ e. RefusesDetach self.old.view self.new.view thread e) }
     {
-        let pace = Pace::new();
-        for _ in rt.forever() {
-            match self.detach_now(thread) {
-                Err(TiError::Busy) => self.roster.await_free(rt, &pace),
-                result => {
-                    self.wake_sleepers();
-                    return result;
-                }
-            }
-        }
-        unreachable!()
+        until_free!(self, rt, TiError::Busy, self.detach_now(thread))
     }
 
     /// Gives a thread back that has ended. It is there no more, and its number is never used again. Its memory is freed
@@ -209,17 +200,7 @@ impl Service {
         ensures threads { IfOk result (λ t. t.items ≡ map (λ n. n.thread) (alive self.new.view.seen)) }
         ensures memory { IfErr result (λ e. e ≡ OutOfMemory) }
     {
-        let pace = Pace::new();
-        for _ in rt.forever() {
-            match self.get_all_threads_now(alloc) {
-                Err(TiError::Busy) => self.roster.await_free(rt, &pace),
-                result => {
-                    self.wake_sleepers();
-                    return result;
-                }
-            }
-        }
-        unreachable!()
+        until_free!(self, rt, TiError::Busy, self.get_all_threads_now(alloc))
     }
 
     /// GetThreadInfo (JVM TI 11): the name and the priority of a thread that is there, as they were when it was attached.
@@ -237,17 +218,12 @@ impl Service {
         ensures told { IfOk result (λ i. IsToldOf (roster_seen self.new.view) thread i) }
         ensures refused { IfErr result (λ e. e ≡ info_refusal (roster_seen self.new.view) thread) }
     {
-        let pace = Pace::new();
-        for _ in rt.forever() {
-            match self.get_thread_info_now(alloc, thread) {
-                Err(TiError::Busy) => self.roster.await_free(rt, &pace),
-                result => {
-                    self.wake_sleepers();
-                    return result;
-                }
-            }
-        }
-        unreachable!()
+        until_free!(
+            self,
+            rt,
+            TiError::Busy,
+            self.get_thread_info_now(alloc, thread)
+        )
     }
 
     /// Sleeps until somebody else has held the roster, if no more has happened than the handle has seen. It sleeps for at most

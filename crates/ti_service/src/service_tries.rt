@@ -6,6 +6,7 @@
 
 use crate::agent::Agent;
 use crate::event::EventModes;
+use crate::holding::try_hold;
 use crate::membership::Membership;
 use crate::service::Service;
 use std::alloc::Global;
@@ -28,20 +29,7 @@ impl Service {
         ensures claimed { IfOk result (λ e. Claimed self.old.view self.new.view e) }
         ensures refused { IfErr result (λ e. (((e ≡ Full) × IsPlaceless (roster_seen self.new.view)) × Looks self.old.view self.new.view) ⊎ ((e ≡ Busy) × (self.new ≡ self.old))) }
     {
-        let Some(seat) = self.seat.take() else {
-            unreachable!()
-        };
-        match self.roster.hold_now(seat) {
-            Ok(mut hold) => {
-                let env = hold.roster().attach();
-                self.seat = Some(hold.store_quietly());
-                env
-            }
-            Err(seat) => {
-                self.seat = Some(seat);
-                Err(TiError::Busy)
-            }
-        }
+        try_hold!(self, |roster| roster.attach(), else TiError::Busy)
     }
 
     /// Attaches an environment, as `attach_environment` does.
@@ -99,20 +87,7 @@ impl Service {
         ensures refused { IfErr result (λ r. (((r.0 ≡ Full) × (most_items ≤ length self.new.view.seen + length desks.items)) × Looks self.old.view self.new.view) ⊎ ((r.0 ≡ Busy) × (self.new ≡ self.old))) }
         ensures back { IfErr result (λ r. r.1 ≡ desks) }
     {
-        let Some(seat) = self.seat.take() else {
-            unreachable!()
-        };
-        match self.roster.hold_now(seat) {
-            Ok(mut hold) => {
-                let left = hold.roster().dispose(desks);
-                self.seat = Some(hold.store_quietly());
-                left
-            }
-            Err(seat) => {
-                self.seat = Some(seat);
-                Err((TiError::Busy, desks))
-            }
-        }
+        try_hold!(self, |roster| roster.dispose(desks), else (TiError::Busy, desks))
     }
 
     /// Attaches a thread, as `attach_thread` does. It has the next number, and has not started.
@@ -143,20 +118,7 @@ impl Service {
         ensures refused { IfOk result (λ r. IfErr r (λ e. (e ≡ coming_refusal (roster_seen self.new.view)) × Looks self.old.view self.new.view)) }
         ensures busy { IfErr result (λ i. (i ≡ info) × (self.new ≡ self.old)) }
     {
-        let Some(seat) = self.seat.take() else {
-            unreachable!()
-        };
-        match self.roster.hold_now(seat) {
-            Ok(mut hold) => {
-                let fresh = hold.roster().come(alloc, info);
-                self.seat = Some(hold.store_quietly());
-                Ok(fresh)
-            }
-            Err(seat) => {
-                self.seat = Some(seat);
-                Err(info)
-            }
-        }
+        try_hold!(self, |roster| Ok(roster.come(alloc, info)), else info)
     }
 
     /// Starts a thread, as `start_thread` does.
@@ -173,20 +135,7 @@ impl Service {
         ensures started { IfOk result (λ r. StartsThread self.old.view self.new.view fresh r) }
         ensures refused { IfErr result (λ e. DoesNotStart self.old.view self.new.view fresh e.1 e.0 ⊎ ((e ≡ (Busy, fresh)) × (self.new ≡ self.old))) }
     {
-        let Some(seat) = self.seat.take() else {
-            unreachable!()
-        };
-        match self.roster.hold_now(seat) {
-            Ok(mut hold) => {
-                let started = hold.roster().start(fresh);
-                self.seat = Some(hold.store_quietly());
-                started
-            }
-            Err(seat) => {
-                self.seat = Some(seat);
-                Err((TiError::Busy, fresh))
-            }
-        }
+        try_hold!(self, |roster| roster.start(fresh), else (TiError::Busy, fresh))
     }
 
     /// Ends a running thread, as `end_thread` does.
@@ -203,20 +152,7 @@ impl Service {
         ensures refused { IfErr result (λ e. DoesNotEnd self.old.view self.new.view running.view.subject.thread e.0 ⊎ ((e.0 ≡ Busy) × (self.new ≡ self.old))) }
         ensures back { IfErr result (λ e. e.1 ≡ running) }
     {
-        let Some(seat) = self.seat.take() else {
-            unreachable!()
-        };
-        match self.roster.hold_now(seat) {
-            Ok(mut hold) => {
-                let ended = hold.roster().end(running);
-                self.seat = Some(hold.store_quietly());
-                ended
-            }
-            Err(seat) => {
-                self.seat = Some(seat);
-                Err((TiError::Busy, running))
-            }
-        }
+        try_hold!(self, |roster| roster.end(running), else (TiError::Busy, running))
     }
 
     /// A thread of this number is there no more.
@@ -225,20 +161,7 @@ impl Service {
         ensures gone { OnOk result (Detaches self.old.view self.new.view thread) }
         ensures refused { IfErr result (λ e. RefusesDetach self.old.view self.new.view thread e ⊎ ((e ≡ Busy) × (self.new ≡ self.old))) }
     {
-        let Some(seat) = self.seat.take() else {
-            unreachable!()
-        };
-        match self.roster.hold_now(seat) {
-            Ok(mut hold) => {
-                let left = hold.roster().leave(thread);
-                self.seat = Some(hold.store_quietly());
-                left
-            }
-            Err(seat) => {
-                self.seat = Some(seat);
-                Err(TiError::Busy)
-            }
-        }
+        try_hold!(self, |roster| roster.leave(thread), else TiError::Busy)
     }
 
     /// Gives a thread back that has ended, as `detach_thread` does.
@@ -283,20 +206,7 @@ impl Service {
         ensures threads { IfOk result (λ t. t.items ≡ map (λ n. n.thread) (alive self.new.view.seen)) }
         ensures refused { IfErr result (λ e. ((e ≡ OutOfMemory) × Looks self.old.view self.new.view) ⊎ ((e ≡ Busy) × (self.new ≡ self.old))) }
     {
-        let Some(seat) = self.seat.take() else {
-            unreachable!()
-        };
-        match self.roster.hold_now(seat) {
-            Ok(mut hold) => {
-                let threads = hold.roster().threads(alloc);
-                self.seat = Some(hold.store_quietly());
-                threads
-            }
-            Err(seat) => {
-                self.seat = Some(seat);
-                Err(TiError::Busy)
-            }
-        }
+        try_hold!(self, |roster| roster.threads(alloc), else TiError::Busy)
     }
 
     /// GetThreadInfo (JVM TI 11), as `get_thread_info` gives it.
@@ -313,20 +223,7 @@ impl Service {
         ensures told { IfOk result (λ i. IsToldOf (roster_seen self.new.view) thread i) }
         ensures refused { IfErr result (λ e. RefusesInfo self.old.view self.new.view thread e ⊎ ((e ≡ Busy) × (self.new ≡ self.old))) }
     {
-        let Some(seat) = self.seat.take() else {
-            unreachable!()
-        };
-        match self.roster.hold_now(seat) {
-            Ok(mut hold) => {
-                let info = hold.roster().info(alloc, thread);
-                self.seat = Some(hold.store_quietly());
-                info
-            }
-            Err(seat) => {
-                self.seat = Some(seat);
-                Err(TiError::Busy)
-            }
-        }
+        try_hold!(self, |roster| roster.info(alloc, thread), else TiError::Busy)
     }
 
     /// Whether a thread of this number is there, as `is_live` says. The error is 215 `Busy` (this profile) if the roster is in
@@ -337,20 +234,7 @@ impl Service {
         ensures live { IfOk result (λ there. there ≡ is_live thread self.new.view.seen) }
         ensures busy { IfErr result (λ e. (e ≡ Busy) × (self.new ≡ self.old)) }
     {
-        let Some(seat) = self.seat.take() else {
-            unreachable!()
-        };
-        match self.roster.hold_now(seat) {
-            Ok(mut hold) => {
-                let there = hold.roster().is_live(thread);
-                self.seat = Some(hold.store_quietly());
-                Ok(there)
-            }
-            Err(seat) => {
-                self.seat = Some(seat);
-                Err(TiError::Busy)
-            }
-        }
+        try_hold!(self, |roster| Ok(roster.is_live(thread)), else TiError::Busy)
     }
 
     /// How many events of threads' lives have happened.
@@ -360,20 +244,7 @@ impl Service {
         ensures count { IfOk result (λ n. n ≡ length (life_of self.new.view.seen)) }
         ensures busy { IfErr result (λ e. (e ≡ Busy) × (self.new ≡ self.old)) }
     {
-        let Some(seat) = self.seat.take() else {
-            unreachable!()
-        };
-        match self.roster.hold_now(seat) {
-            Ok(mut hold) => {
-                let count = hold.roster().events();
-                self.seat = Some(hold.store_quietly());
-                Ok(count)
-            }
-            Err(seat) => {
-                self.seat = Some(seat);
-                Err(TiError::Busy)
-            }
-        }
+        try_hold!(self, |roster| Ok(roster.events()), else TiError::Busy)
     }
 
     /// What an agent is told next of threads' lives, by its modes.
@@ -384,22 +255,10 @@ impl Service {
         ensures order { OnOk result (AreInOrder (life_of self.new.view.seen)) }
         ensures busy { IfErr result (λ e. (e ≡ Busy) × (self.new ≡ self.old)) }
     {
-        let Some(seat) = self.seat.take() else {
-            unreachable!()
-        };
-        match self.roster.hold_now(seat) {
-            Ok(mut hold) => {
-                let roster = hold.roster();
-                roster.facts();
-                let told = roster.tell(modes);
-                self.seat = Some(hold.store_quietly());
-                Ok(told)
-            }
-            Err(seat) => {
-                self.seat = Some(seat);
-                Err(TiError::Busy)
-            }
-        }
+        try_hold!(self, |roster| {
+            roster.facts();
+            Ok(roster.tell(modes))
+        }, else TiError::Busy)
     }
 }
 

@@ -13,9 +13,9 @@ pub store_quietly-requires-clause-moves : goal.store_quietly-requires-clause-mov
 store_quietly-requires-clause-moves c =
     let seat : Sitting = c.in-Some.seat in
     let h = c.in-Ok.hold in
-    let r : Log = c.roster.result.now in
-    let r' : Log = c.attach-env.new.self in
-    let value : r ≡ h.roster = c.roster.ensures.value in
+    let r : Log = c.roster-roster.result.now in
+    let r' : Log = c.attach-said.new.self in
+    let value : r ≡ h.roster = c.roster-roster.ensures.value in
     let mine : seat.view ≡ c.args.self.now.view = seat_view (base_of c.self.inside.roster c.self.inside.classes c.self.inside.potential) c.self.inside.seat seat c.args.self.now c.self.view_is (sym c.take.ensures.value ∙ c.in-Some.is) in
     let nobody : seat.view.place ≡ None = ap (λ (v : RosterView). v.place) mine ∙ c.requires in
     let place : h.view.place ≡ seat.view.place = ap (λ (v : RosterView). v.place) c.in-Ok.ensures.view in
@@ -23,4 +23,4 @@ store_quietly-requires-clause-moves c =
     let claims : Claims r.items seat.view.place seat.view.seen = subst (λ (x : Log). Claims x.items seat.view.place seat.view.seen) (sym value) c.in-Ok.ensures.claims in
     let user : r.user ≡ seat.view.place = ap (λ (x : Log). x.user) value ∙ c.in-Ok.ensures.roster.1 in
     subst (λ (x : Option EnvNo × List Coming). Moves x.0 r'.user x.1 r'.items) (λ j. (sym place j, sym seen j))
-    (claim_moves seat.view.place r r' seat.view.seen c.attach-env.result nobody claims user c.attach-env.ensures.free c.attach-env.ensures.attached c.attach-env.ensures.unchanged)
+    (claim_moves seat.view.place r r' seat.view.seen c.attach-said.result nobody claims user c.attach-said.ensures.free c.attach-said.ensures.attached c.attach-said.ensures.unchanged)

@@ -7,30 +7,30 @@ use Rattle.ti_roster.specs.Rule.{Begins, Claims, Moves}
 use Rattle.ti_roster.specs.Seats.{Sitting}
 use Rattle.ti_roster.proofs.Moving.{MayBe}
 use Rattle.ti_service.proofs.Moves.{may_leave}
-use Rattle.ti_service.proofs.service.Service.detach_now.Goals.{After-leave-left}
+use Rattle.ti_service.proofs.service.Service.detach_now.Goals.{After-leave-said}
 use Rattle.ti_service.proofs.service.Service.detach_now.Goals as goal
 
 -- the roster may be put back as it is
-may : (c : After-leave-left) → MayBe c.in-Some.seat.view.place c.roster.result.now c.leave-left.new.self
+may : (c : After-leave-said) → MayBe c.in-Some.seat.view.place c.roster-roster.result.now c.leave-said.new.self
 may c =
     let seat : Sitting = c.in-Some.seat in
-    let r : Log = c.roster.result.now in
-    let r' : Log = c.leave-left.new.self in
-    let value : r ≡ c.in-Ok.hold.roster = c.roster.ensures.value in
+    let r : Log = c.roster-roster.result.now in
+    let r' : Log = c.leave-said.new.self in
+    let value : r ≡ c.in-Ok.hold.roster = c.roster-roster.ensures.value in
     let claims : Claims r.items seat.view.place seat.view.seen = subst (λ (x : Log). Claims x.items seat.view.place seat.view.seen) (sym value) c.in-Ok.ensures.claims in
     let user : r.user ≡ seat.view.place = ap (λ (x : Log). x.user) value ∙ c.in-Ok.ensures.roster.1 in
-    may_leave c.args.thread seat.view.place r r' seat.view.seen c.leave-left.result claims user c.leave-left.ensures.left c.leave-left.ensures.unchanged
+    may_leave c.args.thread seat.view.place r r' seat.view.seen c.leave-said.result claims user c.leave-said.ensures.left c.leave-said.ensures.unchanged
 
-seen : (c : After-leave-left) → c.in-Ok.hold.view.seen ≡ c.roster.result.now.items
-seen c = ap (λ (v : RosterView). v.seen) c.in-Ok.ensures.view ∙ ap (λ (x : Log). x.items) (sym c.roster.ensures.value)
+seen : (c : After-leave-said) → c.in-Ok.hold.view.seen ≡ c.roster-roster.result.now.items
+seen c = ap (λ (v : RosterView). v.seen) c.in-Ok.ensures.view ∙ ap (λ (x : Log). x.items) (sym c.roster-roster.ensures.value)
 
 pub store_quietly-requires-clause-begins : goal.store_quietly-requires-clause-begins
 store_quietly-requires-clause-begins c =
-    let w = (goal.at.store_quietly-requires-clause-begins c).After-leave-left in
-    subst (λ (x : List Coming). Begins c.leave-left.new.self.items x) (sym (seen w)) (may w).begins
+    let w = (goal.at.store_quietly-requires-clause-begins c).After-leave-said in
+    subst (λ (x : List Coming). Begins c.leave-said.new.self.items x) (sym (seen w)) (may w).begins
 
 pub store_quietly-requires-clause-moves : goal.store_quietly-requires-clause-moves
 store_quietly-requires-clause-moves c =
-    let w = (goal.at.store_quietly-requires-clause-moves c).After-leave-left in
+    let w = (goal.at.store_quietly-requires-clause-moves c).After-leave-said in
     let place : c.in-Ok.hold.view.place ≡ c.in-Some.seat.view.place = ap (λ (v : RosterView). v.place) c.in-Ok.ensures.view in
-    subst (λ (x : Option EnvNo × List Coming). Moves x.0 c.leave-left.new.self.user x.1 c.leave-left.new.self.items) (λ j. (sym place j, sym (seen w) j)) (may w).moves
+    subst (λ (x : Option EnvNo × List Coming). Moves x.0 c.leave-said.new.self.user x.1 c.leave-said.new.self.items) (λ j. (sym place j, sym (seen w) j)) (may w).moves

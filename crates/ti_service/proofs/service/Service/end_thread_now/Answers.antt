@@ -11,44 +11,44 @@ use Rattle.ti_roster.proofs.Moving.{MayBe}
 use Rattle.ti_service.specs.Service.{base_of}
 use Rattle.ti_service.proofs.Starts.{ends_by}
 use Rattle.ti_service.proofs.Moves.{may_item, was_ended, seat_view}
-use Rattle.ti_service.proofs.service.Service.end_thread_now.Goals.{After-end-ended}
+use Rattle.ti_service.proofs.service.Service.end_thread_now.Goals.{After-end-said}
 use Rattle.ti_service.proofs.service.Service.end_thread_now.Goals as goal
 
 -- the roster may be put back as it is
-may : (c : After-end-ended) → MayBe c.in-Some.seat.view.place c.roster.result.now c.end-ended.new.self
+may : (c : After-end-said) → MayBe c.in-Some.seat.view.place c.roster-roster.result.now c.end-said.new.self
 may c =
     let seat : Sitting = c.in-Some.seat in
-    let r : Log = c.roster.result.now in
-    let r' : Log = c.end-ended.new.self in
-    let value : r ≡ c.in-Ok.hold.roster = c.roster.ensures.value in
+    let r : Log = c.roster-roster.result.now in
+    let r' : Log = c.end-said.new.self in
+    let value : r ≡ c.in-Ok.hold.roster = c.roster-roster.ensures.value in
     let claims : Claims r.items seat.view.place seat.view.seen = subst (λ (x : Log). Claims x.items seat.view.place seat.view.seen) (sym value) c.in-Ok.ensures.claims in
     let user : r.user ≡ seat.view.place = ap (λ (x : Log). x.user) value ∙ c.in-Ok.ensures.roster.1 in
-    may_item (Ended c.args.running.view.subject.thread) seat.view.place r r' seat.view.seen c.end-ended.result (λ e. refl) claims user (was_ended r r' c.args.running c.end-ended.result c.end-ended.ensures.ended) c.end-ended.ensures.unchanged
+    may_item (Ended c.args.running.view.subject.thread) seat.view.place r r' seat.view.seen c.end-said.result (λ e. refl) claims user (was_ended r r' c.args.running c.end-said.result c.end-said.ensures.ended) c.end-said.ensures.unchanged
 
-seen : (c : After-end-ended) → c.in-Ok.hold.view.seen ≡ c.roster.result.now.items
-seen c = ap (λ (v : RosterView). v.seen) c.in-Ok.ensures.view ∙ ap (λ (x : Log). x.items) (sym c.roster.ensures.value)
+seen : (c : After-end-said) → c.in-Ok.hold.view.seen ≡ c.roster-roster.result.now.items
+seen c = ap (λ (v : RosterView). v.seen) c.in-Ok.ensures.view ∙ ap (λ (x : Log). x.items) (sym c.roster-roster.ensures.value)
 
 pub store_quietly-requires-clause-begins : goal.store_quietly-requires-clause-begins
 store_quietly-requires-clause-begins c =
-    let w = (goal.at.store_quietly-requires-clause-begins c).After-end-ended in
-    subst (λ (x : List Coming). Begins c.end-ended.new.self.items x) (sym (seen w)) (may w).begins
+    let w = (goal.at.store_quietly-requires-clause-begins c).After-end-said in
+    subst (λ (x : List Coming). Begins c.end-said.new.self.items x) (sym (seen w)) (may w).begins
 
 pub store_quietly-requires-clause-moves : goal.store_quietly-requires-clause-moves
 store_quietly-requires-clause-moves c =
-    let w = (goal.at.store_quietly-requires-clause-moves c).After-end-ended in
+    let w = (goal.at.store_quietly-requires-clause-moves c).After-end-said in
     let place : c.in-Ok.hold.view.place ≡ c.in-Some.seat.view.place = ap (λ (v : RosterView). v.place) c.in-Ok.ensures.view in
-    subst (λ (x : Option EnvNo × List Coming). Moves x.0 c.end-ended.new.self.user x.1 c.end-ended.new.self.items) (λ j. (sym place j, sym (seen w) j)) (may w).moves
+    subst (λ (x : Option EnvNo × List Coming). Moves x.0 c.end-said.new.self.user x.1 c.end-said.new.self.items) (λ j. (sym place j, sym (seen w) j)) (may w).moves
 
 pub returns-in-Ok-clause-ended : goal.returns-in-Ok-clause-ended
 returns-in-Ok-clause-ended c =
     let seat : Sitting = c.in-Some.seat in
     let v : RosterView = c.args.self.now.view in
-    let r : Log = c.roster.result.now in
-    let value : r ≡ c.in-Ok.hold.roster = c.roster.ensures.value in
+    let r : Log = c.roster-roster.result.now in
+    let value : r ≡ c.in-Ok.hold.roster = c.roster-roster.ensures.value in
     let mine : seat.view ≡ v = seat_view (base_of c.self.inside.roster c.self.inside.classes c.self.inside.potential) c.self.inside.seat seat c.args.self.now c.self.view_is (sym c.take.ensures.value ∙ c.in-Some.is) in
     let placed : r.user ≡ v.place = ap (λ (x : Log). x.user) value ∙ (c.in-Ok.ensures.roster.1 ∙ ap (λ (w : RosterView). w.place) mine) in
     let begins : Begins r.items v.seen = subst (λ (x : Log × RosterView). Begins x.0.items x.1.seen) (λ j. (sym value j, mine j)) c.in-Ok.ensures.begins in
     let claims : Claims r.items v.place v.seen = subst (λ (x : Log × RosterView). Claims x.0.items x.1.place x.1.seen) (λ j. (sym value j, mine j)) c.in-Ok.ensures.claims in
     let looked : AreWithin (length r.items) v.looked = subst (λ (x : Log × RosterView). AreWithin (length x.0.items) x.1.looked) (λ j. (sym value j, mine j)) c.in-Ok.ensures.looked in
     let held : c.in-Ok.hold.view ≡ holding v r.items = c.in-Ok.ensures.view ∙ (λ j. holding (mine j) (sym value j).items) in
-    ends_by v c.in-Ok.hold.view c.store_quietly.result.view r c.end-ended.new.self c.args.running c.end-ended.result placed begins claims looked held c.store_quietly.ensures.view c.end-ended.ensures.ended
+    ends_by v c.in-Ok.hold.view c.store_quietly.result.view r c.end-said.new.self c.args.running c.end-said.result placed begins claims looked held c.store_quietly.ensures.view c.end-said.ensures.ended
