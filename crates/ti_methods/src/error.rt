@@ -8,19 +8,19 @@ use std::fmt;
 #[derive(Clone, Copy, Debug, PartialEq, Eq)]
 pub enum ClassError {
     /// 21 INVALID_CLASS: no class of this number was defined.
-    InvalidClass,
+    InvalidClass = 21,
     /// 23 INVALID_METHODID: no method of this number was defined.
-    InvalidMethod,
+    InvalidMethod = 23,
     /// 101 ABSENT_INFORMATION: the class has no source file, or the method no lines.
-    AbsentInformation,
+    AbsentInformation = 101,
     /// 104 NATIVE_METHOD: a native method has no lines.
-    NativeMethod,
+    NativeMethod = 104,
     /// 110 OUT_OF_MEMORY: there is no memory for the class, or for what is told.
-    OutOfMemory,
+    OutOfMemory = 110,
     /// 215: another thread is just defining the class, or is in the way of a definition. Try again.
-    Busy,
+    Busy = 215,
     /// 216: there would be 2^32 classes or methods, or 2^63 handles.
-    Full,
+    Full = 216,
 }
 
 impl ClassError {
@@ -28,15 +28,7 @@ impl ClassError {
     pub fn number(self) -> u32
         ensures { result ≡ number_of self }
     {
-        match self {
-            ClassError::InvalidClass => 21,
-            ClassError::InvalidMethod => 23,
-            ClassError::AbsentInformation => 101,
-            ClassError::NativeMethod => 104,
-            ClassError::OutOfMemory => 110,
-            ClassError::Busy => 215,
-            ClassError::Full => 216,
-        }
+        self as u32
     }
 
     /// The error's name in JVM TI's spelling, as in `INVALID_METHODID`.

@@ -9,60 +9,60 @@ use std::fmt;
 #[derive(Clone, Copy, Debug, PartialEq, Eq)]
 pub enum TiError {
     /// 10 INVALID_THREAD: there is no thread of this number.
-    InvalidThread,
+    InvalidThread = 10,
     /// 13 THREAD_NOT_SUSPENDED: a resumption of a thread that is not suspended, or a pop there.
-    ThreadNotSuspended,
+    ThreadNotSuspended = 13,
     /// 14 THREAD_SUSPENDED: a suspension of a thread that is suspended.
-    ThreadSuspended,
+    ThreadSuspended = 14,
     /// 15 THREAD_NOT_ALIVE: the thread has not started, or has ended.
-    ThreadNotAlive,
+    ThreadNotAlive = 15,
     /// 31 NO_MORE_FRAMES: there is no frame at the depth, or there are fewer than two frames for a pop.
-    NoMoreFrames,
+    NoMoreFrames = 31,
     /// 32 OPAQUE_FRAME: a pop when the newest frame or its caller is native.
-    OpaqueFrame,
+    OpaqueFrame = 32,
     /// 98 NOT_AVAILABLE: a capability that cannot be had.
-    NotAvailable,
+    NotAvailable = 98,
     /// 99 MUST_POSSESS_CAPABILITY: the call needs a capability that the environment does not have.
-    MustPossessCapability,
+    MustPossessCapability = 99,
     /// 103 ILLEGAL_ARGUMENT: a negative `max_count` or `depth`, or there is no frame at `start`.
-    IllegalArgument,
+    IllegalArgument = 103,
     /// 110 OUT_OF_MEMORY: there is no memory for what is to be made, and nothing else.
-    OutOfMemory,
+    OutOfMemory = 110,
     /// 116 INVALID_ENVIRONMENT: there is no environment of this number.
-    InvalidEnvironment,
+    InvalidEnvironment = 116,
     /// 201: the stack has as many frames as the depth limit allows.
-    Overflow,
+    Overflow = 201,
     /// 202: a step needs a frame, and there is none.
-    NoFrame,
+    NoFrame = 202,
     /// 203: a new position for a native frame.
-    NotJavaFrame,
+    NotJavaFrame = 203,
     /// 204: the thread does not run.
-    NotRunning,
+    NotRunning = 204,
     /// 205: a return of a thread that is not safe.
-    NotSafe,
+    NotSafe = 205,
     /// 206: the thread is suspended or stopped, and may not start or return.
-    Barred,
+    Barred = 206,
     /// 207: a hand-over to native code when the newest frame is not native.
-    NoNativeFrame,
+    NoNativeFrame = 207,
     /// 208: the thread has spent its own budget.
-    OwnSpent,
+    OwnSpent = 208,
     /// 209: the environment has spent its calls at the thread.
-    CallsSpent,
+    CallsSpent = 209,
     /// 210: a start of a thread that has started.
-    NotNew,
+    NotNew = 210,
     /// 211: a stop of a thread at which a stop is in force, the same environment's too.
-    AlreadyStopped,
+    AlreadyStopped = 211,
     /// 212: a read or a go by an environment whose stop is not in force.
-    NotStopped,
+    NotStopped = 212,
     /// 213: a read of a thread that still runs.
-    StillRunning,
+    StillRunning = 213,
     /// 214: the time of a call with a deadline is over, and the call was cancelled. It may still take place.
-    TimedOut,
+    TimedOut = 214,
     /// 215: a form that never waits found the cell in use. Nothing has changed: try again.
-    Busy,
+    Busy = 215,
     /// 216: a bound other than memory leaves no room: the window of calls that are out, the environments or the thread
     /// numbers of a service, or the threads that an environment has met. It never comes under the limits of documents.
-    Full,
+    Full = 216,
 }
 
 impl TiError {
@@ -70,35 +70,7 @@ impl TiError {
     pub fn number(self) -> u32
         ensures { result ≡ number_of self }
     {
-        match self {
-            TiError::InvalidThread => 10,
-            TiError::ThreadNotSuspended => 13,
-            TiError::ThreadSuspended => 14,
-            TiError::ThreadNotAlive => 15,
-            TiError::NoMoreFrames => 31,
-            TiError::OpaqueFrame => 32,
-            TiError::NotAvailable => 98,
-            TiError::MustPossessCapability => 99,
-            TiError::IllegalArgument => 103,
-            TiError::OutOfMemory => 110,
-            TiError::InvalidEnvironment => 116,
-            TiError::Overflow => 201,
-            TiError::NoFrame => 202,
-            TiError::NotJavaFrame => 203,
-            TiError::NotRunning => 204,
-            TiError::NotSafe => 205,
-            TiError::Barred => 206,
-            TiError::NoNativeFrame => 207,
-            TiError::OwnSpent => 208,
-            TiError::CallsSpent => 209,
-            TiError::NotNew => 210,
-            TiError::AlreadyStopped => 211,
-            TiError::NotStopped => 212,
-            TiError::StillRunning => 213,
-            TiError::TimedOut => 214,
-            TiError::Busy => 215,
-            TiError::Full => 216,
-        }
+        self as u32
     }
 
     /// The error's name in JVM TI's spelling, as in `THREAD_NOT_SUSPENDED`.
