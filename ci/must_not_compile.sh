@@ -37,14 +37,15 @@ replace() {
         END { exit count == 1 ? 0 : 1 }' "$1" > "$1.new" && mv "$1.new" "$1"
 }
 
-# Copies the sources, folders of proofs that are named out among them, and what is built of the crates other than $1.
+# Copies the sources, folders of proofs that are named out among them, and what is built of the crates other than $1. That is
+# linked where it can be: some GB, and a check replaces such a file and never changes it.
 copy_tree() {
     tar -cf - --anchored --no-wildcards-match-slash --exclude=./.git --exclude='./*/out' --exclude='./*/*/out' . | tar -xf - -C "$2"
     for built in crates/*/out/rlib; do
         other=$(basename "$(dirname "$(dirname "$built")")")
         if [ -d "$built" ] && [ "$other" != "$1" ]; then
             mkdir -p "$2/crates/$other/out"
-            cp -rp "$built" "$2/crates/$other/out/"
+            cp -rlp "$built" "$2/crates/$other/out/" 2> /dev/null || cp -rp "$built" "$2/crates/$other/out/"
         fi
     done
 }
