@@ -1,4 +1,4 @@
-//! Who wakes others after calls that never wait.
+//! How others are woken after calls that never wait, and how whoever was refused waits.
 //!
 //! A call that never waits makes no call of the system, so it wakes nobody. A program in which others sleep at the same thread
 //! calls one of these after it. No contract says who wakes up, or when.
@@ -15,6 +15,12 @@ impl Fresh {
     /// Wakes whoever sleeps at this thread and may go on. It is one load if nobody sleeps.
     pub fn wake_sleepers(&self) {
         self.cell.wake_sleepers();
+    }
+
+    /// Sleeps until the thread is not barred: it is not suspended, and no stop is in force. It may return sooner, and does at once if
+    /// the thread is not barred. It takes no hold.
+    pub fn sleep_while_barred<R: Wait>(&self, rt: &R) {
+        self.cell.sleep_while_barred(rt);
     }
 }
 

@@ -10,9 +10,6 @@ use ti_handshake::{Ended, Fresh, Running};
 use ti_roster::ThreadInfo;
 use ti_types::{ThreadNo, TiError};
 
-/// After how many milliseconds a start of a thread is tried again that is suspended or stopped.
-const BARRED: u64 = 1;
-
 impl Service {
     /// Attaches a thread. It has the next number, and has not started. Environments have a desk there once they meet it.
     ///
@@ -86,7 +83,7 @@ impl Service {
                 }
                 Err((TiError::Barred, again)) => {
                     fresh = again;
-                    self.sleep_without_news_for(rt, Duration::from_millis(BARRED));
+                    fresh.sleep_while_barred(rt);
                 }
                 Err(refused) => return Err(refused),
             }
