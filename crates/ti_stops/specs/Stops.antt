@@ -1,5 +1,5 @@
 -- The stops as a whole, and what each call makes of them.
-use Rattle.std.specs.Prelude.{ℕ, ◌&&◌, ◌||◌, not, Bool, true, false, if◌then◌else◌, List, [], ◌∷◌, ◌++◌, map, filter, Option, Some, None, Result, Ok, Err}
+use Rattle.std.specs.Prelude.{ℕ, ◌≡◌, ◌⊎◌, ◌&&◌, ◌||◌, not, Bool, true, false, if◌then◌else◌, List, [], ◌∷◌, ◌++◌, map, filter, Option, Some, None, Result, Ok, Err, IfOk, IfErr}
 use Rattle.std.specs.List.{list_any}
 use Rattle.ti_types.specs.declared.numbers.EnvNo.{EnvNo}
 use Rattle.ti_types.specs.declared.numbers.ThreadNo.{ThreadNo}
@@ -9,7 +9,7 @@ use Rattle.ti_stops.specs.declared.call.StopCall.TheVariants.{Enable, Disable, S
 use Rattle.ti_stops.specs.declared.call.StopReply.{StopReply}
 use Rattle.ti_stops.specs.declared.call.StopReply.TheVariants.{Done, Stops, Told, Waits}
 use Rattle.ti_stops.specs.declared.error.StopError.{StopError}
-use Rattle.ti_stops.specs.declared.error.StopError.TheVariants.{ThreadNotSuspended, Duplicate, NotFound, InvalidEnvironment}
+use Rattle.ti_stops.specs.declared.error.StopError.TheVariants.{ThreadNotSuspended, Duplicate, NotFound, OutOfMemory, InvalidEnvironment}
 use Rattle.ti_stops.specs.declared.kind.StopKind.{StopKind}
 use Rattle.ti_stops.specs.declared.kind.StopKind.TheVariants as kind
 use Rattle.ti_stops.specs.declared.lists.Breakpoint.{Breakpoint}
@@ -148,6 +148,12 @@ after s o (LetGo t) = after_env o s (λ e. let_go s e t)
 after s o (Reached t at) = with_reached s t at
 after s o (Leaves t at n) = with_left s t at n
 after s o (IsStopped t) = s
+
+-- a call is answered, and only news changes the stops; or it is refused, and changes nothing
+abbrev pub Obeys : StopsNow → StopsNow → Option EnvNo → StopCall → Result StopReply StopError → Type 0
+Obeys s t o call result =
+    IfOk result (λ r. (outcome s o call ≡ Ok r) × (t ≡ (if is_news r then after s o call else s)))
+    × IfErr result (λ e. ((e ≡ OutOfMemory) ⊎ (outcome s o call ≡ Err e)) × (t ≡ s))
 
 -- the stops without an environment, which is disposed of
 abbrev pub without_env : StopsNow → EnvNo → StopsNow

@@ -9,25 +9,25 @@ use std::fmt;
 #[derive(Clone, Copy, Debug, PartialEq, Eq)]
 pub enum StopError {
     /// 13 THREAD_NOT_SUSPENDED: the thread does not wait for the environment, or the environment was not told yet.
-    ThreadNotSuspended,
+    ThreadNotSuspended = 13,
     /// 23 INVALID_METHODID: no method of this number was defined.
-    InvalidMethod,
+    InvalidMethod = 23,
     /// 24 INVALID_LOCATION: the method has no such place.
-    InvalidLocation,
+    InvalidLocation = 24,
     /// 31 NO_MORE_FRAMES: the thread has no such frame.
-    NoMoreFrames,
+    NoMoreFrames = 31,
     /// 40 DUPLICATE: the environment has this breakpoint, or waits for this pop already.
-    Duplicate,
+    Duplicate = 40,
     /// 41 NOT_FOUND: the environment has no such breakpoint.
-    NotFound,
+    NotFound = 41,
     /// 110 OUT_OF_MEMORY: there is no memory for it.
-    OutOfMemory,
+    OutOfMemory = 110,
     /// 116 INVALID_ENVIRONMENT: an environment's call by whoever is none.
-    InvalidEnvironment,
+    InvalidEnvironment = 116,
     /// 215: another thread is in the way. Try again.
-    Busy,
+    Busy = 215,
     /// 216: no more may happen.
-    Full,
+    Full = 216,
 }
 
 impl StopError {
@@ -35,18 +35,7 @@ impl StopError {
     pub fn number(self) -> u32
         ensures { result ≡ number_of self }
     {
-        match self {
-            StopError::ThreadNotSuspended => 13,
-            StopError::InvalidMethod => 23,
-            StopError::InvalidLocation => 24,
-            StopError::NoMoreFrames => 31,
-            StopError::Duplicate => 40,
-            StopError::NotFound => 41,
-            StopError::OutOfMemory => 110,
-            StopError::InvalidEnvironment => 116,
-            StopError::Busy => 215,
-            StopError::Full => 216,
-        }
+        self as u32
     }
 
     /// The error's name in JVM TI's spelling, as in `NO_MORE_FRAMES`.

@@ -40,7 +40,7 @@ pub(crate) struct Breakpoint {
 
 impl Breakpoint {
     /// Whether it is the environment's at this place.
-    fn is_it(&self, env: EnvNo, at: Frame) -> bool
+    pub(crate) fn is_it(&self, env: EnvNo, at: Frame) -> bool
         ensures { result ≡ is_breakpoint env at self.now }
     {
         self.env.0 == env.0 && is_same_frame(self.at, at)
@@ -64,7 +64,7 @@ impl Pop {
     }
 
     /// Whether its frame is the newest of a thread that has so many, or above that.
-    fn is_left(&self, thread: ThreadNo, frames: u32) -> bool
+    pub(crate) fn is_left(&self, thread: ThreadNo, frames: u32) -> bool
         ensures { result ≡ is_left thread frames self.now }
     {
         self.thread.0 == thread.0 && frames <= self.frames
@@ -96,7 +96,7 @@ impl Waiting {
     }
 
     /// Whether a thread waits for the environment, which was told of it.
-    fn is_told_at(&self, env: EnvNo, thread: ThreadNo) -> bool
+    pub(crate) fn is_told_at(&self, env: EnvNo, thread: ThreadNo) -> bool
         ensures { result ≡ is_told_at env thread self.now }
     {
         self.env.0 == env.0 && self.stop.thread.0 == thread.0 && self.told
@@ -141,7 +141,7 @@ fn covers(target: Option<ThreadNo>, thread: ThreadNo) -> bool
 }
 
 /// Whether exactly this thread is meant.
-fn is_target(thread: ThreadNo, target: Option<ThreadNo>) -> bool
+pub(crate) fn is_target(thread: ThreadNo, target: Option<ThreadNo>) -> bool
     ensures { result ≡ is_target thread target }
 {
     match target {
@@ -230,83 +230,6 @@ pub(crate) fn drop_mode(modes: &mut Vec<Mode>, env: EnvNo, kind: StopKind, threa
     ensures capacity { vec_capacity modes.new ≡ vec_capacity modes.old }
 {
     modes.retain(|mode| !mode.is_it(env, kind, thread));
-}
-
-/// Takes out the modes of an environment.
-pub(crate) fn drop_modes_of(modes: &mut Vec<Mode>, env: EnvNo)
-    ensures { modes.new.items ≡ filter (λ m. not (is_mode_of env m)) modes.old.items }
-{
-    modes.retain(|mode| mode.env.0 != env.0);
-}
-
-/// Takes out the modes at exactly this thread.
-pub(crate) fn drop_modes_at(modes: &mut Vec<Mode>, thread: ThreadNo)
-    ensures { modes.new.items ≡ filter (λ m. not (is_mode_at thread m)) modes.old.items }
-{
-    modes.retain(|mode| !is_target(thread, mode.thread));
-}
-
-/// Takes out the environment's breakpoints at a place.
-pub(crate) fn drop_breakpoint(breakpoints: &mut Vec<Breakpoint>, env: EnvNo, at: Frame)
-    ensures { breakpoints.new.items ≡ filter (λ b. not (is_breakpoint env at b)) breakpoints.old.items }
-{
-    breakpoints.retain(|breakpoint| !breakpoint.is_it(env, at));
-}
-
-/// Takes out the breakpoints of an environment.
-pub(crate) fn drop_breakpoints_of(breakpoints: &mut Vec<Breakpoint>, env: EnvNo)
-    ensures { breakpoints.new.items ≡ filter (λ b. not (is_breakpoint_of env b)) breakpoints.old.items }
-{
-    breakpoints.retain(|breakpoint| breakpoint.env.0 != env.0);
-}
-
-/// Takes out what was asked of the newest frame of a thread that has so many, and of those above it.
-pub(crate) fn drop_left(pops: &mut Vec<Pop>, thread: ThreadNo, frames: u32)
-    ensures { pops.new.items ≡ filter (λ p. not (is_left thread frames p)) pops.old.items }
-{
-    pops.retain(|pop| !pop.is_left(thread, frames));
-}
-
-/// Takes out what an environment asked of frames.
-pub(crate) fn drop_pops_of(pops: &mut Vec<Pop>, env: EnvNo)
-    ensures { pops.new.items ≡ filter (λ p. not (is_pop_of env p)) pops.old.items }
-{
-    pops.retain(|pop| pop.env.0 != env.0);
-}
-
-/// Takes out what was asked of frames of a thread.
-pub(crate) fn drop_pops_at(pops: &mut Vec<Pop>, thread: ThreadNo)
-    ensures { pops.new.items ≡ filter (λ p. not (is_pop_at thread p)) pops.old.items }
-{
-    pops.retain(|pop| pop.thread.0 != thread.0);
-}
-
-/// A thread waits no more for an environment that was told.
-pub(crate) fn drop_told(waiting: &mut Vec<Waiting>, env: EnvNo, thread: ThreadNo)
-    ensures { waiting.new.items ≡ filter (λ w. not (is_told_at env thread w)) waiting.old.items }
-{
-    waiting.retain(|one| !one.is_told_at(env, thread));
-}
-
-/// Nobody waits for an environment any more.
-pub(crate) fn drop_waiting_for(waiting: &mut Vec<Waiting>, env: EnvNo)
-    ensures { waiting.new.items ≡ filter (λ w. not (waits_for env w)) waiting.old.items }
-{
-    waiting.retain(|one| one.env.0 != env.0);
-}
-
-/// A thread waits for nobody any more.
-pub(crate) fn drop_waiting_at(waiting: &mut Vec<Waiting>, thread: ThreadNo)
-    ensures { waiting.new.items ≡ filter (λ w. not (waits_at thread w)) waiting.old.items }
-{
-    waiting.retain(|one| one.stop.thread.0 != thread.0);
-}
-
-/// Takes an environment out.
-pub(crate) fn drop_env(envs: &mut Vec<EnvNo>, env: EnvNo)
-    ensures { envs.new.items ≡ filter (λ f. not (is_env env f)) envs.old.items }
-{
-    envs.retain(|one| one.0 != env.0);
 }
 
 /// Tells an environment of the stop that has waited longest for it, of those that it was not told of.

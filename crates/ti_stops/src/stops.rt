@@ -4,11 +4,10 @@ use crate::call::{StopCall, StopReply};
 use crate::error::StopError;
 use crate::kind::StopKind;
 use crate::lists::{
-    Arrival, Breakpoint, Mode, Pop, Waiting, add_stops, drop_breakpoint, drop_breakpoints_of,
-    drop_env, drop_left, drop_mode, drop_modes_at, drop_modes_of, drop_pops_at, drop_pops_of,
-    drop_told, drop_waiting_at, drop_waiting_for, has_breakpoint, has_pop, is_told_at, is_waiting,
-    put_env, stops_for, tell_next,
+    Arrival, Breakpoint, Mode, Pop, Waiting, add_stops, drop_mode, has_breakpoint, has_pop,
+    is_target, is_told_at, is_waiting, put_env, stops_for, tell_next,
 };
+use crate::stop::Stop;
 use std::alloc::Global;
 use std::marker::Model;
 use ti_types::{EnvNo, Frame, ThreadNo};
@@ -78,34 +77,36 @@ impl Stops {
         ensures refused { IfErr result (λ e. (e ≡ OutOfMemory) ⊎ (outcome self.old env call ≡ Err e)) }
         ensures unchanged { OnErr result (self.new ≡ self.old) }
     {
-        match call {
-            StopCall::Enable(kind, thread) => self.enable(env, kind, thread),
-            StopCall::Disable(kind, thread) => self.disable(env, kind, thread),
-            StopCall::SetBreakpoint(at) => self.set_breakpoint(env, at),
-            StopCall::ClearBreakpoint(at) => self.clear_breakpoint(env, at),
-            StopCall::NotifyFramePop(thread, frames) => self.notify_frame_pop(env, thread, frames),
-            StopCall::Next => self.next(env),
-            StopCall::LetGo(thread) => self.let_go(env, thread),
-            StopCall::Reached(thread, at) => self.reached(thread, at),
-            StopCall::Leaves(thread, at, frames) => self.leaves(thread, at, frames),
-            StopCall::IsStopped(thread) => Ok(StopReply::Waits(is_waiting(&self.waiting, thread))),
+        match (call, env) {
+            (StopCall::Reached(thread, at), _) => self.reached(thread, at),
+            (StopCall::Leaves(thread, at, frames), _) => self.leaves(thread, at, frames),
+            (StopCall::IsStopped(thread), _) => {
+                Ok(StopReply::Waits(is_waiting(&self.waiting, thread)))
+            }
+            (_, None) => Err(StopError::InvalidEnvironment),
+            (StopCall::Enable(kind, thread), Some(env)) => self.enable(env, kind, thread),
+            (StopCall::Disable(kind, thread), Some(env)) => {
+                drop_mode(&mut self.modes, env, kind, thread);
+                Ok(StopReply::Done)
+            }
+            (StopCall::SetBreakpoint(at), Some(env)) => self.set_breakpoint(env, at),
+            (StopCall::ClearBreakpoint(at), Some(env)) => self.clear_breakpoint(env, at),
+            (StopCall::NotifyFramePop(thread, frames), Some(env)) => {
+                self.notify_frame_pop(env, thread, frames)
+            }
+            (StopCall::Next, Some(env)) => Ok(StopReply::Told(self.next(env))),
+            (StopCall::LetGo(thread), Some(env)) => self.let_go(env, thread),
         }
     }
 
     fn enable(
         &mut self,
-        env: Option<EnvNo>,
+        env: EnvNo,
         kind: StopKind,
         thread: Option<ThreadNo>,
     ) -> Result<StopReply, StopError>
-        ensures outcome { IfOk result (λ r. outcome self.old env (Enable kind thread) ≡ Ok r) }
-        ensures after { IfOk result (λ r. self.new ≡ (if is_news r then after self.old env (Enable kind thread) else self.old)) }
-        ensures refused { IfErr result (λ e. (e ≡ OutOfMemory) ⊎ (outcome self.old env (Enable kind thread) ≡ Err e)) }
-        ensures unchanged { OnErr result (self.new ≡ self.old) }
+        ensures { Obeys self.old self.new (Some env) (Enable kind thread) result }
     {
-        let Some(env) = env else {
-            return Err(StopError::InvalidEnvironment);
-        };
         self.modes.reserve(1)?;
         put_env(&mut self.envs, env)?;
         drop_mode(&mut self.modes, env, kind, thread);
@@ -113,33 +114,9 @@ impl Stops {
         Ok(StopReply::Done)
     }
 
-    fn disable(
-        &mut self,
-        env: Option<EnvNo>,
-        kind: StopKind,
-        thread: Option<ThreadNo>,
-    ) -> Result<StopReply, StopError>
-        ensures outcome { IfOk result (λ r. outcome self.old env (Disable kind thread) ≡ Ok r) }
-        ensures after { IfOk result (λ r. self.new ≡ (if is_news r then after self.old env (Disable kind thread) else self.old)) }
-        ensures refused { IfErr result (λ e. (e ≡ OutOfMemory) ⊎ (outcome self.old env (Disable kind thread) ≡ Err e)) }
-        ensures unchanged { OnErr result (self.new ≡ self.old) }
+    fn set_breakpoint(&mut self, env: EnvNo, at: Frame) -> Result<StopReply, StopError>
+        ensures { Obeys self.old self.new (Some env) (SetBreakpoint at) result }
     {
-        let Some(env) = env else {
-            return Err(StopError::InvalidEnvironment);
-        };
-        drop_mode(&mut self.modes, env, kind, thread);
-        Ok(StopReply::Done)
-    }
-
-    fn set_breakpoint(&mut self, env: Option<EnvNo>, at: Frame) -> Result<StopReply, StopError>
-        ensures outcome { IfOk result (λ r. outcome self.old env (SetBreakpoint at) ≡ Ok r) }
-        ensures after { IfOk result (λ r. self.new ≡ (if is_news r then after self.old env (SetBreakpoint at) else self.old)) }
-        ensures refused { IfErr result (λ e. (e ≡ OutOfMemory) ⊎ (outcome self.old env (SetBreakpoint at) ≡ Err e)) }
-        ensures unchanged { OnErr result (self.new ≡ self.old) }
-    {
-        let Some(env) = env else {
-            return Err(StopError::InvalidEnvironment);
-        };
         if has_breakpoint(&self.breakpoints, env, at) {
             return Err(StopError::Duplicate);
         }
@@ -148,36 +125,25 @@ impl Stops {
         Ok(StopReply::Done)
     }
 
-    fn clear_breakpoint(&mut self, env: Option<EnvNo>, at: Frame) -> Result<StopReply, StopError>
-        ensures outcome { IfOk result (λ r. outcome self.old env (ClearBreakpoint at) ≡ Ok r) }
-        ensures after { IfOk result (λ r. self.new ≡ (if is_news r then after self.old env (ClearBreakpoint at) else self.old)) }
-        ensures refused { IfErr result (λ e. (e ≡ OutOfMemory) ⊎ (outcome self.old env (ClearBreakpoint at) ≡ Err e)) }
-        ensures unchanged { OnErr result (self.new ≡ self.old) }
+    fn clear_breakpoint(&mut self, env: EnvNo, at: Frame) -> Result<StopReply, StopError>
+        ensures { Obeys self.old self.new (Some env) (ClearBreakpoint at) result }
     {
-        let Some(env) = env else {
-            return Err(StopError::InvalidEnvironment);
-        };
         if !has_breakpoint(&self.breakpoints, env, at) {
             return Err(StopError::NotFound);
         }
-        drop_breakpoint(&mut self.breakpoints, env, at);
+        self.breakpoints
+            .retain(|breakpoint| !breakpoint.is_it(env, at));
         Ok(StopReply::Done)
     }
 
     fn notify_frame_pop(
         &mut self,
-        env: Option<EnvNo>,
+        env: EnvNo,
         thread: ThreadNo,
         frames: u32,
     ) -> Result<StopReply, StopError>
-        ensures outcome { IfOk result (λ r. outcome self.old env (NotifyFramePop thread frames) ≡ Ok r) }
-        ensures after { IfOk result (λ r. self.new ≡ (if is_news r then after self.old env (NotifyFramePop thread frames) else self.old)) }
-        ensures refused { IfErr result (λ e. (e ≡ OutOfMemory) ⊎ (outcome self.old env (NotifyFramePop thread frames) ≡ Err e)) }
-        ensures unchanged { OnErr result (self.new ≡ self.old) }
+        ensures { Obeys self.old self.new (Some env) (NotifyFramePop thread frames) result }
     {
-        let Some(env) = env else {
-            return Err(StopError::InvalidEnvironment);
-        };
         if has_pop(&self.pops, env, thread, frames) {
             return Err(StopError::Duplicate);
         }
@@ -190,42 +156,24 @@ impl Stops {
         Ok(StopReply::Done)
     }
 
-    fn next(&mut self, env: Option<EnvNo>) -> Result<StopReply, StopError>
-        ensures outcome { IfOk result (λ r. outcome self.old env Next ≡ Ok r) }
-        ensures after { IfOk result (λ r. self.new ≡ (if is_news r then after self.old env Next else self.old)) }
-        ensures refused { IfErr result (λ e. (e ≡ OutOfMemory) ⊎ (outcome self.old env Next ≡ Err e)) }
-        ensures unchanged { OnErr result (self.new ≡ self.old) }
+    fn next(&mut self, env: EnvNo) -> Option<Stop>
+        ensures { Obeys self.old self.new (Some env) Next (Ok (Told result)) }
     {
-        let Some(env) = env else {
-            return Err(StopError::InvalidEnvironment);
-        };
-        match tell_next(self.waiting.as_mut_slice(), env) {
-            Some(stop) => Ok(StopReply::Told(Some(stop))),
-            None => Ok(StopReply::Told(None)),
-        }
+        tell_next(self.waiting.as_mut_slice(), env)
     }
 
-    fn let_go(&mut self, env: Option<EnvNo>, thread: ThreadNo) -> Result<StopReply, StopError>
-        ensures outcome { IfOk result (λ r. outcome self.old env (LetGo thread) ≡ Ok r) }
-        ensures after { IfOk result (λ r. self.new ≡ (if is_news r then after self.old env (LetGo thread) else self.old)) }
-        ensures refused { IfErr result (λ e. (e ≡ OutOfMemory) ⊎ (outcome self.old env (LetGo thread) ≡ Err e)) }
-        ensures unchanged { OnErr result (self.new ≡ self.old) }
+    fn let_go(&mut self, env: EnvNo, thread: ThreadNo) -> Result<StopReply, StopError>
+        ensures { Obeys self.old self.new (Some env) (LetGo thread) result }
     {
-        let Some(env) = env else {
-            return Err(StopError::InvalidEnvironment);
-        };
         if !is_told_at(&self.waiting, env, thread) {
             return Err(StopError::ThreadNotSuspended);
         }
-        drop_told(&mut self.waiting, env, thread);
+        self.waiting.retain(|one| !one.is_told_at(env, thread));
         Ok(StopReply::Done)
     }
 
     fn reached(&mut self, thread: ThreadNo, at: Frame) -> Result<StopReply, StopError>
-        ensures outcome { IfOk result (λ r. r ≡ reply.Stops (stops_for (reached_by self.old thread at) self.old.envs)) }
-        ensures after { IfOk result (λ r. self.new ≡ (if is_news r then with_reached self.old thread at else self.old)) }
-        ensures refused { IfErr result (λ e. e ≡ OutOfMemory) }
-        ensures unchanged { OnErr result (self.new ≡ self.old) }
+        ensures { Obeys self.old self.new None (Reached thread at) result }
     {
         Ok(StopReply::Stops(self.arrive(Arrival {
             thread,
@@ -235,10 +183,7 @@ impl Stops {
     }
 
     fn leaves(&mut self, thread: ThreadNo, at: Frame, frames: u32) -> Result<StopReply, StopError>
-        ensures outcome { IfOk result (λ r. r ≡ reply.Stops (stops_for (left_by self.old thread at frames) self.old.envs)) }
-        ensures after { IfOk result (λ r. self.new ≡ (if is_news r then with_left self.old thread at frames else self.old)) }
-        ensures refused { IfErr result (λ e. e ≡ OutOfMemory) }
-        ensures unchanged { OnErr result (self.new ≡ self.old) }
+        ensures { Obeys self.old self.new None (Leaves thread at frames) result }
     {
         let stops = self.arrive(Arrival {
             thread,
@@ -246,7 +191,7 @@ impl Stops {
             leaves: Some(frames),
         })?;
         if stops {
-            drop_left(&mut self.pops, thread, frames);
+            self.pops.retain(|pop| !pop.is_left(thread, frames));
         }
         Ok(StopReply::Stops(stops))
     }
@@ -284,26 +229,27 @@ impl Stops {
     pub fn leave(&mut self, env: EnvNo)
         ensures { self.new ≡ without_env self.old env }
     {
-        drop_env(&mut self.envs, env);
-        drop_modes_of(&mut self.modes, env);
-        drop_breakpoints_of(&mut self.breakpoints, env);
-        drop_pops_of(&mut self.pops, env);
-        drop_waiting_for(&mut self.waiting, env);
+        self.envs.retain(|one| one.0 != env.0);
+        self.modes.retain(|mode| mode.env.0 != env.0);
+        self.breakpoints
+            .retain(|breakpoint| breakpoint.env.0 != env.0);
+        self.pops.retain(|pop| pop.env.0 != env.0);
+        self.waiting.retain(|one| one.env.0 != env.0);
     }
 
     /// A thread has ended: nothing that was asked of exactly this thread is left, and it waits for nobody.
     pub fn end_thread(&mut self, thread: ThreadNo)
         ensures { self.new ≡ without_thread self.old thread }
     {
-        drop_modes_at(&mut self.modes, thread);
-        drop_pops_at(&mut self.pops, thread);
-        drop_waiting_at(&mut self.waiting, thread);
+        self.modes.retain(|mode| !is_target(thread, mode.thread));
+        self.pops.retain(|pop| pop.thread.0 != thread.0);
+        self.waiting.retain(|one| one.stop.thread.0 != thread.0);
     }
 }
 
-ghost use Rattle.std.specs.Prelude.{◌≡◌, ◌⊎◌, if◌then◌else◌, IfOk, IfErr, OnErr};
+ghost use Rattle.std.specs.Prelude.{◌≡◌, ◌⊎◌, if◌then◌else◌, Some, None, Ok, IfOk, IfErr, OnErr};
 ghost use Rattle.ti_stops.specs.declared.error.StopError.TheVariants.{OutOfMemory};
-ghost use Rattle.ti_stops.specs.declared.call.StopCall.TheVariants.{ClearBreakpoint, Disable, Enable, LetGo, Next, NotifyFramePop, SetBreakpoint};
-ghost use Rattle.ti_stops.specs.declared.call.StopReply.TheVariants as reply;
+ghost use Rattle.ti_stops.specs.declared.call.StopCall.TheVariants.{ClearBreakpoint, Enable, Leaves, LetGo, Next, NotifyFramePop, Reached, SetBreakpoint};
+ghost use Rattle.ti_stops.specs.declared.call.StopReply.TheVariants.{Told};
 ghost use Rattle.ti_stops.specs.Arrivals.{arrived, stop_in};
-ghost use Rattle.ti_stops.specs.Stops.{after, is_news, is_watched, left_by, no_stops, outcome, reached_by, stops_for, with_left, with_reached, without_env, without_thread};
+ghost use Rattle.ti_stops.specs.Stops.{Obeys, after, is_news, is_watched, no_stops, outcome, stops_for, without_env, without_thread};

@@ -1,0 +1,9 @@
+use Rattle.std.proofs.Common.{◌≡◌, not, filter, rules}
+use Rattle.std.proofs.lemmas.Fn.{filter_same}
+use Rattle.ti_stops.specs.Lists.{is_told_at}
+use Rattle.ti_stops.proofs.stops.Stops.let_go.Goals as goal
+
+pub returns : goal.returns
+returns c =
+    let left : c.retain.new.self.items ≡ filter (λ x. not (is_told_at c.args.env c.args.thread x)) c.self.inside.waiting.items = filter_same _ _ _ (λ x b f' k. search rules) _ _ c.retain.ensures.filtered in
+    search (rules, left)
