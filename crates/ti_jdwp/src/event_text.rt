@@ -3,7 +3,8 @@
 use crate::error::JdwpError;
 use crate::ids::{class_id, method_id, thread_id};
 use crate::request::{EventKind, Policy};
-use crate::writing::{put_byte, put_count, put_int, put_long, put_text};
+use crate::rows::{PutRow, put_rows};
+use crate::writing::{put_byte, put_int, put_long, put_text};
 use std::alloc::Global;
 
 /// What took place.
@@ -70,22 +71,23 @@ pub fn composite_body(
 {
     let mut out = Vec::new(alloc);
     put_byte(&mut out, policy.number())?;
-    put_count(&mut out, events.len())?;
-    for row in events {
-        put_event(&mut out, *row)?;
-    }
+    put_rows(&mut out, &Events, events)?;
     Ok(out)
 }
 
-fn put_event(out: &mut Vec<u8>, row: EventRow<'_>) -> Result<(), JdwpError>
-    ensures ok { OnOk result (out.new.items ≡ out.old.items ++ event_row row.entry) }
-    ensures fits { OnOk result (HasShortText row.entry.occurrence) }
-    ensures memory { IfErr result (λ e. e ≡ OutOfMemory) }
-{
-    put_byte(out, kind(row.occurrence).number())?;
-    put_int(out, row.request.cast_unsigned())?;
-    put_occurrence(out, row.occurrence)?;
-    Ok(())
+/// How events are listed.
+struct Events;
+
+impl PutRow<EventRow<'_>> for Events {
+    ghost bytes = { λ _ row. event_row row };
+
+    ghost Fits = { λ row. HasShortText row.occurrence };
+
+    fn put(&self, out: &mut Vec<u8>, row: &EventRow<'_>) -> Result<(), JdwpError> {
+        put_byte(out, kind(row.occurrence).number())?;
+        put_int(out, row.request.cast_unsigned())?;
+        put_occurrence(out, row.occurrence)
+    }
 }
 
 fn kind(occurrence: Occurrence<'_>) -> EventKind
