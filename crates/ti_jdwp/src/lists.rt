@@ -4,13 +4,10 @@
 //! text has 2^31 items or bytes or more.
 
 use crate::error::JdwpError;
-use crate::ids::{class_id, frame_id, method_id, thread_id};
+use crate::ids::{frame_id, method_id, thread_id};
 use crate::rows::{PutRow, put_rows, rows_body};
-use crate::writing::{put_byte, put_int, put_long, put_text};
+use crate::writing::{put_class, put_int, put_location, put_long, put_text};
 use std::alloc::Global;
-
-/// The tag of a class beside its id: CLASS.
-const CLASS_TAG: u8 = 1;
 
 /// The status of a class: verified, prepared and initialized.
 const CLASS_STATUS: u32 = 7;
@@ -94,8 +91,7 @@ impl PutRow<ClassRow<'_>> for Classes {
     ghost Fits = { λ row. length row.signature.now < 2 ^ 31 };
 
     fn put(&self, out: &mut Vec<u8>, row: &ClassRow<'_>) -> Result<(), JdwpError> {
-        put_byte(out, CLASS_TAG)?;
-        put_long(out, class_id(row.class))?;
+        put_class(out, row.class)?;
         put_text(out, row.signature)?;
         put_text(out, &[])?;
         put_int(out, CLASS_STATUS)
@@ -118,8 +114,7 @@ impl PutRow<u32> for FoundClasses {
     ghost bytes = { λ _ class. found_class class };
 
     fn put(&self, out: &mut Vec<u8>, class: &u32) -> Result<(), JdwpError> {
-        put_byte(out, CLASS_TAG)?;
-        put_long(out, class_id(*class))?;
+        put_class(out, *class)?;
         put_int(out, CLASS_STATUS)
     }
 }
@@ -230,10 +225,7 @@ impl PutRow<FrameRow> for FramesOf {
 
     fn put(&self, out: &mut Vec<u8>, row: &FrameRow) -> Result<(), JdwpError> {
         put_long(out, frame_id(self.0, row.depth))?;
-        put_byte(out, CLASS_TAG)?;
-        put_long(out, class_id(row.class))?;
-        put_long(out, method_id(row.method))?;
-        put_long(out, row.index)
+        put_location(out, row.class, row.method, row.index)
     }
 }
 

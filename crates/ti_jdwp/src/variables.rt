@@ -6,7 +6,7 @@
 use crate::error::JdwpError;
 use crate::ids::{table_id, text_id};
 use crate::rows::{PutRow, put_rows, rows_body};
-use crate::writing::{put_byte, put_int, put_long, put_text};
+use crate::writing::{put_byte, put_int, put_long, put_tagged, put_text};
 use std::alloc::Global;
 
 /// What each variable is declared as: it may have values of any kind.
@@ -64,9 +64,7 @@ pub fn variables_body(alloc: Global, variables: &[VariableRow<'_>]) -> Result<Ve
     ensures fits { IfOk result (λ _. (length variables.now < 2 ^ 31) × All (λ r. length r.name.now < 2 ^ 31) variables.now) }
     ensures memory { IfErr result (λ e. e ≡ OutOfMemory) }
 {
-    let mut out = Vec::new(alloc);
-    put_variables(&mut out, false, variables)?;
-    Ok(out)
+    listed(alloc, false, variables)
 }
 
 /// The variables of a method, with the empty text for each generic signature (6/5). None is told as an argument.
@@ -78,22 +76,18 @@ pub fn generic_variables_body(
     ensures fits { IfOk result (λ _. (length variables.now < 2 ^ 31) × All (λ r. length r.name.now < 2 ^ 31) variables.now) }
     ensures memory { IfErr result (λ e. e ≡ OutOfMemory) }
 {
-    let mut out = Vec::new(alloc);
-    put_variables(&mut out, true, variables)?;
-    Ok(out)
+    listed(alloc, true, variables)
 }
 
-fn put_variables(
-    out: &mut Vec<u8>,
-    generic: bool,
-    variables: &[VariableRow<'_>],
-) -> Result<(), JdwpError>
-    ensures ok { OnOk result (out.new.items ≡ out.old.items ++ (int 0 ++ list (λ row. if generic then generic_variable_row row else variable_row row) variables.now)) }
-    ensures fits { OnOk result ((length variables.now < 2 ^ 31) × All (λ r. length r.name.now < 2 ^ 31) variables.now) }
+fn listed(alloc: Global, generic: bool, variables: &[VariableRow<'_>]) -> Result<Vec<u8>, JdwpError>
+    ensures ok { IfOk result (λ v. v.items ≡ int 0 ++ list (λ row. if generic then generic_variable_row row else variable_row row) variables.now) }
+    ensures fits { IfOk result (λ _. (length variables.now < 2 ^ 31) × All (λ r. length r.name.now < 2 ^ 31) variables.now) }
     ensures memory { IfErr result (λ e. e ≡ OutOfMemory) }
 {
-    put_int(out, 0)?;
-    put_rows(out, &Variables { generic }, variables)
+    let mut out = Vec::new(alloc);
+    put_int(&mut out, 0)?;
+    put_rows(&mut out, &Variables { generic }, variables)?;
+    Ok(out)
 }
 
 /// How values are listed, with their tags.
@@ -115,15 +109,6 @@ impl PutRow<Value> for Values {
             Value::Table(table) => put_tagged(out, b'[', table_id(table)),
         }
     }
-}
-
-/// Writes a tag, and eight bytes.
-fn put_tagged(out: &mut Vec<u8>, tag: u8, bits: u64) -> Result<(), JdwpError>
-    ensures ok { OnOk result (out.new.items ≡ out.old.items ++ tag ∷ long bits) }
-    ensures memory { IfErr result (λ e. e ≡ OutOfMemory) }
-{
-    put_byte(out, tag)?;
-    put_long(out, bits)
 }
 
 /// The values of variables (16/1), with their tags.
