@@ -129,6 +129,15 @@ impl Sampler {
     /// taken. `None` if memory runs out.
     pub fn meet<R: Wait + Clock + AllocGlobal>(&mut self, rt: &R) -> Option<()> {
         let threads = self.agent.get_all_threads(rt, rt.alloc()).ok()?;
+        self.meet_all(rt, &threads)
+    }
+
+    /// Meets those of these threads that came, and lets go of all others.
+    fn meet_all<R: Wait + Clock + AllocGlobal>(
+        &mut self,
+        rt: &R,
+        threads: &[ThreadNo],
+    ) -> Option<()> {
         for target in self.targets.iter() {
             if !threads.contains(&target.thread) {
                 target.finish(rt, &mut self.agent, &mut self.taken)?;
@@ -173,9 +182,15 @@ impl Sampler {
 
     /// Takes the stacks that threads still have to give, and gives all. `None` if memory runs out.
     pub fn finish<R: Wait + Clock + AllocGlobal>(mut self, rt: &R) -> Option<Taken> {
+        self.take_all(rt)?;
+        Some(self.taken)
+    }
+
+    /// Takes the stacks that threads still have to give. `None` if memory runs out.
+    fn take_all<R: Wait + Clock + AllocGlobal>(&mut self, rt: &R) -> Option<()> {
         for target in self.targets.iter() {
             target.finish(rt, &mut self.agent, &mut self.taken)?;
         }
-        Some(self.taken)
+        Some(())
     }
 }

@@ -107,6 +107,21 @@ fn sample_on<R: Wait + Clock + Eprint + AllocGlobal>(
     options: Options,
 ) -> Option<Sampled> {
     let mut sampler = Sampler::new(rt.alloc(), agent, options)?;
+    let (samples, pace) = sample_all(rt, shared, &mut sampler, options)?;
+    Some(Sampled {
+        taken: sampler.finish(rt)?,
+        samples,
+        millis: pace.millis(rt)?,
+    })
+}
+
+/// Takes one sample after another until the sampling ends. It gives how many, and the pace.
+fn sample_all<R: Wait + Clock + Eprint + AllocGlobal>(
+    rt: &R,
+    shared: &Shared,
+    sampler: &mut Sampler,
+    options: Options,
+) -> Option<(u64, Pace)> {
     sampler.meet(rt)?;
     let mut pace = Pace::new(rt, options)?;
     let most = match options.samples {
@@ -118,21 +133,27 @@ fn sample_on<R: Wait + Clock + Eprint + AllocGlobal>(
         let Some(passed) = pace.next(rt, shared, options.threads).ok()? else {
             break;
         };
-        if sampler.has_news() {
-            sampler.meet(rt)?;
-        }
-        match options.way {
-            Way::Handshake => sampler.handshake(rt.alloc())?,
-            Way::Standing => sampler.standing(rt, shared.turn())?,
-        }
+        take_one(rt, shared, sampler, options.way)?;
         samples = samples.saturating_add(1);
         if pace.says(passed) {
             eprintln!(rt; "tiprof: {samples} samples").ok()?;
         }
     }
-    Some(Sampled {
-        taken: sampler.finish(rt)?,
-        samples,
-        millis: pace.millis(rt)?,
-    })
+    Some((samples, pace))
+}
+
+/// Takes one sample. It meets the threads that came first.
+fn take_one<R: Wait + Clock + AllocGlobal>(
+    rt: &R,
+    shared: &Shared,
+    sampler: &mut Sampler,
+    way: Way,
+) -> Option<()> {
+    if sampler.has_news() {
+        sampler.meet(rt)?;
+    }
+    match way {
+        Way::Handshake => sampler.handshake(rt.alloc()),
+        Way::Standing => sampler.standing(rt, shared.turn()),
+    }
 }
