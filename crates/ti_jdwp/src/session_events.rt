@@ -89,7 +89,7 @@ impl Session {
         if told.numbers.is_empty() {
             return true;
         }
-        match notice_of(self.alloc, &event, occurrence, told) {
+        match notice_of(self.alloc, &event, occurrence, &told) {
             Ok(notice) => self.events.note(notice),
             Err(_) => {
                 self.events.lose();
@@ -161,9 +161,9 @@ fn notice_of(
     alloc: Global,
     event: &Event,
     occurrence: Occurrence<'_>,
-    told: Told,
+    told: &Told,
 ) -> Result<Notice, JdwpError>
-    ensures ok { IfOk result (λ n. n ≡ notice_for event.now occurrence.entry told.policy told.numbers.items) }
+    ensures ok { IfOk result (λ n. n ≡ notice_for event.now occurrence.entry told.now.policy told.now.numbers.items) }
     ensures memory { IfErr result (λ e. e ≡ OutOfMemory) }
 {
     let policy = policy_of(event, told.policy);

@@ -92,7 +92,8 @@ impl Session {
         Ok(Action::Write)
     }
 
-    fn refuse_now(&mut self, error: JdwpError) -> Result<Action, SessionError>
+    /// Replies with an error.
+    pub(crate) fn refuse_now(&mut self, error: JdwpError) -> Result<Action, SessionError>
         ensures ok { IfOk result (λ a. Does (Write, replied self.old (Err (number_of error))) a self.new) }
         ensures memory { IfErr result (λ e. e ≡ OutOfMemory) }
         ensures err { OnErr result (self.new ≡ self.old) }
