@@ -113,10 +113,11 @@ pub struct Sampler {
 impl Sampler {
     /// It has met nobody yet. `None` if memory runs out.
     pub fn new(alloc: Global, agent: Agent, options: Options) -> Option<Sampler> {
+        let taken = Taken::new(alloc, options)?;
         Some(Sampler {
             agent,
             targets: Vec::new(alloc),
-            taken: Taken::new(alloc, options)?,
+            taken,
         })
     }
 
@@ -180,17 +181,16 @@ impl Sampler {
         Some(())
     }
 
-    /// Takes the stacks that threads still have to give, and gives all. `None` if memory runs out.
-    pub fn finish<R: Wait + Clock + AllocGlobal>(mut self, rt: &R) -> Option<Taken> {
-        self.take_all(rt)?;
-        Some(self.taken)
-    }
-
     /// Takes the stacks that threads still have to give. `None` if memory runs out.
-    fn take_all<R: Wait + Clock + AllocGlobal>(&mut self, rt: &R) -> Option<()> {
+    pub fn finish<R: Wait + Clock + AllocGlobal>(&mut self, rt: &R) -> Option<()> {
         for target in self.targets.iter() {
             target.finish(rt, &mut self.agent, &mut self.taken)?;
         }
         Some(())
+    }
+
+    /// What the samples have brought.
+    pub fn into_taken(self) -> Taken {
+        self.taken
     }
 }

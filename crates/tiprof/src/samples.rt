@@ -107,21 +107,22 @@ fn sample_on<R: Wait + Clock + Eprint + AllocGlobal>(
     options: Options,
 ) -> Option<Sampled> {
     let mut sampler = Sampler::new(rt.alloc(), agent, options)?;
-    let (samples, pace) = sample_all(rt, shared, &mut sampler, options)?;
+    let (samples, millis) = sample_all(rt, shared, &mut sampler, options)?;
     Some(Sampled {
-        taken: sampler.finish(rt)?,
+        taken: sampler.into_taken(),
         samples,
-        millis: pace.millis(rt)?,
+        millis,
     })
 }
 
-/// Takes one sample after another until the sampling ends. It gives how many, and the pace.
+/// Takes one sample after another until the sampling ends, and the stacks that threads still have to give. It gives how many
+/// samples, and how many milliseconds it took.
 fn sample_all<R: Wait + Clock + Eprint + AllocGlobal>(
     rt: &R,
     shared: &Shared,
     sampler: &mut Sampler,
     options: Options,
-) -> Option<(u64, Pace)> {
+) -> Option<(u64, u64)> {
     sampler.meet(rt)?;
     let mut pace = Pace::new(rt, options)?;
     let most = match options.samples {
@@ -139,7 +140,8 @@ fn sample_all<R: Wait + Clock + Eprint + AllocGlobal>(
             eprintln!(rt; "tiprof: {samples} samples").ok()?;
         }
     }
-    Some((samples, pace))
+    sampler.finish(rt)?;
+    Some((samples, pace.millis(rt)?))
 }
 
 /// Takes one sample. It meets the threads that came first.
