@@ -42,13 +42,12 @@ fn live<R: Wait + AllocGlobal>(
 pub fn churn<R: Wait + Clock + AllocGlobal>(
     rt: &R,
     shared: &Shared,
-    service: Service,
+    service: &mut Service,
     rate: u32,
 ) -> Option<u64> {
-    let mut service = service;
-    let text = document(rt.alloc(), NUMBERS).ok()?;
     let interval = Duration::from_secs(1).checked_div(rate)?;
-    come_and_go(rt, shared, &mut service, interval, text.as_bytes())
+    let text = document(rt.alloc(), NUMBERS).ok()?;
+    come_and_go(rt, shared, service, interval, text.as_bytes())
 }
 
 /// Lets a thread come and go in each interval, which parses this text, until the sampling is over. It gives how many did.
