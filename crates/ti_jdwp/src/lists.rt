@@ -238,7 +238,7 @@ pub fn frames_body(alloc: Global, thread: u32, frames: &[FrameRow]) -> Result<Ve
     rows_body(alloc, &FramesOf(thread), frames)
 }
 
-ghost use Rattle.std.specs.Prelude.{◌≡◌, ◌<◌, ◌^◌, length, All, ◌++◌, OnOk, IfOk, IfErr};
+ghost use Rattle.std.specs.Prelude.{◌≡◌, ◌<◌, ◌^◌, length, All, ◌++◌, IfOk, IfErr};
 ghost use Rattle.ti_jdwp.specs.Fields.{int, long};
 ghost use Rattle.ti_jdwp.specs.Ids.{id_from, first_thread};
 ghost use Rattle.ti_jdwp.specs.Bodies.{thread_list, class_row, class_list, found_class, found_list, method_flags, method_row, method_list, line_row, line_list, identity_line, identity_list, frame_row, frame_list};

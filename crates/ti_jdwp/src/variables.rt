@@ -143,7 +143,7 @@ pub fn entries_body(alloc: Global, texts: &[u32]) -> Result<Vec<u8>, JdwpError>
     Ok(out)
 }
 
-ghost use Rattle.std.specs.Prelude.{◌≡◌, ◌<◌, ◌^◌, length, All, ◌∷◌, ◌++◌, OnOk, IfOk, IfErr, if◌then◌else◌};
+ghost use Rattle.std.specs.Prelude.{◌≡◌, ◌<◌, ◌^◌, length, All, ◌∷◌, ◌++◌, IfOk, IfErr, if◌then◌else◌};
 ghost use Rattle.ti_jdwp.specs.Bodies.{list};
 ghost use Rattle.ti_jdwp.specs.Fields.{int, long};
 ghost use Rattle.ti_jdwp.specs.Ids.{id_from, first_text};
