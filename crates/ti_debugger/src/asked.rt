@@ -15,7 +15,7 @@ pub(crate) struct Named {
 }
 
 /// The value of a variable. Texts and tables have the numbers of what is kept.
-#[derive(Clone, Copy, Debug, PartialEq, Eq)]
+#[derive(Clone, Copy)]
 pub(crate) struct Row {
     pub(crate) slot: u32,
     pub(crate) value: Value,

@@ -8,10 +8,10 @@ use ti_jdwp::SessionError;
 pub enum DebuggerError {
     /// 110 OUT_OF_MEMORY (JVM TI 11): there is no memory for the input, for a reply or for an event.
     #[error("out of memory")]
-    OutOfMemory,
+    OutOfMemory = 110,
     /// 112 WRONG_PHASE (JVM TI 11): no debugger is connected.
     #[error("no debugger is connected")]
-    NoDebugger,
+    NoDebugger = 112,
 }
 
 impl DebuggerError {
@@ -19,10 +19,7 @@ impl DebuggerError {
     pub fn number(self) -> u32
         ensures { result ≡ number_of self }
     {
-        match self {
-            DebuggerError::OutOfMemory => 110,
-            DebuggerError::NoDebugger => 112,
-        }
+        self as u32
     }
 }
 

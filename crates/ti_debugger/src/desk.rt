@@ -83,14 +83,9 @@ impl Desk {
         ensures events { IfErr result (λ r. r.1.agent.home.events ≡ self.agent.home.events) }
         ensures rest { IfErr result (λ r. r.1 ≡ record self { agent = r.1.agent }) }
     {
-        let mut rest = self;
-        let alloc = rest.alloc;
-        match rest.agent.dispose_now(alloc) {
+        match self.agent.dispose_now(self.alloc) {
             Ok(service) => Ok(service),
-            Err((error, agent)) => {
-                rest.agent = agent;
-                Err((error, rest))
-            }
+            Err((error, agent)) => Err((error, Desk { agent, ..self })),
         }
     }
 }

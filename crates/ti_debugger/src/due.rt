@@ -4,7 +4,7 @@ use crate::stopping::Spot;
 use ti_jdwp::Request;
 
 /// What a session waits for, and its agent owes it.
-#[derive(Clone, Copy, Debug, PartialEq, Eq)]
+#[derive(Clone, Copy)]
 pub(crate) enum Due {
     /// The reply to a request.
     Answer(Request),

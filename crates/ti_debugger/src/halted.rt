@@ -5,7 +5,7 @@ use std::alloc::Global;
 use ti_service::Stop;
 
 /// What becomes of a thread that stopped.
-#[derive(Clone, Copy, Debug, PartialEq, Eq)]
+#[derive(Clone, Copy)]
 pub(crate) enum Stage {
     /// The session was not told of it yet.
     New,
@@ -34,7 +34,7 @@ impl Stage {
 }
 
 /// A thread that stopped.
-#[derive(Clone, Copy, Debug, PartialEq, Eq)]
+#[derive(Clone, Copy)]
 pub(crate) struct Halted {
     pub(crate) stop: Stop,
     pub(crate) stage: Stage,

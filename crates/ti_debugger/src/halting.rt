@@ -52,7 +52,7 @@ fn tell_stop(seat: &mut Option<Seat>, desk: &mut Desk, index: usize)
     let Some(halted) = desk.stops.halted.get(index) else {
         return;
     };
-    if halted.stage != Stage::New {
+    if !matches!(halted.stage, Stage::New) {
         return;
     }
     let stop = halted.stop;
@@ -150,7 +150,7 @@ impl Desk {
     fn step_again(&mut self, session: &Session, thread: u32) -> Option<Stage>
         ensures { self.new ≡ record self.old { agent = self.new.agent } }
     {
-        if session.steps_at(thread) && self.step(thread) == Err(Refusal::Later) {
+        if session.steps_at(thread) && matches!(self.step(thread), Err(Refusal::Later)) {
             return None;
         }
         Some(Stage::Goes)

@@ -3,7 +3,7 @@
 use ti_types::{Answer, TiError, Ticket};
 
 /// What came of the debugger's suspension of a thread. A suspension that is not wanted any more is undone.
-#[derive(Clone, Copy, Debug, PartialEq, Eq)]
+#[derive(Clone, Copy)]
 pub(crate) enum Hold {
     /// The debugger does not suspend the thread.
     Free,

@@ -84,7 +84,7 @@ fn undo_at(alloc: Global, agent: &mut Agent, one: &mut Watched) -> bool
     ensures closed { is_open one.old.hold ≡ false → one.new ≡ one.old }
     ensures home { agent.new.home ≡ agent.old.home }
 {
-    if one.hold != Hold::Owed {
+    if !matches!(one.hold, Hold::Owed) {
         return false;
     }
     match agent.post_now(alloc, one.thread, Call::Resume) {

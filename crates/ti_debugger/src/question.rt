@@ -52,13 +52,13 @@ pub struct Told {
 pub enum TellError {
     /// 103 ILLEGAL_ARGUMENT (JVM TI 11): the lengths do not add up, a name is not UTF-8, or a table has not its entries.
     #[error("illegal argument")]
-    IllegalArgument,
+    IllegalArgument = 103,
     /// 110 OUT_OF_MEMORY (JVM TI 11): there is no memory, or no room for what is kept.
     #[error("out of memory")]
-    OutOfMemory,
+    OutOfMemory = 110,
     /// 112 WRONG_PHASE (JVM TI 11): no such question is open.
     #[error("no such question is open")]
-    NotAsked,
+    NotAsked = 112,
 }
 
 impl TellError {
@@ -66,11 +66,7 @@ impl TellError {
     pub fn number(self) -> u32
         ensures { result ≡ tell_number self }
     {
-        match self {
-            TellError::IllegalArgument => 103,
-            TellError::OutOfMemory => 110,
-            TellError::NotAsked => 112,
-        }
+        self as u32
     }
 }
 

@@ -6,7 +6,7 @@ use ti_service::ClassError;
 use ti_types::TiError;
 
 /// Why there is no body for the reply to a request.
-#[derive(Clone, Copy, Debug, PartialEq, Eq)]
+#[derive(Clone, Copy)]
 pub(crate) enum Refusal {
     /// The reply is this error.
     Error(JdwpError),

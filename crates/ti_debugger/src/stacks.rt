@@ -16,7 +16,7 @@ const NATIVE_INDEX: u64 = u64::MAX;
 const MOST_FRAMES: u32 = 0x7fff_ffff;
 
 /// A part of a stack, or of a table.
-#[derive(Clone, Copy, Debug, PartialEq, Eq)]
+#[derive(Clone, Copy)]
 pub(crate) struct Part {
     pub(crate) start: i32,
     pub(crate) count: i32,

@@ -11,7 +11,7 @@ use ti_service::{
 use ti_types::{Answer, Call, MethodNo, Place, ThreadNo};
 
 /// A location of a method at which the agent has a breakpoint.
-#[derive(Clone, Copy, Debug, PartialEq, Eq)]
+#[derive(Clone, Copy)]
 pub(crate) struct Spot {
     pub(crate) class: u32,
     pub(crate) method: u32,
@@ -272,7 +272,9 @@ impl Desk {
         ensures { self.new ≡ record self.old { agent = self.new.agent } }
     {
         match stage {
-            Stage::RunsTo(frames) => self.run_to(thread.0, frames) == Err(Refusal::Later),
+            Stage::RunsTo(frames) => {
+                matches!(self.run_to(thread.0, frames), Err(Refusal::Later))
+            }
             _ => false,
         }
     }

@@ -5,11 +5,8 @@
 
 use crate::error::JdwpError;
 use crate::ids::{TABLE_CLASS, THREAD_GROUP};
-use crate::writing::{put_byte, put_int, put_long, put_text};
+use crate::writing::{CLASS_TAG, put_byte, put_int, put_long, put_tagged, put_text};
 use std::alloc::Global;
-
-/// The tag of a class beside its id: CLASS.
-const CLASS_TAG: u8 = 1;
 
 /// The tag of a class of arrays: ARRAY.
 const ARRAY_TAG: u8 = 3;
@@ -50,10 +47,7 @@ pub fn class_of_object_body(alloc: Global, class: u64) -> Result<Vec<u8>, JdwpEr
     ensures ok { IfOk result (λ v. v.items ≡ 1 ∷ long class) }
     ensures memory { IfErr result (λ e. e ≡ OutOfMemory) }
 {
-    let mut out = Vec::new(alloc);
-    put_byte(&mut out, CLASS_TAG)?;
-    put_long(&mut out, class)?;
-    Ok(out)
+    tagged_body(alloc, CLASS_TAG, class)
 }
 
 /// The class of all tables, which is one of arrays, with its tag (9/1 of a table).
@@ -61,10 +55,7 @@ pub fn class_of_table_body(alloc: Global) -> Result<Vec<u8>, JdwpError>
     ensures ok { IfOk result (λ v. v.items ≡ 3 ∷ long table_class) }
     ensures memory { IfErr result (λ e. e ≡ OutOfMemory) }
 {
-    let mut out = Vec::new(alloc);
-    put_byte(&mut out, ARRAY_TAG)?;
-    put_long(&mut out, TABLE_CLASS)?;
-    Ok(out)
+    tagged_body(alloc, ARRAY_TAG, TABLE_CLASS)
 }
 
 /// The null object, with its tag (16/3): no frame has an object of its own.
@@ -72,9 +63,15 @@ pub fn no_object_body(alloc: Global) -> Result<Vec<u8>, JdwpError>
     ensures ok { IfOk result (λ v. v.items ≡ 76 ∷ long 0) }
     ensures memory { IfErr result (λ e. e ≡ OutOfMemory) }
 {
+    tagged_body(alloc, b'L', 0)
+}
+
+fn tagged_body(alloc: Global, tag: u8, bits: u64) -> Result<Vec<u8>, JdwpError>
+    ensures ok { IfOk result (λ v. v.items ≡ tag ∷ long bits) }
+    ensures memory { IfErr result (λ e. e ≡ OutOfMemory) }
+{
     let mut out = Vec::new(alloc);
-    put_byte(&mut out, b'L')?;
-    put_long(&mut out, 0)?;
+    put_tagged(&mut out, tag, bits)?;
     Ok(out)
 }
 

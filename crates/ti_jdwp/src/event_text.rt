@@ -1,9 +1,10 @@
 //! The body of a composite event: the command Event.Composite, 64/100, which goes to the debugger without a request.
 
 use crate::error::JdwpError;
-use crate::ids::{class_id, method_id, thread_id};
+use crate::ids::thread_id;
 use crate::request::{EventKind, Policy};
-use crate::writing::{put_byte, put_count, put_int, put_long, put_text};
+use crate::rows::{PutRow, put_rows};
+use crate::writing::{put_byte, put_class, put_int, put_location, put_long, put_text};
 use std::alloc::Global;
 
 /// What took place.
@@ -70,22 +71,23 @@ pub fn composite_body(
 {
     let mut out = Vec::new(alloc);
     put_byte(&mut out, policy.number())?;
-    put_count(&mut out, events.len())?;
-    for row in events {
-        put_event(&mut out, *row)?;
-    }
+    put_rows(&mut out, &Events, events)?;
     Ok(out)
 }
 
-fn put_event(out: &mut Vec<u8>, row: EventRow<'_>) -> Result<(), JdwpError>
-    ensures ok { OnOk result (out.new.items ≡ out.old.items ++ event_row row.entry) }
-    ensures fits { OnOk result (HasShortText row.entry.occurrence) }
-    ensures memory { IfErr result (λ e. e ≡ OutOfMemory) }
-{
-    put_byte(out, kind(row.occurrence).number())?;
-    put_int(out, row.request.cast_unsigned())?;
-    put_occurrence(out, row.occurrence)?;
-    Ok(())
+/// How events are listed.
+struct Events;
+
+impl PutRow<EventRow<'_>> for Events {
+    ghost bytes = { λ _ row. event_row row };
+
+    ghost Fits = { λ row. HasShortText row.occurrence };
+
+    fn put(&self, out: &mut Vec<u8>, row: &EventRow<'_>) -> Result<(), JdwpError> {
+        put_byte(out, kind(row.occurrence).number())?;
+        put_int(out, row.request.cast_unsigned())?;
+        put_occurrence(out, row.occurrence)
+    }
 }
 
 fn kind(occurrence: Occurrence<'_>) -> EventKind
@@ -122,19 +124,19 @@ fn put_occurrence(out: &mut Vec<u8>, occurrence: Occurrence<'_>) -> Result<(), J
             class,
             method,
             index,
-        } => put_location(out, thread, class, method, index),
+        } => put_place(out, thread, class, method, index),
         Occurrence::Breakpoint {
             thread,
             class,
             method,
             index,
-        } => put_location(out, thread, class, method, index),
+        } => put_place(out, thread, class, method, index),
         Occurrence::ClassUnload { signature } => put_text(out, signature),
         Occurrence::VmDeath => Ok(()),
     }
 }
 
-fn put_location(
+fn put_place(
     out: &mut Vec<u8>,
     thread: u32,
     class: u32,
@@ -145,11 +147,7 @@ fn put_location(
     ensures memory { IfErr result (λ e. e ≡ OutOfMemory) }
 {
     put_long(out, thread_id(thread))?;
-    put_byte(out, 1)?;
-    put_long(out, class_id(class))?;
-    put_long(out, method_id(method))?;
-    put_long(out, u64::from(index))?;
-    Ok(())
+    put_location(out, class, method, u64::from(index))
 }
 
 fn put_prepared(
@@ -163,11 +161,9 @@ fn put_prepared(
     ensures memory { IfErr result (λ e. e ≡ OutOfMemory) }
 {
     put_long(out, thread_id(thread))?;
-    put_byte(out, 1)?;
-    put_long(out, class_id(class))?;
+    put_class(out, class)?;
     put_text(out, signature)?;
-    put_int(out, 7)?;
-    Ok(())
+    put_int(out, 7)
 }
 
 ghost use Rattle.std.specs.Prelude.{◌≡◌, ◌<◌, ◌^◌, length, All, ◌++◌, OnOk, IfOk, IfErr};

@@ -30,6 +30,7 @@ mod plan;
 mod reading;
 mod request;
 mod requests_in_force;
+mod rows;
 mod sending;
 mod session;
 mod session_answers;

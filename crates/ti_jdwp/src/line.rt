@@ -31,9 +31,7 @@ fn drop_front(bytes: &mut Vec<u8>, count: usize)
     requires { count ≤ length bytes.old.items }
     ensures { bytes.new.items ≡ drop count bytes.old.items }
 {
-    let left = bytes.len() - count;
-    bytes.rotate_left(count);
-    bytes.truncate(left);
+    bytes.drain(..count);
 }
 
 impl Line {

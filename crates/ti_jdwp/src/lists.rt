@@ -4,12 +4,10 @@
 //! text has 2^31 items or bytes or more.
 
 use crate::error::JdwpError;
-use crate::ids::{class_id, frame_id, method_id, thread_id};
-use crate::writing::{put_byte, put_count, put_int, put_long, put_text};
+use crate::ids::{frame_id, method_id, thread_id};
+use crate::rows::{PutRow, put_rows, rows_body};
+use crate::writing::{put_class, put_int, put_location, put_long, put_text};
 use std::alloc::Global;
-
-/// The tag of a class beside its id: CLASS.
-const CLASS_TAG: u8 = 1;
 
 /// The status of a class: verified, prepared and initialized.
 const CLASS_STATUS: u32 = 7;
@@ -52,23 +50,15 @@ pub struct FrameRow {
     pub index: u64,
 }
 
-fn put_thread(out: &mut Vec<u8>, thread: u32) -> Result<(), JdwpError>
-    ensures ok { OnOk result (out.new.items ≡ out.old.items ++ long (id_from first_thread thread)) }
-    ensures memory { IfErr result (λ e. e ≡ OutOfMemory) }
-{
-    put_long(out, thread_id(thread))
-}
+/// How threads are listed.
+struct Threads;
 
-fn put_threads(out: &mut Vec<u8>, threads: &[u32]) -> Result<(), JdwpError>
-    ensures ok { OnOk result (out.new.items ≡ out.old.items ++ thread_list threads.now) }
-    ensures fits { OnOk result (length threads.now < 2 ^ 31) }
-    ensures memory { IfErr result (λ e. e ≡ OutOfMemory) }
-{
-    put_count(out, threads.len())?;
-    for thread in threads {
-        put_thread(out, *thread)?;
+impl PutRow<u32> for Threads {
+    ghost bytes = { λ _ thread. long (id_from first_thread thread) };
+
+    fn put(&self, out: &mut Vec<u8>, thread: &u32) -> Result<(), JdwpError> {
+        put_long(out, thread_id(*thread))
     }
-    Ok(())
 }
 
 /// Threads by their numbers (1/4).
@@ -77,9 +67,7 @@ pub fn threads_body(alloc: Global, threads: &[u32]) -> Result<Vec<u8>, JdwpError
     ensures fits { IfOk result (λ _. length threads.now < 2 ^ 31) }
     ensures memory { IfErr result (λ e. e ≡ OutOfMemory) }
 {
-    let mut out = Vec::new(alloc);
-    put_threads(&mut out, threads)?;
-    Ok(out)
+    rows_body(alloc, &Threads, threads)
 }
 
 /// The threads of the group by their numbers, and no groups in it (12/3).
@@ -89,22 +77,25 @@ pub fn group_children_body(alloc: Global, threads: &[u32]) -> Result<Vec<u8>, Jd
     ensures memory { IfErr result (λ e. e ≡ OutOfMemory) }
 {
     let mut out = Vec::new(alloc);
-    put_threads(&mut out, threads)?;
+    put_rows(&mut out, &Threads, threads)?;
     put_int(&mut out, 0)?;
     Ok(out)
 }
 
-fn put_class(out: &mut Vec<u8>, row: ClassRow<'_>) -> Result<(), JdwpError>
-    ensures ok { OnOk result (out.new.items ≡ out.old.items ++ class_row row.entry) }
-    ensures fits { OnOk result (length row.entry.signature.now < 2 ^ 31) }
-    ensures memory { IfErr result (λ e. e ≡ OutOfMemory) }
-{
-    put_byte(out, CLASS_TAG)?;
-    put_long(out, class_id(row.class))?;
-    put_text(out, row.signature)?;
-    put_text(out, &[])?;
-    put_int(out, CLASS_STATUS)?;
-    Ok(())
+/// How classes are listed, with their signatures.
+struct Classes;
+
+impl PutRow<ClassRow<'_>> for Classes {
+    ghost bytes = { λ _ row. class_row row };
+
+    ghost Fits = { λ row. length row.signature.now < 2 ^ 31 };
+
+    fn put(&self, out: &mut Vec<u8>, row: &ClassRow<'_>) -> Result<(), JdwpError> {
+        put_class(out, row.class)?;
+        put_text(out, row.signature)?;
+        put_text(out, &[])?;
+        put_int(out, CLASS_STATUS)
+    }
 }
 
 /// Classes with their signatures, and the empty text for each generic one (1/20).
@@ -113,22 +104,19 @@ pub fn classes_body(alloc: Global, classes: &[ClassRow<'_>]) -> Result<Vec<u8>, 
     ensures fits { IfOk result (λ _. (length classes.now < 2 ^ 31) × All (λ r. length r.signature.now < 2 ^ 31) classes.now) }
     ensures memory { IfErr result (λ e. e ≡ OutOfMemory) }
 {
-    let mut out = Vec::new(alloc);
-    put_count(&mut out, classes.len())?;
-    for row in classes {
-        put_class(&mut out, *row)?;
-    }
-    Ok(out)
+    rows_body(alloc, &Classes, classes)
 }
 
-fn put_found_class(out: &mut Vec<u8>, class: u32) -> Result<(), JdwpError>
-    ensures ok { OnOk result (out.new.items ≡ out.old.items ++ found_class class) }
-    ensures memory { IfErr result (λ e. e ≡ OutOfMemory) }
-{
-    put_byte(out, CLASS_TAG)?;
-    put_long(out, class_id(class))?;
-    put_int(out, CLASS_STATUS)?;
-    Ok(())
+/// How classes are listed that have one signature.
+struct FoundClasses;
+
+impl PutRow<u32> for FoundClasses {
+    ghost bytes = { λ _ class. found_class class };
+
+    fn put(&self, out: &mut Vec<u8>, class: &u32) -> Result<(), JdwpError> {
+        put_class(out, *class)?;
+        put_int(out, CLASS_STATUS)
+    }
 }
 
 /// Classes by their numbers, which have the signature that was asked for (1/2).
@@ -137,12 +125,7 @@ pub fn classes_found_body(alloc: Global, classes: &[u32]) -> Result<Vec<u8>, Jdw
     ensures fits { IfOk result (λ _. length classes.now < 2 ^ 31) }
     ensures memory { IfErr result (λ e. e ≡ OutOfMemory) }
 {
-    let mut out = Vec::new(alloc);
-    put_count(&mut out, classes.len())?;
-    for class in classes {
-        put_found_class(&mut out, *class)?;
-    }
-    Ok(out)
+    rows_body(alloc, &FoundClasses, classes)
 }
 
 fn method_flags(native: bool) -> u32
@@ -151,17 +134,21 @@ fn method_flags(native: bool) -> u32
     if native { NATIVE_FLAGS } else { METHOD_FLAGS }
 }
 
-fn put_method(out: &mut Vec<u8>, row: MethodRow<'_>) -> Result<(), JdwpError>
-    ensures ok { OnOk result (out.new.items ≡ out.old.items ++ method_row row.entry) }
-    ensures fits { OnOk result ((length row.entry.name.now < 2 ^ 31) × (length row.entry.signature.now < 2 ^ 31)) }
-    ensures memory { IfErr result (λ e. e ≡ OutOfMemory) }
-{
-    put_long(out, method_id(row.method))?;
-    put_text(out, row.name)?;
-    put_text(out, row.signature)?;
-    put_text(out, &[])?;
-    put_int(out, method_flags(row.native))?;
-    Ok(())
+/// How methods are listed.
+struct Methods;
+
+impl PutRow<MethodRow<'_>> for Methods {
+    ghost bytes = { λ _ row. method_row row };
+
+    ghost Fits = { λ row. (length row.name.now < 2 ^ 31) × (length row.signature.now < 2 ^ 31) };
+
+    fn put(&self, out: &mut Vec<u8>, row: &MethodRow<'_>) -> Result<(), JdwpError> {
+        put_long(out, method_id(row.method))?;
+        put_text(out, row.name)?;
+        put_text(out, row.signature)?;
+        put_text(out, &[])?;
+        put_int(out, method_flags(row.native))
+    }
 }
 
 /// The methods of a class, with the empty text for each generic signature (2/15). All are public and static.
@@ -170,21 +157,19 @@ pub fn methods_body(alloc: Global, methods: &[MethodRow<'_>]) -> Result<Vec<u8>,
     ensures fits { IfOk result (λ _. (length methods.now < 2 ^ 31) × All (λ r. (length r.name.now < 2 ^ 31) × (length r.signature.now < 2 ^ 31)) methods.now) }
     ensures memory { IfErr result (λ e. e ≡ OutOfMemory) }
 {
-    let mut out = Vec::new(alloc);
-    put_count(&mut out, methods.len())?;
-    for row in methods {
-        put_method(&mut out, *row)?;
-    }
-    Ok(out)
+    rows_body(alloc, &Methods, methods)
 }
 
-fn put_line(out: &mut Vec<u8>, row: LineRow) -> Result<(), JdwpError>
-    ensures ok { OnOk result (out.new.items ≡ out.old.items ++ line_row row) }
-    ensures memory { IfErr result (λ e. e ≡ OutOfMemory) }
-{
-    put_long(out, row.index)?;
-    put_int(out, row.line)?;
-    Ok(())
+/// How lines are listed.
+struct Lines;
+
+impl PutRow<LineRow> for Lines {
+    ghost bytes = { λ _ row. line_row row };
+
+    fn put(&self, out: &mut Vec<u8>, row: &LineRow) -> Result<(), JdwpError> {
+        put_long(out, row.index)?;
+        put_int(out, row.line)
+    }
 }
 
 /// The lines of a method (6/1). Each location of the method is in the range from `start` to `end`.
@@ -201,20 +186,8 @@ pub fn line_table_body(
     let mut out = Vec::new(alloc);
     put_long(&mut out, start)?;
     put_long(&mut out, end)?;
-    put_lines(&mut out, lines)?;
+    put_rows(&mut out, &Lines, lines)?;
     Ok(out)
-}
-
-fn put_lines(out: &mut Vec<u8>, lines: &[LineRow]) -> Result<(), JdwpError>
-    ensures ok { OnOk result (out.new.items ≡ out.old.items ++ line_list lines.now) }
-    ensures fits { OnOk result (length lines.now < 2 ^ 31) }
-    ensures memory { IfErr result (λ e. e ≡ OutOfMemory) }
-{
-    put_count(out, lines.len())?;
-    for row in lines {
-        put_line(out, *row)?;
-    }
-    Ok(())
 }
 
 /// The lines of a method whose locations are its lines (6/1): those that are known, each at the location of its number. Every
@@ -227,41 +200,33 @@ pub fn identity_lines_body(alloc: Global, lines: &[u32]) -> Result<Vec<u8>, Jdwp
     let mut out = Vec::new(alloc);
     put_long(&mut out, 0)?;
     put_long(&mut out, u64::from(u32::MAX))?;
-    put_identity(&mut out, lines)?;
+    put_rows(&mut out, &IdentityLines, lines)?;
     Ok(out)
 }
 
-fn put_identity(out: &mut Vec<u8>, lines: &[u32]) -> Result<(), JdwpError>
-    ensures ok { OnOk result (out.new.items ≡ out.old.items ++ identity_list lines.now) }
-    ensures fits { OnOk result (length lines.now < 2 ^ 31) }
-    ensures memory { IfErr result (λ e. e ≡ OutOfMemory) }
-{
-    put_count(out, lines.len())?;
-    for line in lines {
-        put_identity_line(out, *line)?;
+/// How lines are listed whose locations are their numbers.
+struct IdentityLines;
+
+impl PutRow<u32> for IdentityLines {
+    ghost bytes = { λ _ line. identity_line line };
+
+    fn put(&self, out: &mut Vec<u8>, line: &u32) -> Result<(), JdwpError> {
+        put_long(out, u64::from(*line))?;
+        put_int(out, *line)
     }
-    Ok(())
 }
 
-fn put_identity_line(out: &mut Vec<u8>, line: u32) -> Result<(), JdwpError>
-    ensures ok { OnOk result (out.new.items ≡ out.old.items ++ identity_line line) }
-    ensures memory { IfErr result (λ e. e ≡ OutOfMemory) }
-{
-    put_long(out, u64::from(line))?;
-    put_int(out, line)?;
-    Ok(())
-}
+/// How frames of a thread, by its number, are listed.
+#[derive(Drop)]
+struct FramesOf(u32);
 
-fn put_frame(out: &mut Vec<u8>, thread: u32, row: FrameRow) -> Result<(), JdwpError>
-    ensures ok { OnOk result (out.new.items ≡ out.old.items ++ frame_row thread row) }
-    ensures memory { IfErr result (λ e. e ≡ OutOfMemory) }
-{
-    put_long(out, frame_id(thread, row.depth))?;
-    put_byte(out, CLASS_TAG)?;
-    put_long(out, class_id(row.class))?;
-    put_long(out, method_id(row.method))?;
-    put_long(out, row.index)?;
-    Ok(())
+impl PutRow<FrameRow> for FramesOf {
+    ghost bytes = { λ frames row. frame_row frames.0 row };
+
+    fn put(&self, out: &mut Vec<u8>, row: &FrameRow) -> Result<(), JdwpError> {
+        put_long(out, frame_id(self.0, row.depth))?;
+        put_location(out, row.class, row.method, row.index)
+    }
 }
 
 /// Frames of a thread (11/6).
@@ -270,15 +235,10 @@ pub fn frames_body(alloc: Global, thread: u32, frames: &[FrameRow]) -> Result<Ve
     ensures fits { IfOk result (λ _. length frames.now < 2 ^ 31) }
     ensures memory { IfErr result (λ e. e ≡ OutOfMemory) }
 {
-    let mut out = Vec::new(alloc);
-    put_count(&mut out, frames.len())?;
-    for row in frames {
-        put_frame(&mut out, thread, *row)?;
-    }
-    Ok(out)
+    rows_body(alloc, &FramesOf(thread), frames)
 }
 
-ghost use Rattle.std.specs.Prelude.{◌≡◌, ◌<◌, ◌^◌, length, All, ◌++◌, OnOk, IfOk, IfErr};
+ghost use Rattle.std.specs.Prelude.{◌≡◌, ◌<◌, ◌^◌, length, All, ◌++◌, IfOk, IfErr};
 ghost use Rattle.ti_jdwp.specs.Fields.{int, long};
 ghost use Rattle.ti_jdwp.specs.Ids.{id_from, first_thread};
 ghost use Rattle.ti_jdwp.specs.Bodies.{thread_list, class_row, class_list, found_class, found_list, method_flags, method_row, method_list, line_row, line_list, identity_line, identity_list, frame_row, frame_list};

@@ -8,10 +8,10 @@ use thiserror::Error;
 pub enum SessionError {
     /// 110 OUT_OF_MEMORY (JVM TI 11): there is no memory for the input, for a reply or for an event.
     #[error("out of memory")]
-    OutOfMemory,
+    OutOfMemory = 110,
     /// 112 WRONG_PHASE (JVM TI 11): the session did not ask for this answer.
     #[error("the session did not ask for this answer")]
-    NotAsked,
+    NotAsked = 112,
 }
 
 impl SessionError {
@@ -19,10 +19,7 @@ impl SessionError {
     pub fn number(self) -> u32
         ensures { result ≡ session_number self }
     {
-        match self {
-            SessionError::OutOfMemory => 110,
-            SessionError::NotAsked => 112,
-        }
+        self as u32
     }
 }
 

@@ -89,7 +89,7 @@ impl Session {
         if told.numbers.is_empty() {
             return true;
         }
-        match notice_of(self.alloc, &event, occurrence, told) {
+        match notice_of(self.alloc, &event, occurrence, &told) {
             Ok(notice) => self.events.note(notice),
             Err(_) => {
                 self.events.lose();
@@ -128,18 +128,31 @@ pub(crate) fn rows_of<'a>(
     Ok(rows)
 }
 
+/// What is told of an occurrence, for each of these requests. 110 OUT_OF_MEMORY if there is no memory for it.
+fn told_of(
+    alloc: Global,
+    policy: Policy,
+    numbers: &[u32],
+    occurrence: Occurrence<'_>,
+) -> Result<Text, JdwpError>
+    ensures ok { IfOk result (λ t. t ≡ composite policy (map (row_of occurrence.entry) numbers.now)) }
+    ensures memory { IfErr result (λ e. e ≡ OutOfMemory) }
+{
+    let rows = rows_of(alloc, numbers, occurrence)?;
+    let body = composite_body(alloc, policy, rows.as_slice())?;
+    Ok(Text::new(body))
+}
+
 /// All that is told of the beginning of the runtime. 110 OUT_OF_MEMORY if there is no memory for it.
 fn start_notice(alloc: Global, thread: u32) -> Result<Notice, JdwpError>
     ensures ok { IfOk result (λ n. n ≡ start_notice thread) }
     ensures memory { IfErr result (λ e. e ≡ OutOfMemory) }
 {
-    let rows = rows_of(alloc, &[0], Occurrence::VmStart { thread })?;
-    let body = composite_body(alloc, Policy::All, rows.as_slice())?;
     Ok(Notice {
         policy: Policy::All,
         thread,
         stop: false,
-        body: Text::new(body),
+        body: told_of(alloc, Policy::All, &[0], Occurrence::VmStart { thread })?,
     })
 }
 
@@ -148,23 +161,22 @@ fn notice_of(
     alloc: Global,
     event: &Event,
     occurrence: Occurrence<'_>,
-    told: Told,
+    told: &Told,
 ) -> Result<Notice, JdwpError>
-    ensures ok { IfOk result (λ n. n ≡ notice_for event.now occurrence.entry told.policy told.numbers.items) }
+    ensures ok { IfOk result (λ n. n ≡ notice_for event.now occurrence.entry told.now.policy told.now.numbers.items) }
     ensures memory { IfErr result (λ e. e ≡ OutOfMemory) }
 {
     let policy = policy_of(event, told.policy);
-    let rows = rows_of(alloc, told.numbers.as_slice(), occurrence)?;
-    let body = composite_body(alloc, policy, rows.as_slice())?;
     Ok(Notice {
         policy,
         thread: event.thread(),
         stop: false,
-        body: Text::new(body),
+        body: told_of(alloc, policy, told.numbers.as_slice(), occurrence)?,
     })
 }
 
 ghost use Rattle.std.specs.Prelude.{◌≡◌, map, IfOk, IfErr};
+ghost use Rattle.ti_jdwp.specs.Composites.{composite};
 ghost use Rattle.ti_jdwp.specs.Notes.{Begins, Notes, is_over, event_policy, notice_for, row_of, start_notice, starts, ends, prepares};
 ghost use Rattle.ti_jdwp.specs.declared.error.JdwpError.TheVariants.{OutOfMemory};
 ghost use Rattle.ti_jdwp.specs.declared.event.Event.TheVariants.{ThreadStart, ThreadDeath, ClassPrepare};

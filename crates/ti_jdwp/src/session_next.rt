@@ -41,16 +41,10 @@ impl Session {
                 Ok(Action::Resume(thread))
             }
             Phase::Finishing(purpose) => self.finish(purpose),
-            Phase::Refusing => {
-                self.answer(Err(JdwpError::InvalidThread))?;
-                Ok(Action::Write)
-            }
+            Phase::Refusing => self.refuse_now(JdwpError::InvalidThread),
             Phase::Numbered(number) => self.number(number),
             Phase::Putting { wish, standing } => self.put_in_force(wish, standing),
-            Phase::Denied(error) => {
-                self.answer(Err(error))?;
-                Ok(Action::Write)
-            }
+            Phase::Denied(error) => self.refuse_now(error),
             Phase::Resuming => self.resume_next(),
             Phase::Ending | Phase::Closed => Ok(Action::Close),
         }

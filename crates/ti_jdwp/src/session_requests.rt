@@ -23,11 +23,19 @@ impl Session {
     {
         self.first = first;
         let bytes = first.data(self.line.input());
-        let request = match read_request(first.set, first.command, bytes) {
-            Ok(request) => request,
-            Err(error) => return self.refuse_now(error),
-        };
-        match plan_of(request) {
+        match read_request(first.set, first.command, bytes) {
+            Ok(request) => self.follow(plan_of(request), request),
+            Err(error) => self.refuse_now(error),
+        }
+    }
+
+    /// Follows the plan for a request.
+    fn follow(&mut self, plan: Plan, request: Request) -> Result<Action, SessionError>
+        ensures ok { IfOk result (λ a. ServesBy plan request self.old a self.new) }
+        ensures memory { IfErr result (λ e. e ≡ OutOfMemory) }
+        ensures err { OnErr result (self.new ≡ self.old) }
+    {
+        match plan {
             Plan::Refuse(error) => self.refuse_now(error),
             Plan::Constant(constant) => {
                 let body = constant_body(self.alloc, constant)?;
@@ -36,14 +44,14 @@ impl Session {
             Plan::Ask => Ok(self.ask(request)),
             Plan::AskStack(thread) => {
                 if self.suspensions.count(thread) == 0 {
-                    return self.refuse_now(JdwpError::ThreadNotSuspended);
+                    self.refuse_now(JdwpError::ThreadNotSuspended)
+                } else {
+                    Ok(self.ask(request))
                 }
-                Ok(self.ask(request))
             }
             Plan::Count(thread) => {
                 let count = self.suspensions.count(thread);
-                let body = int_body(self.alloc, count.cast_signed())?;
-                self.answer_now(body.as_slice())
+                self.number(count)
             }
             Plan::Suspend(thread) => Ok(self.suspend_one(Purpose::One, thread)),
             Plan::Resume(thread) => self.resume_one(thread),
@@ -84,7 +92,8 @@ impl Session {
         Ok(Action::Write)
     }
 
-    fn refuse_now(&mut self, error: JdwpError) -> Result<Action, SessionError>
+    /// Replies with an error.
+    pub(crate) fn refuse_now(&mut self, error: JdwpError) -> Result<Action, SessionError>
         ensures ok { IfOk result (λ a. Does (Write, replied self.old (Err (number_of error))) a self.new) }
         ensures memory { IfErr result (λ e. e ≡ OutOfMemory) }
         ensures err { OnErr result (self.new ≡ self.old) }
@@ -224,7 +233,7 @@ ghost use Rattle.ti_jdwp.specs.Asking.{reading_of};
 ghost use Rattle.ti_jdwp.specs.Errors.{number_of};
 ghost use Rattle.ti_jdwp.specs.Fields.{int};
 ghost use Rattle.ti_jdwp.specs.Talks.{replied};
-ghost use Rattle.ti_jdwp.specs.Steps.{Does, Serves, ResumesOne, Puts, PutsInForce, Sets, SetsEvent, clears};
+ghost use Rattle.ti_jdwp.specs.Steps.{Does, Serves, ServesBy, ResumesOne, Puts, PutsInForce, Sets, SetsEvent, clears};
 ghost use Rattle.ti_jdwp.specs.declared.actions.Action.TheVariants.{Ask, Write};
 ghost use Rattle.ti_jdwp.specs.declared.actions.Phase.TheVariants.{Asking};
 ghost use Rattle.ti_jdwp.specs.declared.session_error.SessionError.TheVariants.{OutOfMemory};

@@ -35,7 +35,7 @@ impl Session {
                 None => Verdict::Passed,
             };
         }
-        let Ok(notice) = stop_of(self.alloc, at, told) else {
+        let Ok(notice) = stop_of(self.alloc, at, &told) else {
             self.events.lose();
             return Verdict::Passed;
         };
@@ -83,16 +83,14 @@ fn tell_stop(
     ensures breakpoint_policy { IfOk result (λ t. t.breakpoints.policy ≡ strongest (breakpoints_told (spot_of at.now) requests.old)) }
     ensures err { OnErr result (IsPartlyTold (spot_of at.now) requests.old requests.new) }
 {
-    let step = Event::SingleStep(Spot::new(alloc, at)?);
-    let breakpoint = Event::Breakpoint(Spot::new(alloc, at)?);
-    let steps = requests.tell(alloc, &step)?;
-    let breakpoints = requests.tell(alloc, &breakpoint)?;
+    let steps = requests.tell(alloc, &Event::SingleStep(Spot::new(alloc, at)?))?;
+    let breakpoints = requests.tell(alloc, &Event::Breakpoint(Spot::new(alloc, at)?))?;
     Ok(StopTold { steps, breakpoints })
 }
 
 /// All that is told of a stop. 110 OUT_OF_MEMORY if there is no memory for it.
-fn stop_of(alloc: Global, at: &Stopped<'_>, told: StopTold) -> Result<Notice, JdwpError>
-    ensures ok { IfOk result (λ n. n ≡ stop_with (spot_of at.now) (stronger told.steps.policy told.breakpoints.policy) told.steps.numbers.items told.breakpoints.numbers.items) }
+fn stop_of(alloc: Global, at: &Stopped<'_>, told: &StopTold) -> Result<Notice, JdwpError>
+    ensures ok { IfOk result (λ n. n ≡ stop_with (spot_of at.now) (stronger told.now.steps.policy told.now.breakpoints.policy) told.now.steps.numbers.items told.now.breakpoints.numbers.items) }
     ensures memory { IfErr result (λ e. e ≡ OutOfMemory) }
 {
     let policy = stronger(told.steps.policy, told.breakpoints.policy);

@@ -5,7 +5,8 @@
 
 use crate::error::JdwpError;
 use crate::ids::{table_id, text_id};
-use crate::writing::{put_byte, put_count, put_int, put_long, put_text};
+use crate::rows::{PutRow, put_rows, rows_body};
+use crate::writing::{put_byte, put_int, put_long, put_tagged, put_text};
 use std::alloc::Global;
 
 /// What each variable is declared as: it may have values of any kind.
@@ -34,17 +35,27 @@ pub enum Value {
     Table(u32),
 }
 
-fn put_variable(out: &mut Vec<u8>, row: VariableRow<'_>) -> Result<(), JdwpError>
-    ensures ok { OnOk result (out.new.items ≡ out.old.items ++ variable_row row.entry) }
-    ensures fits { OnOk result (length row.entry.name.now < 2 ^ 31) }
-    ensures memory { IfErr result (λ e. e ≡ OutOfMemory) }
-{
-    put_long(out, u64::from(row.first))?;
-    put_text(out, row.name)?;
-    put_text(out, SIGNATURE)?;
-    put_int(out, row.count)?;
-    put_int(out, row.slot)?;
-    Ok(())
+/// How variables are listed: with the empty text for each generic signature, or with none.
+#[derive(Drop)]
+struct Variables {
+    generic: bool,
+}
+
+impl PutRow<VariableRow<'_>> for Variables {
+    ghost bytes = { λ v row. if v.generic then generic_variable_row row else variable_row row };
+
+    ghost Fits = { λ row. length row.name.now < 2 ^ 31 };
+
+    fn put(&self, out: &mut Vec<u8>, row: &VariableRow<'_>) -> Result<(), JdwpError> {
+        put_long(out, u64::from(row.first))?;
+        put_text(out, row.name)?;
+        put_text(out, SIGNATURE)?;
+        if self.generic {
+            put_text(out, &[])?;
+        }
+        put_int(out, row.count)?;
+        put_int(out, row.slot)
+    }
 }
 
 /// The variables of a method (6/2). None is told as an argument.
@@ -53,27 +64,7 @@ pub fn variables_body(alloc: Global, variables: &[VariableRow<'_>]) -> Result<Ve
     ensures fits { IfOk result (λ _. (length variables.now < 2 ^ 31) × All (λ r. length r.name.now < 2 ^ 31) variables.now) }
     ensures memory { IfErr result (λ e. e ≡ OutOfMemory) }
 {
-    let mut out = Vec::new(alloc);
-    put_int(&mut out, 0)?;
-    put_count(&mut out, variables.len())?;
-    for row in variables {
-        put_variable(&mut out, *row)?;
-    }
-    Ok(out)
-}
-
-fn put_generic_variable(out: &mut Vec<u8>, row: VariableRow<'_>) -> Result<(), JdwpError>
-    ensures ok { OnOk result (out.new.items ≡ out.old.items ++ generic_variable_row row.entry) }
-    ensures fits { OnOk result (length row.entry.name.now < 2 ^ 31) }
-    ensures memory { IfErr result (λ e. e ≡ OutOfMemory) }
-{
-    put_long(out, u64::from(row.first))?;
-    put_text(out, row.name)?;
-    put_text(out, SIGNATURE)?;
-    put_text(out, &[])?;
-    put_int(out, row.count)?;
-    put_int(out, row.slot)?;
-    Ok(())
+    listed(alloc, false, variables)
 }
 
 /// The variables of a method, with the empty text for each generic signature (6/5). None is told as an argument.
@@ -85,39 +76,39 @@ pub fn generic_variables_body(
     ensures fits { IfOk result (λ _. (length variables.now < 2 ^ 31) × All (λ r. length r.name.now < 2 ^ 31) variables.now) }
     ensures memory { IfErr result (λ e. e ≡ OutOfMemory) }
 {
+    listed(alloc, true, variables)
+}
+
+fn listed(alloc: Global, generic: bool, variables: &[VariableRow<'_>]) -> Result<Vec<u8>, JdwpError>
+    ensures ok { IfOk result (λ v. v.items ≡ int 0 ++ list (λ row. if generic then generic_variable_row row else variable_row row) variables.now) }
+    ensures fits { IfOk result (λ _. (length variables.now < 2 ^ 31) × All (λ r. length r.name.now < 2 ^ 31) variables.now) }
+    ensures memory { IfErr result (λ e. e ≡ OutOfMemory) }
+{
     let mut out = Vec::new(alloc);
     put_int(&mut out, 0)?;
-    put_count(&mut out, variables.len())?;
-    for row in variables {
-        put_generic_variable(&mut out, *row)?;
-    }
+    put_rows(&mut out, &Variables { generic }, variables)?;
     Ok(out)
 }
 
-fn put_value(out: &mut Vec<u8>, value: Value) -> Result<(), JdwpError>
-    ensures ok { OnOk result (out.new.items ≡ out.old.items ++ value_bytes value) }
-    ensures memory { IfErr result (λ e. e ≡ OutOfMemory) }
-{
-    match value {
-        Value::Nil => put_tagged(out, b'L', 0),
-        Value::Boolean(is) => {
-            put_byte(out, b'Z')?;
-            put_byte(out, u8::from(is))
-        }
-        Value::Integer(number) => put_tagged(out, b'J', number.cast_unsigned()),
-        Value::Number(bits) => put_tagged(out, b'D', bits),
-        Value::Text(text) => put_tagged(out, b's', text_id(text)),
-        Value::Table(table) => put_tagged(out, b'[', table_id(table)),
-    }
-}
+/// How values are listed, with their tags.
+struct Values;
 
-/// Writes a tag, and eight bytes.
-fn put_tagged(out: &mut Vec<u8>, tag: u8, bits: u64) -> Result<(), JdwpError>
-    ensures ok { OnOk result (out.new.items ≡ out.old.items ++ tag ∷ long bits) }
-    ensures memory { IfErr result (λ e. e ≡ OutOfMemory) }
-{
-    put_byte(out, tag)?;
-    put_long(out, bits)
+impl PutRow<Value> for Values {
+    ghost bytes = { λ _ value. value_bytes value };
+
+    fn put(&self, out: &mut Vec<u8>, value: &Value) -> Result<(), JdwpError> {
+        match *value {
+            Value::Nil => put_tagged(out, b'L', 0),
+            Value::Boolean(is) => {
+                put_byte(out, b'Z')?;
+                put_byte(out, u8::from(is))
+            }
+            Value::Integer(number) => put_tagged(out, b'J', number.cast_unsigned()),
+            Value::Number(bits) => put_tagged(out, b'D', bits),
+            Value::Text(text) => put_tagged(out, b's', text_id(text)),
+            Value::Table(table) => put_tagged(out, b'[', table_id(table)),
+        }
+    }
 }
 
 /// The values of variables (16/1), with their tags.
@@ -126,12 +117,18 @@ pub fn values_body(alloc: Global, values: &[Value]) -> Result<Vec<u8>, JdwpError
     ensures fits { IfOk result (λ _. length values.now < 2 ^ 31) }
     ensures memory { IfErr result (λ e. e ≡ OutOfMemory) }
 {
-    let mut out = Vec::new(alloc);
-    put_count(&mut out, values.len())?;
-    for value in values {
-        put_value(&mut out, *value)?;
+    rows_body(alloc, &Values, values)
+}
+
+/// How entries of a table are listed.
+struct Entries;
+
+impl PutRow<u32> for Entries {
+    ghost bytes = { λ _ text. 115 ∷ long (id_from first_text text) };
+
+    fn put(&self, out: &mut Vec<u8>, text: &u32) -> Result<(), JdwpError> {
+        put_tagged(out, b's', text_id(*text))
     }
-    Ok(out)
 }
 
 /// Entries of a table (13/2): the tag of all, and each text by its number, with its own tag.
@@ -142,14 +139,13 @@ pub fn entries_body(alloc: Global, texts: &[u32]) -> Result<Vec<u8>, JdwpError>
 {
     let mut out = Vec::new(alloc);
     put_byte(&mut out, b's')?;
-    put_count(&mut out, texts.len())?;
-    for text in texts {
-        put_tagged(&mut out, b's', text_id(*text))?;
-    }
+    put_rows(&mut out, &Entries, texts)?;
     Ok(out)
 }
 
-ghost use Rattle.std.specs.Prelude.{◌≡◌, ◌<◌, ◌^◌, length, All, ◌∷◌, ◌++◌, OnOk, IfOk, IfErr};
-ghost use Rattle.ti_jdwp.specs.Fields.{long};
+ghost use Rattle.std.specs.Prelude.{◌≡◌, ◌<◌, ◌^◌, length, All, ◌∷◌, ◌++◌, IfOk, IfErr, if◌then◌else◌};
+ghost use Rattle.ti_jdwp.specs.Bodies.{list};
+ghost use Rattle.ti_jdwp.specs.Fields.{int, long};
+ghost use Rattle.ti_jdwp.specs.Ids.{id_from, first_text};
 ghost use Rattle.ti_jdwp.specs.Variables.{variable_row, variable_list, generic_variable_row, generic_variable_list, value_bytes, value_list, entry_list};
 ghost use Rattle.ti_jdwp.specs.declared.error.JdwpError.TheVariants.{OutOfMemory};

@@ -42,12 +42,22 @@ fn live<R: Wait + AllocGlobal>(
 pub fn churn<R: Wait + Clock + AllocGlobal>(
     rt: &R,
     shared: &Shared,
-    service: Service,
+    service: &mut Service,
     rate: u32,
 ) -> Option<u64> {
-    let mut service = service;
-    let text = document(rt.alloc(), NUMBERS).ok()?;
     let interval = Duration::from_secs(1).checked_div(rate)?;
+    let text = document(rt.alloc(), NUMBERS).ok()?;
+    come_and_go(rt, shared, service, interval, text.as_bytes())
+}
+
+/// Lets a thread come and go in each interval, which parses this text, until the sampling is over. It gives how many did.
+fn come_and_go<R: Wait + Clock + AllocGlobal>(
+    rt: &R,
+    shared: &Shared,
+    service: &mut Service,
+    interval: Duration,
+    text: &[u8],
+) -> Option<u64> {
     let began = Instant::now(rt).ok()?;
     let mut due = Duration::ZERO;
     let mut gone: u64 = 0;
@@ -61,7 +71,7 @@ pub fn churn<R: Wait + Clock + AllocGlobal>(
             thread::sleep(rt, early.min(Duration::from_millis(NAP)));
             continue;
         }
-        live(rt, &mut service, gone, text.as_bytes())?;
+        live(rt, service, gone, text)?;
         gone = gone.saturating_add(1);
         due = due.saturating_add(interval);
     }

@@ -297,7 +297,7 @@ fn height_of(roots: &Roots) -> usize {
         if count_of(part) == 0 {
             continue;
         }
-        let below: usize = if roots.owner(place) == Owner::Workers {
+        let below: usize = if matches!(roots.owner(place), Owner::Workers) {
             1
         } else {
             2

@@ -5,7 +5,7 @@ use ti_types::MethodNo;
 pub const METHODS: u32 = 13;
 
 /// A method that a worker may be in.
-#[derive(Clone, Copy, Debug, PartialEq, Eq)]
+#[derive(Clone, Copy)]
 pub enum Method {
     Worker,
     Parse,

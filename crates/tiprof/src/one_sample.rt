@@ -113,10 +113,11 @@ pub struct Sampler {
 impl Sampler {
     /// It has met nobody yet. `None` if memory runs out.
     pub fn new(alloc: Global, agent: Agent, options: Options) -> Option<Sampler> {
+        let taken = Taken::new(alloc, options)?;
         Some(Sampler {
             agent,
             targets: Vec::new(alloc),
-            taken: Taken::new(alloc, options)?,
+            taken,
         })
     }
 
@@ -129,6 +130,15 @@ impl Sampler {
     /// taken. `None` if memory runs out.
     pub fn meet<R: Wait + Clock + AllocGlobal>(&mut self, rt: &R) -> Option<()> {
         let threads = self.agent.get_all_threads(rt, rt.alloc()).ok()?;
+        self.meet_all(rt, &threads)
+    }
+
+    /// Meets those of these threads that came, and lets go of all others.
+    fn meet_all<R: Wait + Clock + AllocGlobal>(
+        &mut self,
+        rt: &R,
+        threads: &[ThreadNo],
+    ) -> Option<()> {
         for target in self.targets.iter() {
             if !threads.contains(&target.thread) {
                 target.finish(rt, &mut self.agent, &mut self.taken)?;
@@ -171,11 +181,16 @@ impl Sampler {
         Some(())
     }
 
-    /// Takes the stacks that threads still have to give, and gives all. `None` if memory runs out.
-    pub fn finish<R: Wait + Clock + AllocGlobal>(mut self, rt: &R) -> Option<Taken> {
+    /// Takes the stacks that threads still have to give. `None` if memory runs out.
+    pub fn finish<R: Wait + Clock + AllocGlobal>(&mut self, rt: &R) -> Option<()> {
         for target in self.targets.iter() {
             target.finish(rt, &mut self.agent, &mut self.taken)?;
         }
-        Some(self.taken)
+        Some(())
+    }
+
+    /// What the samples have brought.
+    pub fn into_taken(self) -> Taken {
+        self.taken
     }
 }

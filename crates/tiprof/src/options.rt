@@ -1,7 +1,7 @@
 //! What the arguments ask for.
 
 /// How a sample is taken.
-#[derive(Clone, Copy, Debug, PartialEq, Eq)]
+#[derive(Clone, Copy)]
 pub enum Way {
     /// Each thread is asked for its stack, and answers at its own poll. No thread is stopped.
     Handshake,
@@ -10,7 +10,7 @@ pub enum Way {
 }
 
 /// What the arguments ask for.
-#[derive(Clone, Copy, Debug, PartialEq, Eq)]
+#[derive(Clone, Copy)]
 pub struct Options {
     /// After how many seconds the sampling ends, from 1 to 86,400.
     pub seconds: Option<u32>,

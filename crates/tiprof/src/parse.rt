@@ -13,7 +13,7 @@ const DEPTH: u32 = 16;
 const STRIDE: usize = 64;
 
 /// What was found in a document.
-#[derive(Clone, Copy, Debug, PartialEq, Eq)]
+#[derive(Clone, Copy)]
 pub struct Found {
     /// How many numbers, strings, arrays and objects there are.
     pub values: u64,

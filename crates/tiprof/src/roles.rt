@@ -51,8 +51,8 @@ fn fill<R: Wait + Clock + CpuClock + AllocGlobal>(
 ) -> Option<Tally> {
     match role {
         Role::Work(service, fresh) => work(rt, shared, service, fresh, task),
-        Role::Churn(service, rate) => Some(Tally {
-            churned: churn(rt, shared, service, rate)?,
+        Role::Churn(mut service, rate) => Some(Tally {
+            churned: churn(rt, shared, &mut service, rate)?,
             ..Tally::nothing()
         }),
     }

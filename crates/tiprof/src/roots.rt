@@ -5,7 +5,7 @@ use std::alloc::{AllocError, Global};
 use ti_types::{Frame, ThreadNo};
 
 /// What a thread did when its stack was taken.
-#[derive(Clone, Copy, Debug, PartialEq, Eq)]
+#[derive(Clone, Copy)]
 pub enum Doing {
     /// It ran, and handed its frames over at its next poll.
     Running,
@@ -37,7 +37,7 @@ impl Doing {
 }
 
 /// Whose stacks a part has.
-#[derive(Clone, Copy, Debug, PartialEq, Eq)]
+#[derive(Clone, Copy)]
 pub enum Owner {
     /// All workers'.
     Workers,

@@ -107,6 +107,22 @@ fn sample_on<R: Wait + Clock + Eprint + AllocGlobal>(
     options: Options,
 ) -> Option<Sampled> {
     let mut sampler = Sampler::new(rt.alloc(), agent, options)?;
+    let (samples, millis) = sample_all(rt, shared, &mut sampler, options)?;
+    Some(Sampled {
+        taken: sampler.into_taken(),
+        samples,
+        millis,
+    })
+}
+
+/// Takes one sample after another until the sampling ends, and the stacks that threads still have to give. It gives how many
+/// samples, and how many milliseconds it took.
+fn sample_all<R: Wait + Clock + Eprint + AllocGlobal>(
+    rt: &R,
+    shared: &Shared,
+    sampler: &mut Sampler,
+    options: Options,
+) -> Option<(u64, u64)> {
     sampler.meet(rt)?;
     let mut pace = Pace::new(rt, options)?;
     let most = match options.samples {
@@ -118,21 +134,28 @@ fn sample_on<R: Wait + Clock + Eprint + AllocGlobal>(
         let Some(passed) = pace.next(rt, shared, options.threads).ok()? else {
             break;
         };
-        if sampler.has_news() {
-            sampler.meet(rt)?;
-        }
-        match options.way {
-            Way::Handshake => sampler.handshake(rt.alloc())?,
-            Way::Standing => sampler.standing(rt, shared.turn())?,
-        }
+        take_one(rt, shared, sampler, options.way)?;
         samples = samples.saturating_add(1);
         if pace.says(passed) {
             eprintln!(rt; "tiprof: {samples} samples").ok()?;
         }
     }
-    Some(Sampled {
-        taken: sampler.finish(rt)?,
-        samples,
-        millis: pace.millis(rt)?,
-    })
+    sampler.finish(rt)?;
+    Some((samples, pace.millis(rt)?))
+}
+
+/// Takes one sample. It meets the threads that came first.
+fn take_one<R: Wait + Clock + AllocGlobal>(
+    rt: &R,
+    shared: &Shared,
+    sampler: &mut Sampler,
+    way: Way,
+) -> Option<()> {
+    if sampler.has_news() {
+        sampler.meet(rt)?;
+    }
+    match way {
+        Way::Handshake => sampler.handshake(rt.alloc()),
+        Way::Standing => sampler.standing(rt, shared.turn()),
+    }
 }

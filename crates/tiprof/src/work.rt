@@ -76,7 +76,7 @@ fn jobs<R: Wait + Clock + AllocGlobal>(
     }
     for done in 0..task.jobs() {
         let turn = done.wrapping_add(u64::from(number));
-        if shared.is_over() || job(rt, worker, turn, task.text) != Ok(true) {
+        if shared.is_over() || !matches!(job(rt, worker, turn, task.text), Ok(true)) {
             return done;
         }
     }

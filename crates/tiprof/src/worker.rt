@@ -11,7 +11,7 @@ use ti_service::{Service, ThreadInfo};
 use ti_types::{Kind, Step};
 
 /// The thread can go no further. It has no entries left (208), is too deep (201), or has no memory.
-#[derive(Clone, Copy, Debug, PartialEq, Eq)]
+#[derive(Clone, Copy)]
 pub struct Spent;
 
 /// Attaches a thread of this name. `None` if memory runs out.

@@ -82,8 +82,18 @@ fn inspect<R: Wait + Clock + Print + AllocGlobal>(
     thread: ThreadNo,
 ) -> Option<()> {
     let (trace, _again) = trace_twice(rt, rt.alloc(), agent, thread, 8).ok()?;
+    show(rt, agent, thread, &trace)
+}
+
+/// Writes the state and the methods of a thread that is suspended, and resumes it.
+fn show<R: Wait + Clock + Print + AllocGlobal>(
+    rt: &R,
+    agent: &mut Agent,
+    thread: ThreadNo,
+    trace: &TraceBuf,
+) -> Option<()> {
     write_state(rt, agent, thread)?;
-    write_methods(rt, &trace)?;
+    write_methods(rt, trace)?;
     write_count(rt, agent, thread)?;
     agent.resume_thread(rt, thread).ok()?;
     write_state(rt, agent, thread)
