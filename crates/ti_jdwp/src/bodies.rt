@@ -66,6 +66,7 @@ pub fn no_object_body(alloc: Global) -> Result<Vec<u8>, JdwpError>
     tagged_body(alloc, b'L', 0)
 }
 
+/// A tag, and eight bytes.
 fn tagged_body(alloc: Global, tag: u8, bits: u64) -> Result<Vec<u8>, JdwpError>
     ensures ok { IfOk result (λ v. v.items ≡ tag ∷ long bits) }
     ensures memory { IfErr result (λ e. e ≡ OutOfMemory) }

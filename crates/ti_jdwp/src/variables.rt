@@ -79,6 +79,7 @@ pub fn generic_variables_body(
     listed(alloc, true, variables)
 }
 
+/// The variables of a method, with the empty text for each generic signature or with none.
 fn listed(alloc: Global, generic: bool, variables: &[VariableRow<'_>]) -> Result<Vec<u8>, JdwpError>
     ensures ok { IfOk result (λ v. v.items ≡ int 0 ++ list (λ row. if generic then generic_variable_row row else variable_row row) variables.now) }
     ensures fits { IfOk result (λ _. (length variables.now < 2 ^ 31) × All (λ r. length r.name.now < 2 ^ 31) variables.now) }

@@ -328,5 +328,5 @@ ghost use Rattle.std.specs.Prelude.{◌≡◌, ◌≤◌, ◌+◌, ◌++◌, not
 ghost use Rattle.ti_stops.specs.declared.error.StopError.TheVariants.{OutOfMemory};
 ghost use Rattle.std.specs.List.{list_any};
 ghost use Rattle.ti_stops.specs.Arrivals.{asked, stop_by};
-ghost use Rattle.ti_stops.specs.Lists.{covers, is_breakpoint, is_breakpoint_of, is_env, is_heard, is_left, is_mode, is_mode_at, is_mode_of, is_pop, is_pop_at, is_pop_of, is_popped, is_same_frame, is_same_place, is_same_target, is_target, is_told_at, is_untold, next_stop, next_told, waits_at, waits_for};
+ghost use Rattle.ti_stops.specs.Lists.{covers, is_breakpoint, is_env, is_heard, is_left, is_mode, is_pop, is_popped, is_same_frame, is_same_place, is_same_target, is_target, is_told_at, is_untold, next_stop, next_told, waits_at};
 ghost use Rattle.ti_stops.specs.Stops.{is_stop, stops_for, waits_by, with_env};
