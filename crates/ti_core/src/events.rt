@@ -41,28 +41,36 @@ fn outcome_of(own: Result<(), TiError>) -> Outcome
     }
 }
 
+/// Binds the environment of this number. If there is none, the function that asks ends with the refusal of the event.
+macro_rules! env_at {
+    ($env:ident = $envs:ident, $e:ident) => {
+        let Some(at) = index_of_env($envs, $e) else {
+            return refused(TiError::InvalidEnvironment);
+        };
+        let $env = &mut $envs[at];
+    };
+}
+
 /// An event of a thread's own that is no poll.
 fn make(limits: &Limits, threads: &mut [OneThread], t: ThreadNo, entry: Entry) -> Outcome
     requires own { is_made entry ≡ true }
     ensures threads { threads.new ≡ (stepped_own limits.now [] threads.old t entry).threads }
     ensures told { told_now result ≡ (stepped_own limits.now [] threads.old t entry).told }
 {
-    let Some(at) = index_of_thread(threads, t) else {
-        return Outcome::Refused(TiError::InvalidThread);
-    };
-    let thread = &mut threads[at];
-    outcome_of(thread.make(entry))
+    match index_of_thread(threads, t) {
+        Some(at) => outcome_of(threads[at].make(entry)),
+        None => Outcome::Refused(TiError::InvalidThread),
+    }
 }
 
 fn poll(limits: &Limits, threads: &mut [OneThread], t: ThreadNo) -> Outcome
     ensures threads { threads.new ≡ (stepped_poll limits.now [] threads.old t).threads }
     ensures told { told_now result ≡ (stepped_poll limits.now [] threads.old t).told }
 {
-    let Some(at) = index_of_thread(threads, t) else {
-        return Outcome::Refused(TiError::InvalidThread);
-    };
-    let thread = &mut threads[at];
-    thread.poll()
+    match index_of_thread(threads, t) {
+        Some(at) => threads[at].poll(),
+        None => Outcome::Refused(TiError::InvalidThread),
+    }
 }
 
 /// The buffer for a call's answer. The error is 110 if there is no memory for it.
@@ -94,10 +102,7 @@ fn ask(
     ensures told { told_now result ≡ (stepped_ask limits.now envs.old threads.old (was_for_memory (told_now result)) e t call).told }
     ensures ticket { IfPosted result (λ k. IsTicketOf limits.now envs.old threads.old (Event.Ask e t call) k) }
 {
-    let Some(at) = index_of_env(envs, e) else {
-        return refused(TiError::InvalidEnvironment);
-    };
-    let env = &mut envs[at];
+    env_at!(env = envs, e);
     if let Err(error) = env.admit(t, call) {
         return refused(error);
     }
@@ -125,10 +130,7 @@ fn stop(
     ensures threads { threads.new ≡ (stepped_stop limits.now envs.old threads.old e t).threads }
     ensures told { told_now result ≡ (stepped_stop limits.now envs.old threads.old e t).told }
 {
-    let Some(at) = index_of_env(envs, e) else {
-        return refused(TiError::InvalidEnvironment);
-    };
-    let env = &mut envs[at];
+    env_at!(env = envs, e);
     if let Err(error) = env.admit_stop(t) {
         return refused(error);
     }
@@ -154,10 +156,7 @@ fn read(
     ensures told { told_now result ≡ (stepped_read limits.now envs.old threads.old (was_for_memory (told_now result)) e t max_count).told }
     ensures gave { is_some (told_now result) ≡ true }
 {
-    let Some(at) = index_of_env(envs, e) else {
-        return refused(TiError::InvalidEnvironment);
-    };
-    let env = &mut envs[at];
+    env_at!(env = envs, e);
     if let Err(error) = env.admit_read(t, max_count) {
         return refused(error);
     }
@@ -198,10 +197,7 @@ fn add(envs: &mut [EnvState], e: EnvNo, caps: Caps) -> Outcome
     ensures envs { envs.new ≡ (stepped_add envs.old [] e caps).envs }
     ensures told { told_now result ≡ (stepped_add envs.old [] e caps).told }
 {
-    let Some(at) = index_of_env(envs, e) else {
-        return refused(TiError::InvalidEnvironment);
-    };
-    let env = &mut envs[at];
+    env_at!(env = envs, e);
     match env.add(caps) {
         Ok(()) => Outcome::Gave(Answer::Done),
         Err(error) => refused(error),
@@ -212,10 +208,7 @@ fn relinquish(envs: &mut [EnvState], e: EnvNo, caps: Caps) -> Outcome
     ensures envs { envs.new ≡ (stepped_relinquish envs.old [] e caps).envs }
     ensures told { told_now result ≡ (stepped_relinquish envs.old [] e caps).told }
 {
-    let Some(at) = index_of_env(envs, e) else {
-        return refused(TiError::InvalidEnvironment);
-    };
-    let env = &mut envs[at];
+    env_at!(env = envs, e);
     env.relinquish(caps);
     Outcome::Gave(Answer::Done)
 }
@@ -224,10 +217,7 @@ fn set_word(envs: &mut [EnvState], e: EnvNo, word: u64) -> Outcome
     ensures envs { envs.new ≡ (with_env envs.old [] e (with_word (env_at envs.old e) word) (Some (Outcome.Gave Answer.Done))).envs }
     ensures told { told_now result ≡ (with_env envs.old [] e (with_word (env_at envs.old e) word) (Some (Outcome.Gave Answer.Done))).told }
 {
-    let Some(at) = index_of_env(envs, e) else {
-        return refused(TiError::InvalidEnvironment);
-    };
-    let env = &mut envs[at];
+    env_at!(env = envs, e);
     env.set_word(word);
     Outcome::Gave(Answer::Done)
 }
@@ -235,21 +225,19 @@ fn set_word(envs: &mut [EnvState], e: EnvNo, word: u64) -> Outcome
 fn word(envs: &[EnvState], e: EnvNo) -> Outcome
     ensures { told_now result ≡ (stepped_tell envs.now [] e (Answer.Word (env_at envs.now e).word)).told }
 {
-    let Some(at) = index_of_env(envs, e) else {
-        return refused(TiError::InvalidEnvironment);
-    };
-    let env = &envs[at];
-    Outcome::Gave(Answer::Word(env.word()))
+    match index_of_env(envs, e) {
+        Some(at) => Outcome::Gave(Answer::Word(envs[at].word())),
+        None => refused(TiError::InvalidEnvironment),
+    }
 }
 
 fn caps(envs: &[EnvState], e: EnvNo) -> Outcome
     ensures { told_now result ≡ (stepped_tell envs.now [] e (Answer.Caps (env_at envs.now e).caps)).told }
 {
-    let Some(at) = index_of_env(envs, e) else {
-        return refused(TiError::InvalidEnvironment);
-    };
-    let env = &envs[at];
-    Outcome::Gave(Answer::Caps(env.caps()))
+    match index_of_env(envs, e) {
+        Some(at) => Outcome::Gave(Answer::Caps(envs[at].caps())),
+        None => refused(TiError::InvalidEnvironment),
+    }
 }
 
 /// Lets one event happen.

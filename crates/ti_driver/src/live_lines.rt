@@ -184,11 +184,7 @@ fn put_replies<W: Write>(
 ) -> Result<(), Fault>
     requires short { string_len text.old < 65536 }
     requires room { HasRoomFor (string_capacity text.old) (λ most. AreReplyLinesWithin most names.now agent.now 0 replies.now) }
-    ensures ok { OnOk result (Sends (W.contents writer.old) (W.contents writer.new) (string_bytes text.old ++ replies_text names.now.threads names.now.methods agent.now 0 replies.now) (string_bytes text.new)) }
-    ensures short { OnOk result (string_len text.new < 65536) }
-    ensures room { string_capacity text.old ≤ string_capacity text.new }
-    ensures err { IfErr result (λ e. e ≡ NotWritten) }
-    ensures front { TakesFront (W.contents writer.old) (W.contents writer.new) (string_bytes text.old ++ replies_text names.now.threads names.now.methods agent.now 0 replies.now) }
+    ensures { Puts result (W.contents writer.old) (W.contents writer.new) (written text.old) (written text.new) (replies_text names.now.threads names.now.methods agent.now 0 replies.now) }
 {
     for (number, reply) in replies.iter().enumerate() {
         add_reply(text, names, agent, number, reply);
@@ -207,11 +203,7 @@ fn put_agents<W: Write>(
     requires few { length agents.now ≤ 65536 }
     requires short { string_len text.old < 65536 }
     requires room { HasRoomFor (string_capacity text.old) (λ most. AreAgentLinesWithin most names.now 0 agents.now) }
-    ensures ok { OnOk result (Sends (W.contents writer.old) (W.contents writer.new) (string_bytes text.old ++ agents_text names.now.threads names.now.agents names.now.methods 0 agents.now) (string_bytes text.new)) }
-    ensures short { OnOk result (string_len text.new < 65536) }
-    ensures room { string_capacity text.old ≤ string_capacity text.new }
-    ensures err { IfErr result (λ e. e ≡ NotWritten) }
-    ensures front { TakesFront (W.contents writer.old) (W.contents writer.new) (string_bytes text.old ++ agents_text names.now.threads names.now.agents names.now.methods 0 agents.now) }
+    ensures { Puts result (W.contents writer.old) (W.contents writer.new) (written text.old) (written text.new) (agents_text names.now.threads names.now.agents names.now.methods 0 agents.now) }
 {
     for (number, replies) in agents.iter().enumerate() {
         let agent = agent_name(names, number as u32);
@@ -229,11 +221,7 @@ fn put_refusals<W: Write>(
 ) -> Result<(), Fault>
     requires short { string_len text.old < 65536 }
     requires room { HasRoomFor (string_capacity text.old) (λ most. AreThreadLinesWithin most thread.now) }
-    ensures ok { OnOk result (Sends (W.contents writer.old) (W.contents writer.new) (string_bytes text.old ++ refusals_text thread.now refused.now) (string_bytes text.new)) }
-    ensures short { OnOk result (string_len text.new < 65536) }
-    ensures room { string_capacity text.old ≤ string_capacity text.new }
-    ensures err { IfErr result (λ e. e ≡ NotWritten) }
-    ensures front { TakesFront (W.contents writer.old) (W.contents writer.new) (string_bytes text.old ++ refusals_text thread.now refused.now) }
+    ensures { Puts result (W.contents writer.old) (W.contents writer.new) (written text.old) (written text.new) (refusals_text thread.now refused.now) }
 {
     for (index, refusal) in refused.iter().enumerate() {
         add_refusal(text, thread, *refusal);
@@ -246,11 +234,7 @@ fn put_refusals<W: Write>(
 fn put_legal<W: Write>(writer: &mut W, text: &mut String, thread: &str) -> Result<(), Fault>
     requires short { string_len text.old < 65536 }
     requires room { HasRoomFor (string_capacity text.old) (λ most. AreThreadLinesWithin most thread.now) }
-    ensures ok { OnOk result (Sends (W.contents writer.old) (W.contents writer.new) (string_bytes text.old ++ verdict_line thread.now NoPlace) (string_bytes text.new)) }
-    ensures short { OnOk result (string_len text.new < 65536) }
-    ensures room { string_capacity text.old ≤ string_capacity text.new }
-    ensures err { IfErr result (λ e. e ≡ NotWritten) }
-    ensures front { TakesFront (W.contents writer.old) (W.contents writer.new) (string_bytes text.old ++ verdict_line thread.now NoPlace) }
+    ensures { Puts result (W.contents writer.old) (W.contents writer.new) (written text.old) (written text.new) (verdict_line thread.now NoPlace) }
 {
     add_legal(text, thread);
     send_chunk(writer, text)
@@ -265,11 +249,7 @@ fn put_thread<W: Write>(
 ) -> Result<(), Fault>
     requires short { string_len text.old < 65536 }
     requires room { HasRoomFor (string_capacity text.old) (λ most. AreThreadLinesWithin most thread.now) }
-    ensures ok { OnOk result (Sends (W.contents writer.old) (W.contents writer.new) (string_bytes text.old ++ thread_text thread.now refused.now NoPlace) (string_bytes text.new)) }
-    ensures short { OnOk result (string_len text.new < 65536) }
-    ensures room { string_capacity text.old ≤ string_capacity text.new }
-    ensures err { IfErr result (λ e. e ≡ NotWritten) }
-    ensures front { TakesFront (W.contents writer.old) (W.contents writer.new) (string_bytes text.old ++ thread_text thread.now refused.now NoPlace) }
+    ensures { Puts result (W.contents writer.old) (W.contents writer.new) (written text.old) (written text.new) (thread_text thread.now refused.now NoPlace) }
 {
     put_refusals(writer, text, thread, refused)?;
     put_legal(writer, text, thread)
@@ -285,11 +265,7 @@ fn put_threads<W: Write>(
     requires few { length threads.now ≤ 65536 }
     requires short { string_len text.old < 65536 }
     requires room { HasRoomFor (string_capacity text.old) (λ most. (number : ℕ) → AreThreadLinesWithin most (name_text names.now.threads number)) }
-    ensures ok { OnOk result (Sends (W.contents writer.old) (W.contents writer.new) (string_bytes text.old ++ threads_text (λ _. NoPlace) names.now.threads 0 threads.now) (string_bytes text.new)) }
-    ensures short { OnOk result (string_len text.new < 65536) }
-    ensures room { string_capacity text.old ≤ string_capacity text.new }
-    ensures err { IfErr result (λ e. e ≡ NotWritten) }
-    ensures front { TakesFront (W.contents writer.old) (W.contents writer.new) (string_bytes text.old ++ threads_text (λ _. NoPlace) names.now.threads 0 threads.now) }
+    ensures { Puts result (W.contents writer.old) (W.contents writer.new) (written text.old) (written text.new) (threads_text (λ _. NoPlace) names.now.threads 0 threads.now) }
 {
     for (number, refused) in threads.iter().enumerate() {
         let thread = thread_name(names, number as u32);
@@ -342,8 +318,9 @@ ghost use Rattle.std.specs.Prelude.{◌≡◌, ◌≢◌, ◌+◌, ◌++◌, ◌
 ghost use Rattle.std.specs.Io.KnownBytes.{Appends, Keeps};
 ghost use Rattle.std.specs.String.{string_len, string_capacity};
 ghost use Rattle.ti_script.specs.Bounds.{AreNamesWithin};
+ghost use Rattle.ti_script.specs.Texts.{written};
 ghost use Rattle.ti_script.specs.LiveTexts.{name_text, reply_line, replies_text, agents_text, refusal_line, refusals_text, verdict_line, thread_text};
 ghost use Rattle.ti_driver.specs.declared.fault.Fault.TheVariants.{Memory, Write as NotWritten};
 ghost use Rattle.ti_driver.specs.ReportLines.{AreReplyLinesWithin, AreAgentLinesWithin, AreThreadLinesWithin, HasRoomFor};
 ghost use Rattle.ti_driver.specs.Reports.{threads_text, sound_text};
-ghost use Rattle.ti_driver.specs.Streams.{TakesFront, Sends};
+ghost use Rattle.ti_driver.specs.Streams.{TakesFront, Puts};

@@ -4,7 +4,7 @@ use crate::element::{signed_in, thread_in, word_in};
 use crate::item::Item;
 use crate::located::LocatedFault;
 use crate::names::Cast;
-use crate::said::Said;
+use crate::said::{Said, event_of};
 use crate::service_event::service_event;
 use crate::thread_event::thread_event;
 use crate::tree::array_in;
@@ -15,54 +15,28 @@ use ti_types::{Call, EnvNo, Event, ThreadNo};
 fn plain_ask(said: &Said<'_>, agent: EnvNo, call: Call) -> Result<Event, LocatedFault>
     ensures { result ≡ row_event said.now.cast.now said.now.item (map view said.now.rest.now) (row (thread ∷ []) (λ t. Ask agent t call)) }
 {
-    match said.rest {
-        [thread] => Ok(Event::Ask(
-            agent,
-            thread_in(said.cast, said.item.behind_word(1), thread)?,
-            call,
-        )),
-        _ => Err(said.item.shape()),
-    }
+    event_of!(said, [1: thread = thread_in(cast)] => Event::Ask(agent, thread, call))
 }
 
 fn trace_ask(said: &Said<'_>, agent: EnvNo) -> Result<Event, LocatedFault>
     ensures { result ≡ row_event said.now.cast.now said.now.item (map view said.now.rest.now) (row (thread ∷ signed ∷ signed ∷ []) (λ t s n. Ask agent t (Trace s n))) }
 {
-    match said.rest {
-        [thread, start, max_count] => {
-            let thread = thread_in(said.cast, said.item.behind_word(1), thread)?;
-            let start = signed_in(said.item.behind_word(2), start)?;
-            let max_count = signed_in(said.item.behind_word(3), max_count)?;
-            Ok(Event::Ask(agent, thread, Call::Trace { start, max_count }))
-        }
-        _ => Err(said.item.shape()),
-    }
+    event_of!(said, [1: thread = thread_in(cast), 2: start = signed_in(), 3: max_count = signed_in()] =>
+        Event::Ask(agent, thread, Call::Trace { start, max_count }))
 }
 
 fn location_ask(said: &Said<'_>, agent: EnvNo) -> Result<Event, LocatedFault>
     ensures { result ≡ row_event said.now.cast.now said.now.item (map view said.now.rest.now) (row (thread ∷ signed ∷ []) (λ t d. Ask agent t (Location d))) }
 {
-    match said.rest {
-        [thread, depth] => {
-            let thread = thread_in(said.cast, said.item.behind_word(1), thread)?;
-            let depth = signed_in(said.item.behind_word(2), depth)?;
-            Ok(Event::Ask(agent, thread, Call::Location { depth }))
-        }
-        _ => Err(said.item.shape()),
-    }
+    event_of!(said, [1: thread = thread_in(cast), 2: depth = signed_in()] =>
+        Event::Ask(agent, thread, Call::Location { depth }))
 }
 
 fn set_ask(said: &Said<'_>, agent: EnvNo) -> Result<Event, LocatedFault>
     ensures { result ≡ row_event said.now.cast.now said.now.item (map view said.now.rest.now) (row (thread ∷ word ∷ []) (λ t w. Ask agent t (SetWord w))) }
 {
-    match said.rest {
-        [thread, word] => {
-            let thread = thread_in(said.cast, said.item.behind_word(1), thread)?;
-            let word = word_in(said.cast, said.item.behind_word(2), word)?;
-            Ok(Event::Ask(agent, thread, Call::SetWord(word)))
-        }
-        _ => Err(said.item.shape()),
-    }
+    event_of!(said, [1: thread = thread_in(cast), 2: word = word_in(cast)] =>
+        Event::Ask(agent, thread, Call::SetWord(word)))
 }
 
 /// The event of a word that asks a thread. `None` if the word is none of these.

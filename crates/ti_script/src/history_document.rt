@@ -3,11 +3,13 @@
 use crate::entry::entry_in;
 use crate::fault::{LimitName, ScriptFault};
 use crate::history::{EntryList, History};
+use crate::lists::list_of;
 use crate::located::{LocatedFault, MemberName};
 use crate::tree::{drop_tree, tree_of};
 use crate::walk_document::{bounds_at, check_members, items_at, member};
 use serde_json::Value;
 use std::alloc::Global;
+use ti_live::Listed;
 use ti_types::Limits;
 
 /// The format, which is 1 or 2. `Shape` if it is no whole number, and `Limit` for any other whole number.
@@ -72,14 +74,7 @@ fn entries_in(alloc: Global, format: u64, items: &[Value]) -> Result<EntryList, 
     requires { length items.now ≤ 262144 }
     ensures { Gives (λ entries. entries) result (entries_in format 1 (map view items.now)) }
 {
-    let mut entries = EntryList::with_room(alloc, items.len())?;
-    let mut item = 1;
-    for value in items {
-        let entry = entry_in(format, item, value)?;
-        entries.push(entry)?;
-        item += 1;
-    }
-    Ok(entries)
+    list_of!(alloc, items, |item from 1, value| entry_in(format, item, value))
 }
 
 /// The history that a document's tree says, or its first fault.

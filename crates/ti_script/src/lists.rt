@@ -9,6 +9,22 @@ use std::alloc::Global;
 use ti_live::{AgentCall, Listed};
 use ti_types::{EnvNo, Event, ThreadNo};
 
+/// The list of what these values mean. Each is read with its item's number, from the first on, up to the first fault.
+macro_rules! list_of {
+    ($alloc:ident, $values:ident, |$item:ident from $first:expr, $value:ident| $read:expr) => {{
+        let mut list = Listed::with_room($alloc, $values.len())?;
+        let mut $item = $first;
+        for $value in $values {
+            let one = $read?;
+            list.push(one)?;
+            $item += 1;
+        }
+        Ok(list)
+    }};
+}
+
+pub(crate) use list_of;
+
 /// The operations of one thread. Their items are numbered from `first` on.
 pub(crate) fn operations_in(
     alloc: Global,
@@ -20,14 +36,7 @@ pub(crate) fn operations_in(
     requires { first + length values.now < 2 ^ 32 }
     ensures { Gives (λ events. events) result (operations_in cast.now thread first (map view values.now)) }
 {
-    let mut events = Listed::with_room(alloc, values.len())?;
-    let mut item = first;
-    for value in values {
-        let event = operation_in(cast, item, thread, value)?;
-        events.push(event)?;
-        item += 1;
-    }
-    Ok(events)
+    list_of!(alloc, values, |item from first, value| operation_in(cast, item, thread, value))
 }
 
 /// The calls of one agent. Their items are numbered from `first` on.
@@ -41,14 +50,7 @@ pub(crate) fn calls_of_one(
     requires { first + length values.now < 2 ^ 32 }
     ensures { Gives (λ calls. calls) result (calls_of_one cast.now agent first (map view values.now)) }
 {
-    let mut calls = Listed::with_room(alloc, values.len())?;
-    let mut item = first;
-    for value in values {
-        let call = call_in(alloc, cast, item, agent, value)?;
-        calls.push(call)?;
-        item += 1;
-    }
-    Ok(calls)
+    list_of!(alloc, values, |item from first, value| call_in(alloc, cast, item, agent, value))
 }
 
 ghost use Rattle.std.specs.Prelude.{◌+◌, ◌<◌, ◌^◌, length, map};

@@ -38,6 +38,24 @@ fn items_in_all(values: &[Value], which: LimitName) -> Result<u32, LocatedFault>
     Ok(count)
 }
 
+/// The lists that these arrays mean. Each is read with its number from 0 on, and with that of its first item: items are
+/// numbered over all lists, from the first on. It ends at the first fault.
+macro_rules! lists_of {
+    ($alloc:ident, $values:ident, |$number:ident, $item:ident from $first:expr, $list:ident| $read:expr) => {{
+        let mut lists = Listed::with_room($alloc, $values.len())?;
+        let mut $number = 0u32;
+        let mut $item = $first;
+        for value in $values {
+            let $list = elements(value);
+            let one = $read?;
+            lists.push(one)?;
+            $number += 1;
+            $item += $list.len() as u32;
+        }
+        Ok(lists)
+    }};
+}
+
 /// The walks of all threads. Their items are numbered from 1 on, over all threads.
 fn walks_in(
     alloc: Global,
@@ -48,17 +66,9 @@ fn walks_in(
     requires threads { length values.now ≤ 64 }
     ensures { Gives (λ walks. walks) result (walks_in cast.now 0 1 (map view values.now)) }
 {
-    let mut walks = Listed::with_room(alloc, values.len())?;
-    let mut number = 0u32;
-    let mut item = 1u32;
-    for value in values {
-        let list = elements(value);
-        let walk = operations_in(alloc, cast, ThreadNo(number), item, list)?;
-        walks.push(walk)?;
-        number += 1;
-        item += list.len() as u32;
-    }
-    Ok(walks)
+    lists_of!(alloc, values, |number, item from 1, list| {
+        operations_in(alloc, cast, ThreadNo(number), item, list)
+    })
 }
 
 /// The calls of all agents. Their items are numbered from `first` on, over all agents.
@@ -73,17 +83,9 @@ fn calls_in(
     requires agents { length values.now ≤ 64 }
     ensures { Gives (λ calls. calls) result (calls_in cast.now 0 first (map view values.now)) }
 {
-    let mut calls = Listed::with_room(alloc, values.len())?;
-    let mut number = 0u32;
-    let mut item = first;
-    for value in values {
-        let list = elements(value);
-        let one = calls_of_one(alloc, cast, EnvNo(number), item, list)?;
-        calls.push(one)?;
-        number += 1;
-        item += list.len() as u32;
-    }
-    Ok(calls)
+    lists_of!(alloc, values, |number, item from first, list| {
+        calls_of_one(alloc, cast, EnvNo(number), item, list)
+    })
 }
 
 /// Whether a value is an array of this many arrays.

@@ -4,32 +4,24 @@
 //! that there was no room, and that memory ran out. Then a prefix of the text has been added.
 
 use crate::names::Names;
-use crate::text::{put_answer, put_bits, put_frames, put_name, put_number, put_text};
+use crate::text::{put_answer, put_counted, put_look, put_name, put_number, put_text};
 use std::alloc::AllocError;
 use ti_live::{Listed, Refusal, Reply};
 use ti_types::{Frame, StackInfo};
-
-/// Adds a space and a number.
-fn put_number_behind(out: &mut String, number: u64) -> Result<(), AllocError>
-    ensures { Adds result (written out.old) (written out.new) (codes " " ++ decimal number) }
-{
-    put_text(out, " ")?;
-    put_number(out, number)
-}
 
 /// Adds a name, a space and a number.
 fn put_numbered(out: &mut String, name: &str, number: u64) -> Result<(), AllocError>
     ensures { Adds result (written out.old) (written out.new) (numbered_text name.now number) }
 {
     put_text(out, name)?;
-    put_number_behind(out, number)
+    put_counted(out, " ", number)
 }
 
 /// Adds a space and a code.
 fn put_code_behind(out: &mut String, code: u32) -> Result<(), AllocError>
     ensures { Adds result (written out.old) (written out.new) (codes " " ++ decimal code) }
 {
-    put_number_behind(out, u64::from(code))
+    put_counted(out, " ", u64::from(code))
 }
 
 /// Adds a space and a code, for each code.
@@ -42,20 +34,6 @@ fn put_codes(out: &mut String, numbers: &[u32]) -> Result<(), AllocError>
     Ok(())
 }
 
-/// Adds a space, state bits and frames.
-fn put_look(
-    out: &mut String,
-    methods: &Names,
-    state: u32,
-    frames: &[Frame],
-) -> Result<(), AllocError>
-    ensures { Adds result (written out.old) (written out.new) (codes " " ++ (bits_text state ++ frames_text methods.now frames.now)) }
-{
-    put_text(out, " ")?;
-    put_bits(out, state)?;
-    put_frames(out, methods, frames)
-}
-
 /// Adds a thread's name, its state bits and its frames.
 fn put_info(
     out: &mut String,
@@ -66,7 +44,7 @@ fn put_info(
     ensures { Adds result (written out.old) (written out.new) (info_text threads.now methods.now info.now) }
 {
     put_name(out, threads, info.thread.0)?;
-    put_look(out, methods, info.state, info.frames.frames())
+    put_look(out, " ", methods, info.state, info.frames.frames())
 }
 
 /// Adds a bar and a stack.

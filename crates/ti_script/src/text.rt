@@ -86,24 +86,25 @@ fn put_frame(out: &mut String, methods: &Names, frame: Frame) -> Result<(), Allo
     put_place(out, frame.place)
 }
 
-/// Adds a space and a frame.
-fn put_frame_behind(out: &mut String, methods: &Names, frame: Frame) -> Result<(), AllocError>
-    ensures { Adds result (written out.old) (written out.new) (codes " " ++ frame_text methods.now frame) }
+/// Adds a word and a frame.
+fn put_frame_behind(
+    out: &mut String,
+    word: &str,
+    methods: &Names,
+    frame: Frame,
+) -> Result<(), AllocError>
+    ensures { Adds result (written out.old) (written out.new) (word.now ++ frame_text methods.now frame) }
 {
-    put_text(out, " ")?;
+    put_text(out, word)?;
     put_frame(out, methods, frame)
 }
 
 /// Adds a space and a frame, for each frame.
-pub(crate) fn put_frames(
-    out: &mut String,
-    methods: &Names,
-    frames: &[Frame],
-) -> Result<(), AllocError>
+fn put_frames(out: &mut String, methods: &Names, frames: &[Frame]) -> Result<(), AllocError>
     ensures { Adds result (written out.old) (written out.new) (frames_text methods.now frames.now) }
 {
     for frame in frames {
-        put_frame_behind(out, methods, *frame)?;
+        put_frame_behind(out, " ", methods, *frame)?;
     }
     Ok(())
 }
@@ -143,14 +144,15 @@ fn put_caps(out: &mut String, held: Caps) -> Result<(), AllocError>
 }
 
 /// Adds `0x` and state bits in hexadecimal.
-pub(crate) fn put_bits(out: &mut String, bits: u32) -> Result<(), AllocError>
+fn put_bits(out: &mut String, bits: u32) -> Result<(), AllocError>
     ensures { Adds result (written out.old) (written out.new) (bits_text bits) }
 {
     put_text(out, "0x")?;
     put_hexadecimal(out, bits)
 }
 
-fn put_counted(out: &mut String, word: &str, number: u64) -> Result<(), AllocError>
+/// Adds a word and a number.
+pub(crate) fn put_counted(out: &mut String, word: &str, number: u64) -> Result<(), AllocError>
     ensures { Adds result (written out.old) (written out.new) (word.now ++ decimal number) }
 {
     put_text(out, word)?;
@@ -164,15 +166,17 @@ pub(crate) fn put_error(out: &mut String, error: TiError) -> Result<(), AllocErr
     put_counted(out, "error ", u64::from(error.number()))
 }
 
-fn put_stack(
+/// Adds a word, state bits and frames.
+pub(crate) fn put_look(
     out: &mut String,
+    word: &str,
     methods: &Names,
     state: u32,
     frames: &[Frame],
 ) -> Result<(), AllocError>
-    ensures { Adds result (written out.old) (written out.new) (codes "stack " ++ (bits_text state ++ frames_text methods.now frames.now)) }
+    ensures { Adds result (written out.old) (written out.new) (word.now ++ (bits_text state ++ frames_text methods.now frames.now)) }
 {
-    put_text(out, "stack ")?;
+    put_text(out, word)?;
     put_bits(out, state)?;
     put_frames(out, methods, frames)
 }
@@ -191,13 +195,6 @@ fn put_trace(out: &mut String, methods: &Names, frames: &[Frame]) -> Result<(), 
     put_frames(out, methods, frames)
 }
 
-fn put_location(out: &mut String, methods: &Names, frame: Frame) -> Result<(), AllocError>
-    ensures { Adds result (written out.old) (written out.new) (codes "location " ++ frame_text methods.now frame) }
-{
-    put_text(out, "location ")?;
-    put_frame(out, methods, frame)
-}
-
 /// Adds the text of an answer.
 pub(crate) fn put_answer(
     out: &mut String,
@@ -211,10 +208,12 @@ pub(crate) fn put_answer(
         Answer::State(bits) => put_state(out, *bits),
         Answer::Count(count) => put_counted(out, "count ", u64::from(*count)),
         Answer::Trace(trace) => put_trace(out, methods, trace.frames()),
-        Answer::Location(frame) => put_location(out, methods, *frame),
+        Answer::Location(frame) => put_frame_behind(out, "location ", methods, *frame),
         Answer::Word(word) => put_counted(out, "word ", *word),
         Answer::Caps(caps) => put_caps(out, *caps),
-        Answer::Stack { state, frames } => put_stack(out, methods, *state, frames.frames()),
+        Answer::Stack { state, frames } => {
+            put_look(out, "stack ", methods, *state, frames.frames())
+        }
         Answer::Refused(error) => put_error(out, *error),
     }
 }

@@ -3,12 +3,14 @@
 use crate::event::event_in;
 use crate::fault::{LimitName, ScriptFault};
 use crate::head::{Bounds, bounds_in, names_in};
+use crate::lists::list_of;
 use crate::located::{LocatedFault, MemberName, Part};
 use crate::names::{Cast, Names};
 use crate::tree::{array_in, drop_tree, has_exactly, tree_of, wrong_member};
 use crate::walk::{EventList, Walk};
 use serde_json::Value;
 use std::alloc::Global;
+use ti_live::Listed;
 
 /// Tests that the document is an object with exactly these members. `Shape` of item 0 if it is not.
 pub(crate) fn check_members(value: &Value, members: &[MemberName]) -> Result<(), LocatedFault>
@@ -61,45 +63,57 @@ fn names_at(
     names_in(alloc, names, which, limit, low, high, earlier)
 }
 
-/// The names of a document's threads, agents and methods.
-pub(crate) fn cast_in(alloc: Global, value: &Value) -> Result<Cast, LocatedFault>
-    ensures read { Reads (λ cast. cast) result (cast_fault (view value.now)) (cast_of (view value.now)) }
-    ensures threads { IfOk result (λ cast. (1 ≤ length cast.threads) × (length cast.threads ≤ 64)) }
-    ensures agents { IfOk result (λ cast. (1 ≤ length cast.agents) × (length cast.agents ≤ 32)) }
+/// Puts the names of a document's threads, agents and methods into `cast`, which has none yet.
+fn put_names(alloc: Global, value: &Value, cast: &mut Cast) -> Result<(), LocatedFault>
+    requires no_threads { cast.old.threads ≡ [] }
+    requires no_methods { cast.old.methods ≡ [] }
+    ensures read { Reads (λ _. cast.new) result (cast_fault (view value.now)) (cast_of (view value.now)) }
+    ensures threads { OnOk result ((1 ≤ length cast.new.threads) × (length cast.new.threads ≤ 64)) }
+    ensures agents { OnOk result ((1 ≤ length cast.new.agents) × (length cast.new.agents ≤ 32)) }
 {
-    let none = Names::new(alloc);
-    let threads = names_at(
+    cast.threads = names_at(
         alloc,
         value,
         MemberName::Threads,
         LimitName::Threads,
         1,
         64,
-        &none,
+        &cast.threads,
     )?;
-    let agents = names_at(
+    cast.agents = names_at(
         alloc,
         value,
         MemberName::Agents,
         LimitName::Agents,
         1,
         32,
-        &threads,
+        &cast.threads,
     )?;
-    let methods = names_at(
+    cast.methods = names_at(
         alloc,
         value,
         MemberName::Methods,
         LimitName::Methods,
         0,
         65536,
-        &none,
+        &cast.methods,
     )?;
-    Ok(Cast {
-        threads,
-        agents,
-        methods,
-    })
+    Ok(())
+}
+
+/// The names of a document's threads, agents and methods.
+pub(crate) fn cast_in(alloc: Global, value: &Value) -> Result<Cast, LocatedFault>
+    ensures read { Reads (λ cast. cast) result (cast_fault (view value.now)) (cast_of (view value.now)) }
+    ensures threads { IfOk result (λ cast. (1 ≤ length cast.threads) × (length cast.threads ≤ 64)) }
+    ensures agents { IfOk result (λ cast. (1 ≤ length cast.agents) × (length cast.agents ≤ 32)) }
+{
+    let mut cast = Cast {
+        threads: Names::new(alloc),
+        agents: Names::new(alloc),
+        methods: Names::new(alloc),
+    };
+    put_names(alloc, value, &mut cast)?;
+    Ok(cast)
 }
 
 /// The items of the array in a member. `Shape` if it is no array, and `Limit` if there are more than `high`.
@@ -126,14 +140,16 @@ fn events_in(alloc: Global, cast: &Cast, items: &[Value]) -> Result<EventList, L
     requires { length items.now ≤ 65536 }
     ensures { Gives (λ events. events) result (events_in cast.now 1 (map view items.now)) }
 {
-    let mut events = EventList::with_room(alloc, items.len())?;
-    let mut item = 1;
-    for value in items {
-        let event = event_in(cast, item, value)?;
-        events.push(event)?;
-        item += 1;
-    }
-    Ok(events)
+    list_of!(alloc, items, |item from 1, value| event_in(cast, item, value))
+}
+
+/// The events of a document that declares these names.
+fn events_at(alloc: Global, cast: &Cast, value: &Value) -> Result<EventList, LocatedFault>
+    ensures ok { IfOk result (λ events. (items_fault Member.Events Events 65536 (at (codes "events") (view value.now)) ≡ None) × (events_in cast.now 1 (elements (at (codes "events") (view value.now))) ≡ Ok events)) }
+    ensures err { IfErr result (λ e. Faults e (first_of (items_fault Member.Events Events 65536 (at (codes "events") (view value.now)) ∷ result_err (events_in cast.now 1 (elements (at (codes "events") (view value.now)))) ∷ []))) }
+{
+    let items = items_at(value, MemberName::Events, LimitName::Events, 65536)?;
+    events_in(alloc, cast, items)
 }
 
 /// The walk that a document's tree says, or its first fault.
@@ -153,8 +169,7 @@ fn walk_in(alloc: Global, value: &Value) -> Result<Walk, LocatedFault>
     )?;
     let bounds = bounds_at(value)?;
     let cast = cast_in(alloc, value)?;
-    let items = items_at(value, MemberName::Events, LimitName::Events, 65536)?;
-    let events = events_in(alloc, &cast, items)?;
+    let events = events_at(alloc, &cast, value)?;
     Ok(Walk {
         limits: bounds.limits(&cast),
         threads: cast.threads,
@@ -190,11 +205,13 @@ pub fn read_walk(alloc: Global, bytes: &[u8]) -> Result<Walk, ScriptFault>
     locate_walk(alloc, bytes).map_err(|fault: LocatedFault| fault.without_part())
 }
 
-ghost use Rattle.std.specs.Prelude.{◌≡◌, ◌≤◌, ◌++◌, ◌∷◌, [], length, map, codes, None, IfOk, IfErr, MatchResult};
+ghost use Rattle.std.specs.Prelude.{◌≡◌, ◌≤◌, ◌++◌, ◌∷◌, [], length, map, codes, None, Ok, IfOk, IfErr, OnOk, MatchResult};
 ghost use Rattle.std.specs.Result.{result_err};
 ghost use Rattle.serde_json.specs.View.{view};
 ghost use Rattle.serde_json.specs.Data.{Data, null};
-ghost use Rattle.ti_script.specs.Faults.{Reads, Gives, Faults, member_shape, fault_of};
+ghost use Rattle.ti_script.specs.Faults.{Reads, Gives, Faults, first_of, member_shape, fault_of};
+ghost use Rattle.ti_script.specs.declared.fault.LimitName.TheVariants.{Events};
+ghost use Rattle.ti_script.specs.declared.located.MemberName.TheVariants as Member;
 ghost use Rattle.ti_types.specs.Limits.{InRange};
 ghost use Rattle.ti_script.specs.Tree.{at, elements};
 ghost use Rattle.ti_script.specs.Members.{key_of};

@@ -98,43 +98,20 @@ fn explain_item(
     Ok(Explanation::at(item_place(kind, tree, number, element), words))
 }
 
-/// Explains a wrong shape. Item 0 is the head.
+/// Explains a wrong shape of the head.
 fn explain_shape(
     alloc: Global,
     kind: Kind,
     tree: &Value,
-    item: u32,
     part: Part,
 ) -> Result<Explanation, AllocError>
-    ensures { IfOk result (λ x. item_at (view tree.now) x.place ≡ item) }
+    ensures { IfOk result (λ x. item_at (view tree.now) x.place ≡ 0) }
 {
-    if item > 0 {
-        return explain_item(alloc, kind, tree, item, part);
-    }
     if let Some(explanation) = of_other_kind(alloc, kind, tree)? {
         return Ok(explanation);
     }
     match part {
         Part::Member(member) => wrong_member(alloc, kind, tree, member),
-        _ => wrong_document(alloc, kind, tree),
-    }
-}
-
-/// Explains a wrong name. Item 0 is the head.
-fn explain_name(
-    alloc: Global,
-    kind: Kind,
-    tree: &Value,
-    item: u32,
-    part: Part,
-) -> Result<Explanation, AllocError>
-    ensures { IfOk result (λ x. item_at (view tree.now) x.place ≡ item) }
-{
-    if item > 0 {
-        return explain_item(alloc, kind, tree, item, part);
-    }
-    match part {
-        Part::Member(member) => wrong_names(alloc, tree, member),
         _ => wrong_document(alloc, kind, tree),
     }
 }
@@ -150,8 +127,14 @@ pub fn explain(
     ensures item { IfOk result (λ x. item_at (view tree.now) x.place ≡ item_in fault.now) }
 {
     match fault {
-        LocatedFault::Shape { item, part } => explain_shape(alloc, kind, tree, *item, *part),
-        LocatedFault::Name { item, part } => explain_name(alloc, kind, tree, *item, *part),
+        LocatedFault::Shape { item: 0, part } => explain_shape(alloc, kind, tree, *part),
+        LocatedFault::Name {
+            item: 0,
+            part: Part::Member(member),
+        } => wrong_names(alloc, tree, *member),
+        LocatedFault::Name { item: 0, .. } => wrong_document(alloc, kind, tree),
+        LocatedFault::Shape { item, part } => explain_item(alloc, kind, tree, *item, *part),
+        LocatedFault::Name { item, part } => explain_item(alloc, kind, tree, *item, *part),
         LocatedFault::Limit { which } => out_of_range(alloc, kind, tree, *which),
         LocatedFault::Json => Explanation::fixed(alloc, Place::document(), "this is no JSON"),
         LocatedFault::Memory => Explanation::fixed(alloc, Place::document(), "no memory"),

@@ -197,10 +197,9 @@ fn of_calls(
     Ok(())
 }
 
-/// The warnings about a live script.
-pub(crate) fn live_hints(alloc: Global, live: &Live) -> Result<Vec<Explanation>, AllocError> {
-    let mut hints = Vec::new(alloc);
-    of_threads(alloc, live, &mut hints)?;
+/// Adds the warnings about a live script.
+fn put_hints(alloc: Global, live: &Live, hints: &mut Vec<Explanation>) -> Result<(), AllocError> {
+    of_threads(alloc, live, hints)?;
     let resumed = resumed_in(alloc, live)?;
     for (agent, calls) in live.calls.as_slice().iter().enumerate() {
         of_calls(
@@ -209,8 +208,15 @@ pub(crate) fn live_hints(alloc: Global, live: &Live) -> Result<Vec<Explanation>,
             resumed.as_slice(),
             agent,
             calls.as_slice(),
-            &mut hints,
+            hints,
         )?;
     }
+    Ok(())
+}
+
+/// The warnings about a live script.
+pub(crate) fn live_hints(alloc: Global, live: &Live) -> Result<Vec<Explanation>, AllocError> {
+    let mut hints = Vec::new(alloc);
+    put_hints(alloc, live, &mut hints)?;
     Ok(hints)
 }

@@ -237,6 +237,31 @@ fn is_spent_again(
     Ok(false)
 }
 
+/// Adds the warnings about a walk, by the outcomes of its events. The threads that have spent their budgets are noted.
+fn put_hints(
+    alloc: Global,
+    walk: &Walk,
+    outcomes: &[Option<Outcome>],
+    spent: &mut Vec<ThreadNo>,
+    hints: &mut Vec<Explanation>,
+) -> Result<(), AllocError> {
+    for (event, (number, outcome)) in walk
+        .events
+        .as_slice()
+        .iter()
+        .zip(outcomes.iter().enumerate())
+    {
+        if is_spent_again(*event, outcome, spent)? {
+            continue;
+        }
+        if let Some(words) = hint_of(alloc, walk, *event, outcome)? {
+            let place = Place::of_element(MemberName::Events, number);
+            hints.push(Explanation::at(place, words))?;
+        }
+    }
+    Ok(())
+}
+
 /// The warnings about a walk, by the outcomes of its events.
 pub(crate) fn walk_hints(
     alloc: Global,
@@ -245,19 +270,6 @@ pub(crate) fn walk_hints(
 ) -> Result<Vec<Explanation>, AllocError> {
     let mut hints = Vec::new(alloc);
     let mut spent = Vec::new(alloc);
-    for (event, (number, outcome)) in walk
-        .events
-        .as_slice()
-        .iter()
-        .zip(outcomes.iter().enumerate())
-    {
-        if is_spent_again(*event, outcome, &mut spent)? {
-            continue;
-        }
-        if let Some(words) = hint_of(alloc, walk, *event, outcome)? {
-            let place = Place::of_element(MemberName::Events, number);
-            hints.push(Explanation::at(place, words))?;
-        }
-    }
+    put_hints(alloc, walk, outcomes, &mut spent, &mut hints)?;
     Ok(hints)
 }

@@ -2,9 +2,9 @@
 
 use crate::kind::Kind;
 use crate::place::Place;
-use crate::texts::{listed, meant, quoted, shown, stands, with_commas};
+use crate::texts::{meant, quoted, shown, stands};
 use crate::tree::{elements, has_text, texts_in, value_at};
-use crate::values::wrong_value;
+use crate::values::{no_such, wrong_value};
 use crate::vocabulary::{Speaker, Takes, meant_by};
 use serde_json::Value;
 use std::alloc::{AllocError, Global};
@@ -140,10 +140,7 @@ fn subjects(alloc: Global, tree: &Value) -> Result<Vec<&str>, AllocError> {
 /// Explains a text that is no thread's and no agent's name.
 fn no_subject(alloc: Global, tree: &Value, text: &str) -> Result<String, AllocError> {
     let names = subjects(alloc, tree)?;
-    let name = quoted(alloc, text)?;
-    let near = meant(alloc, None, text, names.as_slice())?;
-    let all = listed(alloc, names.as_slice())?;
-    format!(in alloc; "{name} is no thread and no agent{near}; there are {all}")
+    no_such(alloc, None, text, "thread and no agent", names.as_slice())
 }
 
 /// Where a word belongs that is another speaker's.
@@ -205,7 +202,7 @@ fn no_word(alloc: Global, item: &Item<'_>, word: &str) -> Result<String, AllocEr
 fn unknown_word(alloc: Global, speaker: Speaker, word: &str) -> Result<String, AllocError> {
     let name = quoted(alloc, word)?;
     let near = meant(alloc, meant_by(word), word, speaker.words())?;
-    let all = with_commas(alloc, speaker.words())?;
+    let all = speaker.words().join(alloc, ", ")?;
     format!(in alloc;
         "{name} is no word of {}{near}; there are {all}",
         speaker.text()

@@ -63,16 +63,16 @@ fn wrong_at(
     Ok(None)
 }
 
-/// The number of the first wrong name of a member, and what is wrong with it.
+/// The number of the first wrong name of a member, and what is wrong with it. The names before it go into `before`.
 fn first_wrong(
     alloc: Global,
     tree: &Value,
     member: MemberName,
+    before: &mut Names,
 ) -> Result<Option<(usize, String)>, AllocError> {
-    let mut before = Names::new(alloc);
     for (number, name) in listed_in(tree, member.key()).iter().enumerate() {
         let text = name.as_str().unwrap_or("");
-        if let Some(words) = wrong_at(alloc, tree, member, &before, number, text)? {
+        if let Some(words) = wrong_at(alloc, tree, member, before, number, text)? {
             return Ok(Some((number, words)));
         }
         if before.len() < 65536 {
@@ -90,7 +90,8 @@ pub(crate) fn wrong_names(
 ) -> Result<Explanation, AllocError>
     ensures { IfOk result (λ x. IsInHead x.place) }
 {
-    match first_wrong(alloc, tree, member)? {
+    let mut before = Names::new(alloc);
+    match first_wrong(alloc, tree, member, &mut before)? {
         Some((number, words)) => Ok(Explanation::at(Place::in_head(member, number), words)),
         None => Explanation::fixed(
             alloc,

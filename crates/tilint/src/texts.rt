@@ -42,18 +42,6 @@ pub(crate) fn stands(alloc: Global, value: &Value, wanted: &str) -> Result<Strin
     format!(in alloc; "{here} stands there; {wanted}")
 }
 
-/// These words with commas between them.
-pub(crate) fn with_commas(alloc: Global, words: &[&str]) -> Result<String, AllocError> {
-    let mut text = String::new(alloc);
-    for (place, word) in words.iter().enumerate() {
-        if place > 0 {
-            text.push_str(", ")?;
-        }
-        text.push_str(word)?;
-    }
-    Ok(text)
-}
-
 /// Whether a text is one of these.
 pub(crate) fn is_one_of(text: &str, texts: &[&str]) -> bool {
     texts.iter().any(|one| *one == text)

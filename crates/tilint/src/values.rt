@@ -2,7 +2,7 @@
 
 use crate::texts::{is_one_of, listed, meant, quoted, shown, stands};
 use crate::tree::{elements, has_text, texts_in};
-use crate::vocabulary::{Takes, capabilities, kinds, meant_by};
+use crate::vocabulary::{Takes, capabilities, hands, kinds, meant_by};
 use serde_json::Value;
 use std::alloc::{AllocError, Global};
 
@@ -56,17 +56,23 @@ pub(crate) fn no_number(
     }
 }
 
-/// Explains a text that is none of these names.
-pub(crate) fn no_name(
+/// Explains a text that is none of these names. `known` is the word that it is known to stand for.
+pub(crate) fn no_such(
     alloc: Global,
+    known: Option<&str>,
     text: &str,
     what: &str,
     names: &[&str],
 ) -> Result<String, AllocError> {
     let name = quoted(alloc, text)?;
-    let near = meant(alloc, meant_by(text), text, names)?;
+    let near = meant(alloc, known, text, names)?;
     let all = listed(alloc, names)?;
     format!(in alloc; "{name} is no {what}{near}; there are {all}")
+}
+
+/// Explains a text that is none of these names. It may be a word of JVM TI for one of them.
+fn no_name(alloc: Global, text: &str, what: &str, names: &[&str]) -> Result<String, AllocError> {
+    no_such(alloc, meant_by(text), text, what, names)
 }
 
 /// Explains a text that names no thread.
@@ -175,20 +181,7 @@ pub(crate) fn wrong_value(
         Takes::Method => of_method(alloc, tree, value),
         Takes::Caps => of_caps(alloc, value),
         Takes::Block => of_kind(alloc, value, kinds()),
-        Takes::Hand => of_kind(
-            alloc,
-            value,
-            &[
-                "native",
-                "poll",
-                "monitor",
-                "wait",
-                "timed_wait",
-                "sleep",
-                "park",
-                "timed_park",
-            ],
-        ),
+        Takes::Hand => of_kind(alloc, value, hands()),
         _ => no_number(alloc, value, takes.text(), takes.range().unwrap_or("")),
     }
 }

@@ -1,5 +1,19 @@
 //! The words of documents, what each takes, and the words that users write for them.
 
+/// The words of calls at one thread, and these after them.
+macro_rules! calls_and {
+    ($($more:literal),*) => {
+        &["state", "count", "trace", "location", "suspend", "resume", "get", "set", "pop", $($more),*]
+    };
+}
+
+/// These words, and the kinds of blocks after them.
+macro_rules! and_kinds {
+    ($($word:literal),*) => {
+        &[$($word,)* "monitor", "wait", "timed_wait", "sleep", "park", "timed_park"]
+    };
+}
+
 /// What an element of an item is to be.
 #[derive(Clone, Copy, Debug, PartialEq, Eq)]
 pub(crate) enum Takes {
@@ -99,45 +113,31 @@ impl Speaker {
                 "back",
                 "end",
             ],
-            Speaker::Agent => &[
-                "state",
-                "count",
-                "trace",
-                "location",
-                "suspend",
-                "resume",
-                "get",
-                "set",
-                "pop",
-                "stop",
-                "read",
-                "go",
-                "add",
-                "relinquish",
-                "caps",
-                "setenv",
-                "getenv",
-            ],
-            Speaker::Caller => &[
-                "state",
-                "count",
-                "trace",
-                "location",
-                "suspend",
-                "resume",
-                "get",
-                "set",
-                "pop",
-                "add",
-                "relinquish",
-                "caps",
-                "setenv",
-                "getenv",
-                "suspend_list",
-                "resume_list",
-                "all",
-                "list",
-            ],
+            Speaker::Agent => {
+                calls_and!(
+                    "stop",
+                    "read",
+                    "go",
+                    "add",
+                    "relinquish",
+                    "caps",
+                    "setenv",
+                    "getenv"
+                )
+            }
+            Speaker::Caller => {
+                calls_and!(
+                    "add",
+                    "relinquish",
+                    "caps",
+                    "setenv",
+                    "getenv",
+                    "suspend_list",
+                    "resume_list",
+                    "all",
+                    "list"
+                )
+            }
             Speaker::History => &[
                 "start",
                 "enter",
@@ -152,9 +152,7 @@ impl Speaker {
                 "read",
                 "go",
             ],
-            Speaker::Asked => &[
-                "state", "count", "trace", "location", "suspend", "resume", "get", "set", "pop",
-            ],
+            Speaker::Asked => calls_and!(),
         }
     }
 
@@ -236,14 +234,12 @@ fn asked_takes(word: &str) -> Option<&'static [Takes]> {
 
 /// The kinds of blocks.
 pub(crate) fn kinds() -> &'static [&'static str] {
-    &[
-        "monitor",
-        "wait",
-        "timed_wait",
-        "sleep",
-        "park",
-        "timed_park",
-    ]
+    and_kinds!()
+}
+
+/// What may come after `hand`.
+pub(crate) fn hands() -> &'static [&'static str] {
+    and_kinds!("native", "poll")
 }
 
 /// The capabilities.

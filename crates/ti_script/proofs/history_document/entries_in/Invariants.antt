@@ -7,5 +7,5 @@ use Rattle.ti_script.proofs.history_document.entries_in.Given as goal
 abbrev pub invariant-loop-value : goal.invariant-loop-value
 invariant-loop-value l = record {
   number : l.item ≡ l.value-index + 1;
-  same : after l.entries (entries_in l.format l.item (map view (drop l.value-index l.items))) ≡ entries_in l.format 1 (map view l.items);
+  same : after l.list (entries_in l.format l.item (map view (drop l.value-index l.items))) ≡ entries_in l.format 1 (map view l.items);
 }

@@ -7,5 +7,5 @@ use Rattle.ti_script.proofs.lists.calls_of_one.Given as goal
 abbrev pub invariant-loop-value : goal.invariant-loop-value
 invariant-loop-value l = record {
   number : l.item ≡ l.fn.first + l.value-index;
-  same : after l.calls (calls_of_one l.cast l.fn.agent l.item (map view (drop l.value-index l.values))) ≡ calls_of_one l.cast l.fn.agent l.fn.first (map view l.values);
+  same : after l.list (calls_of_one l.cast l.fn.agent l.item (map view (drop l.value-index l.values))) ≡ calls_of_one l.cast l.fn.agent l.fn.first (map view l.values);
 }

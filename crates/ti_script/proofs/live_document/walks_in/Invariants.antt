@@ -8,5 +8,5 @@ abbrev pub invariant-loop-value : goal.invariant-loop-value
 invariant-loop-value l = record {
   number : l.number ≡ l.value-index;
   left : l.item + count_in_all (map view (drop l.value-index l.values)) ≡ 1 + count_in_all (map view l.values);
-  same : after l.walks (walks_in l.cast l.number l.item (map view (drop l.value-index l.values))) ≡ walks_in l.cast 0 1 (map view l.values);
+  same : after l.lists (walks_in l.cast l.number l.item (map view (drop l.value-index l.values))) ≡ walks_in l.cast 0 1 (map view l.values);
 }

@@ -7,4 +7,4 @@ pub returns-in_err-put_text : goal.returns-in_err-put_text
 returns-in_err-put_text c = adds_part c.from_residual.result c.from_residual.ensures.0 (written c.args.out.now) (written c.put_text.new.out) c.args.name.now ((codes " " ++ decimal c.args.number)) c.in_err-put_text.ensures
 
 pub returns : goal.returns
-returns c = adds_more _ (written c.args.out.now) (written c.put_text.new.out) (written c.put_number_behind.new.out) c.args.name.now ((codes " " ++ decimal c.args.number)) c.in_ok-put_text.ensures c.put_number_behind.ensures
+returns c = adds_more _ (written c.args.out.now) (written c.put_text.new.out) (written c.put_counted.new.out) c.args.name.now ((codes " " ++ decimal c.args.number)) c.in_ok-put_text.ensures c.put_counted.ensures
