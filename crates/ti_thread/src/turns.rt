@@ -4,6 +4,16 @@ use crate::any_thread::{AnyThread, TurnOutcome};
 use ti_handshake::Polled;
 use ti_types::{Kind, TiError};
 
+/// What a call came to: the thread in its new state, or in the one that it was in, with the error.
+macro_rules! told {
+    ($call:expr, $new:ident or $old:ident) => {
+        match $call {
+            Ok(thread) => (AnyThread::$new(thread), TurnOutcome::Done),
+            Err((error, thread)) => (AnyThread::$old(thread), TurnOutcome::Refused(error)),
+        }
+    };
+}
+
 impl AnyThread {
     /// Starts the thread: it runs, and is alive (JVM TI 11, GetThreadState).
     ///
@@ -16,13 +26,8 @@ impl AnyThread {
         ensures { Starts self result.0 result.1 }
     {
         match self {
-            AnyThread::Fresh(fresh) => match fresh.start_now() {
-                Ok(running) => (AnyThread::Running(running), TurnOutcome::Done),
-                Err((error, fresh)) => (AnyThread::Fresh(fresh), TurnOutcome::Refused(error)),
-            },
-            AnyThread::Running(running) => not_new(AnyThread::Running(running)),
-            AnyThread::Safe(safe) => not_new(AnyThread::Safe(safe)),
-            AnyThread::Ended(ended) => not_new(AnyThread::Ended(ended)),
+            AnyThread::Fresh(fresh) => told!(fresh.start_now(), Running or Fresh),
+            other => refused(other, TiError::NotNew),
         }
     }
 
@@ -40,14 +45,9 @@ impl AnyThread {
             AnyThread::Running(running) => match running.poll_now() {
                 Ok(Polled::Go(running)) => (AnyThread::Running(running), TurnOutcome::Done),
                 Ok(Polled::Held(safe)) => (AnyThread::Safe(safe), TurnOutcome::Held),
-                Err(running) => (
-                    AnyThread::Running(running),
-                    TurnOutcome::Refused(TiError::Busy),
-                ),
+                Err(running) => refused(AnyThread::Running(running), TiError::Busy),
             },
-            AnyThread::Fresh(fresh) => not_running(AnyThread::Fresh(fresh)),
-            AnyThread::Safe(safe) => not_running(AnyThread::Safe(safe)),
-            AnyThread::Ended(ended) => not_running(AnyThread::Ended(ended)),
+            other => refused(other, TiError::NotRunning),
         }
     }
 
@@ -63,13 +63,8 @@ impl AnyThread {
         ensures { HandsOver IntoNative self result.0 result.1 }
     {
         match self {
-            AnyThread::Running(running) => match running.native_now() {
-                Ok(safe) => (AnyThread::Safe(safe), TurnOutcome::Done),
-                Err((error, running)) => (AnyThread::Running(running), TurnOutcome::Refused(error)),
-            },
-            AnyThread::Fresh(fresh) => not_running(AnyThread::Fresh(fresh)),
-            AnyThread::Safe(safe) => not_running(AnyThread::Safe(safe)),
-            AnyThread::Ended(ended) => not_running(AnyThread::Ended(ended)),
+            AnyThread::Running(running) => told!(running.native_now(), Safe or Running),
+            other => refused(other, TiError::NotRunning),
         }
     }
 
@@ -84,13 +79,8 @@ impl AnyThread {
         ensures { HandsOver (IntoBlocked kind) self result.0 result.1 }
     {
         match self {
-            AnyThread::Running(running) => match running.block_now(kind) {
-                Ok(safe) => (AnyThread::Safe(safe), TurnOutcome::Done),
-                Err((error, running)) => (AnyThread::Running(running), TurnOutcome::Refused(error)),
-            },
-            AnyThread::Fresh(fresh) => not_running(AnyThread::Fresh(fresh)),
-            AnyThread::Safe(safe) => not_running(AnyThread::Safe(safe)),
-            AnyThread::Ended(ended) => not_running(AnyThread::Ended(ended)),
+            AnyThread::Running(running) => told!(running.block_now(kind), Safe or Running),
+            other => refused(other, TiError::NotRunning),
         }
     }
 
@@ -105,13 +95,8 @@ impl AnyThread {
         ensures { Returns self result.0 result.1 }
     {
         match self {
-            AnyThread::Safe(safe) => match safe.back_now() {
-                Ok(running) => (AnyThread::Running(running), TurnOutcome::Done),
-                Err((error, safe)) => (AnyThread::Safe(safe), TurnOutcome::Refused(error)),
-            },
-            AnyThread::Fresh(fresh) => not_safe(AnyThread::Fresh(fresh)),
-            AnyThread::Running(running) => not_safe(AnyThread::Running(running)),
-            AnyThread::Ended(ended) => not_safe(AnyThread::Ended(ended)),
+            AnyThread::Safe(safe) => told!(safe.back_now(), Running or Safe),
+            other => refused(other, TiError::NotSafe),
         }
     }
 
@@ -127,41 +112,19 @@ impl AnyThread {
         match self {
             AnyThread::Running(running) => match running.end_now() {
                 Ok(ended) => (AnyThread::Ended(ended), TurnOutcome::Done),
-                Err(running) => (
-                    AnyThread::Running(running),
-                    TurnOutcome::Refused(TiError::Busy),
-                ),
+                Err(running) => refused(AnyThread::Running(running), TiError::Busy),
             },
-            AnyThread::Fresh(fresh) => not_running(AnyThread::Fresh(fresh)),
-            AnyThread::Safe(safe) => not_running(AnyThread::Safe(safe)),
-            AnyThread::Ended(ended) => not_running(AnyThread::Ended(ended)),
+            other => refused(other, TiError::NotRunning),
         }
     }
 }
 
-/// The thread as it is: it has started before.
-fn not_new(thread: AnyThread) -> (AnyThread, TurnOutcome)
-    ensures { (result.0 ≡ thread) × (result.1 ≡ Refused NotNew) }
+/// The thread as it is, and why the call is refused.
+fn refused(thread: AnyThread, error: TiError) -> (AnyThread, TurnOutcome)
+    ensures { IsUnfit error thread result.0 result.1 }
 {
-    (thread, TurnOutcome::Refused(TiError::NotNew))
+    (thread, TurnOutcome::Refused(error))
 }
 
-/// The thread as it is: it does not run.
-fn not_running(thread: AnyThread) -> (AnyThread, TurnOutcome)
-    ensures { (result.0 ≡ thread) × (result.1 ≡ Refused NotRunning) }
-{
-    (thread, TurnOutcome::Refused(TiError::NotRunning))
-}
-
-/// The thread as it is: it is not safe.
-fn not_safe(thread: AnyThread) -> (AnyThread, TurnOutcome)
-    ensures { (result.0 ≡ thread) × (result.1 ≡ Refused NotSafe) }
-{
-    (thread, TurnOutcome::Refused(TiError::NotSafe))
-}
-
-ghost use Rattle.std.specs.Prelude.{◌≡◌};
-ghost use Rattle.ti_types.specs.declared.error.TiError.TheVariants.{NotNew, NotRunning, NotSafe};
 ghost use Rattle.ti_types.specs.declared.state.Safe.TheVariants.{Native as IntoNative, Blocked as IntoBlocked};
-ghost use Rattle.ti_thread.specs.declared.any_thread.TurnOutcome.TheVariants.{Refused};
-ghost use Rattle.ti_thread.specs.Turns.{Starts, Polls, HandsOver, Returns, Ends};
+ghost use Rattle.ti_thread.specs.Turns.{Ends, HandsOver, IsUnfit, Polls, Returns, Starts};
