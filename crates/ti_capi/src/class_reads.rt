@@ -2,7 +2,7 @@
 
 use crate::class_values::{CqLineEntry, CqMethodName};
 use crate::class_writes::{tell_text, write_lines, write_name};
-use crate::codes::CQ_OK;
+use crate::codes::code;
 use crate::handle::CqEnv;
 use crate::handle_lends::behind;
 use crate::writes::write_each;
@@ -21,14 +21,10 @@ pub extern "C" fn cq_get_loaded_classes(
     ensures { Tells (AllWritten classes.old classes.new count.new) RefusesAll ((classes.new ≡ classes.old) × (count.new ≡ count.old)) env.old env.new result }
 {
     behind!(agent in env.held_env());
-    match agent.get_loaded_classes(alloc) {
-        Ok(all) => {
-            *count = all.len() as u64;
-            write_each(&all, classes);
-            CQ_OK
-        }
-        Err(error) => error.number(),
-    }
+    code!(agent.get_loaded_classes(alloc), all => {
+        *count = all.len() as u64;
+        write_each(&all, classes);
+    })
 }
 
 /// GetClassSignature (JVM TI 11).
@@ -81,14 +77,10 @@ pub extern "C" fn cq_get_class_methods(
     ensures { Tells (MethodsWritten (class_no class) methods.old methods.new count.new) (λ log. RefusesClassCall log (class_no class)) ((methods.new ≡ methods.old) × (count.new ≡ count.old)) env.old env.new result }
 {
     behind!(agent in env.held_env());
-    match agent.get_class_methods(alloc, ClassNo(class)) {
-        Ok(told) => {
-            *count = told.len() as u64;
-            write_each(&told, methods);
-            CQ_OK
-        }
-        Err(error) => error.number(),
-    }
+    code!(agent.get_class_methods(alloc, ClassNo(class)), told => {
+        *count = told.len() as u64;
+        write_each(&told, methods);
+    })
 }
 
 /// GetMethodName (JVM TI 11).
@@ -104,13 +96,9 @@ pub extern "C" fn cq_get_method_name(
     ensures { Tells (NameWritten (method_no method) info.new name.old name.new signature.old signature.new) (λ log. RefusesMethodCall log (method_no method)) ((info.new ≡ info.old) × (name.new ≡ name.old) × (signature.new ≡ signature.old)) env.old env.new result }
 {
     behind!(agent in env.held_env());
-    match agent.get_method_name(alloc, MethodNo(method)) {
-        Ok(told) => {
-            write_name(&told, info, name, signature);
-            CQ_OK
-        }
-        Err(error) => error.number(),
-    }
+    code!(agent.get_method_name(alloc, MethodNo(method)), told => {
+        write_name(&told, info, name, signature);
+    })
 }
 
 /// GetMethodDeclaringClass (JVM TI 11).
@@ -123,13 +111,7 @@ pub extern "C" fn cq_get_method_declaring_class(
     ensures { Tells (ClassWritten (method_no method) class.new) (λ log. RefusesMethod log (method_no method)) (class.new ≡ class.old) env.old env.new result }
 {
     behind!(agent in env.held_env());
-    match agent.get_method_declaring_class(MethodNo(method)) {
-        Ok(told) => {
-            *class = told.0;
-            CQ_OK
-        }
-        Err(error) => error.number(),
-    }
+    code!(agent.get_method_declaring_class(MethodNo(method)), told => *class = told.0)
 }
 
 /// IsMethodNative (JVM TI 11).
@@ -138,13 +120,7 @@ pub extern "C" fn cq_is_method_native(env: &mut CqEnv, method: u32, native: &mut
     ensures { Tells (NativeWritten (method_no method) native.new) (λ log. RefusesMethod log (method_no method)) (native.new ≡ native.old) env.old env.new result }
 {
     behind!(agent in env.held_env());
-    match agent.is_method_native(MethodNo(method)) {
-        Ok(told) => {
-            *native = told;
-            CQ_OK
-        }
-        Err(error) => error.number(),
-    }
+    code!(agent.is_method_native(MethodNo(method)), told => *native = told)
 }
 
 /// GetLineNumberTable (JVM TI 11).
@@ -160,13 +136,9 @@ pub extern "C" fn cq_get_line_number_table(
     ensures { Tells (LinesWritten (method_no method) kind.new lines.old lines.new count.new) (λ log. RefusesLines log (method_no method)) ((kind.new ≡ kind.old) × (lines.new ≡ lines.old) × (count.new ≡ count.old)) env.old env.new result }
 {
     behind!(agent in env.held_env());
-    match agent.get_line_number_table(alloc, MethodNo(method)) {
-        Ok(told) => {
-            write_lines(&told, kind, lines, count);
-            CQ_OK
-        }
-        Err(error) => error.number(),
-    }
+    code!(agent.get_line_number_table(alloc, MethodNo(method)), told => {
+        write_lines(&told, kind, lines, count);
+    })
 }
 
 ghost use Rattle.std.specs.Prelude.{◌≡◌};

@@ -1,7 +1,7 @@
 //! What is written to memory of the caller's of classes and methods: as much as there is room for, and how much there is.
 
 use crate::class_values::{CqLineEntry, CqMethodName, LINES_ABSENT, LINES_LOCATIONS, LINES_TABLE};
-use crate::codes::CQ_OK;
+use crate::codes::code;
 use crate::writes::{write_bytes, write_each};
 use ti_service::{ClassError, Lines, MethodName};
 
@@ -19,13 +19,7 @@ pub(crate) fn tell_text(told: Result<String, ClassError>, room: &mut [u8], lengt
     ensures written { IfOk told (λ s. (result ≡ 0) × IsListWritten (string_bytes s) room.old room.new length.new) }
     ensures refused { IfErr told (λ e. (result ≡ class_number_of e) × (room.new ≡ room.old) × (length.new ≡ length.old)) }
 {
-    match told {
-        Ok(text) => {
-            write_text(text.as_str(), room, length);
-            CQ_OK
-        }
-        Err(error) => error.number(),
-    }
+    code!(told, text => write_text(text.as_str(), room, length))
 }
 
 /// Writes the kind of lines, and the entries of a table.

@@ -38,5 +38,26 @@ pub fn done_code(done: Result<(), TiError>) -> u32
     }
 }
 
+/// The code of a call: `CQ_OK`, after what it told was written, or that of its error.
+macro_rules! code {
+    ($call:expr) => {
+        match $call {
+            Ok(_) => crate::codes::CQ_OK,
+            Err(error) => error.number(),
+        }
+    };
+    ($call:expr, $told:pat => $write:expr) => {
+        match $call {
+            Ok($told) => {
+                $write;
+                crate::codes::CQ_OK
+            }
+            Err(error) => error.number(),
+        }
+    };
+}
+
 ghost use Rattle.std.specs.Prelude.{◌≡◌};
 ghost use Rattle.ti_capi.specs.Codes.{code_told, code_done};
+
+pub(crate) use code;

@@ -3,7 +3,7 @@
 use crate::any_door::AnyDoor;
 use crate::codes::{CQ_MISUSED, CQ_NONE, CQ_OK};
 use crate::handle::{CqDoor, CqService};
-use crate::handle_lends::behind;
+use crate::handle_lends::{behind, makes};
 use crate::held::{Held, HeldDoor};
 use crate::service_calls::{boxed, fill, name_of};
 use crate::writes::write_bytes;
@@ -96,12 +96,7 @@ pub extern "C" fn cq_open_door(
 ) -> u32
     ensures { OpensDoor program.now port service.old service.new door.old door.new result }
 {
-    let Some(service) = service.service() else {
-        return CQ_MISUSED;
-    };
-    if !door.is_empty() {
-        return CQ_MISUSED;
-    }
+    makes!(service for door);
     fill(door, open(alloc, service, program, port, now))
 }
 
@@ -153,12 +148,7 @@ pub extern "C" fn cq_open_debugger(
 ) -> u32
     ensures { OpensDebugger program.now path.now service.old service.new door.old door.new result }
 {
-    let Some(service) = service.service() else {
-        return CQ_MISUSED;
-    };
-    if !door.is_empty() {
-        return CQ_MISUSED;
-    }
+    makes!(service for door);
     fill(door, open_debugger(alloc, service, program, path, now))
 }
 

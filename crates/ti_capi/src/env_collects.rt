@@ -1,6 +1,6 @@
 //! Answers that an environment collects, and calls that it gives up.
 
-use crate::codes::{CQ_NONE, CQ_OK, CQ_WAITING};
+use crate::codes::{CQ_NONE, CQ_OK, CQ_WAITING, code};
 use crate::handle::CqEnv;
 use crate::handle_lends::behind;
 use crate::values::{CqAnswer, CqFrame, CqTicket, ticket_in};
@@ -32,10 +32,7 @@ pub extern "C" fn cq_cancel(alloc: Global, env: &mut CqEnv, ticket: &CqTicket) -
     ensures { Calls (CancelsBy (ticket_read ticket.now)) ⊤ env.old env.new result }
 {
     behind!(agent in env.held_env());
-    match agent.cancel_now(alloc, ticket_in(*ticket)) {
-        Ok(()) => CQ_OK,
-        Err(error) => error.number(),
-    }
+    code!(agent.cancel_now(alloc, ticket_in(*ticket)))
 }
 
 /// Throws the answer away to the call that was given up first at a thread.
@@ -44,13 +41,7 @@ pub extern "C" fn cq_discard(env: &mut CqEnv, thread: u32, thrown: &mut bool) ->
     ensures { Calls (DiscardsBy (thread_no thread) thrown.old thrown.new) (thrown.new ≡ thrown.old) env.old env.new result }
 {
     behind!(agent in env.held_env());
-    match agent.discard_now(ThreadNo(thread)) {
-        Ok(is_thrown) => {
-            *thrown = is_thrown;
-            CQ_OK
-        }
-        Err(error) => error.number(),
-    }
+    code!(agent.discard_now(ThreadNo(thread)), is_thrown => *thrown = is_thrown)
 }
 
 /// How many calls of the environment are out at a thread.

@@ -1,6 +1,6 @@
 //! An environment and the list of threads.
 
-use crate::codes::CQ_OK;
+use crate::codes::code;
 use crate::handle::CqEnv;
 use crate::handle_lends::behind;
 use crate::values::CqThreadInfo;
@@ -16,10 +16,7 @@ pub extern "C" fn cq_meet(alloc: Global, env: &mut CqEnv) -> u32
     ensures { Calls MeetsBy ⊤ env.old env.new result }
 {
     behind!(agent in env.held_env());
-    match agent.meet_now(alloc) {
-        Ok(()) => CQ_OK,
-        Err(error) => error.number(),
-    }
+    code!(agent.meet_now(alloc))
 }
 
 /// Whether threads or environments have come or gone since the environment last held the list, by one load, or its last meeting
@@ -43,13 +40,7 @@ pub extern "C" fn cq_let_go(env: &mut CqEnv, thread: u32, gone: &mut bool) -> u3
     ensures { Calls (LetsGoBy (thread_no thread) gone.old gone.new) (gone.new ≡ gone.old) env.old env.new result }
 {
     behind!(agent in env.held_env());
-    match agent.let_go_now(ThreadNo(thread)) {
-        Ok(is_gone) => {
-            *gone = is_gone;
-            CQ_OK
-        }
-        Err(error) => error.number(),
-    }
+    code!(agent.let_go_now(ThreadNo(thread)), is_gone => *gone = is_gone)
 }
 
 /// GetAllThreads (JVM TI 11).
@@ -63,14 +54,10 @@ pub extern "C" fn cq_get_all_threads(
     ensures { Calls (ListsBy threads.old threads.new count.old count.new) ((threads.new ≡ threads.old) × (count.new ≡ count.old)) env.old env.new result }
 {
     behind!(agent in env.held_env());
-    match agent.get_all_threads_now(alloc) {
-        Ok(all) => {
-            *count = all.len() as u64;
-            write_each(&all, threads);
-            CQ_OK
-        }
-        Err(error) => error.number(),
-    }
+    code!(agent.get_all_threads_now(alloc), all => {
+        *count = all.len() as u64;
+        write_each(&all, threads);
+    })
 }
 
 /// GetThreadInfo (JVM TI 11).
@@ -85,16 +72,12 @@ pub extern "C" fn cq_get_thread_info(
     ensures { Calls (TellsInfoBy (thread_no thread) info.old info.new name.old name.new) ((info.new ≡ info.old) × (name.new ≡ name.old)) env.old env.new result }
 {
     behind!(agent in env.held_env());
-    match agent.get_thread_info_now(alloc, ThreadNo(thread)) {
-        Ok(told) => {
-            let bytes = told.name.as_bytes();
-            info.name_length = bytes.len() as u64;
-            info.priority = told.priority;
-            write_bytes(bytes, name);
-            CQ_OK
-        }
-        Err(error) => error.number(),
-    }
+    code!(agent.get_thread_info_now(alloc, ThreadNo(thread)), told => {
+        let bytes = told.name.as_bytes();
+        info.name_length = bytes.len() as u64;
+        info.priority = told.priority;
+        write_bytes(bytes, name);
+    })
 }
 
 ghost use Rattle.std.specs.Prelude.{◌≡◌, ⊤};

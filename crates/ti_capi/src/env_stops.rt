@@ -1,6 +1,6 @@
 //! Breakpoints, steps and pops of frames, and the stops that an environment is told of.
 
-use crate::codes::{CQ_MISUSED, CQ_NONE, CQ_OK};
+use crate::codes::{CQ_MISUSED, CQ_NONE, CQ_OK, code};
 use crate::handle::CqEnv;
 use crate::handle_lends::behind;
 use crate::values::{CqStop, stop_kind_in, stop_out, stop_thread_in};
@@ -51,10 +51,7 @@ fn ask(env: &mut CqEnv, call: StopCall) -> u32
     ensures { Calls (StopsBy call) ⊤ env.old env.new result }
 {
     behind!(agent in env.held_env());
-    match agent.stop_now(call) {
-        Ok(_) => CQ_OK,
-        Err(error) => error.number(),
-    }
+    code!(agent.stop_now(call))
 }
 
 /// The call that enables or disables a kind of stop.

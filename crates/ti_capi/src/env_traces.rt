@@ -172,20 +172,28 @@ pub extern "C" fn cq_gather_give_up(env: &mut CqEnv) -> u32
     CQ_OK
 }
 
+/// Binds what the last trace of an environment tells. While it makes another trace, or has no last one, the function for C that asks
+/// ends with the code that says so.
+macro_rules! gathered {
+    ($stacks:ident in $held:expr) => {
+        let Some(held) = $held else {
+            return CQ_MISUSED;
+        };
+        let Some(_) = &mut held.agent else {
+            return CQ_MISUSED;
+        };
+        let Some($stacks) = &held.stacks else {
+            return CQ_NONE;
+        };
+    };
+}
+
 /// How many threads the last trace tells of.
 #[unsafe(no_mangle)]
 pub extern "C" fn cq_gathered(env: &mut CqEnv, count: &mut u64) -> u32
     ensures { Tells (Counts count.new) (count.new ≡ count.old) env.old env.new result }
 {
-    let Some(held) = env.held_env() else {
-        return CQ_MISUSED;
-    };
-    let Some(_) = &mut held.agent else {
-        return CQ_MISUSED;
-    };
-    let Some(stacks) = &held.stacks else {
-        return CQ_NONE;
-    };
+    gathered!(stacks in env.held_env());
     *count = stacks.len() as u64;
     CQ_OK
 }
@@ -200,15 +208,7 @@ pub extern "C" fn cq_gathered_stack(
 ) -> u32
     ensures { Tells (TellsStack index info.old info.new frames.old frames.new) ((info.new ≡ info.old) × (frames.new ≡ frames.old)) env.old env.new result }
 {
-    let Some(held) = env.held_env() else {
-        return CQ_MISUSED;
-    };
-    let Some(_) = &mut held.agent else {
-        return CQ_MISUSED;
-    };
-    let Some(stacks) = &held.stacks else {
-        return CQ_NONE;
-    };
+    gathered!(stacks in env.held_env());
     match stacks.get(index as usize) {
         Some(stack) => {
             write_stack(stack, info, frames);

@@ -76,4 +76,18 @@ macro_rules! behind {
     };
 }
 
+/// Binds the service behind a full handle, by which an empty handle is to be filled. With another handle in the place of one of them
+/// the function for C that asks ends with the code `CQ_MISUSED`.
+macro_rules! makes {
+    ($service:ident for $handle:ident) => {
+        let Some($service) = $service.service() else {
+            return crate::codes::CQ_MISUSED;
+        };
+        if !$handle.is_empty() {
+            return crate::codes::CQ_MISUSED;
+        }
+    };
+}
+
 pub(crate) use behind;
+pub(crate) use makes;

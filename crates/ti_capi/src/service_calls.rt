@@ -1,7 +1,8 @@
 //! Handles of the service, and what is attached by them.
 
-use crate::codes::{CQ_MISUSED, CQ_OK};
+use crate::codes::{CQ_MISUSED, CQ_OK, code};
 use crate::handle::{CqEnv, CqHandle, CqService, CqThread};
+use crate::handle_lends::makes;
 use crate::held::{Held, HeldEnv, HeldThread};
 use std::alloc::Global;
 use ti_service::{Service, ThreadInfo};
@@ -31,13 +32,7 @@ pub(crate) fn fill(handle: &mut CqHandle, made: Result<Box<Held>, TiError>) -> u
     ensures put { IfOk made (λ b. (handle.new.place.held ≡ Some b.value) × (result ≡ 0)) }
     ensures refused { IfErr made (λ e. (handle.new ≡ handle.old) × (result ≡ number_of e)) }
 {
-    match made {
-        Ok(held) => {
-            handle.put(held);
-            CQ_OK
-        }
-        Err(error) => error.number(),
-    }
+    code!(made, held => handle.put(held))
 }
 
 /// Makes a service in a box, whose environments can have these capabilities. 103 if a number is not within its range, and then 98
@@ -99,12 +94,7 @@ fn share(alloc: Global, service: &mut Service) -> Result<Box<Held>, TiError>
 pub extern "C" fn cq_share(alloc: Global, service: &mut CqService, other: &mut CqService) -> u32
     ensures { Shares service.old service.new other.old other.new result }
 {
-    let Some(service) = service.service() else {
-        return CQ_MISUSED;
-    };
-    if !other.is_empty() {
-        return CQ_MISUSED;
-    }
+    makes!(service for other);
     fill(other, share(alloc, service))
 }
 
@@ -167,12 +157,7 @@ pub extern "C" fn cq_attach_thread(
 ) -> u32
     ensures { Attaches name.now priority service.old service.new thread.old thread.new result }
 {
-    let Some(service) = service.service() else {
-        return CQ_MISUSED;
-    };
-    if !thread.is_empty() {
-        return CQ_MISUSED;
-    }
+    makes!(service for thread);
     fill(thread, attach_thread(alloc, service, name, priority))
 }
 
@@ -205,12 +190,7 @@ pub extern "C" fn cq_attach_environment(
 ) -> u32
     ensures { AttachesEnv service.old service.new env.old env.new result }
 {
-    let Some(service) = service.service() else {
-        return CQ_MISUSED;
-    };
-    if !env.is_empty() {
-        return CQ_MISUSED;
-    }
+    makes!(service for env);
     fill(env, attach_environment(alloc, service))
 }
 

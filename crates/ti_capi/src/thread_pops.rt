@@ -1,6 +1,6 @@
 //! How many frames a thread has, and how many of them were popped.
 
-use crate::codes::CQ_OK;
+use crate::codes::{CQ_OK, code};
 use crate::handle::CqThread;
 use crate::handle_lends::behind;
 
@@ -10,13 +10,7 @@ pub extern "C" fn cq_frame_count(thread: &mut CqThread, count: &mut u64) -> u32
     ensures { CountBehind (thread_in thread.old) thread.old thread.new count.old count.new result }
 {
     behind!(thread in thread.held_thread());
-    match thread.frame_count() {
-        Ok(frames) => {
-            *count = frames as u64;
-            CQ_OK
-        }
-        Err(error) => error.number(),
-    }
+    code!(thread.frame_count(), frames => *count = frames as u64)
 }
 
 /// How many frames of the thread were popped since the runtime last took note. It takes note of these now.

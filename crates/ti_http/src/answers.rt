@@ -34,7 +34,7 @@ impl ContentType {
 }
 
 /// What is done with the connection and the body of an answer.
-#[derive(Clone, Copy, Debug, PartialEq, Eq)]
+#[derive(Clone, Copy)]
 pub(crate) struct Manner {
     /// The connection stays open.
     pub(crate) keeps: bool,

@@ -26,7 +26,7 @@ pub enum Action {
     Wait,
 }
 
-#[derive(Clone, Copy, Debug, PartialEq, Eq)]
+#[derive(Clone, Copy)]
 pub(crate) enum Phase {
     /// A request is read.
     Reading,
@@ -138,7 +138,7 @@ impl Connection {
         self.input.extend_from_slice(&bytes[..count])?;
         if self.input.len() == count
             && self.sent == self.output.len()
-            && self.phase == Phase::Reading
+            && matches!(self.phase, Phase::Reading)
         {
             self.since = now;
         }

@@ -8,10 +8,10 @@ use thiserror::Error;
 pub enum HttpError {
     /// 110 OUT_OF_MEMORY (JVM TI 11): there is no memory for the input or for an answer.
     #[error("out of memory")]
-    OutOfMemory,
+    OutOfMemory = 110,
     /// 112 WRONG_PHASE (JVM TI 11): no request waits for an answer.
     #[error("no request waits for an answer")]
-    NotAsked,
+    NotAsked = 112,
 }
 
 impl HttpError {
@@ -19,10 +19,7 @@ impl HttpError {
     pub fn number(self) -> u32
         ensures { result ≡ number_of self }
     {
-        match self {
-            HttpError::OutOfMemory => 110,
-            HttpError::NotAsked => 112,
-        }
+        self as u32
     }
 }
 

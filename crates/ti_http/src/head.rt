@@ -40,7 +40,7 @@ pub struct Request {
 }
 
 /// A head that is whole.
-#[derive(Clone, Copy, Debug, PartialEq, Eq)]
+#[derive(Clone, Copy)]
 pub(crate) struct Whole {
     /// How many bytes of the input it has.
     pub(crate) len: usize,
@@ -49,7 +49,7 @@ pub(crate) struct Whole {
 }
 
 /// What an input begins with.
-#[derive(Clone, Copy, Debug, PartialEq, Eq)]
+#[derive(Clone, Copy)]
 pub(crate) enum Seen {
     /// A head that may still become whole.
     More,

@@ -9,7 +9,7 @@ const MAX_SECONDS: u16 = 300;
 const MAX_RATE: u16 = 1000;
 
 /// The parameters that a query has.
-#[derive(Clone, Copy, Debug, PartialEq, Eq)]
+#[derive(Clone, Copy)]
 pub(crate) struct Params {
     pub(crate) seconds: Option<u16>,
     pub(crate) rate: Option<u16>,

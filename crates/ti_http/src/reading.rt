@@ -6,16 +6,6 @@ use crate::error::HttpError;
 use crate::head::{Seen, Whole, look};
 use crate::refusals::Refusal;
 
-/// Drops the bytes in front.
-fn drop_front(bytes: &mut Vec<u8>, count: usize)
-    requires { count ≤ length bytes.old.items }
-    ensures { bytes.new.items ≡ drop count bytes.old.items }
-{
-    let left = bytes.len() - count;
-    bytes.rotate_left(count);
-    bytes.truncate(left);
-}
-
 impl Connection {
     /// Says what the caller does next. Call it again until it gives `Wait` or `Close`, or there is output that the socket
     /// does not take.
@@ -96,7 +86,7 @@ impl Connection {
         requires within { whole.len ≤ length self.old.input }
         ensures { self.new ≡ asks self.old whole }
     {
-        drop_front(&mut self.input, whole.len);
+        drop(self.input.drain(..whole.len));
         self.phase = Phase::Waiting(whole.manner);
         self.asked += 1;
     }
@@ -135,7 +125,7 @@ impl Connection {
         };
         self.put_refusal(refusal, manner, now)?;
         if manner.keeps {
-            drop_front(&mut self.input, whole.len);
+            drop(self.input.drain(..whole.len));
         }
         Ok(Action::Write)
     }

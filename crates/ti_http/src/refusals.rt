@@ -4,7 +4,7 @@ use crate::status::Status;
 use http1::ReadError;
 
 /// Why a request is refused.
-#[derive(Clone, Copy, Debug, PartialEq, Eq)]
+#[derive(Clone, Copy)]
 pub(crate) enum Refusal {
     /// The bytes are no request.
     NoRequest,

@@ -54,7 +54,7 @@ pub enum Target {
 }
 
 /// The paths that are served.
-#[derive(Clone, Copy, Debug, PartialEq, Eq)]
+#[derive(Clone, Copy)]
 enum Route {
     Index,
     Metrics,

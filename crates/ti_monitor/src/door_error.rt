@@ -8,10 +8,10 @@ use ti_http::HttpError;
 pub enum DoorError {
     /// 103 ILLEGAL_ARGUMENT (JVM TI 11): no connection of this number is open.
     #[error("no such connection is open")]
-    NoConnection,
+    NoConnection = 103,
     /// 110 OUT_OF_MEMORY (JVM TI 11): there is no memory for the input or for an answer.
     #[error("out of memory")]
-    OutOfMemory,
+    OutOfMemory = 110,
 }
 
 impl DoorError {
@@ -19,10 +19,7 @@ impl DoorError {
     pub fn number(self) -> u32
         ensures { result ≡ number_of self }
     {
-        match self {
-            DoorError::NoConnection => 103,
-            DoorError::OutOfMemory => 110,
-        }
+        self as u32
     }
 }
 

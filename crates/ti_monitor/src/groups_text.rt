@@ -10,7 +10,7 @@ use std::alloc::{AllocError, Global};
 use ti_pprof::{Names, Node, Row};
 
 /// What the threads of a group have in common: the stack, by its number, and the state.
-#[derive(Clone, Copy, Debug, PartialEq, Eq, Hash)]
+#[derive(Clone, Copy, PartialEq, Eq, Hash)]
 pub(crate) struct Group {
     pub(crate) stack: u32,
     pub(crate) state: u32,

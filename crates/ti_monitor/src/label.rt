@@ -7,7 +7,7 @@ use ti_http::Labels;
 pub(crate) const NONE: u32 = u32::MAX;
 
 /// A thread and a state, by their places among the names. `NONE` leaves one out.
-#[derive(Clone, Copy, Debug, PartialEq, Eq)]
+#[derive(Clone, Copy)]
 pub(crate) struct Label {
     pub(crate) thread: u32,
     pub(crate) state: u32,

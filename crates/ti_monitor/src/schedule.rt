@@ -1,7 +1,7 @@
 //! When a reading ticks.
 
 /// The ticks of a reading, on a grid of times. Each is taken, or missed if it came too late.
-#[derive(Clone, Copy, Debug, PartialEq, Eq)]
+#[derive(Clone, Copy)]
 pub(crate) struct Schedule {
     /// When the next one is due, in nanoseconds.
     pub(crate) next: u64,

@@ -4,7 +4,7 @@ use crate::state::{STATES, is_suspended, state_place};
 use ti_types::{ThreadNo, Ticket};
 
 /// A call that was posted and not collected.
-#[derive(Clone, Copy, Debug, PartialEq, Eq)]
+#[derive(Clone, Copy)]
 pub(crate) struct Out {
     pub(crate) ticket: Ticket,
     /// When it was posted.

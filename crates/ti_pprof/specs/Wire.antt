@@ -21,6 +21,11 @@ varints (n ∷ ns) = varint n ++ varints ns
 abbrev pub number_field : ℕ → ℕ → List ℕ
 number_field field n = if n == 0 then [] else varint (field * 8) ++ varint n
 
+-- fields that are numbers, one after another
+abbrev pub number_fields : List (ℕ × ℕ) → List ℕ
+number_fields [] = []
+number_fields (f ∷ fields) = number_field f.0 f.1 ++ number_fields fields
+
 -- a field that is bytes: a text, or a message
 abbrev pub block_field : ℕ → List ℕ → List ℕ
 block_field field bytes = varint (field * 8 + 2) ++ (varint (length bytes) ++ bytes)

@@ -2,7 +2,7 @@
 
 use crate::names::Unit;
 use crate::texts::Texts;
-use crate::wire::{push_block, push_number, push_varints};
+use crate::wire::{push_block, push_message, push_numbers, push_varints};
 use std::alloc::AllocError;
 
 /// Appends a field that is a list of numbers. One that has none is left out. `inner` is room for the list. The error is lack of
@@ -24,19 +24,6 @@ pub(crate) fn push_packed(
     push_block(out, field, inner)
 }
 
-/// Appends the fields of a ValueType. The error is lack of memory.
-pub(crate) fn push_value_type(
-    out: &mut Vec<u8>,
-    texts: &Texts<'_>,
-    kind: &str,
-    unit: &str,
-) -> Result<(), AllocError>
-    ensures { OnOk result (out.new.items ≡ out.old.items ++ value_type (strings_in texts.now) kind.now unit.now) }
-{
-    push_number(out, 1, texts.number(kind))?;
-    push_number(out, 2, texts.number(unit))
-}
-
 /// Appends a field that is a ValueType. The error is lack of memory.
 pub(crate) fn push_value_type_field(
     out: &mut Vec<u8>,
@@ -48,9 +35,11 @@ pub(crate) fn push_value_type_field(
     requires { field < 2 ^ 29 }
     ensures { OnOk result (out.new.items ≡ out.old.items ++ block_field field (value_type (strings_in texts.now) kind.now unit.now)) }
 {
-    let mut inner = Vec::new(*out.allocator());
-    push_value_type(&mut inner, texts, kind, unit)?;
-    push_block(out, field, &inner)
+    push_message(
+        out,
+        field,
+        &[(1, texts.number(kind)), (2, texts.number(unit))],
+    )
 }
 
 /// Appends a label, by the numbers of its key and its text, if there is a text. `inner` is room for the label. The error is lack of
@@ -67,8 +56,7 @@ pub(crate) fn push_label(
         return Ok(());
     };
     inner.clear();
-    push_number(inner, 1, key)?;
-    push_number(inner, 2, text)?;
+    push_numbers(inner, &[(1, key), (2, text)])?;
     push_block(out, 3, inner)
 }
 
@@ -116,13 +104,11 @@ pub(crate) fn push_mapping(
 ) -> Result<(), AllocError>
     ensures { OnOk result (out.new.items ≡ out.old.items ++ block_field 3 (mapping (strings_in texts.now) program.now)) }
 {
-    let mut inner = Vec::new(*out.allocator());
-    push_number(&mut inner, 1, 1)?;
-    push_number(&mut inner, 5, texts.number(program))?;
-    push_number(&mut inner, 7, 1)?;
-    push_number(&mut inner, 8, 1)?;
-    push_number(&mut inner, 9, 1)?;
-    push_block(out, 3, &inner)
+    push_message(
+        out,
+        3,
+        &[(1, 1), (5, texts.number(program)), (7, 1), (8, 1), (9, 1)],
+    )
 }
 
 /// Appends a location with one line. The error is lack of memory.
@@ -134,13 +120,9 @@ pub(crate) fn push_location(
 ) -> Result<(), AllocError>
     ensures { OnOk result (out.new.items ≡ out.old.items ++ block_field 4 (location id function number)) }
 {
-    let mut line = Vec::new(*out.allocator());
-    push_number(&mut line, 1, function)?;
-    push_number(&mut line, 2, number)?;
     let mut inner = Vec::new(*out.allocator());
-    push_number(&mut inner, 1, id)?;
-    push_number(&mut inner, 2, 1)?;
-    push_block(&mut inner, 4, &line)?;
+    push_numbers(&mut inner, &[(1, id), (2, 1)])?;
+    push_message(&mut inner, 4, &[(1, function), (2, number)])?;
     push_block(out, 4, &inner)
 }
 
@@ -155,12 +137,12 @@ pub(crate) fn push_function(
 ) -> Result<(), AllocError>
     ensures { OnOk result (out.new.items ≡ out.old.items ++ block_field 5 (function (strings_in texts.now) id name.now file.now start)) }
 {
-    let mut inner = Vec::new(*out.allocator());
-    push_number(&mut inner, 1, id)?;
-    push_number(&mut inner, 2, texts.number(name))?;
-    push_number(&mut inner, 4, texts.number(file))?;
-    push_number(&mut inner, 5, u64::from(start))?;
-    push_block(out, 5, &inner)
+    let (name, file) = (texts.number(name), texts.number(file));
+    push_message(
+        out,
+        5,
+        &[(1, id), (2, name), (4, file), (5, u64::from(start))],
+    )
 }
 
 ghost use Rattle.std.specs.Prelude.{◌≡◌, ◌<◌, ◌^◌, ◌++◌, OnOk};

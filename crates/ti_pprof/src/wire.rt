@@ -19,7 +19,7 @@ pub(crate) fn push_varint(out: &mut Vec<u8>, number: u64) -> Result<(), AllocErr
 
 /// Appends a field that is a number. A field that is 0 is left out. The error is lack of memory.
 pub(crate) fn push_number(out: &mut Vec<u8>, field: u64, number: u64) -> Result<(), AllocError>
-    requires { field < 2 ^ 29 }
+    requires { field < 2 ^ 32 }
     ensures { OnOk result (out.new.items ≡ out.old.items ++ number_field field number) }
 {
     if number != 0 {
@@ -27,6 +27,30 @@ pub(crate) fn push_number(out: &mut Vec<u8>, field: u64, number: u64) -> Result<
         push_varint(out, number)?;
     }
     Ok(())
+}
+
+/// Appends fields that are numbers, each by its own number. The error is lack of memory.
+pub(crate) fn push_numbers(out: &mut Vec<u8>, fields: &[(u32, u64)]) -> Result<(), AllocError>
+    ensures { OnOk result (out.new.items ≡ out.old.items ++ number_fields fields.now) }
+{
+    for (field, number) in fields {
+        push_number(out, u64::from(*field), *number)?;
+    }
+    Ok(())
+}
+
+/// Appends a field that is a message of such fields. The error is lack of memory.
+pub(crate) fn push_message(
+    out: &mut Vec<u8>,
+    field: u64,
+    fields: &[(u32, u64)],
+) -> Result<(), AllocError>
+    requires { field < 2 ^ 29 }
+    ensures { OnOk result (out.new.items ≡ out.old.items ++ block_field field (number_fields fields.now)) }
+{
+    let mut inner = Vec::new(*out.allocator());
+    push_numbers(&mut inner, fields)?;
+    push_block(out, field, &inner)
 }
 
 /// Appends a field that is bytes: a text or a message. The error is lack of memory.
@@ -51,4 +75,4 @@ pub(crate) fn push_varints(out: &mut Vec<u8>, numbers: &[u64]) -> Result<(), All
 }
 
 ghost use Rattle.std.specs.Prelude.{◌≡◌, ◌++◌, ◌<◌, ◌^◌, OnOk};
-ghost use Rattle.ti_pprof.specs.Wire.{block_field, number_field, varint, varints};
+ghost use Rattle.ti_pprof.specs.Wire.{block_field, number_field, number_fields, varint, varints};
