@@ -238,10 +238,10 @@ impl Desk {
         ensures busy { IfErr result (λ e. (e ≡ Busy) × (self.new ≡ self.old)) }
     {
         try_hold!(self, |slot| Looked {
-    standing: slot.standing(self.env),
-    hand_overs: slot.hand_overs(),
-    stopper: slot.stopper(),
-}, else TiError::Busy)
+            standing: slot.standing(self.env),
+            hand_overs: slot.hand_overs(),
+            stopper: slot.stopper(),
+        }, else TiError::Busy)
     }
 
     /// Whether this environment's stop is in force and the thread does not run. It is the same as `standing`, but tries to
