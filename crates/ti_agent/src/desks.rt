@@ -43,6 +43,7 @@ impl<H: Home> Env<H> {
     /// The number of the thread of a desk, by its index among the desks (this profile). `None` if there is no such desk.
     pub fn thread_at(&self, index: u32) -> Option<ThreadNo>
         ensures thread { IfSome result (λ t. t ≡ thread_at self.now.env.desks index) }
+        ensures place { IfSome result (λ t. index ≡ place_in self.now.env.desks t) }
         ensures there { IfSome result (λ t. index < length self.now.env.desks) }
         ensures none { IfNone result (length self.now.env.desks ≤ index) }
     {
@@ -53,14 +54,28 @@ impl<H: Home> Env<H> {
         }
     }
 
+    /// The index of the desk at a thread, among the desks (this profile). If there is no desk at a thread of this number, it is
+    /// the number of desks.
+    pub fn index_of(&self, thread: ThreadNo) -> u32
+        ensures { result ≡ place_in self.now.env.desks thread }
+    {
+        self.place_of(thread).0
+    }
+
     /// How many of the environment's calls are out at a thread: they wait, or have an answer that is not collected (this
     /// profile). 0 if there is no desk at a thread of this number.
     pub fn out_at(&self, thread: ThreadNo) -> u32
         ensures { result ≡ outstanding self.now.env thread }
     {
-        let place = self.place_of(thread);
-        if place.0 < self.state.threads() {
-            self.desks[place.0 as usize].out()
+        self.out_by_index(self.index_of(thread))
+    }
+
+    /// The same as `out_at`, by the index of the desk. 0 if there is no such desk.
+    pub fn out_by_index(&self, index: u32) -> u32
+        ensures { result ≡ out_of (slice_get self.now.env.desks index) }
+    {
+        if index < self.state.threads() {
+            self.desks[index as usize].out()
         } else {
             0
         }
@@ -155,13 +170,23 @@ impl<H: Home> Env<H> {
         ensures unchanged { IfNone result (self.new ≡ self.old) }
         ensures home { self.new.home ≡ self.old.home }
     {
-        let place = self.place_of(thread);
-        if place.0 >= self.state.threads() {
+        let index = self.index_of(thread);
+        self.take_by_index(index)
+    }
+
+    /// The same as `take_desk`, by the index of the desk. `None` if there is no such desk.
+    pub fn take_by_index(&mut self, index: u32) -> Option<FreeDesk>
+        ensures taken { IfSome result (λ f. (t : ThreadNo) → index ≡ place_in self.old.env.desks t → IsTaken self.old.env self.new.env t f) }
+        ensures nobody { IfNone result (length self.old.env.desks ≤ index) }
+        ensures unchanged { IfNone result (self.new ≡ self.old) }
+        ensures home { self.new.home ≡ self.old.home }
+    {
+        if index >= self.state.threads() {
             return None;
         }
-        let desk = self.desks.remove(place.0 as usize);
-        let spent = self.state.remove_place(place);
-        self.state.know(u64::from(thread.0) + 1);
+        let desk = self.desks.remove(index as usize);
+        let spent = self.state.remove_place(ThreadNo(index));
+        self.state.know(u64::from(desk.thread().0) + 1);
         Some(FreeDesk { desk, spent })
     }
 
@@ -232,11 +257,12 @@ fn are_same(one: Limits, other: Limits) -> bool
         && one.kept == other.kept
 }
 
-ghost use Rattle.std.specs.Prelude.{◌≡◌, ◌<◌, ◌≤◌, [], length, None, Some, IfSome, IfNone, IfOk, IfErr, OnOk, OnErr};
+ghost use Rattle.std.specs.Prelude.{◌≡◌, ◌<◌, ◌≤◌, [], length, slice_get, None, Some, IfSome, IfNone, IfOk, IfErr, OnOk, OnErr};
+ghost use Rattle.ti_types.specs.declared.numbers.ThreadNo.{ThreadNo};
 ghost use Rattle.ti_types.specs.Refusing.{or_else};
 ghost use Rattle.ti_types.specs.declared.error.TiError.TheVariants.{OutOfMemory};
 ghost use Rattle.ti_env.specs.Env.{env_at_no_thread, with_known};
-ghost use Rattle.ti_agent.specs.Env.{outstanding, place_in, thread_at};
+ghost use Rattle.ti_agent.specs.Env.{out_of, outstanding, place_in, thread_at};
 ghost use Rattle.ti_agent.specs.Spots.{spot_of};
 ghost use Rattle.ti_agent.specs.Desks.{are_same, desk_refusal, is_new, with_desk, IsTaken, Retires};
 ghost use Rattle.ti_agent.specs.Quiesced.{MayQuiesce};

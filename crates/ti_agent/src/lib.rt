@@ -26,6 +26,7 @@ mod home;
 mod list_tries;
 mod lists;
 mod manner;
+mod own;
 mod posts;
 mod quiesce;
 mod thread_counts;

@@ -33,7 +33,7 @@ pub struct Chunked<T> {
     /// The others, in their order.
     chunks: Vec<Vec<T>>,
     /// The index of the first element of each of them.
-    starts: Vec<usize>,
+    starts: Vec<u32>,
     len: usize,
 }
 
@@ -82,7 +82,8 @@ impl<T> Chunked<T> {
         self.len
     }
 
-    /// Adds an element behind the others. If there is no memory for it, it comes back and nothing changes.
+    /// Adds an element behind the others. If there is no memory for it, or there are 2^32 already, it comes back and nothing
+    /// changes.
     pub fn push(&mut self, value: T) -> Result<(), T>
         ensures pushed { OnOk result (self.new ≡ self.old ++ value ∷ []) }
         ensures back { IfErr result (λ v. v ≡ value) }
@@ -97,8 +98,11 @@ impl<T> Chunked<T> {
         if self.chunks.is_empty() && self.front.len() < MOST {
             self.front.push_reserved(value);
         } else {
+            let Ok(start) = u32::try_from(self.len) else {
+                return Err(value);
+            };
             let alloc = *self.front.allocator();
-            push_behind(alloc, &mut self.chunks, &mut self.starts, self.len, value)?;
+            push_behind(alloc, &mut self.chunks, &mut self.starts, start, value)?;
         }
         self.len = len;
         Ok(())
@@ -118,7 +122,7 @@ impl<T: Drop> Chunked<T> {
             return self.front.remove(index);
         }
         let chunk = chunk_of(&self.starts, index);
-        let start = self.starts[chunk];
+        let start = self.starts[chunk] as usize;
         let value = self.chunks[chunk].remove(index - start);
         lower(&mut self.starts, chunk + 1);
         tidy(&mut self.chunks, &mut self.starts, chunk);
@@ -162,7 +166,7 @@ impl<T> Chunked<T> {
         if count == 0 {
             return place_in::<T, K>(&self.front, key);
         }
-        self.starts[count - 1] + place_in::<T, K>(&self.chunks[count - 1], key)
+        self.starts[count - 1] as usize + place_in::<T, K>(&self.chunks[count - 1], key)
     }
 
     /// The same as `partition_point`, by a binary search over all indexes. It is for a list with an empty chunk, which there is
@@ -203,7 +207,7 @@ impl<T> Index<usize> for Chunked<T> {
         }
         let chunk = chunk_of(&self.starts, index);
         let within = &self.chunks[chunk];
-        &within[index - self.starts[chunk]]
+        &within[index - self.starts[chunk] as usize]
     }
 }
 
@@ -220,7 +224,7 @@ impl<T> IndexMut<usize> for Chunked<T> {
             return &mut self.front[index];
         }
         let chunk = chunk_of(&self.starts, index);
-        let start = self.starts[chunk];
+        let start = self.starts[chunk] as usize;
         let within = &mut self.chunks[chunk];
         &mut within[index - start]
     }

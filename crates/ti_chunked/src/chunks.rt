@@ -8,14 +8,14 @@ pub(crate) const MOST: usize = 128;
 /// The place of the last chunk that starts at this index or before it. The first one does.
 ///
 /// It looks first where the chunk is if all before it are full.
-pub(crate) fn chunk_of(starts: &Vec<usize>, index: usize) -> usize
+pub(crate) fn chunk_of(starts: &Vec<u32>, index: usize) -> usize
     requires some { 0 < length starts.now.items }
     requires from { slice_index starts.now.items 0 ≤ index }
     ensures there { result < length starts.now.items }
     ensures from { slice_index starts.now.items result ≤ index }
     ensures below { result + 1 < length starts.now.items → index < slice_index starts.now.items (result + 1) }
 {
-    let guess = (index - starts[0]) / MOST;
+    let guess = (index - starts[0] as usize) / MOST;
     if is_at(starts, guess, index) {
         return guess;
     }
@@ -26,19 +26,19 @@ pub(crate) fn chunk_of(starts: &Vec<usize>, index: usize) -> usize
 }
 
 /// Whether this is the last chunk that starts at this index or before it.
-fn is_at(starts: &Vec<usize>, chunk: usize, index: usize) -> bool
+fn is_at(starts: &Vec<u32>, chunk: usize, index: usize) -> bool
     ensures there { result ≡ true → chunk < length starts.now.items }
     ensures from { result ≡ true → slice_index starts.now.items chunk ≤ index }
     ensures below { result ≡ true → chunk + 1 < length starts.now.items → index < slice_index starts.now.items (chunk + 1) }
 {
-    if chunk >= starts.len() || starts[chunk] > index {
+    if chunk >= starts.len() || starts[chunk] as usize > index {
         return false;
     }
-    starts.len() - chunk < 2 || index < starts[chunk + 1]
+    starts.len() - chunk < 2 || index < starts[chunk + 1] as usize
 }
 
 /// The same as `chunk_of`, by binary search.
-fn search(starts: &Vec<usize>, index: usize) -> usize
+fn search(starts: &Vec<u32>, index: usize) -> usize
     requires some { 0 < length starts.now.items }
     requires from { slice_index starts.now.items 0 ≤ index }
     ensures there { result < length starts.now.items }
@@ -49,7 +49,7 @@ fn search(starts: &Vec<usize>, index: usize) -> usize
     let mut high = starts.len();
     while high - low > 1 {
         let middle = low + (high - low) / 2;
-        if starts[middle] <= index {
+        if starts[middle] as usize <= index {
             low = middle;
         } else {
             high = middle;
@@ -59,7 +59,7 @@ fn search(starts: &Vec<usize>, index: usize) -> usize
 }
 
 /// Each chunk from this one on starts one element earlier.
-pub(crate) fn lower(starts: &mut Vec<usize>, first: usize)
+pub(crate) fn lower(starts: &mut Vec<u32>, first: usize)
     requires { ArePositive first starts.old.items }
     ensures { starts.new.items ≡ lowered first starts.old.items }
 {
@@ -69,7 +69,7 @@ pub(crate) fn lower(starts: &mut Vec<usize>, first: usize)
 /// Each number from this one on is one less. It takes a slice, of which a compiler knows that it stays where it is, so that it
 /// lowers some at once.
 #[tactic(auto, using(crate::proofs::Lowering::positive_here, crate::proofs::Lowering::one_lower, crate::proofs::Lowering::positive_on, crate::proofs::Lowering::lowered_past))]
-fn lower_each(starts: &mut [usize], first: usize)
+fn lower_each(starts: &mut [u32], first: usize)
     requires { ArePositive first starts.old }
     ensures { starts.new ≡ lowered first starts.old }
 {
@@ -82,8 +82,8 @@ fn lower_each(starts: &mut [usize], first: usize)
 pub(crate) fn push_behind<T>(
     alloc: Global,
     chunks: &mut Vec<Vec<T>>,
-    starts: &mut Vec<usize>,
-    len: usize,
+    starts: &mut Vec<u32>,
+    len: u32,
     value: T,
 ) -> Result<(), T>
     ensures starts { (n : ℕ) → starts.old.items ≡ starts_from n (map (λ c. c.items) chunks.old.items) → len ≡ n + length (joined (map (λ c. c.items) chunks.old.items)) → starts.new.items ≡ starts_from n (map (λ c. c.items) chunks.new.items) }
@@ -105,8 +105,8 @@ pub(crate) fn push_behind<T>(
 fn open_last<T>(
     alloc: Global,
     chunks: &mut Vec<Vec<T>>,
-    starts: &mut Vec<usize>,
-    len: usize,
+    starts: &mut Vec<u32>,
+    len: u32,
 ) -> Result<(), AllocError>
     ensures there { OnOk result (0 < length chunks.new.items) }
     ensures starts { (n : ℕ) → starts.old.items ≡ starts_from n (map (λ c. c.items) chunks.old.items) → len ≡ n + length (joined (map (λ c. c.items) chunks.old.items)) → starts.new.items ≡ starts_from n (map (λ c. c.items) chunks.new.items) }
@@ -131,7 +131,7 @@ fn is_full<T>(chunks: &Vec<Vec<T>>) -> bool
 }
 
 /// Joins a chunk with those beside it, where two together are as many as one chunk has at most.
-pub(crate) fn tidy<T: Drop>(chunks: &mut Vec<Vec<T>>, starts: &mut Vec<usize>, chunk: usize)
+pub(crate) fn tidy<T: Drop>(chunks: &mut Vec<Vec<T>>, starts: &mut Vec<u32>, chunk: usize)
     requires there { chunk < length chunks.old.items }
     requires count { length starts.old.items ≡ length chunks.old.items }
     ensures starts { (n : ℕ) → starts.old.items ≡ starts_from n (map (λ c. c.items) chunks.old.items) → starts.new.items ≡ starts_from n (map (λ c. c.items) chunks.new.items) }
@@ -144,7 +144,7 @@ pub(crate) fn tidy<T: Drop>(chunks: &mut Vec<Vec<T>>, starts: &mut Vec<usize>, c
 }
 
 /// Joins a chunk with the one behind it, if both together are as many as one chunk has at most.
-fn join<T: Drop>(chunks: &mut Vec<Vec<T>>, starts: &mut Vec<usize>, chunk: usize)
+fn join<T: Drop>(chunks: &mut Vec<Vec<T>>, starts: &mut Vec<u32>, chunk: usize)
     requires there { chunk < length chunks.old.items }
     requires count { length starts.old.items ≡ length chunks.old.items }
     ensures there { chunk < length chunks.new.items }

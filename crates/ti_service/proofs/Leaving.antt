@@ -165,10 +165,11 @@ last_there l i (Some t) is there = let z = place_before l i there in let e = ap 
 
 -- Threads that an agent lets go of
 
-pub goes : (old : AgentState) (service : Member) (env : Environment) (t : ThreadNo) (r : Option FreeState) (gone : Bool) → gone ≡ is_some r → outstanding old.env t ≡ 0 → Looks old.service.view service.view → service.cell ≡ old.service.cell → is_live t service.view.seen ≡ false
-    → IfSome r (λ f. IsTaken old.env env t f) → IfNone r (length old.env.desks ≤ place_in old.env.desks t) → IfNone r (env ≡ old.env) → LetsGo old (agent_with service env old.waiting old.events old.unmet) t gone
-goes old service env t None gone is none looks cell live taken nobody same = NoDesk is looks (cell, same, refl, refl, refl) nobody
-goes old service env t (Some f) gone is none looks cell live taken nobody same = Gone is none looks cell refl refl refl live f taken
+pub goes : (old : AgentState) (service : Member) (env : Environment) (t : ThreadNo) (i : ℕ) (r : Option FreeState) (gone : Bool) → i ≡ place_in old.env.desks t → gone ≡ is_some r → outstanding old.env t ≡ 0 → Looks old.service.view service.view
+    → service.cell ≡ old.service.cell → is_live t service.view.seen ≡ false → IfSome r (λ f. (u : ThreadNo) → i ≡ place_in old.env.desks u → IsTaken old.env env u f) → IfNone r (length old.env.desks ≤ i) → IfNone r (env ≡ old.env)
+    → LetsGo old (agent_with service env old.waiting old.events old.unmet) t gone
+goes old service env t i None gone place is none looks cell live taken nobody same = NoDesk is looks (cell, same, refl, refl, refl) (subst (λ (j : ℕ). length old.env.desks ≤ j) place nobody)
+goes old service env t i (Some f) gone place is none looks cell live taken nobody same = Gone is none looks cell refl refl refl live f (taken t place)
 
 -- at most one desk leaves
 pub one_goes : (old new : AgentState) (t : ThreadNo) (gone : Bool) → LetsGo old new t gone → length old.env.desks ≤ suc (length new.env.desks)

@@ -5,6 +5,7 @@ use crate::agent_desks::last_thread;
 use crate::agent_meetings::{add_all, begin_meeting, end_meeting, take_desks};
 use crate::agent_tries::ServiceTries;
 use crate::event::{EventKind, EventModes, NextEvent};
+use crate::letting_go::let_go_at;
 use crate::membership::Membership;
 use crate::service::Service;
 use std::alloc::Global;
@@ -224,10 +225,8 @@ impl ServiceCalls for Env<Membership> {
     fn let_go<R: Wait>(&mut self, rt: &R, thread: ThreadNo) -> bool
         ensures steps { LetsGo (state_of self.old) (state_of self.new) thread result }
     {
-        if self.out_at(thread) > 0 || self.home.service.is_live(rt, thread) {
-            return false;
-        }
-        self.take_desk(thread).is_some()
+        let index = self.index_of(thread);
+        let_go_at(self, rt, thread, index)
     }
 
     fn let_go_of_all<R: Wait>(&mut self, rt: &R)
@@ -239,7 +238,7 @@ impl ServiceCalls for Env<Membership> {
             let Some(thread) = self.thread_at(index) else {
                 unreachable!()
             };
-            let _gone = self.let_go(rt, thread);
+            let _gone = let_go_at(self, rt, thread, index);
         }
     }
 

@@ -5,6 +5,7 @@ use crate::agent_desks::last_thread;
 use crate::agent_events::{enable_now, next_class, next_life_now};
 use crate::agent_meetings::{add_all_now, begin_meeting, end_meeting, take_desks_now};
 use crate::event::{Event, EventKind, NextEvent};
+use crate::letting_go::let_go_at_now;
 use crate::membership::Membership;
 use crate::service::Service;
 use std::alloc::Global;
@@ -164,14 +165,8 @@ impl ServiceTries for Env<Membership> {
         ensures steps { IfOk result (λ gone. LetsGo (state_of self.old) (state_of self.new) thread gone) }
         ensures busy { IfErr result (λ e. (e ≡ Busy) × (self.new ≡ self.old)) }
     {
-        if self.out_at(thread) > 0 {
-            return Ok(false);
-        }
-        let there = self.home.service.is_live_now(thread)?;
-        if there {
-            return Ok(false);
-        }
-        Ok(self.take_desk(thread).is_some())
+        let index = self.index_of(thread);
+        let_go_at_now(self, thread, index)
     }
 
     fn let_go_of_all_now(&mut self) -> Result<(), TiError>
@@ -184,7 +179,7 @@ impl ServiceTries for Env<Membership> {
             let Some(thread) = self.thread_at(index) else {
                 unreachable!()
             };
-            let _gone = self.let_go_now(thread)?;
+            let _gone = let_go_at_now(self, thread, index)?;
         }
         Ok(())
     }

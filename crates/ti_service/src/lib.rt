@@ -35,6 +35,7 @@ mod agent_tries;
 mod event;
 mod holding;
 mod laws;
+mod letting_go;
 mod membership;
 mod service;
 mod service_classes;

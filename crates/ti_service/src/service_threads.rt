@@ -49,8 +49,10 @@ impl Service {
     /// GetAllThreads lists it. Both are so if and only if it has started by this call: one that is started by `Fresh::start` is told
     /// when it was attached and when it is given back, and is never listed (this profile).
     ///
-    /// It waits while the roster or the thread's cell is in use, and while the thread is suspended or a stop is in force. The error is
-    /// the first of these that fits. Then the thread comes back, and nothing is told:
+    /// It waits while the roster or the thread's cell is in use, and while the thread is suspended or a stop is in force. The call that
+    /// lets the thread start wakes it. A call that never waits wakes nobody: after one, `Env::wake_sleepers_at` does.
+    ///
+    /// The error is the first of these that fits. Then the thread comes back, and nothing is told:
     ///
     /// - 10 INVALID_THREAD: the service has had no thread of this number.
     /// - 15 THREAD_NOT_ALIVE: it was given back before.

@@ -54,7 +54,7 @@ pub remove-value-requires : goal.remove-value-requires
 remove-value-requires g c =
     let f = λ (x : Vec g.row.T.Denot Global). x.items in
     let at = has g (goal.at.remove-value-requires g c).After-chunk_of-chunk in
-    let h = offset f c.self.inside.front.items c.self.inside.chunks.items c.self.inside.starts.items c.chunk_of-chunk.result c.args.index c.self.invariant.0 at c.chunk_of-chunk.ensures.there c.index_mut.result.now c.index_mut.ensures.value c.index-start.result.now c.index-start.ensures in
+    let h = offset f c.self.inside.front.items c.self.inside.chunks.items c.self.inside.starts.items c.chunk_of-chunk.result c.args.index c.self.invariant.0 at c.chunk_of-chunk.ensures.there c.index_mut.result.now c.index_mut.ensures.value c.index.result.now c.index.ensures in
     search rules
 
 pub lower-requires-2 : goal.lower-requires-2
@@ -85,7 +85,7 @@ left : (g : Over) (c : After-tidy g) → HasIndex (length c.self.inside.front.it
 left g c at =
     let f = λ (x : Vec g.row.T.Denot Global). x.items in
     ap (λ (l : List g.row.T.Denot). c.self.inside.front.items ++ l) c.tidy.ensures.same
-    ∙ removed f c.self.inside.front.items c.self.inside.chunks.items c.self.inside.starts.items c.chunk_of-chunk.result c.args.index c.self.invariant.0 at c.chunk_of-chunk.ensures.there c.index_mut.result.now c.index_mut.ensures.value c.index-start.result.now c.index-start.ensures c.remove-value.new.self c.remove-value.ensures.items
+    ∙ removed f c.self.inside.front.items c.self.inside.chunks.items c.self.inside.starts.items c.chunk_of-chunk.result c.args.index c.self.invariant.0 at c.chunk_of-chunk.ensures.there c.index_mut.result.now c.index_mut.ensures.value c.index.result.now c.index.ensures c.remove-value.new.self c.remove-value.ensures.items
 
 pub invariant_of-self-2 : goal.invariant_of-self-2
 invariant_of-self-2 g c =
@@ -94,7 +94,7 @@ invariant_of-self-2 g c =
     let all = c.self.inside.front.items ++ joined (map f c.self.inside.chunks.items) in
     let there : c.args.index < length all = omega (arith, c.requires, ap (λ (l : List g.row.T.Denot). length l) c.self.view_is) in
     let next : c.chunk_of-chunk.result + 1 ≡ suc c.chunk_of-chunk.result = omega arith in
-    let starts = removed_starts f c.self.inside.front.items c.self.inside.chunks.items c.self.inside.starts.items c.chunk_of-chunk.result c.args.index c.self.invariant.0 at c.chunk_of-chunk.ensures.there c.index_mut.result.now c.index_mut.ensures.value c.index-start.result.now c.index-start.ensures c.remove-value.new.self c.remove-value.ensures.items in
+    let starts = removed_starts f c.self.inside.front.items c.self.inside.chunks.items c.self.inside.starts.items c.chunk_of-chunk.result c.args.index c.self.invariant.0 at c.chunk_of-chunk.ensures.there c.index_mut.result.now c.index_mut.ensures.value c.index.result.now c.index.ensures c.remove-value.new.self c.remove-value.ensures.items in
     let count = ap (λ (l : List g.row.T.Denot). length l + 1) (left g (goal.at.invariant_of-self-2 g c).After-tidy at) ∙ length-remove all c.args.index there in (
       c.tidy.ensures.starts (length c.self.inside.front.items) (c.lower-2.ensures ∙ ap (λ (k : ℕ). lowered k c.self.inside.starts.items) next ∙ sym starts),
       omega (arith, c.self.invariant.1, count),
@@ -106,7 +106,7 @@ returns-clause-value g c =
     let f = λ (x : Vec g.row.T.Denot Global). x.items in
     let at = has g (goal.at.returns-clause-value g c).After-chunk_of-chunk in
     c.remove-value.ensures.value
-    ∙ sym (value f c.self.inside.front.items c.self.inside.chunks.items c.self.inside.starts.items c.chunk_of-chunk.result c.args.index c.self.invariant.0 at c.chunk_of-chunk.ensures.there c.index_mut.result.now c.index_mut.ensures.value c.index-start.result.now c.index-start.ensures c.remove-value.result)
+    ∙ sym (value f c.self.inside.front.items c.self.inside.chunks.items c.self.inside.starts.items c.chunk_of-chunk.result c.args.index c.self.invariant.0 at c.chunk_of-chunk.ensures.there c.index_mut.result.now c.index_mut.ensures.value c.index.result.now c.index.ensures c.remove-value.result)
     ∙ ap (λ (l : List g.row.T.Denot). slice_index_or l c.args.index c.remove-value.result) c.self.view_is
 
 pub returns-clause-items : goal.returns-clause-items

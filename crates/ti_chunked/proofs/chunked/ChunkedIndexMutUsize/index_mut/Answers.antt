@@ -38,7 +38,7 @@ pub index_mut-requires-2 : goal.index_mut-requires-2
 index_mut-requires-2 g c =
     let same = c.self.view_is in
     let has = has_index (λ (x : Vec g.row.T.Denot Global). x.items) c.self.inside.front.items c.self.inside.chunks.items c.self.inside.starts.items c.chunk_of-chunk.result c.args.index c.self.invariant.0 (omega (arith, c.requires, ap (λ (l : List g.row.T.Denot). length l) same)) c.chunk_of-chunk.ensures.there c.chunk_of-chunk.ensures.from c.chunk_of-chunk.ensures.below in
-    let h = offset (λ (x : Vec g.row.T.Denot Global). x.items) c.self.inside.front.items c.self.inside.chunks.items c.self.inside.starts.items c.chunk_of-chunk.result c.args.index c.self.invariant.0 has c.chunk_of-chunk.ensures.there c.index_mut-within.result.now c.index_mut-within.ensures.value c.index-start.result.now c.index-start.ensures in
+    let h = offset (λ (x : Vec g.row.T.Denot Global). x.items) c.self.inside.front.items c.self.inside.chunks.items c.self.inside.starts.items c.chunk_of-chunk.result c.args.index c.self.invariant.0 has c.chunk_of-chunk.ensures.there c.index_mut-within.result.now c.index_mut-within.ensures.value c.index.result.now c.index.ensures in
     search rules
 
 pub invariant_of-self-lent-2 : goal.invariant_of-self-lent-2
@@ -46,11 +46,11 @@ invariant_of-self-lent-2 g c w =
     let f = λ (x : Vec g.row.T.Denot Global). x.items in
     let same = c.self.view_is in
     let v = c.index_mut-within.result.now in
-    let i : ℕ = c.args.index - c.index-start.result.now in
+    let i : ℕ = c.args.index - c.index.result.now in
     let new : Vec g.row.T.Denot Global = with_item v i w in
     let has = has_index f c.self.inside.front.items c.self.inside.chunks.items c.self.inside.starts.items c.chunk_of-chunk.result c.args.index c.self.invariant.0 (omega (arith, c.requires, ap (λ (l : List g.row.T.Denot). length l) same)) c.chunk_of-chunk.ensures.there c.chunk_of-chunk.ensures.from c.chunk_of-chunk.ensures.below in
-    let all = lent f c.self.inside.front.items c.self.inside.chunks.items c.self.inside.starts.items c.chunk_of-chunk.result c.args.index c.self.invariant.0 has c.chunk_of-chunk.ensures.there v c.index_mut-within.ensures.value c.index-start.result.now c.index-start.ensures new w refl in (
-      lent_starts f c.self.inside.front.items c.self.inside.chunks.items c.self.inside.starts.items c.chunk_of-chunk.result c.args.index c.self.invariant.0 has c.chunk_of-chunk.ensures.there v c.index_mut-within.ensures.value c.index-start.result.now c.index-start.ensures new (length-set v.items i w),
+    let all = lent f c.self.inside.front.items c.self.inside.chunks.items c.self.inside.starts.items c.chunk_of-chunk.result c.args.index c.self.invariant.0 has c.chunk_of-chunk.ensures.there v c.index_mut-within.ensures.value c.index.result.now c.index.ensures new w refl in (
+      lent_starts f c.self.inside.front.items c.self.inside.chunks.items c.self.inside.starts.items c.chunk_of-chunk.result c.args.index c.self.invariant.0 has c.chunk_of-chunk.ensures.there v c.index_mut-within.ensures.value c.index.result.now c.index.ensures new (length-set v.items i w),
       c.self.invariant.1 ∙ sym (ap (λ (l : List g.row.T.Denot). length l) all ∙ length-set _ c.args.index w),
       c.self.invariant.2,
     )
@@ -60,14 +60,14 @@ returns g c =
     let f = λ (x : Vec g.row.T.Denot Global). x.items in
     let same = c.self.view_is in
     let v = c.index_mut-within.result.now in
-    let i : ℕ = c.args.index - c.index-start.result.now in
+    let i : ℕ = c.args.index - c.index.result.now in
     let has = has_index f c.self.inside.front.items c.self.inside.chunks.items c.self.inside.starts.items c.chunk_of-chunk.result c.args.index c.self.invariant.0 (omega (arith, c.requires, ap (λ (l : List g.row.T.Denot). length l) same)) c.chunk_of-chunk.ensures.there c.chunk_of-chunk.ensures.from c.chunk_of-chunk.ensures.below in (
       (
         refl,
-        λ w. (lent f c.self.inside.front.items c.self.inside.chunks.items c.self.inside.starts.items c.chunk_of-chunk.result c.args.index c.self.invariant.0 has c.chunk_of-chunk.ensures.there v c.index_mut-within.ensures.value c.index-start.result.now c.index-start.ensures (with_item v i w) w refl ∙ ap (λ (l : List g.row.T.Denot). slice_set l c.args.index w) same),
+        λ w. (lent f c.self.inside.front.items c.self.inside.chunks.items c.self.inside.starts.items c.chunk_of-chunk.result c.args.index c.self.invariant.0 has c.chunk_of-chunk.ensures.there v c.index_mut-within.ensures.value c.index.result.now c.index.ensures (with_item v i w) w refl ∙ ap (λ (l : List g.row.T.Denot). slice_set l c.args.index w) same),
       ),
       record {
         writes_back = tt;
-        value = c.index_mut-2.ensures.value ∙ sym (value f c.self.inside.front.items c.self.inside.chunks.items c.self.inside.starts.items c.chunk_of-chunk.result c.args.index c.self.invariant.0 has c.chunk_of-chunk.ensures.there v c.index_mut-within.ensures.value c.index-start.result.now c.index-start.ensures c.index_mut-2.result.now) ∙ ap (λ (l : List g.row.T.Denot). slice_index_or l c.args.index c.index_mut-2.result.now) same;
+        value = c.index_mut-2.ensures.value ∙ sym (value f c.self.inside.front.items c.self.inside.chunks.items c.self.inside.starts.items c.chunk_of-chunk.result c.args.index c.self.invariant.0 has c.chunk_of-chunk.ensures.there v c.index_mut-within.ensures.value c.index.result.now c.index.ensures c.index_mut-2.result.now) ∙ ap (λ (l : List g.row.T.Denot). slice_index_or l c.args.index c.index_mut-2.result.now) same;
       },
     )

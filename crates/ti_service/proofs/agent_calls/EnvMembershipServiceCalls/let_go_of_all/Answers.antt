@@ -8,11 +8,11 @@ use Rattle.ti_service.proofs.agent_calls.EnvMembershipServiceCalls.let_go_of_all
 pub loop-index-preserved : goal.loop-index-preserved
 loop-index-preserved g c =
     let at : AgentState = state_of c.loop-index.self in
-    let mid : AgentState = state_of c.let_go-gone.new.self in
+    let mid : AgentState = state_of c.let_go_at-gone.new.agent in
     let n : ℕ = c.loop-index.index - 1 in
-    let step = c.let_go-gone.ensures.steps in
+    let step = c.let_go_at-gone.ensures.steps in
     let is : c.loop-index.index ≡ suc n = omega (arith, c.loop-index-test.true) in
     let thread : c.in-Some.thread ≡ thread_at at.env.desks n = c.in-Some.ensures.thread in (
-      omega (arith, one_goes at mid c.in-Some.thread c.let_go-gone.result step, c.loop-index.invariant.0, is),
-      λ new below. c.loop-index.invariant.1 new (goes_on n c.loop-index.index at mid c.in-Some.thread c.let_go-gone.result is thread step new below),
+      omega (arith, one_goes at mid c.in-Some.thread c.let_go_at-gone.result step, c.loop-index.invariant.0, is),
+      λ new below. c.loop-index.invariant.1 new (goes_on n c.loop-index.index at mid c.in-Some.thread c.let_go_at-gone.result is thread step new below),
     )

@@ -9,7 +9,7 @@ use Rattle.ti_service.proofs.agent_tries.EnvMembershipServiceTries.let_go_of_all
 pub loop-index-preserved : goal.loop-index-preserved
 loop-index-preserved c =
     let at : AgentState = state_of c.loop-index.self in
-    let mid : AgentState = state_of c.let_go_now.new.self in
+    let mid : AgentState = state_of c.let_go_at_now.new.agent in
     let n : ℕ = c.loop-index.index - 1 in
     let step = c.in_ok-_gone.ensures.steps in
     let is : c.loop-index.index ≡ suc n = omega (arith, c.loop-index-test.true) in
