@@ -89,8 +89,8 @@ extern "C" {
 
 /* The version of this header. */
 #define CQ_VERSION_MAJOR 2
-#define CQ_VERSION_MINOR 0
-#define CQ_VERSION_PATCH 2
+#define CQ_VERSION_MINOR 1
+#define CQ_VERSION_PATCH 0
 
 /* The version of the library that the program runs with, as major * 1,000,000 + minor * 1,000 + patch. */
 uint32_t cq_version(void);
@@ -370,9 +370,21 @@ uint32_t cq_frame_count(cq_thread *thread, uint64_t *count) CQ_MUST_USE;
  * they are, without those that were popped. They are not refused, and change nothing of what is told here. */
 uint32_t cq_take_pops(cq_thread *thread, uint64_t *count) CQ_MUST_USE;
 
-/* Whether nobody calls for the thread (JEP 312). It is one load. It is also true of a thread that does not run, and of a
- * handle that is misused. */
+/* Whether nobody calls for the thread (JEP 312). It is a call with some loads, of which one is atomic, and takes no lock. It is also
+ * true of a thread that does not run, and of a handle that is misused. Compiled code may do with one load: cq_poll_word. */
 bool cq_poll_clear(cq_thread *thread);
+
+/* Writes to `word` where compiled code of the runtime may look in place of cq_poll_clear, and to `mask` which bits it looks at. While
+ * one of them is set somebody calls for the thread, which then calls cq_poll:
+ *
+ *     if (__atomic_load_n(word, __ATOMIC_RELAXED) & mask) ..
+ *
+ * The word is read only by the thread itself, which never writes it. It may be read until the thread is given back
+ * (cq_detach_thread), and stays where it is. Nothing is proved of what is found there: the library writes it whenever that
+ * changes, in the same hold as it does what cq_poll_clear looks at. A look orders nothing.
+ *
+ *   CQ_NOT_RUNNING 204  the thread does not run. Nothing is written */
+uint32_t cq_poll_word(cq_thread *thread, const uint64_t **word, uint64_t *mask) CQ_MUST_USE;
 
 /* Polls. If nobody calls for the thread, nothing happens. Otherwise the thread hands its frames over, and the calls that wait
  * for it take place. With CQ_OK it runs on, perhaps with fewer frames (cq_take_pops).
@@ -450,6 +462,11 @@ bool cq_has_news(cq_env *env);
  *
  *   CQ_BUSY 215  the list of threads is in use */
 uint32_t cq_let_go(cq_env *env, uint32_t thread, bool *gone);
+
+/* cq_let_go of each thread that the environment has met. With CQ_BUSY it has let go of some of them.
+ *
+ *   CQ_BUSY 215  the list of threads is in use */
+uint32_t cq_let_go_of_all(cq_env *env);
 
 /* GetAllThreads. Writes the numbers of the threads that are alive, in rising order, as many as there is `room` for, and to `count`
  * how many there are. They have started and have not ended. The environment need not have met them: cq_meet has it meet all that

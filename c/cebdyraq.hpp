@@ -102,6 +102,12 @@ inline void check(std::uint32_t got) {
 inline void ignore(std::uint32_t) noexcept {}
 
 /* What is told of a thread (GetThreadInfo). */
+/* Where compiled code looks before it polls: somebody calls for the thread while one of these bits of the word is set. */
+struct poll_word {
+    const std::uint64_t *word;
+    std::uint64_t mask;
+};
+
 struct thread_info {
     std::string name;
     std::int32_t priority;
@@ -265,6 +271,11 @@ public:
     }
 
     bool poll_clear() const { return cq_poll_clear(get()); }
+    cebdyraq::poll_word poll_word() const {
+        cebdyraq::poll_word at{};
+        check(cq_poll_word(get(), &at.word, &at.mask));
+        return at;
+    }
     void poll() { check(cq_wait_poll(get(), signal())); }
     void end() { check(cq_wait_end(get(), signal())); }
 
@@ -324,6 +335,8 @@ public:
         check(cq_wait_let_go(get(), signal(), thread, &gone));
         return gone;
     }
+
+    void let_go_of_all() { check(cq_wait_let_go_of_all(get(), signal())); }
 
     std::vector<std::uint32_t> get_all_threads() {
         std::vector<std::uint32_t> threads(64);

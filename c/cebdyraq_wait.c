@@ -344,6 +344,12 @@ uint32_t cq_wait_let_go(cq_env *env, cq_signal *signal, uint32_t thread, bool *g
     return w.code;
 }
 
+uint32_t cq_wait_let_go_of_all(cq_env *env, cq_signal *signal) {
+    waiter w = begin(signal, FOREVER, CQ_BUSY);
+    while (again(&w)) w.code = cq_let_go_of_all(env);
+    return w.code;
+}
+
 uint32_t cq_wait_get_all_threads(cq_env *env, cq_signal *signal, uint32_t *threads, size_t room, uint64_t *count) {
     waiter w = begin(signal, FOREVER, CQ_BUSY);
     while (again(&w)) w.code = cq_get_all_threads(env, threads, room, count);

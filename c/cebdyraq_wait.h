@@ -112,6 +112,9 @@ uint32_t cq_wait_meet(cq_env *env, cq_signal *signal) CQ_MUST_USE;
 /* cq_let_go. */
 uint32_t cq_wait_let_go(cq_env *env, cq_signal *signal, uint32_t thread, bool *gone);
 
+/* cq_let_go_of_all. */
+uint32_t cq_wait_let_go_of_all(cq_env *env, cq_signal *signal);
+
 /* cq_get_all_threads. CQ_OUT_OF_MEMORY 110. */
 uint32_t cq_wait_get_all_threads(cq_env *env, cq_signal *signal, uint32_t *threads, size_t room,
                                  uint64_t *count) CQ_MUST_USE;

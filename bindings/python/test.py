@@ -295,6 +295,15 @@ class WithRuntime(unittest.TestCase):
         self.assert_code(Code.THREAD_NOT_ALIVE, env.get_thread_state, 0)
         self.assert_code(Code.THREAD_NOT_ALIVE, env.get_thread_info, 0)
 
+    def test_lets_go_of_all(self):
+        self.library.runtime_go_native()
+        self.end_and_begin()
+        self.assertEqual(self.failures, 0)
+        self.assertEqual(self.env.get_thread_state(0), 0x2)
+        self.env.let_go_of_all()
+        self.assertFalse(self.env.let_go(0))
+        self.assert_code(Code.THREAD_NOT_ALIVE, self.env.get_thread_state, 0)
+
     def test_what_is_served(self):
         service, signal = self.library.runtime_service(), self.library.runtime_signal()
         with cebdyraq.Server(self.library, service, signal, "127.0.0.1:0", "a test") as server:

@@ -41,6 +41,7 @@ typedef struct {
     cq_thread_info info;
     cq_stack_info stack;
     uint64_t word;
+    const uint64_t *at;
     uint32_t number;
     uint32_t threads[2];
     uint8_t name[8];
@@ -93,6 +94,7 @@ uint32_t refuse_while_gathering(void);
 #define ENV_CALLS(CALL) \
     CALL(meet, cq_meet(h)) \
     CALL(let_go, cq_let_go(h, 0, &out.flag)) \
+    CALL(let_go_of_all, cq_let_go_of_all(h)) \
     CALL(get_all_threads, cq_get_all_threads(h, out.threads, 2, &out.word)) \
     CALL(get_thread_info, cq_get_thread_info(h, 0, &out.info, out.name, 8)) \
     CALL(get_thread_state, cq_get_thread_state(h, 0, &out.answer)) \

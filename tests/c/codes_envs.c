@@ -87,7 +87,8 @@ OF_NONE(set_thread_local_storage, cq_set_thread_local_storage(h, 1, 7, &out.answ
 #define NO_ROOM(name) { "cq_" #name, CQ_FULL, FULL_WINDOW, name }
 
 const row ENV_ROWS[] = {
-    MISUSES(meet), MISUSES(has_news), MISUSES(let_go), MISUSES(get_all_threads),
+    MISUSES(meet), MISUSES(has_news), MISUSES(let_go), MISUSES(let_go_of_all),
+    MISUSES(get_all_threads),
     MISUSES(get_thread_info), { "cq_get_thread_info", CQ_INVALID_THREAD, RUNS, info_of_none },
     { "cq_get_thread_info", CQ_INVALID_THREAD, RUNS, info_of_far },
     { "cq_get_thread_info", CQ_THREAD_NOT_ALIVE, GIVEN_BACK, get_thread_info },

@@ -134,6 +134,8 @@ static uint32_t block(world *w) { return cq_block(&w->thread, CQ_SLEEP); }
 static uint32_t back(world *w) { return cq_back(&w->thread); }
 static uint32_t end(world *w) { return cq_end(&w->thread); }
 static uint32_t let_go(world *w) { return cq_let_go(&w->env, 0, &out.flag); }
+static uint32_t let_go_of_all(world *w) { return cq_let_go_of_all(&w->env); }
+static uint32_t poll_word(world *w) { return cq_poll_word(&w->thread, &out.at, &out.word); }
 static uint32_t discard(world *w) { return cq_discard(&w->env, 0, &out.flag); }
 static uint32_t add_capabilities(world *w) { return cq_add_capabilities(&w->env, 3); }
 static uint32_t stopper(world *w) { return cq_stopper(&w->env, 0, &out.number); }
@@ -166,7 +168,9 @@ static const row WITHOUT_MEMORY[] = {
     { "cq_poll", CQ_OK, FULL_WINDOW, poll }, { "cq_native", CQ_OK, IN_NATIVE, native },
     { "cq_block", CQ_OK, WAITS, block },
     { "cq_back", CQ_OK, NATIVE, back }, { "cq_end", CQ_OK, FULL_WINDOW, end },
-    { "cq_let_go", CQ_OK, GIVEN_BACK, let_go }, { "cq_ensure_resumed", CQ_OK, HELD, ensure_resumed },
+    { "cq_poll_word", CQ_OK, WAITS, poll_word },
+    { "cq_let_go", CQ_OK, GIVEN_BACK, let_go }, { "cq_let_go_of_all", CQ_OK, GIVEN_BACK, let_go_of_all },
+    { "cq_ensure_resumed", CQ_OK, HELD, ensure_resumed },
     { "cq_discard", CQ_OK, WAITS, discard }, { "cq_add_capabilities", CQ_OK, RUNS, add_capabilities },
     { "cq_stopper", CQ_NONE, RUNS, stopper }, { "cq_environment_number", CQ_OK, RUNS, environment_number },
     { "cq_set_event_notification_mode", CQ_OK, RUNS, enable }, { "cq_free", CQ_OK, RUNS, free_handle },

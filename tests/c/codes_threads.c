@@ -87,6 +87,7 @@ ON_THREAD(set_frames, cq_set_frames(h, THREE, 2))
 ON_THREAD(set_newest_frames, cq_set_newest_frames(h, THREE, 2, &out.word))
 ON_THREAD(frame_count, cq_frame_count(h, &out.word))
 MISUSED_THREAD(take_pops, cq_take_pops(h, &out.word))
+ON_THREAD(poll_word, cq_poll_word(h, &out.at, &out.word))
 ON_THREAD(poll, cq_poll(h))
 ON_THREAD(native, cq_native(h))
 ON_THREAD(block, cq_block(h, CQ_PARK))
@@ -132,7 +133,9 @@ const row THREAD_ROWS[] = {
     MISUSES(frame_count), NOT_RUNNING("cq_frame_count", frame_count), MISUSES(take_pops),
     { "cq_set_frames", CQ_POPPED, POPPED, set_frames }, { "cq_set_frames", CQ_POPPED, POPPED, set_three },
     { "cq_set_frames", CQ_ILLEGAL_ARGUMENT, POPPED, set_low },
-    MISUSES(poll_clear), MISUSES(poll), NOT_RUNNING("cq_poll", poll),
+    MISUSES(poll_clear), MISUSES(poll_word), NOT_RUNNING("cq_poll_word", poll_word),
+    { "cq_poll_word", CQ_MISUSED, GIVEN_BACK, poll_word },
+    MISUSES(poll), NOT_RUNNING("cq_poll", poll),
     MISUSES(native), NOT_RUNNING("cq_native", native), { "cq_native", CQ_NO_NATIVE_FRAME, RUNS, native },
     { "cq_native", CQ_NO_NATIVE_FRAME, IN_METHOD, native },
     MISUSES(block), NOT_RUNNING("cq_block", block), { "cq_block", CQ_ILLEGAL_ARGUMENT, RUNS, block_for_nothing },

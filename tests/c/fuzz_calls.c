@@ -156,7 +156,12 @@ AT_THREAD_WITH_NUMBER(block)
 
 static void poll_clear(void) {
     slot *s = pick_thread();
-    agree("cq_poll_clear", cq_poll_clear(&s->real.thread), model_poll_clear(&s->model.thread));
+    bool is_clear = model_poll_clear(&s->model.thread);
+    agree("cq_poll_clear", cq_poll_clear(&s->real.thread), is_clear);
+    const uint64_t *word;
+    uint64_t mask;
+    if (cq_poll_word(&s->real.thread, &word, &mask) != CQ_OK) return;
+    agree("the word of cq_poll_word", (__atomic_load_n(word, __ATOMIC_RELAXED) & mask) == 0, is_clear);
 }
 
 /* Makes some frames, and gives their number. Some are none. */
@@ -206,6 +211,11 @@ static void let_go(void) {
     bool real = true, model = true;
     BOTH(let_go, (&s->real.env, thread, &real), (&s->model.env, thread, &model));
     agree("whether it is gone", real, model);
+}
+
+static void let_go_of_all(void) {
+    slot *s = pick_agent();
+    BOTH(let_go_of_all, (&s->real.env), (&s->model.env));
 }
 
 static void get_all_threads(void) {
@@ -466,7 +476,7 @@ static const weighted CALLS[] = {
     { 1, thread_number }, { 4, start }, { 14, enter }, { 6, enter_native }, { 6, at }, { 4, leave }, { 6, set_frames },
     { 4, set_newest_frames }, { 2, frame_count }, { 4, take_pops },
     { 4, poll_clear }, { 16, poll }, { 5, native }, { 4, block }, { 14, back }, { 2, end }, { 2, detach_thread },
-    { 6, meet }, { 3, has_news }, { 3, let_go }, { 2, get_all_threads }, { 2, get_thread_info },
+    { 6, meet }, { 3, has_news }, { 3, let_go }, { 1, let_go_of_all }, { 2, get_all_threads }, { 2, get_thread_info },
     { 5, get_thread_state }, { 6, get_frame_count }, { 6, get_frame_location }, { 10, get_stack_trace },
     { 9, suspend_thread }, { 7, resume_thread }, { 7, pop_frame },
     { 3, get_thread_local_storage }, { 3, set_thread_local_storage }, { 14, collect }, { 5, cancel }, { 4, discard },

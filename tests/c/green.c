@@ -112,10 +112,13 @@ static void check_all(void) {
     }
 }
 
-static void let_go(void) {
+/* One by one, or by one call after the last third. */
+static void let_go(int third) {
+    if (third == 2) OK(cq_wait_let_go_of_all(&env, &shared));
     for (uint32_t number = 0; number < threads; number++) {
         bool gone = false;
         if (!is_there[number]) OK(cq_wait_let_go(&env, &shared, number, &gone));
+        CHECK(!gone || third < 2);
     }
 }
 
@@ -130,7 +133,7 @@ int main(int count, char **words) {
     check_all();
     for (int third = 0; third < 3; third++) {
         on_all_carriers(give_back, third);
-        let_go();
+        let_go(third);
         check_all();
     }
     SAME(count_there(), 0);

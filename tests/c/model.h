@@ -34,6 +34,7 @@ uint32_t model_detach_thread(cq_thread *thread);
 
 uint32_t model_meet(cq_env *env);
 uint32_t model_let_go(cq_env *env, uint32_t thread, bool *gone);
+uint32_t model_let_go_of_all(cq_env *env);
 uint32_t model_get_all_threads(cq_env *env, uint32_t *threads, size_t room, uint64_t *count);
 uint32_t model_get_thread_info(cq_env *env, uint32_t thread, cq_thread_info *info, uint8_t *name, size_t room);
 uint32_t model_get_thread_state(cq_env *env, uint32_t thread, cq_answer *answer);

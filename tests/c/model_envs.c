@@ -58,6 +58,16 @@ uint32_t model_let_go(cq_env *env, uint32_t thread, bool *gone) {
     return CQ_OK;
 }
 
+uint32_t model_let_go_of_all(cq_env *env) {
+    m_env *e = asking(env);
+    if (e == NULL) return CQ_MISUSED;
+    for (uint32_t i = 0; i < e->known; i++) {
+        bool gone;
+        model_let_go(env, i, &gone);
+    }
+    return CQ_OK;
+}
+
 uint32_t model_get_all_threads(cq_env *env, uint32_t *threads, size_t room, uint64_t *count) {
     m_env *e = asking(env);
     if (e == NULL) return CQ_MISUSED;

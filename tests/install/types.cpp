@@ -84,10 +84,11 @@ void test_stacks() {
         EXPECT(refused([&] { env.get_stack_trace(0, 0, -1); }) == cebdyraq::code::illegal_argument);
     }
     EXPECT(refused([&] { env.get_frame_count(0, std::chrono::milliseconds(1)); }) == cebdyraq::code::timed_out);
-    EXPECT(!thread.poll_clear());
+    const auto at = thread.poll_word();
+    EXPECT(!thread.poll_clear() && (*at.word & at.mask) != 0);
     thread.set_frames({});
     thread.poll();
-    EXPECT(thread.poll_clear());
+    EXPECT(thread.poll_clear() && (*at.word & at.mask) == 0);
 }
 
 void test_blocks() {
@@ -173,6 +174,8 @@ void test_words_and_events() {
     EXPECT(start.kind == CQ_THREAD_START && end.kind == CQ_THREAD_END && end.number == 0 && end.lost == 0);
     EXPECT(refused([&] { env.next_event(cebdyraq::time(0)); }) == cebdyraq::code::timed_out);
     EXPECT(env.get_all_threads().empty() && env.let_go(0) && !env.let_go(0));
+    other.let_go_of_all();
+    EXPECT(!other.let_go(0));
     env.set_environment_local_storage(5);
     EXPECT(env.get_environment_local_storage() == 5 && other.get_environment_local_storage() == 0);
 }

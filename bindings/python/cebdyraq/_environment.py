@@ -129,6 +129,10 @@ class Environment(Classes):
         """Lets go of a thread that was given back, and says whether it did."""
         return bool(self._get(lib.BOOL, "cq_wait_let_go", self._signal, thread))
 
+    def let_go_of_all(self) -> None:
+        """Lets go of all threads that were given back and at which none of its calls is out."""
+        self._call("cq_wait_let_go_of_all", self._signal)
+
     def get_all_threads(self) -> List[int]:
         """The numbers of the threads that are attached, in rising order."""
         room = 64

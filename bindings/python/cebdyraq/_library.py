@@ -4,7 +4,7 @@ import ctypes
 import os
 from typing import Any, Dict, List, Optional, Sequence, Union
 
-VERSION = (2, 0)
+VERSION = (2, 1)
 
 
 class Handle(ctypes.Structure):
@@ -92,6 +92,7 @@ FUNCTIONS: Dict[str, List[Any]] = {
     "cq_wait_meet": [AT],
     "cq_has_news": [],
     "cq_wait_let_go": [AT, NUMBER, AT],
+    "cq_wait_let_go_of_all": [AT],
     "cq_wait_get_all_threads": [AT, AT, SIZE, AT],
     "cq_wait_get_thread_info": [AT, NUMBER, AT, AT, SIZE],
     "cq_wait_get_thread_state": [AT, NUMBER, I64, AT],

@@ -16,7 +16,7 @@ use Rattle.ti_roster.specs.Stages.{alive}
 use Rattle.ti_roster.specs.Roster.{IsToldOf}
 use Rattle.ti_roster.specs.declared.info.ThreadInfo.{ThreadInfo}
 use Rattle.ti_service.specs.Agent.{IsSameBut}
-use Rattle.ti_service.specs.LettingGo.{LetsGo}
+use Rattle.ti_service.specs.LettingGo.{LetsGo, LetsGoBelow, LetsGoOfSome}
 use Rattle.ti_service.specs.Meeting.{KeepsNow, Meets, TellsAgentNews}
 use Rattle.ti_service.specs.Memberships.{AgentValue, state_of}
 use Rattle.ti_service.specs.Service.{Looks, RefusesInfo, roster_seen}
@@ -88,6 +88,11 @@ HasNews old new news = HasNewsBehind (env_in old) (env_in new) old new news
 pub data LetsGoBy (t : ThreadNo) (b0 b1 : Bool) (s n : AgentValue) (code : ℕ) : Type 0 where
   LetGo : code ≡ 0 → LetsGo (state_of s) (state_of n) t b1 → LetsGoBy t b0 b1 s n code
   LetGoBusy : code ≡ number_of Busy → b1 ≡ b0 → n ≡ s → LetsGoBy t b0 b1 s n code
+
+-- all threads that were given back are let go of, or some of them (`ti_service`, `let_go_of_all_now`)
+pub data LetsGoOfAllBy (s n : AgentValue) (code : ℕ) : Type 0 where
+  AllGone : code ≡ 0 → LetsGoBelow (length s.env.desks) (state_of s) (state_of n) → LetsGoOfAllBy s n code
+  SomeGone : code ≡ number_of Busy → LetsGoOfSome (state_of s) (state_of n) → LetsGoOfAllBy s n code
 
 -- the list of threads could not be read: there was no memory, or it was in use
 abbrev pub RefusesList : AgentValue → AgentValue → TiError → Type 0

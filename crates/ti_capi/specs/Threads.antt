@@ -1,7 +1,9 @@
 -- A thread's own calls, as C makes them.
-use Rattle.std.specs.Prelude.{ℕ, ◌≡◌, Bool, true, Option, Some, None}
+use Rattle.std.specs.Prelude.{ℕ, ◌≡◌, ◌⊎◌, Bool, true, false, Option, Some, None}
+use Rattle.ti_types.specs.TiError.{number_of}
+use Rattle.ti_types.specs.declared.error.TiError.TheVariants.{NotRunning}
 use Rattle.ti_types.specs.declared.numbers.MethodNo.{MethodNo}
-use Rattle.ti_thread.specs.AnyThread.{number_in}
+use Rattle.ti_thread.specs.AnyThread.{is_running, number_in}
 use Rattle.ti_thread.specs.Changes.{LooksFor}
 use Rattle.ti_thread.specs.Hosts.{with_thread}
 use Rattle.ti_thread.specs.declared.host_thread.HostThread.{HostThread}
@@ -56,3 +58,13 @@ NumberTo None n0 n1 code = (n1 ≡ n0) × (code ≡ misused)
 abbrev pub NumberBehind : Option HeldThread → Handle → Handle → ℕ → ℕ → ℕ → Type 0
 NumberBehind (Some h) old new n0 n1 code = (thread_in new ≡ Some h) × NumberTo h.thread n0 n1 code
 NumberBehind None old new n0 n1 code = (new ≡ old) × (n1 ≡ n0) × (code ≡ misused)
+
+-- the word at which compiled code looks: of a thread that runs
+abbrev pub WordTo : Option HostThread → ℕ → (unwritten : Type 0) → ℕ → Type 0
+WordTo (Some t) mask unwritten code =
+    ((is_running t.thread ≡ true) × (mask ≡ 1) × (code ≡ 0)) ⊎ ((is_running t.thread ≡ false) × unwritten × (code ≡ number_of NotRunning))
+WordTo None mask unwritten code = unwritten × (code ≡ misused)
+
+abbrev pub WordBehind : Option HeldThread → ℕ → (unwritten : Type 0) → Handle → Handle → ℕ → Type 0
+WordBehind (Some h) mask unwritten old new code = (thread_in new ≡ Some h) × WordTo h.thread mask unwritten code
+WordBehind None mask unwritten old new code = (new ≡ old) × unwritten × (code ≡ misused)

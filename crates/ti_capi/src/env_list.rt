@@ -43,6 +43,15 @@ pub extern "C" fn cq_let_go(env: &mut CqEnv, thread: u32, gone: &mut bool) -> u3
     code!(agent.let_go_now(ThreadNo(thread)), is_gone => *gone = is_gone)
 }
 
+/// Lets go of all threads that were given back.
+#[unsafe(no_mangle)]
+pub extern "C" fn cq_let_go_of_all(env: &mut CqEnv) -> u32
+    ensures { Calls LetsGoOfAllBy ⊤ env.old env.new result }
+{
+    behind!(agent in env.held_env());
+    code!(agent.let_go_of_all_now())
+}
+
 /// GetAllThreads (JVM TI 11).
 #[unsafe(no_mangle)]
 pub extern "C" fn cq_get_all_threads(
@@ -82,4 +91,4 @@ pub extern "C" fn cq_get_thread_info(
 
 ghost use Rattle.std.specs.Prelude.{◌≡◌, ⊤};
 ghost use Rattle.ti_capi.specs.Asking.{thread_no};
-ghost use Rattle.ti_capi.specs.Calls.{Calls, HasNews, LetsGoBy, ListsBy, MeetsBy, TellsInfoBy};
+ghost use Rattle.ti_capi.specs.Calls.{Calls, HasNews, LetsGoBy, LetsGoOfAllBy, ListsBy, MeetsBy, TellsInfoBy};

@@ -1,9 +1,10 @@
 //! Steps of a thread, and its looks.
 
-use crate::codes::{CQ_OK, told_code};
+use crate::codes::{CQ_OK, code, told_code};
 use crate::handle::CqThread;
 use crate::handle_lends::behind;
-use ti_types::{MethodNo, Step};
+use ti_thread::{AnyThread, HostThread};
+use ti_types::{MethodNo, Step, TiError};
 
 /// The number of the thread.
 #[unsafe(no_mangle)]
@@ -70,8 +71,35 @@ pub extern "C" fn cq_poll_clear(thread: &mut CqThread) -> bool
     thread.poll_clear()
 }
 
+/// The address of the word at which compiled code of a thread looks. 204 if the thread does not run.
+fn poll_word_of(thread: &HostThread) -> Result<*mut u64, TiError>
+    ensures runs { OnOk result (is_running thread.now.thread ≡ true) }
+    ensures refused { IfErr result (λ e. (e ≡ NotRunning) × (is_running thread.now.thread ≡ false)) }
+{
+    match &thread.thread {
+        AnyThread::Running(running) => Ok(running.poll_word()),
+        AnyThread::Fresh(_) | AnyThread::Safe(_) | AnyThread::Ended(_) => Err(TiError::NotRunning),
+    }
+}
+
+/// The address of a word, and its bits that are set while somebody calls for the thread, for compiled code that looks there in place
+/// of `cq_poll_clear`. No contract says what is found there.
+#[unsafe(no_mangle)]
+pub extern "C" fn cq_poll_word(thread: &mut CqThread, word: &mut *mut u64, mask: &mut u64) -> u32
+    ensures { WordBehind (thread_in thread.old) mask.new ((word.new ≡ word.old) × (mask.new ≡ mask.old)) thread.old thread.new result }
+{
+    behind!(thread in thread.held_thread());
+    code!(poll_word_of(thread), at => {
+        *word = at;
+        *mask = 1;
+    })
+}
+
+ghost use Rattle.std.specs.Prelude.{◌≡◌, true, false, IfErr, OnOk};
+ghost use Rattle.ti_types.specs.declared.error.TiError.TheVariants.{NotRunning};
 ghost use Rattle.ti_types.specs.declared.step.Step.TheVariants as step;
+ghost use Rattle.ti_thread.specs.AnyThread.{is_running};
 ghost use Rattle.ti_thread.specs.Changes.{Steps};
 ghost use Rattle.ti_thread.specs.Hosts.{Keeps};
-ghost use Rattle.ti_capi.specs.Threads.{Changes, LooksBehind, NumberBehind, method_no};
+ghost use Rattle.ti_capi.specs.Threads.{Changes, LooksBehind, NumberBehind, WordBehind, method_no};
 ghost use Rattle.ti_capi.specs.Handles.{thread_in};

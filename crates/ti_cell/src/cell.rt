@@ -4,16 +4,16 @@ use crate::hold::Hold;
 use crate::look::Look;
 use crate::pace::Pace;
 use crate::parked::{Parked, unpark};
+use crate::poll_word::PollWord;
 use crate::role::Role;
 use crate::seat::{CellSeat, EnvSeat, OwnSeat, Pass};
-use crate::sleepers::{Sleepers, WakeCondition};
+use crate::sleepers::Sleepers;
 use crate::view::{CellRule, Frees, Glances, Locks, Returns, Seats, Subject, View};
 use crate::word::Word;
 use atomic_table::Table;
 use std::alloc::{AllocError, Global};
 use std::marker::{Model, PhantomData};
 use std::sync::{Arc, Wait};
-use std::time::Duration;
 use ti_slot::Slot;
 use ti_types::{Answer, Call, EnvNo, Limits, ThreadNo, TiError};
 
@@ -43,8 +43,9 @@ use ti_types::{Answer, Call, EnvNo, Limits, ThreadNo, TiError};
 /// ```
 #[derive(Drop)]
 pub struct ThreadCell {
-    table: Table<Option<Parked>, View, Subject, CellRule, Global>,
-    sleepers: Sleepers,
+    pub(crate) table: Table<Option<Parked>, View, Subject, CellRule, Global>,
+    pub(crate) sleepers: Sleepers,
+    poll_word: PollWord,
 }
 
 impl Model for ThreadCell {
@@ -113,8 +114,12 @@ impl ThreadCell {
         }
         match Table::new(alloc, &[0], slots, &subject) {
             Ok((table, pass)) => {
-                let sleepers = Sleepers::nobody();
-                Ok((ThreadCell { table, sleepers }, pass))
+                let cell = ThreadCell {
+                    table,
+                    sleepers: Sleepers::nobody(),
+                    poll_word: PollWord::clear(),
+                };
+                Ok((cell, pass))
             }
             Err(_) => Err(TiError::OutOfMemory),
         }
@@ -191,14 +196,6 @@ impl ThreadCell {
             self.await_free(rt, &pace);
         }
         unreachable!()
-    }
-
-    /// Waits a little, after a try that found the cell in use, as the call's pace has it. It may sleep until the cell is free,
-    /// and may return while it is in use.
-    pub fn await_free<R: Wait>(&self, rt: &R, pace: &Pace) {
-        if pace.has_had_enough() {
-            self.sleep(rt, WakeCondition::Free, None);
-        }
     }
 
     /// The same as `hold`, but it tries once and never waits. If another user holds the cell, or comes first, the seat comes
@@ -298,65 +295,6 @@ impl ThreadCell {
         Some(slot)
     }
 
-    /// Sleeps until somebody stores, if the thread's history has no more entries than the seat has seen. It may return
-    /// sooner.
-    pub fn sleep_without_news<K: Role, R: Wait>(&self, rt: &R, seat: &CellSeat<K>) {
-        self.sleep(rt, WakeCondition::More(seat.count as u64), None);
-    }
-
-    /// The same as `sleep_without_news`, but for at most this time.
-    pub fn sleep_without_news_for<K: Role, R: Wait>(
-        &self,
-        rt: &R,
-        seat: &CellSeat<K>,
-        time: Duration,
-    ) {
-        self.sleep(rt, WakeCondition::More(seat.count as u64), Some(time));
-    }
-
-    /// Sleeps until a store leaves the thread not barred, if it is barred. Other stores do not wake it. It may return
-    /// sooner.
-    pub fn sleep_while_barred<R: Wait>(&self, rt: &R) {
-        self.sleep(rt, WakeCondition::Unbarred, None);
-    }
-
-    /// Sleeps on the word until a store calls for it (`Sleepers`), or the time is over. If the word shows what is waited
-    /// for, it does not sleep.
-    #[inline(never)]
-    fn sleep<R: Wait>(&self, rt: &R, condition: WakeCondition, time: Option<Duration>) {
-        self.sleepers.add(condition);
-        let word = Word {
-            bits: self.table.shared.peek(0),
-        };
-        if !condition.is_met(word) {
-            match time {
-                Some(time) => self.table.shared.park_timeout(rt, 0, word.low_half(), time),
-                None => self.table.shared.park(rt, 0, word.low_half()),
-            }
-        }
-        self.sleepers.remove(condition);
-    }
-
-    /// Wakes whoever sleeps on the cell and may go on, after stores that woke nobody (`Hold::store_quietly`). It is one load
-    /// if nobody sleeps.
-    #[inline(always)]
-    pub fn wake_sleepers(&self) {
-        if self.sleepers.are_there() {
-            self.wake_called();
-        }
-    }
-
-    /// Wakes all who sleep on the word, if it matters to one of them.
-    #[inline(never)]
-    fn wake_called(&self) {
-        let word = Word {
-            bits: self.table.shared.peek(0),
-        };
-        if self.sleepers.are_called(word) {
-            self.table.shared.wake_all(0);
-        }
-    }
-
     /// Puts the slot back and clears the lock bit. It wakes nobody.
     #[inline(always)]
     pub(crate) fn give(&self, seat: &mut Pass, slot: Parked)
@@ -368,7 +306,9 @@ impl ThreadCell {
         ensures mine { (stored seat.old.me.0 slot.history slot.uncollected).mine ≡ made_by seat.old.me.0.number slot.history }
         ensures legal { is_legal seat.old.me.0.subject.limits slot.history ≡ true }
     {
-        let word = Word::free(slot.len(), slot.armed(), slot.barred());
+        let armed = slot.armed();
+        let word = Word::free(slot.len(), armed, slot.barred());
+        self.poll_word.show(armed);
         if let Some(_found) = self.table.shared.exchange(seat, 0, Some(slot)) {
             unreachable!()
         }
@@ -388,6 +328,12 @@ impl ThreadCell {
             bits: self.table.shared.load::<Glances>(&mut seat.seat, 0),
         }
         .look()
+    }
+
+    /// The address of a word that is 1 while somebody calls for the thread, and otherwise 0 (this profile). It is for code that
+    /// looks at it in place of `look`, and may be read as long as the cell is there. No contract says what is found there.
+    pub fn poll_word(&self) -> *mut u64 {
+        self.poll_word.address()
     }
 
     /// Takes an environment's seat back to the owner's, by one load. The owner's seat keeps what its user knew, and `close`
@@ -431,7 +377,11 @@ impl ThreadCell {
         ensures last { IsAlone seat.view → IfSome result (λ s. WasSeen s.history (users seat.view)) }
         ensures about { IfSome result (λ s. IsAbout seat.view.subject s) }
     {
-        let ThreadCell { table, sleepers: _ } = self;
+        let ThreadCell {
+            table,
+            sleepers: _,
+            poll_word: _,
+        } = self;
         let CellSeat {
             seat,
             number: _,

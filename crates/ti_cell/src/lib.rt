@@ -30,9 +30,11 @@ mod look;
 mod pace;
 mod parked;
 mod parked_lends;
+mod poll_word;
 mod role;
 mod seat;
 mod sleepers;
+mod sleeping;
 mod view;
 mod word;
 

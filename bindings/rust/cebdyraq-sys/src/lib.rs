@@ -299,6 +299,7 @@ extern "C" {
     pub fn cq_frame_count(thread: *mut cq_thread, count: *mut u64) -> u32;
     pub fn cq_take_pops(thread: *mut cq_thread, count: *mut u64) -> u32;
     pub fn cq_poll_clear(thread: *mut cq_thread) -> bool;
+    pub fn cq_poll_word(thread: *mut cq_thread, word: *mut *const u64, mask: *mut u64) -> u32;
     pub fn cq_may_stop(thread: *mut cq_thread) -> bool;
     pub fn cq_reached(thread: *mut cq_thread, method: u32, location: u32, stops: *mut bool) -> u32;
     pub fn cq_leaves(thread: *mut cq_thread, method: u32, location: u32, frames: u32, stops: *mut bool) -> u32;
@@ -313,6 +314,7 @@ extern "C" {
     pub fn cq_meet(env: *mut cq_env) -> u32;
     pub fn cq_has_news(env: *mut cq_env) -> bool;
     pub fn cq_let_go(env: *mut cq_env, thread: u32, gone: *mut bool) -> u32;
+    pub fn cq_let_go_of_all(env: *mut cq_env) -> u32;
     pub fn cq_get_all_threads(env: *mut cq_env, threads: *mut u32, room: usize, count: *mut u64) -> u32;
     pub fn cq_get_thread_info(
         env: *mut cq_env,
@@ -463,6 +465,7 @@ extern "C" {
 
     pub fn cq_wait_meet(env: *mut cq_env, signal: *mut cq_signal) -> u32;
     pub fn cq_wait_let_go(env: *mut cq_env, signal: *mut cq_signal, thread: u32, gone: *mut bool) -> u32;
+    pub fn cq_wait_let_go_of_all(env: *mut cq_env, signal: *mut cq_signal) -> u32;
     pub fn cq_wait_get_all_threads(
         env: *mut cq_env,
         signal: *mut cq_signal,

@@ -126,6 +126,11 @@ impl Environment {
         gone
     }
 
+    /// Lets go of all threads that were given back and at which none of its calls is out.
+    pub fn let_go_of_all(&mut self) {
+        surely(unsafe { sys::cq_wait_let_go_of_all(self.at(), self.signal.at()) });
+    }
+
     /// GetAllThreads: the numbers of the threads that are there, in rising order.
     pub fn get_all_threads(&mut self) -> Result<Vec<u32>, Error> {
         let mut threads = vec![0; 64];

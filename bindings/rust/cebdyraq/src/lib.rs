@@ -65,5 +65,5 @@ pub use posts::{Answer, Any, Call, Posted, Ticket};
 pub use server::{DebugOptions, ServeError, Server};
 pub use service::Service;
 pub use stops::{Stop, StopKind};
-pub use thread::{Ended, Frame, Fresh, Reason, Running, Safe};
+pub use thread::{Ended, Frame, Fresh, PollWord, Reason, Running, Safe};
 pub use variables::{Names, Table, Values, Variables};

@@ -2,6 +2,7 @@ use crate::error::{checked, surely, Error};
 use crate::service::{NotShared, Signal};
 use cebdyraq_sys as sys;
 use std::marker::PhantomData;
+use std::sync::atomic::AtomicU64;
 use std::sync::Arc;
 use std::time::Duration;
 
@@ -17,6 +18,13 @@ pub enum Reason {
     Sleep = 3,
     Park = 4,
     TimedPark = 5,
+}
+
+/// Where compiled code looks before it polls: somebody calls for the thread while one of these bits of the word is set.
+#[derive(Clone, Copy, Debug)]
+pub struct PollWord {
+    pub word: *const AtomicU64,
+    pub mask: u64,
 }
 
 /// A thread in whichever state. When it is dropped it returns, ends and is given back.
@@ -162,9 +170,16 @@ impl Running {
         count
     }
 
-    /// Whether nobody calls for the thread. It is one load.
+    /// Whether nobody calls for the thread. It is a call with some loads.
     pub fn poll_clear(&mut self) -> bool {
         unsafe { sys::cq_poll_clear(self.0.at()) }
+    }
+
+    /// Where compiled code may look in place of `poll_clear`. The word may be read until the thread is given back.
+    pub fn poll_word(&mut self) -> PollWord {
+        let (mut word, mut mask) = (std::ptr::null(), 0);
+        surely(unsafe { sys::cq_poll_word(self.0.at(), &mut word, &mut mask) });
+        PollWord { word: word.cast(), mask }
     }
 
     /// A safepoint. If somebody calls for the thread, it hands over, and sleeps while it is suspended.

@@ -150,9 +150,12 @@ fn calls_are_posted_and_collected() {
     let Ok(Posted::Waiting(location)) = env.post(0, Call::FrameLocation { depth: 1 }) else { panic!("it runs") };
     env.set_timeout(Some(Duration::from_millis(2)));
     let Ok(Posted::Waiting(count)) = env.collect(count) else { panic!("it does not poll") };
-    assert!(!running.poll_clear());
+    let at = running.poll_word();
+    // SAFETY: the thread is not given back before.
+    let is_called = || unsafe { &*at.word }.load(SeqCst) & at.mask != 0;
+    assert!(!running.poll_clear() && is_called());
     running.poll();
-    assert!(running.poll_clear());
+    assert!(running.poll_clear() && !is_called());
     assert!(matches!(env.collect(count), Ok(Posted::Answered(Answer::Count(1)))));
     let frame = Frame { method: 4, location: 0 };
     assert!(matches!(env.collect(trace), Ok(Posted::Answered(Answer::Trace(frames))) if frames == [frame]));
@@ -296,6 +299,8 @@ fn threads_come_and_go() {
     drop(running);
     assert_eq!(env.get_thread_state(0), Ok(0x2));
     assert_eq!(env.get_all_threads(), Ok(vec![]));
+    env.let_go_of_all();
+    assert_eq!(env.get_thread_state(0), Err(Error::ThreadNotAlive));
 }
 
 /// What a client is answered.

@@ -19,7 +19,7 @@ store-requires c =
     let v : c.exchange.new.seat.me.0 ≡ c.args.seat.now.me.0 = ap (λ (x : Me (Option Thread) View). x.0) m in
     let out : c.exchange.new.seat.me.1 ≡ (0, Some c.args.slot) ∷ [] =
     ap (λ (x : Me (Option Thread) View). x.1) m ∙ ap (λ (x : List (ℕ × Option Thread)). (0, Some c.args.slot) ∷ rest x) c.requires.seat.1 in
-    let now : c.free-word.result.bits ≡ word_of c.args.slot.limits false c.args.slot.history = c.free-word.ensures.bits ∙ λ i. word_at (c.len.ensures.len i) (c.barred.ensures i) (c.armed.ensures i) false in (
+    let now : c.free-word.result.bits ≡ word_of c.args.slot.limits false c.args.slot.history = c.free-word.ensures.bits ∙ λ i. word_at (c.len.ensures.len i) (c.barred.ensures i) (c.armed-armed.ensures i) false in (
       search rules,
       search rules,
       frees_keep _ _ _ _ _ c.args.slot (ap (λ (x : View). x.gone) v ∙ c.requires.seat.3) (ap (λ (x : View). x.holds) v ∙ c.requires.seat.2) out
