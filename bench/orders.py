@@ -14,14 +14,22 @@ import sys
 TIBENCH = "bench/out/tibench"
 COUNTS = (1_000, 10_000, 65_536)
 ORDERS = ("newest", "oldest", "random")
-PARTS = (("give back", "withdraw_all"), ("let go", "let_go_all"))
+# A compiler may put a function into the one that calls it, so there is a second one for each part.
+PARTS = (
+    ("give back", ("tibench::orders::withdraw_all*", "ti_service::service::Service::withdraw_thread*")),
+    ("let go", ("tibench::orders::let_go_all*", "ti_service::agent_calls::EnvMembershipServiceCalls::let_go::*")),
+)
 
 
-def instructions(program, order, count, function):
-    """The instructions for one thread, of all that this function of `tibench` does."""
-    words = ["valgrind", "--tool=callgrind", "--callgrind-out-file=/dev/null", f"--toggle-collect=tibench::orders::{function}*"]
-    done = subprocess.run([*words, program, "churn", "order", order, str(count)], check=True, stderr=subprocess.PIPE, text=True)
-    return int(re.search(r"Collected : (\d+)", done.stderr)[1]) / count
+def instructions(program, order, count, functions):
+    """The instructions for one thread, of all that the first of these functions does that the program has by itself."""
+    for function in functions:
+        words = ["valgrind", "--tool=callgrind", "--callgrind-out-file=/dev/null", f"--toggle-collect={function}"]
+        done = subprocess.run([*words, program, "churn", "order", order, str(count)], check=True, stderr=subprocess.PIPE, text=True)
+        counted = int(re.search(r"Collected : (\d+)", done.stderr)[1])
+        if counted:
+            return counted / count
+    sys.exit(f"{program} has no function {' or '.join(functions)}")
 
 
 def main():
@@ -30,8 +38,8 @@ def main():
         newest = {}
         for order in ORDERS:
             told = []
-            for title, function in PARTS:
-                each = instructions(program, order, count, function)
+            for title, functions in PARTS:
+                each = instructions(program, order, count, functions)
                 told.append(f"{title} {each:6,.0f} ({each / newest.setdefault(title, each):.2f})")
             print(f"{count:6,} threads, {order}: {', '.join(told)}", flush=True)
 
