@@ -48,6 +48,7 @@ bench: lib $(TIBENCH)
 	python3 bench/profiling.py
 	$(TIBENCH) cost
 	python3 bench/orders.py
+	python3 bench/spinning.py
 	$(CC) -O2 -std=c11 tests/c/bench.c dist/lib/libcebdyraq.a -lpthread -o dist/bench && dist/bench
 	$(CC) -O2 -std=c11 tests/c/bench_classes.c dist/lib/libcebdyraq.a -lpthread -o dist/bench_classes && dist/bench_classes
 	$(CC) -O2 -std=c11 tests/c/bench_serve.c dist/lib/libcebdyraq.a -lpthread -o dist/bench_serve && dist/bench_serve

@@ -89,7 +89,7 @@ extern "C" {
 
 /* The version of this header. */
 #define CQ_VERSION_MAJOR 2
-#define CQ_VERSION_MINOR 1
+#define CQ_VERSION_MINOR 2
 #define CQ_VERSION_PATCH 0
 
 /* The version of the library that the program runs with, as major * 1,000,000 + minor * 1,000 + patch. */
@@ -498,8 +498,8 @@ uint32_t cq_get_thread_info(cq_env *env, uint32_t thread, cq_thread_info *info, 
  *     cq_get_thread_local_storage,
  *     cq_set_thread_local_storage
  *
- * At any other thread each call is answered at once. No function gives CQ_WAITING but these five, cq_collect and
- * cq_ensure_resumed.
+ * At any other thread each call is answered at once. No function gives CQ_WAITING but these five, cq_collect,
+ * cq_collect_cancelled and cq_ensure_resumed.
  *
  * Calls that wait take place in the order in which they were posted. One that is answered at once takes place at once, also
  * while earlier ones wait. So a word that is set after a trace was posted is set before the trace is made.
@@ -587,18 +587,27 @@ uint32_t cq_set_thread_local_storage(cq_env *env, uint32_t thread, uint64_t word
  *   CQ_BUSY 215     the thread itself or another environment uses the thread */
 uint32_t cq_collect(cq_env *env, const cq_ticket *ticket, cq_answer *answer, cq_frame *frames, size_t room) CQ_MUST_USE;
 
-/* Cancels a call that is out: nobody gets its answer. It may still take place, so a thread may be suspended. It keeps its
- * room in the window until cq_discard. Nothing happens if no call with this ticket is out.
+/* Cancels a call that is out: it is not collected. It may still take place, so a thread may be suspended. It keeps its
+ * room in the window until cq_discard or cq_collect_cancelled. Nothing happens if no call with this ticket is out.
  *
  *   CQ_OUT_OF_MEMORY 110  there is no memory to note that the call was cancelled
  *   CQ_BUSY 215           the thread itself or another environment uses the thread */
 uint32_t cq_cancel(cq_env *env, const cq_ticket *ticket);
 
-/* Discards the answer to the call that was cancelled first at the thread, and writes to `thrown` whether it did. It does not
+/* Discards the answer to the call that was cancelled first at the thread, and writes to `discarded` whether it did. It does not
  * if that answer is not there yet, or no call was cancelled.
  *
  *   CQ_BUSY 215  the thread itself or another environment uses the thread */
-uint32_t cq_discard(cq_env *env, uint32_t thread, bool *thrown);
+uint32_t cq_discard(cq_env *env, uint32_t thread, bool *discarded);
+
+/* Discards the same answer, and tells it. It writes the call's ticket to `answer->ticket`, returns the code of the call, and
+ * writes what the call itself would have written, with the frames that there is `room` for. So a caller learns whether a call
+ * whose time was over has taken place after all.
+ *
+ *   CQ_WAITING 302  the answer is not there yet. Nothing is written
+ *   CQ_NONE 303     no call that was cancelled is out at the thread. Nothing is written
+ *   CQ_BUSY 215     the thread itself or another environment uses the thread */
+uint32_t cq_collect_cancelled(cq_env *env, uint32_t thread, cq_answer *answer, cq_frame *frames, size_t room) CQ_MUST_USE;
 
 /* Takes back what the environment's suspensions did to a thread, and what cancelled ones would still do to it: for a
  * suspension whose time was over, after which cq_resume_thread gives CQ_THREAD_NOT_SUSPENDED at once. It needs CQ_CAN_SUSPEND.

@@ -755,7 +755,7 @@ public:
         });
     }
 
-    /* An empty name of a source file is none. Those are woken who wait for CQ_CLASS_PREPARE. */
+    /* An empty name of a source file is none. Callers that wait for CQ_CLASS_PREPARE are woken. */
     defined define_class(std::string_view signature, std::string_view source_file, const std::vector<method_info> &methods) {
         class_parts parts(signature, source_file, methods);
         defined made{};

@@ -106,7 +106,7 @@ static void see_off(int *socket, uint64_t since, uint64_t now) {
     }
 }
 
-/* Sets a connection's socket, or -1, and gives the one before. Who waits for a debugger that goes is woken. */
+/* Sets a connection's socket, or -1, and gives the one before. Whoever waits for a debugger that goes is woken. */
 static int set_socket(server *s, uint32_t connection, int socket) {
     pthread_mutex_lock(&s->lock);
     int before = s->sockets[connection];
@@ -561,7 +561,7 @@ uint32_t cq_server_starts_suspended(cq_server *in, bool suspended) {
     return CQ_OK;
 }
 
-/* Waits with the lock. The last one that has waited wakes who ends the server. */
+/* Waits with the lock. The last one that has waited wakes the caller that ends the server. */
 static void await_news(server *s) {
     s->waiting++;
     pthread_cond_wait(&s->news, &s->lock);
@@ -614,7 +614,7 @@ uint32_t cq_server_port(const cq_server *in, uint16_t *port) {
     return CQ_OK;
 }
 
-/* Ends the thread. Who waits for news goes on, and has left before this returns. */
+/* Ends the thread. Whoever waits for news goes on, and has left before this returns. */
 static void end_thread(server *s) {
     pthread_mutex_lock(&s->lock);
     s->is_ending = true;

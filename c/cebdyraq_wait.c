@@ -1,11 +1,11 @@
 /* cebdyraq_wait.c: see cebdyraq_wait.h.
  *
- * Why no wake-up is lost. Who is about to sleep counts itself in `sleepers`, then reads `news`, and then tries once
- * more. It sleeps only while `news` is what it read. Who wakes has done its call, and then reads `sleepers`. If the
- * sleeper is counted, `news` changes. If it is not yet, its last try comes after the call, and succeeds. All of these
+ * Why no wake-up is lost. A caller that is about to sleep counts itself in `sleepers`, then reads `news`, and then tries once
+ * more. It sleeps only while `news` is what it read. A caller that wakes others has done its call, and then reads `sleepers`.
+ * If the sleeper is counted, `news` changes. If it is not yet, its last try comes after the call, and succeeds. All of these
  * steps are sequentially consistent, and so are those of the library.
  *
- * Who is woken. Threads that are barred sleep apart from agents. Each sleeps for the news of one thread, by one of 31 bits,
+ * Which sleepers are woken. Threads that are barred sleep apart from agents. Each sleeps for the news of one thread, by one of 31 bits,
  * and an agent that waits for an event by one more. An agent that waits for several threads has the bits of all. So a hand-over
  * wakes agents that wait for its thread, and a resumption the thread. Threads whose numbers have one bit wake each other's,
  * which then sleep on.
@@ -13,8 +13,8 @@
  * A try of a trace is many steps, up to the first that fails. The trace sleeps for that one alone. What lets it go on comes
  * after that step, and so after `news` was read. Then `news` has changed, and the trace does not sleep.
  *
- * Two that gather at once do not wait for each other in a ring. Both stop threads in the order of their numbers. So who meets a
- * thread that the other has stopped has itself stopped none that the other still wants to stop. The other wakes it when it
+ * Two that gather at once do not wait for each other in a ring. Both stop threads in the order of their numbers. So one that meets a
+ * thread which the other has stopped has itself stopped none that the other still wants to stop. The other wakes it when it
  * has let all threads go, also if its time was over. */
 #define _GNU_SOURCE
 #include "cebdyraq_wait.h"
@@ -38,11 +38,12 @@ _Static_assert(sizeof(void *) == 8, "a 32-bit system needs the headers of Linux 
 typedef struct { int64_t seconds, nanoseconds; } futex_time;
 
 enum { FOREVER = -1 };
-static const int32_t SPIN_NS = 20000;  /* how long to spin before sleeping */
-static const int64_t NAP_NS = 50000;   /* the longest sleep of one who met CQ_BUSY, since nobody wakes it */
-static const uint32_t COMINGS = (uint32_t)1 << 31;  /* the bit of those who wait for an event */
+/* How long to spin before sleeping, at most. Where it does not pay, one wait of so many spins for a little, to find out anew. */
+enum { SPIN_NS = 20000, PROBE_NS = 2000, WAITS_A_PROBE = 16 };
+static const int64_t NAP_NS = 50000;   /* the longest sleep after CQ_BUSY, since nobody wakes it */
+static const uint32_t COMINGS = (uint32_t)1 << 31;  /* the bit of callers that wait for an event */
 
-/* One who waits: it tries a call until the call gives neither CQ_BUSY nor `not_yet`, or the time is over. */
+/* A caller that waits: it tries a call until the call gives neither CQ_BUSY nor `not_yet`, or the time is over. */
 typedef struct {
     cq_signal *signal;
     cq_sleepers *among;
@@ -55,6 +56,8 @@ typedef struct {
     uint32_t seen;    /* the news before the last try, once it is counted */
     int64_t began;    /* when the first try had failed, or -1 */
     int64_t stuck;    /* since when it comes no further, or -1 */
+    uint32_t stuck_by;  /* the code that it has got since then */
+    int32_t spin;     /* how long it spins from then on, in nanoseconds */
 } waiter;
 
 /* The thread sanitizer does not see the atomics of the library. A program that has it is told by these what they order: what a
@@ -71,7 +74,7 @@ static void tell_after(cq_sleepers *at) {
     if (__tsan_acquire) __tsan_acquire(at);
 }
 
-/* One who waits among the agents, for news of any thread. */
+/* A caller that waits among the agents, for news of any thread. */
 static waiter begin(cq_signal *signal, int64_t timeout_ns, uint32_t not_yet) {
     return (waiter){
         .signal = signal, .among = &signal->agents, .bits = FUTEX_BITSET_MATCH_ANY, .timeout = timeout_ns,
@@ -116,17 +119,49 @@ static long processors(void) {
 }
 
 /* On a single processor nobody else gets on while one spins. */
-static int64_t spin_ns(void) {
+static bool may_spin(void) {
     static int32_t found = -1;
-    int32_t spin = __atomic_load_n(&found, __ATOMIC_RELAXED);
-    if (spin < 0) {
-        spin = processors() > 1 ? SPIN_NS : 0;
-        __atomic_store_n(&found, spin, __ATOMIC_RELAXED);
+    int32_t spins = __atomic_load_n(&found, __ATOMIC_RELAXED);
+    if (spins < 0) {
+        spins = processors() > 1;
+        __atomic_store_n(&found, spins, __ATOMIC_RELAXED);
     }
-    return spin;
+    return spins != 0;
 }
 
-static void spin(void) {
+/* How long it pays to spin, as waits have found it, and how many waits found that it does not. It pays if the one waited for runs: on a
+ * machine that is busy with other work it mostly does not. CQ_BUSY ends soon, since nobody waits in a function of cebdyraq.h. */
+typedef struct { int32_t pays_ns; uint32_t waits; } experience;
+
+static experience of_busy = { SPIN_NS, 0 }, of_threads = { SPIN_NS, 0 }, of_agents = { SPIN_NS, 0 };
+
+static experience *experience_of(const waiter *w) {
+    if (w->stuck_by == CQ_BUSY) return &of_busy;
+    return w->among == &w->signal->threads ? &of_threads : &of_agents;
+}
+
+static int32_t spin_of(const waiter *w) {
+    if (!may_spin()) return 0;
+    experience *learnt = experience_of(w);
+    int32_t pays = __atomic_load_n(&learnt->pays_ns, __ATOMIC_RELAXED);
+    if (pays >= PROBE_NS) return pays;
+    return __atomic_fetch_add(&learnt->waits, 1, __ATOMIC_RELAXED) % WAITS_A_PROBE == 0 ? PROBE_NS : 0;
+}
+
+/* A spin that took so long was not in vain: what was waited for has come. It pays to spin for some times as long. */
+static void learn_that_it_paid(const waiter *w, int64_t took) {
+    experience *learnt = experience_of(w);
+    int64_t pays = (__atomic_load_n(&learnt->pays_ns, __ATOMIC_RELAXED) + 4 * took + 2 * PROBE_NS) / 2;
+    __atomic_store_n(&learnt->pays_ns, (int32_t)(pays < SPIN_NS ? pays : SPIN_NS), __ATOMIC_RELAXED);
+}
+
+static void learn_that_it_was_in_vain(const waiter *w) {
+    experience *learnt = experience_of(w);
+    int32_t pays = __atomic_load_n(&learnt->pays_ns, __ATOMIC_RELAXED);
+    __atomic_store_n(&learnt->pays_ns, pays - pays / 4, __ATOMIC_RELAXED);
+}
+
+static void pause_a_little(void) {
     for (int i = 0; i < 32; i++) {
 #if defined(__x86_64__) || defined(__i386__)
         __builtin_ia32_pause();
@@ -152,36 +187,49 @@ static void sleep_on(waiter *w, int64_t now) {
     sleep_until(w, end);
 }
 
-static bool leave(waiter *w) {
+/* It comes further: the wait is over, it is another one that holds it up, or a trace has made a step. */
+static void comes_on(waiter *w) {
+    if (w->stuck >= 0 && w->spin > 0) learn_that_it_paid(w, now_ns() - w->stuck);
+    w->stuck = -1;
+}
+
+static bool spins_on(waiter *w, int64_t now) {
+    if (now - w->stuck < w->spin) {
+        pause_a_little();
+        return true;
+    }
+    if (w->spin > 0) learn_that_it_was_in_vain(w);
+    w->spin = 0;
+    return false;
+}
+
+static void leave(waiter *w) {
     if (w->counted) {
         __atomic_fetch_sub(&w->among->sleepers, 1, __ATOMIC_SEQ_CST);
         w->counted = false;
     }
-    return false;
 }
 
-/* Whether to try once more. It spins or sleeps before that. */
-static bool again(waiter *w) {
-    if (!w->tried) {
-        w->tried = true;
-        return true;
-    }
-    if (w->code != CQ_BUSY && w->code != w->not_yet) {
-        return leave(w);
-    }
+/* Spins or sleeps, and says whether to try once more. */
+static __attribute__((noinline)) bool await(waiter *w) {
     int64_t now = now_ns();
     if (w->began < 0) {
         w->began = now;
     }
+    if (w->code != w->stuck_by) {
+        comes_on(w);
+    }
     if (w->stuck < 0) {
         w->stuck = now;
+        w->stuck_by = w->code;
+        w->spin = spin_of(w);
     }
     if (w->timeout >= 0 && now - w->began >= w->timeout) {
         w->code = CQ_TIMED_OUT;
-        return leave(w);
+        leave(w);
+        return false;
     }
-    if (now - w->stuck < spin_ns()) {
-        spin();
+    if (spins_on(w, now)) {
         return true;
     }
     if (w->counted) {
@@ -194,11 +242,31 @@ static bool again(waiter *w) {
     return true;
 }
 
+static __attribute__((noinline)) void end(waiter *w) {
+    comes_on(w);
+    leave(w);
+}
+
+/* Whether to try once more. A call that need not wait pays for three tests. */
+static bool again(waiter *w) {
+    if (!w->tried) {
+        w->tried = true;
+        return true;
+    }
+    if (w->code == CQ_BUSY || w->code == w->not_yet) {
+        return await(w);
+    }
+    if (w->began >= 0) {
+        end(w);
+    }
+    return false;
+}
+
 static bool has_sleepers(const cq_sleepers *among) {
     return __atomic_load_n(&among->sleepers, __ATOMIC_SEQ_CST) != 0;
 }
 
-/* Wakes those of them who wait for news of one of these threads. */
+/* Wakes those of them that wait for news of one of these threads. */
 static void wake(cq_sleepers *among, uint32_t bits) {
     if (!has_sleepers(among)) {
         return;
@@ -214,7 +282,7 @@ void cq_wake(cq_signal *signal) {
     wake(&signal->agents, FUTEX_BITSET_MATCH_ANY);
 }
 
-/* The code of a call by which a thread may have handed over. If it has, those go on who wait for its answers. */
+/* The code of a call by which a thread may have handed over. If it has, callers that wait for its answers go on. */
 static uint32_t handed_over(const waiter *w, cq_thread *thread) {
     if ((w->code == CQ_OK || w->code == CQ_HELD) && has_sleepers(&w->signal->agents)) {
         wake(&w->signal->agents, bit_of_own(thread));
@@ -228,8 +296,8 @@ static uint32_t goes_on(const waiter *w) {
     return w->code;
 }
 
-/* The code of a call by which a thread may have started or ended, or a thread or an environment come or gone. If so, those go on who
- * wait for that. */
+/* The code of a call by which a thread may have started or ended, or a thread or an environment come or gone. If so, callers
+ * that wait for that go on. */
 static uint32_t came_or_went(const waiter *w) {
     if (w->code == CQ_OK) {
         wake(&w->signal->agents, COMINGS);
@@ -369,9 +437,9 @@ uint32_t cq_wait_cancel(cq_env *env, cq_signal *signal, const cq_ticket *ticket)
     return w.code;
 }
 
-uint32_t cq_wait_discard(cq_env *env, cq_signal *signal, uint32_t thread, bool *thrown) {
+uint32_t cq_wait_discard(cq_env *env, cq_signal *signal, uint32_t thread, bool *discarded) {
     waiter w = begin(signal, FOREVER, CQ_BUSY);
-    while (again(&w)) w.code = cq_discard(env, thread, thrown);
+    while (again(&w)) w.code = cq_discard(env, thread, discarded);
     return w.code;
 }
 
@@ -426,6 +494,14 @@ uint32_t cq_wait_collect(cq_env *env, cq_signal *signal, const cq_ticket *ticket
     waiter w = begin(signal, timeout_ns, CQ_WAITING);
     w.bits = bit_of(ticket->thread);
     while (again(&w)) w.code = cq_collect(env, ticket, answer, frames, room);
+    return answered(&w);
+}
+
+uint32_t cq_wait_collect_cancelled(cq_env *env, cq_signal *signal, uint32_t thread, int64_t timeout_ns, cq_answer *answer,
+                                   cq_frame *frames, size_t room) {
+    waiter w = begin(signal, timeout_ns, CQ_WAITING);
+    w.bits = bit_of(thread);
+    while (again(&w)) w.code = cq_collect_cancelled(env, thread, answer, frames, room);
     return answered(&w);
 }
 
@@ -485,8 +561,8 @@ static uint32_t post(cq_env *env, const thread_call *call, cq_answer *answer, cq
 
 /* Discards the answers that are there to calls that were cancelled at the thread. */
 static void discard_all(cq_env *env, uint32_t thread) {
-    bool thrown = true;
-    while (thrown && cq_discard(env, thread, &thrown) == CQ_OK) {
+    bool discarded = true;
+    while (discarded && cq_discard(env, thread, &discarded) == CQ_OK) {
     }
 }
 
@@ -620,7 +696,7 @@ static uint32_t step_on(cq_env *env, waiter *w) {
     bool over = false;
     uint32_t code = CQ_OK;
     while (!over && (code = cq_gather_step(env, &over)) == CQ_OK) {
-        w->stuck = -1;
+        comes_on(w);
     }
     return code == CQ_ALREADY_STOPPED || code == CQ_STILL_RUNNING ? CQ_WAITING : code;
 }
@@ -633,7 +709,7 @@ static uint32_t step_to_end(cq_env *env, cq_signal *signal, int64_t timeout_ns) 
 }
 
 /* A trace that has begun, until its end. When the time is over, it is given up if it still can be. Then it waits only while
- * threads are used by others. At the end all are woken who sleep: threads that were stopped, and traces that met them so. */
+ * threads are used by others. At the end it wakes all sleepers: threads that were stopped, and traces that met them so. */
 static uint32_t gathered(cq_env *env, cq_signal *signal, int64_t timeout_ns, uint64_t *count) {
     uint32_t code = step_to_end(env, signal, timeout_ns);
     if (code == CQ_TIMED_OUT && cq_gather_give_up(env) == CQ_OK) {

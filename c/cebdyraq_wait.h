@@ -1,7 +1,8 @@
 /* cebdyraq_wait.h: the functions of cebdyraq.h as ones that wait.
  *
- * A function that has to wait spins for some 20 microseconds, and then sleeps until another wakes it. It is for Linux. Nothing
- * of it is proved. It uses only the functions of cebdyraq.h, so a program may have a layer of its own in its place.
+ * A function that has to wait spins for at most some 20 microseconds, and hardly if that was in vain before. Then it sleeps until
+ * another wakes it. It is for Linux. Nothing of it is proved. It uses only the functions of cebdyraq.h, so a program may have a
+ * layer of its own in its place.
  *
  * CODES
  *
@@ -35,7 +36,7 @@ extern "C" {
 typedef struct { uint32_t news; uint32_t sleepers; } cq_sleepers;
 typedef struct { cq_sleepers threads; cq_sleepers agents; } cq_signal;
 
-/* Wakes all who sleep. It is two loads if nobody does.
+/* Wakes all that sleep. It is two loads if nobody does.
  *
  * The functions below do it by themselves. A program that also uses functions of cebdyraq.h calls it after each that
  * may let another go on: cq_start, cq_poll, cq_native, cq_block, cq_end, cq_resume_thread, cq_attach_thread, cq_detach_thread,
@@ -103,7 +104,7 @@ uint32_t cq_wait_detach_thread(cq_thread *thread, cq_signal *signal) CQ_MUST_USE
 
 /* ------------------------------------------------------------------------------------------------------------------
  * An agent's environment. These wait only while the list of threads or a thread is in use, but for cq_wait_next_event,
- * cq_wait_ensure_resumed and the three that dispose of it.
+ * cq_wait_ensure_resumed, cq_wait_collect_cancelled and the three that dispose of it.
  */
 
 /* cq_meet. CQ_ILLEGAL_ARGUMENT 103, CQ_OUT_OF_MEMORY 110, CQ_FULL 216. */
@@ -127,7 +128,12 @@ uint32_t cq_wait_get_thread_info(cq_env *env, cq_signal *signal, uint32_t thread
 uint32_t cq_wait_cancel(cq_env *env, cq_signal *signal, const cq_ticket *ticket);
 
 /* cq_discard. */
-uint32_t cq_wait_discard(cq_env *env, cq_signal *signal, uint32_t thread, bool *thrown);
+uint32_t cq_wait_discard(cq_env *env, cq_signal *signal, uint32_t thread, bool *discarded);
+
+/* cq_collect_cancelled. It sleeps until the answer is there. With CQ_TIMED_OUT 214 it is not, and the call is out as before.
+ * CQ_NONE 303. */
+uint32_t cq_wait_collect_cancelled(cq_env *env, cq_signal *signal, uint32_t thread, int64_t timeout_ns, cq_answer *answer,
+                                   cq_frame *frames, size_t room) CQ_MUST_USE;
 
 /* cq_ensure_resumed. It sleeps until the thread has reached all calls of this environment that it has cancelled there. With
  * CQ_TIMED_OUT 214 it has not, so one of them may yet suspend it: call again. CQ_MUST_POSSESS_CAPABILITY 99, CQ_INVALID_THREAD 10,
@@ -170,15 +176,15 @@ uint32_t cq_wait_end_stop(cq_env *env, cq_signal *signal, uint32_t thread) CQ_MU
  * Calls at a thread. They sleep until the answer is there. The answer is written with CQ_OK, and nothing otherwise.
  *
  * A thread that runs and does not poll keeps a call waiting: without a time, for ever. When the time is over, a call that was
- * posted is cancelled (cq_cancel). It may still take place: a thread may be suspended after CQ_TIMED_OUT 214. If there is no
- * memory to give it up, it stays out (cq_out_at).
+ * posted is cancelled (cq_cancel). It may still take place: a thread may be suspended after CQ_TIMED_OUT 214.
+ * cq_wait_collect_cancelled tells whether it did. If there is no memory to cancel it, it stays out (cq_out_at).
  *
  * Before it posts, each discards the answers to cancelled calls at the thread (cq_discard). At a full window it
  * waits for room, which comes when the thread hands over. The room of a call of cebdyraq.h is free once its answer is
  * collected: the function does not do that, so a program collects before it fills the window.
  *
- * Who has an environment and is itself a thread of the service gets no answer from itself: it cannot poll while it waits. State,
- * words and a resumption are answered at once. The other calls end with their time, and without one never.
+ * A thread of the service that has an environment gets no answer from itself: it cannot poll while it waits. State, words and a
+ * resumption are answered at once. The other calls end with their time, and without one never.
  */
 
 /* cq_get_thread_state. Writes the bits to `state`. */

@@ -249,6 +249,26 @@ class WithRuntime(unittest.TestCase):
         self.assert_code(Code.MUST_POSSESS_CAPABILITY, env.ensure_resumed, thread)
         self.assert_code(Code.MUST_POSSESS_CAPABILITY, env.post_pop_frame, thread)
 
+    def test_cancelled(self):
+        env, thread = self.env, self.thread
+        self.assertIsNone(env.collect_cancelled(thread))
+        calls = []
+        while not calls or env.out_at(thread) < 2:
+            for call in calls:
+                call.cancel()
+            while env.collect_cancelled(thread, timeout=60):
+                pass
+            calls = [env.post_frame_location(thread, 9), env.post_stack_trace(thread, 0, 1)]
+        for call in calls:
+            call.cancel()
+        for call, code in zip(calls, (Code.NO_MORE_FRAMES, Code.OK)):
+            told = env.collect_cancelled(thread, calls, timeout=60)
+            self.assertEqual(told.code, code)
+            self.assertIs(told.call, call)
+        self.assert_code(Code.NO_MORE_FRAMES, calls[0].collect)
+        self.assertEqual(calls[1].collect(), [Frame(2, 0)])
+        self.assertIsNone(env.collect_cancelled(thread))
+
     def test_any(self):
         env, thread = self.env, self.thread
         posted = [env.post_frame_location(thread, 9), env.post_stack_trace(thread, 0, 1)]

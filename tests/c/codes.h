@@ -109,6 +109,7 @@ uint32_t refuse_while_gathering(void);
     CALL(collect, cq_collect(h, &w->ticket, &out.answer, out.frames, 2)) \
     CALL(cancel, cq_cancel(h, &w->ticket)) \
     CALL(discard, cq_discard(h, 0, &out.flag)) \
+    CALL(collect_cancelled, cq_collect_cancelled(h, 0, &out.answer, out.frames, 2)) \
     CALL(ensure_resumed, cq_ensure_resumed(h, 0)) \
     CALL(out_at, cq_out_at(h, 0, &out.number)) \
     CALL(stopper, cq_stopper(h, 0, &out.number)) \

@@ -124,7 +124,7 @@ const row ENV_ROWS[] = {
     AT_A_THREAD(set_thread_local_storage), NOT_ALIVE(set_thread_local_storage),
     MISUSES(collect), { "cq_collect", CQ_WAITING, RUNS, collect }, { "cq_collect", CQ_WAITING, WAITS, collect },
     { "cq_collect", CQ_WAITING, UNMET, collect }, { "cq_collect", CQ_WAITING, LET_GO, collect },
-    MISUSES(cancel), MISUSES(discard), MISUSES(out_at), MISUSES(stopper), MISUSES(environment_number),
+    MISUSES(cancel), MISUSES(discard), MISUSES(collect_cancelled), MISUSES(out_at), MISUSES(stopper), MISUSES(environment_number),
     MISUSES(gather_all_stack_traces), { "cq_gather_all_stack_traces", CQ_ILLEGAL_ARGUMENT, RUNS, gather_all_below },
     { "cq_gather_all_stack_traces", CQ_ILLEGAL_ARGUMENT, NATIVE, gather_all_lowest },
     { "cq_gather_all_stack_traces", CQ_ILLEGAL_ARGUMENT, UNMET, gather_all_below },

@@ -137,6 +137,7 @@ static uint32_t let_go(world *w) { return cq_let_go(&w->env, 0, &out.flag); }
 static uint32_t let_go_of_all(world *w) { return cq_let_go_of_all(&w->env); }
 static uint32_t poll_word(world *w) { return cq_poll_word(&w->thread, &out.at, &out.word); }
 static uint32_t discard(world *w) { return cq_discard(&w->env, 0, &out.flag); }
+static uint32_t collect_cancelled(world *w) { return cq_collect_cancelled(&w->env, 0, &out.answer, out.frames, 2); }
 static uint32_t add_capabilities(world *w) { return cq_add_capabilities(&w->env, 3); }
 static uint32_t stopper(world *w) { return cq_stopper(&w->env, 0, &out.number); }
 static uint32_t environment_number(world *w) { return cq_environment_number(&w->env, &out.number); }
@@ -171,7 +172,8 @@ static const row WITHOUT_MEMORY[] = {
     { "cq_poll_word", CQ_OK, WAITS, poll_word },
     { "cq_let_go", CQ_OK, GIVEN_BACK, let_go }, { "cq_let_go_of_all", CQ_OK, GIVEN_BACK, let_go_of_all },
     { "cq_ensure_resumed", CQ_OK, HELD, ensure_resumed },
-    { "cq_discard", CQ_OK, WAITS, discard }, { "cq_add_capabilities", CQ_OK, RUNS, add_capabilities },
+    { "cq_discard", CQ_OK, WAITS, discard }, { "cq_collect_cancelled", CQ_NONE, WAITS, collect_cancelled },
+    { "cq_add_capabilities", CQ_OK, RUNS, add_capabilities },
     { "cq_stopper", CQ_NONE, RUNS, stopper }, { "cq_environment_number", CQ_OK, RUNS, environment_number },
     { "cq_set_event_notification_mode", CQ_OK, RUNS, enable }, { "cq_free", CQ_OK, RUNS, free_handle },
     { "cq_collect", CQ_OK, WAITS, poll_and_collect }, { "cq_next_event", CQ_OK, RUNS, told_of_a_thread },
@@ -188,6 +190,19 @@ static void check_without(const row *r) {
         fprintf(stderr, "%s without memory gives %" PRIu32 "\n", r->name, code);
         exit(1);
     }
+    tear_down(&w);
+}
+
+/* The answer to a call that was cancelled. */
+static void collect_cancelled_without(void) {
+    world w;
+    build(&w, WAITS, 2);
+    OK(cq_cancel(&w.env, &w.ticket));
+    heap_refuse_after(0);
+    OK(cq_poll(&w.thread));
+    OK(collect_cancelled(&w));
+    heap_refuse_after(-1);
+    SAME(out.answer.ticket.no, w.ticket.no);
     tear_down(&w);
 }
 
@@ -249,5 +264,6 @@ uint32_t refuse_memory(void) {
     build(&w, WAITS, 2);
     OK(end_and_discard(&w));
     tear_down(&w);
+    collect_cancelled_without();
     return lacking + dispose_without() + gather_again_without();
 }

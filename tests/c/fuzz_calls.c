@@ -54,6 +54,8 @@ static void agree_on_written(uint32_t code) {
         agree_on_frame(real_written.frames[i], model_written.frames[i]);
     }
     if (code != CQ_WAITING) {
+        agree("a ticket's environment", real_written.answer.ticket.env, model_written.answer.ticket.env);
+        agree("a ticket's thread", real_written.answer.ticket.thread, model_written.answer.ticket.thread);
         agree("a ticket's number", real_written.answer.ticket.no, model_written.answer.ticket.no);
     }
 }
@@ -301,7 +303,16 @@ static void discard(void) {
     uint32_t thread = pick_number();
     bool real = true, model = true;
     BOTH(discard, (&s->real.env, thread, &real), (&s->model.env, thread, &model));
-    agree("whether an answer was thrown away", real, model);
+    agree("whether an answer was discarded", real, model);
+}
+
+static void collect_cancelled(void) {
+    slot *s = pick_agent();
+    uint32_t thread = pick_number(), room = below(FRAMES + 1);
+    mark();
+    BOTH(collect_cancelled, (&s->real.env, thread, &real_written.answer, real_written.frames, room),
+         (&s->model.env, thread, &model_written.answer, model_written.frames, room));
+    agree_on_written(CQ_OK);
 }
 
 static void out_at(void) {
@@ -480,6 +491,7 @@ static const weighted CALLS[] = {
     { 5, get_thread_state }, { 6, get_frame_count }, { 6, get_frame_location }, { 10, get_stack_trace },
     { 9, suspend_thread }, { 7, resume_thread }, { 7, pop_frame },
     { 3, get_thread_local_storage }, { 3, set_thread_local_storage }, { 14, collect }, { 5, cancel }, { 4, discard },
+    { 4, collect_cancelled },
     { 4, out_at }, { 4, gather_all_stack_traces }, { 4, gather_thread_list_stack_traces }, { 20, gather_step },
     { 2, gather_give_up }, { 2, gathered }, { 4, gathered_stack },
     { 3, add_capabilities }, { 1, relinquish_capabilities }, { 1, get_capabilities },

@@ -211,26 +211,26 @@ static void words(void) {
     SAME(word, 1234567890123);
 }
 
-/* Calls that are given up: they are out until their answers are thrown away. */
-static void give_up(void) {
-    bool thrown = true;
+/* Calls that are cancelled: they are out until their answers are discarded. */
+static void cancel(void) {
+    bool discarded = true;
     uint32_t count = 7;
     SAME(cq_get_frame_count(&env, 0, &answer), CQ_WAITING);
     cq_ticket ticket = answer.ticket;
     OK(cq_cancel(&env, &ticket));
     OK(cq_cancel(&env, &ticket));
-    OK(cq_discard(&env, 0, &thrown));
-    CHECK(!thrown);
+    OK(cq_discard(&env, 0, &discarded));
+    CHECK(!discarded);
     OK(cq_out_at(&env, 0, &count));
     SAME(count, 1);
     OK(cq_poll(&thread));
     SAME(cq_collect(&env, &ticket, &answer, frames, 8), CQ_WAITING);
-    OK(cq_discard(&env, 0, &thrown));
-    CHECK(thrown);
+    OK(cq_discard(&env, 0, &discarded));
+    CHECK(discarded);
     OK(cq_out_at(&env, 0, &count));
     SAME(count, 0);
-    OK(cq_discard(&env, 0, &thrown));
-    CHECK(!thrown);
+    OK(cq_discard(&env, 0, &discarded));
+    CHECK(!discarded);
 }
 
 static void enable_attached_and_detached(bool enabled) {
@@ -355,7 +355,7 @@ int main(void) {
     capabilities();
     suspend_and_pop();
     words();
-    give_up();
+    cancel();
     events();
     events_are_lost();
     end();

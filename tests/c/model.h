@@ -49,7 +49,8 @@ uint32_t model_get_thread_local_storage(cq_env *env, uint32_t thread, cq_answer 
 uint32_t model_set_thread_local_storage(cq_env *env, uint32_t thread, uint64_t word, cq_answer *answer);
 uint32_t model_collect(cq_env *env, const cq_ticket *ticket, cq_answer *answer, cq_frame *frames, size_t room);
 uint32_t model_cancel(cq_env *env, const cq_ticket *ticket);
-uint32_t model_discard(cq_env *env, uint32_t thread, bool *thrown);
+uint32_t model_discard(cq_env *env, uint32_t thread, bool *discarded);
+uint32_t model_collect_cancelled(cq_env *env, uint32_t thread, cq_answer *answer, cq_frame *frames, size_t room);
 uint32_t model_out_at(cq_env *env, uint32_t thread, uint32_t *count);
 uint32_t model_gather_all_stack_traces(cq_env *env, int32_t max_count);
 uint32_t model_gather_thread_list_stack_traces(cq_env *env, const uint32_t *threads, size_t count, int32_t max_count);

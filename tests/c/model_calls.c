@@ -105,12 +105,17 @@ static void take_out(m_thread *t, posted *call) {
     *link = call->next;
 }
 
-bool throw_first(m_thread *t, uint32_t place) {
+static posted *first_given_up(const m_thread *t, uint32_t place) {
     posted *first = NULL;
     for (posted *call = t->calls; call != NULL; call = call->next) {
         bool earlier = first == NULL || call->given_up < first->given_up;
         if (call->place == place && call->given_up != 0 && earlier) first = call;
     }
+    return first;
+}
+
+bool throw_first(m_thread *t, uint32_t place) {
+    posted *first = first_given_up(t, place);
     if (first == NULL || !first->done) return false;
     take_out(t, first);
     free_call(first);
@@ -253,11 +258,26 @@ uint32_t model_cancel(cq_env *env, const cq_ticket *ticket) {
     return CQ_OK;
 }
 
-uint32_t model_discard(cq_env *env, uint32_t thread, bool *thrown) {
+uint32_t model_discard(cq_env *env, uint32_t thread, bool *discarded) {
     m_env *e = env_of(env);
     if (e == NULL) return CQ_MISUSED;
-    *thrown = met(e, thread) != NULL && throw_first(met(e, thread), e->place);
+    *discarded = met(e, thread) != NULL && throw_first(met(e, thread), e->place);
     return CQ_OK;
+}
+
+uint32_t model_collect_cancelled(cq_env *env, uint32_t thread, cq_answer *answer, cq_frame *frames, size_t room) {
+    m_env *e = env_of(env);
+    if (e == NULL) return CQ_MISUSED;
+    m_thread *t = met(e, thread);
+    posted *call = t == NULL ? NULL : first_given_up(t, e->place);
+    if (call == NULL) return CQ_NONE;
+    if (!call->done) return CQ_WAITING;
+    uint32_t code = call->code;
+    answer->ticket = call->ticket;
+    write_answer(call, answer, frames, room);
+    take_out(t, call);
+    free_call(call);
+    return code;
 }
 
 uint32_t model_out_at(cq_env *env, uint32_t thread, uint32_t *count) {

@@ -163,9 +163,9 @@ static void ask_info(asker *a, uint32_t thread) {
 /* A call that is not waited for long. It leaves room in the window for a further call. */
 static void be_impatient(asker *a, uint32_t thread) {
     uint32_t count, out;
-    bool thrown = true;
-    while (thrown) {
-        OK(cq_wait_discard(&a->env, shared, thread, &thrown));
+    bool discarded = true;
+    while (discarded) {
+        OK(cq_wait_discard(&a->env, shared, thread, &discarded));
     }
     OK(cq_out_at(&a->env, thread, &out));
     CHECK(out < WINDOW);

@@ -117,7 +117,7 @@ static void suspended_thread_sleeps(void) {
     CHECK(sleeps < 20);
 }
 
-/* The thread runs and does not poll, so that no answer comes. A call whose time is over is given up. */
+/* The thread runs and does not poll, so that no answer comes. A call whose time is over is cancelled. */
 static void time_outs_are_not_early(void) {
     static const int64_t times[] = { 0, 10000, MILLISECOND, 60 * MILLISECOND };
     cq_ticket none = { 0, 0, 1000000 };
@@ -134,9 +134,9 @@ static void time_outs_are_not_early(void) {
         SAME(count, 1);
         CHECK(!cq_poll_clear(&thread));
         OK(cq_wait_poll(&thread, &signal_of_all));
-        bool thrown = false;
-        OK(cq_wait_discard(&env, &signal_of_all, 0, &thrown));
-        CHECK(thrown);
+        bool discarded = false;
+        OK(cq_wait_discard(&env, &signal_of_all, 0, &discarded));
+        CHECK(discarded);
         before = now_ns();
         SAME(cq_wait_next_event(&env, &signal_of_all, times[i], &event), CQ_TIMED_OUT);
         CHECK(now_ns() - before >= times[i]);
@@ -149,7 +149,7 @@ static void time_outs_are_not_early(void) {
 
 /* A suspension whose time was over still takes place, and then the return of the thread is not waited for any longer.
  */
-static void suspension_that_is_given_up(void) {
+static void suspension_that_is_cancelled(void) {
     uint32_t state;
     SAME(cq_wait_suspend_thread(&env, &signal_of_all, 0, MILLISECOND), CQ_TIMED_OUT);
     SAME(cq_poll(&thread), CQ_HELD);
@@ -288,7 +288,7 @@ int main(void) {
     set_up();
     suspended_thread_sleeps();
     time_outs_are_not_early();
-    suspension_that_is_given_up();
+    suspension_that_is_cancelled();
     event_wakes();
     hand_over_wakes();
     lists();
@@ -298,6 +298,7 @@ int main(void) {
     OK(cq_leave(&thread));
     waits_for_any();
     full_windows();
+    cancelled_calls();
     suspensions_taken_back();
     environments_disposed_of();
     tear_down();

@@ -33,6 +33,9 @@ void full_windows(void);
 /* Waits for any of several things. */
 void waits_for_any(void);
 
+/* Calls that are cancelled. */
+void cancelled_calls(void);
+
 /* Suspensions that are taken back. */
 void suspensions_taken_back(void);
 

@@ -34,7 +34,7 @@ static void comes_while_it_is_waited_for(void) {
     }
 }
 
-/* Several suspensions were given up. The first suspends the thread, and all are taken back together. */
+/* Several suspensions were cancelled. The first suspends the thread, and all are taken back together. */
 static void all_are_taken_back(void) {
     uint32_t out = 77;
     for (int i = 0; i < 3; i++) suspend_in_vain();

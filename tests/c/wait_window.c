@@ -7,14 +7,14 @@ static uint32_t out(void) {
     return count;
 }
 
-static void throw_all_away(void) {
-    bool thrown = true;
-    while (thrown) OK(cq_wait_discard(&env, &signal_of_all, 0, &thrown));
+static void discard_all(void) {
+    bool discarded = true;
+    while (discarded) OK(cq_wait_discard(&env, &signal_of_all, 0, &discarded));
     SAME(out(), 0);
 }
 
 /* The thread runs and does not poll meanwhile. */
-static void give_up_a_window(void) {
+static void cancel_a_window(void) {
     uint32_t count = 77;
     for (uint32_t i = 0; i < WINDOW; i++) {
         SAME(cq_wait_get_frame_count(&env, &signal_of_all, 0, 0, &count), CQ_TIMED_OUT);
@@ -31,24 +31,24 @@ static void *count_frames(void *unused) {
     return unused;
 }
 
-/* All calls of the window were given up. A further one waits until the thread polls, and is answered at the poll after that. */
+/* All calls of the window were cancelled. A further one waits until the thread polls, and is answered at the poll after that. */
 static void call_waits_for_a_place(void) {
     for (int i = 0; i < 200; i++) {
-        give_up_a_window();
+        cancel_a_window();
         pthread_t id = run(count_frames);
         await(1);
         rest(MILLISECOND);
         SAME(atomic_load(&at), 1);
         while (atomic_load(&at) == 1) OK(cq_wait_poll(&thread, &signal_of_all));
         join(id);
-        throw_all_away();
+        discard_all();
     }
 }
 
 /* No place comes in time. Nothing was posted. */
 static void time_ends_without_a_place(void) {
     uint32_t count = 77;
-    give_up_a_window();
+    cancel_a_window();
     int64_t before = now_ns();
     SAME(cq_wait_get_frame_count(&env, &signal_of_all, 0, 5 * MILLISECOND, &count), CQ_TIMED_OUT);
     CHECK(now_ns() - before >= 5 * MILLISECOND);
@@ -56,7 +56,7 @@ static void time_ends_without_a_place(void) {
     SAME(out(), WINDOW);
     OK(cq_wait_get_thread_state(&env, &signal_of_all, 0, 0, &count));
     OK(cq_wait_poll(&thread, &signal_of_all));
-    throw_all_away();
+    discard_all();
 }
 
 static void *suspend_often(void *unused) {

@@ -82,7 +82,7 @@ def describe(name, folder):
     fields = {"name": name, "version": VERSION, "section": section, "multiarch": multiarch, "depends": depends, "size": size, "what": what}
     (control / "control").write_text(CONTROL.format(**fields))
     if section == "libs":
-        (control / "shlibs").write_text(f"libcebdyraq 1 {name} (>= {VERSION})\n")
+        (control / "shlibs").write_text(f"libcebdyraq {name.removeprefix('libcebdyraq')} {name} (>= {VERSION})\n")
         (control / "triggers").write_text("activate-noawait ldconfig\n")
     run("sh", "-c", 'cd "$1" && find usr -type f -exec md5sum {} + > DEBIAN/md5sums', "sh", folder)
     for path in folder.rglob("*"):

@@ -5,7 +5,7 @@ import math
 import threading
 import time
 from types import TracebackType
-from typing import Any, Callable, Generic, List, Optional, Sequence, Type, TypeVar
+from typing import Any, Callable, Generic, List, NamedTuple, Optional, Sequence, Type, TypeVar
 
 from . import _library as lib
 from ._classes import Classes
@@ -25,7 +25,7 @@ def _frames_in(room: Any, count: int) -> List[Frame]:
 
 
 class Posted(Generic[Told]):
-    """A call that was posted. `collect` gives its answer, and `cancel` gives it up."""
+    """A call that was posted. `collect` gives its answer, and `cancel` cancels it."""
 
     def __init__(self, env: "Environment", read: Callable[[Any, Any], Told], frames: Any) -> None:
         self._env, self._read, self._frames = env, read, frames
@@ -56,11 +56,23 @@ class Posted(Generic[Told]):
             raise Error(self._code)
         return self._read(self._answer, self._frames)
 
+    def _told(self, code: int, answer: Any, frames: Any) -> "Posted[Told]":
+        self._answer, self._frames, self._code, self._is_out = answer, frames, code, False
+        return self
+
     def cancel(self) -> None:
-        """Gives the call up. It may still take place."""
+        """Cancels the call. It may still take place (`collect_cancelled`)."""
         if self._is_out:
             self._env._call("cq_wait_cancel", self._env._signal, ctypes.byref(self._ticket))
             self._is_out = False
+
+
+class Cancelled(NamedTuple):
+    """What came of a call that was cancelled, or whose time was over. Code.OK says that it has taken place. `call` is the call itself,
+    if it is one of those that `collect_cancelled` was told. Its `collect` gives the answer."""
+
+    code: Code
+    call: Optional[Posted[Any]]
 
 
 def _number(answer: Any, _: Any) -> int:
@@ -211,7 +223,7 @@ class Environment(Classes):
         self._call("cq_wait_resume_thread", self._signal, thread, _nanoseconds(timeout))
 
     def ensure_resumed(self, thread: int, timeout: Optional[float] = None) -> None:
-        """Takes back what the environment's suspensions did to the thread, and what those that were given up would still do to it.
+        """Takes back what the environment's suspensions did to the thread, and what those that were cancelled would still do to it.
         With Code.TIMED_OUT the thread has not reached one of them: call again."""
         self._call("cq_wait_ensure_resumed", self._signal, thread, _nanoseconds(timeout))
 
@@ -269,13 +281,23 @@ class Environment(Classes):
             return None
         if code in (Code.TIMED_OUT, Code.MISUSED):
             raise Error(code)
-        found = calls[which.value]
-        found._answer, found._frames, found._code, found._is_out = answer, room, code, False
-        return found
+        return calls[which.value]._told(code, answer, room)
 
     def discard(self, thread: int) -> bool:
-        """Throws the answer away to the call that was given up first at the thread, and says whether it was there."""
+        """Discards the answer to the call that was cancelled first at the thread, and says whether it was there."""
         return bool(self._get(lib.BOOL, "cq_wait_discard", self._signal, thread))
+
+    def collect_cancelled(self, thread: int, calls: Sequence[Posted[Any]] = (), timeout: Optional[float] = None) -> Optional[Cancelled]:
+        """What came of the call that was cancelled first at the thread, which may be one of these calls. None if no call that was
+        cancelled is out there. With Code.TIMED_OUT it is out as before."""
+        answer, room = lib.Answer(), lib.room_for(max((len(call._frames) for call in calls), default=0))
+        code = self._plain_call("cq_wait_collect_cancelled", self._signal, thread, _nanoseconds(timeout), ctypes.byref(answer), room, len(room))
+        if code == Code.NONE:
+            return None
+        if code in (Code.TIMED_OUT, Code.MISUSED):
+            raise Error(code)
+        found = next((call for call in calls if bytes(call._ticket) == bytes(answer.ticket)), None)
+        return Cancelled(Code(code), found._told(code, answer, room) if found else None)
 
     def out_at(self, thread: int) -> int:
         """How many calls are out at the thread."""

@@ -4,7 +4,7 @@ import ctypes
 import os
 from typing import Any, Dict, List, Optional, Sequence, Union
 
-VERSION = (2, 1)
+VERSION = (2, 2)
 
 
 class Handle(ctypes.Structure):
@@ -114,6 +114,7 @@ FUNCTIONS: Dict[str, List[Any]] = {
     "cq_wait_any": [AT, AT, SIZE, I64, AT, AT, AT, SIZE],
     "cq_wait_cancel": [AT, AT],
     "cq_wait_discard": [AT, NUMBER, AT],
+    "cq_wait_collect_cancelled": [AT, NUMBER, I64, AT, AT, SIZE],
     "cq_out_at": [NUMBER, AT],
     "cq_stopper": [NUMBER, AT],
     "cq_environment_number": [AT],

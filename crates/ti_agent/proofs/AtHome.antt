@@ -1,6 +1,6 @@
 -- An environment stays at home.
 use Rattle.std.proofs.Common.{Bool, ◌≡◌, ℕ, zero, suc, List, [], ◌∷◌, ◌++◌, refl, ap, sym, ◌∙◌, subst, remove, Result, Ok, Err, Option, Some, None}
-use Rattle.std.specs.Prelude.{IfNone, IfOk, IfErr, OnOk, OnErr, slice_get, slice_set}
+use Rattle.std.specs.Prelude.{IfNone, IfOk, IfErr, OnOk, OnErr, is_some, slice_get, slice_set}
 use Rattle.std.specs.List.{All}
 use Rattle.std.proofs.lemmas.List.{map-append}
 use Rattle.std.proofs.lemmas.List.Elements.{All-cons, All-head, All-push, All-tail}
@@ -14,6 +14,7 @@ use Rattle.ti_types.specs.declared.numbers.EnvNo.{EnvNo}
 use Rattle.ti_env.specs.Env.{EnvValue}
 use Rattle.ti_handshake.specs.Call.{Holds, HoldsWith}
 use Rattle.ti_handshake.specs.Desk.{DeskState, Discards, DiscardsOf, IsInTime, IsSame}
+use Rattle.ti_handshake.specs.declared.discarded.Discarded.{Discarded}
 use Rattle.ti_agent.specs.Env.{Environment}
 use Rattle.ti_agent.specs.Home.{Housed, IsAtHome}
 use Rattle.ti_agent.specs.HousedTrace.{HousedTrace}
@@ -108,27 +109,27 @@ one_there P (x ∷ l) (suc i) p at a = one_there P l i p at (All-tail P (spot_of
 same_desk : {H : Type 0} (about : H → EnvNo → Limits → Type 0) (holds : H → Spot → Type 0) (h : H) (s : Environment) (i : ℕ) (p q : DeskState) → slice_get s.desks i ≡ Some p → q ≡ p → IsAtHome about holds h s → IsAtHome about holds h (record { env = s.env; state = s.state; desks = slice_set s.desks i q })
 same_desk about holds h s i p q at same k = home_set about holds h s s.state i p q at (ap (λ (x : DeskState). x.cell) same) (ap (λ (x : DeskState). x.view.subject) same) refl k
 
--- a call that was given up changed nothing of where the desk is
+-- a call that was cancelled changed nothing of where the desk is
 pub cancel_home : {H : Type 0} (about : H → EnvNo → Limits → Type 0) (holds : H → Spot → Type 0) (h : H) (s : Environment) (i : ℕ) (p q : DeskState) (r : Result (Unit {0}) TiError) → slice_get s.desks i ≡ Some p → q.cell ≡ p.cell → OnOk r (Holds p.view q.view []) → OnErr r (q ≡ p)
     → IsAtHome about holds h s → IsAtHome about holds h (record { env = s.env; state = s.state; desks = slice_set s.desks i q })
 cancel_home about holds h s i p q (Ok u) at cell hold same k = home_set about holds h s s.state i p q at cell hold.waits.goes.subject refl k
 cancel_home about holds h s i p q (Err e) at cell hold same k = same_desk about holds h s i p q at same k
 
--- nor did one that was thrown away
-thrown_of : {H : Type 0} (about : H → EnvNo → Limits → Type 0) (holds : H → Spot → Type 0) (h : H) (s : Environment) (i : ℕ) (l : List Ticket) (p q : DeskState) (b : Bool) → slice_get s.desks i ≡ Some p → DiscardsOf l p q b
+-- nor did one that was discarded
+discarded_of : {H : Type 0} (about : H → EnvNo → Limits → Type 0) (holds : H → Spot → Type 0) (h : H) (s : Environment) (i : ℕ) (l : List Ticket) (p q : DeskState) (b : Bool) → slice_get s.desks i ≡ Some p → DiscardsOf l p q b
     → IsAtHome about holds h s → IsAtHome about holds h (record { env = s.env; state = s.state; desks = slice_set s.desks i q })
-thrown_of about holds h s i [] p q b at d k = home_set about holds h s s.state i p q at (ap (λ (x : DeskState). x.cell) d.0) (ap (λ (x : DeskState). x.view.subject) d.0) refl k
-thrown_of about holds h s i (t ∷ l) p q b at d k = home_set about holds h s s.state i p q at d.cell d.hold.waits.goes.subject refl k
+discarded_of about holds h s i [] p q b at d k = home_set about holds h s s.state i p q at (ap (λ (x : DeskState). x.cell) d.0) (ap (λ (x : DeskState). x.view.subject) d.0) refl k
+discarded_of about holds h s i (t ∷ l) p q b at d k = home_set about holds h s s.state i p q at d.cell d.hold.waits.goes.subject refl k
 
-pub thrown_home : {H : Type 0} (about : H → EnvNo → Limits → Type 0) (holds : H → Spot → Type 0) (h : H) (s : Environment) (i : ℕ) (p q : DeskState) (b : Bool) → slice_get s.desks i ≡ Some p → Discards p q b
+pub discard_home : {H : Type 0} (about : H → EnvNo → Limits → Type 0) (holds : H → Spot → Type 0) (h : H) (s : Environment) (i : ℕ) (p q : DeskState) (b : Bool) → slice_get s.desks i ≡ Some p → Discards p q b
     → IsAtHome about holds h s → IsAtHome about holds h (record { env = s.env; state = s.state; desks = slice_set s.desks i q })
-thrown_home about holds h s i p q b at d k = thrown_of about holds h s i p.cancelled p q b at d k
+discard_home about holds h s i p q b at d k = discarded_of about holds h s i p.cancelled p q b at d k
 
 -- one try of that
-pub tried_thrown_home : {H : Type 0} (about : H → EnvNo → Limits → Type 0) (holds : H → Spot → Type 0) (h : H) (s : Environment) (i : ℕ) (p q : DeskState) (r : Result Bool TiError) → slice_get s.desks i ≡ Some p → IfOk r (λ b. Discards p q b) → IfErr r (λ e. (e ≡ Busy) × (q ≡ p))
+pub tried_discard_home : {H : Type 0} (about : H → EnvNo → Limits → Type 0) (holds : H → Spot → Type 0) (h : H) (s : Environment) (i : ℕ) (p q : DeskState) (r : Result (Option Discarded) TiError) → slice_get s.desks i ≡ Some p → IfOk r (λ d. Discards p q (is_some d)) → IfErr r (λ e. (e ≡ Busy) × (q ≡ p))
     → IsAtHome about holds h s → IsAtHome about holds h (record { env = s.env; state = s.state; desks = slice_set s.desks i q })
-tried_thrown_home about holds h s i p q (Ok b) at d busy k = thrown_home about holds h s i p q b at d k
-tried_thrown_home about holds h s i p q (Err e) at d busy k = same_desk about holds h s i p q at busy.1 k
+tried_discard_home about holds h s i p q (Ok r) at d busy k = discard_home about holds h s i p q (is_some r) at d k
+tried_discard_home about holds h s i p q (Err e) at d busy k = same_desk about holds h s i p q at busy.1 k
 
 -- or of a look for an answer
 pub tried_look_home : {H A : Type 0} (about : H → EnvNo → Limits → Type 0) (holds : H → Spot → Type 0) (h : H) (s : Environment) (i : ℕ) (p q : DeskState) (r : Result A TiError) (posted : A → List Ticket) → slice_get s.desks i ≡ Some p → IsSame p q → IfOk r (λ o. HoldsWith p.view q.view [] (posted o)) → IfErr r (λ e. (e ≡ Busy) × (q ≡ p))

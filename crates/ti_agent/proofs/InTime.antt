@@ -1,4 +1,4 @@
--- Calls with a deadline, and calls that are given up.
+-- Calls with a deadline, and calls that are cancelled.
 use Rattle.std.proofs.Common.{length-set, ◌≡◌, ℕ, zero, suc, ◌<◌, ◌&&◌, Bool, true, false, List, [], ◌∷◌, ◌++◌, length, refl, ap, sym, ◌∙◌, arith, subst, Option, Some, None, Result, Ok, Err}
 use Rattle.std.specs.Prelude.{slice_get, slice_set, slice_index_or, if◌then◌else◌, OnOk, OnErr}
 use Rattle.std.specs.Option.{option_map}
@@ -21,7 +21,7 @@ use Rattle.ti_handshake.specs.Desk.{DeskState, Discards, DiscardsOf, IsInTime, i
 use Rattle.ti_agent.specs.Env.{Environment, IsWhole, place_in, place_of, thread_refusal, told, is_full}
 use Rattle.ti_agent.proofs.Places.{about_at, place_set}
 use Rattle.ti_agent.specs.Asks.{Asks, Went, IsKind, is_for_memory, is_timed_out}
-use Rattle.ti_agent.specs.Deadlines.{Cancels, DiscardsAt, GivesUpAt, ComesAs, ComesTo, ComesWith, IsCalledWithin, IsCalledWithinBy}
+use Rattle.ti_agent.specs.Deadlines.{Cancels, DiscardsAt, CancelsLateAt, ComesAs, ComesTo, ComesWith, IsCalledWithin, IsCalledWithinBy}
 use Rattle.ti_agent.proofs.Replied.{answered_kind, answered_not, answered_in_time}
 use Rattle.ti_agent.proofs.Whole.{desk_at, found_at, after_is, may_stay, fewer_if, whole_after, after_call, went, whole_seen, seen_call}
 
@@ -37,7 +37,7 @@ seen_same s t p q at e =
     let desks : slice_set s.desks t q ≡ s.desks = ap (slice_set s.desks t) e ∙ set_back s.desks t p at in
     λ i. record { env = s.env; state = s.state; desks = desks i }
 
--- a call that is given up
+-- a call that is cancelled
 
 pub cancel_whole : (s : Environment) (t : ℕ) (p q : DeskState) (r : Result (Unit {0}) TiError) → IsWhole s → slice_get s.desks t ≡ Some p → q.env ≡ p.env → OnOk r (Holds p.view q.view []) → OnErr r (q ≡ p)
     → IsWhole (seen_call s t q)
@@ -55,37 +55,37 @@ pub cancel_kept : (s : Environment) (t : ℕ) (p q : DeskState) (r : Result (Uni
 cancel_kept s t p q (Ok u) at same = tt
 cancel_kept s t p q (Err e) at same = seen_same s t p q at same
 
--- an answer that is thrown away
+-- an answer that is discarded
 
-pub discard_whole : (s : Environment) (t : ℕ) (p q : DeskState) (thrown : Bool) → IsWhole s → slice_get s.desks t ≡ Some p → Discards p q thrown → IsWhole (seen_call s t q)
-discard_whole s t p q thrown whole at d = by_list p.cancelled d
+pub discard_whole : (s : Environment) (t : ℕ) (p q : DeskState) (was_there : Bool) → IsWhole s → slice_get s.desks t ≡ Some p → Discards p q was_there → IsWhole (seen_call s t q)
+discard_whole s t p q was_there whole at d = by_list p.cancelled d
   where
-    by_list : (l : List Ticket) → DiscardsOf l p q thrown → IsWhole (seen_call s t q)
+    by_list : (l : List Ticket) → DiscardsOf l p q was_there → IsWhole (seen_call s t q)
     by_list [] k = subst (λ (z : Environment). IsWhole z) (sym (seen_same s t p q at k.0)) whole
-    by_list (u ∷ l) k = whole_seen s t p q _ whole at k.env k.hold.waits (fewer_if thrown u p.view.posted)
+    by_list (u ∷ l) k = whole_seen s t p q _ whole at k.env k.hold.waits (fewer_if was_there u p.view.posted)
 
 -- it leaves each thread in its place
-discards_subject : (p q : DeskState) (thrown : Bool) → Discards p q thrown → q.view.subject ≡ p.view.subject
-discards_subject p q thrown d = by_list p.cancelled d
+discards_subject : (p q : DeskState) (was_there : Bool) → Discards p q was_there → q.view.subject ≡ p.view.subject
+discards_subject p q was_there d = by_list p.cancelled d
   where
-    by_list : (l : List Ticket) → DiscardsOf l p q thrown → q.view.subject ≡ p.view.subject
+    by_list : (l : List Ticket) → DiscardsOf l p q was_there → q.view.subject ≡ p.view.subject
     by_list [] k = ap (λ (x : DeskState). x.view.subject) k.0
     by_list (u ∷ l) k = k.hold.waits.goes.subject
 
-pub discards_place : (old mid : Environment) (thread t : ThreadNo) (thrown : Bool) → DiscardsAt old mid thread thrown → place_in mid.desks t ≡ place_in old.desks t
-discards_place old mid thread t thrown d =
-    ap (λ (x : Environment). place_in x.desks t) d.new_is ∙ place_set old.desks (place_in old.desks thread) d.before d.after t d.there (discards_subject d.before d.after thrown d.discards)
+pub discards_place : (old mid : Environment) (thread t : ThreadNo) (was_there : Bool) → DiscardsAt old mid thread was_there → place_in mid.desks t ≡ place_in old.desks t
+discards_place old mid thread t was_there d =
+    ap (λ (x : Environment). place_in x.desks t) d.new_is ∙ place_set old.desks (place_in old.desks thread) d.before d.after t d.there (discards_subject d.before d.after was_there d.discards)
 
-pub discards_there : (old mid : Environment) (thread t : ThreadNo) (thrown : Bool) → DiscardsAt old mid thread thrown → place_in old.desks t < length old.desks → place_in mid.desks t < length mid.desks
-discards_there old mid thread t thrown d here =
+pub discards_there : (old mid : Environment) (thread t : ThreadNo) (was_there : Bool) → DiscardsAt old mid thread was_there → place_in old.desks t < length old.desks → place_in mid.desks t < length mid.desks
+discards_there old mid thread t was_there d here =
     let same : length mid.desks ≡ length old.desks = ap (λ (x : Environment). length x.desks) d.new_is ∙ length-set old.desks (place_in old.desks thread) d.after in
-    let still = discards_place old mid thread t thrown d in
+    let still = discards_place old mid thread t was_there d in
     omega (arith, here, same, still)
 
-pub discards_free : (old mid : Environment) (thread t : ThreadNo) (c : Call) (thrown : Bool) → DiscardsAt old mid thread thrown → thread_refusal old t c ≡ None → thread_refusal mid t c ≡ None
-discards_free old mid thread t c thrown d free =
+pub discards_free : (old mid : Environment) (thread t : ThreadNo) (c : Call) (was_there : Bool) → DiscardsAt old mid thread was_there → thread_refusal old t c ≡ None → thread_refusal mid t c ≡ None
+discards_free old mid thread t c was_there d free =
     let state : mid.state ≡ old.state = ap (λ (x : Environment). x.state) d.new_is in
-    subst (λ (z : EnvValue × ℕ). told z.0.known t (call_refusal z.0 (record { 0 = z.1 }) c) ≡ None) (λ j. (sym state j, sym (discards_place old mid thread t thrown d) j)) free
+    subst (λ (z : EnvValue × ℕ). told z.0.known t (call_refusal z.0 (record { 0 = z.1 }) c) ≡ None) (λ j. (sym state j, sym (discards_place old mid thread t was_there d) j)) free
 
 -- a call with a deadline
 
@@ -116,14 +116,14 @@ in_time_comes s thread place c p q (Some b) a state whole h e found spend goes m
     (subst (λ (x : Bool × Bool). ComesAs x.0 x.1 s (after_call s place state q) thread c b) (λ i. (sym short i, sym late i)) done)
 in_time_comes s thread place c p q None a state whole h e found spend goes mine k is =
     let at = found_at s thread place c p whole h e found in
-    let gives : GivesUpAt s (after_call s place state q) thread c = record {
+    let gives : CancelsLateAt s (after_call s place state q) thread c = record {
       before = p;
       after = q;
       there = at;
       about = about_at s.desks thread p at;
       goes = goes;
       mine = mine;
-      gives_up = k;
+      cancels_late = k;
       new_is = after_is s thread place q state found spend;
     } in
     subst (λ (x : Answer). ComesTo s (after_call s place state q) thread c x) (sym is) gives
@@ -145,10 +145,10 @@ short_comes s thread c e is =
     let none : ComesTo s s thread c (answer.Refused OutOfMemory) = refl in
     subst (λ (x : TiError). ComesTo s s thread c (answer.Refused x)) (sym is) none
 
-pub comes_within : (old mid new : Environment) (thread : ThreadNo) (c : Call) (a : Answer) (thrown : Bool) → thread_refusal old thread c ≡ None → DiscardsAt old mid thread thrown → ComesWith (waits c && is_full mid thread) mid new thread c a
+pub comes_within : (old mid new : Environment) (thread : ThreadNo) (c : Call) (a : Answer) (was_there : Bool) → thread_refusal old thread c ≡ None → DiscardsAt old mid thread was_there → ComesWith (waits c && is_full mid thread) mid new thread c a
     → IsCalledWithin old new thread c a
-comes_within old mid new thread c a thrown free discards comes =
-    subst (λ (o : Option TiError). IsCalledWithinBy o old new thread c a) (sym free) (record { thrown = thrown; mid = mid; discards = discards; comes = comes })
+comes_within old mid new thread c a was_there free discards comes =
+    subst (λ (o : Option TiError). IsCalledWithinBy o old new thread c a) (sym free) (record { was_there = was_there; mid = mid; discards = discards; comes = comes })
 
 -- where there is room
 pub comes_with_room : (mid new : Environment) (thread : ThreadNo) (c : Call) (a : Answer) → (waits c && is_full mid thread) ≡ false → ComesTo mid new thread c a → ComesWith (waits c && is_full mid thread) mid new thread c a

@@ -464,3 +464,9 @@ take_spent s new t u f taken other =
     let p = place_in s.desks t in
     ap (λ (x : Environment). slice_index x.state.spent (place_in x.desks u)) taken.new_is
     ∙ (spent_removed s.state.spent p (place_in (remove s.desks p) u) ∙ ap (slice_index s.state.spent) (place_behind s.desks t u other (taken_there s.desks p f.desk taken.there)))
+
+-- a desk that was set is there
+pub set_get : (l : List DeskState) (i : ℕ) (p q : DeskState) → slice_get l i ≡ Some p → slice_get (slice_set l i q) i ≡ Some q
+set_get [] i p q at = cc
+set_get (x ∷ l) zero p q at = refl
+set_get (x ∷ l) (suc i) p q at = set_get l i p q at

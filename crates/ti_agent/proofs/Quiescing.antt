@@ -1,6 +1,6 @@
 -- How an environment's calls at a thread come to be out no more.
 use Rattle.std.proofs.Common.{length-set, ◌≡◌, ◌==◌, ℕ, zero, suc, ◌<◌, ◌≤◌, Bool, true, false, if◌then◌else◌, inl, inr, List, [], ◌∷◌, ◌++◌, length, refl, ap, sym, ◌∙◌, arith, subst, append-nil, Option, Some, None, Result, Ok, Err}
-use Rattle.std.specs.Prelude.{slice_get, slice_set, IfNone, IfSome, OnOk}
+use Rattle.std.specs.Prelude.{slice_get, slice_set, is_some, IfNone, IfSome, OnOk}
 use Rattle.std.proofs.lemmas.Bool.{cases_Bool, cases_lt}
 use Rattle.std.proofs.lemmas.Bool.Decides.{nat_tests}
 use Rattle.ti_types.specs.declared.error.TiError.{TiError}
@@ -12,6 +12,7 @@ use Rattle.ti_replay.specs.Legal.{is_legal}
 use Rattle.ti_replay.specs.Makers.{made_by}
 use Rattle.ti_handshake.specs.Call.{GoesOn, Holds, SawNews, Waits, WaitsWith}
 use Rattle.ti_handshake.specs.Desk.{DeskState, DiscardsOf, IsSame}
+use Rattle.ti_handshake.specs.declared.discarded.Discarded.{Discarded}
 use Rattle.ti_handshake.proofs.Holding.{goes_then, waits_looks}
 use Rattle.ti_agent.specs.Deadlines.{DiscardsAt}
 use Rattle.ti_agent.specs.Desks.{Retires}
@@ -21,7 +22,7 @@ use Rattle.ti_agent.specs.Home.{Housed}
 use Rattle.ti_agent.specs.Quiesced.{MayQuiesce, Quiesces}
 use Rattle.ti_agent.specs.Resumed.{cancelled_at, cancelled_of}
 use Rattle.ti_agent.proofs.InTime.{discards_place, seen_same}
-use Rattle.ti_agent.proofs.Places.{place_set}
+use Rattle.ti_agent.proofs.Places.{place_set, set_get}
 use Rattle.ti_agent.proofs.Resuming.{may_discard}
 use Rattle.ti_agent.proofs.Whole.{seen_call}
 use Rattle.ti_vmop.proofs.Each.{set_here}
@@ -69,12 +70,12 @@ cancelled s t i p q (Ok u) is at here hold = inr (quiesced s t i p q p.view.post
 cancelled s t i p q (Err e) is at here hold = tt
 
 -- an answer is discarded
-thrown_of : (s : Environment) (t : ThreadNo) (i : ℕ) (l : List Ticket) (p q : DeskState) (thrown : Bool) → i ≡ place_in s.desks t → slice_get s.desks i ≡ Some p → DiscardsOf l p q thrown → MayQuiesce s (seen_call s i q) t
-thrown_of s t i [] p q thrown is at d = inl (seen_same s i p q at d.0)
-thrown_of s t i (u ∷ l) p q thrown is at d = inr (quiesced s t i p q _ is at d.cell d.env d.hold.waits (λ k h. fewer_if thrown k u p.view.posted h))
+discarded_of : (s : Environment) (t : ThreadNo) (i : ℕ) (l : List Ticket) (p q : DeskState) (was_there : Bool) → i ≡ place_in s.desks t → slice_get s.desks i ≡ Some p → DiscardsOf l p q was_there → MayQuiesce s (seen_call s i q) t
+discarded_of s t i [] p q was_there is at d = inl (seen_same s i p q at d.0)
+discarded_of s t i (u ∷ l) p q was_there is at d = inr (quiesced s t i p q _ is at d.cell d.env d.hold.waits (λ k h. fewer_if was_there k u p.view.posted h))
 
-pub discarded : (s new : Environment) (t : ThreadNo) (thrown : Bool) → DiscardsAt s new t thrown → MayQuiesce s new t
-discarded s new t thrown d = subst (λ (x : Environment). MayQuiesce s x t) (sym d.new_is) (thrown_of s t (place_in s.desks t) d.before.cancelled d.before d.after thrown refl d.there d.discards)
+pub discarded : (s new : Environment) (t : ThreadNo) (was_there : Bool) → DiscardsAt s new t was_there → MayQuiesce s new t
+discarded s new t was_there d = subst (λ (x : Environment). MayQuiesce s x t) (sym d.new_is) (discarded_of s t (place_in s.desks t) d.before.cancelled d.before d.after was_there refl d.there d.discards)
 
 -- the desk looks, until there is news
 pub waited : (s : Environment) (t : ThreadNo) (i : ℕ) (p q : DeskState) → i ≡ place_in s.desks t → slice_get s.desks i ≡ Some p → IsSame p q → Waits p.view q.view [] → MayQuiesce s (seen_call s i q) t
@@ -137,12 +138,6 @@ quiesced_there a b t (inr k) here =
     let long = ap (λ (x : Environment). length x.desks) k.new_is ∙ length-set a.desks (place_in a.desks t) k.after in
     omega (arith, place, long, here)
 
--- an answer that is discarded is one call less that was cancelled
-set_get : (l : List DeskState) (i : ℕ) (p q : DeskState) → slice_get l i ≡ Some p → slice_get (slice_set l i q) i ≡ Some q
-set_get [] i p q at = cc
-set_get (x ∷ l) zero p q at = refl
-set_get (x ∷ l) (suc i) p q at = set_get l i p q at
-
 fewer_left : (l : List Ticket) (p q : DeskState) → p.cancelled ≡ l → DiscardsOf l p q true → length q.cancelled < length p.cancelled
 fewer_left [] p q is d = absurd (never d.1)
   where
@@ -165,22 +160,23 @@ fewer_cancelled a b t d =
     here = discards_place a b t t true d
 
 -- whatever came of one try
-pub tried : (a b : Environment) (t : ThreadNo) (thrown : Bool) → (place_in a.desks t < length a.desks → DiscardsAt a b t thrown) → (length a.desks ≤ place_in a.desks t → b ≡ a) → MayQuiesce a b t
-tried a b t thrown there nobody = elim (may_discard a b t thrown there nobody) [ inl d ↦ discarded a b t d.0 d.1 | inr same ↦ inl same ]
+pub tried : (a b : Environment) (t : ThreadNo) (was_there : Bool) → (place_in a.desks t < length a.desks → DiscardsAt a b t was_there) → (length a.desks ≤ place_in a.desks t → b ≡ a) → MayQuiesce a b t
+tried a b t was_there there nobody = elim (may_discard a b t was_there there nobody) [ inl d ↦ discarded a b t d.0 d.1 | inr same ↦ inl same ]
 
 -- an answer was discarded only where there is a desk
-abbrev result : Bool → Result Bool TiError
-result b = Ok b
+abbrev result : Option Discarded → Result (Option Discarded) TiError
+result d = Ok d
 
-pub thrown_there : {S : Type 0} → (a b : Environment) (t : ThreadNo) (thrown : Bool) → thrown ≡ true → (place_in a.desks t < length a.desks → DiscardsAt a b t thrown) → (length a.desks ≤ place_in a.desks t → S × (result thrown ≡ result false)) → DiscardsAt a b t true
-thrown_there a b t thrown is there nobody =
+pub discarded_there : {S : Type 0} → (a b : Environment) (t : ThreadNo) (d : Option Discarded) → is_some d ≡ true → (place_in a.desks t < length a.desks → DiscardsAt a b t (is_some d)) → (length a.desks ≤ place_in a.desks t → S × (result d ≡ result None)) → DiscardsAt a b t true
+discarded_there a b t d is there nobody =
     elim (cases_lt (place_in a.desks t) (length a.desks)) [
       | inl here ↦ subst (λ (x : Bool). DiscardsAt a b t x) is (there here)
-      | inr past ↦ absurd (never thrown is (nobody past).1)
+      | inr past ↦ absurd (never d is (nobody past).1)
     ]
   where
-    never : (x : Bool) → x ≡ true → result x ≡ result false → ⊥
-    never x e f = cc
+    never : (x : Option Discarded) → is_some x ≡ true → result x ≡ result None → ⊥
+    never (Some v) e f = cc
+    never None e f = cc
 
 -- none is out
 pub none_out : (n : ℕ) → true ≡ (n == 0) → n ≡ 0

@@ -93,7 +93,7 @@ here_before old mid thread p nobody at = elim (cases_lt (place_in old.desks thre
       back
 ]
 
--- a call that was given up is at a desk
+-- a call that was cancelled is at a desk
 pub desk_of : (s : Environment) (thread : ThreadNo) (k : Ticket) → slice_get (cancelled_at s thread) 0 ≡ Some k → (p : DeskState) × (slice_get s.desks (place_in s.desks thread) ≡ Some p)
 desk_of s thread k first = by_desk (slice_get s.desks (place_in s.desks thread)) first
   where
@@ -118,9 +118,9 @@ some_first l k first = λ e. never (sym (ap (λ (m : List Ticket). slice_get m 0
     never e = cc
 
 -- what may be said of a discard wherever it was
-pub may_discard : (old mid : Environment) (thread : ThreadNo) (thrown : Bool) → (place_in old.desks thread < length old.desks → DiscardsAt old mid thread thrown) → (length old.desks ≤ place_in old.desks thread → mid ≡ old) → MayDiscard old mid thread
-may_discard old mid thread thrown discards nobody = elim (cases_lt (place_in old.desks thread) (length old.desks)) [
-  | inl here ↦ inl (thrown, discards here)
+pub may_discard : (old mid : Environment) (thread : ThreadNo) (was_there : Bool) → (place_in old.desks thread < length old.desks → DiscardsAt old mid thread was_there) → (length old.desks ≤ place_in old.desks thread → mid ≡ old) → MayDiscard old mid thread
+may_discard old mid thread was_there discards nobody = elim (cases_lt (place_in old.desks thread) (length old.desks)) [
+  | inl here ↦ inl (was_there, discards here)
   | inr past ↦ inr (nobody past)
 ]
 
@@ -140,20 +140,20 @@ none_of (Some k) h = absurd (never h)
 
 -- what each result of a try comes to
 
-pub yet_to_come : (old new : Environment) (thread : ThreadNo) (thrown : Bool) (first : Option Ticket) → (place_in old.desks thread < length old.desks → DiscardsAt old new thread thrown) → (length old.desks ≤ place_in old.desks thread → new ≡ old)
+pub yet_to_come : (old new : Environment) (thread : ThreadNo) (was_there : Bool) (first : Option Ticket) → (place_in old.desks thread < length old.desks → DiscardsAt old new thread was_there) → (length old.desks ≤ place_in old.desks thread → new ≡ old)
     → first ≡ slice_get (cancelled_at new thread) 0 → is_some first ≡ true → IsYetToCome old new thread
-yet_to_come old new thread thrown first discards nobody is some =
+yet_to_come old new thread was_there first discards nobody is some =
     let k = some_of first some in
     let at : slice_get (cancelled_at new thread) 0 ≡ Some k.0 = sym is ∙ k.1 in
     let desk = desk_of new thread k.0 at in
-    record { thrown = thrown; discards = discards (here_before old new thread desk.0 nobody desk.1); out = some_first (cancelled_at new thread) k.0 at }
+    record { was_there = was_there; discards = discards (here_before old new thread desk.0 nobody desk.1); out = some_first (cancelled_at new thread) k.0 at }
 
-pub resumed : (old mid new : Environment) (thread : ThreadNo) (thrown : Bool) (first : Option Ticket) (a : Answer) (r : Result Bool TiError) → (place_in old.desks thread < length old.desks → DiscardsAt old mid thread thrown) → (length old.desks ≤ place_in old.desks thread → mid ≡ old)
+pub resumed : (old mid new : Environment) (thread : ThreadNo) (was_there : Bool) (first : Option Ticket) (a : Answer) (r : Result Bool TiError) → (place_in old.desks thread < length old.desks → DiscardsAt old mid thread was_there) → (length old.desks ≤ place_in old.desks thread → mid ≡ old)
     → first ≡ slice_get (cancelled_at mid thread) 0 → is_some first ≡ false → Posts mid new thread Resume (Answered a) → IfOk r (λ b. (b ≡ true) × (is_resumed (said a) ≡ true)) → r ≡ Ok true → IsResumed old new thread
-resumed old mid new thread thrown first a r discards nobody is none posts told ok =
+resumed old mid new thread was_there first a r discards nobody is none posts told ok =
     let done : is_resumed (said a) ≡ true = (subst (λ (x : Result Bool TiError). IfOk x (λ b. (b ≡ true) × (is_resumed (said a) ≡ true))) ok told).1 in
     record {
-      thrown = thrown;
+      was_there = was_there;
       mid = mid;
       discards = discards (here_before old mid thread posts.before nobody posts.there);
       none = none_first (cancelled_at mid thread) (sym is ∙ none_of first none);

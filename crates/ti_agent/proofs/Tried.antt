@@ -13,13 +13,14 @@ use Rattle.ti_replay.specs.Tickets.{reply_to}
 use Rattle.ti_slot.specs.Tickets.{has, without_ticket}
 use Rattle.ti_slot.specs.declared.asked.Asked.{Asked as AskedOf}
 use Rattle.ti_handshake.specs.Call.{Holds, HoldsWith}
-use Rattle.ti_handshake.specs.Desk.{DeskState, Discards, IsSame, ReplyAtPlace, is_out}
-use Rattle.ti_agent.specs.Deadlines.{DiscardsAt}
+use Rattle.ti_handshake.specs.Desk.{DeskState, Discards, IsSame, ReplyAtPlace, TellsDiscarded, is_out}
+use Rattle.ti_handshake.specs.declared.discarded.Discarded.{Discarded}
+use Rattle.ti_agent.specs.Deadlines.{DiscardsAt, TellsDiscardedAt}
 use Rattle.ti_agent.specs.Env.{Environment, IsWhole, place_in}
 use Rattle.ti_agent.specs.HandOvers.{LooksAt}
 use Rattle.ti_agent.specs.Posts.{IsOutIfWaiting, LooksFor, Posts}
 use Rattle.ti_agent.proofs.InTime.{discard_whole, seen_same}
-use Rattle.ti_agent.proofs.Places.{about_at}
+use Rattle.ti_agent.proofs.Places.{about_at, set_get}
 use Rattle.ti_agent.proofs.Posting.{looked_for, out_if_waiting}
 use Rattle.ti_agent.proofs.Whole.{fewer_if, seen_call, whole_seen}
 
@@ -40,19 +41,40 @@ pub collect_looks : (s : Environment) (k : Ticket) (t : ℕ) (p q : DeskState) (
 collect_looks s k t p q (Ok o) is at same hold once answer place = λ _. looked_for s k t p q o is at same hold once answer place
 collect_looks s k t p q (Err e) is at same hold once answer place = tt
 
-pub tried_discard : (s : Environment) (t : ℕ) (p q : DeskState) (r : Result Bool TiError) → IsWhole s → slice_get s.desks t ≡ Some p → IfOk r (λ thrown. Discards p q thrown) → IfErr r (λ e. (e ≡ Busy) × (q ≡ p))
+pub tried_discard : (s : Environment) (t : ℕ) (p q : DeskState) (r : Result (Option Discarded) TiError) → IsWhole s → slice_get s.desks t ≡ Some p → IfOk r (λ d. Discards p q (is_some d)) → IfErr r (λ e. (e ≡ Busy) × (q ≡ p))
     → IsWhole (seen_call s t q)
-tried_discard s t p q (Ok thrown) whole at discards busy = discard_whole s t p q thrown whole at discards
+tried_discard s t p q (Ok d) whole at discards busy = discard_whole s t p q (is_some d) whole at discards
 tried_discard s t p q (Err e) whole at discards busy = subst (λ (z : Environment). IsWhole z) (sym (seen_same s t p q at busy.1)) whole
 
-pub discarded : (s : Environment) (thread : ThreadNo) (t : ℕ) (p q : DeskState) (thrown : Bool) → t ≡ place_in s.desks thread → slice_get s.desks t ≡ Some p → Discards p q thrown → DiscardsAt s (seen_call s t q) thread thrown
-discarded s thread t p q thrown is at discards =
+pub discarded : (s : Environment) (thread : ThreadNo) (t : ℕ) (p q : DeskState) (was_there : Bool) → t ≡ place_in s.desks thread → slice_get s.desks t ≡ Some p → Discards p q was_there → DiscardsAt s (seen_call s t q) thread was_there
+discarded s thread t p q was_there is at discards =
     let there = ap (slice_get s.desks) (sym is) ∙ at in
     record { before = p; after = q; there = there; about = about_at s.desks thread p there; discards = discards; new_is = ap (λ (n : ℕ). seen_call s n q) is }
 
-pub discards_at : (s : Environment) (thread : ThreadNo) (t : ℕ) (p q : DeskState) (r : Result Bool TiError) → t ≡ place_in s.desks thread → slice_get s.desks t ≡ Some p → IfOk r (λ thrown. Discards p q thrown)
-    → IfOk r (λ thrown. place_in s.desks thread < length s.desks → DiscardsAt s (seen_call s t q) thread thrown)
-discards_at s thread t p q (Ok thrown) is at discards = λ _. discarded s thread t p q thrown is at discards
+-- what is told of it
+pub discarded_tells : (s : Environment) (thread : ThreadNo) (t : ℕ) (p q : DeskState) (k : Ticket) (a : Answer) → t ≡ place_in s.desks thread → slice_get s.desks t ≡ Some p → TellsDiscarded p q k a → TellsDiscardedAt s (seen_call s t q) thread k a
+discarded_tells s thread t p q k a is at tells =
+    record {
+      before = p;
+      after = q;
+      there = ap (slice_get s.desks) (sym is) ∙ at;
+      there_then = ap (λ (n : ℕ). slice_get (seen_call s t q).desks n) (sym is) ∙ set_get s.desks t p q at;
+      tells = tells;
+    }
+
+pub tells_discarded : (s : Environment) (thread : ThreadNo) (t : ℕ) (p q : DeskState) (d : Option Discarded) → t ≡ place_in s.desks thread → slice_get s.desks t ≡ Some p → IfSome d (λ r. TellsDiscarded p q r.ticket (said r.answer))
+    → IfSome d (λ r. TellsDiscardedAt s (seen_call s t q) thread r.ticket (said r.answer))
+tells_discarded s thread t p q (Some r) is at tells = discarded_tells s thread t p q r.ticket (said r.answer) is at tells
+tells_discarded s thread t p q None is at tells = tt
+
+pub tried_tells : (s : Environment) (thread : ThreadNo) (t : ℕ) (p q : DeskState) (r : Result (Option Discarded) TiError) → t ≡ place_in s.desks thread → slice_get s.desks t ≡ Some p → IfOk r (λ d. IfSome d (λ o. TellsDiscarded p q o.ticket (said o.answer)))
+    → IfOk r (λ d. IfSome d (λ o. TellsDiscardedAt s (seen_call s t q) thread o.ticket (said o.answer)))
+tried_tells s thread t p q (Ok d) is at tells = tells_discarded s thread t p q d is at tells
+tried_tells s thread t p q (Err e) is at tells = tt
+
+pub discards_at : (s : Environment) (thread : ThreadNo) (t : ℕ) (p q : DeskState) (r : Result (Option Discarded) TiError) → t ≡ place_in s.desks thread → slice_get s.desks t ≡ Some p → IfOk r (λ d. Discards p q (is_some d))
+    → IfOk r (λ d. place_in s.desks thread < length s.desks → DiscardsAt s (seen_call s t q) thread (is_some d))
+discards_at s thread t p q (Ok d) is at discards = λ _. discarded s thread t p q (is_some d) is at discards
 discards_at s thread t p q (Err e) is at discards = tt
 
 -- if a call was posted and waits, its ticket is out

@@ -9,12 +9,12 @@ use Rattle.ti_types.specs.declared.event.Ticket.{Ticket}
 use Rattle.ti_types.specs.declared.numbers.ThreadNo.{ThreadNo}
 use Rattle.ti_env.specs.Env.{with_spent}
 use Rattle.ti_handshake.specs.Call.{GoesOn, Holds, next_call}
-use Rattle.ti_handshake.specs.Desk.{DeskState, Discards, GivesUp, is_out}
+use Rattle.ti_handshake.specs.Desk.{DeskState, Discards, CancelsLate, TellsDiscarded, is_out}
 use Rattle.ti_replay.specs.Settling.{waits}
 use Rattle.ti_agent.specs.Env.{Environment, place_in, place_of, thread_refusal, is_full}
 use Rattle.ti_agent.specs.Asks.{Went, is_for_memory, is_timed_out}
 
--- the desk at the ticket's thread gave the call up by one hold, if the ticket was out there. Nothing else changed
+-- the desk at the ticket's thread cancelled the call by one hold, if the ticket was out there. Nothing else changed
 pub record Cancels (old new : Environment) (ticket : Ticket) : Type 0 where
   pub before : DeskState
   pub after : DeskState
@@ -28,30 +28,38 @@ pub record Cancels (old new : Environment) (ticket : Ticket) : Type 0 where
 
 -- the desk at a thread discarded the answer to the call that was cancelled first there, if the answer was there. Nothing
 -- else changed
-pub record DiscardsAt (old new : Environment) (thread : ThreadNo) (thrown : Bool) : Type 0 where
+pub record DiscardsAt (old new : Environment) (thread : ThreadNo) (was_there : Bool) : Type 0 where
   pub before : DeskState
   pub after : DeskState
   pub there : slice_get old.desks (place_in old.desks thread) ≡ Some before
   pub about : before.view.subject.thread ≡ thread
-  pub discards : Discards before after thrown
+  pub discards : Discards before after was_there
   pub new_is : new ≡ record { env = old.env; state = old.state; desks = slice_set old.desks (place_in old.desks thread) after }
 
--- one call is spent at the thread, and its desk there gave the call up when the time was over. Nothing else changed
-pub record GivesUpAt (old new : Environment) (thread : ThreadNo) (c : Call) : Type 0 where
+-- what is told of an answer that the desk at a thread discarded
+pub record TellsDiscardedAt (old new : Environment) (thread : ThreadNo) (ticket : Ticket) (answer : Answer) : Type 0 where
+  pub before : DeskState
+  pub after : DeskState
+  pub there : slice_get old.desks (place_in old.desks thread) ≡ Some before
+  pub there_then : slice_get new.desks (place_in old.desks thread) ≡ Some after
+  pub tells : TellsDiscarded before after ticket answer
+
+-- one call is spent at the thread, and its desk there cancelled the call when the time was over. Nothing else changed
+pub record CancelsLateAt (old new : Environment) (thread : ThreadNo) (c : Call) : Type 0 where
   pub before : DeskState
   pub after : DeskState
   pub there : slice_get old.desks (place_in old.desks thread) ≡ Some before
   pub about : before.view.subject.thread ≡ thread
   pub goes : GoesOn before.view after.view
   pub mine : after.view.mine ≡ before.view.mine ++ next_call before.view before.env c ∷ []
-  pub gives_up : GivesUp before after c
+  pub cancels_late : CancelsLate before after c
   pub new_is : new ≡ record { env = old.env; state = with_spent old.state (place_of old.desks thread); desks = slice_set old.desks (place_in old.desks thread) after }
 
 -- the result of an admitted call with a deadline for which there is room: 110 if there is no memory for it, and then nothing is
 -- asked; 214 when the time is over; otherwise what its desk answers. No thread answers 110 or 214
 abbrev pub ComesAs : (for_memory timed_out : Bool) → Environment → Environment → ThreadNo → Call → Answer → Type 0
 ComesAs true timed_out old new thread c a = new ≡ old
-ComesAs false true old new thread c a = GivesUpAt old new thread c
+ComesAs false true old new thread c a = CancelsLateAt old new thread c
 ComesAs false false old new thread c a = Went old new thread c a
 
 abbrev pub ComesTo : Environment → Environment → ThreadNo → Call → Answer → Type 0
@@ -63,9 +71,9 @@ ComesWith false old new thread c a = ComesTo old new thread c a
 
 -- first the answer to a call that was cancelled there is discarded, if it is there. At a full window the call is refused then
 pub record Comes (old new : Environment) (thread : ThreadNo) (c : Call) (a : Answer) : Type 0 where
-  pub thrown : Bool
+  pub was_there : Bool
   pub mid : Environment
-  pub discards : DiscardsAt old mid thread thrown
+  pub discards : DiscardsAt old mid thread was_there
   pub comes : ComesWith (waits c && is_full mid thread) mid new thread c a
 
 abbrev pub IsCalledWithinBy : Option TiError → Environment → Environment → ThreadNo → Call → Answer → Type 0

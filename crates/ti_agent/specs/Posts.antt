@@ -75,7 +75,7 @@ pub record WaitsFor (old new : Environment) (ticket : Ticket) (r : Option Answer
   pub place : IfSome r (λ a. ReplyAtPlace before.view.subject.limits after.view.seen ticket a)
   pub new_is : new ≡ record { env = old.env; state = old.state; desks = slice_set old.desks (place_in old.desks ticket.thread) after }
 
--- the ticket is out at the desk of its thread, and was not given up
+-- the ticket is out at the desk of its thread, and was not cancelled
 pub record IsOut (s : Environment) (k : Ticket) : Type 0 where
   pub desk : DeskState
   pub there : slice_get s.desks (place_in s.desks k.thread) ≡ Some desk

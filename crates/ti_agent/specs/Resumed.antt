@@ -37,9 +37,9 @@ is_suspended v = (view v.subject.limits v.seen).suspended
 -- One answer was discarded at the thread, if it was there. Then no call that was cancelled there was out. A resumption was
 -- posted and answered, and the thread is not suspended after it
 pub record IsResumed (old new : Environment) (thread : ThreadNo) : Type 0 where
-  pub thrown : Bool
+  pub was_there : Bool
   pub mid : Environment
-  pub discards : DiscardsAt old mid thread thrown
+  pub discards : DiscardsAt old mid thread was_there
   pub none : cancelled_at mid thread ≡ []
   pub answer : Answer
   pub posts : Posts mid new thread Resume (Answered answer)
@@ -48,13 +48,13 @@ pub record IsResumed (old new : Environment) (thread : ThreadNo) : Type 0 where
 
 -- One answer was discarded at the thread, if it was there. A call that was cancelled there is still out
 pub record IsYetToCome (old new : Environment) (thread : ThreadNo) : Type 0 where
-  pub thrown : Bool
-  pub discards : DiscardsAt old new thread thrown
+  pub was_there : Bool
+  pub discards : DiscardsAt old new thread was_there
   pub out : cancelled_at new thread ≢ []
 
 -- one answer was discarded at the thread, or nothing changed
 abbrev pub MayDiscard : Environment → Environment → ThreadNo → Type 0
-MayDiscard old new thread = ((thrown : Bool) × DiscardsAt old new thread thrown) ⊎ (new ≡ old)
+MayDiscard old new thread = ((was_there : Bool) × DiscardsAt old new thread was_there) ⊎ (new ≡ old)
 
 -- The error is that of the environment, of a cell in use, or of the thread, which answered a resumption with it. Before that one
 -- answer may have been discarded

@@ -7,6 +7,7 @@ use std::rt::Clock;
 use std::sync::Wait;
 use std::time::Duration;
 use ti_cell::Pace;
+use ti_handshake::Discarded;
 use ti_types::{Answer, Call, ThreadNo, TiError, Ticket, TraceBuf};
 
 impl<H: Home> Env<H> {
@@ -38,25 +39,32 @@ impl<H: Home> Env<H> {
     /// Looks for the answer to the call that was cancelled first at a thread, by one hold (this profile). If the answer is
     /// there, it is discarded, and the call is no longer out.
     ///
-    /// `true` if an answer was discarded. `false` if there is none yet, if no call was cancelled there, or if there is no
-    /// such thread.
-    pub fn discard<R: Wait>(&mut self, rt: &R, thread: ThreadNo) -> bool
-        ensures discards { place_in self.old.env.desks thread < length self.old.env.desks → DiscardsAt self.old.env self.new.env thread result }
-        ensures nobody { length self.old.env.desks ≤ place_in self.old.env.desks thread → (self.new ≡ self.old) × (result ≡ false) }
+    /// Returns which call it was and what came of it. `None` if there is no answer yet, if no call was cancelled there, or if
+    /// there is no such thread.
+    pub fn discard<R: Wait>(&mut self, rt: &R, thread: ThreadNo) -> Option<Discarded>
+        ensures discards { place_in self.old.env.desks thread < length self.old.env.desks → DiscardsAt self.old.env self.new.env thread (is_some result) }
+        ensures tells { IfSome result (λ r. TellsDiscardedAt self.old.env self.new.env thread r.ticket (said r.answer)) }
+        ensures nobody { length self.old.env.desks ≤ place_in self.old.env.desks thread → (self.new ≡ self.old) × (result ≡ None) }
         ensures home { self.new.home ≡ self.old.home }
     {
         let place = self.place_of(thread);
         if place.0 >= self.desk_count() {
-            return false;
+            return None;
         }
         self.discard_at(rt, thread, place)
     }
 
     /// The same as `discard`, at the thread at this place, where there is a desk.
-    fn discard_at<R: Wait>(&mut self, rt: &R, thread: ThreadNo, place: ThreadNo) -> bool
+    fn discard_at<R: Wait>(
+        &mut self,
+        rt: &R,
+        thread: ThreadNo,
+        place: ThreadNo,
+    ) -> Option<Discarded>
         requires place { place ≡ place_of self.old.env.desks thread }
         requires there { place_in self.old.env.desks thread < length self.old.env.desks }
-        ensures discards { DiscardsAt self.old.env self.new.env thread result }
+        ensures discards { DiscardsAt self.old.env self.new.env thread (is_some result) }
+        ensures tells { IfSome result (λ r. TellsDiscardedAt self.old.env self.new.env thread r.ticket (said r.answer)) }
         ensures home { self.new.home ≡ self.old.home }
     {
         let _thread = thread;
@@ -109,7 +117,7 @@ impl<H: Home> Env<H> {
             Ok(place) => place,
             Err(error) => return Answer::Refused(error),
         };
-        let _thrown = self.discard_at(rt, thread, place);
+        drop(self.discard_at(rt, thread, place));
         match self.room_for(alloc, thread, place, call) {
             Ok(buf) => self.ask_one_within(rt, alloc, thread, place, call, buf, time),
             Err(error) => Answer::Refused(error),
@@ -117,11 +125,11 @@ impl<H: Home> Env<H> {
     }
 }
 
-ghost use Rattle.std.specs.Prelude.{◌≡◌, ◌<◌, ◌≤◌, ◌&&◌, false, length, None, IfErr, OnOk, OnErr};
+ghost use Rattle.std.specs.Prelude.{◌≡◌, ◌<◌, ◌≤◌, ◌&&◌, false, is_some, length, None, IfSome, IfErr, OnOk, OnErr};
 ghost use Rattle.ti_types.specs.Answer.{said};
 ghost use Rattle.ti_types.specs.declared.error.TiError.TheVariants.{OutOfMemory};
 ghost use Rattle.ti_replay.specs.Settling.{waits};
 ghost use Rattle.ti_agent.specs.Buffers.{IsJustBufferOf};
 ghost use Rattle.ti_agent.specs.Env.{place_in, place_of, thread_refusal, is_full};
 ghost use Rattle.ti_agent.specs.Asks.{IsKind};
-ghost use Rattle.ti_agent.specs.Deadlines.{Cancels, DiscardsAt, ComesTo, IsCalledWithin};
+ghost use Rattle.ti_agent.specs.Deadlines.{Cancels, DiscardsAt, TellsDiscardedAt, ComesTo, IsCalledWithin};

@@ -176,6 +176,7 @@ impl<H: Home> Env<H> {
 
     /// The same as `take_desk`, by the index of the desk. `None` if there is no such desk.
     pub fn take_by_index(&mut self, index: u32) -> Option<FreeDesk>
+        ensures there { IfSome result (λ f. index < length self.old.env.desks) }
         ensures taken { IfSome result (λ f. (t : ThreadNo) → index ≡ place_in self.old.env.desks t → IsTaken self.old.env self.new.env t f) }
         ensures nobody { IfNone result (length self.old.env.desks ≤ index) }
         ensures unchanged { IfNone result (self.new ≡ self.old) }

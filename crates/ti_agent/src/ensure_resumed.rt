@@ -41,7 +41,7 @@ impl<H: Home> Env<H> {
         ensures home { self.new.home ≡ self.old.home }
     {
         match self.discard_now(thread) {
-            Ok(_thrown) => (),
+            Ok(_discarded) => (),
             Err(error) => return Err(error),
         }
         if self.first_cancelled_at(thread).is_some() {

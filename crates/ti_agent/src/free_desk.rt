@@ -54,7 +54,7 @@ impl FreeDesk {
         ensures legal { is_legal self.now.desk.view.subject.limits self.now.desk.view.seen ≡ true }
         ensures mine { self.now.desk.view.mine ≡ made_by self.now.desk.view.number self.now.desk.view.seen }
         ensures few { length self.now.desk.view.posted ≤ length self.now.desk.view.mine }
-        ensures cancelled { AreGivenUp self.now.desk.cancelled self.now.desk.view.posted }
+        ensures cancelled { AreCancelled self.now.desk.cancelled self.now.desk.view.posted }
     {
         self.desk.facts();
     }
@@ -97,5 +97,5 @@ ghost use Rattle.std.specs.Prelude.{◌≡◌, ◌+◌, ◌<◌, ◌≤◌, true
 ghost use Rattle.ti_types.specs.declared.error.TiError.TheVariants.{IllegalArgument};
 ghost use Rattle.ti_replay.specs.Legal.{is_legal};
 ghost use Rattle.ti_replay.specs.Makers.{made_by};
-ghost use Rattle.ti_handshake.specs.Cancelled.{AreGivenUp};
+ghost use Rattle.ti_handshake.specs.Cancelled.{AreCancelled};
 ghost use Rattle.ti_agent.specs.FreeDesk.{IsFree};

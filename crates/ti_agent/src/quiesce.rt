@@ -35,7 +35,7 @@ impl<H: Home> Env<H> {
         ensures busy { IfErr result (λ e. e ≡ Busy) }
         ensures home { self.new.home ≡ self.old.home }
     {
-        while self.discard_now(thread)? {}
+        while self.discard_now(thread)?.is_some() {}
         Ok(())
     }
 

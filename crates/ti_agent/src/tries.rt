@@ -10,6 +10,7 @@ use crate::home::Home;
 use std::alloc::Global;
 use std::sync::Wait;
 use ti_cell::Pace;
+use ti_handshake::Discarded;
 use ti_replay::rules::waits as may_wait;
 use ti_slot::Asked;
 use ti_types::{Answer, Call, EnvNo, ThreadNo, TiError, Ticket, TraceBuf};
@@ -242,20 +243,21 @@ impl<H: Home> Env<H> {
     /// Looks for the answer to the call that was cancelled first at a thread (this profile). It is the same as `discard`, but
     /// tries to hold the thread's cell just once. If the answer is there, it is discarded, and the call is no longer out.
     ///
-    /// `true` if an answer was discarded. `false` if there is none yet, if no call was cancelled there, or if there is no
-    /// such thread.
+    /// Returns which call it was and what came of it. `None` if there is no answer yet, if no call was cancelled there, or if
+    /// there is no such thread.
     ///
     /// The error is 215 (this profile: `Busy`) if the thread's cell is in use. Then nothing changes.
-    pub fn discard_now(&mut self, thread: ThreadNo) -> Result<bool, TiError>
-        ensures discards { IfOk result (λ thrown. place_in self.old.env.desks thread < length self.old.env.desks → DiscardsAt self.old.env self.new.env thread thrown) }
-        ensures nobody { length self.old.env.desks ≤ place_in self.old.env.desks thread → (self.new ≡ self.old) × (result ≡ Ok false) }
+    pub fn discard_now(&mut self, thread: ThreadNo) -> Result<Option<Discarded>, TiError>
+        ensures discards { IfOk result (λ d. place_in self.old.env.desks thread < length self.old.env.desks → DiscardsAt self.old.env self.new.env thread (is_some d)) }
+        ensures tells { IfOk result (λ d. IfSome d (λ r. TellsDiscardedAt self.old.env self.new.env thread r.ticket (said r.answer))) }
+        ensures nobody { length self.old.env.desks ≤ place_in self.old.env.desks thread → (self.new ≡ self.old) × (result ≡ Ok None) }
         ensures busy { IfErr result (λ e. e ≡ Busy) }
         ensures unchanged { OnErr result (self.new ≡ self.old) }
         ensures home { self.new.home ≡ self.old.home }
     {
         let at = self.place_of(thread).0 as usize;
         if at >= self.desks.len() {
-            return Ok(false);
+            return Ok(None);
         }
         self.desks[at].discard_now()
     }
@@ -405,7 +407,7 @@ impl<H: Home> Env<H> {
     }
 }
 
-ghost use Rattle.std.specs.Prelude.{◌≡◌, ◌⊎◌, ◌<◌, ◌≤◌, ◌&&◌, true, false, length, None, Some, Ok, IfSome, IfNone, IfOk, IfErr, OnOk, OnErr, IsOk, if◌then◌else◌};
+ghost use Rattle.std.specs.Prelude.{◌≡◌, ◌⊎◌, ◌<◌, ◌≤◌, ◌&&◌, true, false, is_some, length, None, Some, Ok, IfSome, IfNone, IfOk, IfErr, OnOk, OnErr, IsOk, if◌then◌else◌};
 ghost use Rattle.std.specs.Option.{option_map};
 ghost use Rattle.ti_types.specs.Answer.{said};
 ghost use Rattle.ti_types.specs.Refusing.{or_else};
@@ -413,7 +415,7 @@ ghost use Rattle.ti_types.specs.declared.error.TiError.TheVariants.{Busy, Full, 
 ghost use Rattle.ti_replay.specs.Admission.{takes_buffer};
 ghost use Rattle.ti_replay.specs.Settling.{waits};
 ghost use Rattle.ti_agent.specs.Buffers.{IsJustBufferOf};
-ghost use Rattle.ti_agent.specs.Deadlines.{Cancels, DiscardsAt};
+ghost use Rattle.ti_agent.specs.Deadlines.{Cancels, DiscardsAt, TellsDiscardedAt};
 ghost use Rattle.ti_agent.specs.Desks.{Retires};
 ghost use Rattle.ti_agent.specs.Emptied.{IsEmptied};
 ghost use Rattle.ti_agent.specs.Env.{place_in, place_of, thread_refusal, is_full};

@@ -53,12 +53,12 @@ Calls R unwritten old new code = CallsBehind (env_in old) (env_in new) R unwritt
 abbrev pub env_with : Environment → EnvValue → Environment
 env_with e state = record { env = e.env; state = state; desks = e.desks }
 
--- a call is given up (`ti_service`, `Agent::cancel_now`)
+-- a call is cancelled (`ti_service`, `Agent::cancel_now`)
 pub data CancelsBy (k : Ticket) (s n : AgentValue) (code : ℕ) : Type 0 where
   Cancelled : code ≡ 0 → n.home ≡ s.home → (place_in s.env.desks k.thread < length s.env.desks → Cancels s.env n.env k) → (length s.env.desks ≤ place_in s.env.desks k.thread → n ≡ s) → CancelsBy k s n code
   NotCancelled : (e : TiError) → code ≡ number_of e → (e ≡ OutOfMemory) ⊎ (e ≡ Busy) → n ≡ s → CancelsBy k s n code
 
--- an answer is thrown away, or not (`ti_service`, `Agent::discard_now`)
+-- an answer is discarded, or not (`ti_service`, `Agent::discard_now`)
 pub data DiscardsBy (t : ThreadNo) (b0 b1 : Bool) (s n : AgentValue) (code : ℕ) : Type 0 where
   Discarded : code ≡ 0 → n.home ≡ s.home → (place_in s.env.desks t < length s.env.desks → DiscardsAt s.env n.env t b1) → (length s.env.desks ≤ place_in s.env.desks t → (n ≡ s) × (b1 ≡ false)) → DiscardsBy t b0 b1 s n code
   DiscardBusy : code ≡ number_of Busy → b1 ≡ b0 → n ≡ s → DiscardsBy t b0 b1 s n code

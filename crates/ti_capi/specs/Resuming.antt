@@ -7,7 +7,7 @@ use Rattle.ti_agent.specs.Resumed.{IsResumed, IsYetToCome, IsNotResumed}
 use Rattle.ti_service.specs.Memberships.{AgentValue}
 use Rattle.ti_capi.specs.Codes.{waiting}
 
--- the thread is not suspended, a call that was given up is still to come, or an error (`ti_agent`, `Env::ensure_resumed_now`)
+-- the thread is not suspended, a call that was cancelled is still to come, or an error (`ti_agent`, `Env::ensure_resumed_now`)
 pub data ResumesBy (t : ThreadNo) (s n : AgentValue) (code : ℕ) : Type 0 where
   Resumed : code ≡ 0 → n.home ≡ s.home → IsResumed s.env n.env t → ResumesBy t s n code
   YetToCome : code ≡ waiting → n.home ≡ s.home → IsYetToCome s.env n.env t → ResumesBy t s n code

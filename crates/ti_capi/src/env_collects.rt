@@ -1,9 +1,9 @@
-//! Answers that an environment collects, and calls that it gives up.
+//! Answers that an environment collects, and calls that it cancels.
 
 use crate::codes::{CQ_NONE, CQ_OK, CQ_WAITING, code};
 use crate::handle::CqEnv;
 use crate::handle_lends::behind;
-use crate::values::{CqAnswer, CqFrame, CqTicket, ticket_in};
+use crate::values::{CqAnswer, CqFrame, CqTicket, ticket_in, ticket_out};
 use crate::writes::write_answer;
 use std::alloc::Global;
 use ti_types::ThreadNo;
@@ -26,7 +26,7 @@ pub extern "C" fn cq_collect(
     }
 }
 
-/// Gives a call up.
+/// Cancels a call.
 #[unsafe(no_mangle)]
 pub extern "C" fn cq_cancel(alloc: Global, env: &mut CqEnv, ticket: &CqTicket) -> u32
     ensures { Calls (CancelsBy (ticket_read ticket.now)) ⊤ env.old env.new result }
@@ -35,13 +35,37 @@ pub extern "C" fn cq_cancel(alloc: Global, env: &mut CqEnv, ticket: &CqTicket) -
     code!(agent.cancel_now(alloc, ticket_in(*ticket)))
 }
 
-/// Throws the answer away to the call that was given up first at a thread.
+/// Discards the answer to the call that was cancelled first at a thread.
 #[unsafe(no_mangle)]
-pub extern "C" fn cq_discard(env: &mut CqEnv, thread: u32, thrown: &mut bool) -> u32
-    ensures { Calls (DiscardsBy (thread_no thread) thrown.old thrown.new) (thrown.new ≡ thrown.old) env.old env.new result }
+pub extern "C" fn cq_discard(env: &mut CqEnv, thread: u32, discarded: &mut bool) -> u32
+    ensures { Calls (DiscardsBy (thread_no thread) discarded.old discarded.new) (discarded.new ≡ discarded.old) env.old env.new result }
 {
     behind!(agent in env.held_env());
-    code!(agent.discard_now(ThreadNo(thread)), is_thrown => *thrown = is_thrown)
+    code!(agent.discard_now(ThreadNo(thread)), told => *discarded = told.is_some())
+}
+
+/// The answer to the call that was cancelled first at a thread, and which call it was.
+#[unsafe(no_mangle)]
+pub extern "C" fn cq_collect_cancelled(
+    env: &mut CqEnv,
+    thread: u32,
+    answer: &mut CqAnswer,
+    frames: &mut [CqFrame],
+) -> u32
+    ensures { CollectsCancelled (thread_no thread) env.old env.new result answer.old answer.new frames.old frames.new }
+{
+    behind!(agent in env.held_env());
+    match agent.discard_now(ThreadNo(thread)) {
+        Ok(Some(discarded)) => {
+            answer.ticket = ticket_out(discarded.ticket);
+            write_answer(discarded.answer, answer, frames)
+        }
+        Ok(None) => match agent.first_cancelled_at(ThreadNo(thread)) {
+            Some(_) => CQ_WAITING,
+            None => CQ_NONE,
+        },
+        Err(error) => error.number(),
+    }
 }
 
 /// How many calls of the environment are out at a thread.
@@ -72,6 +96,6 @@ pub extern "C" fn cq_stopper(env: &mut CqEnv, thread: u32, number: &mut u32) -> 
 
 ghost use Rattle.std.specs.Prelude.{◌≡◌, ⊤};
 ghost use Rattle.ti_agent.specs.Env.{outstanding};
-ghost use Rattle.ti_capi.specs.Asking.{Collects, thread_no};
+ghost use Rattle.ti_capi.specs.Asking.{Collects, CollectsCancelled, thread_no};
 ghost use Rattle.ti_capi.specs.Calls.{Calls, CancelsBy, DiscardsBy, TellsStopperBy};
 ghost use Rattle.ti_capi.specs.Values.{ticket_read};

@@ -6,7 +6,7 @@ use crate::handle_lends::behind;
 use std::alloc::Global;
 use ti_types::ThreadNo;
 
-/// Takes back what the environment's suspensions did to a thread, and what those that were given up would still do to it.
+/// Takes back what the environment's suspensions did to a thread, and what those that were cancelled would still do to it.
 /// `CQ_WAITING` while such a call has not been reached by the thread.
 #[unsafe(no_mangle)]
 pub extern "C" fn cq_ensure_resumed(alloc: Global, env: &mut CqEnv, thread: u32) -> u32

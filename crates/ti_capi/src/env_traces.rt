@@ -11,7 +11,7 @@ use ti_service::{Agent, Gathering};
 use ti_types::{ThreadNo, TiError};
 
 /// Puts what became of a trace into a box: the trace, or the environment as it was. If it has begun, what the last one told is
-/// thrown away.
+/// discarded.
 fn put_begun(held: &mut HeldEnv, begun: Result<Gathering, (TiError, Agent)>) -> u32
     ensures { IsBegun begun held.old held.new result }
 {
@@ -38,7 +38,7 @@ fn gather_all(alloc: Global, held: &mut HeldEnv, max_count: i32) -> u32
     put_begun(held, agent.gather_all_stack_traces(alloc, max_count))
 }
 
-/// Begins GetAllStackTraces (JVM TI 11). What the last trace told is thrown away then.
+/// Begins GetAllStackTraces (JVM TI 11). What the last trace told is discarded then.
 #[unsafe(no_mangle)]
 pub extern "C" fn cq_gather_all_stack_traces(alloc: Global, env: &mut CqEnv, max_count: i32) -> u32
     ensures { Works (BeginsIn (BeginsAll max_count) (RefusesAll max_count)) ⊤ env.old env.new result }
@@ -89,7 +89,7 @@ fn gather_list(alloc: Global, held: &mut HeldEnv, numbers: &[u32], max_count: i3
     put_begun(held, begin_list(alloc, agent, numbers, max_count))
 }
 
-/// Begins GetThreadListStackTraces (JVM TI 11). What the last trace told is thrown away then.
+/// Begins GetThreadListStackTraces (JVM TI 11). What the last trace told is discarded then.
 #[unsafe(no_mangle)]
 pub extern "C" fn cq_gather_thread_list_stack_traces(
     alloc: Global,

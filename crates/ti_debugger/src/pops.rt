@@ -151,7 +151,7 @@ impl Desk {
         Ok(())
     }
 
-    /// Pops the newest frame of a thread. A pop that waits is given up: the thread has run since it was looked at.
+    /// Pops the newest frame of a thread. A pop that waits is cancelled: the thread has run since it was looked at.
     fn pop_newest(&mut self, thread: u32) -> Result<(), Refusal>
         ensures popped { OnOk result (Posts self.old.agent.env self.new.agent.env (record { 0 = thread }) call.Pop (Answered answer.Done)) }
         ensures later { IsErrOf result Later → self.new ≡ self.old }

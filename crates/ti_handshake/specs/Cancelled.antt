@@ -14,7 +14,7 @@ given_in None = record { tickets = []; room = 0 }
 given_in (Some v) = record { tickets = v.items; room = vec_capacity v }
 
 -- each call that was cancelled is out, and none is listed twice
-pub record AreGivenUp (cancelled posted : List Ticket) : Type 0 where
+pub record AreCancelled (cancelled posted : List Ticket) : Type 0 where
   pub once : AreOnce cancelled
   pub out : (k : Ticket) → has k cancelled ≡ true → has k posted ≡ true
 
@@ -22,5 +22,5 @@ pub record AreGivenUp (cancelled posted : List Ticket) : Type 0 where
 pub record AddsAll (posted old new : List Ticket) : Type 0 where
   pub more : List Ticket
   pub behind : new ≡ old ++ more
-  pub given : AreGivenUp new posted
+  pub given : AreCancelled new posted
   pub all : (k : Ticket) → has k posted ≡ true → has k new ≡ true

@@ -1,5 +1,5 @@
 -- An environment at a thread.
-use Rattle.std.specs.Prelude.{ℤ, ◌≡◌, ◌==◌, ◌+◌, ◌<◌, ◌&&◌, Bool, true, false, not, if◌then◌else◌, is_some, List, [], ◌∷◌, ◌++◌, length, Option, Some, None}
+use Rattle.std.specs.Prelude.{ℤ, ◌≡◌, ◌==◌, ◌+◌, ◌<◌, ◌&&◌, Bool, true, false, not, if◌then◌else◌, is_some, List, [], ◌∷◌, ◌++◌, length, Option, Some, None, slice_get}
 use Rattle.atomic_table.specs.Seated.{TableId}
 use Rattle.ti_types.specs.declared.answer.Answer.{Answer}
 use Rattle.ti_types.specs.declared.call.Call.{Call}
@@ -36,30 +36,41 @@ pub record IsSame (old new : DeskState) : Type 0 where
   pub env : new.env ≡ old.env
   pub cancelled : new.cancelled ≡ old.cancelled
 
--- whether a call is out and was not given up
+-- whether a call is out and was not cancelled
 abbrev pub is_out : DeskState → Ticket → Bool
 is_out p k = has k p.view.posted && not (has k p.cancelled)
 
--- if a call got a ticket, it is out and was not given up
+-- if a call got a ticket, it is out and was not cancelled
 abbrev pub IsTicketOut : DeskState → AskedOf → Type 0
 IsTicketOut p (Answered a) = Unit {0}
 IsTicketOut p (Waiting k) = is_out p k ≡ true
 
 -- one hold looked for the answer to the call that was cancelled first, and discarded it if it was there
-pub record LooksForFirst (old new : DeskState) (first : Ticket) (rest : List Ticket) (thrown : Bool) : Type 0 where
+pub record LooksForFirst (old new : DeskState) (first : Ticket) (rest : List Ticket) (was_there : Bool) : Type 0 where
   pub cell : new.cell ≡ old.cell
   pub env : new.env ≡ old.env
-  pub hold : HoldsWith old.view new.view [] (if thrown then without_ticket first old.view.posted else old.view.posted)
-  pub thrown_if : thrown ≡ is_some (reply_to old.view.subject.limits new.view.seen first)
-  pub cancelled : new.cancelled ≡ (if thrown then rest else old.cancelled)
+  pub hold : HoldsWith old.view new.view [] (if was_there then without_ticket first old.view.posted else old.view.posted)
+  pub answered_if : was_there ≡ is_some (reply_to old.view.subject.limits new.view.seen first)
+  pub cancelled : new.cancelled ≡ (if was_there then rest else old.cancelled)
 
 abbrev pub DiscardsOf : List Ticket → DeskState → DeskState → Bool → Type 0
-DiscardsOf [] old new thrown = (new ≡ old) × (thrown ≡ false)
-DiscardsOf (first ∷ rest) old new thrown = LooksForFirst old new first rest thrown
+DiscardsOf [] old new was_there = (new ≡ old) × (was_there ≡ false)
+DiscardsOf (first ∷ rest) old new was_there = LooksForFirst old new first rest was_there
 
 -- what discarding does: nothing, if no call was cancelled
 abbrev pub Discards : DeskState → DeskState → Bool → Type 0
-Discards old new thrown = DiscardsOf old.cancelled old new thrown
+Discards old new was_there = DiscardsOf old.cancelled old new was_there
+
+-- the answer is the reply at the place of the ticket's call
+abbrev pub ReplyAtPlace : Limits → List Entry → Ticket → Answer → Type 0
+ReplyAtPlace limits history ticket answer =
+    (front rest : List Entry) (call : Call) → history ≡ front ++ Asked ticket.env ticket.no call ∷ rest → reply limits history (length front) ≡ Some answer
+
+-- what is told of an answer that was discarded: of the call that was cancelled first, and the reply to it
+pub record TellsDiscarded (old new : DeskState) (ticket : Ticket) (answer : Answer) : Type 0 where
+  pub first : Some ticket ≡ slice_get old.cancelled 0
+  pub replied : reply_to old.view.subject.limits new.view.seen ticket ≡ Some answer
+  pub place : ReplyAtPlace old.view.subject.limits new.view.seen ticket answer
 
 -- the desk with this list of calls that were cancelled
 abbrev pub with_cancelled : DeskState → List Ticket → DeskState
@@ -85,7 +96,7 @@ pub record IsLeft (old new : DeskState) (call : Call) (ticket : Ticket) : Type 0
   pub unanswered : reply_to old.view.subject.limits new.view.seen ticket ≡ None
 
 -- a call that was left so is cancelled
-pub record GivesUp (old new : DeskState) (call : Call) : Type 0 where
+pub record CancelsLate (old new : DeskState) (call : Call) : Type 0 where
   pub cell : new.cell ≡ old.cell
   pub env : new.env ≡ old.env
   pub left : IsLeft old new call (next_ticket old.view old.env)
@@ -94,7 +105,7 @@ pub record GivesUp (old new : DeskState) (call : Call) : Type 0 where
 -- a call with a deadline was answered in time, or cancelled
 abbrev pub IsInTime : DeskState → DeskState → Call → Option Answer → Type 0
 IsInTime old new call (Some answer) = IsSame old new × IsAnsweredAt old new call answer
-IsInTime old new call None = GivesUp old new call
+IsInTime old new call None = CancelsLate old new call
 
 -- the seat is the environment's, at this cell
 pub record Sits (cell : TableId) (env : EnvNo) (s : Sitting) : Type 0 where
@@ -115,11 +126,6 @@ read_refusal old new max_count = stopping_refusal (there_found old new) (Read ol
 
 abbrev pub go_refusal : DeskState → DeskState → Option TiError
 go_refusal old new = stopping_refusal (there_found old new) (Go old.env old.view.subject.thread)
-
--- the answer is the reply at the place of the ticket's call
-abbrev pub ReplyAtPlace : Limits → List Entry → Ticket → Answer → Type 0
-ReplyAtPlace limits history ticket answer =
-    (front rest : List Entry) (call : Call) → history ≡ front ++ Asked ticket.env ticket.no call ∷ rest → reply limits history (length front) ≡ Some answer
 
 -- whether another environment's stop is in force
 abbrev pub is_anothers : EnvNo → Option EnvNo → Bool

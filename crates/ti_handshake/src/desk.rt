@@ -89,7 +89,7 @@ impl Desk {
         ensures legal { is_legal self.now.view.subject.limits self.now.view.seen ≡ true }
         ensures mine { self.now.view.mine ≡ made_by self.now.view.number self.now.view.seen }
         ensures few { length self.now.view.posted ≤ length self.now.view.mine }
-        ensures cancelled { AreGivenUp self.now.cancelled self.now.view.posted }
+        ensures cancelled { AreCancelled self.now.cancelled self.now.view.posted }
     {
         let Some(seat) = &self.seat else {
             unreachable!()
@@ -185,7 +185,7 @@ impl Desk {
     /// Waits for the answer to a call of this desk that waited: the reply of the history to the ticket. It looks for the
     /// answer by holds until it is there, and waits between them by looks (`await_news`).
     ///
-    /// The ticket is one of the desk's, and was not given up. Afterwards it is no longer out, so it is answered once. The
+    /// The ticket is one of the desk's, and was not cancelled. Afterwards it is no longer out, so it is answered once. The
     /// others stay.
     pub fn collect<R: Wait>(&mut self, rt: &R, ticket: Ticket) -> Answer
         requires out { is_out self.old ticket ≡ true }
@@ -346,5 +346,5 @@ ghost use Rattle.ti_slot.specs.Tickets.{has, without_ticket};
 ghost use Rattle.ti_slot.specs.Waiting.{IsBufferOf};
 ghost use Rattle.ti_cell.specs.declared.look.Look.{Look};
 ghost use Rattle.ti_handshake.specs.Call.{GoesOn, WaitsWith, Holds, HoldsWith, found, IsTold, IsAnswered, SawNews, next_call, ticket_told, with_looks};
-ghost use Rattle.ti_handshake.specs.Cancelled.{AreGivenUp};
+ghost use Rattle.ti_handshake.specs.Cancelled.{AreCancelled};
 ghost use Rattle.ti_handshake.specs.Desk.{DeskState, IsSame, IsTicketOut, ReplyAtPlace, is_out};

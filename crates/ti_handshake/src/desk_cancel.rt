@@ -2,6 +2,7 @@
 
 use crate::cancelled::Cancelled;
 use crate::desk::Desk;
+use crate::discarded::Discarded;
 use crate::retries::until_free;
 use std::alloc::Global;
 use std::mem;
@@ -23,7 +24,7 @@ impl Desk {
     /// Takes the list of calls that were cancelled out of the desk, until `put_cancelled` puts it back.
     pub(crate) fn take_cancelled(&mut self) -> Cancelled
         ensures tickets { result.tickets ≡ self.old.cancelled }
-        ensures given { AreGivenUp result.tickets self.old.view.posted }
+        ensures given { AreCancelled result.tickets self.old.view.posted }
         ensures none { self.new ≡ with_cancelled self.old [] }
     {
         mem::replace(&mut self.cancelled, Cancelled::none())
@@ -31,7 +32,7 @@ impl Desk {
 
     /// Puts a list of calls that were cancelled in place of the desk's own. Each of them is out.
     pub(crate) fn put_cancelled(&mut self, cancelled: Cancelled)
-        requires { AreGivenUp cancelled.tickets self.old.view.posted }
+        requires { AreCancelled cancelled.tickets self.old.view.posted }
         ensures { self.new ≡ with_cancelled self.old cancelled.tickets }
     {
         self.cancelled = cancelled;
@@ -65,10 +66,11 @@ impl Desk {
     }
 
     /// Looks in one hold for the answer to the call that was cancelled first. If it is there, it is discarded, and the call
-    /// is no longer out. Returns whether it was there. If no call was cancelled, nothing is done, and the result is `false`
-    /// (this profile).
-    pub fn discard<R: Wait>(&mut self, rt: &R) -> bool
-        ensures { Discards self.old self.new result }
+    /// is no longer out. Returns which call it was and what came of it. `None` if the answer is not there. If no call was
+    /// cancelled, nothing is done, and the result is `None` (this profile).
+    pub fn discard<R: Wait>(&mut self, rt: &R) -> Option<Discarded>
+        ensures discards { Discards self.old self.new (is_some result) }
+        ensures tells { IfSome result (λ r. TellsDiscarded self.old self.new r.ticket (said r.answer)) }
     {
         until_free!(self, rt, self.discard_now())
     }
@@ -146,7 +148,7 @@ impl Desk {
 
 /// Adds the tickets of all of an environment's calls that are out to a list of some of them. There is room for all.
 pub(crate) fn add_own_out(slot: &Slot, env: EnvNo, cancelled: &mut Cancelled)
-    requires given { AreGivenUp cancelled.old.tickets (tickets_of (env.0 + 1) slot.now.uncollected) }
+    requires given { AreCancelled cancelled.old.tickets (tickets_of (env.0 + 1) slot.now.uncollected) }
     requires room { length (tickets_of (env.0 + 1) slot.now.uncollected) ≤ cancelled.old.room }
     ensures { AddsAll (tickets_of (env.0 + 1) slot.now.uncollected) cancelled.old.tickets cancelled.new.tickets }
 {
@@ -165,7 +167,7 @@ pub(crate) fn add_own_out(slot: &Slot, env: EnvNo, cancelled: &mut Cancelled)
     }
 }
 
-ghost use Rattle.std.specs.Prelude.{◌≡◌, ◌<◌, ◌≤◌, ◌+◌, ◌++◌, ◌∷◌, [], true, length, if◌then◌else◌, slice_get, IfOk, IfErr, OnOk, OnErr, MatchResult};
+ghost use Rattle.std.specs.Prelude.{◌≡◌, ◌<◌, ◌≤◌, ◌+◌, ◌++◌, ◌∷◌, [], true, length, if◌then◌else◌, is_some, slice_get, IfSome, IfOk, IfErr, OnOk, OnErr, MatchResult};
 ghost use Rattle.std.specs.Option.{option_map};
 ghost use Rattle.ti_types.specs.Answer.{said};
 ghost use Rattle.ti_types.specs.declared.error.TiError.TheVariants.{OutOfMemory};
@@ -174,5 +176,5 @@ ghost use Rattle.ti_replay.specs.Settling.{waits};
 ghost use Rattle.ti_slot.specs.Waiting.{IsBufferOf};
 ghost use Rattle.ti_cell.specs.View.{tickets_of};
 ghost use Rattle.ti_handshake.specs.Call.{GoesOn, Holds, next_call};
-ghost use Rattle.ti_handshake.specs.Cancelled.{AddsAll, AreGivenUp};
-ghost use Rattle.ti_handshake.specs.Desk.{CancelsAll, Discards, IsAnsweredAt, IsInTime, IsLeft, IsSame, is_out, with_cancelled};
+ghost use Rattle.ti_handshake.specs.Cancelled.{AddsAll, AreCancelled};
+ghost use Rattle.ti_handshake.specs.Desk.{CancelsAll, Discards, IsAnsweredAt, IsInTime, IsLeft, IsSame, TellsDiscarded, is_out, with_cancelled};

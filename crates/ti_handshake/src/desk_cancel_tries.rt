@@ -7,6 +7,7 @@ use crate::cancelled::Cancelled;
 use crate::desk::Desk;
 use crate::desk_cancel::add_own_out;
 use crate::desk_tries::try_hold;
+use crate::discarded::Discarded;
 use std::alloc::Global;
 use ti_types::{Call, TiError, Ticket, TraceBuf};
 
@@ -53,7 +54,7 @@ impl Desk {
     /// The error is 110 OUT_OF_MEMORY if there is no memory for that. Then nothing changes.
     fn take_with_room(&mut self, alloc: Global) -> Result<Cancelled, TiError>
         ensures tickets { IfOk result (λ c. c.tickets ≡ self.old.cancelled) }
-        ensures given { IfOk result (λ c. AreGivenUp c.tickets self.old.view.posted) }
+        ensures given { IfOk result (λ c. AreCancelled c.tickets self.old.view.posted) }
         ensures room { IfOk result (λ c. length self.old.view.posted ≤ c.room) }
         ensures none { OnOk result (self.new ≡ with_cancelled self.old []) }
         ensures memory { IfErr result (λ e. e ≡ OutOfMemory) }
@@ -95,7 +96,7 @@ impl Desk {
     ///
     /// The error is `Busy` (215) if the cell is in use. Then nothing changes.
     fn add_out_now(&mut self, cancelled: &mut Cancelled) -> Result<(), TiError>
-        requires given { AreGivenUp cancelled.old.tickets self.old.view.posted }
+        requires given { AreCancelled cancelled.old.tickets self.old.view.posted }
         requires room { length self.old.view.posted ≤ cancelled.old.room }
         ensures same { IsSame self.old self.new }
         ensures hold { OnOk result (Holds self.old.view self.new.view []) }
@@ -134,7 +135,7 @@ impl Desk {
     /// The error is `Busy` (215) if the cell is in use. Then nothing changes.
     fn add_out_and_clear_now(&mut self, cancelled: &mut Cancelled) -> Result<(), TiError>
         requires calls { calls_spent self.old.env self.old.view.mine < self.old.view.subject.limits.calls }
-        requires given { AreGivenUp cancelled.old.tickets self.old.view.posted }
+        requires given { AreCancelled cancelled.old.tickets self.old.view.posted }
         requires room { length self.old.view.posted ≤ cancelled.old.room }
         ensures same { IsSame self.old self.new }
         ensures hold { OnOk result (Holds self.old.view self.new.view (next_call self.old.view self.old.env (SetWord 0) ∷ [])) }
@@ -151,25 +152,31 @@ impl Desk {
     /// Looks for the answer to the call that was cancelled first. It is the same as `discard`, but tries to hold the cell
     /// just once. If the answer is there, it is discarded, and the call is no longer out.
     ///
-    /// Returns whether it was there. If no call was cancelled, nothing is done, and the result is `false` (this profile).
+    /// Returns which call it was and what came of it. `None` if the answer is not there. If no call was cancelled, nothing is
+    /// done, and the result is `None` (this profile).
     ///
     /// The error is `Busy` (215) if the cell is in use (this profile). Then nothing changes.
-    pub fn discard_now(&mut self) -> Result<bool, TiError>
-        ensures discards { IfOk result (λ thrown. Discards self.old self.new thrown) }
+    pub fn discard_now(&mut self) -> Result<Option<Discarded>, TiError>
+        ensures discards { IfOk result (λ d. Discards self.old self.new (is_some d)) }
+        ensures tells { IfOk result (λ d. IfSome d (λ r. TellsDiscarded self.old self.new r.ticket (said r.answer))) }
         ensures busy { IfErr result (λ e. (e ≡ Busy) × (self.new ≡ self.old)) }
     {
         let Some(first) = self.first_cancelled() else {
-            return Ok(false);
+            return Ok(None);
         };
         let mut cancelled = self.take_cancelled();
         match self.collect_now(first) {
-            Ok(found) => {
-                let thrown = found.is_some();
-                if thrown {
-                    cancelled.remove_first();
-                }
+            Ok(Some(answer)) => {
+                cancelled.remove_first();
                 self.put_cancelled(cancelled);
-                Ok(thrown)
+                Ok(Some(Discarded {
+                    ticket: first,
+                    answer,
+                }))
+            }
+            Ok(None) => {
+                self.put_cancelled(cancelled);
+                Ok(None)
             }
             Err(error) => {
                 self.put_cancelled(cancelled);
@@ -179,10 +186,11 @@ impl Desk {
     }
 }
 
-ghost use Rattle.std.specs.Prelude.{◌≡◌, ◌⊎◌, ◌<◌, ◌≤◌, ◌+◌, ◌++◌, if◌then◌else◌, [], ◌∷◌, length, IfOk, IfErr, OnOk, OnErr};
+ghost use Rattle.std.specs.Prelude.{◌≡◌, ◌⊎◌, ◌<◌, ◌≤◌, ◌+◌, ◌++◌, if◌then◌else◌, [], ◌∷◌, is_some, length, IfSome, IfOk, IfErr, OnOk, OnErr};
+ghost use Rattle.ti_types.specs.Answer.{said};
 ghost use Rattle.ti_types.specs.declared.call.Call.TheVariants.{SetWord};
 ghost use Rattle.ti_types.specs.declared.error.TiError.TheVariants.{OutOfMemory, Busy};
 ghost use Rattle.ti_replay.specs.Legal.{calls_spent};
 ghost use Rattle.ti_handshake.specs.Call.{Holds, next_call};
-ghost use Rattle.ti_handshake.specs.Cancelled.{AddsAll, AreGivenUp};
-ghost use Rattle.ti_handshake.specs.Desk.{CancelsAll, Discards, IsSame, is_out, with_cancelled};
+ghost use Rattle.ti_handshake.specs.Cancelled.{AddsAll, AreCancelled};
+ghost use Rattle.ti_handshake.specs.Desk.{CancelsAll, Discards, IsSame, TellsDiscarded, is_out, with_cancelled};

@@ -279,7 +279,7 @@ impl Monitor {
         &self.metrics
     }
 
-    /// Disposes of the agent. Calls that are out are given up. With an error the monitor comes back with all that it has.
+    /// Disposes of the agent. Calls that are out are cancelled. With an error the monitor comes back with all that it has.
     ///
     /// - 110 OUT_OF_MEMORY, 215 `Busy` and 216 `Full` (this profile), as `ServiceTries::dispose_now`. The agent may have left some of
     ///   its threads already, and can only be disposed of.

@@ -9,7 +9,7 @@ use core::ptr::null_mut;
 
 /// The version whose functions are declared here.
 pub const CQ_VERSION_MAJOR: u32 = 2;
-pub const CQ_VERSION_MINOR: u32 = 0;
+pub const CQ_VERSION_MINOR: u32 = 2;
 
 /// Whether the library that the program runs with has all of them, as `cq_version_fits` of `cebdyraq.h` says.
 pub fn version_fits() -> bool {
@@ -348,7 +348,14 @@ extern "C" {
         room: usize,
     ) -> u32;
     pub fn cq_cancel(env: *mut cq_env, ticket: *const cq_ticket) -> u32;
-    pub fn cq_discard(env: *mut cq_env, thread: u32, thrown: *mut bool) -> u32;
+    pub fn cq_discard(env: *mut cq_env, thread: u32, discarded: *mut bool) -> u32;
+    pub fn cq_collect_cancelled(
+        env: *mut cq_env,
+        thread: u32,
+        answer: *mut cq_answer,
+        frames: *mut cq_frame,
+        room: usize,
+    ) -> u32;
     pub fn cq_ensure_resumed(env: *mut cq_env, thread: u32) -> u32;
     pub fn cq_out_at(env: *mut cq_env, thread: u32, count: *mut u32) -> u32;
     pub fn cq_stopper(env: *mut cq_env, thread: u32, number: *mut u32) -> u32;
@@ -482,7 +489,16 @@ extern "C" {
         room: usize,
     ) -> u32;
     pub fn cq_wait_cancel(env: *mut cq_env, signal: *mut cq_signal, ticket: *const cq_ticket) -> u32;
-    pub fn cq_wait_discard(env: *mut cq_env, signal: *mut cq_signal, thread: u32, thrown: *mut bool) -> u32;
+    pub fn cq_wait_discard(env: *mut cq_env, signal: *mut cq_signal, thread: u32, discarded: *mut bool) -> u32;
+    pub fn cq_wait_collect_cancelled(
+        env: *mut cq_env,
+        signal: *mut cq_signal,
+        thread: u32,
+        timeout_ns: i64,
+        answer: *mut cq_answer,
+        frames: *mut cq_frame,
+        room: usize,
+    ) -> u32;
     pub fn cq_wait_ensure_resumed(env: *mut cq_env, signal: *mut cq_signal, thread: u32, timeout_ns: i64) -> u32;
     pub fn cq_wait_set_event_notification_mode(env: *mut cq_env, signal: *mut cq_signal, enabled: bool, kind: u32) -> u32;
     pub fn cq_wait_dispose_environment(env: *mut cq_env, signal: *mut cq_signal) -> u32;

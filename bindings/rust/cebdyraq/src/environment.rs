@@ -90,7 +90,7 @@ impl Environment {
 
     /// How long a call may wait from now on. `None` is for ever.
     ///
-    /// When the time is over, the call gives [`Error::TimedOut`] and is given up. It may still take place.
+    /// When the time is over, the call gives [`Error::TimedOut`] and is cancelled. It may still take place ([`Environment::collect_cancelled`]).
     pub fn set_timeout(&mut self, timeout: Option<Duration>) {
         self.timeout = timeout;
     }

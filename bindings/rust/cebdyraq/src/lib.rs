@@ -61,7 +61,7 @@ mod variables;
 pub use classes::{ClassInfo, Defined, LineEntry, Lines, MethodInfo, MethodName};
 pub use environment::{capabilities, Environment, Event, EventKind, StackInfo, ThreadInfo};
 pub use error::Error;
-pub use posts::{Answer, Any, Call, Posted, Ticket};
+pub use posts::{Answer, Any, Call, CallId, Cancelled, Posted, Ticket};
 pub use server::{DebugOptions, ServeError, Server};
 pub use service::Service;
 pub use stops::{Stop, StopKind};

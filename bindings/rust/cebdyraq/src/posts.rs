@@ -32,6 +32,20 @@ pub struct Ticket {
     raw: sys::cq_ticket,
 }
 
+/// Which call it is, among all of all environments.
+#[derive(Clone, Copy, Debug, PartialEq, Eq, Hash)]
+pub struct CallId(sys::cq_ticket);
+
+/// A call that was cancelled, or whose time was over, and what came of it.
+#[derive(Clone, Debug)]
+pub struct Cancelled {
+    /// Which call it was ([`Ticket::id`]). Nobody has been told the one of a call whose time was over.
+    pub id: CallId,
+    code: u32,
+    raw: sys::cq_answer,
+    frames: Vec<Frame>,
+}
+
 /// An answer, or the ticket of a call that waits.
 #[derive(Debug)]
 pub enum Posted {
@@ -48,6 +62,25 @@ pub enum Any {
     News,
     /// The time is over, and all calls are out as before.
     TimedOut,
+}
+
+impl Ticket {
+    /// Which call it is.
+    pub fn id(&self) -> CallId {
+        CallId(self.raw)
+    }
+}
+
+impl Cancelled {
+    /// Whether it has taken place after all, and why not.
+    pub fn took_place(&self) -> Result<(), Error> {
+        checked(self.code)
+    }
+
+    /// The answer to the call, which was this one. Of a trace it has as many frames as there was room for.
+    pub fn answer(self, call: Call) -> Result<Answer, Error> {
+        checked(self.code).map(|()| call.answer(&self.raw, self.frames))
+    }
 }
 
 impl Call {
@@ -135,21 +168,36 @@ impl Environment {
         }
     }
 
-    /// Gives a call up that waited. It may still take place.
+    /// Cancels a call that waited. It may still take place ([`Environment::collect_cancelled`]).
     pub fn cancel(&mut self, ticket: Ticket) -> Result<(), Error> {
         // SAFETY: this call alone uses the handle.
         checked(unsafe { sys::cq_wait_cancel(self.at(), self.signal.at(), &ticket.raw) })
     }
 
-    /// Throws the answer away to the call that was given up first at the thread, and says whether it was there.
+    /// Discards the answer to the call that was cancelled first at the thread, and says whether it was there.
     pub fn discard(&mut self, thread: u32) -> bool {
-        let mut thrown = false;
+        let mut discarded = false;
         // SAFETY: this call alone uses the handle.
-        surely(unsafe { sys::cq_wait_discard(self.at(), self.signal.at(), thread, &mut thrown) });
-        thrown
+        surely(unsafe { sys::cq_wait_discard(self.at(), self.signal.at(), thread, &mut discarded) });
+        discarded
     }
 
-    /// Takes back what the environment's suspensions did to the thread, and what those that were given up would still do to it. With
+    /// What came of the call that was cancelled first at the thread, with room for `max_count` frames. It sleeps until that is known.
+    /// `None` if no call that was cancelled is out there. With [`Error::TimedOut`] it is out as before.
+    pub fn collect_cancelled(&mut self, thread: u32, max_count: i32) -> Result<Option<Cancelled>, Error> {
+        let mut raw = sys::cq_answer::default();
+        let mut frames = room_for(max_count);
+        let (env, signal, time) = (self.at(), self.signal.at(), nanoseconds(self.timeout));
+        let (at, room) = (frames.as_mut_ptr(), frames.len());
+        // SAFETY: this call alone uses the handle, and the frames are there as long as it lasts.
+        match unsafe { sys::cq_wait_collect_cancelled(env, signal, thread, time, &mut raw, at, room) } {
+            sys::CQ_NONE => Ok(None),
+            sys::CQ_TIMED_OUT => Err(Error::TimedOut),
+            code => Ok(Some(Cancelled { id: CallId(raw.ticket), code, raw, frames })),
+        }
+    }
+
+    /// Takes back what the environment's suspensions did to the thread, and what those that were cancelled would still do to it. With
     /// [`Error::TimedOut`] the thread has not reached one of them: call again.
     pub fn ensure_resumed(&mut self, thread: u32) -> Result<(), Error> {
         let time = nanoseconds(self.timeout);

@@ -172,6 +172,30 @@ fn calls_are_posted_and_collected() {
 }
 
 #[test]
+fn a_cancelled_call_tells_what_came_of_it() {
+    let (_service, mut running, mut env) = with_thread();
+    running.enter(7).unwrap();
+    let calls = [Call::FrameLocation { depth: 1 }, Call::StackTrace { start: 0, max_count: 8 }];
+    let ids = calls.map(|call| {
+        let Ok(Posted::Waiting(ticket)) = env.post(0, call) else { panic!("it runs") };
+        let id = ticket.id();
+        env.cancel(ticket).unwrap();
+        id
+    });
+    env.set_timeout(Some(Duration::ZERO));
+    assert!(matches!(env.collect_cancelled(0, 8), Err(Error::TimedOut)));
+    running.poll();
+    let first = env.collect_cancelled(0, 8).unwrap().unwrap();
+    assert_eq!((first.id, first.took_place()), (ids[0], Err(Error::NoMoreFrames)));
+    assert_eq!(first.answer(calls[0]), Err(Error::NoMoreFrames));
+    let second = env.collect_cancelled(0, 8).unwrap().unwrap();
+    assert_eq!((second.id, second.took_place()), (ids[1], Ok(())));
+    let frame = Frame { method: 7, location: 0 };
+    assert_eq!(second.answer(calls[1]), Ok(Answer::Trace(vec![frame])));
+    assert!(env.collect_cancelled(0, 8).unwrap().is_none());
+}
+
+#[test]
 fn one_wait_is_for_several_calls() {
     let (mut service, mut running, mut env) = with_thread();
     running.enter(7).unwrap();

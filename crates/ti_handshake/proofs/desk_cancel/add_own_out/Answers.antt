@@ -1,7 +1,7 @@
 use Rattle.std.proofs.Common.{◌+◌, sym, ◌∙◌, subst, ap, arith}
 use Rattle.ti_cell.specs.View.{tickets_of}
 use Rattle.ti_handshake.specs.Cancelled.{Given}
-use Rattle.ti_handshake.proofs.AllGivenUp.{Adding, passed, added, has_room, below_entries, ends, ends_early}
+use Rattle.ti_handshake.proofs.CancellingAll.{Adding, passed, added, has_room, below_entries, ends, ends_early}
 use Rattle.ti_handshake.proofs.desk_cancel.add_own_out.Goals.{then-not-has, else-not-has}
 use Rattle.ti_handshake.proofs.desk_cancel.add_own_out.Goals as goal
 

@@ -1,6 +1,6 @@
 use Rattle.std.proofs.Common.{◌+◌, ◌-◌}
 use Rattle.ti_cell.specs.View.{tickets_of}
-use Rattle.ti_handshake.proofs.AllGivenUp.{Adding}
+use Rattle.ti_handshake.proofs.CancellingAll.{Adding}
 use Rattle.ti_handshake.proofs.desk_cancel.add_own_out.Given as goal
 
 abbrev pub invariant-loop-from : goal.invariant-loop-from

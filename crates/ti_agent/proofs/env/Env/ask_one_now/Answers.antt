@@ -1,4 +1,4 @@
-use Rattle.std.proofs.Common.{◌≡◌, ◌<◌, ◌≤◌, ◌∷◌, [], ◌++◌, List, length, ap, arith, sym, subst, refl, append-nil, None}
+use Rattle.std.proofs.Common.{◌≡◌, ◌≤◌, ◌∷◌, [], ◌++◌, List, length, ap, arith, sym, subst, refl, append-nil, None}
 use Rattle.ti_types.specs.declared.event.Ticket.{Ticket}
 use Rattle.ti_slot.specs.declared.asked.Asked.TheVariants.{Answered}
 use Rattle.ti_env.specs.Env.{call_refusal}

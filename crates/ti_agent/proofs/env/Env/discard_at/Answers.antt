@@ -1,11 +1,13 @@
-use Rattle.std.proofs.Common.{◌≡◌, ◌<◌, length, ap, subst, sym}
+use Rattle.std.proofs.Common.{◌≡◌, ◌<◌, is_some, length, ap, subst, sym}
+use Rattle.std.specs.Prelude.{IfSome}
+use Rattle.ti_types.specs.Answer.{said}
 use Rattle.ti_types.specs.declared.numbers.ThreadNo.{ThreadNo}
-use Rattle.ti_agent.specs.Deadlines.{DiscardsAt}
+use Rattle.ti_agent.specs.Deadlines.{DiscardsAt, TellsDiscardedAt}
 use Rattle.ti_agent.specs.Env.{Environment, place_in, place_of}
 use Rattle.ti_agent.proofs.InTime.{discard_whole}
-use Rattle.ti_agent.proofs.Tried.{discarded}
+use Rattle.ti_agent.proofs.Tried.{discarded, tells_discarded}
 use Rattle.ti_agent.proofs.Whole.{found_in, seen_call, desk_there}
-use Rattle.ti_agent.proofs.AtHome.{same_env, thrown_home}
+use Rattle.ti_agent.proofs.AtHome.{same_env, discard_home}
 use Rattle.ti_agent.proofs.env.Env.discard_at.Given.{Over}
 use Rattle.ti_agent.proofs.env.Env.discard_at.Goals.{After-index_mut}
 use Rattle.ti_agent.proofs.env.Env.discard_at.Goals as goal
@@ -27,8 +29,8 @@ invariant_of-self g c =
     let s : Environment = record { env = c.self.inside.env; state = c.self.inside.state; desks = c.self.inside.desks } in
     let l = (goal.at.invariant_of-self g c).After-index_mut in
     let at = desk_there s c.args.place.0 c.index_mut.result.now (here g l) c.index_mut.ensures.value in (
-      discard_whole s c.args.place.0 c.index_mut.result.now c.discard.new.self c.discard.result c.self.invariant.0 at c.discard.ensures,
-      thrown_home g.H.Home.about g.H.Home.holds c.self.inside.home s c.args.place.0 c.index_mut.result.now c.discard.new.self c.discard.result at c.discard.ensures c.self.invariant.1,
+      discard_whole s c.args.place.0 c.index_mut.result.now c.discard.new.self (is_some c.discard.result) c.self.invariant.0 at c.discard.ensures.discards,
+      discard_home g.H.Home.about g.H.Home.holds c.self.inside.home s c.args.place.0 c.index_mut.result.now c.discard.new.self (is_some c.discard.result) at c.discard.ensures.discards c.self.invariant.1,
     )
 
 pub returns-clause-discards : goal.returns-clause-discards
@@ -36,5 +38,13 @@ returns-clause-discards g c =
     let s : Environment = record { env = c.self.inside.env; state = c.self.inside.state; desks = c.self.inside.desks } in
     let l = (goal.at.returns-clause-discards g c).After-index_mut in
     let at = desk_there s c.args.place.0 c.index_mut.result.now (here g l) c.index_mut.ensures.value in
-    subst (λ (x : Environment). DiscardsAt x (seen_call s c.args.place.0 c.discard.new.self) c.args.thread c.discard.result) (same_env c.self.view_is)
-    (discarded s c.args.thread c.args.place.0 c.index_mut.result.now c.discard.new.self c.discard.result (ap (λ (x : ThreadNo). x.0) (found g l)) at c.discard.ensures)
+    subst (λ (x : Environment). DiscardsAt x (seen_call s c.args.place.0 c.discard.new.self) c.args.thread (is_some c.discard.result)) (same_env c.self.view_is)
+    (discarded s c.args.thread c.args.place.0 c.index_mut.result.now c.discard.new.self (is_some c.discard.result) (ap (λ (x : ThreadNo). x.0) (found g l)) at c.discard.ensures.discards)
+
+pub returns-clause-tells : goal.returns-clause-tells
+returns-clause-tells g c =
+    let s : Environment = record { env = c.self.inside.env; state = c.self.inside.state; desks = c.self.inside.desks } in
+    let l = (goal.at.returns-clause-tells g c).After-index_mut in
+    let at = desk_there s c.args.place.0 c.index_mut.result.now (here g l) c.index_mut.ensures.value in
+    subst (λ (x : Environment). IfSome c.discard.result (λ r. TellsDiscardedAt x (seen_call s c.args.place.0 c.discard.new.self) c.args.thread r.ticket (said r.answer))) (same_env c.self.view_is)
+    (tells_discarded s c.args.thread c.args.place.0 c.index_mut.result.now c.discard.new.self c.discard.result (ap (λ (x : ThreadNo). x.0) (found g l)) at c.discard.ensures.tells)

@@ -1,4 +1,4 @@
-use Rattle.std.proofs.Common.{◌≡◌, ◌≤◌, length, refl, ap, sym, ◌∙◌, subst, inl, inr}
+use Rattle.std.proofs.Common.{◌≡◌, ◌≤◌, is_some, length, refl, ap, sym, ◌∙◌, subst, inl, inr}
 use Rattle.ti_types.specs.declared.call.Call.TheVariants.{Resume}
 use Rattle.ti_slot.specs.declared.asked.Asked.{Asked as AskedOf}
 use Rattle.ti_slot.specs.declared.asked.Asked.TheVariants.{Answered}
@@ -24,7 +24,7 @@ returns-in-Err-clause-refused g c =
 
 pub returns-then-is_some-clause-again : goal.returns-then-is_some-clause-again
 returns-then-is_some-clause-again g c = λ _.
-    yet_to_come c.args.self.now.env c.discard_now.new.self.env c.args.thread c.in-Ok._thrown c.first_cancelled_at.result c.in-Ok.ensures.discards (nobody g (goal.at.returns-then-is_some-clause-again g c).In-Ok) c.first_cancelled_at.ensures (sym c.is_some.ensures ∙ c.if-is_some.true)
+    yet_to_come c.args.self.now.env c.discard_now.new.self.env c.args.thread (is_some c.in-Ok._discarded) c.first_cancelled_at.result c.in-Ok.ensures.discards (nobody g (goal.at.returns-then-is_some-clause-again g c).In-Ok) c.first_cancelled_at.ensures (sym c.is_some.ensures ∙ c.if-is_some.true)
 
 pub resumed_in-requires : goal.resumed_in-requires
 resumed_in-requires g c =
@@ -36,19 +36,19 @@ unreachable-requires g c =
 
 pub returns-in-Ok-Answered-clause-resumed : goal.returns-in-Ok-Answered-clause-resumed
 returns-in-Ok-Answered-clause-resumed g c = λ ok.
-    resumed c.args.self.now.env c.discard_now.new.self.env c.post_now.new.self.env c.args.thread c.in-Ok._thrown c.first_cancelled_at.result c.in-Ok-Answered.answer c.resumed_in.result c.in-Ok.ensures.discards (nobody g (goal.at.returns-in-Ok-Answered-clause-resumed g c).In-Ok) c.first_cancelled_at.ensures (sym c.is_some.ensures ∙ c.if-is_some.false)
+    resumed c.args.self.now.env c.discard_now.new.self.env c.post_now.new.self.env c.args.thread (is_some c.in-Ok._discarded) c.first_cancelled_at.result c.in-Ok-Answered.answer c.resumed_in.result c.in-Ok.ensures.discards (nobody g (goal.at.returns-in-Ok-Answered-clause-resumed g c).In-Ok) c.first_cancelled_at.ensures (sym c.is_some.ensures ∙ c.if-is_some.false)
     (answered g (goal.at.returns-in-Ok-Answered-clause-resumed g c).In-Ok-Answered) c.resumed_in.ensures.resumed ok
 
 pub returns-in-Ok-Answered-clause-refused : goal.returns-in-Ok-Answered-clause-refused
 returns-in-Ok-Answered-clause-refused g c =
     not_resumed c.args.self.now.env c.discard_now.new.self.env c.post_now.new.self.env c.args.thread c.in-Ok-Answered.answer c.resumed_in.result
-    (may_discard c.args.self.now.env c.discard_now.new.self.env c.args.thread c.in-Ok._thrown c.in-Ok.ensures.discards (nobody g (goal.at.returns-in-Ok-Answered-clause-refused g c).In-Ok))
+    (may_discard c.args.self.now.env c.discard_now.new.self.env c.args.thread (is_some c.in-Ok._discarded) c.in-Ok.ensures.discards (nobody g (goal.at.returns-in-Ok-Answered-clause-refused g c).In-Ok))
     (answered g (goal.at.returns-in-Ok-Answered-clause-refused g c).In-Ok-Answered) c.resumed_in.ensures.refused
 
 pub returns-in-Err-post_now-clause-refused : goal.returns-in-Err-post_now-clause-refused
 returns-in-Err-post_now-clause-refused g c =
     record {
       mid = c.discard_now.new.self.env;
-      may = may_discard c.args.self.now.env c.discard_now.new.self.env c.args.thread c.in-Ok._thrown c.in-Ok.ensures.discards (nobody g (goal.at.returns-in-Err-post_now-clause-refused g c).In-Ok);
+      may = may_discard c.args.self.now.env c.discard_now.new.self.env c.args.thread (is_some c.in-Ok._discarded) c.in-Ok.ensures.discards (nobody g (goal.at.returns-in-Err-post_now-clause-refused g c).In-Ok);
       why = inl (ap (λ (x : Housed _). x.env) c.in-Err-post_now.ensures.unchanged, refused_post c.discard_now.new.self.env c.args.thread c.in-Err-post_now.error c.in-Err-post_now.ensures.refused);
     }

@@ -1,6 +1,5 @@
-use Rattle.std.proofs.Common.{◌≡◌, ap, ◌<◌, length, subst, sym}
+use Rattle.std.proofs.Common.{◌≡◌, ◌<◌, length, subst, sym}
 use Rattle.std.specs.Prelude.{IfOk}
-use Rattle.ti_types.specs.declared.numbers.ThreadNo.{ThreadNo}
 use Rattle.ti_agent.specs.Env.{Environment, place_in}
 use Rattle.ti_agent.specs.HandOvers.{CountsHandOvers, hand_overs_at}
 use Rattle.ti_agent.proofs.Whole.{seen_call, desk_there}

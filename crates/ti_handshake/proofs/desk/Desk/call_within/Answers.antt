@@ -2,7 +2,7 @@ use Rattle.std.proofs.Common.{◌++◌, ◌∷◌, [], List, ap, sym, ◌∙◌}
 use Rattle.ti_types.specs.declared.event.Ticket.{Ticket}
 use Rattle.ti_slot.specs.Tickets.{has}
 use Rattle.ti_handshake.specs.Desk.{DeskState}
-use Rattle.ti_handshake.proofs.GivenUp.{left_given}
+use Rattle.ti_handshake.proofs.Cancelling.{left_given}
 use Rattle.ti_handshake.proofs.desk.Desk.call_within.Goals as goal
 
 pub put_cancelled-requires-in-Err-call_or_leave : goal.put_cancelled-requires-in-Err-call_or_leave

@@ -3,7 +3,7 @@ use Rattle.ti_types.specs.declared.event.Ticket.{Ticket}
 use Rattle.ti_slot.specs.Tickets.{has}
 use Rattle.ti_handshake.specs.Cancelled.{Given}
 use Rattle.ti_handshake.specs.Desk.{DeskState}
-use Rattle.ti_handshake.proofs.GivenUp.{cancel_given, same_given}
+use Rattle.ti_handshake.proofs.Cancelling.{cancel_given, same_given}
 use Rattle.ti_handshake.proofs.desk.Desk.cancel_now.Goals.{then-out+then-not-has, else-out}
 use Rattle.ti_handshake.proofs.desk.Desk.cancel_now.Goals as goal
 

@@ -2,8 +2,8 @@ use Rattle.std.proofs.Common.{◌≡◌, Bool, false, List, None, is_some, if◌
 use Rattle.ti_replay.specs.Tickets.{reply_to}
 use Rattle.ti_slot.specs.Tickets.{has}
 use Rattle.ti_types.specs.declared.event.Ticket.{Ticket}
-use Rattle.ti_handshake.specs.Cancelled.{AreGivenUp}
-use Rattle.ti_handshake.proofs.GivenUp.{place_given, given_there, seat_again, out_posted, still_given}
+use Rattle.ti_handshake.specs.Cancelled.{AreCancelled}
+use Rattle.ti_handshake.proofs.Cancelling.{place_given, given_there, seat_again, out_posted, still_given}
 use Rattle.ti_handshake.proofs.Desks.{Took, took, collects, collect_adds, collect_may_keep, collected, own_answered, gone_then, at_place_if}
 use Rattle.ti_handshake.proofs.desk.Desk.collect_now.Goals.{After-slot-slot}
 use Rattle.ti_handshake.proofs.desk.Desk.collect_now.Goals as goal
@@ -51,4 +51,4 @@ invariant_of-self c =
     let none : has c.args.ticket i.cancelled.tickets ≡ false = sym c.has.ensures ∙ c.if-has.false in
     let given = still_given i.cancelled.tickets c.args.self.now.view.posted c.args.ticket (is_some c.collect_own-said.result) (given_there i.cell i.env i.seat i.cancelled.tickets c.args.self.now c.self.invariant c.self.view_is) none in
     seat_again i.cell i.env i.seat i.cancelled.tickets i.cancelled.tickets c.args.self.now c.store_quietly.result c.self.invariant c.self.view_is
-    (c.store_quietly.ensures.cell ∙ c.in-Ok.ensures.cell ∙ c.deref.ensures) hold.waits.goes.number hold.waits.goes.subject (subst (λ (l : List Ticket). AreGivenUp i.cancelled.tickets l) (sym hold.waits.posted) given)
+    (c.store_quietly.ensures.cell ∙ c.in-Ok.ensures.cell ∙ c.deref.ensures) hold.waits.goes.number hold.waits.goes.subject (subst (λ (l : List Ticket). AreCancelled i.cancelled.tickets l) (sym hold.waits.posted) given)

@@ -3,7 +3,7 @@ use Rattle.std.proofs.Common.{refl, ◌∙◌}
 use Rattle.ti_handshake.specs.Call.{ticket_told}
 use Rattle.ti_cell.proofs.Calls.{asked_keeps}
 use Rattle.ti_handshake.specs.Desk.{DeskState}
-use Rattle.ti_handshake.proofs.GivenUp.{given_there, posted_given, seat_again, ticket_out}
+use Rattle.ti_handshake.proofs.Cancelling.{given_there, posted_given, seat_again, ticket_out}
 use Rattle.ti_handshake.proofs.desk.Desk.post_now.Goals.{After-slot-slot}
 use Rattle.ti_handshake.proofs.desk.Desk.post_now.Goals as goal
 

@@ -1,4 +1,4 @@
--- All calls of a desk that are out are given up.
+-- All calls of a desk that are out are cancelled.
 use Rattle.std.proofs.Common.{◌≡◌, ℕ, suc, ◌+◌, ◌<◌, ◌≤◌, ◌==◌, ◌&&◌, nat_lt, true, false, inl, inr, List, [], ◌∷◌, ◌++◌, length, append-nil, append_assoc, refl, ap, sym, ◌∙◌, subst, arith, Some, None}
 use Rattle.std.proofs.lemmas.Bool.{cases_Bool, cases_lt}
 use Rattle.std.proofs.lemmas.Bool.Decides.{nat_tests}
@@ -12,10 +12,10 @@ use Rattle.ti_replay.specs.Legal.{asked_by, ask_count}
 use Rattle.ti_slot.specs.Tickets.{has, without_ticket, IsNextOut, same}
 use Rattle.ti_slot.specs.Thread.{Thread}
 use Rattle.ti_cell.specs.View.{tickets_of}
-use Rattle.ti_handshake.specs.Cancelled.{AddsAll, AreGivenUp, Given}
+use Rattle.ti_handshake.specs.Cancelled.{AddsAll, AreCancelled, Given}
 use Rattle.ti_handshake.specs.Desk.{DeskState, is_out}
 use Rattle.ti_handshake.proofs.Desks.{own_has}
-use Rattle.ti_handshake.proofs.GivenUp.{same_is, apart, has_without, more_given, has_last, has_more}
+use Rattle.ti_handshake.proofs.Cancelling.{same_is, apart, has_without, more_given, has_last, has_more}
 
 length_without : (k : Ticket) (ts : List Ticket) → has k ts ≡ true → suc (length (without_ticket k ts)) ≡ length ts
 length_without k [] h = cc
@@ -25,12 +25,12 @@ length_without k (u ∷ ts) h =
       | inr other ↦ let rest = length_without k ts (grind (arith, h, other)) in grind (arith, other, rest)
     ]
 
--- no more calls were given up than are out
-pub given_few : (g posted : List Ticket) → AreGivenUp g posted → length g ≤ length posted
+-- no more calls were cancelled than are out
+pub given_few : (g posted : List Ticket) → AreCancelled g posted → length g ≤ length posted
 given_few [] posted given = omega arith
 given_few (u ∷ g) posted given =
     let there : has u posted ≡ true = given.out u (let e : same u u ≡ true = grind (arith, nat_tests) in grind (arith, e)) in
-    let rest : AreGivenUp g (without_ticket u posted) = record {
+    let rest : AreCancelled g (without_ticket u posted) = record {
       once = given.once.1;
       out = λ k h. has_without k u posted (apart k u g h given.once.0) ∙ given.out k (grind (arith, h));
     } in
@@ -40,7 +40,7 @@ given_few (u ∷ g) posted given =
 pub record Adding (own old : List Ticket) (room : ℕ) (now : Given) (from : ℕ) : Type 0 where
   pub more : List Ticket
   pub behind : now.tickets ≡ old ++ more
-  pub given : AreGivenUp now.tickets own
+  pub given : AreCancelled now.tickets own
   pub room_is : now.room ≡ room
   pub below : (k : Ticket) → has k own ≡ true → k.no < from → has k now.tickets ≡ true
 
@@ -51,11 +51,11 @@ AreKnown z = (k : Ticket) → has k z.uncollected ≡ true → (k.thread.0 == z.
 abbrev own_of : EnvNo → Thread → List Ticket
 own_of env z = tickets_of (env.0 + 1) z.uncollected
 
-pub nothing_added : (own old : List Ticket) (now : Given) → now.tickets ≡ old → AreGivenUp old own → Adding own old now.room now 0
+pub nothing_added : (own old : List Ticket) (now : Given) → now.tickets ≡ old → AreCancelled old own → Adding own old now.room now 0
 nothing_added own old now is given = record {
   more = [];
   behind = is ∙ sym (append-nil old);
-  given = subst (λ (l : List Ticket). AreGivenUp l own) (sym is) given;
+  given = subst (λ (l : List Ticket). AreCancelled l own) (sym is) given;
   room_is = refl;
   below = λ k h less. absurd (omega (arith, less));
 }
@@ -102,7 +102,7 @@ pub added : (env : EnvNo) (z : Thread) (old : List Ticket) (room from : ℕ) (no
 added env z old room from now after t known a next none is same_room = record {
   more = a.more ++ t ∷ [];
   behind = is ∙ ap (λ (l : List Ticket). l ++ t ∷ []) a.behind ∙ append_assoc old a.more (t ∷ []);
-  given = subst (λ (l : List Ticket). AreGivenUp l own) (sym is) more;
+  given = subst (λ (l : List Ticket). AreCancelled l own) (sym is) more;
   room_is = same_room ∙ a.room_is;
   below = λ k h less. ap (has k) is ∙ elim (cases_lt k.no from) [
     | inl low ↦ has_more k now.tickets (t ∷ []) (a.below k h low)
@@ -113,8 +113,8 @@ added env z old room from now after t known a next none is same_room = record {
     own : List Ticket
     own = own_of env z
 
-    more : AreGivenUp (now.tickets ++ t ∷ []) own
-    more = subst (λ (l : List Ticket). AreGivenUp (now.tickets ++ t ∷ []) l) (append-nil own) (more_given now.tickets own [] t a.given none (ap (has t) (append-nil own) ∙ mine_out env z from t next))
+    more : AreCancelled (now.tickets ++ t ∷ []) own
+    more = subst (λ (l : List Ticket). AreCancelled (now.tickets ++ t ∷ []) l) (append-nil own) (more_given now.tickets own [] t a.given none (ap (has t) (append-nil own) ∙ mine_out env z from t next))
 
 -- there is room for it
 pub has_room : (env : EnvNo) (z : Thread) (old : List Ticket) (room from : ℕ) (now : Given) (t : Ticket) → Adding (own_of env z) old room now from → IsNextOut z.number z.uncollected env from (Some t) → has t now.tickets ≡ false
@@ -177,7 +177,7 @@ ends_early env z old room from now a none = record {
   ];
 }
 
--- then no call is out that was not given up
+-- then no call is out that was not cancelled
 pub none_out : (p : DeskState) → ((k : Ticket) → has k p.view.posted ≡ true → has k p.cancelled ≡ true) → (k : Ticket) → is_out p k ≡ false
 none_out p all k =
     elim (cases_Bool (has k p.view.posted)) [

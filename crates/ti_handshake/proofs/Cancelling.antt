@@ -1,4 +1,4 @@
--- A desk and its calls that were given up.
+-- A desk and its calls that were cancelled.
 use Rattle.std.proofs.Common.{◌≡◌, ◌<◌, Bool, true, false, if◌then◌else◌, inl, inr, List, [], ◌∷◌, ◌++◌, append-nil, drop, refl, ap, sym, ◌∙◌, subst, arith, Option, Some, None}
 use Rattle.std.specs.Prelude.{slice_get}
 use Rattle.std.proofs.lemmas.Bool.{cases_Bool}
@@ -15,7 +15,7 @@ use Rattle.ti_cell.specs.declared.view.Subject.{Subject}
 use Rattle.ti_cell.specs.declared.view.View.{View}
 use Rattle.ti_cell.specs.Seats.{Sitting}
 use Rattle.ti_handshake.specs.Call.{IsTold, ticket_told}
-use Rattle.ti_handshake.specs.Cancelled.{AreGivenUp}
+use Rattle.ti_handshake.specs.Cancelled.{AreCancelled}
 use Rattle.ti_handshake.specs.Desk.{DeskState, IsTicketOut, is_out}
 use Rattle.ti_handshake.specs.Seated.{IsThere, place_in}
 
@@ -70,12 +70,12 @@ pub place_given : (cell : TableId) (env : EnvNo) (o : Option Sitting) (g : List 
 place_given cell env None g p is = ap (λ (x : DeskState). x.cancelled) (sym is)
 place_given cell env (Some s) g p is = ap (λ (x : DeskState). x.cancelled) (sym is)
 
-pub given_there : (cell : TableId) (env : EnvNo) (o : Option Sitting) (g : List Ticket) (p : DeskState) → IsThere cell env o g → place_in cell env o g ≡ p → AreGivenUp g p.view.posted
+pub given_there : (cell : TableId) (env : EnvNo) (o : Option Sitting) (g : List Ticket) (p : DeskState) → IsThere cell env o g → place_in cell env o g ≡ p → AreCancelled g p.view.posted
 given_there cell env None g p k is = absurd k
-given_there cell env (Some s) g p k is = subst (λ (x : DeskState). AreGivenUp g x.view.posted) is k.1
+given_there cell env (Some s) g p k is = subst (λ (x : DeskState). AreCancelled g x.view.posted) is k.1
 
 pub seat_again : (cell : TableId) (env : EnvNo) (o : Option Sitting) (g z : List Ticket) (p : DeskState) (s : Sitting) → IsThere cell env o g → place_in cell env o g ≡ p
-    → s.cell ≡ cell → s.view.number ≡ p.view.number → s.view.subject ≡ p.view.subject → AreGivenUp z s.view.posted → IsThere cell env (Some s) z
+    → s.cell ≡ cell → s.view.number ≡ p.view.number → s.view.subject ≡ p.view.subject → AreCancelled z s.view.posted → IsThere cell env (Some s) z
 seat_again cell env None g z p s k is here number subject given = absurd k
 seat_again cell env (Some t) g z p s k is here number subject given =
     let view : t.view ≡ p.view = ap (λ (x : DeskState). x.view) is in
@@ -83,16 +83,16 @@ seat_again cell env (Some t) g z p s k is here number subject given =
     let same_subject : s.view.subject ≡ t.view.subject = subject ∙ sym (ap (λ (v : View). v.subject) view) in
     (record { here = here; number = same_number ∙ k.0.number; there = subst (λ (x : Subject). env.0 < x.limits.envs) (sym same_subject) k.0.there }, given)
 
--- a call that was not given up is out if it is posted
+-- a call that was not cancelled is out if it is posted
 pub out_posted : (p : DeskState) (t : Ticket) → has t p.cancelled ≡ false → is_out p t ≡ has t p.view.posted
 out_posted p t n = grind (arith, n)
 
--- one that was given up is not
+-- one that was cancelled is not
 pub not_out : (p : DeskState) (t : Ticket) → has t p.cancelled ≡ true → is_out p t ≡ false
 not_out p t n = grind (arith, n)
 
--- a new ticket was not given up
-pub ticket_out : (v w : View) (env : EnvNo) (call : Call) (r : asked.Asked) (g : List Ticket) (q : DeskState) → AreGivenUp g v.posted → w.posted ≡ v.posted ++ ticket_told r → IsTold v w env call r
+-- a new ticket was not cancelled
+pub ticket_out : (v w : View) (env : EnvNo) (call : Call) (r : asked.Asked) (g : List Ticket) (q : DeskState) → AreCancelled g v.posted → w.posted ≡ v.posted ++ ticket_told r → IsTold v w env call r
     → q.view ≡ w → q.cancelled ≡ g → IsTicketOut q r
 ticket_out v w env call (Answered a) g q given more told view same = tt
 ticket_out v w env call (Waiting k) g q given more told view same =
@@ -104,17 +104,17 @@ ticket_out v w env call (Waiting k) g q given more told view same =
     let none : has k q.cancelled ≡ false = ap (has k) same ∙ new in
     grind (arith, posted, none)
 
--- those that were given up stay out when more is posted
-pub posted_given : (g posted more left : List Ticket) → AreGivenUp g posted → left ≡ posted ++ more → AreGivenUp g left
-posted_given g posted more left given is = subst (λ (l : List Ticket). AreGivenUp g l) (sym is) (record { once = given.once; out = λ k h. has_more k posted more (given.out k h) })
+-- those that were cancelled stay out when more is posted
+pub posted_given : (g posted more left : List Ticket) → AreCancelled g posted → left ≡ posted ++ more → AreCancelled g left
+posted_given g posted more left given is = subst (λ (l : List Ticket). AreCancelled g l) (sym is) (record { once = given.once; out = λ k h. has_more k posted more (given.out k h) })
 
--- those that were given up stay out where another's answer is collected
-pub still_given : (g posted : List Ticket) (t : Ticket) (b : Bool) → AreGivenUp g posted → has t g ≡ false → AreGivenUp g (if b then without_ticket t posted else posted)
+-- those that were cancelled stay out where another's answer is collected
+pub still_given : (g posted : List Ticket) (t : Ticket) (b : Bool) → AreCancelled g posted → has t g ≡ false → AreCancelled g (if b then without_ticket t posted else posted)
 still_given g posted t false given n = given
 still_given g posted t true given n = record { once = given.once; out = λ k h. has_without k t posted (apart k t g h n) ∙ given.out k h }
 
--- and the others where the first is thrown away
-pub less_given : (g posted : List Ticket) (t : Ticket) (b : Bool) → AreGivenUp g posted → Some t ≡ slice_get g 0 → AreGivenUp (if b then drop 1 g else g) (if b then without_ticket t posted else posted)
+-- and the others where the first is discarded
+pub less_given : (g posted : List Ticket) (t : Ticket) (b : Bool) → AreCancelled g posted → Some t ≡ slice_get g 0 → AreCancelled (if b then drop 1 g else g) (if b then without_ticket t posted else posted)
 less_given g posted t false given first = given
 less_given [] posted t true given first = let never : Some t ≡ None = first in cc
 less_given (u ∷ g) posted t true given first =
@@ -125,8 +125,8 @@ less_given (u ∷ g) posted t true given first =
           has_without k t posted other ∙ given.out k (grind (arith, h)));
     }
 
--- one more is given up
-pub more_given : (g posted more : List Ticket) (t : Ticket) → AreGivenUp g posted → has t g ≡ false → has t (posted ++ more) ≡ true → AreGivenUp (g ++ t ∷ []) (posted ++ more)
+-- one more is cancelled
+pub more_given : (g posted more : List Ticket) (t : Ticket) → AreCancelled g posted → has t g ≡ false → has t (posted ++ more) ≡ true → AreCancelled (g ++ t ∷ []) (posted ++ more)
 more_given g posted more t given n there = record {
   once = once_more g t given.once n;
   out = λ k h. elim (cases_Bool (has k g)) [
@@ -139,22 +139,22 @@ more_given g posted more t given n there = record {
 
 -- the same, by what the lists are afterwards
 
-pub thrown_given : (g posted z left : List Ticket) (t : Ticket) (b : Bool) → AreGivenUp g posted → Some t ≡ slice_get g 0 → z ≡ (if b then drop 1 g else g) → left ≡ (if b then without_ticket t posted else posted) → AreGivenUp z left
-thrown_given g posted z left t b given first zs ls = subst (λ (x : List Ticket × List Ticket). AreGivenUp x.0 x.1) (λ i. (sym zs i, sym ls i)) (less_given g posted t b given first)
+pub discarded_given : (g posted z left : List Ticket) (t : Ticket) (b : Bool) → AreCancelled g posted → Some t ≡ slice_get g 0 → z ≡ (if b then drop 1 g else g) → left ≡ (if b then without_ticket t posted else posted) → AreCancelled z left
+discarded_given g posted z left t b given first zs ls = subst (λ (x : List Ticket × List Ticket). AreCancelled x.0 x.1) (λ i. (sym zs i, sym ls i)) (less_given g posted t b given first)
 
-pub left_given : (g posted z left : List Ticket) (t : Ticket) → AreGivenUp g posted → has t posted ≡ false → z ≡ g ++ t ∷ [] → left ≡ posted ++ t ∷ [] → AreGivenUp z left
+pub left_given : (g posted z left : List Ticket) (t : Ticket) → AreCancelled g posted → has t posted ≡ false → z ≡ g ++ t ∷ [] → left ≡ posted ++ t ∷ [] → AreCancelled z left
 left_given g posted z left t given new zs ls =
     let none : has t g ≡ false = elim (cases_Bool (has t g)) [
       | inl h ↦ let never : true ≡ false = sym (given.out t h) ∙ new in cc
       | inr h ↦ h
     ] in
-    subst (λ (x : List Ticket × List Ticket). AreGivenUp x.0 x.1) (λ i. (sym zs i, sym ls i)) (more_given g posted (t ∷ []) t given none (has_last t posted))
+    subst (λ (x : List Ticket × List Ticket). AreCancelled x.0 x.1) (λ i. (sym zs i, sym ls i)) (more_given g posted (t ∷ []) t given none (has_last t posted))
 
-pub cancel_given : (g posted z left : List Ticket) (t : Ticket) → AreGivenUp g posted → has t g ≡ false → has t posted ≡ true → z ≡ g ++ t ∷ [] → left ≡ posted → AreGivenUp z left
+pub cancel_given : (g posted z left : List Ticket) (t : Ticket) → AreCancelled g posted → has t g ≡ false → has t posted ≡ true → z ≡ g ++ t ∷ [] → left ≡ posted → AreCancelled z left
 cancel_given g posted z left t given none there zs ls =
     let all : posted ++ [] ≡ posted = append-nil posted in
     let h : has t (posted ++ []) ≡ true = ap (has t) all ∙ there in
-    subst (λ (x : List Ticket × List Ticket). AreGivenUp x.0 x.1) (λ i. (sym zs i, (all ∙ sym ls) i)) (more_given g posted [] t given none h)
+    subst (λ (x : List Ticket × List Ticket). AreCancelled x.0 x.1) (λ i. (sym zs i, (all ∙ sym ls) i)) (more_given g posted [] t given none h)
 
-pub same_given : (g posted z left : List Ticket) → AreGivenUp g posted → z ≡ g → left ≡ posted → AreGivenUp z left
-same_given g posted z left given zs ls = subst (λ (x : List Ticket × List Ticket). AreGivenUp x.0 x.1) (λ i. (sym zs i, sym ls i)) given
+pub same_given : (g posted z left : List Ticket) → AreCancelled g posted → z ≡ g → left ≡ posted → AreCancelled z left
+same_given g posted z left given zs ls = subst (λ (x : List Ticket × List Ticket). AreCancelled x.0 x.1) (λ i. (sym zs i, sym ls i)) given
