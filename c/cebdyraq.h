@@ -587,7 +587,7 @@ uint32_t cq_set_thread_local_storage(cq_env *env, uint32_t thread, uint64_t word
  *   CQ_BUSY 215     the thread itself or another environment uses the thread */
 uint32_t cq_collect(cq_env *env, const cq_ticket *ticket, cq_answer *answer, cq_frame *frames, size_t room) CQ_MUST_USE;
 
-/* Cancels a call that is out: it is not collected. It may still take place, so a thread may be suspended. It keeps its
+/* Cancels a call that is out: cq_collect never gives its answer. It may still take place, so a thread may be suspended. It keeps its
  * room in the window until cq_discard or cq_collect_cancelled. Nothing happens if no call with this ticket is out.
  *
  *   CQ_OUT_OF_MEMORY 110  there is no memory to note that the call was cancelled

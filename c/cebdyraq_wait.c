@@ -187,20 +187,20 @@ static void sleep_on(waiter *w, int64_t now) {
     sleep_until(w, end);
 }
 
-/* It comes further: the wait is over, it is another one that holds it up, or a trace has made a step. */
+/* It comes further: the wait is over, the hold of another has ended, or a trace has made a step. */
 static void comes_on(waiter *w) {
     if (w->stuck >= 0 && w->spin > 0) learn_that_it_paid(w, now_ns() - w->stuck);
     w->stuck = -1;
 }
 
-static bool spins_on(waiter *w, int64_t now) {
-    if (now - w->stuck < w->spin) {
-        pause_a_little();
-        return true;
-    }
-    if (w->spin > 0) learn_that_it_was_in_vain(w);
-    w->spin = 0;
-    return false;
+/* Notes what holds it up. Once CQ_BUSY is over, it spins anew for what it waits for, and no further CQ_BUSY has it do so again: callers
+ * that meet each other's holds would never sleep. */
+static void note_stuck(waiter *w, int64_t now) {
+    if (w->stuck_by == CQ_BUSY && w->code != CQ_BUSY) comes_on(w);
+    if (w->stuck >= 0) return;
+    w->stuck = now;
+    w->stuck_by = w->code;
+    w->spin = spin_of(w);
 }
 
 static void leave(waiter *w) {
@@ -216,21 +216,19 @@ static __attribute__((noinline)) bool await(waiter *w) {
     if (w->began < 0) {
         w->began = now;
     }
-    if (w->code != w->stuck_by) {
-        comes_on(w);
-    }
-    if (w->stuck < 0) {
-        w->stuck = now;
-        w->stuck_by = w->code;
-        w->spin = spin_of(w);
-    }
+    note_stuck(w, now);
     if (w->timeout >= 0 && now - w->began >= w->timeout) {
         w->code = CQ_TIMED_OUT;
         leave(w);
         return false;
     }
-    if (spins_on(w, now)) {
+    if (now - w->stuck < w->spin) {
+        pause_a_little();
         return true;
+    }
+    if (w->spin > 0) {
+        learn_that_it_was_in_vain(w);
+        w->spin = 0;
     }
     if (w->counted) {
         sleep_on(w, now);

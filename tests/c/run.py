@@ -57,7 +57,7 @@ PROGRAMS = [
     Program("stops", ["stops.c", "stops_threads.c"], COUNTED_HEAP + STRINGS),
     Program("events", ["events.c"], HEAP + STRINGS),
     Program("gather", ["gather.c"], COUNTED_HEAP),
-    Program("wait", ["wait.c", "wait_any.c", "wait_cancelled.c", "wait_dispose.c", "wait_resumed.c", "wait_window.c"], HEAP),
+    Program("wait", ["wait.c", "wait_any.c", "wait_cancelled.c", "wait_crowd.c", "wait_dispose.c", "wait_resumed.c", "wait_window.c"], HEAP),
     Program("gather_waits", ["gather_waits.c"], HEAP, {VALGRIND: ["100"]}),
     Program("gather_busy", ["gather_busy.c"], HEAP, wait=[]),
     Program("gather_lost", ["gather_lost.c"], HEAP),

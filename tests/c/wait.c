@@ -299,6 +299,7 @@ int main(void) {
     waits_for_any();
     full_windows();
     cancelled_calls();
+    crowds();
     suspensions_taken_back();
     environments_disposed_of();
     tear_down();

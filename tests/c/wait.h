@@ -36,6 +36,9 @@ void waits_for_any(void);
 /* Calls that are cancelled. */
 void cancelled_calls(void);
 
+/* Agents that wait for one thread. */
+void crowds(void);
+
 /* Suspensions that are taken back. */
 void suspensions_taken_back(void);
 
