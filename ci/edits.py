@@ -11,7 +11,8 @@ when its turn comes. The gate tries those of edits/: one for each relation that 
 The crates have to be proved. An edit is refused if a function that it changes is not proved then. The others of its crate keep
 their contracts, so edits of different functions are made together, on a copy. For those of edits/ a check looks at their functions
 alone, for those of more-edits/ at the whole crate. An edit that changes more than bodies is tried alone, and one that changes no
-body by a check of the crate. What does not compile is not refused.
+body by a check of the crate. What does not compile is not refused. If edits that are made together do not compile, each half of
+them is made without the other.
 
 The last line is 'N refused, M not', or 'N passed, M failed' of the last form.
 """
@@ -97,10 +98,12 @@ def of_type(text, head):
 
 @dataclasses.dataclass
 class Said:
-    """What checks said: the functions with a goal that is not proved, and those that only call such a one."""
+    """What a check said: the functions with a goal that is not proved, those that only call such a one, and the end of its output if
+    it failed and names none, since something does not compile."""
 
     unproved: set
     callers: set
+    fault: str
 
     @staticmethod
     def names(functions, paths):
@@ -112,9 +115,7 @@ class Said:
         done = subprocess.run(["rt", "check", *flags], cwd=folder, stdout=subprocess.PIPE, stderr=subprocess.STDOUT, text=True, errors="replace")
         callers = set(re.findall(r"^fn (\S+): no proof: it calls", done.stdout, re.M))
         unproved = set(re.findall(r"^fn (\S+): (?:not proved|no proof: (?!it calls))", done.stdout, re.M))
-        if done.returncode and not callers | unproved:
-            print(done.stdout[-800:])
-        return cls(unproved, callers)
+        return cls(unproved, callers, done.stdout[-800:] if done.returncode and not callers | unproved else "")
 
 
 def link(source, target):
@@ -188,6 +189,14 @@ class Copy:
         while waiting:
             chosen, texts = self.choose(waiting)
             said = self.said_of(chosen, texts, is_whole)
+            tried = [edit for edit, _ in chosen]
+            if said.fault and len(tried) > 1:
+                half = len(tried) // 2
+                refused += self.refused(tried[:half], is_whole) + self.refused(tried[half:], is_whole)
+                waiting = [edit for edit in waiting if edit not in tried]
+                continue
+            if said.fault:
+                print(f"{self.crate}: this does not compile: {[edit.name for edit in tried]}\n{said.fault}")
             now = [edit for edit, functions in chosen if said.names(functions, said.unproved) or functions == {None} and said.unproved]
             again = [edit for edit, functions in chosen if edit not in now and said.names(functions, said.callers)]
             done = [edit for edit, _ in chosen if not now or edit not in again]

@@ -20,3 +20,4 @@ pub mod Counted
 pub mod AtHome
 pub mod Stays
 pub mod Resuming
+pub mod AllCancelled

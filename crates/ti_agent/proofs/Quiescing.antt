@@ -28,7 +28,7 @@ use Rattle.ti_agent.proofs.Whole.{seen_call}
 use Rattle.ti_vmop.proofs.Each.{set_here}
 
 -- a ticket that is left was there
-has_more : (j k : Ticket) (l : List Ticket) → has j (without_ticket k l) ≡ true → has j l ≡ true
+pub has_more : (j k : Ticket) (l : List Ticket) → has j (without_ticket k l) ≡ true → has j l ≡ true
 has_more j k [] h = h
 has_more j k (u ∷ l) h =
     elim (cases_Bool (same u k)) [

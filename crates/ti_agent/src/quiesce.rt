@@ -14,7 +14,8 @@ impl<H: Home> Env<H> {
     ///
     /// The error is 110 OUT_OF_MEMORY, or `Busy` (215) if the cell is in use. Then nothing changes.
     fn cancel_all_now(&mut self, alloc: Global, thread: ThreadNo) -> Result<(), TiError>
-        ensures cancelled { OnOk result (MayQuiesce self.old.env self.new.env thread) }
+        ensures steps { OnOk result (MayQuiesce self.old.env self.new.env thread) }
+        ensures cancelled { OnOk result (AllCancelledAt self.new.env thread) }
         ensures refused { IfErr result (λ e. (e ≡ OutOfMemory) ⊎ (e ≡ Busy)) }
         ensures unchanged { OnErr result (self.new ≡ self.old) }
         ensures home { self.new.home ≡ self.old.home }
@@ -32,6 +33,8 @@ impl<H: Home> Env<H> {
     /// The error is `Busy` (215) if the cell is in use. Then some may be discarded.
     fn discard_all_now(&mut self, thread: ThreadNo) -> Result<(), TiError>
         ensures steps { MayQuiesce self.old.env self.new.env thread }
+        ensures cancelled { AllCancelledAt self.old.env thread → AllCancelledAt self.new.env thread }
+        ensures waits { OnOk result (FirstWaitsAt self.new.env thread) }
         ensures busy { IfErr result (λ e. e ≡ Busy) }
         ensures home { self.new.home ≡ self.old.home }
     {
@@ -42,8 +45,9 @@ impl<H: Home> Env<H> {
     /// Cancels all calls of the environment that are out at a thread, and discards the answers that are there (this profile). It
     /// gives whether none of its calls is out there then.
     ///
-    /// `false`: a call is out. It has no answer while the thread runs and has not handed over since the call was posted. Each of its
-    /// calls there still takes place. If there is no desk at a thread of this number, the result is `true`.
+    /// `false`: calls are out. Each is cancelled, and the one that was cancelled first has no answer: the thread runs, and has not
+    /// handed over since that call was posted. Each of them still takes place. If there is no desk at a thread of this number, the
+    /// result is `true`.
     ///
     /// The error is one of these. The calls may be cancelled, and answers may be discarded. Nothing else changed.
     ///
@@ -73,6 +77,8 @@ impl<H: Home> Env<H> {
     /// ```
     pub fn quiesce_now(&mut self, alloc: Global, thread: ThreadNo) -> Result<bool, TiError>
         ensures quiet { IfOk result (λ quiet. quiet ≡ (outstanding self.new.env thread == 0)) }
+        ensures cancelled { IfOk result (λ quiet. OnFalse quiet (AllCancelledAt self.new.env thread)) }
+        ensures waits { IfOk result (λ quiet. OnFalse quiet (FirstWaitsAt self.new.env thread)) }
         ensures steps { MayQuiesce self.old.env self.new.env thread }
         ensures refused { IfErr result (λ e. (e ≡ OutOfMemory) ⊎ (e ≡ Busy)) }
         ensures home { self.new.home ≡ self.old.home }
@@ -185,8 +191,9 @@ fn await_news<R: Wait>(rt: &R, desk: &mut Desk)
 }
 
 ghost use Rattle.std.specs.Prelude.{◌≡◌, ◌⊎◌, ◌==◌, true, [], IfOk, IfErr, OnOk, OnErr};
+ghost use Rattle.std.specs.Bool.{OnFalse};
 ghost use Rattle.ti_types.specs.declared.error.TiError.TheVariants.{OutOfMemory, Busy};
 ghost use Rattle.ti_handshake.specs.Call.{Waits};
 ghost use Rattle.ti_handshake.specs.Desk.{IsSame};
 ghost use Rattle.ti_agent.specs.Env.{may_change, outstanding};
-ghost use Rattle.ti_agent.specs.Quiesced.{MayQuiesce};
+ghost use Rattle.ti_agent.specs.Quiesced.{AllCancelledAt, FirstWaitsAt, MayQuiesce};

@@ -66,9 +66,10 @@ abbrev pub ReplyAtPlace : Limits → List Entry → Ticket → Answer → Type 0
 ReplyAtPlace limits history ticket answer =
     (front rest : List Entry) (call : Call) → history ≡ front ++ Asked ticket.env ticket.no call ∷ rest → reply limits history (length front) ≡ Some answer
 
--- what is told of an answer that was discarded: of the call that was cancelled first, and the reply to it
+-- what is told of an answer that was discarded: of the call that was cancelled first, which is out no more, and the reply to it
 pub record TellsDiscarded (old new : DeskState) (ticket : Ticket) (answer : Answer) : Type 0 where
   pub first : Some ticket ≡ slice_get old.cancelled 0
+  pub gone : has ticket new.view.posted ≡ false
   pub replied : reply_to old.view.subject.limits new.view.seen ticket ≡ Some answer
   pub place : ReplyAtPlace old.view.subject.limits new.view.seen ticket answer
 

@@ -1,5 +1,5 @@
 -- What a call of the monitor leaves in the books.
-use Rattle.std.proofs.Common.{◌≡◌, ℕ, ◌+◌, ◌⊎◌, List, refl, sym, ap, subst, inl, inr, ◌∙◌}
+use Rattle.std.proofs.Common.{◌≡◌, ℕ, ◌+◌, List, refl, ap, subst, inl, inr, ◌∙◌}
 use Rattle.ti_http.specs.declared.head.Request.{Request}
 use Rattle.ti_monitor.specs.declared.door_desk.Due.TheVariants as due
 use Rattle.ti_monitor.specs.declared.metrics.Metrics.{Metrics}
@@ -9,7 +9,7 @@ use Rattle.ti_monitor.specs.declared.reading.Order.{Order}
 use Rattle.ti_monitor.specs.declared.running.Running.{Running}
 use Rattle.ti_monitor.specs.Desks.{books_with}
 use Rattle.ti_monitor.specs.Door.{order_of}
-use Rattle.ti_monitor.specs.Monitors.{Begins, HasNoRoom, IsWithout, MayBeWithout, begun_in}
+use Rattle.ti_monitor.specs.Monitors.{Begins, IsWithout, MayBeWithout, begun_in}
 use Rattle.ti_monitor.specs.Serving.{Books, IsDelay, MayTakeOut, ReadingsGoOn, Starts, TakesOut}
 
 abbrev pub books : List Running → ℕ → Metrics → List (ℕ × ℕ) → Books

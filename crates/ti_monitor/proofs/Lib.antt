@@ -1,4 +1,6 @@
 pub mod Sums
+pub mod ProbeLaws
+pub mod OrderLaws
 pub mod RunLaws
 pub mod LineLaws
 pub mod ReadingLaws

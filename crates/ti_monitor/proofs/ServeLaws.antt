@@ -1,8 +1,8 @@
 -- Connections that are served: moves one after another, and the answers that are right.
 use Rattle.std.specs.Prelude.{map}
 use Rattle.std.specs.String.{string_bytes}
-use Rattle.std.proofs.Common.{◌≡◌, ℕ, true, false, List, [], ◌∷◌, ◌++◌, Option, Some, None, refl, sym, ap, subst, inl, inr, ◌∙◌, true≢false}
-use Rattle.std.specs.Prelude.{Result, Ok, Err, OnErr, OnOk, is_some, if◌then◌else◌}
+use Rattle.std.proofs.Common.{◌≡◌, ℕ, true, List, [], ◌∷◌, ◌++◌, Option, Some, None, refl, sym, ap, subst, inl, inr, ◌∙◌}
+use Rattle.std.specs.Prelude.{is_some}
 use Rattle.ti_http.specs.Answers.{code_of}
 use Rattle.ti_http.specs.declared.answers.ContentType.{ContentType}
 use Rattle.ti_http.specs.declared.answers.ContentType.TheVariants as content
@@ -22,10 +22,10 @@ use Rattle.ti_monitor.specs.declared.door_desk.Due.{Due}
 use Rattle.ti_monitor.specs.declared.door_desk.Due.TheVariants as due
 use Rattle.ti_monitor.specs.declared.door_seat.Seat.{Seat}
 use Rattle.ti_monitor.specs.declared.monitor.ReadingNo.{ReadingNo}
-use Rattle.ti_monitor.specs.Desks.{Gives, Keeps, SeatServes, ServesWith, at_seat, books_of, setting_of}
+use Rattle.ti_monitor.specs.Desks.{Keeps, SeatServes, ServesWith, at_seat, setting_of}
 use Rattle.ti_monitor.specs.Door.{content_of, counted}
 use Rattle.ti_monitor.specs.Seats.{postponed, profile_of, seconds_of}
-use Rattle.ti_monitor.specs.Serving.{AtOnce, Books, Calls, Does, Hurried, IsAnswer, IsBodyOf, Leaves, MayTakeOut, Move, ReadingsGoOn, Response, Serves, ServesBy, Setting, Sitting, Starts, TakesOut, Turned, Turns, due_after, index_text, later_text, response, setting, sitting, told_in}
+use Rattle.ti_monitor.specs.Serving.{AtOnce, Books, Calls, Does, Hurried, IsAnswer, IsBodyOf, Leaves, MayTakeOut, Move, ReadingsGoOn, Response, Serves, ServesBy, Setting, Sitting, Starts, TakesOut, Turned, Turns, due_after, later_text, response, setting, sitting, told_in}
 
 -- ---- moves
 

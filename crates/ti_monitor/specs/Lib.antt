@@ -3,6 +3,7 @@ pub mod Histograms
 pub mod Schedules
 pub mod Labels
 pub mod Watching
+pub mod Asking
 pub mod Lines
 pub mod Counters
 pub mod HandOvers

@@ -1,5 +1,5 @@
 -- The readings of a monitor.
-use Rattle.std.specs.Prelude.{ℕ, ◌≡◌, ◌≤◌, ◌⊎◌, ◌==◌, Bool, true, false, List, [], ◌∷◌, ◌++◌, Option, Some, None, is_some, length, slice_get, if◌then◌else◌}
+use Rattle.std.specs.Prelude.{ℕ, ◌≡◌, ◌≤◌, ◌⊎◌, ◌==◌, Bool, true, false, List, [], ◌∷◌, ◌++◌, Option, Some, None, is_some, length, map, slice_get, if◌then◌else◌}
 use Rattle.std.specs.List.{remove, sum_by}
 use Rattle.ti_service.specs.declared.event.EventKind.{EventKind}
 use Rattle.ti_service.specs.declared.event.EventKind.TheVariants.{ThreadAttached, ThreadDetached}
@@ -20,6 +20,13 @@ MayEnableOne k old new = (new ≡ old) ⊎ Enables k old new
 -- so for threads that are attached, and then for threads that are given back
 abbrev pub MayEnable : AgentState → AgentState → Type 0
 MayEnable old new = (mid : AgentState) × MayEnableOne ThreadAttached old mid × MayEnableOne ThreadDetached mid new
+
+-- the number and the order of a reading, and of each
+abbrev pub order_of : Running → ReadingNo × Order
+order_of r = (r.no, r.order)
+
+abbrev pub orders_of : List Running → List (ReadingNo × Order)
+orders_of readings = map order_of readings
 
 -- the reading of a number, if there is one
 abbrev pub reading_in : List Running → ReadingNo → Option Running

@@ -1,5 +1,5 @@
 -- What a door does at one of its connections: the calls of `ti_http` that it makes there, and what each of them answers.
-use Rattle.std.specs.Prelude.{ℕ, ◌≡◌, ◌+◌, ◌⊎◌, List, [], ◌∷◌, ◌++◌, Option, Some, None, is_some, true, codes, map, nat_lt, if◌then◌else◌}
+use Rattle.std.specs.Prelude.{ℕ, ◌≡◌, ◌+◌, ◌⊎◌, List, [], ◌∷◌, Option, Some, None, is_some, true, codes, map, nat_lt, if◌then◌else◌}
 use Rattle.std.specs.String.{string_bytes}
 use Rattle.ti_http.specs.Answers.{code_of}
 use Rattle.ti_http.specs.declared.answers.ContentType.{ContentType}

@@ -29,7 +29,9 @@ pub(crate) enum Told {
 }
 
 /// What an answer to a trace tells.
-fn told_by(answer: Answer) -> Told {
+fn told_by(answer: Answer) -> Told
+    ensures { IfStack result (λ trace. answer ≡ Trace trace) }
+{
     match answer {
         Answer::Trace(trace) => Told::Stack(trace),
         Answer::Refused(error) => refused_by(error),
@@ -38,7 +40,9 @@ fn told_by(answer: Answer) -> Told {
 }
 
 /// What a refusal of a trace tells.
-fn refused_by(error: TiError) -> Told {
+fn refused_by(error: TiError) -> Told
+    ensures { IfStack result (λ _. ⊥) }
+{
     match error {
         TiError::ThreadNotAlive => Told::Ended,
         TiError::Busy => Told::NotYet,
@@ -48,11 +52,10 @@ fn refused_by(error: TiError) -> Told {
 
 /// Asks a thread for its state. The errors are those of `Agent::post_now`, and the thread's own. Then nothing is known that was not
 /// known before.
-pub(crate) fn probe(
-    alloc: Global,
-    agent: &mut Agent,
-    watched: &mut Watched,
-) -> Result<(), TiError> {
+pub(crate) fn probe(alloc: Global, agent: &mut Agent, watched: &mut Watched) -> Result<(), TiError>
+    ensures probes { OnOk result (Probes agent.old agent.new watched.old watched.new) }
+    ensures kept { OnErr result (ProbesNot agent.old agent.new watched.old watched.new) }
+{
     match agent.post_now(alloc, watched.thread, Call::State)? {
         Asked::Answered(Answer::State(bits)) => {
             watched.see(bits);
@@ -63,8 +66,21 @@ pub(crate) fn probe(
     }
 }
 
+/// Asks a thread for its state, unless it was let go of. If it tells nothing, it is seen as before.
+pub(crate) fn probe_if_there(alloc: Global, agent: &mut Agent, watched: &mut Watched)
+    ensures { MayProbe agent.old agent.new watched.old watched.new }
+{
+    if watched.gone {
+        return;
+    }
+    let _as_before = probe(alloc, agent, watched);
+}
+
 /// Asks a thread at which no call is out for its state and its stack. One that has not started has no frames.
-pub(crate) fn ask(alloc: Global, agent: &mut Agent, watched: &mut Watched, now: u64) -> Told {
+pub(crate) fn ask(alloc: Global, agent: &mut Agent, watched: &mut Watched, now: u64) -> Told
+    ensures tells { IfStack result (TellsAtOnce agent.old agent.new watched.old watched.new) }
+    ensures thread { watched.new.thread ≡ watched.old.thread }
+{
     if watched.gone {
         return Told::Ended;
     }
@@ -93,7 +109,10 @@ pub(crate) fn collect(
     watched: &mut Watched,
     answers: &mut Histogram,
     now: u64,
-) -> Told {
+) -> Told
+    ensures tells { IfStack result (TellsLater agent.old agent.new watched.old watched.new) }
+    ensures thread { watched.new.thread ≡ watched.old.thread }
+{
     let Some(out) = watched.out else {
         return Told::NotYet;
     };
@@ -106,3 +125,7 @@ pub(crate) fn collect(
         Ok(None) | Err(_) => Told::NotYet,
     }
 }
+
+ghost use Rattle.std.specs.Prelude.{◌≡◌, OnOk, OnErr};
+ghost use Rattle.ti_types.specs.declared.answer.Answer.TheVariants.{Trace};
+ghost use Rattle.ti_monitor.specs.Asking.{IfStack, MayProbe, Probes, ProbesNot, TellsAtOnce, TellsLater};

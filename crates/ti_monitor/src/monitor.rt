@@ -1,6 +1,6 @@
 //! The agent that reads the threads.
 
-use crate::asking::probe;
+use crate::asking::probe_if_there;
 use crate::hand_overs::count_hand_overs;
 use crate::meeting::{count_earlier, count_events, enable_events, let_go_of_ended, watch_new};
 use crate::metrics::Metrics;
@@ -99,6 +99,8 @@ impl Monitor {
 
     /// Does what is due: it meets threads and lets them go, probes states, collects answers, and takes the ticks of readings.
     pub fn tick(&mut self, now: u64)
+        ensures calls { self.new.metrics.calls_out ≡ count_by has_call self.new.watched.items }
+        ensures orders { orders_of self.new.readings.running.items ≡ orders_of self.old.readings.running.items }
         ensures begun { self.new.begun ≡ self.old.begun }
         ensures program { self.new.program ≡ self.old.program }
     {
@@ -129,6 +131,7 @@ impl Monitor {
 
     /// Meets threads, if that is due or there is news. False if it could not, since the roster is in use.
     fn meet_if_due(&mut self, now: u64) -> bool
+        ensures readings { self.new.readings ≡ self.old.readings }
         ensures begun { self.new.begun ≡ self.old.begun }
         ensures program { self.new.program ≡ self.old.program }
     {
@@ -143,6 +146,7 @@ impl Monitor {
 
     /// Meets the threads that came, counts the events, and lets go of threads that were given back. False if the roster is in use.
     fn meet(&mut self) -> bool
+        ensures readings { self.new.readings ≡ self.old.readings }
         ensures begun { self.new.begun ≡ self.old.begun }
         ensures program { self.new.program ≡ self.old.program }
     {
@@ -162,18 +166,21 @@ impl Monitor {
         enabled.is_ok() && met != Err(TiError::Busy) && watched
     }
 
-    /// Probes the states of all threads, if that is due.
+    /// Probes the states of all threads, if that is due, and counts them.
     fn probe_if_due(&mut self, now: u64)
+        ensures probed { self.old.next_probe ≤ now → ProbesAll self.old.agent self.new.agent self.old.watched.items self.new.watched.items }
+        ensures counted { self.old.next_probe ≤ now → CountsStates self.old.metrics self.new.metrics self.new.watched.items (now - self.old.last_probe) }
+        ensures others { KeepsOthers self.old.metrics self.new.metrics }
+        ensures early { now < self.old.next_probe → self.new ≡ self.old }
+        ensures readings { self.new.readings ≡ self.old.readings }
         ensures begun { self.new.begun ≡ self.old.begun }
         ensures program { self.new.program ≡ self.old.program }
     {
         if now < self.next_probe {
             return;
         }
-        for one in self.watched.iter_mut() {
-            if !one.gone {
-                let _as_before = probe(self.alloc, &mut self.agent, one);
-            }
+        for place in 0..self.watched.len() {
+            probe_if_there(self.alloc, &mut self.agent, &mut self.watched[place]);
         }
         let passed = now.saturating_sub(self.last_probe);
         self.metrics.take_states(&self.watched, passed);
@@ -204,6 +211,7 @@ impl Monitor {
 
     /// Ends a reading now, with what is there. Nothing happens if it has ended, or if there is no such reading.
     pub fn hurry(&mut self, reading: ReadingNo, now: u64)
+        ensures orders { orders_of self.new.readings.running.items ≡ orders_of self.old.readings.running.items }
         ensures begun { self.new.begun ≡ self.old.begun }
         ensures program { self.new.program ≡ self.old.program }
         ensures agent { self.new.agent ≡ self.old.agent }
@@ -301,9 +309,12 @@ impl Monitor {
     }
 }
 
-ghost use Rattle.std.specs.Prelude.{◌≡◌, ◌+◌, ◌⊎◌, false, IfOk, IfErr, IfSome, IfNone, OnErr};
+ghost use Rattle.std.specs.Prelude.{◌≡◌, ◌<◌, ◌≤◌, ◌+◌, ◌-◌, ◌⊎◌, false, count_by, IfOk, IfErr, IfSome, IfNone, OnErr};
 ghost use Rattle.std.specs.String.{string_bytes};
 ghost use Rattle.ti_types.specs.declared.error.TiError.TheVariants.{Full, OutOfMemory};
 ghost use Rattle.ti_service.specs.Leaving.{Disposes, StaysOn};
 ghost use Rattle.ti_service.specs.Memberships.{state_of};
-ghost use Rattle.ti_monitor.specs.Monitors.{AreCountsOf, Begins, HasNoRoom, IsWithout, MayBeWithout, MayEnable, begun_in, has_ended, reading_in};
+ghost use Rattle.ti_monitor.specs.Asking.{ProbesAll};
+ghost use Rattle.ti_monitor.specs.Counters.{CountsStates, KeepsOthers};
+ghost use Rattle.ti_monitor.specs.Monitors.{AreCountsOf, Begins, HasNoRoom, IsWithout, MayBeWithout, MayEnable, begun_in, has_ended, orders_of, reading_in};
+ghost use Rattle.ti_monitor.specs.Watching.{has_call};

@@ -156,7 +156,10 @@ impl Running {
     }
 
     /// Ticks, if that is due. It gives whether it does.
-    pub(crate) fn tick(&mut self, watched: &[Watched], now: u64) -> bool {
+    pub(crate) fn tick(&mut self, watched: &[Watched], now: u64) -> bool
+        ensures no { self.new.no ≡ self.old.no }
+        ensures order { self.new.order ≡ self.old.order }
+    {
         if self.has_ended() || !self.schedule.take(now) {
             return false;
         }
@@ -165,7 +168,10 @@ impl Running {
     }
 
     /// Counts the stack of a place as often as it is owed. It gives how often that was.
-    pub(crate) fn answer(&mut self, place: usize, stack: &Stack, watched: &[Watched]) -> u64 {
+    pub(crate) fn answer(&mut self, place: usize, stack: &Stack, watched: &[Watched]) -> u64
+        ensures no { self.new.no ≡ self.old.no }
+        ensures order { self.new.order ≡ self.old.order }
+    {
         if self.has_ended() {
             return 0;
         }
@@ -174,7 +180,10 @@ impl Running {
     }
 
     /// Counts the frame of a function as often as stacks are owed at a place. It gives how often that was.
-    pub(crate) fn lose(&mut self, place: usize, function: u32, watched: &[Watched]) -> u64 {
+    pub(crate) fn lose(&mut self, place: usize, function: u32, watched: &[Watched]) -> u64
+        ensures no { self.new.no ≡ self.old.no }
+        ensures order { self.new.order ≡ self.old.order }
+    {
         if self.has_ended() {
             return 0;
         }
@@ -190,7 +199,10 @@ impl Running {
     }
 
     /// Ends it with what is there. It gives how many stacks were owed.
-    pub(crate) fn end(&mut self, watched: &[Watched], now: u64) -> u64 {
+    pub(crate) fn end(&mut self, watched: &[Watched], now: u64) -> u64
+        ensures no { self.new.no ≡ self.old.no }
+        ensures order { self.new.order ≡ self.old.order }
+    {
         if self.has_ended() {
             return 0;
         }

@@ -56,12 +56,9 @@ impl Readings {
     }
 
     /// Takes the frames of a stack. The error is lack of memory.
-    fn take(
-        &mut self,
-        alloc: Global,
-        agent: &mut Agent,
-        frames: &[Frame],
-    ) -> Result<(), AllocError> {
+    fn take(&mut self, alloc: Global, agent: &mut Agent, frames: &[Frame]) -> Result<(), AllocError>
+        ensures running { self.new.running ≡ self.old.running }
+    {
         self.stack.begin()?;
         for frame in frames {
             self.stack
@@ -71,7 +68,9 @@ impl Readings {
     }
 
     /// The stack that was taken is that of the thread at a place.
-    fn answer(&mut self, place: usize, watched: &[Watched], metrics: &mut Metrics) {
+    fn answer(&mut self, place: usize, watched: &[Watched], metrics: &mut Metrics)
+        ensures orders { orders_of self.new.running.items ≡ orders_of self.old.running.items }
+    {
         for reading in self.running.iter_mut() {
             let owed = reading.answer(place, &self.stack, watched);
             metrics.at_once = metrics.at_once.saturating_add(owed.min(1));
@@ -80,7 +79,9 @@ impl Readings {
     }
 
     /// No stack of the thread at a place comes.
-    fn lose(&mut self, place: usize, function: u32, watched: &[Watched], metrics: &mut Metrics) {
+    fn lose(&mut self, place: usize, function: u32, watched: &[Watched], metrics: &mut Metrics)
+        ensures orders { orders_of self.new.running.items ≡ orders_of self.old.running.items }
+    {
         for reading in self.running.iter_mut() {
             let owed = reading.lose(place, function, watched);
             metrics.unanswered = metrics.unanswered.saturating_add(owed);
@@ -96,7 +97,9 @@ impl Readings {
         told: Told,
         watched: &[Watched],
         metrics: &mut Metrics,
-    ) {
+    )
+        ensures orders { orders_of self.new.running.items ≡ orders_of self.old.running.items }
+    {
         match told {
             Told::NotYet => (),
             Told::Ended => self.lose(place, ENDED, watched, metrics),
@@ -116,7 +119,9 @@ impl Readings {
         watched: &mut [Watched],
         metrics: &mut Metrics,
         now: u64,
-    ) {
+    )
+        ensures orders { orders_of self.new.running.items ≡ orders_of self.old.running.items }
+    {
         for place in 0..watched.len() {
             let told = collect(agent, &mut watched[place], &mut metrics.answers, now);
             self.tell(alloc, agent, place, told, watched, metrics);
@@ -124,14 +129,11 @@ impl Readings {
     }
 
     /// Ticks each reading whose tick is due.
-    pub(crate) fn tick_all(&mut self, watched: &[Watched], metrics: &mut Metrics, now: u64) {
+    pub(crate) fn tick_all(&mut self, watched: &[Watched], metrics: &mut Metrics, now: u64)
+        ensures orders { orders_of self.new.running.items ≡ orders_of self.old.running.items }
+    {
         for reading in self.running.iter_mut() {
-            let missed = reading.missed();
-            if reading.tick(watched, now) {
-                let more = reading.missed().saturating_sub(missed);
-                metrics.ticks = metrics.ticks.saturating_add(1);
-                metrics.missed = metrics.missed.saturating_add(u64::from(more));
-            }
+            tick(reading, watched, metrics, now);
         }
     }
 
@@ -143,7 +145,9 @@ impl Readings {
         watched: &mut [Watched],
         metrics: &mut Metrics,
         now: u64,
-    ) {
+    )
+        ensures orders { orders_of self.new.running.items ≡ orders_of self.old.running.items }
+    {
         for place in 0..watched.len() {
             if is_free(watched, place) && self.wait_for(place) {
                 let told = ask(alloc, agent, &mut watched[place], now);
@@ -153,11 +157,11 @@ impl Readings {
     }
 
     /// Ends each reading that is over.
-    pub(crate) fn end_all(&mut self, watched: &[Watched], metrics: &mut Metrics, now: u64) {
+    pub(crate) fn end_all(&mut self, watched: &[Watched], metrics: &mut Metrics, now: u64)
+        ensures orders { orders_of self.new.running.items ≡ orders_of self.old.running.items }
+    {
         for reading in self.running.iter_mut() {
-            if reading.is_over(now) {
-                end(reading, watched, metrics, now);
-            }
+            end_if_over(reading, watched, metrics, now);
         }
     }
 
@@ -236,8 +240,31 @@ fn is_free(watched: &[Watched], place: usize) -> bool {
     }
 }
 
+/// Ticks a reading whose tick is due.
+fn tick(reading: &mut Running, watched: &[Watched], metrics: &mut Metrics, now: u64)
+    ensures order { order_of reading.new ≡ order_of reading.old }
+{
+    let missed = reading.missed();
+    if reading.tick(watched, now) {
+        let more = reading.missed().saturating_sub(missed);
+        metrics.ticks = metrics.ticks.saturating_add(1);
+        metrics.missed = metrics.missed.saturating_add(u64::from(more));
+    }
+}
+
+/// Ends a reading that is over.
+fn end_if_over(reading: &mut Running, watched: &[Watched], metrics: &mut Metrics, now: u64)
+    ensures order { order_of reading.new ≡ order_of reading.old }
+{
+    if reading.is_over(now) {
+        end(reading, watched, metrics, now);
+    }
+}
+
 /// Ends a reading with what is there.
-pub(crate) fn end(reading: &mut Running, watched: &[Watched], metrics: &mut Metrics, now: u64) {
+pub(crate) fn end(reading: &mut Running, watched: &[Watched], metrics: &mut Metrics, now: u64)
+    ensures order { order_of reading.new ≡ order_of reading.old }
+{
     let missed = reading.missed();
     let owed = reading.end(watched, now);
     let more = reading.missed().saturating_sub(missed);
@@ -247,4 +274,4 @@ pub(crate) fn end(reading: &mut Running, watched: &[Watched], metrics: &mut Metr
 
 ghost use Rattle.std.specs.Prelude.{◌≡◌, ◌<◌, None, length, slice_get, IfSome, IfNone, OnOk, OnErr};
 ghost use Rattle.std.specs.Bool.{OnFalse};
-ghost use Rattle.ti_monitor.specs.Monitors.{Begins, IsFull, profiles_in, reading_in};
+ghost use Rattle.ti_monitor.specs.Monitors.{Begins, IsFull, order_of, orders_of, profiles_in, reading_in};

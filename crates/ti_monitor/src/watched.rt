@@ -27,6 +27,7 @@ pub(crate) struct Watched {
     state: usize,
     suspended: bool,
     ghost within: { state < 9 },
+    ghost there: { IfSome out (λ o. o.ticket.thread.0 ≡ thread.0) } by { Prim.hlevel props },
 }
 
 impl Watched {
@@ -109,4 +110,5 @@ impl Watched {
     }
 }
 
-ghost use Rattle.std.specs.Prelude.{◌<◌};
+ghost use Rattle.std.specs.Prelude.{◌≡◌, ◌<◌, IfSome};
+ghost use Rattle.std.proofs.Props.{props};

@@ -1,4 +1,4 @@
-use Rattle.std.proofs.Common.{ap, subst, ◌∙◌}
+use Rattle.std.proofs.Common.{subst, ◌∙◌}
 use Rattle.std.specs.Prelude.{Option}
 use Rattle.ti_monitor.specs.declared.door_desk.Due.{Due}
 use Rattle.ti_monitor.specs.Desks.{books_of}

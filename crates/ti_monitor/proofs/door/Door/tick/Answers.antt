@@ -1,4 +1,4 @@
-use Rattle.std.proofs.Common.{◌≡◌, ◌∙◌, refl, rules, subst}
+use Rattle.std.proofs.Common.{◌≡◌, refl, rules, subst}
 use Rattle.ti_monitor.specs.Doors.{ServesBelow}
 use Rattle.ti_monitor.specs.SeatLists.{door_of}
 use Rattle.ti_monitor.proofs.DoorLaws.{all_trans, books_on, desk_ran, serves_next}

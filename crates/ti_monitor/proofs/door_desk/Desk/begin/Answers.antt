@@ -1,4 +1,3 @@
-use Rattle.std.proofs.Common.{inl, inr}
 use Rattle.ti_monitor.proofs.BookLaws.{books_begun}
 use Rattle.ti_monitor.proofs.door_desk.Desk.begin.Goals as goal
 

@@ -1,11 +1,11 @@
-use Rattle.std.proofs.Common.{◌≡◌, [], ap, refl, rules, sym, ◌∙◌}
+use Rattle.std.proofs.Common.{◌≡◌, [], ap, refl, ◌∙◌}
 use Rattle.ti_http.specs.declared.answers.ContentType.TheVariants as content
 use Rattle.ti_http.specs.declared.status.Status.TheVariants as status
 use Rattle.ti_http.specs.declared.target.Target.TheVariants as target
 use Rattle.ti_monitor.specs.Desks.{books_of, setting_of}
 use Rattle.ti_monitor.specs.Door.{content_of}
 use Rattle.ti_monitor.specs.Serving.{index_text, response}
-use Rattle.ti_monitor.proofs.ServeLaws.{at_once, begun_serves, fresh_leaves, head_answer, serves_none}
+use Rattle.ti_monitor.proofs.ServeLaws.{at_once, begun_serves, fresh_leaves}
 use Rattle.ti_monitor.proofs.door_seat.Seat.answer_or_begin.Goals as goal
 
 pub returns-in-Index-clause-serves : goal.returns-in-Index-clause-serves

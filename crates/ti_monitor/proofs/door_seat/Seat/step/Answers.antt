@@ -1,11 +1,11 @@
-use Rattle.std.proofs.Common.{◌≡◌, ◌/◌, ◌∙◌, ℕ, Some, refl, ap, sym, true≢false}
+use Rattle.std.proofs.Common.{◌≡◌, ◌/◌, ◌∙◌, ℕ, Some, ap, sym, true≢false}
 use Rattle.ti_http.specs.Runs.{Told}
 use Rattle.ti_http.specs.declared.connection.Action.{Action}
 use Rattle.ti_monitor.specs.declared.door_desk.Due.TheVariants as due
 use Rattle.ti_monitor.specs.Desks.{books_of, setting_of}
 use Rattle.ti_monitor.specs.Serving.{due_after, rows_after}
 use Rattle.ti_monitor.proofs.SeatLaws.{next_keeps, next_shuts, not_ask, runs_one, still_quiet}
-use Rattle.ti_monitor.proofs.ServeLaws.{not_due, serves_none, told_serves}
+use Rattle.ti_monitor.proofs.ServeLaws.{not_due, told_serves}
 use Rattle.ti_monitor.proofs.door_seat.Seat.step.Goals as goal
 
 pub returns-in-Ask-clause-run : goal.returns-in-Ask-clause-run
