@@ -93,7 +93,7 @@ def of_type(text, head):
     given, trait, name = impl.groups("")
     unnamed = set(re.findall(r"(\w+)(?=:|,|$)", given))
     named = [word for word in re.findall(r"\w+", f"{name} {trait}") if word not in unnamed]
-    return "".join(named if trait else named[:1]) + "::"
+    return "".join(word[0].upper() + word[1:] for word in (named if trait else named[:1])) + "::"
 
 
 @dataclasses.dataclass
@@ -113,8 +113,8 @@ class Said:
     @classmethod
     def of(cls, folder, *flags):
         done = subprocess.run(["rt", "check", *flags], cwd=folder, stdout=subprocess.PIPE, stderr=subprocess.STDOUT, text=True, errors="replace")
-        callers = set(re.findall(r"^fn (\S+): no proof: it calls", done.stdout, re.M))
-        unproved = set(re.findall(r"^fn (\S+): (?:not proved|no proof: (?!it calls))", done.stdout, re.M))
+        callers = set(re.findall(r"^fn (\S+): (?:no proof: it|not proved; it) calls", done.stdout, re.M))
+        unproved = set(re.findall(r"^fn (\S+): (?:not proved(?!; it calls)|no proof: (?!it calls))", done.stdout, re.M))
         return cls(unproved, callers, done.stdout[-800:] if done.returncode and not callers | unproved else "")
 
 

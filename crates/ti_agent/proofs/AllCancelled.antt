@@ -31,9 +31,6 @@ desk_is s t i p q x is at about there =
     set_here s.desks i q x (ap (slice_get (slice_set s.desks i q)) (sym place) ∙ there)
 
 -- nothing is said of a desk that is not there
-pub none_cancelled : (s : Environment) (t : ThreadNo) → length s.desks ≤ place_in s.desks t → AllCancelledAt s t
-none_cancelled s t past p at = let within : place_in s.desks t < length s.desks = slice_get_within s.desks (place_in s.desks t) p at in absurd (omega (arith, within, past))
-
 none_waits : (s : Environment) (t : ThreadNo) → length s.desks ≤ place_in s.desks t → FirstWaitsAt s t
 none_waits s t past p at = let within : place_in s.desks t < length s.desks = slice_get_within s.desks (place_in s.desks t) p at in absurd (omega (arith, within, past))
 

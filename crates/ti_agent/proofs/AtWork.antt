@@ -196,10 +196,6 @@ pub read_there : (g : Gathered) (w : IsAtWork g) (t : ThreadNo) → g.phase ≡ 
 read_there g w t is within et =
     subst (λ (y : ThreadNo). y.0 < length g.now.desks) (place g.places (length g.infos) t within et) (reads_there w.start g w.whole w.asked (is_reading g w is) within)
 
--- there is a buffer for it
-pub has_buffer : (g : Gathered) (w : IsAtWork g) → g.phase ≡ phase.Reading → length g.infos < length g.places → 0 < length g.bufs
-has_buffer g w is within = (let count = (is_reading g w is).count in omega (arith, within, count))
-
 pub read_may : (g : Gathered) (w : IsAtWork g) (t : ThreadNo) (p : DeskState) (rest : List buffer.Trace) (b : buffer.Trace) → g.phase ≡ phase.Reading → length g.infos < length g.places → t ≡ slice_index_or g.places (length g.infos) t → p ≡ slice_index_or g.now.desks t.0 p
     → g.bufs ≡ rest ++ b ∷ [] → MayRead g.now.env g.now.state p t g.max_count b
 read_may g w t p rest b is within et ep bufs =

@@ -1,8 +1,7 @@
 -- A sorted list of counts is the list of each thread once: two lists that rise and have the same look-ups are equal.
-use Rattle.std.proofs.Common.{◌≡◌, ◌≢◌, ℕ, zero, suc, ◌+◌, ◌<◌, ◌≤◌, ◌==◌, Bool, cond, true, false, inl, inr, List, [], ◌∷◌, ◌++◌, length, take, refl, ap, sym, ◌∙◌, arith, subst, eq-eqb, ne_eqb, Option, Some, None, if◌then◌else◌}
+use Rattle.std.proofs.Common.{◌≡◌, ◌≢◌, ℕ, zero, suc, ◌+◌, ◌<◌, ◌≤◌, ◌==◌, Bool, cond, true, false, inl, inr, List, [], ◌∷◌, ◌++◌, take, refl, ap, sym, ◌∙◌, arith, subst, eq-eqb, ne_eqb, Option, Some, None, if◌then◌else◌}
 use Rattle.std.specs.Prelude.{nat_eq, slice_get, slice_index_or, Result, Ok, Err, IfOk}
 use Rattle.std.proofs.lemmas.List.{map-append}
-use Rattle.ti_vmop.proofs.Each.{take_all}
 use Rattle.std.specs.List.{IsDistinct}
 use Rattle.std.specs.List.Sorted.{IsSorted}
 use Rattle.std.specs.Map.{lookup, keys_of}
@@ -173,12 +172,6 @@ look_listed : (i : ℕ) (es : List (ℕ × ℕ)) → look i (listed_of es) ≡ l
 look_listed i [] = refl
 look_listed i (e ∷ es) = ap (λ (o : Option ℕ). if i == e.0 then Some e.1 else o) (look_listed i es)
 
-above_first : (es : List (ℕ × ℕ)) (a : ℕ) → ((e : ℕ × ℕ) (rest : List (ℕ × ℕ)) → es ≡ e ∷ rest → a < e.0) → Rising (listed_of es) → Above a (listed_of es)
-above_first [] a first r = tt
-above_first (e ∷ es) a first r =
-    let less : a < e.0 = first e es refl in
-    (less, above_less a e.0 (listed_of es) (omega (arith, less)) r.0)
-
 never : true ≡ false → ⊥
 never h = cc h
 
@@ -222,9 +215,6 @@ listed_more es k e at = ap listed_of (take_at es k e at) ∙ map-append (λ (x :
     take_at (x ∷ es) (suc k) e at =
         let one : suc k + 1 ≡ suc (k + 1) = omega arith in
         ap (λ (n : ℕ). take n (x ∷ es)) one ∙ ap (λ (l : List (ℕ × ℕ)). x ∷ l) (take_at es k e at)
-
-pub listed_all : (es : List (ℕ × ℕ)) (k : ℕ) → length es ≤ k → listed_of (take k es) ≡ listed_of es
-listed_all es k h = ap listed_of (take_all es k h)
 
 pub then_ok : {X E : Type 0} {P Q : X → Type 0} (r : Result X E) → ((x : X) → P x → Q x) → IfOk r P → IfOk r Q
 then_ok (Ok x) f h = f x h

@@ -51,10 +51,6 @@ cancels s k t p q (Ok u) is at here hold cancelled = λ _.
     record { before = p; after = q; there = there; about = about_at s.desks k.thread p there; cell = here.0; env = here.1; hold = hold; cancelled = cancelled; new_is = ap (λ (n : ℕ). seen_call s n q) is }
 cancels s k t p q (Err e) is at here hold cancelled = tt
 
-pub cancel_kept : (s : Environment) (t : ℕ) (p q : DeskState) (r : Result (Unit {0}) TiError) → slice_get s.desks t ≡ Some p → OnErr r (q ≡ p) → OnErr r (seen_call s t q ≡ s)
-cancel_kept s t p q (Ok u) at same = tt
-cancel_kept s t p q (Err e) at same = seen_same s t p q at same
-
 -- an answer that is discarded
 
 pub discard_whole : (s : Environment) (t : ℕ) (p q : DeskState) (was_there : Bool) → IsWhole s → slice_get s.desks t ≡ Some p → Discards p q was_there → IsWhole (seen_call s t q)

@@ -117,22 +117,6 @@ place_back (x ∷ l) t h =
           ap (thread_at (x ∷ l)) later ∙ place_back l t (omega (arith, h, later))
     ]
 
--- no two desks are at threads of one number
-abbrev pub AreApart : List DeskState → Type 0
-AreApart desks = (i j : ℕ) → i < length desks → j < length desks → thread_at desks i ≡ thread_at desks j → i ≡ j
-
-pub order_apart : (l : List DeskState) → AreInOrder l → AreApart l
-order_apart l order i j h k e =
-    let same : (thread_at l i).0 ≡ (thread_at l j).0 = ap (λ (t : ThreadNo). t.0) e in
-    elim (cases_lt i j) [
-      | inl less ↦ (let a = order i j less k in absurd (omega (arith, a, same)))
-      | inr more ↦
-          elim (cases_eq i j) [
-            | inl it ↦ it
-            | inr other ↦ (let a = order j i (omega (arith, more, other)) h in absurd (omega (arith, a, same)))
-          ]
-    ]
-
 -- Desks that are at the same threads as before
 
 pub order_stays : (old new : List DeskState) → length new ≡ length old → ((i : ℕ) → thread_at new i ≡ thread_at old i) → AreInOrder old → AreInOrder new
@@ -230,50 +214,6 @@ all_named (p ∷ l) =
     ∙ ap (λ (m : List ThreadNo). p.view.subject.thread ∷ m) (shifted p l (each_thread (length l)) ∙ all_named l)
 
 -- Desks that are at threads 0, 1, 2 and so on
-
--- each desk is at the thread whose number is its place
-abbrev pub AreNumbered : List DeskState → Type 0
-AreNumbered desks = (i : ℕ) (p : DeskState) → slice_get desks i ≡ Some p → p.view.subject.thread ≡ record { 0 = i }
-
-there_some : (l : List DeskState) (i : ℕ) → i < length l → (p : DeskState) × (slice_get l i ≡ Some p)
-there_some [] i h = absurd (omega (arith, h))
-there_some (x ∷ l) zero h = (x, refl)
-there_some (x ∷ l) (suc i) h = there_some l i (omega (arith, h))
-
-numbered_at : (l : List DeskState) (i : ℕ) → AreNumbered l → i < length l → thread_at l i ≡ record { 0 = i }
-numbered_at l i numbered h =
-    let p = there_some l i h in
-    thread_is l i p.0 p.1 ∙ numbered i p.0 p.1
-
-pub numbered_order : (desks : List DeskState) → AreNumbered desks → AreInOrder desks
-numbered_order desks numbered i j h k =
-    let a : (thread_at desks i).0 ≡ i = ap (λ (t : ThreadNo). t.0) (numbered_at desks i numbered (omega (arith, h, k))) in
-    let b : (thread_at desks j).0 ≡ j = ap (λ (t : ThreadNo). t.0) (numbered_at desks j numbered k) in
-    omega (arith, a, b, h)
-
--- the place of such a thread is its number
-pub place_is : (desks : List DeskState) (t : ThreadNo) → AreNumbered desks → t.0 < length desks → place_in desks t ≡ t.0
-place_is desks t numbered h = place_here desks t t.0 (numbered_order desks numbered) h (ap (λ (x : ThreadNo). x.0) (numbered_at desks t.0 numbered h))
-
-pub places_are : (desks : List DeskState) (threads : List ThreadNo) → AreNumbered desks → are_there (length desks) threads ≡ true → places_of desks threads ≡ threads
-places_are desks [] numbered there = refl
-places_are desks (t ∷ threads) numbered there =
-    let here = place_is desks t numbered (ltb-true _ _ (and_parts _ _ there).0) in
-    let rest = places_are desks threads numbered (and_parts _ _ there).1 in
-    λ j. (record { 0 = here j }) ∷ rest j
-
--- the one desk of an environment
-pub only_desk : (d p : DeskState) (t : ThreadNo) → slice_get (d ∷ []) (place_in (d ∷ []) t) ≡ Some p → (place_in (d ∷ []) t ≡ 0) × (d ≡ p)
-only_desk d p t at =
-    elim (cases_eq d.view.subject.thread.0 t.0) [
-      | inl same ↦
-          let first = first_place d [] t same in
-          (first, is_same d p (ap (slice_get (d ∷ [])) (sym first) ∙ at))
-      | inr other ↦ absurd (nothing (ap (slice_get (d ∷ [])) (sym (later_place d [] t other)) ∙ at))
-    ]
-  where
-    nothing : slice_get [] 0 ≡ Some p → ⊥
-    nothing e = cc
 
 -- One desk more
 

@@ -72,14 +72,8 @@ same_is a b h =
     let thread : a.thread.0 ≡ b.thread.0 = grind (arith, nat_tests, h) in
     λ i. record { env = record { 0 = env i }; thread = record { 0 = thread i }; no = no i }
 
-same_self : (a : Ticket) → same a a ≡ true
-same_self a = grind (arith, nat_tests)
-
 has_more : (k : Ticket) (ts us : List Ticket) → has k ts ≡ true → has k (ts ++ us) ≡ true
 has_more k ts us h = list_any-append (λ (u : Ticket). same u k) ts us ∙ grind (arith, h)
-
-has_last : (k : Ticket) (ts : List Ticket) → has k (ts ++ k ∷ []) ≡ true
-has_last k ts = list_any-append (λ (u : Ticket). same u k) ts (k ∷ []) ∙ (let e = same_self k in grind (arith, e))
 
 has_without : (j k : Ticket) (ts : List Ticket) → same j k ≡ false → has j (without_ticket k ts) ≡ has j ts
 has_without j k [] h = refl

@@ -1,8 +1,7 @@
 -- How an environment's calls at a thread come to be out no more.
-use Rattle.std.proofs.Common.{length-set, ◌≡◌, ◌==◌, ℕ, zero, suc, ◌<◌, ◌≤◌, Bool, true, false, if◌then◌else◌, inl, inr, List, [], ◌∷◌, ◌++◌, length, refl, ap, sym, ◌∙◌, arith, subst, append-nil, Option, Some, None, Result, Ok, Err}
+use Rattle.std.proofs.Common.{length-set, ◌≡◌, ℕ, zero, suc, ◌<◌, ◌≤◌, Bool, true, false, if◌then◌else◌, inl, inr, List, [], ◌∷◌, ◌++◌, length, refl, ap, sym, ◌∙◌, arith, subst, append-nil, Option, Some, None, Result, Ok, Err}
 use Rattle.std.specs.Prelude.{slice_get, slice_set, is_some, IfNone, IfSome, OnOk}
 use Rattle.std.proofs.lemmas.Bool.{cases_Bool, cases_lt}
-use Rattle.std.proofs.lemmas.Bool.Decides.{nat_tests}
 use Rattle.ti_types.specs.declared.error.TiError.{TiError}
 use Rattle.ti_types.specs.declared.event.Ticket.{Ticket}
 use Rattle.ti_types.specs.declared.numbers.ThreadNo.{ThreadNo}
@@ -177,10 +176,6 @@ discarded_there a b t d is there nobody =
     never : (x : Option Discarded) → is_some x ≡ true → result x ≡ result None → ⊥
     never (Some v) e f = cc
     never None e f = cc
-
--- none is out
-pub none_out : (n : ℕ) → true ≡ (n == 0) → n ≡ 0
-none_out n h = grind (arith, nat_tests, h)
 
 -- no desk is where none was
 pub nobody_there : (a b : Environment) (t : ThreadNo) → MayQuiesce a b t → length b.desks ≤ place_in b.desks t → length a.desks ≤ place_in a.desks t

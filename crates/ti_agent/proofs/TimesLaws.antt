@@ -13,9 +13,6 @@ use Rattle.ti_agent.proofs.Listing.{times-append, times_here, times_apart, few_o
 abbrev pub AreEnough : EnvValue → List ThreadNo → Type 0
 AreEnough state threads = (i : ℕ) → times i threads ≤ left_at state (record { 0 = i }) - 1
 
-pub none_counted : AreCounts [] []
-none_counted i = refl
-
 pub counted_none : (i : ℕ) (l : List ThreadNo) → times i l ≡ 0 → counted i l ≡ None
 counted_none i l none = ap (λ (b : Bool). if b then None else Some (times i l)) (eq-eqb (times i l) 0 none)
 

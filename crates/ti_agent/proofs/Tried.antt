@@ -1,6 +1,6 @@
 -- Calls that never wait: what comes of each of their results.
 use Rattle.std.proofs.Common.{◌≡◌, ℕ, ◌<◌, Bool, false, [], length, ap, sym, ◌∙◌, subst, Option, Some, None, arith, Result, Ok, Err}
-use Rattle.std.specs.Prelude.{is_some, if◌then◌else◌, slice_get, IfSome, IfOk, IfErr, OnOk, OnErr}
+use Rattle.std.specs.Prelude.{is_some, if◌then◌else◌, slice_get, IfSome, IfOk, IfErr, OnOk}
 use Rattle.std.specs.Option.{option_map}
 use Rattle.ti_types.specs.Answer.{said}
 use Rattle.ti_types.specs.declared.answer.Answer.{Answer}
@@ -23,11 +23,6 @@ use Rattle.ti_agent.proofs.InTime.{discard_whole, seen_same}
 use Rattle.ti_agent.proofs.Places.{about_at, set_get}
 use Rattle.ti_agent.proofs.Posting.{looked_for, out_if_waiting}
 use Rattle.ti_agent.proofs.Whole.{fewer_if, seen_call, whole_seen}
-
--- a cell that is in use changes nothing
-pub kept : {A : Type 0} (s : Environment) (t : ℕ) (p q : DeskState) (r : Result A TiError) → slice_get s.desks t ≡ Some p → IfErr r (λ e. (e ≡ Busy) × (q ≡ p)) → OnErr r (seen_call s t q ≡ s)
-kept s t p q (Ok u) at same = tt
-kept s t p q (Err e) at same = seen_same s t p q at same.1
 
 pub collect_whole : (s : Environment) (k : Ticket) (t : ℕ) (p q : DeskState) (r : Result (Option Answer) TiError) → IsWhole s → slice_get s.desks t ≡ Some p → IsSame p q
     → IfOk r (λ o. HoldsWith p.view q.view [] (if is_some o then without_ticket k p.view.posted else p.view.posted)) → IfErr r (λ e. (e ≡ Busy) × (q ≡ p)) → IsWhole (seen_call s t q)

@@ -35,7 +35,7 @@ use Rattle.ti_agent.specs.FreeDesk.{FreeState, IsFree}
 use Rattle.ti_agent.specs.Desks.{is_new, with_desk, without_desk, IsTaken}
 use Rattle.ti_agent.proofs.Places.{about_at, order_set, below_at, behind, get_removed, spent_removed, order_removed, gone_from}
 use Rattle.std.proofs.Common.{append-nil}
-use Rattle.ti_agent.specs.Asks.{Asks, Went, IsCalled, IsCalledBy, refusal_of, is_for_memory}
+use Rattle.ti_agent.specs.Asks.{Asks, Went}
 use Rattle.std.proofs.Common.{ℤ, Option, Ok, Err, OnOk, OnErr, Result}
 use Rattle.ti_types.specs.declared.caps.Caps.{Caps}
 use Rattle.ti_types.specs.declared.call.Call.TheVariants.{Trace}
@@ -234,15 +234,6 @@ whole_with s state whole spent limits = record {
     within = subst (λ (l : Limits). length p.view.posted ≤ l.window) (sym limits) old.within;
   });
 }
-
--- a call was admitted, and its buffer was there
-pub called_trace : (s new : Environment) (t : ThreadNo) (start start' most most' : ℤ) (a b : Answer) → start' ≡ start → most' ≡ most → a ≡ b → is_for_memory b ≡ false
-    → thread_refusal s t (Trace start most) ≡ None → Went s new t (Trace start' most') b → IsCalled s new t (Trace start most) a
-called_trace s new t start start' most most' a b e f g not h k =
-    let w : Went s new t (Trace start most) a = subst (λ (z : Call × Answer). Went s new t z.0 z.1) (λ i. (Trace (e i) (f i), sym g i)) k in
-    let off : is_for_memory a ≡ false = ap is_for_memory g ∙ not in
-    let none : refusal_of s t (Trace start most) a ≡ None = grind (arith, h, off) in
-    subst (λ (o : Option TiError). IsCalledBy o s new t (Trace start most) a) (sym none) w
 
 -- more or fewer capabilities, or as many
 pub caps_whole : (s : Environment) (state : EnvValue) (r : Result (Unit {0}) TiError) (caps : Caps) → IsWhole s → OnOk r (state ≡ with_caps s.state caps) → OnErr r (state ≡ s.state)

@@ -12,7 +12,7 @@ use Rattle.ti_debugger.specs.declared.question.Content.{Content}
 use Rattle.ti_debugger.specs.declared.question.TellError.{TellError}
 use Rattle.ti_debugger.specs.declared.question.TellError.TheVariants.{IllegalArgument, NotAsked, OutOfMemory}
 use Rattle.ti_debugger.specs.declared.question.Told.{Told}
-use Rattle.ti_capi.specs.Questions.{AreTold, HasContent, HaveTold, IsTold, TellsTold, TellsValues, content_of, question_at}
+use Rattle.ti_capi.specs.Questions.{AreTold, HasContent, HaveTold, IsTold, TellsTold, TellsValues, question_at}
 use Rattle.ti_capi.specs.declared.any_door.AnyDoor.{AnyDoor}
 use Rattle.ti_capi.specs.declared.any_door.AnyDoor.TheVariants.{Http, Debugger}
 use Rattle.ti_capi.specs.declared.door_questions.CqValue.{CqValue}

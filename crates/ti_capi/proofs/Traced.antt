@@ -8,12 +8,8 @@ use Rattle.ti_types.specs.declared.stack.StackInfo.{StackInfo}
 use Rattle.ti_agent.specs.Gathering.{Gathers, GivesUp, GoesOn, IsBarred, is_given_up}
 use Rattle.ti_service.specs.Memberships.{AgentValue, TraceValue}
 use Rattle.ti_capi.specs.declared.held.HeldEnv.{HeldEnv}
-use Rattle.ti_capi.specs.Gathers.{AllDone, Begun, BeginsIn, BeginsTo, IsBegun, IsFinished, IsNotOver, IsOver, IsStepped, MoreToDo, NotBegun, PutsBack, StepMet, StepsIn, StepsTo, Works, WorksBehind}
-use Rattle.ti_capi.specs.Handles.{Handle, env_held_tracing, env_held_with, env_in, with_held_env}
-
--- something happened to what lies behind a handle
-pub worked : (R : HeldEnv → HeldEnv → ℕ → Type 0) (unwritten : Type 0) (old : Handle) (h n : HeldEnv) (code : ℕ) → env_in old ≡ Some h → R h n code → Works R unwritten old (with_held_env old n) code
-worked R unwritten old h n code is says = subst (λ (e : Option HeldEnv). WorksBehind e (Some n) R unwritten old (with_held_env old n) code) (sym is) (refl, says)
+use Rattle.ti_capi.specs.Gathers.{AllDone, Begun, BeginsIn, BeginsTo, IsBegun, IsFinished, IsNotOver, IsOver, IsStepped, MoreToDo, NotBegun, PutsBack, StepMet, StepsIn, StepsTo}
+use Rattle.ti_capi.specs.Handles.{env_held_tracing, env_held_with}
 
 -- what the agent says of a trace that begins, or does not, is what is said of the box
 pub begun : (B : AgentValue → TraceValue → Type 0) (W : AgentValue → TiError → Type 0) (s : AgentValue) (o : Option AgentValue) (h n : HeldEnv) (code : ℕ) (r : Result TraceValue (TiError × AgentValue)) → h.agent ≡ Some s → o ≡ None → IfOk r (λ t. B s t)

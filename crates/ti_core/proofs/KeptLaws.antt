@@ -190,9 +190,6 @@ taken_tickets : (k t : Ticket) (ts : List Ticket) (found : Bool) → AreOnce ts 
 taken_tickets k t ts true h = without_has k t ts h ∙ grind arith
 taken_tickets k t ts false h = grind arith
 
-and_true : (b c : Bool) → c ≡ false → (b && not (c && true)) ≡ b
-and_true b c h = grind (arith, h)
-
 taken_there : (s : CoreState) (t k : Ticket) (found : Bool) → t.thread.0 < length s.threads → AreOnce (thread_at s.limits s.threads t.thread).thread.uncollected
     → is_uncollected (core_taken s t found) k ≡ (is_uncollected s k && not (same t k && found))
 taken_there s t k found lt once =

@@ -9,7 +9,6 @@ pub mod EnvLaws
 pub mod ToldLaws
 pub mod MemoryLaws
 pub mod ReachLaws
-pub mod TicketLaws
 pub mod NewLaws
 pub mod KeptLaws
 pub mod RunLaws

@@ -66,16 +66,6 @@ said_unchanged limits front event (t ∷ ts) (o ∷ os) s =
     let h : Happening = happening (event t) (told_now o) in
     (λ r. refusals_keep limits front h (ap is_refusal (sym s.0.0) ∙ r), said_unchanged limits (front ++ h ∷ []) event ts os s.1)
 
-pub none_happened : (event : ThreadNo → Event) (s : CoreState) → HappenedAtEach event [] s s []
-none_happened event s = record {
-  limits = refl;
-  refines = λ events k. rw append-nil k;
-  outcomes = λ events k. tt;
-  refused = λ events k. tt;
-  fresh = tt;
-  kept = λ k. grind (arith);
-}
-
 more_said : (event : ThreadNo → Event) (ts : List ThreadNo) (s mid new : CoreState) (os : List Outcome) (t : ThreadNo) (o : Outcome)
     → HappenedAtEach event ts s mid os → OneStep (event t) mid new o → (events : List Happening) → Refines events s → AreSaid s.limits events event (ts ++ t ∷ []) (os ++ o ∷ [])
 more_said event ts s mid new os t o h one events k =

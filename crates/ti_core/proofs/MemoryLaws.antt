@@ -21,7 +21,7 @@ use Rattle.ti_replay.specs.View.{view, after, new_thread}
 use Rattle.ti_replay.specs.Replies.{reply, reply_from, answer_to}
 use Rattle.ti_replay.specs.Events.{given}
 use Rattle.ti_replay.specs.Outcomes.{is_for_memory, was_for_memory}
-use Rattle.ti_core.specs.Thread.{ThreadState, reply_now, stop_told, go_told, read_told}
+use Rattle.ti_core.specs.Thread.{ThreadState, reply_now, read_told}
 
 trace_memory : (start : Option ℕ) (most : ℕ) (frames : List Frame) → is_for_memory (Gave (trace_from start most frames)) ≡ false
 trace_memory None most frames = refl
@@ -77,12 +77,6 @@ reply_memory limits h place = reply_from_memory (new_thread limits) (settled h) 
 
 pub ask_memory : (limits : Limits) (s : ThreadState) (e : EnvNo) (call : Call) → was_for_memory (given (reply_now limits s e call)) ≡ false
 ask_memory limits s e call = reply_memory limits _ (length s.thread.history)
-
-pub stop_memory : (limits : Limits) (s : ThreadState) (e : EnvNo) (t : ThreadNo) → was_for_memory (stop_told limits s e t) ≡ false
-stop_memory limits s e t = grind arith
-
-pub go_memory : (limits : Limits) (s : ThreadState) (e : EnvNo) (t : ThreadNo) → was_for_memory (go_told limits s e t) ≡ false
-go_memory limits s e t = grind arith
 
 pub read_memory : (limits : Limits) (s : ThreadState) (e : EnvNo) (t : ThreadNo) (n : ℤ) → was_for_memory (read_told limits s e t n) ≡ false
 read_memory limits s e t n =

@@ -1,5 +1,5 @@
 -- A new core refines for nothing.
-use Rattle.std.proofs.Common.{◌≡◌, ℕ, ◌+◌, ◌<◌, ◌≤◌, take, drop, get_or, List, [], ◌∷◌, ◌++◌, length, refl, ap, sym, ◌∙◌, arith, replicate, inl, inr, length-append, subst, false, nat_lt, ltb-true}
+use Rattle.std.proofs.Common.{◌≡◌, ℕ, ◌+◌, ◌<◌, ◌≤◌, take, drop, get_or, List, [], ◌∷◌, ◌++◌, length, ap, sym, ◌∙◌, arith, replicate, inl, inr, length-append, subst, false, nat_lt, ltb-true}
 use Rattle.std.proofs.lemmas.List.{get_or_past, get_or-replicate, length-replicate, get_or_append_left, take-append-le, take_all}
 use Rattle.std.proofs.Math.Seq.{get_or-append_seam}
 use Rattle.std.proofs.lemmas.Bool.{cases_eq, cases_Bool}
@@ -13,9 +13,6 @@ use Rattle.ti_core.specs.Thread.{ThreadState, new_state}
 use Rattle.ti_core.specs.Core.{core_of, thread_at, no_thread, no_env}
 use Rattle.ti_core.specs.Refines.{Refines, ThreadRefines, AreNew}
 use Rattle.ti_core.proofs.ToldLaws.{new_thread_stands, new_env_stands}
-
-pub none_new : (limits : Limits) → AreNew limits 0 []
-none_new limits = record { count_is = refl; each = λ t h. absurd (omega (arith, h)) }
 
 pub one_more_new : (limits : Limits) (count : ℕ) (threads : List ThreadState) → AreNew limits count threads → AreNew limits (count + 1) (threads ++ new_state limits (record { 0 = count }) ∷ [])
 one_more_new limits count threads k = record {

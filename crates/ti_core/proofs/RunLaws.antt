@@ -281,8 +281,5 @@ seen_on hs os s s' h o k st l seen f fresh =
       once = subst AreOnce e ts.once;
     }
 
-pub nothing_seen : (s : CoreState) → Refines [] s → HasSeen [] [] s
-nothing_seen s st = record { refines = st; seen = tt; kept = refl; once = tt }
-
 pub told_happening : (x : Event) (o : Outcome) → happening x (told_now o) ≡ happening x (Some o)
 told_happening x o = ap (λ (w : Bool). record { event = x; wanting = w }) (told_memory o)

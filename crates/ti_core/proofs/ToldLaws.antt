@@ -134,10 +134,6 @@ told_goes events s w (GetEnvWord e) k =
 own_length : (s : CoreState) (u : ThreadNo) (x : Entry) → length (stepped_own s.limits s.envs s.threads u x).threads ≡ length s.threads
 own_length s u x = grind (arith, length-set s.threads u.0 (own_next (thread_at s.limits s.threads u).thread.limits (thread_at s.limits s.threads u) x))
 
-cond_length : {X : Type 0} → (b : Bool) (xs : List X) (i : ℕ) (x : X) → length (cond b (slice_set xs i x) xs) ≡ length xs
-cond_length true xs i x = length-set xs i x
-cond_length false xs i x = refl
-
 agent_length : (envs : List EnvValue) (threads : List ThreadState) (why : Option TiError) (other : StepResult) → length other.threads ≡ length threads
     → length (refused_or_else envs threads why other).threads ≡ length threads
 agent_length envs threads None other h = h

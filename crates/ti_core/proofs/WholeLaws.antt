@@ -7,7 +7,6 @@ use Rattle.ti_types.specs.declared.numbers.EnvNo.{EnvNo}
 use Rattle.ti_types.specs.declared.place.Frame.{Frame}
 use Rattle.ti_types.specs.declared.step.Step.{Step}
 use Rattle.ti_types.specs.declared.state.Mode.{Mode}
-use Rattle.ti_types.specs.declared.state.Safe.{Safe}
 use Rattle.ti_types.specs.declared.answer.Answer.{Answer}
 use Rattle.ti_types.specs.declared.event.Outcome.TheVariants.{Gave}
 use Rattle.ti_types.specs.declared.entry.Entry.{Entry}
@@ -37,7 +36,7 @@ use Rattle.ti_replay.specs.Replies.{reply}
 use Rattle.ti_replay.specs.Events.{read_outcome}
 use Rattle.ti_slot.specs.Thread.{read_answer}
 use Rattle.ti_core.specs.Thread.{ThreadState, seen, refusal_at, own_next, read_next, read_told}
-use Rattle.ti_core.specs.Inside.{steps_in, state_in, HasLog, AreWith, IsWhole}
+use Rattle.ti_core.specs.Inside.{state_in, HasLog, AreWith, IsWhole}
 use Rattle.ti_replay.proofs.LoggedLaws.{logged, logged_runs, logged_own, steps-snoc}
 
 -- what a call, a stop or a go leaves of what steps depend on
@@ -279,12 +278,6 @@ read_said t u steps env n m a en eu e =
 pub running_here : (t : Thread) (f : Stack) (l : Option Steps) → IsWhole t (Some f) l → is_running (seen t.limits (state_in t l)).mode ≡ true
 running_here t f None k = absurd k.parts
 running_here t f (Some l) k = runs_here t f l k
-
-pub resting_here : (t : Thread) (l : Option Steps) → IsWhole t None l → is_running (seen t.limits (state_in t l)).mode ≡ false
-resting_here t l k = logged_runs t.limits t.history (steps_in l) ∙ k.parts.0.rests
-
-pub handed_mode : (limits : Limits) (h : List Entry) (safe : Safe) → is_running (view limits (h ++ Hand safe ∷ [])).mode ≡ false
-handed_mode limits h safe = runs-snoc limits h (Hand safe)
 
 pub frames_run : (t : Thread) (f : Option Stack) (l : Option Steps) → IsWhole t f l → is_some f ≡ true → is_running (seen t.limits (state_in t l)).mode ≡ true
 frames_run t None l k h = cc

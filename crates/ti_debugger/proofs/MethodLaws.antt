@@ -58,13 +58,6 @@ body_told (Err e) rows known told are = tt
 abbrev pub KnownUpTo : List ClassInfo → ℕ → ℕ → List Known → Type 0
 KnownUpTo log class i known = IsSomeAnd (class_at log (record { 0 = class })) (λ c. map known_method known ≡ take i (told_from (first_of log class) c.methods.items))
 
-pub none_known : (log : List ClassInfo) (class : ℕ) (methods : List MethodNo) (known : List Known) → AreMethodsOf log (record { 0 = class }) methods → known ≡ [] → KnownUpTo log class 0 known
-none_known log class methods known are is = first (class_at log (record { 0 = class })) are where
-  first : (o : Option ClassInfo) → IsSomeAnd o (λ c. map (λ (m : MethodNo). m.0) methods ≡ count_from (first_of log class) (count c))
-      → IsSomeAnd o (λ c. map known_method known ≡ take 0 (told_from (first_of log class) c.methods.items))
-  first None h = absurd h
-  first (Some c) h = ap (map known_method) is
-
 number_at : (methods : List MethodNo) (n count i : ℕ) (d : MethodNo) → map (λ (m : MethodNo). m.0) methods ≡ count_from n count → i < length methods → ((get_or methods i d).0 ≡ n + i) × (i < count)
 number_at [] n count i d are within = absurd (omega arith)
 number_at (m ∷ methods) n zero i d are within = absurd (cc are)

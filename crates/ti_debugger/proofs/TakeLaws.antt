@@ -42,10 +42,6 @@ not_named : (v : Variable) (vs : List Variable) (names : List ℕ) → is_name v
 unfolding named_in
 not_named v vs names is = ap (λ (b : Bool). cond b (option_map (λ (more : List Named). named v (take v.name_length names) ∷ more) (named_in vs (drop v.name_length names))) None) is
 
-pub named_first : (total : Option (List Named)) → total ≡ option_map (λ (more : List Named). [] ++ more) total
-named_first None = refl
-named_first (Some l) = refl
-
 pub named_more : (vs : List Variable) (i : ℕ) (d : Variable) (names : List ℕ) (front new : List Named) (total : Option (List Named)) → i < length vs → is_name (get_or vs i d).name_length names ≡ true
     → new ≡ front ++ named (get_or vs i d) (take (get_or vs i d).name_length names) ∷ [] → front_of front (drop i vs) names ≡ total → front_of new (drop (i + 1) vs) (drop (get_or vs i d).name_length names) ≡ total
 named_more vs i d names front new total lt is added so_far =

@@ -26,11 +26,6 @@ told_on log n k m (Some s) t u a b =
     let rest = subst (λ (x : Option Talk). ToldBy log k m x u) a.1 b in
     (rest.0, rest.1, tells_on log n k m s a.0 rest.0 a.2 rest.2)
 
--- nothing was told
-pub told_none : (log : List ClassInfo) (n : ℕ) (s : Option Talk) → ToldBy log n n s s
-told_none log n None = (refl, omega arith)
-told_none log n (Some s) = (s, refl, ([], refl, (refl, refl)))
-
 -- the same, where more classes are known
 stays : (P : ClassInfo → Type 0) (log more : List ClassInfo) (n : ℕ) → IsPrefix log more → IsSomeAnd (slice_get log n) P → IsSomeAnd (slice_get more n) P
 stays P [] more n pre is = absurd is

@@ -1,6 +1,5 @@
 -- A text that is put after another, part by part, and goes out in chunks.
-use Rattle.std.proofs.Common.{◌∙◌, ℕ, ◌≤◌, List, [], ◌++◌, Option, refl, sym, ap, append-nil, append_assoc, subst, arith}
-use Rattle.ti_driver.specs.ReportLines.{HasRoomFor}
+use Rattle.std.proofs.Common.{◌∙◌, ℕ, List, ◌++◌, Option, refl, sym, ap, append_assoc, subst}
 use Rattle.ti_driver.specs.Streams.{Sends, TakesFront}
 use Rattle.ti_driver.proofs.StreamLaws.{appends_both, front_after, front_of_more, sends_line, sends_more, sends_front}
 
@@ -11,10 +10,6 @@ puts_more a b c all text part rest left p q = sends_more a b c all (text ++ part
 -- the writer failed at the next part
 pub puts_front : (a b c : Option (List ℕ)) (all text part rest : List ℕ) → Sends a b all (text ++ (part ++ rest)) → TakesFront b c (text ++ part) → TakesFront a c all
 puts_front a b c all text part rest p q = sends_front a b c all (text ++ part) rest (sends_line a b all text part rest (text ++ part) refl p) q
-
--- nothing is left to be put
-pub puts_end : (a b : Option (List ℕ)) (all text : List ℕ) → Sends a b all (text ++ []) → Sends a b all text
-puts_end a b all text p = subst (λ l. Sends a b all l) (append-nil text) p
 
 -- ---- two parts, one after the other
 
@@ -37,11 +32,3 @@ front_of_second a b c text first second left p q =
 -- or at all that was left
 pub front_of_rest : (a b c : Option (List ℕ)) (all left : List ℕ) → Sends a b all left → TakesFront b c left → TakesFront a c all
 front_of_rest a b c all left p q = subst (λ l. TakesFront a c l) (sym p.split) (front_after a b c p.sent left p.taken q)
-
--- what was sent is a front
-pub sent_front : (a b : Option (List ℕ)) (all left : List ℕ) → Sends a b all left → TakesFront a b all
-sent_front a b all left p = record { front = p.sent; rest = left; split = p.split; taken = p.taken }
-
--- room is kept by a text that grows
-pub room_kept : (old new : ℕ) (AreWithin : ℕ → Type 0) → old ≤ new → HasRoomFor old AreWithin → HasRoomFor new AreWithin
-room_kept old new AreWithin more room = (room.0, room.1, omega (arith, more, room.2))

@@ -1,5 +1,5 @@
 -- The text of a report whose histories are legal, and how many lists it has.
-use Rattle.std.proofs.Common.{◌≡◌, ℕ, ◌+◌, ◌<◌, ◌≤◌, List, [], ◌∷◌, ◌++◌, length, Option, None, refl, ap, sym, subst, inl, inr, arith}
+use Rattle.std.proofs.Common.{◌≡◌, ℕ, ◌+◌, ◌<◌, List, [], ◌∷◌, ◌++◌, length, Option, None, refl, ap, sym, subst, inl, inr, arith}
 use Rattle.ti_live.specs.declared.report.LiveReport.{LiveReport}
 use Rattle.ti_live.specs.declared.report.Refusal.{Refusal}
 use Rattle.ti_live.specs.declared.report.Script.{Script}
@@ -30,10 +30,6 @@ pub report_sound : (l : Live) (report : LiveReport) → IsReportOf (script_of l)
 report_sound l report r =
     ap (λ text. agents_text l.threads l.agents l.methods 0 report.replies ++ text)
     (threads_sound (verdict_at l.limits report.histories) l.threads 0 report.refused (none_of (script_of l) report r))
-
--- a report has few lists
-pub report_few : (script : Script) (report : LiveReport) → IsReportOf script report → (length report.replies ≤ 65536) × (length report.refused ≤ 65536)
-report_few script report r = (omega (arith, r.fits.shape.replies, script.limits.in_range), omega (arith, r.fits.shape.refused, script.limits.in_range))
 
 -- the fault of a run is one of the program's
 pub live_fault_of : (known : Option (List ℕ)) (l : Live) (e : Fault) → IsGivenLive known l → IsRunFault e → IsLiveFault known e

@@ -81,10 +81,6 @@ sends_more a b c all kept left rest p q = record {
   taken = appends_both a b c p.sent q.sent p.taken q.taken;
 }
 
--- all that was left goes out
-pub sends_rest : (a b c : Option (List ℕ)) (all left : List ℕ) → Sends a b all left → Appends b c left → Appends a c all
-sends_rest a b c all left p q = subst (λ l. Appends a c l) (sym p.split) (appends_both a b c p.sent left p.taken q)
-
 -- a front of what was left goes out
 pub sends_front : (a b c : Option (List ℕ)) (all kept rest : List ℕ) → Sends a b all (kept ++ rest) → TakesFront b c kept → TakesFront a c all
 sends_front a b c all kept rest p q = record {

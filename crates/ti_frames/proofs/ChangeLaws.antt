@@ -137,11 +137,6 @@ shared_all xs new i k h =
     let w = common_prefix_len-le is_same_frame (drop i xs) (drop i (reverse new)) in
     omega (arith, k, w.0, w.1, length-drop i xs, length-drop i (reverse new), length-reverse new, h)
 
-pub shared_few : (old new : List Frame) → (shared old new ≤ length old) × (shared old new ≤ length new)
-shared_few old new =
-    let w = common_prefix_len-le is_same_frame (reverse old) (reverse new) in
-    (omega (arith, w.0, length-reverse old), omega (arith, w.1, length-reverse new))
-
 -- how many steps there are
 
 pub leaves_len : (frames : List Frame) → length (leaves frames) ≡ length frames

@@ -87,10 +87,6 @@ seat_again cell env (Some t) g z p s k is here number subject given =
 pub out_posted : (p : DeskState) (t : Ticket) → has t p.cancelled ≡ false → is_out p t ≡ has t p.view.posted
 out_posted p t n = grind (arith, n)
 
--- one that was cancelled is not
-pub not_out : (p : DeskState) (t : Ticket) → has t p.cancelled ≡ true → is_out p t ≡ false
-not_out p t n = grind (arith, n)
-
 -- a new ticket was not cancelled
 pub ticket_out : (v w : View) (env : EnvNo) (call : Call) (r : asked.Asked) (g : List Ticket) (q : DeskState) → AreCancelled g v.posted → w.posted ≡ v.posted ++ ticket_told r → IsTold v w env call r
     → q.view ≡ w → q.cancelled ≡ g → IsTicketOut q r

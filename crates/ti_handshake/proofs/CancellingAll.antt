@@ -13,7 +13,6 @@ use Rattle.ti_slot.specs.Tickets.{has, without_ticket, IsNextOut, same}
 use Rattle.ti_slot.specs.Thread.{Thread}
 use Rattle.ti_cell.specs.View.{tickets_of}
 use Rattle.ti_handshake.specs.Cancelled.{AddsAll, AreCancelled, Given}
-use Rattle.ti_handshake.specs.Desk.{DeskState, is_out}
 use Rattle.ti_handshake.proofs.Desks.{own_has}
 use Rattle.ti_handshake.proofs.Cancelling.{same_is, apart, has_without, more_given, has_last, has_more}
 
@@ -50,15 +49,6 @@ AreKnown z = (k : Ticket) → has k z.uncollected ≡ true → (k.thread.0 == z.
 
 abbrev own_of : EnvNo → Thread → List Ticket
 own_of env z = tickets_of (env.0 + 1) z.uncollected
-
-pub nothing_added : (own old : List Ticket) (now : Given) → now.tickets ≡ old → AreCancelled old own → Adding own old now.room now 0
-nothing_added own old now is given = record {
-  more = [];
-  behind = is ∙ sym (append-nil old);
-  given = subst (λ (l : List Ticket). AreCancelled l own) (sym is) given;
-  room_is = refl;
-  below = λ k h less. absurd (omega (arith, less));
-}
 
 -- the ticket of an own call from a number on, up to the first one that is out, is that of the first one
 it_is : (env : EnvNo) (z : Thread) (from : ℕ) (t k : Ticket) → AreKnown z → IsNextOut z.number z.uncollected env from (Some t) → has k (own_of env z) ≡ true → from ≤ k.no → k.no < t.no + 1 → t ≡ k
@@ -176,11 +166,3 @@ ends_early env z old room from now a none = record {
         absurd (let off = none (suc k.no) k mine high (omega arith) in let never : true ≡ false = sym out ∙ off in cc)
   ];
 }
-
--- then no call is out that was not cancelled
-pub none_out : (p : DeskState) → ((k : Ticket) → has k p.view.posted ≡ true → has k p.cancelled ≡ true) → (k : Ticket) → is_out p k ≡ false
-none_out p all k =
-    elim (cases_Bool (has k p.view.posted)) [
-      | inl out ↦ let given = all k out in grind (arith, given)
-      | inr off ↦ grind (arith, off)
-    ]

@@ -5,13 +5,10 @@ use Rattle.std.proofs.lemmas.List.{map-append}
 use Rattle.std.proofs.lemmas.List.Elements.{All-append, All-cons, All-nil}
 use Rattle.atomic_table.specs.Seated.{TableId}
 use Rattle.ti_cell.specs.declared.view.Subject.{Subject}
-use Rattle.ti_cell.specs.Seats.{Sitting, env_seats}
+use Rattle.ti_cell.specs.Seats.{env_seats}
 use Rattle.ti_cell.specs.View.{newcomer}
 use Rattle.ti_handshake.specs.Desk.{DeskState}
 use Rattle.ti_handshake.specs.NewDesks.{IsSeatAt, desk_at, new_desk, new_desks}
-
-a_seat : TableId → Subject → ℕ → Sitting
-a_seat cell s n = record { cell = cell; view = newcomer s (suc n) 0 }
 
 pub seats_are : (cell : TableId) (s : Subject) (n : ℕ) → All (IsSeatAt cell) (env_seats cell s n)
 seats_are cell s zero = All-nil (IsSeatAt cell)

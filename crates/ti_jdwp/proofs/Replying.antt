@@ -107,10 +107,6 @@ answers old new p a stands bytes is none = record {
   works = λ h. never (sym (ap works is ∙ none) ∙ h);
 }
 
--- as one step says what comes of it
-says : (old new target : Talk) → new ≡ target → Well old.bytes target [] [] → Well old.bytes new [] []
-says old new target is h = subst (λ t. Well old.bytes t [] []) (sym is) h
-
 replied_well : (old new : Talk) (a : Result (List ℕ) ℕ) → Stands old.first old.bytes.input → new ≡ replied old a → Well old.bytes new [] []
 replied_well old new a stands is = answers old new phase.Ready a stands (ap (λ (t : Talk). t.bytes) is) (ap (λ (t : Talk). t.phase) is) refl
 

@@ -32,15 +32,6 @@ module _ (log : List ClassInfo) (class : ClassInfo) (d : Defined) (is_next : d.c
     unused = omega (arith, prefix_length old.seen log pre, is_next);
   }
 
--- a definition after more has been seen
-pub defined_since : (old middle new : Known) (class : ClassInfo) (d : Defined) → IsPrefix old.seen middle.seen → IsDefined middle new class d → IsDefined old new class d
-defined_since old middle new class d pre is = record {
-  at = is.at;
-  first = is.first;
-  last = is.last;
-  unused = omega (arith, prefix_length old.seen middle.seen pre, is.unused);
-}
-
 -- what stands in a slot stands in each longer list
 pub found_since : (tag : List ℕ) (class : ClassNo) (entry : Entry) (log : List ClassInfo) → IsEntry tag class.0 entry → IsPrefix entry.seen.log log → IsFound log class entry
 found_since tag class entry log is pre = record {

@@ -180,10 +180,6 @@ cond_none false seats i h = refl
 pub without_none : (seats : List (Option Seat)) (i : ℕ) → seat_at seats i ≡ None → without seats i ≡ seats
 without_none seats i h = cond_none (nat_lt i (length seats)) seats i h
 
-pub none_of : (o : Option Seat) → ((s : Seat) → o ≡ Some s → ⊥) → o ≡ None
-none_of None h = refl
-none_of (Some s) h = absurd (h s refl)
-
 -- a connection that is taken out is gone
 set_beyond : (seats : List (Option Seat)) (i : ℕ) → length seats ≤ i → slice_set seats i None ≡ seats
 set_beyond [] i h = refl
@@ -225,11 +221,6 @@ closes hosts desk desk' old taken d conn s is was t keeps agent left =
 pub kept_door : (hosts : Hosts) (desk : Desk) (old taken : List (Option Seat)) (d : DoorValue) (conn : ℕ) → door_of hosts old desk ≡ d → taken ≡ without old conn → seat_at old conn ≡ None
     → door_of hosts taken desk ≡ d
 kept_door hosts desk old taken d conn is t none = ap (λ xs. door_of hosts xs desk) (t ∙ without_none old conn none) ∙ is
-
--- other connections leave the rest of the door
-pub rest_stays : (hosts : Hosts) (desk : Desk) (old new : List (Option Seat)) (d : DoorValue) → door_of hosts old desk ≡ d
-    → door_of hosts new desk ≡ record d { talks = map talk_of new; dues = map due_of new }
-rest_stays hosts desk old new d is = ap (λ (x : DoorValue). record x { talks = map talk_of new; dues = map due_of new }) is
 
 -- ---- what is told where a call fails
 

@@ -1,6 +1,7 @@
 pub mod Sums
 pub mod ProbeLaws
 pub mod OrderLaws
+pub mod SamplingLaws
 pub mod RunLaws
 pub mod LineLaws
 pub mod ReadingLaws

@@ -9,10 +9,6 @@ use Rattle.ti_monitor.specs.declared.asking.Told.TheVariants.{Stack, Ended, Unan
 use Rattle.ti_monitor.specs.declared.watched.Watched.{Watched}
 use Rattle.ti_monitor.specs.Asking.{IfStack, MayProbe, Probes, ProbesFirst, ProbesNot}
 
--- none yet
-pub probes_none : (a : AgentValue) (ws : List Watched) → ProbesFirst zero a a ws ws
-probes_none a ws = (refl, refl)
-
 -- one more thread
 pub probes_more : (n : ℕ) (a b c : AgentValue) (ws vs : List Watched) (w v : Watched) → ProbesFirst n a b ws vs → slice_get vs n ≡ Some w → MayProbe b c w v → ProbesFirst (suc n) a c ws (slice_set vs n v)
 probes_more zero a b c ws [] w v p at q = absurd (never at)

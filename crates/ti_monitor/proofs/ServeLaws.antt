@@ -8,13 +8,10 @@ use Rattle.ti_http.specs.declared.answers.ContentType.{ContentType}
 use Rattle.ti_http.specs.declared.answers.ContentType.TheVariants as content
 use Rattle.ti_http.specs.declared.connection.Action.{Action}
 use Rattle.ti_http.specs.declared.connection.Action.TheVariants as action
-use Rattle.ti_http.specs.declared.head.Method.{Method}
-use Rattle.ti_http.specs.declared.head.Method.TheVariants as method
 use Rattle.ti_http.specs.declared.head.Request.{Request}
 use Rattle.ti_http.specs.declared.status.Status.{Status}
 use Rattle.ti_http.specs.declared.status.Status.TheVariants as status
 use Rattle.ti_http.specs.declared.target.Target.{Target}
-use Rattle.ti_http.specs.declared.target.Target.TheVariants as target
 use Rattle.ti_http.specs.Runs.{Answered, PeerEnded, Ticked, Told}
 use Rattle.ti_http.specs.Talks.{Goes, Talk, answered_by, ended_by_peer, ticked}
 use Rattle.ti_monitor.specs.declared.door_desk.Desk.{Desk}
@@ -28,9 +25,6 @@ use Rattle.ti_monitor.specs.Seats.{postponed, profile_of, seconds_of}
 use Rattle.ti_monitor.specs.Serving.{AtOnce, Books, Calls, Does, Hurried, IsAnswer, IsBodyOf, Leaves, MayTakeOut, Move, ReadingsGoOn, Response, Serves, ServesBy, Setting, Sitting, Starts, TakesOut, Turned, Turns, due_after, later_text, response, setting, sitting, told_in}
 
 -- ---- moves
-
-pub serves_none : (w : Setting) (old new : Sitting) → old ≡ new → Serves w old new
-serves_none w old new is = ([], is)
 
 pub serves_one : (w : Setting) (old new : Sitting) (m : Move) → Does w old m new → Serves w old new
 serves_one w old new m does = (m ∷ [], (new, does, refl))
@@ -105,20 +99,6 @@ fresh_answer w b u request r is answer = subst (λ (x : Option Due). IsAnswer w 
 pub at_once : (w : Setting) (b : Books) (u : Option Due) (request : Request) (t : Target) (r : Response) → u ≡ Some (due.Later request 1) → request.target ≡ t
     → AtOnce w b request.method t r → IsAnswer w b u r
 at_once w b u request t r is same answer = fresh_answer w b u request r is (subst (λ (x : Target). AtOnce w b request.method x r) (sym same) answer)
-
-head_of : (w : Setting) (b : Books) (t : Target) → (t ≡ target.Index → ⊥) → (t ≡ target.Metrics → ⊥) → AtOnce w b method.Head t (response status.Ok (content_of t) [])
-head_of w b target.Index i m = absurd (i refl)
-head_of w b target.Metrics i m = absurd (m refl)
-head_of w b target.Threads i m = refl
-head_of w b target.ThreadsJson i m = refl
-head_of w b (target.ThreadsProfile d) i m = refl
-head_of w b (target.Profile seconds rate labels) i m = refl
-
--- an answer to `HEAD`
-pub head_answer : (w : Setting) (b : Books) (u : Option Due) (request : Request) → u ≡ Some (due.Later request 1) → request.method ≡ method.Head
-    → (request.target ≡ target.Index → ⊥) → (request.target ≡ target.Metrics → ⊥) → IsAnswer w b u (response status.Ok (content_of request.target) [])
-head_answer w b u request is same i m =
-    fresh_answer w b u request _ is (subst (λ (x : Method). AtOnce w b x request.target (response status.Ok (content_of request.target) [])) (sym same) (head_of w b request.target i m))
 
 -- a request that waits for something else from now on
 pub turned_serves : (w : Setting) (t t' : Talk) (b b' : Books) (u u' : Option Due) (v : Due) → t' ≡ t → u' ≡ Some v → Turns u b v b' → Serves w (sitting t u b) (sitting t' u' b')

@@ -1,5 +1,5 @@
 -- The threads that were met.
-use Rattle.std.specs.Prelude.{ℕ, ◌+◌, ◌&&◌, ◌==◌, Bool, not, is_some, List, Option, Some, None, min, slice_get, if◌then◌else◌}
+use Rattle.std.specs.Prelude.{ℕ, ◌+◌, ◌&&◌, ◌==◌, Bool, false, not, is_some, List, Option, Some, None, min, slice_get, if◌then◌else◌}
 use Rattle.ti_http.specs.declared.target.Labels.{Labels}
 use Rattle.ti_monitor.specs.declared.label.Label.{Label}
 use Rattle.ti_monitor.specs.declared.watched.Watched.{Watched}
@@ -28,3 +28,11 @@ is_held w = not w.gone && w.suspended
 -- a call of the monitor is out at it
 abbrev pub has_call : Watched → Bool
 has_call w = is_some w.out
+
+-- no call of the monitor is out at the thread at a place, which is there
+abbrev pub is_free_one : Option Watched → Bool
+is_free_one None = false
+is_free_one (Some w) = not (has_call w)
+
+abbrev pub is_free : List Watched → ℕ → Bool
+is_free watched place = is_free_one (slice_get watched place)

@@ -23,6 +23,9 @@ pub(crate) struct Methods {
 }
 
 impl Methods {
+    ghost use Rattle.std.specs.Prelude.{Some, slice_get};
+    ghost use Rattle.ti_monitor.specs.Counted.{KnowsMore, IsNamed};
+
     /// No methods.
     pub(crate) fn new(alloc: Global) -> Methods {
         Methods {
@@ -53,7 +56,11 @@ impl Methods {
         alloc: Global,
         agent: &mut Agent,
         frame: ti_types::Frame,
-    ) -> Frame {
+    ) -> Frame
+        ensures named { IsNamed self.new frame result }
+        ensures grows { KnowsMore self.old self.new }
+        ensures env { agent.new.env ≡ agent.old.env }
+    {
         match self.place_of(alloc, agent, frame.method) {
             Some(place) => Frame {
                 function: place as u32 + NAMED,
@@ -72,7 +79,10 @@ impl Methods {
     /// The place of a method, whose lines are asked for if they are not known. `None` if there is no room for one more, or no
     /// memory.
     fn place_of(&mut self, alloc: Global, agent: &mut Agent, method: MethodNo) -> Option<usize>
-        ensures { IfSome result (λ place. place < length self.new.lines.items) }
+        ensures within { IfSome result (λ place. place < length self.new.lines.items) }
+        ensures there { IfSome result (λ place. slice_get self.new.numbers.keys place ≡ Some method.0) }
+        ensures grows { KnowsMore self.old self.new }
+        ensures env { agent.new.env ≡ agent.old.env }
     {
         let place = self.find(method)?;
         if self.lines[place].is_none() {
@@ -83,7 +93,9 @@ impl Methods {
 
     /// The place of a method, which is added if it was not seen before. `None` if there is no room for one more, or no memory.
     fn find(&mut self, method: MethodNo) -> Option<usize>
-        ensures { IfSome result (λ place. place < length self.new.lines.items) }
+        ensures within { IfSome result (λ place. place < length self.new.lines.items) }
+        ensures there { IfSome result (λ place. slice_get self.new.numbers.keys place ≡ Some method.0) }
+        ensures grows { KnowsMore self.old self.new }
     {
         if let Some(place) = self.numbers.get_index_of(&method.0) {
             return Some(place);
@@ -99,7 +111,9 @@ impl Methods {
 }
 
 /// The lines of a method. `None` if there is no memory for them, or if its class is just being defined.
-fn ask(alloc: Global, agent: &mut Agent, method: MethodNo) -> Option<Known> {
+fn ask(alloc: Global, agent: &mut Agent, method: MethodNo) -> Option<Known>
+    ensures env { agent.new.env ≡ agent.old.env }
+{
     match agent.get_line_number_table(alloc, method) {
         Ok(lines) => Known::new(lines).ok(),
         Err(ClassError::OutOfMemory | ClassError::Busy) => None,

@@ -99,6 +99,7 @@ impl Monitor {
 
     /// Does what is due: it meets threads and lets them go, probes states, collects answers, and takes the ticks of readings.
     pub fn tick(&mut self, now: u64)
+        ensures samples { Samples (sampling self.old.agent self.old.watched.items self.old.readings) (sampling self.new.agent self.new.watched.items self.new.readings) }
         ensures calls { self.new.metrics.calls_out ≡ count_by has_call self.new.watched.items }
         ensures orders { orders_of self.new.readings.running.items ≡ orders_of self.old.readings.running.items }
         ensures begun { self.new.begun ≡ self.old.begun }
@@ -211,6 +212,7 @@ impl Monitor {
 
     /// Ends a reading now, with what is there. Nothing happens if it has ended, or if there is no such reading.
     pub fn hurry(&mut self, reading: ReadingNo, now: u64)
+        ensures ends { EndsOne reading self.old.watched.items self.old.readings.running.items self.new.readings.running.items }
         ensures orders { orders_of self.new.readings.running.items ≡ orders_of self.old.readings.running.items }
         ensures begun { self.new.begun ≡ self.old.begun }
         ensures program { self.new.program ≡ self.old.program }
@@ -317,4 +319,5 @@ ghost use Rattle.ti_service.specs.Memberships.{state_of};
 ghost use Rattle.ti_monitor.specs.Asking.{ProbesAll};
 ghost use Rattle.ti_monitor.specs.Counters.{CountsStates, KeepsOthers};
 ghost use Rattle.ti_monitor.specs.Monitors.{AreCountsOf, Begins, HasNoRoom, IsWithout, MayBeWithout, MayEnable, begun_in, has_ended, orders_of, reading_in};
+ghost use Rattle.ti_monitor.specs.Sampling.{EndsOne, Samples, sampling};
 ghost use Rattle.ti_monitor.specs.Watching.{has_call};

@@ -63,6 +63,8 @@ pub(crate) fn is_profile(order: Order) -> bool
 }
 
 impl Running {
+    ghost use Rattle.ti_monitor.specs.Counted.{CountsLost, CountsNothing, CountsRest, CountsStack, labels_in, waits_for};
+
     /// A reading that begins now. The error is lack of memory.
     pub(crate) fn new(
         alloc: Global,
@@ -88,7 +90,9 @@ impl Running {
     }
 
     /// Which labels its samples have.
-    fn labels(&self) -> Labels {
+    fn labels(&self) -> Labels
+        ensures { result ≡ labels_in self.now.order }
+    {
         match self.order {
             Order::Once => Labels::ThreadAndState,
             Order::Over { labels, .. } => labels,
@@ -151,12 +155,15 @@ impl Running {
     }
 
     /// Whether a stack of the thread at a place is owed.
-    pub(crate) fn waits_for(&self, place: usize) -> bool {
+    pub(crate) fn waits_for(&self, place: usize) -> bool
+        ensures { result ≡ waits_for place self.now }
+    {
         !self.has_ended() && self.account.owed_at(place) > 0
     }
 
     /// Ticks, if that is due. It gives whether it does.
     pub(crate) fn tick(&mut self, watched: &[Watched], now: u64) -> bool
+        ensures counts { CountsNothing self.old self.new }
         ensures no { self.new.no ≡ self.old.no }
         ensures order { self.new.order ≡ self.old.order }
     {
@@ -169,6 +176,7 @@ impl Running {
 
     /// Counts the stack of a place as often as it is owed. It gives how often that was.
     pub(crate) fn answer(&mut self, place: usize, stack: &Stack, watched: &[Watched]) -> u64
+        ensures counts { CountsStack place stack.now.frames.items watched.now self.old self.new }
         ensures no { self.new.no ≡ self.old.no }
         ensures order { self.new.order ≡ self.old.order }
     {
@@ -181,6 +189,7 @@ impl Running {
 
     /// Counts the frame of a function as often as stacks are owed at a place. It gives how often that was.
     pub(crate) fn lose(&mut self, place: usize, function: u32, watched: &[Watched]) -> u64
+        ensures counts { CountsLost place function watched.now self.old self.new }
         ensures no { self.new.no ≡ self.old.no }
         ensures order { self.new.order ≡ self.old.order }
     {
@@ -200,6 +209,7 @@ impl Running {
 
     /// Ends it with what is there. It gives how many stacks were owed.
     pub(crate) fn end(&mut self, watched: &[Watched], now: u64) -> u64
+        ensures counts { CountsRest watched.now self.old self.new }
         ensures no { self.new.no ≡ self.old.no }
         ensures order { self.new.order ≡ self.old.order }
     {
@@ -223,7 +233,9 @@ impl Running {
 }
 
 /// One more stack is owed of each thread that is there.
-fn tick_at_all(account: &mut Account, watched: &[Watched]) {
+fn tick_at_all(account: &mut Account, watched: &[Watched])
+    ensures { account.new.counts ≡ account.old.counts }
+{
     for place in 0..watched.len() {
         if place >= account.places() && account.widen().is_err() {
             return;

@@ -26,6 +26,10 @@ pub(crate) struct Readings {
 }
 
 impl Readings {
+    ghost use Rattle.std.specs.List.{AllZip, list_any};
+    ghost use Rattle.ti_monitor.specs.Counted.{AreNamed, CountsLost, CountsStack, KnowsMore, waits_for};
+    ghost use Rattle.ti_monitor.specs.Sampling.{AsksAt, AsksUpTo, CollectsUpTo, CountsTold, sampling};
+
     /// None.
     pub(crate) fn new(alloc: Global) -> Readings {
         Readings {
@@ -36,13 +40,14 @@ impl Readings {
     }
 
     /// Whether one of them is owed a stack of the thread at a place.
-    fn wait_for(&self, place: usize) -> bool {
-        for reading in &self.running {
-            if reading.waits_for(place) {
-                return true;
-            }
-        }
-        false
+    fn wait_for(&self, place: usize) -> bool
+        ensures { result ≡ list_any (waits_for place) self.now.running.items }
+    {
+        self.running.iter().any(
+            |reading: &Running| -> bool
+                ensures { result ≡ waits_for place reading.now }
+            { reading.waits_for(place) },
+        )
     }
 
     /// Whether one of them is owed a stack.
@@ -57,7 +62,10 @@ impl Readings {
 
     /// Takes the frames of a stack. The error is lack of memory.
     fn take(&mut self, alloc: Global, agent: &mut Agent, frames: &[Frame]) -> Result<(), AllocError>
+        ensures named { OnOk result (AreNamed self.new.methods frames.now self.new.stack.frames.items) }
+        ensures grows { KnowsMore self.old.methods self.new.methods }
         ensures running { self.new.running ≡ self.old.running }
+        ensures env { agent.new.env ≡ agent.old.env }
     {
         self.stack.begin()?;
         for frame in frames {
@@ -69,6 +77,8 @@ impl Readings {
 
     /// The stack that was taken is that of the thread at a place.
     fn answer(&mut self, place: usize, watched: &[Watched], metrics: &mut Metrics)
+        ensures counts { AllZip (CountsStack place self.old.stack.frames.items watched.now) self.old.running.items self.new.running.items }
+        ensures methods { self.new.methods ≡ self.old.methods }
         ensures orders { orders_of self.new.running.items ≡ orders_of self.old.running.items }
     {
         for reading in self.running.iter_mut() {
@@ -80,6 +90,8 @@ impl Readings {
 
     /// No stack of the thread at a place comes.
     fn lose(&mut self, place: usize, function: u32, watched: &[Watched], metrics: &mut Metrics)
+        ensures counts { AllZip (CountsLost place function watched.now) self.old.running.items self.new.running.items }
+        ensures methods { self.new.methods ≡ self.old.methods }
         ensures orders { orders_of self.new.running.items ≡ orders_of self.old.running.items }
     {
         for reading in self.running.iter_mut() {
@@ -98,6 +110,9 @@ impl Readings {
         watched: &[Watched],
         metrics: &mut Metrics,
     )
+        ensures counts { CountsTold told place watched.now self.old self.new }
+        ensures grows { KnowsMore self.old.methods self.new.methods }
+        ensures env { agent.new.env ≡ agent.old.env }
         ensures orders { orders_of self.new.running.items ≡ orders_of self.old.running.items }
     {
         match told {
@@ -120,6 +135,7 @@ impl Readings {
         metrics: &mut Metrics,
         now: u64,
     )
+        ensures collects { CollectsUpTo (length watched.old) (sampling agent.old watched.old self.old) (sampling agent.new watched.new self.new) }
         ensures orders { orders_of self.new.running.items ≡ orders_of self.old.running.items }
     {
         for place in 0..watched.len() {
@@ -130,6 +146,7 @@ impl Readings {
 
     /// Ticks each reading whose tick is due.
     pub(crate) fn tick_all(&mut self, watched: &[Watched], metrics: &mut Metrics, now: u64)
+        ensures counts { AllZip CountsNothing self.old.running.items self.new.running.items }
         ensures orders { orders_of self.new.running.items ≡ orders_of self.old.running.items }
     {
         for reading in self.running.iter_mut() {
@@ -146,18 +163,38 @@ impl Readings {
         metrics: &mut Metrics,
         now: u64,
     )
+        ensures asks { AsksUpTo (length watched.old) (sampling agent.old watched.old self.old) (sampling agent.new watched.new self.new) }
         ensures orders { orders_of self.new.running.items ≡ orders_of self.old.running.items }
     {
         for place in 0..watched.len() {
-            if is_free(watched, place) && self.wait_for(place) {
-                let told = ask(alloc, agent, &mut watched[place], now);
-                self.tell(alloc, agent, place, told, watched, metrics);
-            }
+            self.ask_at(alloc, agent, place, watched, metrics, now);
         }
+    }
+
+    /// Asks the thread at a place, if a stack of it is owed, and no call is out there.
+    fn ask_at(
+        &mut self,
+        alloc: Global,
+        agent: &mut Agent,
+        place: usize,
+        watched: &mut [Watched],
+        metrics: &mut Metrics,
+        now: u64,
+    )
+        ensures asks { AsksAt place (sampling agent.old watched.old self.old) (sampling agent.new watched.new self.new) }
+        ensures many { length watched.new ≡ length watched.old }
+        ensures orders { orders_of self.new.running.items ≡ orders_of self.old.running.items }
+    {
+        if !is_free(watched, place) || !self.wait_for(place) {
+            return;
+        }
+        let told = ask(alloc, agent, &mut watched[place], now);
+        self.tell(alloc, agent, place, told, watched, metrics);
     }
 
     /// Ends each reading that is over.
     pub(crate) fn end_all(&mut self, watched: &[Watched], metrics: &mut Metrics, now: u64)
+        ensures counts { AllZip (MayEnd watched.now) self.old.running.items self.new.running.items }
         ensures orders { orders_of self.new.running.items ≡ orders_of self.old.running.items }
     {
         for reading in self.running.iter_mut() {
@@ -233,7 +270,10 @@ impl Readings {
 }
 
 /// Whether no call is out at the thread at a place.
-fn is_free(watched: &[Watched], place: usize) -> bool {
+fn is_free(watched: &[Watched], place: usize) -> bool
+    ensures free { result ≡ is_free watched.now place }
+    ensures within { OnTrue result (place < length watched.now) }
+{
     match watched.get(place) {
         Some(one) => one.out.is_none(),
         None => false,
@@ -242,6 +282,7 @@ fn is_free(watched: &[Watched], place: usize) -> bool {
 
 /// Ticks a reading whose tick is due.
 fn tick(reading: &mut Running, watched: &[Watched], metrics: &mut Metrics, now: u64)
+    ensures counts { CountsNothing reading.old reading.new }
     ensures order { order_of reading.new ≡ order_of reading.old }
 {
     let missed = reading.missed();
@@ -254,6 +295,7 @@ fn tick(reading: &mut Running, watched: &[Watched], metrics: &mut Metrics, now: 
 
 /// Ends a reading that is over.
 fn end_if_over(reading: &mut Running, watched: &[Watched], metrics: &mut Metrics, now: u64)
+    ensures counts { MayEnd watched.now reading.old reading.new }
     ensures order { order_of reading.new ≡ order_of reading.old }
 {
     if reading.is_over(now) {
@@ -263,6 +305,7 @@ fn end_if_over(reading: &mut Running, watched: &[Watched], metrics: &mut Metrics
 
 /// Ends a reading with what is there.
 pub(crate) fn end(reading: &mut Running, watched: &[Watched], metrics: &mut Metrics, now: u64)
+    ensures counts { CountsRest watched.now reading.old reading.new }
     ensures order { order_of reading.new ≡ order_of reading.old }
 {
     let missed = reading.missed();
@@ -273,5 +316,7 @@ pub(crate) fn end(reading: &mut Running, watched: &[Watched], metrics: &mut Metr
 }
 
 ghost use Rattle.std.specs.Prelude.{◌≡◌, ◌<◌, None, length, slice_get, IfSome, IfNone, OnOk, OnErr};
-ghost use Rattle.std.specs.Bool.{OnFalse};
+ghost use Rattle.std.specs.Bool.{OnTrue, OnFalse};
+ghost use Rattle.ti_monitor.specs.Counted.{CountsNothing, CountsRest, MayEnd};
+ghost use Rattle.ti_monitor.specs.Watching.{is_free};
 ghost use Rattle.ti_monitor.specs.Monitors.{Begins, IsFull, order_of, orders_of, profiles_in, reading_in};

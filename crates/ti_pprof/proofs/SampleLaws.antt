@@ -1,11 +1,9 @@
-use Rattle.std.proofs.Common.{◌≡◌, ℕ, zero, suc, ◌+◌, ◌<◌, ◌≤◌, List, [], ◌∷◌, ◌++◌, length, get_or, slice_get, slice_set, Some, false, sum, arith, refl, ap, sym, ◌∙◌, subst, ◌⊎◌, inl, inr}
+use Rattle.std.proofs.Common.{◌≡◌, ℕ, zero, suc, ◌+◌, ◌<◌, ◌≤◌, List, [], ◌∷◌, ◌++◌, length, get_or, slice_get, slice_set, Some, false, sum, arith, refl, ap, sym, ◌∙◌, subst, inl, inr}
 use Rattle.std.specs.List.{list_any, sum_by}
 use Rattle.std.specs.Prelude.{unwrap_or}
 use Rattle.std.proofs.lemmas.Option.{slice_get_within}
 use Rattle.ti_pprof.proofs.RowLaws.{absent_row}
-use Rattle.std.proofs.lemmas.List.{length_push, get_or_append_left, get_or_push}
-use Rattle.std.proofs.lemmas.List.Sums.{sum_by_push, sum_by-set, sum_by-cons}
-use Rattle.std.proofs.lemmas.Bool.{cases_lt}
+use Rattle.std.proofs.lemmas.List.Sums.{sum_by-cons}
 use Rattle.ti_pprof.specs.declared.stacks.Frame.{Frame}
 use Rattle.ti_pprof.specs.declared.stacks.Node.{Node}
 use Rattle.ti_pprof.specs.declared.table.Row.{Row}
@@ -100,26 +98,6 @@ IsCounted-row stacks rows rows' counts counts' row times most same distinct numb
       was ∙ ap (λ r. Some (sample_of stacks r n)) at.2,
       (λ j. samples_in stacks (at.3 j) (at.4 j)) ∙ now ∙ ap (λ r. slice_set (samples_in stacks rows counts) i (sample_of stacks r (n + times))) at.2,
     )
-
--- the rows of a counted row are numbered too
-pub AreNumbered-counted : (rows rows' : List Row) (counts counts' : List ℕ) (row : Row) (times most : ℕ)
-    → IsRowCounted rows counts rows' counts' row times → AreNumbered rows most → row.stack ≤ most → AreNumbered rows' most
-AreNumbered-counted rows rows' counts counts' row times most (inl more) there here = subst (λ r. AreNumbered r most) (sym more.0) (λ i d within. place i d within (cases_lt i (length rows)))
-  where
-    place : (i : ℕ) (d : Row) → i < length (rows ++ row ∷ []) → (i < length rows) ⊎ (length rows ≤ i) → (get_or (rows ++ row ∷ []) i d).stack ≤ most
-    place i d within (inl before) = omega (arith, ap (λ (r : Row). r.stack) (get_or_append_left rows (row ∷ []) d i before), there i d before)
-    place i d within (inr behind) =
-        let last : length rows ≡ i = omega (arith, length_push rows row) in
-        omega (arith, ap (λ (r : Row). r.stack) (get_or_push rows row d i last))
-AreNumbered-counted rows rows' counts counts' row times most (inr at) there here = subst (λ r. AreNumbered r most) (sym at.3) there
-
--- the counts' sum grows by what was counted
-pub sum-counted : (rows rows' : List Row) (counts counts' : List ℕ) (row : Row) (times : ℕ) → length counts ≡ length rows
-    → IsRowCounted rows counts rows' counts' row times → sum counts' ≡ sum counts + times
-sum-counted rows rows' counts counts' row times same (inl more) = ap sum more.1 ∙ sum_by_push (λ n. n) counts times
-sum-counted rows rows' counts counts' row times same (inr at) =
-    let grown = sum_by-set (λ n. n) counts at.0 (get_or counts at.0 0 + times) 0 (omega (arith, at.1)) in
-    omega (arith, ap sum at.4, grown)
 
 -- the samples' counts are the counts
 pub sum_by-samples_in : (stacks : List (List Frame)) (rows : List Row) (counts : List ℕ) → length counts ≡ length rows

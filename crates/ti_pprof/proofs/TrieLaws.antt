@@ -118,10 +118,6 @@ AreOnEarlier-push nodes node earlier below = λ i d within. place i d within (ca
         let last : length nodes ≡ i = omega (arith, length_push nodes node) in
         omega (arith, ap (λ (n : Node). n.rest) (get_or_push nodes node d i last))
 
--- nodes that grow twice have grown
-pub Grows-trans : (a b c : List Node) → Grows a b → Grows b c → Grows a c
-Grows-trans a b c one two = (one.0 ++ two.0, two.1 ∙ ap (λ n. n ++ two.0) one.1 ∙ append_assoc a one.0 two.0)
-
 -- a stack stays when nodes grow
 pub stack_at-Grows : (a b : List Node) (i : ℕ) → Grows a b → i ≤ length a → stack_at (stacks_of b) i ≡ stack_at (stacks_of a) i
 stack_at-Grows a b i g h = ap (λ n. stack_at (stacks_of n) i) g.1 ∙ stack_at-append a g.0 i h

@@ -219,15 +219,6 @@ length_bounded limits history h =
     let kept = run_kept limits s history a (omega arith) (length-replicate limits.envs no_costs) e.0 in
     omega (arith, paid, kept.0, kept.1, e.1)
 
--- what a legal history costs the environments is within their limits
-pub calls_bounded : (limits : Limits) (history : List Entry) → is_legal limits history ≡ true → sum_by call_cost_of history ≤ limits.envs * limits.calls
-calls_bounded limits history h =
-    let s = history_state limits [] in
-    let a : allows_all limits s history ≡ true = sym (goes_on-allows limits [] history) ∙ h in
-    let e = table_empty limits.calls limits.envs in
-    let kept = run_kept limits s history a (omega arith) (length-replicate limits.envs no_costs) e.0 in
-    omega (arith, kept.1, e.1)
-
 -- what a legal history costs its thread is within the limit
 pub own_bounded : (limits : Limits) (history : List Entry) → is_legal limits history ≡ true → sum_by own_cost history ≤ limits.own
 own_bounded limits history h =

@@ -88,9 +88,6 @@ situation_is limits history env h =
     let z : costs_at (replicate limits.envs no_costs) env ≡ no_costs = get_or-replicate limits.envs env.0 no_costs no_costs h in
     grind (arith, costs_at-fold (replicate limits.envs no_costs) history env)
 
-envs_positive : (limits : Limits) → 0 < limits.envs
-envs_positive limits = omega (arith, limits.in_range)
-
 of_environment : (limits : Limits) (history : List Entry) (x : Entry) (env : EnvNo) → env_of x ≡ Some env
     → (nat_lt env.0 limits.envs ≡ false → fits limits (situation limits history (Some env)) x ≡ fits limits (situation_in (placed_state limits history) (Some env)) x)
     → may_follow limits history x ≡ may_enter limits (placed_state limits history) x

@@ -1,24 +1,15 @@
 -- A call changes the view only where it is done.
 use Rattle.std.proofs.Common.{◌≡◌, Bool, true, false, if◌then◌else◌, refl, ap, sym, arith}
 use Rattle.ti_types.specs.declared.call.Call.TheVariants.{State, FrameCount, Trace, Location, Suspend, Resume, GetWord, SetWord, Pop}
-use Rattle.ti_types.specs.declared.place.Frame.{Frame}
 use Rattle.ti_types.specs.declared.view.ThreadView.{ThreadView}
-use Rattle.ti_replay.specs.Answers.{trace_from, location_of, done_or, pop_refusal}
+use Rattle.ti_replay.specs.Answers.{done_or, pop_refusal}
 use Rattle.ti_replay.specs.Laws.{is_done, CallsChangeWhereDone}
-use Rattle.std.proofs.Common.{ℕ, List, Option, Some, None, is_none}
+use Rattle.std.proofs.Common.{Option, Some, None, is_none}
 use Rattle.ti_types.specs.declared.error.TiError.{TiError}
 
 -- the flag set as it is
 flag_same : (v : ThreadView) (b : Bool) → v.suspended ≡ b → record v { suspended = b } ≡ v
 flag_same v b h = ap (λ (c : Bool). record v { suspended = c }) (sym h)
-
-no_trace : (start : Option ℕ) (most : ℕ) (frames : List Frame) → is_done (trace_from start most frames) ≡ false
-no_trace None most frames = refl
-no_trace (Some n) most frames = refl
-
-no_location : (frame : Option Frame) → is_done (location_of frame) ≡ false
-no_location None = refl
-no_location (Some f) = refl
 
 -- an answer is done where there is no refusal
 done_by : (r : Option TiError) → is_done (done_or r) ≡ is_none r

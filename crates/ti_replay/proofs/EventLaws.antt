@@ -1,5 +1,5 @@
 -- The history that events leave is legal.
-use Rattle.std.proofs.Common.{◌≡◌, ◌≤◌, sym, subst, Bool, true, false, cond, ◌&&◌, nat_lt, List, [], ◌∷◌, ◌++◌, refl, ap, ◌∙◌, arith, Some, None, is_none, append-nil, append_assoc, fold}
+use Rattle.std.proofs.Common.{◌≡◌, ◌≤◌, sym, subst, Bool, true, false, cond, ◌&&◌, nat_lt, List, [], ◌∷◌, ◌++◌, refl, ap, ◌∙◌, arith, Some, None, is_none, append-nil, append_assoc}
 use Rattle.std.proofs.lemmas.Bool.Decides.{nat_tests}
 use Rattle.std.proofs.lemmas.List.Sums.{sum_by-cons, sum_by-append}
 use Rattle.ti_types.specs.declared.limits.Limits.{Limits}
@@ -16,7 +16,7 @@ use Rattle.ti_replay.specs.Settling.{Placed, placed, left_out, runs_after, is_wa
 use Rattle.ti_replay.specs.View.{view, after, after_all}
 use Rattle.ti_replay.specs.Legal.{ask_count, asked_by, Situation, situation, fits, may_follow, goes_on, is_legal, calls_spent, call_cost, own_spent, is_well_formed, is_not_negative, env_of, is_safe}
 use Rattle.ti_replay.specs.Refusals.{own_refusal}
-use Rattle.ti_replay.specs.Admission.{Happening, dealt, Dealings, dealings, dealings_by, refusal, refusal_of, agent_of, is_own_of, is_by, is_paid}
+use Rattle.ti_replay.specs.Admission.{Happening, Dealings, dealings, dealings_by, refusal, refusal_of, agent_of, is_own_of, is_by, is_paid}
 use Rattle.ti_replay.specs.Events.{left_by, left_own, left_by_poll, own_entry, history_behind, history_from, history_of}
 use Rattle.ti_replay.proofs.HistoryLaws.{view_hand}
 use Rattle.ti_replay.proofs.LateStepLaws.{called_keeps}
@@ -196,32 +196,6 @@ history_is_legal limits thread events = (history_from_paid limits thread [] [] e
 -- each environment has spent at least what the history says
 pub history_is_paid : (limits : Limits) (thread : ThreadNo) (events : List Happening) (env : EnvNo) → calls_spent env (history_of limits thread events) ≤ (dealings limits env thread events).spent
 history_is_paid limits thread events env = (history_from_paid limits thread [] [] events (record { legal = refl; paid = λ f. omega arith })).paid env
-
--- no environment spends more than there is
-dealt_within : (limits : Limits) (env : EnvNo) (thread : ThreadNo) (d : Dealings) (wanting : Bool) (event : Event) → d.spent ≤ limits.calls → (dealt limits env thread d (record { event = event; wanting = wanting })).spent ≤ limits.calls
-dealt_within limits env thread d wanting (Start t) h = h
-dealt_within limits env thread d wanting (Own t step) h = h
-dealt_within limits env thread d wanting (Poll t) h = h
-dealt_within limits env thread d wanting (ToNative t) h = h
-dealt_within limits env thread d wanting (ToBlocked t kind) h = h
-dealt_within limits env thread d wanting (Back t) h = h
-dealt_within limits env thread d wanting (End t) h = h
-dealt_within limits env thread d wanting (Ask e t call) h = grind (arith, nat_tests)
-dealt_within limits env thread d wanting (Stop e t) h = grind (arith, nat_tests)
-dealt_within limits env thread d wanting (Read e t n) h = grind (arith, nat_tests)
-dealt_within limits env thread d wanting (Go e t) h = grind (arith, nat_tests)
-dealt_within limits env thread d wanting (AddCaps e caps) h = h
-dealt_within limits env thread d wanting (Relinquish e caps) h = h
-dealt_within limits env thread d wanting (GetCaps e) h = h
-dealt_within limits env thread d wanting (SetEnvWord e w) h = h
-dealt_within limits env thread d wanting (GetEnvWord e) h = h
-
-fold_within : (limits : Limits) (env : EnvNo) (thread : ThreadNo) (d : Dealings) (events : List Happening) → d.spent ≤ limits.calls → (fold (dealt limits env thread) d events).spent ≤ limits.calls
-fold_within limits env thread d [] h = h
-fold_within limits env thread d (x ∷ events) h = fold_within limits env thread (dealt limits env thread d x) events (dealt_within limits env thread d x.wanting x.event h)
-
-pub spent_within : (limits : Limits) (env : EnvNo) (thread : ThreadNo) (events : List Happening) → (dealings limits env thread events).spent ≤ limits.calls
-spent_within limits env thread events = fold_within limits env thread (record { caps = record { bits = 0 }; spent = 0 }) events (omega arith)
 
 ask_call : (env : EnvNo) (x : Entry) → ask_count env x ≤ call_cost env x
 ask_call env entry.Start = omega arith

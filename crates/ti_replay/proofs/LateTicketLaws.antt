@@ -13,17 +13,13 @@ use Rattle.ti_replay.proofs.LateStepLaws.{state_late, answered_late}
 use Rattle.ti_types.specs.declared.answer.Answer.{Answer}
 use Rattle.ti_types.specs.declared.event.Ticket.{Ticket}
 use Rattle.ti_replay.specs.Answers.{is_running}
-use Rattle.ti_replay.proofs.HistoryStateLaws.{history_state-snoc, may_follow-allows}
-use Rattle.ti_replay.specs.Legal.{may_follow}
+use Rattle.ti_replay.proofs.HistoryStateLaws.{history_state-snoc}
 use Rattle.ti_replay.specs.LateTickets.{steps_of}
 use Rattle.ti_replay.specs.LateTickets.{AreAlike}
 use Rattle.ti_replay.specs.Tickets.{reply_in, reply_to}
-use Rattle.ti_replay.proofs.NextStates.{next_state, allows}
+use Rattle.ti_replay.proofs.NextStates.{next_state}
 use Rattle.ti_replay.proofs.TicketReplies.{reply_to-snoc, settling}
 use Rattle.std.proofs.Common.{append_assoc, append-nil, subst, None, Option}
-
-pub alike_may : (limits : Limits) (early late : List Entry) (x : Entry) → AreAlike limits early late → may_follow limits early x ≡ may_follow limits late x
-alike_may limits early late x a = may_follow-allows limits early x ∙ ap (λ s. allows limits s x) a.state ∙ sym (may_follow-allows limits late x)
 
 pub alike-snoc : (limits : Limits) (early late : List Entry) (x : Entry) → AreAlike limits early late → AreAlike limits (early ++ x ∷ []) (late ++ x ∷ [])
 alike-snoc limits early late x a =

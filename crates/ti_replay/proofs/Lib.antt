@@ -28,7 +28,6 @@ pub mod BoundLaws
 pub mod PlaceLaws
 pub mod StorageLaws
 pub mod StandingLaws
-pub mod TicketLaws
 pub mod TicketReplies
 pub mod LateTicketLaws
 pub mod PlaceTickets

@@ -1,6 +1,5 @@
 -- What a replay keeps while it tells the replies of all places.
-use Rattle.std.proofs.Common.{◌≡◌, ℕ, zero, suc, take, drop, ◌+◌, ◌<◌, ◌≤◌, true, false, List, [], ◌∷◌, ◌++◌, length, get_or, refl, sym, ◌∙◌, arith, Option, Some, None, slice_set, if◌then◌else◌, ◌==◌, is_some}
-use Rattle.std.proofs.lemmas.List.{take-append-le, take_all}
+use Rattle.std.proofs.Common.{◌≡◌, ℕ, zero, suc, ◌+◌, ◌<◌, true, false, List, [], ◌∷◌, ◌++◌, length, get_or, refl, sym, arith, Option, Some, None, slice_set, if◌then◌else◌, ◌==◌, is_some}
 use Rattle.std.specs.Option.{option_map, option_or}
 use Rattle.std.proofs.lemmas.Bool.Decides.{nat_tests}
 use Rattle.ti_types.specs.declared.answer.Answer.{Answer}
@@ -59,10 +58,3 @@ below_more n (p ∷ waiting) x h = grind (arith, nat_tests, below_more n waiting
 -- what waits is at a place before the next one
 pub below_kept : (n : ℕ) (s : PlacedState) (x : Entry) → s.next ≡ n → are_below n s.waiting ≡ true → are_below (n + 1) (entered s x).waiting ≡ true
 below_kept n s x e h = rw (sym e) (grind (arith, below_all s.next s.waiting, below_more s.next s.waiting x))
-
--- what a call leaves of a whole slice is all of it
-pub restored : {X : Type 0} (n : ℕ) (xs new : List X) → length new ≡ length xs → n ≡ length xs → take n (new ++ drop (length new) xs) ≡ new
-restored n xs new same is =
-    let a : n ≤ length new = omega (arith, same, is) in
-    let b : length new ≤ n = omega (arith, same, is) in
-    take-append-le n new (drop (length new) xs) a ∙ take_all n new b

@@ -1,5 +1,5 @@
 -- What is told, one after another.
-use Rattle.std.proofs.Common.{◌≡◌, slice_get, nat_lt, is_none, if◌then◌else◌, ℤ, nat_le, inl, inr, ◌↔◌, ℕ, zero, suc, ◌+◌, ◌<◌, ◌≤◌, Bool, true, false, ◌&&◌, List, [], ◌∷◌, ◌++◌, length, map, drop, get_or, refl, ap, ap₂, sym, ◌∙◌, arith, Option, Some, None, subst, append_assoc, append-nil, drop-cons, add-one, drop_of_length-le, not, bit_and, ◌==◌}
+use Rattle.std.proofs.Common.{◌≡◌, slice_get, nat_lt, is_none, if◌then◌else◌, ℤ, nat_le, inl, inr, ◌↔◌, ℕ, zero, suc, ◌+◌, ◌<◌, ◌≤◌, Bool, true, false, List, [], ◌∷◌, ◌++◌, length, map, drop, get_or, refl, ap, ap₂, sym, ◌∙◌, arith, Option, Some, None, subst, append_assoc, append-nil, drop-cons, add-one, drop_of_length-le, not}
 use Rattle.std.specs.List.{list_all}
 use Rattle.ti_types.specs.declared.limits.Limits.{Limits}
 use Rattle.ti_types.specs.declared.numbers.EnvNo.{EnvNo}
@@ -30,7 +30,7 @@ use Rattle.ti_types.specs.declared.stack.StackInfo.{StackInfo}
 use Rattle.std.proofs.lemmas.List.{get_or-replicate, length-replicate}
 use Rattle.ti_report.specs.declared.book.Book.{Book}
 use Rattle.ti_report.specs.Books.{Row, page_in, rows_in, spent_in, AreBooks}
-use Rattle.ti_report.specs.Fits.{code_of, stack_of, no_stack_of, stack_told, said_info, codes_from, stacks_from, Sort, sort_of, single, coded, live_stacks, stacks, told_of, IsReply, RefusedOr, CallFits, CallsFit}
+use Rattle.ti_report.specs.Fits.{code_of, stack_of, no_stack_of, stack_told, codes_from, stacks_from, Sort, sort_of, single, coded, live_stacks, stacks, told_of, IsReply, RefusedOr, CallFits, CallsFit}
 use Rattle.ti_report.specs.Accounts.{AccountValue, Accounts, ArePages, accounted, accounted_all, told_now, codes_now, stacks_now, marked, kept, said_infos, told_one, whole_now, IsReplyNow, RefusedNow, CallNow, called_now, CallsNow, all_called, can_pay_now, new_account, UsedUp}
 use Rattle.ti_report.proofs.AccountLaws.{IsBy, told_is, accounts_go}
 
@@ -104,29 +104,6 @@ no_stack true [] rest h = cc
 no_stack true (i ∷ infos) rest h = cc
 no_stack false [] rest h = cc
 no_stack false (i ∷ infos) rest h = cc
-
-kept_on : (live : Bool) (x : StackInfo) (rest : List (Option StackInfo)) → (live && not (bit_and x.state 1 == 1)) ≡ false → kept live (Some x ∷ rest) ≡ Some x ∷ kept live rest
-kept_on true x rest h = grind (arith, h)
-kept_on false x rest h = refl
-
--- one that is told the stack of a thread that is not alive
-pub dead_stack : (infos : List StackInfo) (x : StackInfo) (rest : List (Option StackInfo)) → (bit_and x.state 1 == 1) ≡ false
-    → (said_infos infos ≡ kept true (Some x ∷ rest)) ↔ (said_infos infos ≡ kept true rest)
-dead_stack infos x rest h = let e : kept true (Some x ∷ rest) ≡ kept true rest = grind (arith, h) in (λ p. p ∙ e, λ p. p ∙ sym e)
-
--- one that is told a stack that is there
-pub stack_step : (live : Bool) (infos : List StackInfo) (next : ℕ) (d x : StackInfo) (rest : List (Option StackInfo)) → next < length infos → (live && not (bit_and x.state 1 == 1)) ≡ false
-    → (said_infos (drop next infos) ≡ kept live (Some x ∷ rest)) ↔ ((said_info (get_or infos next d) ≡ x) × (said_infos (drop (next + 1) infos) ≡ kept live rest))
-stack_step live infos next d x rest there on =
-    let e : drop next infos ≡ get_or infos next d ∷ drop (next + 1) infos = rw add-one (drop-cons infos next d there) in
-    rw (e, kept_on live x rest on) (λ h. (cc h, cc h), λ p. ap₂ (λ (y : StackInfo) (l : List (Option StackInfo)). Some y ∷ l) p.0 p.1)
-
--- and one that is told more than there is
-pub stack_past : (live : Bool) (infos : List StackInfo) (next : ℕ) (x : StackInfo) (rest : List (Option StackInfo)) → length infos ≤ next → (live && not (bit_and x.state 1 == 1)) ≡ false
-    → said_infos (drop next infos) ≡ kept live (Some x ∷ rest) → ⊥
-stack_past live infos next x rest past on h =
-    let e : said_infos (drop next infos) ≡ [] = ap said_infos (drop_of_length-le infos past) in
-    cc (sym e ∙ h ∙ kept_on live x rest on)
 
 -- what a read is told
 pub read_told : (x : Event) (told : Option Answer) (f : EnvNo) (t : ThreadNo) (n : ℤ) (s : Option StackInfo) → x ≡ Read f t n → stack_of t told ≡ s → stack_told x told ≡ s ∷ []

@@ -9,34 +9,10 @@ use Rattle.ti_live.specs.declared.report.Refusal.{Refusal}
 use Rattle.ti_report.specs.Refusals.{is_so, mode_behind, own_behind, error_of, refusals_behind, refusals_from}
 use Rattle.ti_report.specs.Walks.{left_by, listed, entries_from, IsDone, GoneThrough}
 
-pub drop_past : (walk : List Event) (i : ℕ) → length walk ≤ i → drop i walk ≡ []
-drop_past [] zero h = refl
-drop_past [] (suc i) h = refl
-drop_past (x ∷ walk) zero h = absurd (omega (arith, h))
-drop_past (x ∷ walk) (suc i) h = drop_past walk i (omega (arith, h))
-
 -- what is made and paid for is within the budget
 pub paid_behind : (limits : Limits) (m : Mode) (own : ℕ) (x : Event) (error : Option ℕ) → own ≤ limits.own → is_so limits m own x error ≡ true → own_behind own x error ≤ limits.own
 paid_behind limits m own x None h so = grind (arith, so)
 paid_behind limits m own x (Some n) h so = h
-
--- a list that ended early fits if nothing is left
-pub done_early : (limits : Limits) (m : Mode) (own number : ℕ) (walk : List Event) (refused : List Refusal) (entries : List Entry) → IsDone m refused entries
-    → GoneThrough limits true m own number walk refused entries
-done_early limits m own number [] refused entries d = record { made = 0; within = omega arith; whole = λ h. cc; refusals = d.none; left = d.last }
-done_early limits m own number (x ∷ walk) refused entries d = record { made = 0; within = omega arith; whole = λ h. cc h; refusals = d.none; left = d.last }
-
--- at the end of a walk nothing is left
-pub done_whole : (limits : Limits) (spent : Bool) (m : Mode) (own number : ℕ) (refused : List Refusal) (entries : List Entry) → IsDone m refused entries
-    → GoneThrough limits spent m own number [] refused entries
-done_whole limits spent m own number refused entries d = record { made = 0; within = omega arith; whole = λ h. refl; refusals = d.none; left = d.last }
-
-pub whole_done : (limits : Limits) (spent : Bool) (m : Mode) (own number : ℕ) (refused : List Refusal) (entries : List Entry) → GoneThrough limits spent m own number [] refused entries
-    → IsDone m refused entries
-whole_done limits spent m own number refused entries g = by_count g.made g.refusals g.left where
-  by_count : (n : ℕ) → refusals_from limits m own number (take n []) refused ≡ true → entries ≡ entries_from m number (take n []) refused → IsDone m refused entries
-  by_count zero r l = record { none = r; last = l }
-  by_count (suc n) r l = record { none = r; last = l }
 
 -- what is left behind one more operation
 pub record Behind (limits : Limits) (spent : Bool) (m : Mode) (own number : ℕ) (x : Event) (walk : List Event) (refused : List Refusal) (entries : List Entry) : Type 0 where

@@ -1,12 +1,9 @@
 -- What whoever holds the roster may do to it.
 use Rattle.std.proofs.Common.{◌≡◌, ◌≢◌, Bool, ℕ, ◌==◌, true, false, is_some, if◌then◌else◌, List, [], ◌∷◌, ◌++◌, Option, Some, None, refl, sym, ap, ◌∙◌, subst, eq-eqb, ne_eqb, append-nil, append_assoc}
 use Rattle.ti_types.specs.declared.numbers.EnvNo.{EnvNo}
-use Rattle.ti_stops.specs.declared.call.StopCall.{StopCall}
-use Rattle.ti_stops.specs.declared.call.StopReply.{StopReply}
-use Rattle.ti_stops.specs.Stops.{is_news}
 use Rattle.ti_roster.specs.declared.coming.Coming.{Coming}
-use Rattle.ti_roster.specs.declared.coming.Coming.TheVariants.{Attached, Met, Stop}
-use Rattle.ti_roster.specs.Log.{Log, is_about, mark_of, noted, threads_in, with_item, with_items}
+use Rattle.ti_roster.specs.declared.coming.Coming.TheVariants.{Attached, Met}
+use Rattle.ti_roster.specs.Log.{Log, is_about, mark_of, noted, threads_in, with_items}
 use Rattle.ti_roster.specs.Roster.{has_met_all, meeting}
 use Rattle.ti_roster.specs.Rule.{Begins, Claims, Moves}
 use Rattle.ti_roster.proofs.Logs.{mark_more, mark_noted, noted_same}
@@ -44,14 +41,6 @@ may_add o r r' seen x claims user off is = subst (λ (y : Log). MayBe o r y) (sy
   });
   limits = refl;
 })
-
--- a call about stops was made, and is noted if it told news
-pub may_stop : (o : Option EnvNo) (r r' : Log) (seen : List Coming) (call : StopCall) (reply : StopReply) → Claims r.items o seen → r.user ≡ o → r' ≡ (if is_news reply then with_item r (Stop r.user call) else r) → MayBe o r r'
-may_stop o r r' seen call reply claims user is = by_whether (is_news reply) is
-  where
-    by_whether : (b : Bool) → r' ≡ (if b then with_item r (Stop r.user call) else r) → MayBe o r r'
-    by_whether true noted = may_add o r r' seen (Stop r.user call) claims user (λ e. refl) noted
-    by_whether false same = may_stay o r r' seen claims user same
 
 here : (e f : EnvNo) (v : ℕ) (mark : Option ℕ) → e.0 ≡ f.0 → (if e.0 == f.0 then Some v else mark) ≡ Some v
 here e f v mark same = ap (λ b. if b then Some v else mark) (eq-eqb e.0 f.0 same)

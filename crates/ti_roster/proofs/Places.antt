@@ -1,5 +1,5 @@
 -- Lists that are read by index.
-use Rattle.std.proofs.Common.{◌≡◌, ◌≢◌, ◌⊎◌, ℕ, zero, suc, ◌<◌, ◌≤◌, List, [], ◌∷◌, ◌++◌, length, take, Option, Some, None, refl, sym, ap, ◌∙◌, inl, inr, arith, map}
+use Rattle.std.proofs.Common.{◌≡◌, ◌≢◌, ◌⊎◌, ℕ, zero, suc, ◌<◌, ◌≤◌, List, [], ◌∷◌, ◌++◌, length, take, Some, refl, sym, ap, ◌∙◌, inl, inr, arith, map}
 use Rattle.std.specs.Prelude.{replicate, slice_get, slice_index_or, slice_set}
 use Rattle.std.specs.List.{remove}
 
@@ -88,14 +88,6 @@ length_set [] i x = refl
 length_set (y ∷ l) zero x = refl
 length_set (y ∷ l) (suc i) x = ap suc (length_set l i x)
 
-pub take_step : {A : Type 0} (l : List A) (i n : ℕ) (y : A) → n ≡ suc i → slice_get l i ≡ Some y → take n l ≡ take i l ++ y ∷ []
-take_step [] i n y e at = absurd (nothing_at i y at)
-take_step (x ∷ l) i zero y e at = absurd (omega (arith, e))
-take_step {A = A} (x ∷ l) zero (suc n) y e at =
-    let none : n ≡ 0 = omega (arith, e) in
-    ap (λ (k : ℕ). x ∷ take k l) none ∙ ap (λ (z : A). z ∷ []) (is_same x y at)
-take_step (x ∷ l) (suc i) (suc n) y e at = ap (λ r. x ∷ r) (take_step l i n y (omega (arith, e)) at)
-
 pub take_past : {A : Type 0} (l : List A) (n : ℕ) → length l ≤ n → take n l ≡ l
 take_past [] zero h = refl
 take_past [] (suc n) h = refl
@@ -110,11 +102,3 @@ at_index (x ∷ xs) (suc k) d h = at_index xs k d (omega (arith, h))
 -- what code reads at an index
 pub read_at : {A : Type 0} (l : List A) (k : ℕ) (d : A) → k < length l → d ≡ slice_index_or l k d → slice_get l k ≡ Some d
 read_at l k d h is = at_index l k d h ∙ ap (λ x. Some x) (sym is)
-
-pub map_map : {A B C : Type 0} (f : B → C) (g : A → B) (l : List A) → map (λ x. f (g x)) l ≡ map f (map g l)
-map_map f g [] = refl
-map_map f g (x ∷ l) = ap (λ r. f (g x) ∷ r) (map_map f g l)
-
-pub none_of : {A : Type 0} (o : Option A) → ((x : A) → o ≡ Some x → ⊥) → o ≡ None
-none_of (Some x) not = absurd (not x refl)
-none_of None not = refl

@@ -1,5 +1,5 @@
 -- Cells are made one after another, each with its desks, which go to the environments.
-use Rattle.std.proofs.Common.{◌≡◌, ℕ, zero, suc, ◌+◌, ◌<◌, ◌++◌, List, [], ◌∷◌, length, map, refl, ap, sym, ◌∙◌, ◌≤◌, arith, subst, take, drop, Some, nat_lt, Bool, true, false, slice_index_or, slice_set}
+use Rattle.std.proofs.Common.{◌≡◌, ℕ, suc, ◌+◌, ◌<◌, ◌++◌, List, [], ◌∷◌, length, map, refl, ap, sym, ◌∙◌, ◌≤◌, arith, subst, take, drop, Some, nat_lt, Bool, true, false, slice_index_or, slice_set}
 use Rattle.std.specs.Prelude.{slice_get, if◌then◌else◌}
 use Rattle.std.proofs.lemmas.Bool.Decides.{nat_tests}
 use Rattle.std.proofs.Math.ListN.{get_or-map}
@@ -12,12 +12,8 @@ use Rattle.ti_types.specs.declared.numbers.ThreadNo.{ThreadNo}
 use Rattle.ti_cell.specs.View.{subject_of}
 use Rattle.ti_handshake.specs.Desk.{DeskState}
 use Rattle.ti_handshake.specs.NewDesks.{new_desk, new_desks}
-use Rattle.ti_agent.specs.Env.{cells_at}
 use Rattle.ti_runner.specs.Cells.{AreDesks}
 use Rattle.ti_runner.proofs.Pairs.{pairs_push, pairs_set}
-
-pub desks_none : (limits : Limits) (envs : ℕ) (cells : List TableId) (desks : List (List DeskState)) → cells ≡ [] → desks ≡ [] → AreDesks limits envs cells desks
-desks_none limits envs cells desks none bare = subst (λ c. AreDesks limits envs c desks) (sym none) (subst (λ o. AreDesks limits envs [] o) (sym bare) (record { count = refl; each = λ k s c a b. cc }))
 
 pub desks_push : (limits : Limits) (envs : ℕ) (cells : List TableId) (desks : List (List DeskState)) (cell : TableId) (l : List DeskState) → AreDesks limits envs cells desks
     → l ≡ new_desks cell (subject_of limits (record { 0 = length desks })) envs → AreDesks limits envs (cells ++ cell ∷ []) (desks ++ l ∷ [])
@@ -48,15 +44,6 @@ pub record AreHalf (limits : Limits) (env threads : ℕ) (cells : List TableId) 
   pub count : length desks ≡ length cells
   pub each : (k : ℕ) (l : List DeskState) (cell : TableId) → slice_get desks k ≡ Some l → slice_get cells k ≡ Some cell
       → l ≡ new_desks cell (subject_of limits (record { 0 = k })) (if nat_lt k threads then env else env + 1)
-
-pub half_none : (limits : Limits) (env : ℕ) (cells : List TableId) (desks : List (List DeskState)) → AreDesks limits (env + 1) cells desks → AreHalf limits env 0 cells desks
-half_none limits env cells desks k = record {
-  count = k.count;
-  each = λ i l cell a b. subst (λ t. l ≡ new_desks cell (subject_of limits (record { 0 = i })) (if t then env else env + 1)) (sym (none_below i)) (k.each i l cell a b);
-}
-  where
-    none_below : (i : ℕ) → nat_lt i 0 ≡ false
-    none_below i = grind (arith, nat_tests)
 
 pub half_here : (limits : Limits) (env i : ℕ) (cells : List TableId) (desks : List (List DeskState)) (l : List DeskState) (cell : TableId) → AreHalf limits env i cells desks → slice_get desks i ≡ Some l → slice_get cells i ≡ Some cell
     → l ≡ new_desks cell (subject_of limits (record { 0 = i })) (env + 1)
@@ -99,24 +86,9 @@ half_all limits env n cells desks k len = record {
     within : (i : ℕ) (cell : TableId) → slice_get cells i ≡ Some cell → nat_lt i n ≡ true
     within i cell there = grind (arith, nat_tests, len, slice_get_within cells i cell there)
 
--- desks at cells, one by one
-pub at_cells : (desks : List DeskState) (cells : List TableId) → length desks ≡ length cells → ((k : ℕ) (p : DeskState) (c : TableId) → slice_get desks k ≡ Some p → slice_get cells k ≡ Some c → p.cell ≡ c) → cells_at desks ≡ cells
-at_cells [] [] len each = refl
-at_cells [] (c ∷ cells) len each = cc
-at_cells (p ∷ desks) [] len each = cc
-at_cells (p ∷ desks) (c ∷ cells) len each =
-    let rest = at_cells desks cells (omega (arith, len)) (λ k. each (suc k)) in
-    ap (λ (z : TableId). z ∷ cells_at desks) (each 0 p c refl refl) ∙ ap (λ (l : List TableId). c ∷ l) rest
-
 -- an element of a list that is looked at through a function
 pub mapped_get : {A B : Type 0} (f : A → B) (xs : List A) (k : ℕ) (d : A) → k < length xs → slice_get (map f xs) k ≡ Some (f (slice_index_or xs k d))
 mapped_get f xs k d within = slice_get-get_or (map f xs) k (f d) (omega (arith, within, length-map xs f)) ∙ ap Some (get_or-map f xs k d)
-
--- a place that is there has an element
-pub place_at : {A : Type 0} (xs : List A) (k : ℕ) → k < length xs → (x : A) × (slice_get xs k ≡ Some x)
-place_at [] k within = absurd (omega (arith, within))
-place_at (x ∷ xs) zero within = (x, refl)
-place_at (x ∷ xs) (suc k) within = place_at xs k (omega (arith, within))
 
 -- what is left of a vector that was lent whole
 pub restored : {X : Type 0} (n : ℕ) (xs new : List X) → length new ≡ length xs → n ≡ length xs → take n (new ++ drop (length new) xs) ≡ new

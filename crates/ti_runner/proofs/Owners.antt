@@ -5,7 +5,7 @@ use Rattle.std.specs.List.{All}
 use Rattle.std.proofs.Math.ListN.{get_or}
 use Rattle.std.proofs.Math.Seq.{get_or-append_seam, map-set_same}
 use Rattle.std.proofs.lemmas.List.{length-append, length-map, map-append, get_or-map}
-use Rattle.std.proofs.lemmas.List.Elements.{All-append, All-cons, All-nil, All-head, All-tail, All-set}
+use Rattle.std.proofs.lemmas.List.Elements.{All-append, All-cons, All-nil, All-tail, All-set}
 use Rattle.std.proofs.lemmas.Option.{slice_get_within, get_or_from_slice_get}
 use Rattle.std.specs.PromisedHandle.{KeepsEach}
 use Rattle.std.specs.declared.thread.PromisedHandle.{PromisedHandle}
@@ -43,9 +43,6 @@ back_at cells walked k d w back within = record {
     short : k < length walked
     short = omega (arith, within, length-map walked (λ (z : Walked). z.seat.cell), ap length back.here)
 
-pub back_within : (cells : List TableId) (walked : List Walked) → AreBack cells walked → length walked ≡ length cells
-back_within cells walked back = sym (length-map walked (λ (z : Walked). z.seat.cell)) ∙ ap length back.here
-
 -- another seat in its place
 pub back_set : (cells : List TableId) (walked : List Walked) (k : ℕ) (d : TableId) (w : Walked) → AreBack cells walked → k < length cells → IsBack (slice_index_or cells k d) w.seat
     → AreBack cells (slice_set walked k w)
@@ -56,13 +53,6 @@ back_set cells walked k d w back within new = record {
   where
     same : w.seat.cell ≡ (slice_index_or walked k w).seat.cell
     same = new.here ∙ sym (back_at cells walked k d w back within).here
-
--- the first cell, and its seat
-pub back_first : (cells : List TableId) (walked : List Walked) (c : TableId) (w : Walked) → AreBack (c ∷ cells) (w ∷ walked) → IsBack c w.seat
-back_first cells walked c w back = record {
-  here = cc back.here;
-  owner = All-head (λ (z : Walked). z.seat.view.number ≡ 0) w walked back.owners;
-}
 
 pub back_rest : (cells : List TableId) (walked : List Walked) (c : TableId) (w : Walked) → AreBack (c ∷ cells) (w ∷ walked) → AreBack cells walked
 back_rest cells walked c w back = record {

@@ -30,13 +30,3 @@ pairs_set P Q (p ∷ xs) ys (suc i) x old keep new zero a b ga gb = keep 0 a b (
 pairs_set P Q (p ∷ xs) [] (suc i) x old keep new (suc k) a b ga gb = cc
 pairs_set P Q (p ∷ xs) (q ∷ ys) (suc i) x old keep new (suc k) a b ga gb =
     pairs_set (λ j. P (suc j)) (λ j. Q (suc j)) xs ys i x (λ j. old (suc j)) (λ j c d differ. keep (suc j) c d (λ e. differ (omega (arith, e)))) new k a b ga gb
-
--- one more of the first
-pub pairs_grow : {A B : Type 0} (P : ℕ → A → B → Type 0) (xs : List A) (ys : List B) (x : A)
-    → ((k : ℕ) (a : A) (b : B) → slice_get xs k ≡ Some a → slice_get ys k ≡ Some b → P k a b) → ((b : B) → slice_get ys (length xs) ≡ Some b → P (length xs) x b)
-    → (k : ℕ) (a : A) (b : B) → slice_get (xs ++ x ∷ []) k ≡ Some a → slice_get ys k ≡ Some b → P k a b
-pairs_grow P [] ys x old new zero a b ga gb = let e : x ≡ a = cc ga in subst (λ z. P 0 z b) e (new b gb)
-pairs_grow P [] ys x old new (suc k) a b ga gb = cc
-pairs_grow P (p ∷ xs) [] x old new k a b ga gb = cc
-pairs_grow P (p ∷ xs) (q ∷ ys) x old new zero a b ga gb = old 0 a b ga gb
-pairs_grow P (p ∷ xs) (q ∷ ys) x old new (suc k) a b ga gb = pairs_grow (λ i. P (suc i)) xs ys x (λ i. old (suc i)) new k a b ga gb

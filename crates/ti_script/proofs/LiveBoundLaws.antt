@@ -1,7 +1,6 @@
 -- Lengths that the lines of a live run do not exceed.
-use Rattle.std.proofs.Common.{◌≡◌, ℕ, ◌+◌, ◌*◌, ◌<◌, ◌≤◌, List, [], ◌∷◌, ◌++◌, length, take, get_or, arith, codes, decimal, Option, None, Some, length-append, ap, ◌∙◌}
+use Rattle.std.proofs.Common.{◌≡◌, ℕ, ◌+◌, ◌*◌, ◌≤◌, List, [], ◌∷◌, ◌++◌, length, arith, codes, decimal, Option, None, Some, length-append, ap, ◌∙◌}
 use Rattle.std.specs.Prelude.{IfSome}
-use Rattle.std.proofs.lemmas.Grind.{take_at_read}
 use Rattle.std.proofs.lemmas.List.Sums.{sum_by-append}
 use Rattle.ti_live.specs.declared.reply.Reply.{Reply}
 use Rattle.ti_live.specs.declared.reply.Reply.TheVariants.{Plain, Codes, Stacks}
@@ -68,11 +67,6 @@ verdicts_within name most is thread None t = omega (arith, is, t, length-append 
 verdicts_within name most is thread (Some at) t =
     let number = number_within 10 at in
     omega (arith, is, t, number, length-append thread (codes " illegal " ++ (decimal at ++ codes "\n")), length-append (decimal at) (codes "\n"))
-
--- one more stack
-pub listed_take : (infos : List StackInfo) (i : ℕ) (d : StackInfo) → i < length infos → frames_listed (take (i + 1) infos) ≡ frames_listed (take i infos) + length (get_or infos i d).frames.frames
-listed_take infos i d h =
-    ap frames_listed (take_at_read infos i d h).1 ∙ (sum_by-append (λ (x : StackInfo). length x.frames.frames) (take i infos) (get_or infos i d ∷ []) ∙ grind arith)
 
 -- what is known of a number that is there
 pub some_is : {X : Type 0} (r : Option X) {P Q : X → Type 0} → IfSome r P → ((x : X) → P x → Q x) → IfSome r Q

@@ -1,23 +1,15 @@
 -- The room that texts take.
-use Rattle.std.proofs.Common.{◌≡◌, ℕ, zero, suc, ◌+◌, ◌/◌, ◌%◌, ◌^◌, ◌≤◌, ◌<◌, List, [], ◌∷◌, ◌++◌, length, drop, false, cond, refl, sym, ap, ◌∙◌, arith, decimal, inl, inr, ◌⊎◌, append_assoc, length-append}
+use Rattle.std.proofs.Common.{◌≡◌, ℕ, zero, suc, ◌+◌, ◌/◌, ◌%◌, ◌^◌, ◌≤◌, ◌<◌, List, [], ◌∷◌, ◌++◌, length, false, cond, refl, sym, ap, ◌∙◌, arith, decimal, inl, inr, ◌⊎◌, append_assoc, length-append}
 use Rattle.std.specs.Fmt.{digits, digits_onto, digit_glyph}
 use Rattle.std.proofs.lemmas.Fmt.{hex_one_digit, decimal_digit}
 use Rattle.std.proofs.lemmas.Bool.{cases_order, lt-ltb}
 use mathlib.Core.Logic.{⊎_elim}
 use borrow.Author.Tests.{eq-eqb, ne_eqb}
-use Rattle.ti_types.specs.declared.place.Frame.{Frame}
-use Rattle.ti_script.specs.Texts.{frames_text}
 
 pub length_of_both : (xs ys : List ℕ) → length (xs ++ ys) ≡ length xs + length ys
 length_of_both xs ys = length-append xs ys
 
 pub ruleset lengths = (length_of_both)
-
--- frames that are left have a text
-pub frames_left : (methods : List (List ℕ)) (i : ℕ) (frames : List Frame) → i < length frames → 0 < length (frames_text methods (drop i frames))
-frames_left methods i [] h = absurd (omega arith)
-frames_left methods zero (frame ∷ frames) h = omega arith
-frames_left methods (suc i) (frame ∷ frames) h = frames_left methods i frames (omega arith)
 
 -- ---- hexadecimal digits, from the last one on
 

@@ -20,12 +20,11 @@ use Rattle.ti_types.specs.Frames as buffer
 use Rattle.ti_types.specs.Answer.{said}
 use Rattle.ti_frames.specs.Frames.{Stack}
 use Rattle.ti_ops.specs.Ops.{Ops, with_posted, with_statuses}
-use Rattle.ti_ops.specs.Statuses.{statuses_by, open_by, is_open}
 use Rattle.ti_ops.specs.declared.status.CallStatus.{CallStatus}
 use Rattle.ti_ops.specs.declared.pending.Pending.{Pending}
 use Rattle.ti_replay.specs.Answers.{is_running, answer_of, stack_of}
 use Rattle.ti_replay.specs.Settling.{waits}
-use Rattle.ti_replay.specs.Legal.{is_legal, is_stopper, is_well_formed, is_not_negative, calls_spent, asked_by, ask_count, call_cost}
+use Rattle.ti_replay.specs.Legal.{is_stopper, is_well_formed, is_not_negative, calls_spent, asked_by, ask_count, call_cost}
 use Rattle.ti_replay.specs.View.{view, called}
 use Rattle.ti_replay.specs.Replies.{reply}
 use Rattle.ti_replay.specs.Costs.{charged}

@@ -8,7 +8,6 @@ use Rattle.ti_types.specs.declared.limits.Limits.{Limits}
 use Rattle.ti_types.specs.declared.numbers.EnvNo.{EnvNo}
 use Rattle.ti_types.specs.declared.numbers.ThreadNo.{ThreadNo}
 use Rattle.ti_types.specs.declared.event.Ticket.{Ticket}
-use Rattle.ti_types.specs.declared.call.Call.{Call}
 use Rattle.ti_types.specs.declared.answer.Answer.{Answer}
 use Rattle.ti_types.specs.declared.entry.Entry.{Entry}
 use Rattle.ti_types.specs.declared.entry.Entry.TheVariants.{Start, Own, Hand, Back, End, Asked, Stop, Read, Go}
@@ -16,7 +15,7 @@ use Rattle.ti_types.specs.declared.view.ThreadView.{ThreadView}
 use Rattle.ti_ops.specs.declared.status.CallStatus.{CallStatus}
 use Rattle.ti_ops.specs.declared.status.CallStatus.TheVariants.{Waiting, Answered, Gone}
 use Rattle.ti_ops.specs.declared.pending.Pending.{Pending}
-use Rattle.ti_ops.specs.Statuses.{statuses_by, status_of, open_by, with_call, with_status, answer_by, is_open}
+use Rattle.ti_ops.specs.Statuses.{status_of, open_by, with_status, answer_by, is_open}
 use Rattle.ti_ops.proofs.StepLaws.{open-with_status}
 use Rattle.ti_replay.specs.Settling.{is_hand_over}
 use Rattle.ti_replay.specs.View.{view, after, called}
@@ -26,9 +25,9 @@ use Rattle.ti_replay.specs.Tickets.{is_call_of, reply_in, reply_to}
 use Rattle.ti_replay.proofs.TicketReplies.{reply_to-snoc, settling}
 use Rattle.ti_slot.specs.Waiting.{answers_of, entries_of, delivered}
 use Rattle.ti_slot.specs.Tickets.{same, has, held_by, without_ticket, asked_in, open_in, is_at, AreAwaited, AreApart, AreOnce, Tells}
-use Rattle.ti_slot.proofs.CallStatusLaws.{saying_for, status_or, status-passed, status-with_call, status-with_status, length-with_status, same_status, said_waits, status-delivered, open-delivered, length-delivered, within, envs-delivered}
-use Rattle.ti_slot.proofs.TicketLaws.{asked_in-snoc, asked_stay, open-append, open_same, open_less, has-open}
-use Rattle.ti_slot.proofs.TellLaws.{held-cons, asked-snoc, still, hand_free, no_asking, no_ticket, awaited_on, asked_before, is_next, not_next}
+use Rattle.ti_slot.proofs.CallStatusLaws.{saying_for, status_or, status-with_status, length-with_status, same_status, said_waits, status-delivered, open-delivered, length-delivered, within, envs-delivered}
+use Rattle.ti_slot.proofs.TicketLaws.{asked_stay, open_same, open_less, has-open}
+use Rattle.ti_slot.proofs.TellLaws.{held-cons, asked-snoc, still, hand_free, no_asking, no_ticket, awaited_on, asked_before}
 
 hand_no_call : (t : Ticket) (x : Entry) → is_hand_over x ≡ true → is_call_of t x ≡ false
 hand_no_call t Start h = cc

@@ -17,7 +17,7 @@ use Rattle.ti_types.specs.declared.view.ThreadView.{ThreadView}
 use Rattle.ti_ops.specs.declared.status.CallStatus.{CallStatus}
 use Rattle.ti_ops.specs.declared.status.CallStatus.TheVariants.{Waiting, Gone}
 use Rattle.ti_ops.specs.declared.pending.Pending.{Pending}
-use Rattle.ti_ops.specs.Statuses.{statuses_by, status_of, open_by, with_call, answer_by, is_open}
+use Rattle.ti_ops.specs.Statuses.{statuses_by, status_of, with_call, answer_by, is_open}
 use Rattle.ti_ops.proofs.StepLaws.{open-with_call}
 use Rattle.ti_replay.specs.Settling.{is_hand_over}
 use Rattle.ti_replay.specs.View.{view}

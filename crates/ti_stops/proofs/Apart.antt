@@ -51,9 +51,6 @@ is_not : (b : Bool) → not b ≡ true → b ≡ false
 is_not true h = cc h
 is_not false h = refl
 
-first_false : (a b : Bool) → a ≡ false → (cond a b false) ≡ false
-first_false a b h = ap (λ d. cond d b false) h
-
 no_mode : (e f : EnvNo) (k : StopKind) (t : Option ThreadNo) → nat_eq f.0 e.0 ≡ false → (m : Mode) → is_mode_of e m ≡ true → is_mode f k t m ≡ false
 no_mode e f k t h m own = let n : nat_eq m.env.0 f.0 ≡ false = not_both m.env.0 f.0 e.0 h own in grind (arith, n)
 

@@ -1,12 +1,11 @@
 -- For callers: what a round at the threads of a list tells of one desk, and what is left to it.
-use Rattle.std.proofs.Common.{◌≡◌, ℕ, zero, suc, ◌+◌, ◌<◌, ◌≤◌, true, false, List, [], ◌∷◌, ◌++◌, length, refl, ◌∙◌, arith, subst, Some, Bool, length-set}
+use Rattle.std.proofs.Common.{◌≡◌, ℕ, zero, suc, ◌+◌, ◌<◌, true, false, List, [], ◌∷◌, ◌++◌, length, refl, ◌∙◌, arith, subst, Some, Bool}
 use Rattle.std.specs.Prelude.{slice_get, slice_index, slice_index_or, slice_set}
 use Rattle.std.proofs.lemmas.List.Sums.{sum_by-append}
 use Rattle.ti_types.specs.declared.entry.Entry.{Entry}
 use Rattle.ti_types.specs.declared.numbers.EnvNo.{EnvNo}
 use Rattle.ti_types.specs.declared.numbers.ThreadNo.{ThreadNo}
-use Rattle.ti_env.specs.Env.{EnvValue, left_at, spent_at, with_spent}
-use Rattle.ti_env.proofs.LeftLaws.{left_is}
+use Rattle.ti_env.specs.Env.{EnvValue, spent_at, with_spent}
 use Rattle.ti_replay.specs.Legal.{calls_spent, call_cost}
 use Rattle.ti_handshake.specs.Desk.{DeskState}
 use Rattle.ti_vmop.specs.Turns.{Listed, is_listed, AtEach, AtDesk, HasAdded}
@@ -39,11 +38,3 @@ spent_then s t h = set_same s.spent t.0 (spent_at s t + 1) h
 
 pub more_spent : (env : EnvNo) (mine : List Entry) (x : Entry) → call_cost env x ≡ 1 → calls_spent env (mine ++ x ∷ []) ≡ calls_spent env mine + 1
 more_spent env mine x one = sum_by-append (call_cost env) mine (x ∷ []) ∙ omega (arith, one)
-
--- the environment goes on having as many calls left as its desk has
-pub paid_then : (s : EnvValue) (t : ThreadNo) (env : EnvNo) (mine : List Entry) (x : Entry) (calls : ℕ) → t.0 < length s.spent → 0 < left_at s t → call_cost env x ≡ 1 → left_at s t + calls_spent env mine ≤ calls
-    → left_at (with_spent s t) t + calls_spent env (mine ++ x ∷ []) ≤ calls
-paid_then s t env mine x calls there left one paid =
-    let was = left_is s t there in
-    let is = left_is (with_spent s t) t (omega (arith, there, length-set s.spent t.0 (spent_at s t + 1))) in
-    omega (arith, was, is, spent_then s t there, more_spent env mine x one, left, paid)

@@ -63,11 +63,6 @@ is_other : (methods : List MethodNo) (f : Folded) → f.methods.items ≢ method
 is_other methods f n = part_other methods f (same_methods f.methods.items methods) (methods_differ f.methods.items methods n)
 
 -- one that was seen before
-pub given_again : (stacks : List Folded) (i : ℕ) (f d : Folded) (ms : List MethodNo) → i < length stacks → (get_or stacks i d).methods.items ≡ ms → f.methods.items ≡ ms → f.count ≡ (get_or stacks i d).count + 1
-    → seen ms (set stacks i f) ≡ seen ms stacks + 1
-given_again stacks i f d ms h old new more =
-    omega (arith, sum_by-set (λ (x : Folded). part ms x) stacks i f d h, is_given ms f new, is_given ms (get_or stacks i d) old, more)
-
 pub others_again : (stacks : List Folded) (i : ℕ) (f d : Folded) (ms ns : List MethodNo) → i < length stacks → (get_or stacks i d).methods.items ≡ ms → f.methods.items ≡ ms → ns ≢ ms → seen ns (set stacks i f) ≡ seen ns stacks
 others_again stacks i f d ms ns h old new n =
     omega (arith, sum_by-set (λ (x : Folded). part ns x) stacks i f d h, is_other ns f (λ e. n (sym e ∙ new)), is_other ns (get_or stacks i d) (λ e. n (sym e ∙ old)))
@@ -84,12 +79,6 @@ pub others_first : (stacks : List Folded) (f : Folded) (ms ns : List MethodNo) �
 others_first stacks f ms ns new n = sum_by-append (λ (x : Folded). part ns x) stacks (f ∷ []) ∙ omega (arith, is_other ns f (λ e. n (sym e ∙ new)))
 
 -- No stack is there twice
-
-pub distinct_none : AreDistinct []
-distinct_none i j m a b = absurd (nothing i m a)
-  where
-    nothing : (i : ℕ) (m : List MethodNo) → slice_get [] i ≡ Some m → ⊥
-    nothing i m e = cc
 
 -- what is at a place of a list with one more
 at_end : (l : List (List MethodNo)) (x y : List MethodNo) (i : ℕ) → slice_get (l ++ x ∷ []) i ≡ Some y → (slice_get l i ≡ Some y) ⊎ ((i ≡ length l) × (x ≡ y))

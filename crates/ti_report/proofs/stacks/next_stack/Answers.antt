@@ -8,7 +8,6 @@ use Rattle.ti_report.specs.Accounts.{told_with, kept, said_infos}
 use Rattle.ti_types.specs.declared.answer.Answer.TheVariants.{Done}
 use Rattle.ti_report.proofs.CheckLaws.{read_told, no_stack, undone_stack}
 use Rattle.ti_report.proofs.stacks.next_stack.Goals as goal
-use Rattle.ti_report.proofs.stacks.next_stack.Goals.{In-Some, In-None}
 
 pub returns-in-Some-clause-some : goal.returns-in-Some-clause-some
 returns-in-Some-clause-some c =

@@ -7,7 +7,6 @@ use Rattle.atomic_table.specs.Seated.{TableId}
 use Rattle.ti_cell.specs.View.{subject_of}
 use Rattle.ti_handshake.specs.Desk.{DeskState}
 use Rattle.ti_handshake.specs.NewDesks.{new_desks}
-use Rattle.ti_agent.specs.Env.{cells_at}
 use Rattle.ti_runner.proofs.NewDesks.{AreHalf, half_here, half_more, half_all, mapped_get}
 use Rattle.ti_runner.proofs.cells.environment.Goals as goal
 

@@ -1,9 +1,7 @@
 use Rattle.std.proofs.Common.{◌≡◌, ℕ, suc, ◌+◌, List, [], ◌∷◌, ◌++◌, Option, arith, sym, ap, ◌∙◌, subst}
 use Rattle.atomic_table.specs.Table.{Me}
 use Rattle.ti_types.specs.declared.entry.Entry.{Entry}
-use Rattle.ti_replay.specs.Legal.{calls_spent}
-use Rattle.ti_replay.specs.Makers.{Adds}
-use Rattle.ti_slot.specs.Thread.{Thread, IsAsked, next_asked}
+use Rattle.ti_slot.specs.Thread.{Thread, next_asked}
 use Rattle.ti_slot.specs.declared.asked.Asked.TheVariants.{Answered}
 use Rattle.ti_cell.specs.declared.view.View.{View}
 use Rattle.ti_cell.specs.View.{holding, stored}

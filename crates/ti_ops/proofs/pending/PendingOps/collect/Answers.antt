@@ -5,8 +5,6 @@ use Rattle.std.proofs.lemmas.List.{get_or_read}
 use Rattle.ti_ops.specs.declared.status.CallStatus.TheVariants as status
 use Rattle.ti_ops.specs.declared.outbox_entry.OutboxEntry.{OutboxEntry}
 use Rattle.ti_ops.specs.declared.outbox_entry.Count.{Count}
-use Rattle.ti_ops.specs.declared.outbox_entry.Stage.{Stage}
-use Rattle.ti_ops.specs.declared.outbox_entry.Stage.TheVariants.{Posted, Taken, Answered}
 use Rattle.ti_ops.specs.Statuses.{is_at, status_of, answer_by, is_open, with_status}
 use Rattle.ti_ops.specs.Ops.{Ops, with_statuses}
 use Rattle.ti_ops.specs.OutboxEntry.{status_in, has_answer, count_of, lists_of, pending_in, ops_in, IsKept}

@@ -4,7 +4,6 @@ use Rattle.std.proofs.lemmas.Bool.Decides.{nat_tests}
 use Rattle.std.proofs.lemmas.List.{get_or_past}
 use Rattle.ti_ops.specs.declared.status.CallStatus.{CallStatus}
 use Rattle.ti_ops.specs.Statuses.{open_by, is_open}
-use Rattle.ti_slot.specs.Thread.{Thread}
 use Rattle.ti_slot.proofs.WholeLaws.{lists_here, held_here}
 use Rattle.ti_slot.proofs.slot.Slot.out.Goals as goal
 

@@ -1,0 +1,84 @@
+-- How a stack that a thread told is named, and what a reading counts.
+use Rattle.std.specs.Prelude.{ℕ, ◌≡◌, ◌+◌, ◌⊎◌, ◌&&◌, Bool, true, false, not, nat_lt, List, ◌∷◌, Some, drop, is_some, length, slice_get}
+use Rattle.std.specs.List.{AllZip}
+use mathlib.Core.List.{IsPrefix}
+use Rattle.ti_types.specs.declared.place.Frame.{Frame as FrameOf}
+use Rattle.ti_types.specs.declared.place.Place.{Place}
+use Rattle.ti_http.specs.declared.target.Labels.{Labels}
+use Rattle.ti_http.specs.declared.target.Labels.TheVariants.{ThreadAndState}
+use Rattle.ti_pprof.specs.declared.stacks.Frame.{Frame}
+use Rattle.ti_monitor.specs.declared.lines.Known.{Known}
+use Rattle.ti_monitor.specs.declared.methods.Methods.{Methods}
+use Rattle.ti_monitor.specs.declared.reading.Order.{Order}
+use Rattle.ti_monitor.specs.declared.reading.Order.TheVariants.{Once, Over}
+use Rattle.ti_monitor.specs.declared.running.Running.{Running}
+use Rattle.ti_monitor.specs.declared.watched.Watched.{Watched}
+use Rattle.ti_monitor.specs.Accounts.{Answers, Loses, LosesUpTo, owed_at}
+use Rattle.ti_monitor.specs.Counting.{frame}
+use Rattle.ti_monitor.specs.Lines.{line_at}
+use Rattle.ti_monitor.specs.Watching.{label_at}
+
+-- what is known of methods has grown: each keeps its place, and lines that are known stay
+pub record KnowsMore (m n : Methods) : Type 0 where
+  pub numbers : IsPrefix m.numbers.keys n.numbers.keys
+  pub lines : (place : ℕ) (known : Known) → slice_get m.lines.items place ≡ Some (Some known) → slice_get n.lines.items place ≡ Some (Some known)
+
+-- a line by the lines that are known of the method at a place, or 0
+abbrev pub IsLine : Methods → ℕ → Place → ℕ → Type 0
+IsLine m place where_at line = (line ≡ 0) ⊎ ((known : Known) × (slice_get m.lines.items place ≡ Some (Some known)) × (line ≡ line_at known.lines where_at))
+
+-- a frame is counted as its method's, whose function is behind the three that are no method's; or, if there is no room, as that of no function
+abbrev pub IsNamed : Methods → FrameOf → Frame → Type 0
+IsNamed m f g =
+    (g ≡ frame 4294967295 0)
+    ⊎ ((place : ℕ) × (slice_get m.numbers.keys place ≡ Some f.method.0) × (g.function ≡ place + 3) × IsLine m place f.place g.line)
+
+-- these frames, each named, with `(late)` in front of them
+abbrev pub AreNamed : Methods → List FrameOf → List Frame → Type 0
+AreNamed m fs gs = (named : List Frame) × (gs ≡ frame 2 0 ∷ named) × AllZip (IsNamed m) fs named
+
+-- the labels that the samples of a reading have
+abbrev pub labels_in : Order → Labels
+labels_in Once = ThreadAndState
+labels_in (Over seconds rate labels) = labels
+
+-- all of a reading but its account is as it was
+pub record IsStillRunning (r s : Running) : Type 0 where
+  pub no : s.no ≡ r.no
+  pub order : s.order ≡ r.order
+  pub began : s.began ≡ r.began
+  pub unix : s.unix ≡ r.unix
+  pub over : s.over ≡ r.over
+  pub ended : s.ended ≡ r.ended
+  pub schedule : s.schedule ≡ r.schedule
+
+-- a reading that goes on counts this stack as that of the thread at a place, as often as it is owed there. One that has ended stays
+abbrev pub CountsStack : ℕ → List Frame → List Watched → Running → Running → Type 0
+CountsStack place frames watched r s =
+    (is_some r.ended ≡ true → s ≡ r)
+    × (is_some r.ended ≡ false
+    → IsStillRunning r s × Answers r.account s.account place (drop 1 frames) frames (label_at watched (labels_in r.order) place))
+
+-- or it counts what is owed there under a function that is no method's
+abbrev pub CountsLost : ℕ → ℕ → List Watched → Running → Running → Type 0
+CountsLost place function watched r s =
+    (is_some r.ended ≡ true → s ≡ r)
+    × (is_some r.ended ≡ false
+    → IsStillRunning r s × Loses r.account s.account place (frame function 0) (label_at watched (labels_in r.order) place))
+
+-- a reading goes on, and is owed a stack of the thread at a place
+abbrev pub waits_for : ℕ → Running → Bool
+waits_for place r = not (is_some r.ended) && nat_lt 0 (owed_at r.account place)
+
+-- a tick counts no stack: one more may be owed
+abbrev pub CountsNothing : Running → Running → Type 0
+CountsNothing r s = s.account.counts ≡ r.account.counts
+
+-- a reading that goes on ends, and all that is owed counts as not answered, each under its thread's label
+abbrev pub CountsRest : List Watched → Running → Running → Type 0
+CountsRest watched r s =
+    (is_some r.ended ≡ true → s ≡ r)
+    × (is_some r.ended ≡ false → LosesUpTo r.account s.account (length r.account.owed.items) (frame 1 0) (label_at watched (labels_in r.order)))
+
+abbrev pub MayEnd : List Watched → Running → Running → Type 0
+MayEnd watched r s = (s ≡ r) ⊎ CountsRest watched r s
