@@ -16,13 +16,13 @@ abbrev pub books : List Running → ℕ → Metrics → List (ℕ × ℕ) → Bo
 books readings begun metrics rows = record { readings = readings; begun = begun; metrics = metrics; rows = rows }
 
 -- one was begun, or could not be
-pub books_begun : (m m' : Monitor) (rows : List (ℕ × ℕ)) (request : Request) (number : ReadingNo) (order : Order) → order ≡ order_of request.target
-    → Begins m.readings.running.items m'.readings.running.items number order → number.0 ≡ m.begun → m'.begun ≡ number.0 + 1 → m'.metrics ≡ begun_in order m.metrics
+pub books_begun : (m m' : Monitor) (rows : List (ℕ × ℕ)) (request : Request) (number : ReadingNo) (order : Order) (now unix : ℕ) → order ≡ order_of request.target
+    → Begins m.readings.running.items m'.readings.running.items number order now unix → number.0 ≡ m.begun → m'.begun ≡ number.0 + 1 → m'.metrics ≡ begun_in order m.metrics
     → Starts request (books_with m rows) (due.Reading request number) (books_with m' rows)
-books_begun m m' rows request number order is begins counts more metrics =
+books_begun m m' rows request number order now unix is begins counts more metrics =
     let items = m'.readings.running.items in (
       refl,
-      subst (λ (o : Order). Begins m.readings.running.items items number o) is begins,
+      (now, unix, subst (λ (o : Order). Begins m.readings.running.items items number o now unix) is begins),
       counts,
       ap (λ n. books items n m'.metrics rows) (more ∙ ap (λ n. n + 1) counts)
           ∙ ap (λ (x : Metrics). books items (m.begun + 1) x rows) (metrics ∙ ap (λ (o : Order). begun_in o m.metrics) is),

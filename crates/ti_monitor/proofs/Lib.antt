@@ -6,6 +6,7 @@ pub mod RunLaws
 pub mod LineLaws
 pub mod ReadingLaws
 pub mod AccountLaws
+pub mod DeadlineLaws
 pub mod BucketLaws
 pub mod GroupLaws
 pub mod JsonLaws

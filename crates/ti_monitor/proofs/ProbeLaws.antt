@@ -1,13 +1,20 @@
 -- Threads that are probed, one after the other.
-use Rattle.std.proofs.Common.{◌≡◌, ℕ, zero, suc, false, inl, inr, List, [], ◌∷◌, refl, ap, sym, ◌∙◌, subst, Some, None, Result, Ok, Err}
+use Rattle.std.proofs.Common.{◌≡◌, ◌⊎◌, ℕ, zero, suc, Bool, true, false, if◌then◌else◌, inl, inr, List, [], ◌∷◌, refl, ap, sym, ◌∙◌, subst, Option, Some, None, Result, Ok, Err}
 use Rattle.std.specs.Prelude.{slice_get, slice_set, OnOk, OnErr}
+use Rattle.ti_types.specs.declared.answer.Answer.{Answer}
+use Rattle.ti_types.specs.declared.call.Call.{Call}
 use Rattle.ti_types.specs.declared.error.TiError.{TiError}
-use Rattle.ti_types.specs.Frames.{Trace}
+use Rattle.ti_types.specs.declared.error.TiError.TheVariants.{Busy, OutOfMemory, ThreadNotAlive}
+use Rattle.ti_types.specs.declared.numbers.ThreadNo.{ThreadNo}
+use Rattle.ti_types.specs.Answer.{said}
+use Rattle.ti_types.specs.Refusing.{or_else}
+use Rattle.ti_slot.specs.declared.asked.Asked.TheVariants.{Answered}
+use Rattle.ti_agent.specs.Posts.{posting_refusal}
 use Rattle.ti_service.specs.Memberships.{AgentValue}
 use Rattle.ti_monitor.specs.declared.asking.Told.{Told}
 use Rattle.ti_monitor.specs.declared.asking.Told.TheVariants.{Stack, Ended, Unanswered, NotYet}
 use Rattle.ti_monitor.specs.declared.watched.Watched.{Watched}
-use Rattle.ti_monitor.specs.Asking.{IfStack, MayProbe, Probes, ProbesFirst, ProbesNot}
+use Rattle.ti_monitor.specs.Asking.{Asks, EndsAtOnce, IsNotAlive, IsRefusedBy, IsToldBy, MayProbe, Probes, ProbesFirst, ProbesNot, TellsAtOnce, newest}
 
 -- one more thread
 pub probes_more : (n : ℕ) (a b c : AgentValue) (ws vs : List Watched) (w v : Watched) → ProbesFirst n a b ws vs → slice_get vs n ≡ Some w → MayProbe b c w v → ProbesFirst (suc n) a c ws (slice_set vs n v)
@@ -35,9 +42,37 @@ pub probed : (a b : AgentValue) (w v : Watched) (r : Result (Unit {0}) TiError) 
 probed a b w v (Ok u) here told kept = inr (here, inl told)
 probed a b w v (Err e) here told kept = inr (here, inr kept)
 
--- what is told of a stack is told of no less
-pub if_stack : {P Q : Trace → Type 0} → (t : Told) → ((trace : Trace) → P trace → Q trace) → IfStack t P → IfStack t Q
-if_stack (Stack trace) more p = more trace p
-if_stack Ended more p = tt
-if_stack Unanswered more p = tt
-if_stack NotYet more p = tt
+-- a call was refused since the thread is not alive
+pub refused_not_alive : (a b : AgentValue) (t : ThreadNo) (c : Call) (takes : Bool) (e : TiError)
+    → ((Some e ≡ or_else (posting_refusal a.env t c) (if takes then Some OutOfMemory else None)) ⊎ ((e ≡ Busy) × (posting_refusal a.env t c ≡ None))) → b ≡ a
+    → e ≡ ThreadNotAlive → IsNotAlive a b t c
+refused_not_alive a b t c takes e (inl is) same dead = inr (refusal (posting_refusal a.env t c) takes is, same)
+  where
+    by_memory : Some e ≡ Some OutOfMemory → e ≡ ThreadNotAlive → ⊥
+    by_memory x y = cc
+
+    by_nothing : Some e ≡ None → ⊥
+    by_nothing x = cc
+
+    refusal : (r : Option TiError) (mem : Bool) → Some e ≡ or_else r (if mem then Some OutOfMemory else None) → r ≡ Some ThreadNotAlive
+    refusal (Some x) mem at = sym at ∙ ap (λ (y : TiError). Some y) dead
+    refusal None true at = absurd (by_memory at dead)
+    refusal None false at = absurd (by_nothing at)
+refused_not_alive a b t c takes e (inr busy) same dead = absurd (never busy.0 dead)
+  where
+    never : e ≡ Busy → e ≡ ThreadNotAlive → ⊥
+    never x y = cc
+
+-- a thread that could not be asked
+pub refused_at_once : (a b : AgentValue) (w v : Watched) (e : TiError) (t : Told) → IsRefusedBy e t → (e ≡ ThreadNotAlive → EndsAtOnce a b w v) → TellsAtOnce a b w v t
+refused_at_once a b w v e (Stack trace) is ends = absurd is
+refused_at_once a b w v e Ended is ends = ends is
+refused_at_once a b w v e Unanswered is ends = tt
+refused_at_once a b w v e NotYet is ends = tt
+
+-- one that was asked for its stack, and answered
+pub told_at_once : (a m b : AgentValue) (w v : Watched) (said : Answer) (t : Told) → Probes a m w v → Asks m b w.thread newest (Answered said) → IsToldBy said t → TellsAtOnce a b w v t
+told_at_once a m b w v said (Stack trace) probes asks is = (m, probes, inr (subst (λ (x : Answer). Asks m b w.thread newest (Answered x)) is asks))
+told_at_once a m b w v said Ended probes asks is = inr (inr (m, probes, inr (inl (subst (λ (x : Answer). Asks m b w.thread newest (Answered x)) is asks))))
+told_at_once a m b w v said Unanswered probes asks is = tt
+told_at_once a m b w v said NotYet probes asks is = tt

@@ -11,7 +11,6 @@ use Rattle.std.proofs.Math.Seq.{take-suc}
 use Rattle.std.proofs.lemmas.List.{take-append-le, take_all}
 use Rattle.ti_methods.proofs.Lists.{prefix_get, prefix_self, prefix_trans}
 use Rattle.ti_types.specs.declared.place.Frame.{Frame as FrameOf}
-use Rattle.ti_types.specs.Frames.{Trace}
 use Rattle.ti_service.specs.Memberships.{AgentValue}
 use Rattle.ti_pprof.specs.declared.stacks.Frame.{Frame}
 use Rattle.ti_monitor.specs.declared.methods.Methods.{Methods}
@@ -19,8 +18,8 @@ use Rattle.ti_monitor.specs.declared.running.Running.{Running}
 use Rattle.ti_monitor.specs.declared.asking.Told.{Told}
 use Rattle.ti_monitor.specs.declared.sampling.Readings.{Readings}
 use Rattle.ti_monitor.specs.declared.watched.Watched.{Watched}
-use Rattle.ti_monitor.specs.Asking.{IfStack, TellsLater}
-use Rattle.ti_monitor.specs.Counted.{AreNamed, CountsNothing, IsLine, IsNamed, KnowsMore}
+use Rattle.ti_monitor.specs.Asking.{TellsLater}
+use Rattle.ti_monitor.specs.Counted.{AreNamed, IsLine, IsNamed, KnowsMore}
 use Rattle.ti_monitor.specs.Sampling.{AsksAt, AsksUpTo, CollectsUpTo, CountsTold, Sampling, TellsAt, sampling}
 
 -- What is known of methods grows
@@ -139,21 +138,16 @@ pub each_written : (P : Running → Running → Type 0) (i n : ℕ) (rs ss : Lis
 each_written P i n rs ss e over same long =
     subst (AllZip P rs) (sym (written n rs ss same long)) (each_all P i rs ss over e)
 
--- readings at which nothing happened
-pub none_counted : (rs : List Running) → AllZip CountsNothing rs rs
-none_counted [] = tt
-none_counted (r ∷ rs) = (refl, none_counted rs)
-
 -- Threads that tell one after the other
 
-pub tells_at : (Tells : AgentValue → AgentValue → Watched → Watched → Trace → Type 0) (n : ℕ) (s : Sampling) (a : AgentValue) (r : Readings) (b : AgentValue) (w v : Watched) (told : Told)
-    → slice_get s.watched n ≡ Some w → v.thread ≡ w.thread → IfStack told (Tells s.agent b w v) → CountsTold told n (set s.watched n v) s.readings r → KnowsMore s.readings.methods r.methods → a.env ≡ b.env
+pub tells_at : (Tells : AgentValue → AgentValue → Watched → Watched → Told → Type 0) (n : ℕ) (s : Sampling) (a : AgentValue) (r : Readings) (b : AgentValue) (w v : Watched) (told : Told)
+    → slice_get s.watched n ≡ Some w → v.thread ≡ w.thread → Tells s.agent b w v told → CountsTold told n (set s.watched n v) s.readings r → KnowsMore s.readings.methods r.methods → a.env ≡ b.env
     → TellsAt Tells n s (sampling a (set s.watched n v) r)
 tells_at Tells n s a r b w v told there thread tells counts knows env =
     record { old = w; new = v; told = told; agent = b; there = there; thread = thread; tells = tells; watched = refl; counts = counts; knows = knows; env = env }
 
 pub collects_more : (n : ℕ) (old s : Sampling) (a : AgentValue) (r : Readings) (b : AgentValue) (w v : Watched) (told : Told)
-    → CollectsUpTo n old s → slice_get s.watched n ≡ Some w → v.thread ≡ w.thread → IfStack told (TellsLater s.agent b w v) → CountsTold told n (set s.watched n v) s.readings r → KnowsMore s.readings.methods r.methods → a.env ≡ b.env
+    → CollectsUpTo n old s → slice_get s.watched n ≡ Some w → v.thread ≡ w.thread → TellsLater s.agent b w v told → CountsTold told n (set s.watched n v) s.readings r → KnowsMore s.readings.methods r.methods → a.env ≡ b.env
     → CollectsUpTo (n + 1) old (sampling a (set s.watched n v) r)
 collects_more n old s a r b w v told first there thread tells counts knows env =
     let next : suc n ≡ n + 1 = omega arith in

@@ -1,6 +1,7 @@
 -- Accounts of the stacks that are counted and owed.
-use Rattle.std.specs.Prelude.{ℕ, zero, suc, ◌≡◌, ◌+◌, ◌-◌, List, [], ◌∷◌, ◌++◌, get_or, min, slice_set}
+use Rattle.std.specs.Prelude.{ℕ, zero, suc, ◌≡◌, ◌≢◌, ◌≤◌, ◌+◌, ◌-◌, ◌^◌, ◌⊎◌, List, [], ◌∷◌, ◌++◌, get_or, length, min, slice_set}
 use Rattle.ti_pprof.specs.declared.stacks.Frame.{Frame}
+use Rattle.ti_pprof.specs.Samples.{samples_of}
 use Rattle.ti_monitor.specs.declared.account.Account.{Account}
 use Rattle.ti_monitor.specs.declared.label.Label.{Label}
 use Rattle.ti_monitor.specs.Counting.{PutsFrame, PutsStack}
@@ -51,3 +52,30 @@ abbrev pub IsSame : Account → Account → Type 0
 IsSame old new =
     (new.owed.items ≡ old.owed.items) × (new.thread_ticks ≡ old.thread_ticks)
     × (new.counts ≡ old.counts) × (new.at_once ≡ old.at_once) × (new.late ≡ old.late) × (new.unanswered ≡ old.unanswered)
+
+-- nothing was counted, and no place is gone
+pub record IsUncounted (a b : Account) : Type 0 where
+  pub places : length a.owed.items ≤ length b.owed.items
+  pub counts : b.counts ≡ a.counts
+  pub at_once : b.at_once ≡ a.at_once
+  pub late : b.late ≡ a.late
+  pub unanswered : b.unanswered ≡ a.unanswered
+
+-- at each place as many stacks are owed as before
+abbrev pub OwesAsBefore : Account → Account → Type 0
+OwesAsBefore a b = (place : ℕ) → owed_at b place ≡ owed_at a place
+
+-- at one place so many more are
+abbrev pub OwesMore : ℕ → ℕ → Account → Account → Type 0
+OwesMore place n a b = (owed_at b place ≡ owed_at a place + n) × ((other : ℕ) → other ≢ place → owed_at b other ≡ owed_at a other)
+
+-- no more stacks can be owed: there is no memory for a place, or there were 2^62 ticks at threads
+abbrev pub IsExhausted : ℕ → Account → Type 0
+IsExhausted place b = (length b.owed.items ≤ place) ⊎ (b.thread_ticks ≡ 2 ^ 62)
+
+-- nothing was counted, and nothing is owed
+pub record IsEmpty (a : Account) : Type 0 where
+  pub samples : samples_of a.counts.trie a.counts.table ≡ []
+  pub no_room : a.counts.no_room ≡ 0
+  pub owed : a.owed.items ≡ []
+  pub thread_ticks : a.thread_ticks ≡ 0

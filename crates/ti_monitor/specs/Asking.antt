@@ -1,19 +1,23 @@
 -- What threads are asked, and what they told.
 use Rattle.std.specs.Prelude.{ℕ, zero, suc, pos, ◌≡◌, ◌⊎◌, true, false, List, [], ◌∷◌, length, Some, None}
+use Rattle.ti_types.specs.declared.answer.Answer.{Answer}
 use Rattle.ti_types.specs.declared.answer.Answer.TheVariants as answer
 use Rattle.ti_types.specs.declared.call.Call.{Call}
 use Rattle.ti_types.specs.declared.call.Call.TheVariants as call
+use Rattle.ti_types.specs.declared.error.TiError.{TiError}
+use Rattle.ti_types.specs.declared.error.TiError.TheVariants.{ThreadNotAlive}
 use Rattle.ti_types.specs.declared.numbers.ThreadNo.{ThreadNo}
 use Rattle.ti_types.specs.Frames.{Trace, bare_trace}
 use Rattle.ti_slot.specs.declared.asked.Asked.{Asked as AskedOf}
 use Rattle.ti_slot.specs.declared.asked.Asked.TheVariants.{Answered}
-use Rattle.ti_agent.specs.Posts.{LooksFor, Posts}
+use Rattle.ti_agent.specs.Posts.{LooksFor, Posts, posting_refusal}
 use Rattle.ti_service.specs.Memberships.{AgentValue}
 use Rattle.ti_monitor.specs.declared.asking.Told.{Told}
-use Rattle.ti_monitor.specs.declared.asking.Told.TheVariants.{Stack}
+use Rattle.ti_monitor.specs.declared.asking.Told.TheVariants.{Stack, Ended}
 use Rattle.ti_monitor.specs.declared.watched.Out.{Out}
 use Rattle.ti_monitor.specs.declared.watched.Watched.{Watched}
 use Rattle.ti_monitor.specs.States.{is_suspended, place_of}
+use Rattle.ti_monitor.specs.Watching.{is_done}
 
 -- it is the same thread, and has handed over as often as before
 pub record IsStill (w v : Watched) : Type 0 where
@@ -71,18 +75,48 @@ ProbesAll a c ws vs = ProbesFirst (length ws) a c ws vs
 abbrev pub newest : Call
 newest = call.Trace (pos 0) (pos 512)
 
+-- a call at a thread was refused since the thread is not alive: by the thread, or by the agent's environment, which then has no desk there
+abbrev pub IsNotAlive : AgentValue → AgentValue → ThreadNo → Call → Type 0
+IsNotAlive a b thread c =
+    Asks a b thread c (Answered (answer.Refused ThreadNotAlive)) ⊎ ((posting_refusal a.env thread c ≡ Some ThreadNotAlive) × (b ≡ a))
+
 -- the thread told in which state it is, and then its stack. One that has not started has no frames
-abbrev pub TellsAtOnce : AgentValue → AgentValue → Watched → Watched → Trace → Type 0
-TellsAtOnce a b w v trace =
+abbrev pub StackAtOnce : AgentValue → AgentValue → Watched → Watched → Trace → Type 0
+StackAtOnce a b w v trace =
     (m : AgentValue) × Probes a m w v
     × (((v.state ≡ 0) × (trace.frames ≡ []) × (b ≡ m)) ⊎ Asks m b w.thread newest (Answered (answer.Trace trace)))
 
--- the thread told its stack by the answer to the call that was out there
-abbrev pub TellsLater : AgentValue → AgentValue → Watched → Watched → Trace → Type 0
-TellsLater a b w v trace =
-    (out : Out) × (w.out ≡ Some out) × LooksFor a.env b.env out.ticket (Some (answer.Trace (bare_trace trace.frames))) × (b.home ≡ a.home) × IsCollected w v
+-- the agent let go of it, or it was asked and is not alive, or it told that it has ended
+abbrev pub EndsAtOnce : AgentValue → AgentValue → Watched → Watched → Type 0
+EndsAtOnce a b w v =
+    ((w.gone ≡ true) × (b ≡ a) × (v ≡ w))
+    ⊎ (IsNotAlive a b w.thread call.State × (v ≡ w))
+    ⊎ ((m : AgentValue) × Probes a m w v × (((is_done v ≡ true) × (b ≡ m)) ⊎ IsNotAlive m b w.thread newest))
 
--- if a stack is told, then so
-abbrev pub IfStack : Told → (Trace → Type 0) → Type 0
-IfStack (Stack trace) P = P trace
-IfStack _ P = Unit {0}
+-- a stack, or that the thread has ended, was told so
+abbrev pub TellsAtOnce : AgentValue → AgentValue → Watched → Watched → Told → Type 0
+TellsAtOnce a b w v (Stack trace) = StackAtOnce a b w v trace
+TellsAtOnce a b w v Ended = EndsAtOnce a b w v
+TellsAtOnce a b w v _ = Unit {0}
+
+-- the thread gave this answer to the call that was out there
+abbrev pub AnswersLater : AgentValue → AgentValue → Watched → Watched → Answer → Type 0
+AnswersLater a b w v said = (out : Out) × (w.out ≡ Some out) × LooksFor a.env b.env out.ticket (Some said) × (b.home ≡ a.home) × IsCollected w v
+
+-- a stack, or that the thread is not alive, was told so
+abbrev pub TellsLater : AgentValue → AgentValue → Watched → Watched → Told → Type 0
+TellsLater a b w v (Stack trace) = AnswersLater a b w v (answer.Trace (bare_trace trace.frames))
+TellsLater a b w v Ended = AnswersLater a b w v (answer.Refused ThreadNotAlive)
+TellsLater a b w v _ = Unit {0}
+
+-- what an answer to the question for a stack tells
+abbrev pub IsToldBy : Answer → Told → Type 0
+IsToldBy said (Stack trace) = said ≡ answer.Trace trace
+IsToldBy said Ended = said ≡ answer.Refused ThreadNotAlive
+IsToldBy said _ = Unit {0}
+
+-- what a refusal tells
+abbrev pub IsRefusedBy : TiError → Told → Type 0
+IsRefusedBy e (Stack trace) = ⊥
+IsRefusedBy e Ended = e ≡ ThreadNotAlive
+IsRefusedBy e _ = Unit {0}

@@ -1,21 +1,19 @@
 -- How a stack that a thread told is named, and what a reading counts.
-use Rattle.std.specs.Prelude.{ℕ, ◌≡◌, ◌+◌, ◌⊎◌, ◌&&◌, Bool, true, false, not, nat_lt, List, ◌∷◌, Some, drop, is_some, length, slice_get}
+use Rattle.std.specs.Prelude.{ℕ, ◌≡◌, ◌+◌, ◌⊎◌, ◌&&◌, Bool, true, false, not, nat_lt, List, ◌∷◌, Some, drop, is_some, slice_get}
 use Rattle.std.specs.List.{AllZip}
 use mathlib.Core.List.{IsPrefix}
 use Rattle.ti_types.specs.declared.place.Frame.{Frame as FrameOf}
 use Rattle.ti_types.specs.declared.place.Place.{Place}
-use Rattle.ti_http.specs.declared.target.Labels.{Labels}
-use Rattle.ti_http.specs.declared.target.Labels.TheVariants.{ThreadAndState}
 use Rattle.ti_pprof.specs.declared.stacks.Frame.{Frame}
 use Rattle.ti_monitor.specs.declared.lines.Known.{Known}
 use Rattle.ti_monitor.specs.declared.methods.Methods.{Methods}
-use Rattle.ti_monitor.specs.declared.reading.Order.{Order}
-use Rattle.ti_monitor.specs.declared.reading.Order.TheVariants.{Once, Over}
 use Rattle.ti_monitor.specs.declared.running.Running.{Running}
 use Rattle.ti_monitor.specs.declared.watched.Watched.{Watched}
-use Rattle.ti_monitor.specs.Accounts.{Answers, Loses, LosesUpTo, owed_at}
+use Rattle.ti_monitor.specs.Accounts.{Answers, Loses, owed_at}
 use Rattle.ti_monitor.specs.Counting.{frame}
 use Rattle.ti_monitor.specs.Lines.{line_at}
+use Rattle.ti_monitor.specs.Orders.{labels_in}
+use Rattle.ti_monitor.specs.Ticking.{IsReading}
 use Rattle.ti_monitor.specs.Watching.{label_at}
 
 -- what is known of methods has grown: each keeps its place, and lines that are known stay
@@ -37,18 +35,9 @@ IsNamed m f g =
 abbrev pub AreNamed : Methods → List FrameOf → List Frame → Type 0
 AreNamed m fs gs = (named : List Frame) × (gs ≡ frame 2 0 ∷ named) × AllZip (IsNamed m) fs named
 
--- the labels that the samples of a reading have
-abbrev pub labels_in : Order → Labels
-labels_in Once = ThreadAndState
-labels_in (Over seconds rate labels) = labels
-
 -- all of a reading but its account is as it was
 pub record IsStillRunning (r s : Running) : Type 0 where
-  pub no : s.no ≡ r.no
-  pub order : s.order ≡ r.order
-  pub began : s.began ≡ r.began
-  pub unix : s.unix ≡ r.unix
-  pub over : s.over ≡ r.over
+  pub same : IsReading r s
   pub ended : s.ended ≡ r.ended
   pub schedule : s.schedule ≡ r.schedule
 
@@ -69,16 +58,3 @@ CountsLost place function watched r s =
 -- a reading goes on, and is owed a stack of the thread at a place
 abbrev pub waits_for : ℕ → Running → Bool
 waits_for place r = not (is_some r.ended) && nat_lt 0 (owed_at r.account place)
-
--- a tick counts no stack: one more may be owed
-abbrev pub CountsNothing : Running → Running → Type 0
-CountsNothing r s = s.account.counts ≡ r.account.counts
-
--- a reading that goes on ends, and all that is owed counts as not answered, each under its thread's label
-abbrev pub CountsRest : List Watched → Running → Running → Type 0
-CountsRest watched r s =
-    (is_some r.ended ≡ true → s ≡ r)
-    × (is_some r.ended ≡ false → LosesUpTo r.account s.account (length r.account.owed.items) (frame 1 0) (label_at watched (labels_in r.order)))
-
-abbrev pub MayEnd : List Watched → Running → Running → Type 0
-MayEnd watched r s = (s ≡ r) ⊎ CountsRest watched r s

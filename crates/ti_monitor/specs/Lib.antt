@@ -12,6 +12,8 @@ pub mod Accounts
 pub mod Runs
 pub mod Orders
 pub mod Monitors
+pub mod Ticking
+pub mod Deadlines
 pub mod Counted
 pub mod Sampling
 pub mod Texts

@@ -12,6 +12,7 @@ use Rattle.ti_monitor.specs.declared.reading.Order.{Order}
 use Rattle.ti_monitor.specs.declared.running.Running.{Running}
 use Rattle.ti_monitor.specs.Histograms.{added}
 use Rattle.ti_monitor.specs.Orders.{profile_count}
+use Rattle.ti_monitor.specs.Ticking.{IsNew}
 
 -- the environment is as it was, or was enabled to be told of events of a kind
 abbrev pub MayEnableOne : EventKind → AgentState → AgentState → Type 0
@@ -56,8 +57,8 @@ abbrev pub HasNoRoom : List Running → ℕ → Order → Type 0
 HasNoRoom readings begun order = IsFull readings order ⊎ (begun ≡ 18446744073709551615)
 
 -- one more reading was begun, behind the others
-abbrev pub Begins : List Running → List Running → ReadingNo → Order → Type 0
-Begins old new number order = (r : Running) × (new ≡ old ++ r ∷ []) × (r.no ≡ number) × (r.order ≡ order)
+abbrev pub Begins : List Running → List Running → ReadingNo → Order → ℕ → ℕ → Type 0
+Begins old new number order now unix = (r : Running) × (new ≡ old ++ r ∷ []) × (r.no ≡ number) × IsNew order now unix r
 
 -- the readings without the first one of a number
 abbrev pub IsWithout : ReadingNo → List Running → List Running → Type 0

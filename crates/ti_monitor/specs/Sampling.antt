@@ -10,10 +10,11 @@ use Rattle.ti_monitor.specs.declared.monitor.ReadingNo.{ReadingNo}
 use Rattle.ti_monitor.specs.declared.running.Running.{Running}
 use Rattle.ti_monitor.specs.declared.sampling.Readings.{Readings}
 use Rattle.ti_monitor.specs.declared.watched.Watched.{Watched}
-use Rattle.ti_monitor.specs.Asking.{IfStack, TellsAtOnce, TellsLater}
+use Rattle.ti_monitor.specs.Asking.{TellsAtOnce, TellsLater}
 use Rattle.ti_monitor.specs.Watching.{is_free}
-use Rattle.ti_monitor.specs.Counted.{AreNamed, CountsLost, CountsNothing, CountsRest, CountsStack, KnowsMore, MayEnd, waits_for}
+use Rattle.ti_monitor.specs.Counted.{AreNamed, CountsLost, CountsStack, KnowsMore, waits_for}
 use Rattle.ti_monitor.specs.Monitors.{reading_in}
+use Rattle.ti_monitor.specs.Ticking.{EndsIfOver, EndsNow, TicksIfDue}
 
 -- each reading counts the frames of the trace, named; or, if there is no memory for them, that nothing was answered
 abbrev pub CountsTrace : Trace → ℕ → List Watched → Readings → Readings → Type 0
@@ -37,15 +38,15 @@ pub record Sampling : Type 0 where
 abbrev pub sampling : AgentValue → List Watched → Readings → Sampling
 sampling agent watched readings = record { agent = agent; watched = watched; readings = readings }
 
--- the thread at a place told something, as `Tells` says of a stack, and each reading counts that. It is the same thread, and methods keep their numbers
-pub record TellsAt (Tells : AgentValue → AgentValue → Watched → Watched → Trace → Type 0) (place : ℕ) (s u : Sampling) : Type 0 where
+-- the thread at a place told something, as `Tells` says, and each reading counts that. It is the same thread, and methods keep their numbers
+pub record TellsAt (Tells : AgentValue → AgentValue → Watched → Watched → Told → Type 0) (place : ℕ) (s u : Sampling) : Type 0 where
   pub old : Watched
   pub new : Watched
   pub told : Told
   pub agent : AgentValue
   pub there : slice_get s.watched place ≡ Some old
   pub thread : new.thread ≡ old.thread
-  pub tells : IfStack told (Tells s.agent agent old new)
+  pub tells : Tells s.agent agent old new told
   pub watched : u.watched ≡ slice_set s.watched place new
   pub counts : CountsTold told place u.watched s.readings u.readings
   pub knows : KnowsMore s.readings.methods u.readings.methods
@@ -66,15 +67,21 @@ abbrev pub AsksUpTo : ℕ → Sampling → Sampling → Type 0
 AsksUpTo zero s u = u ≡ s
 AsksUpTo (suc place) s u = (t : Sampling) × AsksUpTo place s t × AsksAt place t u
 
--- the reading of a number, if it goes on, ends so. No other changes
-abbrev pub EndsOne : ReadingNo → List Watched → List Running → List Running → Type 0
-EndsOne number watched rs ss =
-    ((reading_in rs number ≡ None) × (ss ≡ rs))
-    ⊎ ((place : ℕ) × (r s : Running) × (slice_get rs place ≡ Some r) × (reading_in rs number ≡ Some r) × CountsRest watched r s × (ss ≡ slice_set rs place s))
+-- the readings go on so, each by itself. What is known of methods stays
+pub record EachGoesOn (P : Running → Running → Type 0) (r s : Readings) : Type 0 where
+  pub running : AllZip P r.running.items s.running.items
+  pub methods : s.methods ≡ r.methods
 
--- what a tick of the monitor counts: first what the threads tell by the answers that are there, then what those tell that are asked, and
--- at last what is owed to readings that are over. In between threads are met and probed, and readings tick
-pub record Samples (s u : Sampling) : Type 0 where
+-- the reading of a number, if it goes on, ends now. No other changes
+abbrev pub EndsOne : ReadingNo → ℕ → List Watched → List Running → List Running → Type 0
+EndsOne number now watched rs ss =
+    ((reading_in rs number ≡ None) × (ss ≡ rs))
+    ⊎ ((place : ℕ) × (r s : Running) × (slice_get rs place ≡ Some r) × (reading_in rs number ≡ Some r) × EndsNow now watched r s × (ss ≡ slice_set rs place s))
+
+-- What a tick of the monitor counts: first what the threads tell by the answers that are there, then what those tell that are asked, and
+-- at last what is owed to readings that are over, which end. In between threads are met and probed; and readings tick, unless the
+-- threads could not be met
+pub record Samples (now : ℕ) (s u : Sampling) : Type 0 where
   pub collected : Sampling
   pub met : Sampling
   pub ticked : Sampling
@@ -82,7 +89,7 @@ pub record Samples (s u : Sampling) : Type 0 where
   pub collects : CollectsUpTo (length s.watched) s collected
   pub meets : met.readings ≡ collected.readings
   pub still : (ticked.agent ≡ met.agent) × (ticked.watched ≡ met.watched)
-  pub ticks : AllZip CountsNothing met.readings.running.items ticked.readings.running.items
+  pub ticks : (ticked.readings ≡ met.readings) ⊎ EachGoesOn (TicksIfDue now ticked.watched) met.readings ticked.readings
   pub asks : AsksUpTo (length ticked.watched) ticked asked
   pub left : (u.agent ≡ asked.agent) × (u.watched ≡ asked.watched)
-  pub ends : AllZip (MayEnd u.watched) asked.readings.running.items u.readings.running.items
+  pub ends : EachGoesOn (EndsIfOver now u.watched) asked.readings u.readings

@@ -161,7 +161,7 @@ IsDelay b target seconds = (seconds ≡ 1) ⊎ ((seconds ≡ retry_after target)
 -- the reading of a request was begun, by what its target orders, or it could not be
 abbrev pub Starts : Request → Books → Due → Books → Type 0
 Starts request old (due.Reading r number) new =
-    (r ≡ request) × Begins old.readings new.readings number (order_of request.target) × (number.0 ≡ old.begun)
+    (r ≡ request) × ((now : ℕ) × (unix : ℕ) × Begins old.readings new.readings number (order_of request.target) now unix) × (number.0 ≡ old.begun)
     × (new ≡ record old { readings = new.readings; begun = old.begun + 1; metrics = begun_in (order_of request.target) old.metrics })
 Starts request old (due.Later r seconds) new = (r ≡ request) × (new ≡ old) × IsDelay old request.target seconds
 

@@ -1,5 +1,5 @@
 -- The threads that were met.
-use Rattle.std.specs.Prelude.{ℕ, ◌+◌, ◌&&◌, ◌==◌, Bool, false, not, is_some, List, Option, Some, None, min, slice_get, if◌then◌else◌}
+use Rattle.std.specs.Prelude.{ℕ, ◌+◌, ◌&&◌, ◌||◌, ◌==◌, Bool, false, not, is_some, List, Option, Some, None, min, slice_get, if◌then◌else◌}
 use Rattle.ti_http.specs.declared.target.Labels.{Labels}
 use Rattle.ti_monitor.specs.declared.label.Label.{Label}
 use Rattle.ti_monitor.specs.declared.watched.Watched.{Watched}
@@ -24,6 +24,10 @@ is_in_state place w = not w.gone && (w.state == place)
 -- the thread is there, and was last seen suspended
 abbrev pub is_held : Watched → Bool
 is_held w = not w.gone && w.suspended
+
+-- it has ended, or was let go of
+abbrev pub is_done : Watched → Bool
+is_done w = (w.state == 8) || w.gone
 
 -- a call of the monitor is out at it
 abbrev pub has_call : Watched → Bool

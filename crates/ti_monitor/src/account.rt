@@ -35,14 +35,13 @@ pub(crate) struct Account {
 impl Account {
     ghost use Rattle.std.specs.Prelude.{◌⊎◌, ◌∷◌, ◌<◌, OnOk, OnErr, IfOk, IfErr, drop, length};
     ghost use Rattle.std.specs.Bool.{OnTrue, OnFalse};
-    ghost use Rattle.ti_monitor.specs.Accounts.{Answers, IsSame, Loses, LosesUpTo, TicksAt, Widens, owed_at};
+    ghost use Rattle.ti_monitor.specs.Accounts.{Answers, IsEmpty, IsExhausted, IsSame, IsUncounted, Loses, LosesUpTo, OwesAsBefore, TicksAt, Widens, owed_at};
     ghost use Rattle.ti_monitor.specs.Counting.{frame};
     ghost use Rattle.ti_monitor.specs.Watching.{label_at};
 
     /// Nothing yet, and no places. All memory for counts is taken here. The error is lack of memory.
     pub(crate) fn new(alloc: Global) -> Result<Account, AllocError>
-        ensures places { IfOk result (λ a. a.owed.items ≡ []) }
-        ensures none { IfOk result (λ a. a.thread_ticks ≡ 0) }
+        ensures { IfOk result (λ a. IsEmpty a) }
     {
         let counts = Counts::new(alloc, ROOM, ROOM)?;
         Ok(Account {
@@ -64,6 +63,19 @@ impl Account {
         self.owed.reserve(1)?;
         self.owed.push_reserved(0);
         Ok(())
+    }
+
+    /// Whether there is a place. The one behind the others is made, if there is memory.
+    pub(crate) fn reach(&mut self, place: usize) -> bool
+        ensures owes { OwesAsBefore self.old self.new }
+        ensures uncounted { IsUncounted self.old self.new }
+        ensures there { OnTrue result (place < length self.new.owed.items) }
+        ensures exhausted { OnFalse result (IsExhausted place self.new) }
+    {
+        if place >= self.owed.len() {
+            let _none_without_memory = self.widen();
+        }
+        place < self.owed.len()
     }
 
     /// A tick at a place: one more stack is owed there. False if there is no such place, or if there were 2^62 ticks. Then nothing

@@ -30,7 +30,7 @@ pub(crate) enum Told {
 
 /// What an answer to a trace tells.
 fn told_by(answer: Answer) -> Told
-    ensures { IfStack result (λ trace. answer ≡ Trace trace) }
+    ensures { IsToldBy answer result }
 {
     match answer {
         Answer::Trace(trace) => Told::Stack(trace),
@@ -41,7 +41,7 @@ fn told_by(answer: Answer) -> Told
 
 /// What a refusal of a trace tells.
 fn refused_by(error: TiError) -> Told
-    ensures { IfStack result (λ _. ⊥) }
+    ensures { IsRefusedBy error result }
 {
     match error {
         TiError::ThreadNotAlive => Told::Ended,
@@ -55,6 +55,7 @@ fn refused_by(error: TiError) -> Told
 pub(crate) fn probe(alloc: Global, agent: &mut Agent, watched: &mut Watched) -> Result<(), TiError>
     ensures probes { OnOk result (Probes agent.old agent.new watched.old watched.new) }
     ensures kept { OnErr result (ProbesNot agent.old agent.new watched.old watched.new) }
+    ensures why { IfErr result (λ e. e ≡ ThreadNotAlive → IsNotAlive agent.old agent.new watched.old.thread State) }
 {
     match agent.post_now(alloc, watched.thread, Call::State)? {
         Asked::Answered(Answer::State(bits)) => {
@@ -78,7 +79,7 @@ pub(crate) fn probe_if_there(alloc: Global, agent: &mut Agent, watched: &mut Wat
 
 /// Asks a thread at which no call is out for its state and its stack. One that has not started has no frames.
 pub(crate) fn ask(alloc: Global, agent: &mut Agent, watched: &mut Watched, now: u64) -> Told
-    ensures tells { IfStack result (TellsAtOnce agent.old agent.new watched.old watched.new) }
+    ensures tells { TellsAtOnce agent.old agent.new watched.old watched.new result }
     ensures thread { watched.new.thread ≡ watched.old.thread }
 {
     if watched.gone {
@@ -110,7 +111,7 @@ pub(crate) fn collect(
     answers: &mut Histogram,
     now: u64,
 ) -> Told
-    ensures tells { IfStack result (TellsLater agent.old agent.new watched.old watched.new) }
+    ensures tells { TellsLater agent.old agent.new watched.old watched.new result }
     ensures thread { watched.new.thread ≡ watched.old.thread }
 {
     let Some(out) = watched.out else {
@@ -126,6 +127,7 @@ pub(crate) fn collect(
     }
 }
 
-ghost use Rattle.std.specs.Prelude.{◌≡◌, OnOk, OnErr};
-ghost use Rattle.ti_types.specs.declared.answer.Answer.TheVariants.{Trace};
-ghost use Rattle.ti_monitor.specs.Asking.{IfStack, MayProbe, Probes, ProbesNot, TellsAtOnce, TellsLater};
+ghost use Rattle.std.specs.Prelude.{◌≡◌, IfErr, OnOk, OnErr};
+ghost use Rattle.ti_types.specs.declared.call.Call.TheVariants.{State};
+ghost use Rattle.ti_types.specs.declared.error.TiError.TheVariants.{ThreadNotAlive};
+ghost use Rattle.ti_monitor.specs.Asking.{IsNotAlive, IsRefusedBy, IsToldBy, MayProbe, Probes, ProbesNot, TellsAtOnce, TellsLater};

@@ -44,6 +44,7 @@ mod stacks;
 mod state;
 mod texts;
 mod threads_text;
+mod ticking;
 mod watched;
 
 pub use door::Door;

@@ -45,6 +45,8 @@ pub struct Monitor {
 }
 
 impl Monitor {
+    ghost use Rattle.ti_monitor.specs.Deadlines.{IsDeadline};
+
     /// A monitor over this agent. `program` is the name that profiles have. It takes no memory.
     pub fn new(alloc: Global, agent: Agent, program: String, now: u64) -> Monitor
         ensures program { result.program ≡ program }
@@ -76,7 +78,7 @@ impl Monitor {
     ///
     /// Then no reading changes.
     pub fn begin(&mut self, order: Order, now: u64, unix: u64) -> Result<ReadingNo, TiError>
-        ensures begun { IfOk result (λ no. Begins self.old.readings.running.items self.new.readings.running.items no order) }
+        ensures begun { IfOk result (λ no. Begins self.old.readings.running.items self.new.readings.running.items no order now unix) }
         ensures number { IfOk result (λ no. (no.0 ≡ self.old.begun) × (self.new.begun ≡ no.0 + 1)) }
         ensures refused { IfErr result (λ e. ((e ≡ Full) × HasNoRoom self.old.readings.running.items self.old.begun order) ⊎ (e ≡ OutOfMemory)) }
         ensures kept { OnErr result (self.new.readings.running.items ≡ self.old.readings.running.items) }
@@ -99,7 +101,7 @@ impl Monitor {
 
     /// Does what is due: it meets threads and lets them go, probes states, collects answers, and takes the ticks of readings.
     pub fn tick(&mut self, now: u64)
-        ensures samples { Samples (sampling self.old.agent self.old.watched.items self.old.readings) (sampling self.new.agent self.new.watched.items self.new.readings) }
+        ensures samples { Samples now (sampling self.old.agent self.old.watched.items self.old.readings) (sampling self.new.agent self.new.watched.items self.new.readings) }
         ensures calls { self.new.metrics.calls_out ≡ count_by has_call self.new.watched.items }
         ensures orders { orders_of self.new.readings.running.items ≡ orders_of self.old.readings.running.items }
         ensures begun { self.new.begun ≡ self.old.begun }
@@ -190,7 +192,9 @@ impl Monitor {
     }
 
     /// When `tick` has something to do next.
-    pub fn deadline(&self) -> u64 {
+    pub fn deadline(&self) -> u64
+        ensures { IsDeadline self.now result }
+    {
         let look = self.next_meeting.min(self.next_probe);
         let due = look.min(self.readings.due());
         if self.readings.wait() {
@@ -212,7 +216,7 @@ impl Monitor {
 
     /// Ends a reading now, with what is there. Nothing happens if it has ended, or if there is no such reading.
     pub fn hurry(&mut self, reading: ReadingNo, now: u64)
-        ensures ends { EndsOne reading self.old.watched.items self.old.readings.running.items self.new.readings.running.items }
+        ensures ends { EndsOne reading now self.old.watched.items self.old.readings.running.items self.new.readings.running.items }
         ensures orders { orders_of self.new.readings.running.items ≡ orders_of self.old.readings.running.items }
         ensures begun { self.new.begun ≡ self.old.begun }
         ensures program { self.new.program ≡ self.old.program }

@@ -6,6 +6,7 @@ use crate::monitor::ReadingNo;
 use crate::reading::Order;
 use crate::schedule::Schedule;
 use crate::stack::{Stack, bare};
+use crate::ticking::tick_at_all;
 use crate::watched::Watched;
 use std::alloc::{AllocError, Global};
 use ti_http::Labels;
@@ -39,7 +40,8 @@ pub(crate) struct Running {
 /// The nanoseconds between two ticks, how many ticks there are, and the nanoseconds that they take.
 #[tactic(auto, using(crate::proofs::Sums::count_within))]
 fn plan(order: Order) -> (u64, u32, u64)
-    ensures { result.1 ≤ 300000 }
+    ensures plan { result ≡ (period_of order, ticks_of order, length_of order) }
+    ensures few { result.1 ≤ 300000 }
 {
     match order {
         Order::Once => (1, 1, 0),
@@ -63,7 +65,10 @@ pub(crate) fn is_profile(order: Order) -> bool
 }
 
 impl Running {
-    ghost use Rattle.ti_monitor.specs.Counted.{CountsLost, CountsNothing, CountsRest, CountsStack, labels_in, waits_for};
+    ghost use Rattle.ti_monitor.specs.Counted.{CountsLost, CountsStack, waits_for};
+    ghost use Rattle.ti_monitor.specs.Orders.{labels_in};
+    ghost use Rattle.ti_monitor.specs.Deadlines.{IsNextOf, waits_at_all};
+    ghost use Rattle.ti_monitor.specs.Ticking.{EndsNow, IsNew, TicksIfDue, is_over, is_to_tick, late_of};
 
     /// A reading that begins now. The error is lack of memory.
     pub(crate) fn new(
@@ -74,7 +79,7 @@ impl Running {
         unix: u64,
     ) -> Result<Running, AllocError>
         ensures no { IfOk result (λ r. r.no ≡ no) }
-        ensures order { IfOk result (λ r. r.order ≡ order) }
+        ensures new { IfOk result (λ r. IsNew order now unix r) }
     {
         let (period, count, length) = plan(order);
         Ok(Running {
@@ -136,21 +141,32 @@ impl Running {
         self.schedule.missed
     }
 
+    /// When it ends though stacks are owed.
+    fn late(&self) -> u64
+        ensures { result ≡ late_of self.now }
+    {
+        self.over.saturating_add(PATIENCE)
+    }
+
     /// When it has something to do next.
-    pub(crate) fn due(&self) -> u64 {
+    pub(crate) fn due(&self) -> u64
+        ensures { IsNextOf self.now result }
+    {
         if self.has_ended() {
             u64::MAX
         } else if self.schedule.left > 0 {
-            self.schedule.next
+            self.schedule.next.min(self.late())
         } else if self.account.outstanding() == 0 {
             self.over
         } else {
-            self.over.saturating_add(PATIENCE)
+            self.late()
         }
     }
 
     /// Whether stacks are owed.
-    pub(crate) fn waits(&self) -> bool {
+    pub(crate) fn waits(&self) -> bool
+        ensures { result ≡ waits_at_all self.now }
+    {
         !self.has_ended() && self.account.outstanding() > 0
     }
 
@@ -163,7 +179,8 @@ impl Running {
 
     /// Ticks, if that is due. It gives whether it does.
     pub(crate) fn tick(&mut self, watched: &[Watched], now: u64) -> bool
-        ensures counts { CountsNothing self.old self.new }
+        ensures due { result ≡ is_to_tick now self.old }
+        ensures ticks { TicksIfDue now watched.now self.old self.new }
         ensures no { self.new.no ≡ self.old.no }
         ensures order { self.new.order ≡ self.old.order }
     {
@@ -201,15 +218,17 @@ impl Running {
     }
 
     /// Whether it is to end: its time has passed, and no stack is owed, or the patience is over.
-    pub(crate) fn is_over(&self, now: u64) -> bool {
+    pub(crate) fn is_over(&self, now: u64) -> bool
+        ensures { result ≡ is_over now self.now }
+    {
         let is_done = self.schedule.left == 0 && self.account.outstanding() == 0;
-        let is_late = now >= self.over.saturating_add(PATIENCE);
+        let is_late = now >= self.late();
         !self.has_ended() && now >= self.over && (is_done || is_late)
     }
 
     /// Ends it with what is there. It gives how many stacks were owed.
     pub(crate) fn end(&mut self, watched: &[Watched], now: u64) -> u64
-        ensures counts { CountsRest watched.now self.old self.new }
+        ensures ends { EndsNow now watched.now self.old self.new }
         ensures no { self.new.no ≡ self.old.no }
         ensures order { self.new.order ≡ self.old.order }
     {
@@ -232,20 +251,6 @@ impl Running {
     }
 }
 
-/// One more stack is owed of each thread that is there.
-fn tick_at_all(account: &mut Account, watched: &[Watched])
-    ensures { account.new.counts ≡ account.old.counts }
-{
-    for place in 0..watched.len() {
-        if place >= account.places() && account.widen().is_err() {
-            return;
-        }
-        if !watched[place].has_ended() {
-            account.tick_at(place);
-        }
-    }
-}
-
 ghost use Rattle.std.specs.Prelude.{◌≡◌, ◌<◌, ◌≤◌, ◌+◌, ◌^◌, true, is_some, IfOk};
 ghost use Rattle.std.specs.Bool.{OnTrue, OnFalse};
-ghost use Rattle.ti_monitor.specs.Orders.{profile_count};
+ghost use Rattle.ti_monitor.specs.Orders.{length_of, period_of, profile_count, ticks_of};

@@ -28,7 +28,8 @@ pub(crate) struct Readings {
 impl Readings {
     ghost use Rattle.std.specs.List.{AllZip, list_any};
     ghost use Rattle.ti_monitor.specs.Counted.{AreNamed, CountsLost, CountsStack, KnowsMore, waits_for};
-    ghost use Rattle.ti_monitor.specs.Sampling.{AsksAt, AsksUpTo, CollectsUpTo, CountsTold, sampling};
+    ghost use Rattle.ti_monitor.specs.Deadlines.{IsNextIn, wait_at_all, waits_at_all};
+    ghost use Rattle.ti_monitor.specs.Sampling.{AsksAt, AsksUpTo, CollectsUpTo, CountsTold, EachGoesOn, sampling};
 
     /// None.
     pub(crate) fn new(alloc: Global) -> Readings {
@@ -51,13 +52,14 @@ impl Readings {
     }
 
     /// Whether one of them is owed a stack.
-    pub(crate) fn wait(&self) -> bool {
-        for reading in &self.running {
-            if reading.waits() {
-                return true;
-            }
-        }
-        false
+    pub(crate) fn wait(&self) -> bool
+        ensures { result ≡ wait_at_all self.now.running.items }
+    {
+        self.running.iter().any(
+            |reading: &Running| -> bool
+                ensures { result ≡ waits_at_all reading.now }
+            { reading.waits() },
+        )
     }
 
     /// Takes the frames of a stack. The error is lack of memory.
@@ -146,7 +148,7 @@ impl Readings {
 
     /// Ticks each reading whose tick is due.
     pub(crate) fn tick_all(&mut self, watched: &[Watched], metrics: &mut Metrics, now: u64)
-        ensures counts { AllZip CountsNothing self.old.running.items self.new.running.items }
+        ensures ticks { EachGoesOn (TicksIfDue now watched.now) self.old self.new }
         ensures orders { orders_of self.new.running.items ≡ orders_of self.old.running.items }
     {
         for reading in self.running.iter_mut() {
@@ -194,7 +196,7 @@ impl Readings {
 
     /// Ends each reading that is over.
     pub(crate) fn end_all(&mut self, watched: &[Watched], metrics: &mut Metrics, now: u64)
-        ensures counts { AllZip (MayEnd watched.now) self.old.running.items self.new.running.items }
+        ensures ends { EachGoesOn (EndsIfOver now watched.now) self.old self.new }
         ensures orders { orders_of self.new.running.items ≡ orders_of self.old.running.items }
     {
         for reading in self.running.iter_mut() {
@@ -248,7 +250,7 @@ impl Readings {
         now: u64,
         unix: u64,
     ) -> Result<(), AllocError>
-        ensures begun { OnOk result (Begins self.old.running.items self.new.running.items no order) }
+        ensures begun { OnOk result (Begins self.old.running.items self.new.running.items no order now unix) }
         ensures kept { OnErr result (self.new.running.items ≡ self.old.running.items) }
     {
         self.methods.begin(self.running.is_empty());
@@ -260,7 +262,9 @@ impl Readings {
     }
 
     /// When one of them has something to do next.
-    pub(crate) fn due(&self) -> u64 {
+    pub(crate) fn due(&self) -> u64
+        ensures { IsNextIn self.now.running.items result }
+    {
         let mut due = u64::MAX;
         for reading in &self.running {
             due = due.min(reading.due());
@@ -282,7 +286,7 @@ fn is_free(watched: &[Watched], place: usize) -> bool
 
 /// Ticks a reading whose tick is due.
 fn tick(reading: &mut Running, watched: &[Watched], metrics: &mut Metrics, now: u64)
-    ensures counts { CountsNothing reading.old reading.new }
+    ensures ticks { TicksIfDue now watched.now reading.old reading.new }
     ensures order { order_of reading.new ≡ order_of reading.old }
 {
     let missed = reading.missed();
@@ -295,7 +299,7 @@ fn tick(reading: &mut Running, watched: &[Watched], metrics: &mut Metrics, now: 
 
 /// Ends a reading that is over.
 fn end_if_over(reading: &mut Running, watched: &[Watched], metrics: &mut Metrics, now: u64)
-    ensures counts { MayEnd watched.now reading.old reading.new }
+    ensures ends { EndsIfOver now watched.now reading.old reading.new }
     ensures order { order_of reading.new ≡ order_of reading.old }
 {
     if reading.is_over(now) {
@@ -305,7 +309,7 @@ fn end_if_over(reading: &mut Running, watched: &[Watched], metrics: &mut Metrics
 
 /// Ends a reading with what is there.
 pub(crate) fn end(reading: &mut Running, watched: &[Watched], metrics: &mut Metrics, now: u64)
-    ensures counts { CountsRest watched.now reading.old reading.new }
+    ensures ends { EndsNow now watched.now reading.old reading.new }
     ensures order { order_of reading.new ≡ order_of reading.old }
 {
     let missed = reading.missed();
@@ -317,6 +321,6 @@ pub(crate) fn end(reading: &mut Running, watched: &[Watched], metrics: &mut Metr
 
 ghost use Rattle.std.specs.Prelude.{◌≡◌, ◌<◌, None, length, slice_get, IfSome, IfNone, OnOk, OnErr};
 ghost use Rattle.std.specs.Bool.{OnTrue, OnFalse};
-ghost use Rattle.ti_monitor.specs.Counted.{CountsNothing, CountsRest, MayEnd};
 ghost use Rattle.ti_monitor.specs.Watching.{is_free};
 ghost use Rattle.ti_monitor.specs.Monitors.{Begins, IsFull, order_of, orders_of, profiles_in, reading_in};
+ghost use Rattle.ti_monitor.specs.Ticking.{EndsIfOver, EndsNow, TicksIfDue};

@@ -31,9 +31,9 @@ pub(crate) struct Watched {
 }
 
 impl Watched {
-    ghost use Rattle.std.specs.Prelude.{◌≡◌, ◌==◌, ◌||◌, None, false};
+    ghost use Rattle.std.specs.Prelude.{◌≡◌, ◌==◌, None, false};
     ghost use Rattle.ti_monitor.specs.States.{is_suspended, place_of};
-    ghost use Rattle.ti_monitor.specs.Watching.{named_state};
+    ghost use Rattle.ti_monitor.specs.Watching.{is_done, named_state};
 
     /// A thread that was just met.
     pub(crate) fn new(thread: ThreadNo, name: String, priority: i32) -> Watched
@@ -96,7 +96,7 @@ impl Watched {
 
     /// Whether it has ended.
     pub(crate) fn has_ended(&self) -> bool
-        ensures { result ≡ ((self.now.state == 8) || self.now.gone) }
+        ensures { result ≡ is_done self.now }
     {
         self.state == STATES - 1 || self.gone
     }

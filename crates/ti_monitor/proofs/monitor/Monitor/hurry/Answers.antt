@@ -3,8 +3,8 @@ use Rattle.std.specs.Prelude.{slice_get}
 use Rattle.std.proofs.lemmas.Option.{slice_get-get_or}
 use Rattle.ti_monitor.specs.declared.running.Running.{Running}
 use Rattle.ti_monitor.specs.declared.watched.Watched.{Watched}
-use Rattle.ti_monitor.specs.Counted.{CountsRest}
 use Rattle.ti_monitor.specs.Monitors.{order_of}
+use Rattle.ti_monitor.specs.Ticking.{EndsNow}
 use Rattle.ti_monitor.proofs.OrderLaws.{orders_item}
 use Rattle.ti_monitor.proofs.monitor.Monitor.hurry.Goals as goal
 
@@ -14,8 +14,8 @@ returns-in-Some-clause-ends c =
     let r = c.index_mut.result.now in
     let s = c.end.new.reading in
     let at : slice_get rs c.in-Some.place ≡ Some r = slice_get-get_or rs c.in-Some.place r c.in-Some.ensures.within ∙ ap (λ (x : Running). Some x) (sym c.index_mut.ensures.value) in
-    let counts = subst (λ (ws : List Watched). CountsRest ws r s) c.deref.ensures.value c.end.ensures.counts in
-    inr (c.in-Some.place, r, s, at, sym c.in-Some.ensures.found ∙ at, counts, refl)
+    let ends = subst (λ (ws : List Watched). EndsNow c.args.now ws r s) c.deref.ensures.value c.end.ensures.ends in
+    inr (c.in-Some.place, r, s, at, sym c.in-Some.ensures.found ∙ at, ends, refl)
 
 pub returns-in-Some-clause-orders : goal.returns-in-Some-clause-orders
 returns-in-Some-clause-orders c =

@@ -1,11 +1,10 @@
-use Rattle.std.proofs.Common.{◌∙◌, List, length, refl, ap, sym, subst}
-use Rattle.std.specs.List.{AllZip}
+use Rattle.std.proofs.Common.{◌≡◌, ◌∙◌, List, length, inl, inr, refl, ap, sym, subst}
 use Rattle.ti_monitor.specs.declared.monitor.Monitor.{Monitor}
 use Rattle.ti_monitor.specs.declared.sampling.Readings.{Readings}
 use Rattle.ti_monitor.specs.declared.watched.Watched.{Watched}
-use Rattle.ti_monitor.specs.Counted.{CountsNothing, MayEnd}
-use Rattle.ti_monitor.specs.Sampling.{AsksUpTo, CollectsUpTo, sampling}
-use Rattle.ti_monitor.proofs.SamplingLaws.{none_counted, written}
+use Rattle.ti_monitor.specs.Sampling.{AsksUpTo, CollectsUpTo, EachGoesOn, sampling}
+use Rattle.ti_monitor.specs.Ticking.{EndsIfOver, TicksIfDue}
+use Rattle.ti_monitor.proofs.SamplingLaws.{written}
 use Rattle.ti_monitor.proofs.monitor.Monitor.tick.Goals as goal
 use Rattle.ti_monitor.proofs.monitor.Monitor.tick.Goals.{then-is_met, else-is_met}
 
@@ -31,10 +30,14 @@ returns-clause-samples c =
         | else-is_met w ↦ (ap (λ (m : Monitor). m.agent) w.self-is, ap (λ (m : Monitor). m.watched.items) w.self-is)
       ];
       ticks = elim c.if-is_met.branch [
-        | then-is_met w ↦ subst (λ (r : Readings). AllZip CountsNothing met.readings.running.items r.running.items) (sym (ap (λ (m : Monitor). m.readings) w.self-is)) w.tick_all.ensures.counts
-        | else-is_met w ↦ subst (λ (r : Readings). AllZip CountsNothing met.readings.running.items r.running.items) (sym (ap (λ (m : Monitor). m.readings) w.self-is)) (none_counted met.readings.running.items)
+        | then-is_met w ↦ (
+            let agent_is : ticked.watched.items ≡ met.watched.items = ap (λ (m : Monitor). m.watched.items) w.self-is in
+            let ticks : EachGoesOn (TicksIfDue c.args.now met.watched.items) met.readings w.tick_all.new.self =
+            subst (λ (ws : List Watched). EachGoesOn (TicksIfDue c.args.now ws) met.readings w.tick_all.new.self) w.deref.ensures.value w.tick_all.ensures.ticks in
+            inr (subst (λ (z : List Watched × Readings). EachGoesOn (TicksIfDue c.args.now z.0) met.readings z.1) (λ i. (sym agent_is i, sym (ap (λ (m : Monitor). m.readings) w.self-is) i)) ticks))
+        | else-is_met w ↦ inl (ap (λ (m : Monitor). m.readings) w.self-is)
       ];
       asks = subst (λ (ws : List Watched). AsksUpTo (length ws) (sampling ticked.agent ws ticked.readings) asked) there c.ask_all.ensures.asks;
       left = (refl, written ticked.watched.len ticked.watched.items c.ask_all.new.watched same long);
-      ends = subst (λ (ws : List Watched). AllZip (MayEnd ws) asked.readings.running.items c.end_all.new.self.running.items) c.deref-2.ensures.value c.end_all.ensures.counts;
+      ends = subst (λ (ws : List Watched). EachGoesOn (EndsIfOver c.args.now ws) asked.readings c.end_all.new.self) c.deref-2.ensures.value c.end_all.ensures.ends;
     }
