@@ -16,8 +16,8 @@ more than eighty.
 it stands beside it (`plain/src/main.rs` says how it is built). `--live` leaves out all but the live scripts.
 
 Instructions are counted by `perf stat`, or by valgrind's callgrind where `--callgrind` asks for it (some minutes); `-`
-stands where nothing counts them. Of several programs the columns stand side by side, so that one tree is compared with
-another; `-` stands for a document that a program refuses. Of two programs each line ends with the ratios of the first to
+stands where nothing counts them. For several programs the columns stand side by side, so that one tree is compared with
+another; `-` stands for a document that a program refuses. For two programs each line ends with the ratios of the first to
 the second, of processor time and of memory.
 """
 

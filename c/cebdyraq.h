@@ -452,13 +452,13 @@ uint32_t cq_detach_thread(cq_thread *thread) CQ_MUST_USE;
 uint32_t cq_meet(cq_env *env) CQ_MUST_USE;
 
 /* Whether threads have been attached, started, ended or been given back, environments have come or gone, or another environment has
- * met threads, since the environment last looked at the list; or its last cq_meet failed. It is one load. It is false of a handle
+ * met threads, since the environment last looked at the list; or its last cq_meet failed. It takes no lock. It is false of a handle
  * that is misused. An environment that was just attached has looked, and has met no thread: it meets once without news. */
 bool cq_has_news(cq_env *env);
 
 /* Lets go of a thread that was given back, so that its memory can be freed, and writes to `gone` whether it did. It does not
- * while the thread is there or a call is out at it, and not if it was let go of before, by a meeting too. The environment's word at the thread is
- * gone then, and a call there is CQ_THREAD_NOT_ALIVE 15. What traces have gathered stays.
+ * while the thread is there or a call is out at it, and not if it was let go of before, by a meeting too. The environment's word at
+ * the thread is gone then, and a call there is CQ_THREAD_NOT_ALIVE 15. What traces have gathered stays.
  *
  *   CQ_BUSY 215  the list of threads is in use */
 uint32_t cq_let_go(cq_env *env, uint32_t thread, bool *gone);
@@ -744,8 +744,8 @@ uint32_t cq_set_environment_local_storage(cq_env *env, uint64_t word);
 uint32_t cq_set_event_notification_mode(cq_env *env, bool enabled, uint32_t kind) CQ_MUST_USE;
 
 /* Writes the next event to `event`: the first that happened since the last one that was told, of the kinds that are enabled. All
- * environments are told events of threads in one order. Of one thread that is: attached, start, end, detached. The service keeps
- * the last 4,096 events of threads. Classes come in the order of their numbers, after the events of threads that are there, and
+ * environments are told events of threads in one order. For one thread it is attached, start, end, detached. The service
+ * keeps the last 4,096 events of threads. Classes come in the order of their numbers, after the events of threads that are there, and
  * none is lost.
  *
  *   CQ_NONE 303  there is no event, or all kinds are disabled
@@ -926,7 +926,7 @@ uint32_t cq_get_line_number_table(cq_env *env, uint32_t method, uint32_t *kind, 
  * sees or changes them, and they end with it. A thread that reaches what an environment wants to be told of stops there, for each
  * such environment, until all of them have ended its stop. It may be suspended meanwhile, by whomever, and then stays suspended.
  *
- * A runtime asks by cq_may_stop, which is one load, wherever a thread may stop: at the begin of each line, say. If that is true,
+ * A runtime asks by cq_may_stop, which takes no lock, wherever a thread may stop: at the begin of each line, say. If that is true,
  * it says by cq_reached where the thread is. If the thread is to stop, it gives its frames, blocks (cq_block, with CQ_PARK), and
  * asks by cq_is_stopped until it no longer stops. Then it returns by cq_back. With cebdyraq_wait.h:
  *
@@ -939,8 +939,8 @@ uint32_t cq_get_line_number_table(cq_env *env, uint32_t method, uint32_t *kind, 
  * A method is stopped in by its number (cq_define_class).
  */
 
-/* Whether the thread may have to stop at what it reaches next. It is one load. It is false only if no environment was told of any
- * kind of stop at that load. It may be true though none is: cq_reached tells. False for a handle that is misused. */
+/* Whether the thread may have to stop at what it reaches next. It takes no lock. It is false only if no environment was told of any
+ * kind of stop when it looked. It may be true though none is: cq_reached tells. False for a handle that is misused. */
 bool cq_may_stop(cq_thread *thread);
 
 /* Says that the thread is at this location of this method, and writes to `stops` whether it has to stop there.

@@ -11,7 +11,7 @@ process that no document shows (`ci/process_ends.py`). What they want was worked
 
 In `tests/cases`, NAME.in is the document and NAME.out what standard output gets, NAME.err what standard error gets,
 NAME.status the status, and NAME.args has the arguments, one a line. A file that is not there says: nothing, nothing, 0,
-and the name of the folder. `lint` has the cases of `tilint`, which are walks where no NAME.args says otherwise. Of an
+and the name of the folder. `lint` has the cases of `tilint`, which are walks where no NAME.args says otherwise. In an
 example NAME.json is the document and NAME.out the text, with status 1 where it begins with `illegal`; one whose name has
 `history` in it is given to `check`, one whose name begins with `live` to `live`.
 """

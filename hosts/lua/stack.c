@@ -57,7 +57,7 @@ static int64_t location_of(const lua_Debug *ar) {
     return ar->currentline < 0 ? 0 : ar->currentline;
 }
 
-/* A frame. Of a function that calls itself only the line is asked for. */
+/* A frame. If its function calls itself, only the line is asked for. */
 static cq_frame frame_of(struct script *script, lua_State *L, lua_Debug *ar, struct read *last) {
     lua_getinfo(L, "lf", ar);
     const void *function = lua_topointer(L, -1);

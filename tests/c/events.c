@@ -123,7 +123,7 @@ static void all_kinds(void) {
     tear_down();
 }
 
-/* Of a kind that is enabled later, what happened before is not told, though another kind's is. */
+/* When a kind is enabled later, what happened before is not told, though another kind's is. */
 static void kinds_at_different_moments(void) {
     cq_thread second = { 0, NULL };
     set_up();

@@ -328,7 +328,7 @@ static bool is_given_up_after(uint32_t steps, uint64_t count) {
     return true;
 }
 
-/* Of three threads that stand, a trace has six steps until all were seen standing, and one more between stopping and seeing. */
+/* For three threads that stand, a trace has six steps until all were seen standing, and one more between stopping and seeing. */
 static void give_up_at_any_step(void) {
     static const uint32_t list[] = { NATIVE, BLOCKED, HELD };
     set_up();

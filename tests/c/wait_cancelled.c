@@ -94,7 +94,7 @@ static void tells_that_it_took_place(void) {
     OK(cq_wait_back(&thread, &signal_of_all, 0));
 }
 
-/* Of two suspensions the second is refused. */
+/* The second of two suspensions is refused. */
 static void tells_that_it_was_refused(void) {
     cq_ticket first = cancelled(cq_suspend_thread(&env, 0, &answer)), second = cancelled(cq_suspend_thread(&env, 0, &answer));
     OK(cq_cancel(&env, &first));

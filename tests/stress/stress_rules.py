@@ -3,7 +3,7 @@
 An agent's refusals by itself, its capabilities and its own word follow from its own calls, one after another. So do the
 refused operations of a thread from its walk, as long as nobody pops its frames; then all that an agent is told of that
 thread has to be true at places of its walk that never go back, and at one place while the thread is suspended by this
-agent, where no other suspends or resumes it. Of threads with popped frames, only the forms of the replies are looked at.
+agent, where no other suspends or resumes it. For threads with popped frames, only the forms of the replies are looked at.
 """
 
 import dataclasses

@@ -113,7 +113,7 @@ impl Environment {
     }
 
     /// Whether threads or environments have come or gone, or another environment has met threads that came, since it last
-    /// looked, or its last meeting failed. It is one load. An environment that was just attached has looked, and has met no thread: it meets once
+    /// looked, or its last meeting failed. It takes no lock. An environment that was just attached has looked, and has met no thread: it meets once
     /// without news.
     pub fn has_news(&mut self) -> bool {
         unsafe { sys::cq_has_news(self.at()) }

@@ -98,7 +98,7 @@ pub(crate) fn checked(code: u32) -> Result<(), Error> {
     }
 }
 
-/// Of a call that cannot be refused.
+/// For a call that cannot be refused.
 ///
 /// # Panics
 ///

@@ -77,7 +77,7 @@ impl Cancelled {
         checked(self.code)
     }
 
-    /// The answer to the call, which was this one. Of a trace it has as many frames as there was room for.
+    /// The answer to the call, which was this one. A trace has as many frames as there was room for.
     pub fn answer(self, call: Call) -> Result<Answer, Error> {
         checked(self.code).map(|()| call.answer(&self.raw, self.frames))
     }

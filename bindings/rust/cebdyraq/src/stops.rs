@@ -26,7 +26,7 @@ pub struct Stop {
 }
 
 impl Running {
-    /// Whether the thread may have to stop at what it reaches next. It is one load.
+    /// Whether the thread may have to stop at what it reaches next. It takes no lock.
     pub fn may_stop(&mut self) -> bool {
         // SAFETY: this call alone uses the handle. So it is with each one below.
         unsafe { sys::cq_may_stop(self.handle()) }
