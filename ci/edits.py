@@ -31,7 +31,7 @@ from concurrent import futures
 
 CRATES = pathlib.Path("crates")
 LEFT_BEHIND = ("edits", "more-edits", "must-not-compile", "out")
-# How many crates are tried at once, each in a tree of its own. A check keeps a processor busy, and takes up to 3 GB.
+# How many crates are tried at once, each in a tree of its own. A check with one job keeps a processor busy, and takes up to 4 GB.
 AT_ONCE = len(os.sched_getaffinity(0))
 
 
@@ -112,7 +112,7 @@ class Said:
 
     @classmethod
     def of(cls, folder, *flags):
-        done = subprocess.run(["rt", "check", *flags], cwd=folder, stdout=subprocess.PIPE, stderr=subprocess.STDOUT, text=True, errors="replace")
+        done = subprocess.run(["rt", "check", "--jobs", "1", *flags], cwd=folder, stdout=subprocess.PIPE, stderr=subprocess.STDOUT, text=True, errors="replace")
         callers = set(re.findall(r"^fn (\S+): (?:no proof: it|not proved; it) calls", done.stdout, re.M))
         unproved = set(re.findall(r"^fn (\S+): (?:not proved(?!; it calls)|no proof: (?!it calls))", done.stdout, re.M))
         return cls(unproved, callers, done.stdout[-800:] if done.returncode and not callers | unproved else "")
