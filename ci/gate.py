@@ -1,5 +1,6 @@
 #!/usr/bin/env python3
-"""Runs the tests that need no proof (`ci/unproved_tests.py`), the benchmark with small numbers (`bench/tibench.py`), and `rt ci`.
+"""Runs the tests that need no proof (`ci/unproved_tests.py`), some of them with wrong bodies that they must refuse
+(`ci/wrong_bodies.py`), the benchmark with small numbers (`bench/tibench.py`), and `rt ci`.
 Then, on the programs that `rt ci` has built, each case (`ci/cases.py`) and runs with an allocation refused
 (`ci/refused_memory.py`). Then, over the libraries that `rt ci` has proved, wrong bodies that the prover must refuse
 (`ci/edits.py`), what the compiler must refuse (`ci/must_not_compile.sh`), the C programs, the library as it is installed
@@ -73,6 +74,9 @@ def try_library():
 def main():
     passed, failed, _ = counts_of(sys.executable, "ci/unproved_tests.py")
     print(f"tests without a proof: {passed} passed, {failed} failed", flush=True)
+    well, ill, _ = counts_of(sys.executable, "ci/wrong_bodies.py")
+    print(f"wrong bodies that a test must refuse: {well} refused, {ill} not", flush=True)
+    passed, failed = passed + well, failed + ill
     well, ill, _ = counts_of(sys.executable, "bench/tibench.py", "--try")
     print(f"the benchmark: {well} passed, {ill} failed", flush=True)
     passed, failed = passed + well, failed + ill
